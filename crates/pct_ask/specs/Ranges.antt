@@ -1,0 +1,10 @@
+-- The ranges that the objects of a test keep.
+use Rattle.std.specs.Prelude.{ℤ, pos, ◌≤ℤ◌}
+
+-- what a semaphore may hold (POSIX's SEM_VALUE_MAX, at its least: this project)
+abbrev pub IsSemValue : ℤ → Type 0
+IsSemValue n = (pos 0 ≤ℤ n) × (n ≤ℤ pos 2147483647)
+
+-- how many threads a barrier may wait for (this project)
+abbrev pub IsBarrierCount : ℤ → Type 0
+IsBarrierCount n = (pos 1 ≤ℤ n) × (n ≤ℤ pos 1000)

@@ -1,0 +1,47 @@
+ghost use Rattle.std.specs.Prelude.{◌≡◌, ◌≤◌, length, All, IfOk, pos};
+ghost use Rattle.pct_ask.specs.Ranges.{IsSemValue, IsBarrierCount};
+
+use crate::sequence::NumberList;
+use std::alloc::{AllocError as NoMemory, Global};
+
+/// What the threads of a test share: how many objects there are of each kind, and their first values.
+#[derive(Debug, Drop)]
+pub struct Deal {
+    pub threads: u32,
+    /// The first value of each variable.
+    pub vars: NumberList,
+    pub mutexes: u32,
+    pub conds: u32,
+    /// The first value of each semaphore.
+    pub sems: NumberList,
+    /// How many threads meet at each barrier.
+    pub barriers: NumberList,
+    pub rwlocks: u32,
+    ghost some_thread: { 1 ≤ threads },
+    ghost few_threads: { threads ≤ 64 },
+    ghost few_vars: { length vars ≤ 64 },
+    ghost few_mutexes: { mutexes ≤ 64 },
+    ghost few_conds: { conds ≤ 64 },
+    ghost few_sems: { length sems ≤ 64 },
+    ghost few_barriers: { length barriers ≤ 64 },
+    ghost few_rwlocks: { rwlocks ≤ 64 },
+    ghost sem_values: { All IsSemValue sems },
+    ghost barrier_counts: { All IsBarrierCount barriers },
+}
+
+impl Deal {
+    /// An equal deal in memory of its own.
+    pub fn copy(&self, alloc: Global) -> Result<Self, NoMemory>
+        ensures { IfOk result (λ copy. copy ≡ self.now) }
+    {
+        Ok(Deal {
+            threads: self.threads,
+            vars: self.vars.copy(alloc)?,
+            mutexes: self.mutexes,
+            conds: self.conds,
+            sems: self.sems.copy(alloc)?,
+            barriers: self.barriers.copy(alloc)?,
+            rwlocks: self.rwlocks,
+        })
+    }
+}

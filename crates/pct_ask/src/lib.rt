@@ -1,0 +1,16 @@
+//! What a thread of a test asks for, what it is told, and how a run ends.
+#![tactic(auto)]
+
+mod ask;
+mod blocked;
+mod deal;
+mod event;
+mod sequence;
+mod verdict;
+
+pub use ask::{Ask, FaultKind, Post};
+pub use blocked::Blocked;
+pub use deal::Deal;
+pub use event::{Event, EventList, Row, RowList, Standing};
+pub use sequence::{NumberList, OrderList, PointList, Sequence};
+pub use verdict::{MisuseKind, Outcome, Verdict};

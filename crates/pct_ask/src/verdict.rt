@@ -1,0 +1,50 @@
+use crate::ask::FaultKind;
+use crate::blocked::Blocked;
+
+/// What a thread did that its object forbids.
+#[derive(Clone, Copy, Debug, PartialEq, Eq, Hash)]
+pub enum MisuseKind {
+    /// It let go what it doesn't hold.
+    NotOwner,
+    /// It raised a semaphore past its greatest value.
+    SemFull,
+    /// It started a thread that was started before.
+    AlreadyStarted,
+    /// It took more read holds than there may be.
+    TooManyReads,
+}
+
+/// How a run ends.
+#[derive(Clone, Copy, Debug, PartialEq, Eq, Hash)]
+pub enum Verdict {
+    /// Every thread has ended, or was never started.
+    Passed,
+    /// An assertion doesn't hold.
+    Failed {
+        thread: u32,
+        line: u32,
+    },
+    /// No thread can go on, and these haven't ended.
+    Stuck {
+        blocked: Blocked,
+    },
+    Misuse {
+        thread: u32,
+        line: u32,
+        kind: MisuseKind,
+    },
+    Fault {
+        thread: u32,
+        line: u32,
+        kind: FaultKind,
+    },
+    /// The run has as many steps as it may have.
+    Cut,
+}
+
+/// What became of a run under a schedule: a verdict, or the thread at which it left the schedule.
+#[derive(Clone, Copy, Debug, PartialEq, Eq, Hash)]
+pub enum Outcome {
+    Verdict(Verdict),
+    Departed { thread: u32 },
+}
