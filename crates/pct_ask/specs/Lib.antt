@@ -4,3 +4,7 @@ pub mod Characters
 pub mod Tokens
 pub mod Words
 pub mod Rows
+pub mod NameLists
+pub mod VerdictText
+pub mod Places
+pub mod PlaceLaws

@@ -5,12 +5,16 @@ mod ask;
 mod blocked;
 mod deal;
 mod event;
+mod names;
 mod sequence;
 mod verdict;
+mod words;
 
 pub use ask::{Ask, FaultKind, Post};
 pub use blocked::Blocked;
 pub use deal::Deal;
 pub use event::{Event, EventList, Row, RowList, Standing};
+pub use names::{NameKind, Names};
 pub use sequence::{NumberList, OrderList, PointList, Sequence};
 pub use verdict::{MisuseKind, Outcome, Verdict};
+pub use words::is_lawful_name;

@@ -1,0 +1,120 @@
+-- Facts on the names of a test.
+use Rattle.std.proofs.Common.{◌≡◌, ℕ, ◌<◌, ◌≤◌, Bool, true, false, ◌||◌, List, [], ◌∷◌, ◌++◌, length, refl, sym, ◌∙◌, arith, append_assoc, append-nil, length-append}
+use Rattle.std.specs.List.{All}
+use Rattle.std.specs.Str.{bytes_eq}
+use Rattle.std.proofs.lemmas.List.Elements.{All-cons, All-head, All-tail}
+use Rattle.std.proofs.lemmas.List.Folds.{list_any-append}
+use Rattle.std.proofs.lemmas.Slice.Eq.{bytes_eq-Decides}
+use Rattle.std.proofs.lemmas.Bool.Decides.{same_from_decides, Decides-like}
+use Rattle.pct_ask.specs.Words.{is_name, is_among}
+use Rattle.pct_ask.specs.NameLists.{NameLists, list_of, all_names, AreDistinct, AreNames}
+use Rattle.pct_ask.specs.declared.names.NameKind.{NameKind}
+use Rattle.pct_ask.specs.declared.names.NameKind.TheVariants.{Thread, Var, Mutex, Cond, Sem, Barrier, RwLock}
+
+or-false_left : (a b : Bool) → (a || b) ≡ false → a ≡ false
+or-false_left true b h = h
+or-false_left false b h = refl
+
+or-false_right : (a b : Bool) → (a || b) ≡ false → b ≡ false
+or-false_right true b h = cc
+or-false_right false b h = h
+
+both-false : (a b : Bool) → a ≡ false → b ≡ false → (a || b) ≡ false
+both-false a b p q = rw p q
+
+bytes_eq-sym : (a b : List ℕ) → bytes_eq a b ≡ bytes_eq b a
+bytes_eq-sym a b =
+    same_from_decides (bytes_eq a b) (bytes_eq b a) (bytes_eq-Decides a b) (Decides-like (bytes_eq b a) (λ e. sym e) (λ e. sym e) (bytes_eq-Decides b a))
+
+All-insert : (P : List ℕ → Type 0) (front back : List (List ℕ)) (name : List ℕ) → All P (front ++ back) → P name → All P (front ++ name ∷ back)
+All-insert P [] back name all p = All-cons P name back p all
+All-insert P (f ∷ fs) back name all p =
+    All-cons P f (fs ++ name ∷ back) (All-head P f (fs ++ back) all) (All-insert P fs back name (All-tail P f (fs ++ back) all) p)
+
+AreDistinct-insert : (front back : List (List ℕ)) (name : List ℕ) → AreDistinct (front ++ back) → is_among name (front ++ back) ≡ false → AreDistinct (front ++ name ∷ back)
+AreDistinct-insert [] back name distinct fresh = (fresh, distinct)
+AreDistinct-insert (f ∷ fs) back name distinct fresh =
+    let apart : bytes_eq f name ≡ false = bytes_eq-sym f name ∙ or-false_left _ _ fresh in
+    let others : (is_among f fs || is_among f back) ≡ false = sym (list_any-append (bytes_eq f) fs back) ∙ distinct.0 in
+    let at_back : is_among f (name ∷ back) ≡ false = both-false _ _ apart (or-false_right _ _ others) in
+    (list_any-append (bytes_eq f) fs (name ∷ back) ∙ both-false _ _ (or-false_left _ _ others) at_back, AreDistinct-insert fs back name distinct.1 (or-false_right _ _ fresh))
+
+-- the names with another list for one kind
+abbrev pub with_list : NameKind → List (List ℕ) → NameLists → NameLists
+with_list Thread list names = record names { threads = list }
+with_list Var list names = record names { vars = list }
+with_list Mutex list names = record names { mutexes = list }
+with_list Cond list names = record names { conds = list }
+with_list Sem list names = record names { sems = list }
+with_list Barrier list names = record names { barriers = list }
+with_list RwLock list names = record names { rwlocks = list }
+
+-- the names before the end of a kind's list, and those after it
+abbrev front_of : NameKind → NameLists → List (List ℕ)
+front_of Thread n = n.threads
+front_of Var n = n.threads ++ n.vars
+front_of Mutex n = n.threads ++ (n.vars ++ n.mutexes)
+front_of Cond n = n.threads ++ (n.vars ++ (n.mutexes ++ n.conds))
+front_of Sem n = n.threads ++ (n.vars ++ (n.mutexes ++ (n.conds ++ n.sems)))
+front_of Barrier n = n.threads ++ (n.vars ++ (n.mutexes ++ (n.conds ++ (n.sems ++ n.barriers))))
+front_of RwLock n = n.threads ++ (n.vars ++ (n.mutexes ++ (n.conds ++ (n.sems ++ (n.barriers ++ n.rwlocks)))))
+
+abbrev back_of : NameKind → NameLists → List (List ℕ)
+back_of Thread n = n.vars ++ (n.mutexes ++ (n.conds ++ (n.sems ++ (n.barriers ++ n.rwlocks))))
+back_of Var n = n.mutexes ++ (n.conds ++ (n.sems ++ (n.barriers ++ n.rwlocks)))
+back_of Mutex n = n.conds ++ (n.sems ++ (n.barriers ++ n.rwlocks))
+back_of Cond n = n.sems ++ (n.barriers ++ n.rwlocks)
+back_of Sem n = n.barriers ++ n.rwlocks
+back_of Barrier n = n.rwlocks
+back_of RwLock n = []
+
+all_names-cut : (kind : NameKind) (n : NameLists) → front_of kind n ++ back_of kind n ≡ all_names n
+all_names-cut Thread n = refl
+all_names-cut Var n = simp append_assoc
+all_names-cut Mutex n = simp append_assoc
+all_names-cut Cond n = simp append_assoc
+all_names-cut Sem n = simp append_assoc
+all_names-cut Barrier n = simp append_assoc
+all_names-cut RwLock n = append-nil _
+
+all_names-push : (kind : NameKind) (n : NameLists) (name : List ℕ) → front_of kind n ++ name ∷ back_of kind n ≡ all_names (with_list kind (list_of kind n ++ name ∷ []) n)
+all_names-push Thread n name = simp append_assoc
+all_names-push Var n name = simp append_assoc
+all_names-push Mutex n name = simp append_assoc
+all_names-push Cond n name = simp append_assoc
+all_names-push Sem n name = simp append_assoc
+all_names-push Barrier n name = simp append_assoc
+all_names-push RwLock n name = simp append_assoc
+
+few-push : (kind : NameKind) (n : NameLists) (name : List ℕ) → ((k : NameKind) → length (list_of k n) ≤ 64) → length (list_of kind n) < 64 → (k : NameKind) → length (list_of k (with_list kind (list_of kind n ++ name ∷ []) n)) ≤ 64
+few-push Thread n name few room Thread = omega (arith, length-append n.threads (name ∷ []))
+few-push Thread n name few room k = few k
+few-push Var n name few room Var = omega (arith, length-append n.vars (name ∷ []))
+few-push Var n name few room k = few k
+few-push Mutex n name few room Mutex = omega (arith, length-append n.mutexes (name ∷ []))
+few-push Mutex n name few room k = few k
+few-push Cond n name few room Cond = omega (arith, length-append n.conds (name ∷ []))
+few-push Cond n name few room k = few k
+few-push Sem n name few room Sem = omega (arith, length-append n.sems (name ∷ []))
+few-push Sem n name few room k = few k
+few-push Barrier n name few room Barrier = omega (arith, length-append n.barriers (name ∷ []))
+few-push Barrier n name few room k = few k
+few-push RwLock n name few room RwLock = omega (arith, length-append n.rwlocks (name ∷ []))
+few-push RwLock n name few room k = few k
+
+AreNames-with : (kind : NameKind) (n : NameLists) (name : List ℕ) → AreNames n → is_name 1 name ≡ true → is_among name (all_names n) ≡ false → length (list_of kind n) < 64 → AreNames (with_list kind (list_of kind n ++ name ∷ []) n)
+AreNames-with kind n name sound lawful fresh room =
+    let IsLawful = λ (word : List ℕ). is_name 1 word ≡ true in
+    let now = all_names-cut kind n in
+    record {
+      lawful = rw (← all_names-push kind n name) (All-insert IsLawful (front_of kind n) (back_of kind n) name (rw now sound.lawful) lawful);
+      distinct = rw (← all_names-push kind n name) (AreDistinct-insert (front_of kind n) (back_of kind n) name (rw now sound.distinct) (rw now fresh));
+      few = few-push kind n name sound.few room;
+    }
+
+-- what `add` leaves, where the old names, the kind and the list that was pushed to are known by equations
+pub AreNames-push : (kind asked : NameKind) (n old : NameLists) (name own : List ℕ) (list : List (List ℕ)) → asked ≡ kind → n ≡ old → AreNames n → is_name 1 name ≡ true → is_among name (all_names old) ≡ false → length (list_of asked old) < 64 → own ≡ name → list ≡ list_of kind n ++ own ∷ [] → AreNames (with_list kind list n)
+AreNames-push kind asked n old name own list same view sound lawful fresh room e pushed =
+    let fresh_here : is_among name (all_names n) ≡ false = rw view fresh in
+    let room_here : length (list_of kind n) < 64 = rw (← same, view) room in
+    rw (pushed, e) (AreNames-with kind n name sound lawful fresh_here room_here)
