@@ -1,5 +1,6 @@
 -- What a put does to the bytes on a sink, where the sink tells them (this project).
 use Rattle.std.specs.Prelude.{◌≡◌, ℕ, List, ◌++◌, Option, Some, None}
+use Rattle.std.specs.Io.KnownBytes.{Appends}
 
 -- the piece, whole, has been appended to what was written
 abbrev pub Appended : List ℕ → Option (List ℕ) → Option (List ℕ) → Type 0
@@ -11,3 +12,8 @@ abbrev pub AppendedPart : List ℕ → Option (List ℕ) → Option (List ℕ) �
 AppendedPart piece None after = after ≡ None
 AppendedPart piece (Some before) after =
     (part : List ℕ) × (rest : List ℕ) × (piece ≡ part ++ rest) × (after ≡ Some (before ++ part))
+
+-- a prefix of the piece has been appended to what a writer holds, where this is known
+abbrev pub AppendsPart : Option (List ℕ) → Option (List ℕ) → List ℕ → Type 0
+AppendsPart before after piece =
+    (part : List ℕ) × (rest : List ℕ) × (piece ≡ part ++ rest) × Appends before after part

@@ -28,3 +28,8 @@ FailsExactly fails (Err NoMemory) = fails ≡ false
 pub record SureState : Type 0 where
   pub written : List ℕ
   pub shorts : ℕ
+
+-- the two counts of a sink that tells no bytes
+pub record SinkCounts : Type 0 where
+  pub faults : ℕ
+  pub shorts : ℕ

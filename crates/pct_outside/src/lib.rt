@@ -7,6 +7,7 @@ mod calls;
 pub mod gates;
 
 
+pub mod host;
 pub mod memory_shelves;
 pub mod memory_sinks;
 pub mod shelves;
@@ -15,6 +16,7 @@ pub mod sinks;
 pub use gates::{Gate, OpenGate};
 
 
+pub use host::{HostShelf, HostSink};
 pub use memory_shelves::{MemoryShelf, SureShelf};
 pub use memory_sinks::{MemorySink, SureSink};
 pub use shelves::{Shelf, ShelfError};
