@@ -24,11 +24,21 @@ coded_shelf =
 abbrev pub is_refused : ShelfState → List ℕ → Bool
 is_refused shelf name = is_next shelf.fails shelf.calls || is_none (get shelf.files name)
 
--- what a read of this name leaves: a read that failed has its name kept
+-- the names of the reads that failed, after a read of this name with this answer
+abbrev pub names_after : {T : Type 0} → List (List ℕ) → List ℕ → Result T ShelfError → List (List ℕ)
+names_after names name (Ok _) = names
+names_after names name (Err Failed) = with_name names name
+names_after names name (Err NoMemory) = names
+
+-- the shelf in memory, after a read of this name with this answer
 abbrev pub after_read : {T : Type 0} → ShelfState → List ℕ → Result T ShelfError → ShelfState
-after_read shelf name (Ok _) = record shelf { calls = one_more shelf.calls }
-after_read shelf name (Err Failed) = record shelf { failed = with_name shelf.failed name; calls = one_more shelf.calls }
-after_read shelf name (Err NoMemory) = record shelf { calls = one_more shelf.calls }
+after_read shelf name result =
+    record {
+      files = shelf.files;
+      failed = names_after shelf.failed name result;
+      fails = shelf.fails;
+      calls = one_more shelf.calls;
+    }
 
 -- a read that is refused gives no bytes, and no other read is Failed
 abbrev pub FailsOnly : {T : Type 0} → Bool → Result T ShelfError → Type 0

@@ -5,6 +5,8 @@ ghost use Rattle.std.specs.Io.KnownBytes.{Appends};
 ghost use Rattle.pct_outside.specs.Counter.{Rose, one_more};
 ghost use Rattle.pct_outside.specs.Reading.{FirstBytes, with_name};
 ghost use Rattle.pct_outside.specs.Piece.{AppendsPart};
+ghost use Rattle.pct_outside.specs.ShelfState.{names_after};
+ghost use Rattle.pct_outside.specs.SinkState.{faults_after, shorts_after};
 
 use crate::shelves::{Shelf, ShelfError, keep_name};
 use crate::sinks::{Sink, SinkError};
@@ -52,7 +54,14 @@ impl<R: Files + AllocGlobal + Drop> Shelf for HostShelf<R> {
 
     ghost failed = { λ s. s };
 
-    fn read_up_to(&mut self, name: &str, most: u64) -> Result<Vec<u8>, ShelfError> {
+    fn read_up_to(&mut self, name: &str, most: u64) -> Result<Vec<u8>, ShelfError>
+        ensures kept { self.new ≡ names_after self.old name.now result }
+
+        // As of every shelf.
+        ensures most { IfOk result (λ bytes. vec_len bytes ≤ most) }
+        ensures failed { (self.new ≡ self.old) ⊎ (self.new ≡ with_name self.old name.now) }
+        ensures cause { result ≡ Err ShelfError.Failed → self.new ≡ with_name self.old name.now }
+    {
         let alloc = self.rt.alloc();
         let read = match File::open(&self.rt, name) {
             Ok(mut file) => read_first(alloc, &mut file, most),
@@ -104,17 +113,17 @@ pub struct HostSink<W: Write + Drop> {
 }
 
 impl<W: Write + Drop> Model for HostSink<W> {
-    ghost use Rattle.pct_outside.specs.SinkState.{SinkCounts};
+    ghost use Rattle.pct_outside.specs.SinkState.{StreamState};
 
-    ghost Value = { SinkCounts };
+    ghost Value = { StreamState W };
 
-    ghost view = { λ s. record { faults = s.faults; shorts = s.shorts } };
+    ghost view = { λ s. record { stream = s.stream; faults = s.faults; shorts = s.shorts } };
 }
 
 impl HostSink<Stdout> {
     /// The standard output.
     pub fn output(stream: Stdout) -> HostSink<Stdout>
-        ensures { result ≡ record { faults = 0; shorts = 0 } }
+        ensures { result ≡ record { stream = stream; faults = 0; shorts = 0 } }
     {
         HostSink::new(stream)
     }
@@ -123,7 +132,7 @@ impl HostSink<Stdout> {
 impl HostSink<Stderr> {
     /// The standard error.
     pub fn errors(stream: Stderr) -> HostSink<Stderr>
-        ensures { result ≡ record { faults = 0; shorts = 0 } }
+        ensures { result ≡ record { stream = stream; faults = 0; shorts = 0 } }
     {
         HostSink::new(stream)
     }
@@ -131,7 +140,7 @@ impl HostSink<Stderr> {
 
 impl<W: Write + Drop> HostSink<W> {
     pub(crate) fn new(stream: W) -> HostSink<W>
-        ensures { result ≡ record { faults = 0; shorts = 0 } }
+        ensures { result ≡ record { stream = stream; faults = 0; shorts = 0 } }
     {
         HostSink {
             stream,
@@ -148,7 +157,21 @@ impl<W: Write + Drop> Sink for HostSink<W> {
 
     ghost shorts = { λ s. s.shorts };
 
-    fn put(&mut self, piece: &[u8]) -> Result<(), SinkError> {
+    fn put(&mut self, piece: &[u8]) -> Result<(), SinkError>
+        // What the stream holds, where it is one that tells it.
+        ensures appends { OnOk result (Appends (W.contents self.old.stream) (W.contents self.new.stream) piece.now) }
+        ensures appends_part { OnErr result (AppendsPart (W.contents self.old.stream) (W.contents self.new.stream) piece.now) }
+
+        // Each error is counted once.
+        ensures counted { self.new.faults ≡ faults_after self.old.faults result }
+        ensures counted_short { self.new.shorts ≡ shorts_after self.old.shorts result }
+
+        // As of every sink.
+        ensures failed { result ≡ Err SinkError.Failed → Rose self.old.faults self.new.faults }
+        ensures short { result ≡ Err SinkError.NoMemory → Rose self.old.shorts self.new.shorts }
+        ensures faults { self.old.faults ≤ self.new.faults }
+        ensures shorts { self.old.shorts ≤ self.new.shorts }
+    {
         let put = write_whole(&mut self.stream, piece);
         match put {
             Ok(()) => {}

@@ -22,3 +22,6 @@ pub use memory_sinks::{MemorySink, SureSink};
 pub use shelves::{Shelf, ShelfError};
 pub use sinks::{Sink, SinkError};
 
+
+#[cfg(test)]
+mod tests;

@@ -1,8 +1,8 @@
 //! Sinks in memory.
-ghost use Rattle.std.specs.Prelude.{◌≡◌, [], ◌++◌, ◌≤◌, ◌≢◌, OnOk, OnErr};
-ghost use Rattle.pct_outside.specs.Counter.{Rose, is_next, one_more};
+ghost use Rattle.std.specs.Prelude.{◌≡◌, [], ◌≤◌, ◌≢◌, OnOk, OnErr};
+ghost use Rattle.pct_outside.specs.Counter.{Rose, is_next};
 ghost use Rattle.pct_outside.specs.Piece.{Appended, AppendedPart};
-ghost use Rattle.pct_outside.specs.SinkState.{after_put, FailsExactly};
+ghost use Rattle.pct_outside.specs.SinkState.{after_put, written_after, shorts_after, FailsExactly};
 
 use crate::calls::Calls;
 use crate::sinks::{Sink, SinkError};
@@ -89,9 +89,9 @@ pub struct SureSink {
 }
 
 impl Model for SureSink {
-    ghost use Rattle.pct_outside.specs.SinkState.{SureState};
+    ghost use Rattle.pct_outside.specs.SinkState.{SureSinkState};
 
-    ghost Value = { SureState };
+    ghost Value = { SureSinkState };
 
     ghost view = { λ s. record { written = s.bytes.items; shorts = s.shorts } };
 }
@@ -125,8 +125,8 @@ impl Sink for SureSink {
     ghost shorts = { λ s. s.shorts };
 
     fn put(&mut self, piece: &[u8]) -> Result<(), SinkError>
-        ensures ok { OnOk result (self.new ≡ record self.old { written = self.old.written ++ piece.now }) }
-        ensures err { OnErr result (self.new ≡ record self.old { shorts = one_more self.old.shorts }) }
+        ensures written { self.new.written ≡ written_after self.old.written piece.now result }
+        ensures counted { self.new.shorts ≡ shorts_after self.old.shorts result }
         ensures sure { result ≢ Err SinkError.Failed }
 
         // As of every sink.
