@@ -30,7 +30,7 @@ all_onto (t ∷ ts) threads = all_onto ts (onto t threads)
 
 -- a thread leaves a list
 abbrev pub without : ℕ → List ℕ → List ℕ
-without t threads = filter (λ u. not (u == t)) threads
+without t threads = filter (λ u. not (t == u)) threads
 
 -- what a variable holds
 abbrev pub is_i64 : ℤ → Bool
@@ -75,11 +75,11 @@ arrived_at t barrier = met t (record barrier { arrived = onto t barrier.arrived 
 
 -- a thread leaves a barrier that has let it through
 abbrev pub left_by : ℕ → BarrierState → BarrierState
-left_by t barrier = record barrier { released = filter (λ release. not (release.thread == t)) barrier.released }
+left_by t barrier = record barrier { released = filter (λ release. not (t == release.thread)) barrier.released }
 
 -- whether a thread is let through as the serial one
 abbrev pub is_serial : ℕ → List Released → Bool
-is_serial t released = list_any (λ release. release.thread == t && release.serial) released
+is_serial t released = list_any (λ release. t == release.thread && release.serial) released
 
 abbrev pub with_writer : RwLockState → Option ℕ → RwLockState
 with_writer rwlock writer = record rwlock { writer = writer }

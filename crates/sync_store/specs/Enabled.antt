@@ -7,7 +7,7 @@ use Rattle.sync_store.specs.Store.{Release as Released, RwLockState, StoreState,
 
 -- whether a barrier has let a thread through
 abbrev pub is_released : ℕ → List Released → Bool
-is_released t released = list_any (λ release. release.thread == t) released
+is_released t released = list_any (λ release. t == release.thread) released
 
 -- nobody has a read hold
 abbrev pub is_unread : RwLockState → Bool

@@ -4,3 +4,4 @@ pub mod Ready
 pub mod Effect
 pub mod Touched
 pub mod Steps
+pub mod ThreadList

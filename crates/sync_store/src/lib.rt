@@ -3,6 +3,7 @@
 
 mod applied;
 mod ready;
+mod thread_list;
 mod touched;
 
 pub use applied::Applied;
