@@ -1,0 +1,166 @@
+-- What an enabled step does.
+use Rattle.std.specs.Prelude.{ℕ, ◌+◌, ◌-◌, min, ◌==◌, ◌&&◌, nat_lt, ℤ, pos, negsuc, ◌+ℤ◌, ◌-ℤ◌, int_lt, int_le, Bool, false, not, if◌then◌else◌, List, [], ◌∷◌, ◌++◌, length, filter, Option, is_none, Some, None, slice_index, slice_set}
+use Rattle.std.specs.Ordering.{int_eq}
+use Rattle.std.specs.List.{list_any}
+use Rattle.pct_ask.specs.declared.Ask.{Ask}
+use Rattle.pct_ask.specs.declared.Ask.TheVariants.{Read, Write, Add, Cas, Lock, TryLock, Unlock, Release, Regain, Signal, Broadcast, Down, TryDown, Up, Arrive, Leave, Join, Yield, Check, Fault, Start, Begin, RdLock, WrLock, TryRdLock, TryWrLock, RwUnlock}
+use Rattle.pct_ask.specs.declared.FaultKind.TheVariants.{Overflow}
+use Rattle.pct_ask.specs.declared.MisuseKind.TheVariants.{NotOwner, SemFull, AlreadyStarted, TooManyReads}
+use Rattle.pct_ask.specs.declared.Verdict.{Verdict}
+use Rattle.pct_ask.specs.declared.Verdict.TheVariants.{Failed, Misuse, Fault as Faulted}
+use Rattle.sync_store.specs.declared.applied.Applied.{Applied}
+use Rattle.sync_store.specs.declared.applied.Applied.TheVariants.{Answer, Ends}
+use Rattle.sync_store.specs.Store.{Release as Released, ConditionState, BarrierState, RwLockState, StoreState, is_on, value_of, owner_of, condition_of, number_of, barrier_of, rwlock_of, with_value, with_owner, with_condition, with_number, with_barrier, with_rwlock}
+use Rattle.sync_store.specs.Enabled.{is_released, is_unread}
+
+-- what comes of a step: the store after it and the thread's answer, or the verdict that ends the run, and the store
+-- stays as it was
+pub data Effect : Type 0 where
+  Goes : (after : StoreState) → (answer : ℤ) → Effect
+  Stops : (verdict : Verdict) → Effect
+
+-- a thread goes last on a list, unless the list has it
+abbrev pub onto : ℕ → List ℕ → List ℕ
+onto t threads = if is_on t threads then threads else threads ++ t ∷ []
+
+-- threads go last on a list, one after another
+abbrev pub all_onto : List ℕ → List ℕ → List ℕ
+all_onto [] threads = threads
+all_onto (t ∷ ts) threads = all_onto ts (onto t threads)
+
+-- a thread leaves a list
+abbrev pub without : ℕ → List ℕ → List ℕ
+without t threads = filter (λ u. not (t == u)) threads
+
+-- what a variable holds
+abbrev pub is_i64 : ℤ → Bool
+is_i64 n = int_le (negsuc 9223372036854775807) n && int_le n (pos 9223372036854775807)
+
+abbrev pub is_thread : ℕ → Option ℕ → Bool
+is_thread t None = false
+is_thread t (Some u) = u == t
+
+-- the longest waiter of a condition is woken, if there is one
+abbrev pub signalled : List ℕ → List ℕ → ConditionState
+signalled [] woken = record { waiting = []; woken = woken }
+signalled (t ∷ waiting) woken = record { waiting = waiting; woken = onto t woken }
+
+-- the greatest number of a semaphore (POSIX's SEM_VALUE_MAX, at its least)
+abbrev pub sem_max : ℤ
+sem_max = pos 2147483647
+
+-- the greatest number of read holds of a thread (this project)
+abbrev pub max_reads : ℕ
+max_reads = 1000
+
+-- a thread is let through a barrier, unless it already was
+abbrev pub let_through : ℕ → Bool → List Released → List Released
+let_through t serial released =
+    if is_released t released then released else released ++ record { thread = t; serial = serial } ∷ []
+
+-- threads are let through, one after another; the one that arrived last is the serial one
+abbrev pub all_through : ℕ → List ℕ → List Released → List Released
+all_through last [] released = released
+all_through last (t ∷ ts) released = all_through last ts (let_through t (t == last) released)
+
+-- once as many threads as the barrier counts have arrived, they are all let through; t arrived last
+abbrev pub met : ℕ → BarrierState → BarrierState
+met t barrier =
+    if int_eq (pos (length barrier.arrived)) barrier.count
+    then record barrier { arrived = []; released = all_through t barrier.arrived barrier.released }
+    else barrier
+
+abbrev pub arrived_at : ℕ → BarrierState → BarrierState
+arrived_at t barrier = met t (record barrier { arrived = onto t barrier.arrived })
+
+-- a thread leaves a barrier that has let it through
+abbrev pub left_by : ℕ → BarrierState → BarrierState
+left_by t barrier = record barrier { released = filter (λ release. not (t == release.thread)) barrier.released }
+
+-- whether a thread is let through as the serial one
+abbrev pub is_serial : ℕ → List Released → Bool
+is_serial t released = list_any (λ release. t == release.thread && release.serial) released
+
+abbrev pub with_writer : RwLockState → Option ℕ → RwLockState
+with_writer rwlock writer = record rwlock { writer = writer }
+
+abbrev pub with_reads : RwLockState → ℕ → ℕ → RwLockState
+with_reads rwlock t holds = record rwlock { reads = slice_set rwlock.reads t holds }
+
+-- a thread lets a read-write lock go: as its writer, else one of its read holds; None where it has neither
+abbrev pub unlocked : RwLockState → ℕ → Option RwLockState
+unlocked rwlock t =
+    if is_thread t rwlock.writer then Some (with_writer rwlock None)
+    else (if nat_lt 0 (slice_index rwlock.reads t) then Some (with_reads rwlock t (slice_index rwlock.reads t - 1)) else None)
+
+-- the step to another state of a read-write lock, or the verdict where there is none
+abbrev pub goes_or : StoreState → ℕ → Option RwLockState → Verdict → Effect
+goes_or store l None verdict = Stops verdict
+goes_or store l (Some rwlock) verdict = Goes (with_rwlock store l rwlock) (pos 0)
+
+-- The step of the thread t, whose ask stands on a line of the test: the store after it and the answer, or a verdict.
+abbrev pub effect : StoreState → ℕ → ℕ → Ask → Effect
+effect store t line (Read x) = Goes store (value_of store x)
+effect store t line (Write x value) = Goes (with_value store x value) (pos 0)
+effect store t line (Add x value) =
+    if is_i64 (value_of store x +ℤ value) then Goes (with_value store x (value_of store x +ℤ value)) (value_of store x)
+    else Stops (Faulted t line Overflow)
+effect store t line (Cas x old new) =
+    if int_eq (value_of store x) old then Goes (with_value store x new) (pos 1) else Goes store (pos 0)
+effect store t line (Lock m) = Goes (with_owner store m (Some t)) (pos 0)
+effect store t line (TryLock m) =
+    if is_none (owner_of store m) then Goes (with_owner store m (Some t)) (pos 1) else Goes store (pos 0)
+effect store t line (Unlock m) =
+    if is_thread t (owner_of store m) then Goes (with_owner store m None) (pos 0) else Stops (Misuse t line NotOwner)
+effect store t line (Release c m) =
+    if is_thread t (owner_of store m)
+    then Goes (with_condition (with_owner store m None) c (record (condition_of store c) { waiting = onto t (condition_of store c).waiting })) (pos 0)
+    else Stops (Misuse t line NotOwner)
+effect store t line (Regain c m) =
+    Goes (with_condition (with_owner store m (Some t)) c (record (condition_of store c) { woken = without t (condition_of store c).woken })) (pos 0)
+effect store t line (Signal c) =
+    Goes (with_condition store c (signalled (condition_of store c).waiting (condition_of store c).woken)) (pos (min 1 (length (condition_of store c).waiting)))
+effect store t line (Broadcast c) =
+    Goes (with_condition store c (record { waiting = []; woken = all_onto (condition_of store c).waiting (condition_of store c).woken })) (pos (length (condition_of store c).waiting))
+effect store t line (Down s) = Goes (with_number store s (number_of store s -ℤ pos 1)) (pos 0)
+effect store t line (TryDown s) =
+    if int_lt (pos 0) (number_of store s) then Goes (with_number store s (number_of store s -ℤ pos 1)) (pos 1)
+    else Goes store (pos 0)
+effect store t line (Up s) =
+    if int_lt (number_of store s) sem_max then Goes (with_number store s (number_of store s +ℤ pos 1)) (pos 0)
+    else Stops (Misuse t line SemFull)
+effect store t line (Arrive b) = Goes (with_barrier store b (arrived_at t (barrier_of store b))) (pos 0)
+effect store t line (Leave b) =
+    Goes (with_barrier store b (left_by t (barrier_of store b))) (if is_serial t (barrier_of store b).released then pos 1 else pos 0)
+effect store t line (Join u) = Goes store (pos 0)
+effect store t line Yield = Goes store (pos 0)
+effect store t line (Check holds) = if holds then Goes store (pos 0) else Stops (Failed t line)
+effect store t line (Fault kind) = Stops (Faulted t line kind)
+effect store t line (Start u) =
+    if is_on u store.started then Stops (Misuse t line AlreadyStarted)
+    else Goes (record store { started = store.started ++ u ∷ [] }) (pos 0)
+effect store t line Begin = Goes store (pos 0)
+effect store t line (RdLock l) =
+    if nat_lt (slice_index (rwlock_of store l).reads t) max_reads
+    then Goes (with_rwlock store l (with_reads (rwlock_of store l) t (slice_index (rwlock_of store l).reads t + 1))) (pos 0)
+    else Stops (Misuse t line TooManyReads)
+effect store t line (WrLock l) = Goes (with_rwlock store l (with_writer (rwlock_of store l) (Some t))) (pos 0)
+effect store t line (TryRdLock l) =
+    if is_none (rwlock_of store l).writer && nat_lt (slice_index (rwlock_of store l).reads t) max_reads
+    then Goes (with_rwlock store l (with_reads (rwlock_of store l) t (slice_index (rwlock_of store l).reads t + 1))) (pos 1)
+    else Goes store (pos 0)
+effect store t line (TryWrLock l) =
+    if is_none (rwlock_of store l).writer && is_unread (rwlock_of store l)
+    then Goes (with_rwlock store l (with_writer (rwlock_of store l) (Some t))) (pos 1)
+    else Goes store (pos 0)
+effect store t line (RwUnlock l) = goes_or store l (unlocked (rwlock_of store l) t) (Misuse t line NotOwner)
+
+-- the store after a step: that of the effect, or the same one where the run ends
+abbrev pub store_after : StoreState → Effect → StoreState
+store_after store (Goes after answer) = after
+store_after store (Stops verdict) = store
+
+-- what comes of a step, without the store
+abbrev pub applied_of : Effect → Applied
+applied_of (Goes after answer) = Answer answer
+applied_of (Stops verdict) = Ends verdict

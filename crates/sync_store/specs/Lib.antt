@@ -1,0 +1,7 @@
+pub mod Store
+pub mod Enabled
+pub mod Ready
+pub mod Effect
+pub mod Touched
+pub mod Steps
+pub mod ThreadList

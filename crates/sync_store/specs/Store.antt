@@ -1,0 +1,133 @@
+-- What the threads of a test share, between two steps (POSIX threads' objects, as this project sees them).
+use Rattle.std.specs.Prelude.{ℕ, ℤ, pos, Bool, List, [], length, map, replicate, Option, None, slice_index_or, slice_set, nat_eq}
+use Rattle.std.specs.Set.{is_member}
+use Rattle.pct_ask.specs.declared.Deal.{Deal}
+
+-- a condition: the threads that wait for a signal, the longest first, and those that were woken and haven't taken
+-- their mutex again
+pub record ConditionState : Type 0 where
+  pub waiting : List ℕ
+  pub woken : List ℕ
+
+-- a thread that a barrier has let through, and whether it is the serial one (POSIX's PTHREAD_BARRIER_SERIAL_THREAD)
+pub record Release : Type 0 where
+  pub thread : ℕ
+  pub serial : Bool
+
+-- a barrier: how many threads meet at it, those that have arrived, and those that are let through and haven't left
+pub record BarrierState : Type 0 where
+  pub count : ℤ
+  pub arrived : List ℕ
+  pub released : List Release
+
+-- a read-write lock: its writer, and how many read holds each thread has
+pub record RwLockState : Type 0 where
+  pub writer : Option ℕ
+  pub reads : List ℕ
+
+-- The store. Threads and objects are named by their places, from 0. No step changes `threads` or a barrier's count.
+pub record StoreState : Type 0 where
+  pub threads : ℕ
+  pub values : List ℤ
+  pub owners : List (Option ℕ)
+  pub conditions : List ConditionState
+  pub numbers : List ℤ
+  pub barriers : List BarrierState
+  pub started : List ℕ
+  pub rwlocks : List RwLockState
+
+abbrev pub new_condition : ConditionState
+new_condition = record { waiting = []; woken = [] }
+
+abbrev pub new_barrier : ℤ → BarrierState
+new_barrier count = record { count = count; arrived = []; released = [] }
+
+abbrev pub new_rwlock : ℕ → RwLockState
+new_rwlock threads = record { writer = None; reads = replicate threads 0 }
+
+-- the store at the start: the declared values, and nothing owned, awaited, started or held
+abbrev pub first : Deal → StoreState
+first deal = record {
+  threads = deal.threads;
+  values = deal.vars;
+  owners = replicate deal.mutexes None;
+  conditions = replicate deal.conds new_condition;
+  numbers = deal.sems;
+  barriers = map new_barrier deal.barriers;
+  started = [];
+  rwlocks = replicate deal.rwlocks (new_rwlock deal.threads);
+}
+
+-- the state of one object
+abbrev pub value_of : StoreState → ℕ → ℤ
+value_of store x = slice_index_or store.values x (pos 0)
+
+abbrev pub owner_of : StoreState → ℕ → Option ℕ
+owner_of store m = slice_index_or store.owners m None
+
+abbrev pub condition_of : StoreState → ℕ → ConditionState
+condition_of store c = slice_index_or store.conditions c new_condition
+
+abbrev pub number_of : StoreState → ℕ → ℤ
+number_of store s = slice_index_or store.numbers s (pos 0)
+
+abbrev pub barrier_of : StoreState → ℕ → BarrierState
+barrier_of store b = slice_index_or store.barriers b (new_barrier (pos 0))
+
+abbrev pub rwlock_of : StoreState → ℕ → RwLockState
+rwlock_of store l = slice_index_or store.rwlocks l (new_rwlock 0)
+
+-- the store with another state of one object
+abbrev pub with_value : StoreState → ℕ → ℤ → StoreState
+with_value store x value = record store { values = slice_set store.values x value }
+
+abbrev pub with_owner : StoreState → ℕ → Option ℕ → StoreState
+with_owner store m owner = record store { owners = slice_set store.owners m owner }
+
+abbrev pub with_condition : StoreState → ℕ → ConditionState → StoreState
+with_condition store c condition = record store { conditions = slice_set store.conditions c condition }
+
+abbrev pub with_number : StoreState → ℕ → ℤ → StoreState
+with_number store s number = record store { numbers = slice_set store.numbers s number }
+
+abbrev pub with_barrier : StoreState → ℕ → BarrierState → StoreState
+with_barrier store b barrier = record store { barriers = slice_set store.barriers b barrier }
+
+abbrev pub with_rwlock : StoreState → ℕ → RwLockState → StoreState
+with_rwlock store l rwlock = record store { rwlocks = slice_set store.rwlocks l rwlock }
+
+-- whether a thread is on a list of threads
+abbrev pub is_on : ℕ → List ℕ → Bool
+is_on t threads = is_member nat_eq threads t
+
+-- how many threads and objects of each kind there are
+pub record Sizes : Type 0 where
+  pub threads : ℕ
+  pub vars : ℕ
+  pub mutexes : ℕ
+  pub conds : ℕ
+  pub sems : ℕ
+  pub barriers : ℕ
+  pub rwlocks : ℕ
+
+abbrev pub sizes_of_deal : Deal → Sizes
+sizes_of_deal deal = record {
+  threads = deal.threads;
+  vars = length deal.vars;
+  mutexes = deal.mutexes;
+  conds = deal.conds;
+  sems = length deal.sems;
+  barriers = length deal.barriers;
+  rwlocks = deal.rwlocks;
+}
+
+abbrev pub sizes_of : StoreState → Sizes
+sizes_of store = record {
+  threads = store.threads;
+  vars = length store.values;
+  mutexes = length store.owners;
+  conds = length store.conditions;
+  sems = length store.numbers;
+  barriers = length store.barriers;
+  rwlocks = length store.rwlocks;
+}

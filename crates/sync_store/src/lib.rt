@@ -1,0 +1,11 @@
+//! The objects that the threads of a test share: when an ask may take its step, and what the step does.
+#![tactic(auto)]
+
+mod applied;
+mod ready;
+mod thread_list;
+mod touched;
+
+pub use applied::Applied;
+pub use ready::Ready;
+pub use touched::Touched;
