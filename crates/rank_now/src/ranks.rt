@@ -36,6 +36,11 @@ impl Ranks {
         ensures count { IfOk result (λ r. r.count ≡ count) }
         ensures values { IfOk result (λ r. r.values ≡ map (λ t. count + length order.now - place_of order.now t) (threads_of order.now)) }
         ensures distinct { IfOk result (λ r. AreDistinct r.values) }
+
+        // These are the ranks before the first step.
+        ensures by_points { IfOk result (λ r. (points : List ℕ) → length points ≡ count → r.values ≡ ranks order.now points []) }
+        ensures by_events { IfOk result (λ r. (events : List Moment) → length events ≡ count → r.values ≡ ranks_by_events order.now events []) }
+
         ensures order { OnOk result (IsOrder order.now) }
         ensures not_an_order { (at : ℕ) → (result ≡ Err (RankError.NotAnOrder at)) ↔ IsFirstWrong order.now at }
     {
@@ -56,6 +61,10 @@ impl Ranks {
         ensures count { self.new.count ≡ self.old.count }
         ensures values { self.new.values ≡ slice_set self.old.values thread value }
         ensures distinct { AreDistinct self.new.values }
+
+        // Ranks stay ranks where the thread has just taken the step that gives this value.
+        ensures by_points { (order points schedule : List ℕ) → self.old.values ≡ ranks order points schedule → value ≡ index_of_point points (length schedule + 1) → self.new.values ≡ ranks order points (schedule ++ thread ∷ []) }
+        ensures by_events { (order : List ℕ) (events : List Moment) (schedule : List ℕ) → self.old.values ≡ ranks_by_events order events schedule → value ≡ index_of_moment events (schedule ++ thread ∷ []) (length schedule + 1) → self.new.values ≡ ranks_by_events order events (schedule ++ thread ∷ []) }
     {
         let from = greater(&self.values, self.values[thread as usize]);
         self.values[thread as usize] = value;

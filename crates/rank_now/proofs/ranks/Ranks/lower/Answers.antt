@@ -2,6 +2,7 @@ use Rattle.std.proofs.Common.{◌≡◌, ◌<◌, List, ℕ, length, ap, sym, su
 use Rattle.std.proofs.lemmas.List.{with_items_is, length-set}
 use Rattle.rank_now.specs.Ranking.{Ranking, IsKept, place_by_value}
 use Rattle.rank_now.proofs.Places.{place-within, from-is, to-within, kept-after}
+use Rattle.rank_now.proofs.Changes.{ranks-step, ranks_by_events-step}
 use Rattle.rank_now.proofs.ranks.Ranks.lower.Goals as goal
 
 pub shift-requires-clause-from : goal.shift-requires-clause-from
@@ -31,3 +32,13 @@ invariant_of-self c =
     let kept = kept-after f.count f.values.items f.walk.items c.deref-2.result.now c.shift.new.walk c.args.thread c.args.value c.greater-from.result c.greater-to.result c.self.invariant within (omega (arith, c.requires.low)) free from c.deref-2.ensures.value c.greater-to.ensures moves in
     let Q : List ℕ → Type 0 = λ x. IsKept f.count (set f.values.items c.args.thread c.args.value) x in
     subst Q (sym (with_items_is f.walk c.shift.new.walk (omega (arith, c.shift.ensures.whole, ap length c.deref_mut.ensures.value, f.walk.ok.0)))) kept
+
+pub returns-clause-by_points : goal.returns-clause-by_points
+returns-clause-by_points c = λ order points schedule same is.
+    let seen : c.self.inside.values.items ≡ c.args.self.now.values = ap (λ (r : Ranking). r.values) c.self.view_is in
+    ranks-step order points schedule c.args.thread c.self.inside.values.items c.args.value (omega (arith, c.requires.positive)) is (seen ∙ same)
+
+pub returns-clause-by_events : goal.returns-clause-by_events
+returns-clause-by_events c = λ order events schedule same is.
+    let seen : c.self.inside.values.items ≡ c.args.self.now.values = ap (λ (r : Ranking). r.values) c.self.view_is in
+    ranks_by_events-step order events schedule c.args.thread c.self.inside.values.items c.args.value (omega (arith, c.requires.positive)) is (seen ∙ same)

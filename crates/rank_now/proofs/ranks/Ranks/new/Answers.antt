@@ -1,6 +1,7 @@
 use Rattle.std.proofs.Common.{refl, rules, sym, subst, List, ℕ}
 use Rattle.rank_now.specs.Ranking.{IsKept}
 use Rattle.rank_now.proofs.Orders.{is-order, first-kept}
+use Rattle.rank_now.proofs.Changes.{ranks-first, ranks_by_events-first}
 use Rattle.rank_now.proofs.ranks.Ranks.new.Goals as goal
 
 pub first_values-requires-clause-order : goal.first_values-requires-clause-order
@@ -21,3 +22,9 @@ returns-clause-distinct c =
 
 pub returns-clause-order : goal.returns-clause-order
 returns-clause-order c = is-order c.args.order.now (c.in_default.ensures.none refl)
+
+pub returns-clause-by_points : goal.returns-clause-by_points
+returns-clause-by_points c = λ points same. ranks-first c.args.order.now points c.in_ok-values.values.items c.args.count same c.in_ok-values.ensures
+
+pub returns-clause-by_events : goal.returns-clause-by_events
+returns-clause-by_events c = λ events same. ranks_by_events-first c.args.order.now events c.in_ok-values.values.items c.args.count same c.in_ok-values.ensures
