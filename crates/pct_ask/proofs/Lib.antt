@@ -1,2 +1,4 @@
 pub mod NameLemmas
 pub mod PlaceLemmas
+pub mod NumberLemmas
+pub mod LineLemmas

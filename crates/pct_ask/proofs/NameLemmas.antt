@@ -1,12 +1,13 @@
 -- Facts on the names of a test.
+use Rattle.std.specs.Prelude.{codes, ◌==◌, ◌&&◌, not, nat_le, if◌then◌else◌}
 use Rattle.std.proofs.Common.{◌≡◌, ℕ, ◌<◌, ◌≤◌, Bool, true, false, ◌||◌, List, [], ◌∷◌, ◌++◌, length, refl, sym, ◌∙◌, arith, append_assoc, append-nil, length-append}
-use Rattle.std.specs.List.{All}
+use Rattle.std.specs.List.{All, list_any}
 use Rattle.std.specs.Str.{bytes_eq}
 use Rattle.std.proofs.lemmas.List.Elements.{All-cons, All-head, All-tail}
 use Rattle.std.proofs.lemmas.List.Folds.{list_any-append}
 use Rattle.std.proofs.lemmas.Slice.Eq.{bytes_eq-Decides}
 use Rattle.std.proofs.lemmas.Bool.Decides.{same_from_decides, Decides-like}
-use Rattle.pct_ask.specs.Words.{is_name, is_among}
+use Rattle.pct_ask.specs.Words.{is_word, is_name, is_among, first_keywords, registers}
 use Rattle.pct_ask.specs.NameLists.{NameLists, list_of, all_names, AreDistinct, AreNames}
 use Rattle.pct_ask.specs.declared.names.NameKind.{NameKind}
 use Rattle.pct_ask.specs.declared.names.NameKind.TheVariants.{Thread, Var, Mutex, Cond, Sem, Barrier, RwLock}
@@ -118,3 +119,26 @@ AreNames-push kind asked n old name own list same view sound lawful fresh room e
     let fresh_here : is_among name (all_names n) ≡ false = rw view fresh in
     let room_here : length (list_of kind n) < 64 = rw (← same, view) room in
     rw (pushed, e) (AreNames-with kind n name sound lawful fresh_here room_here)
+
+-- the keywords that the third version adds
+abbrev later_keywords : List (List ℕ)
+later_keywords =
+    codes "start" ∷ codes "rwlock" ∷ codes "rdlock" ∷ codes "wrlock" ∷ codes "tryrdlock" ∷ codes "trywrlock" ∷ codes "rwunlock" ∷ []
+
+fewer-words : (a b x y : Bool) → (a && not (x || y) && b) ≡ true → (a && not x && b) ≡ true
+fewer-words true b true y h = h
+fewer-words true b false true h = cc
+fewer-words true b false false h = h
+fewer-words false b x y h = cc
+
+among-fewer : (p : List ℕ → Bool) (a b : Bool) (xs ys : List (List ℕ)) → (a && not (list_any p (xs ++ ys)) && b) ≡ true → (a && not (list_any p xs) && b) ≡ true
+among-fewer p a b xs ys h = fewer-words a b (list_any p xs) (list_any p ys) (rw list_any-append at h)
+
+by_version : (first second : Bool) (word : List ℕ) → (is_word word && not (is_among word (if first then first_keywords else (if second then first_keywords ++ codes "start" ∷ [] else first_keywords ++ later_keywords))) && not (is_among word registers)) ≡ true → is_name 1 word ≡ true
+by_version true second word h = h
+by_version false true word h = among-fewer (bytes_eq word) (is_word word) (not (is_among word registers)) first_keywords (codes "start" ∷ []) h
+by_version false false word h = among-fewer (bytes_eq word) (is_word word) (not (is_among word registers)) first_keywords later_keywords h
+
+-- a name that is lawful by a later version's keywords is lawful by the first version's
+pub is_name-first : (version : ℕ) (word : List ℕ) → is_name version word ≡ true → is_name 1 word ≡ true
+is_name-first version word h = by_version (nat_le version 1) (version == 2) word h

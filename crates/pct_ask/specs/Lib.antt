@@ -5,6 +5,7 @@ pub mod Tokens
 pub mod Words
 pub mod Rows
 pub mod NameLists
+pub mod Numbers
 pub mod VerdictText
 pub mod Places
 pub mod PlaceLaws

@@ -40,23 +40,23 @@ impl Model for Names {
     ghost Value = { NameLists };
 
     ghost view = { λ n. record {
-        threads = n.threads;
-        vars = n.vars;
-        mutexes = n.mutexes;
-        conds = n.conds;
-        sems = n.sems;
-        barriers = n.barriers;
-        rwlocks = n.rwlocks;
+      threads = n.threads;
+      vars = n.vars;
+      mutexes = n.mutexes;
+      conds = n.conds;
+      sems = n.sems;
+      barriers = n.barriers;
+      rwlocks = n.rwlocks;
     } };
 
     ghost invariant = { λ n. AreNames (record {
-        threads = n.threads;
-        vars = n.vars;
-        mutexes = n.mutexes;
-        conds = n.conds;
-        sems = n.sems;
-        barriers = n.barriers;
-        rwlocks = n.rwlocks;
+      threads = n.threads;
+      vars = n.vars;
+      mutexes = n.mutexes;
+      conds = n.conds;
+      sems = n.sems;
+      barriers = n.barriers;
+      rwlocks = n.rwlocks;
     }) };
 }
 
@@ -164,5 +164,8 @@ fn place_of(names: &[Name], name: &[u8]) -> Option<usize>
 fn has(names: &NameList, name: &[u8]) -> bool
     ensures { result ≡ is_among name.now names.now }
 {
-    names.as_slice().iter().any(|other| name == other.as_slice())
+    names
+        .as_slice()
+        .iter()
+        .any(|other| name == other.as_slice())
 }

@@ -5,20 +5,52 @@ ghost use Rattle.pct_ask.specs.Words.{is_word, is_among, first_keywords, keyword
 ghost use Rattle.pct_ask.specs.Characters.{is_letter, is_word_byte};
 
 const FIRST_KEYWORDS: [&[u8]; 29] = [
-    b"script", b"var", b"mutex", b"cond", b"sem", b"barrier", b"thread", b"end", b"read", b"write", b"add", b"cas",
-    b"lock", b"trylock", b"unlock", b"wait", b"signal", b"broadcast", b"down", b"trydown", b"up", b"arrive", b"join",
-    b"yield", b"assert", b"set", b"if", b"else", b"while",
+    b"script",
+    b"var",
+    b"mutex",
+    b"cond",
+    b"sem",
+    b"barrier",
+    b"thread",
+    b"end",
+    b"read",
+    b"write",
+    b"add",
+    b"cas",
+    b"lock",
+    b"trylock",
+    b"unlock",
+    b"wait",
+    b"signal",
+    b"broadcast",
+    b"down",
+    b"trydown",
+    b"up",
+    b"arrive",
+    b"join",
+    b"yield",
+    b"assert",
+    b"set",
+    b"if",
+    b"else",
+    b"while",
 ];
 
 const SECOND_KEYWORDS: [&[u8]; 1] = [b"start"];
 
 const THIRD_KEYWORDS: [&[u8]; 7] = [
-    b"start", b"rwlock", b"rdlock", b"wrlock", b"tryrdlock", b"trywrlock", b"rwunlock",
+    b"start",
+    b"rwlock",
+    b"rdlock",
+    b"wrlock",
+    b"tryrdlock",
+    b"trywrlock",
+    b"rwunlock",
 ];
 
 const REGISTERS: [&[u8]; 16] = [
-    b"r0", b"r1", b"r2", b"r3", b"r4", b"r5", b"r6", b"r7", b"r8", b"r9", b"r10", b"r11", b"r12", b"r13", b"r14",
-    b"r15",
+    b"r0", b"r1", b"r2", b"r3", b"r4", b"r5", b"r6", b"r7", b"r8", b"r9", b"r10", b"r11", b"r12",
+    b"r13", b"r14", b"r15",
 ];
 
 /// Whether a word may be a name in a script of a version, from 1.
