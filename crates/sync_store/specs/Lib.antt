@@ -5,3 +5,4 @@ pub mod Effect
 pub mod Touched
 pub mod Steps
 pub mod ThreadList
+pub mod ReleaseList

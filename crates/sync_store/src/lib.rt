@@ -3,6 +3,7 @@
 
 mod applied;
 mod ready;
+mod release_list;
 mod thread_list;
 mod touched;
 
