@@ -2,8 +2,11 @@
 #![tactic(auto)]
 
 mod applied;
+mod barriers;
+mod conditions;
 mod ready;
 mod release_list;
+mod rwlocks;
 mod thread_list;
 mod touched;
 
