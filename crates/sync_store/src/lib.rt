@@ -4,11 +4,14 @@
 mod applied;
 mod barriers;
 mod conditions;
+mod mutexes;
 mod ready;
 mod release_list;
 mod rwlocks;
+mod semaphores;
 mod thread_list;
 mod touched;
+mod variables;
 
 pub use applied::Applied;
 pub use ready::Ready;

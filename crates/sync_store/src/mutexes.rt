@@ -1,0 +1,58 @@
+ghost use Rattle.std.specs.Prelude.{◌≡◌, ◌<◌, if◌then◌else◌, is_none, length, replicate, slice_index_or, slice_set, IfOk};
+ghost use Rattle.sync_store.specs.Effect.{is_thread};
+
+use std::alloc::{AllocError as NoMemory, Global};
+use std::marker::Model;
+
+/// The mutexes, of POSIX's normal kind.
+#[derive(Drop)]
+pub(crate) struct Mutexes {
+    owners: Vec<Option<u32>>,
+}
+
+impl Model for Mutexes {
+    ghost use Rattle.std.specs.Prelude.{List, Option, ℕ};
+
+    ghost Value = { List (Option ℕ) };
+
+    ghost view = { λ m. m.owners.items };
+}
+
+impl Mutexes {
+    pub(crate) fn new(alloc: Global, count: u32) -> Result<Self, NoMemory>
+        ensures { IfOk result (λ mutexes. mutexes ≡ replicate count None) }
+    {
+        Ok(Mutexes {
+            owners: Vec::from_elem(alloc, None, count as usize)?,
+        })
+    }
+
+    pub(crate) fn is_free(&self, mutex: u32) -> bool
+        requires { mutex < length self.now }
+        ensures { result ≡ is_none (slice_index_or self.now mutex None) }
+    {
+        self.owners[mutex as usize].is_none()
+    }
+
+    /// The thread takes a mutex, which nobody owns.
+    pub(crate) fn lock(&mut self, mutex: u32, thread: u32)
+        requires { mutex < length self.old }
+        ensures { self.new ≡ slice_set self.old mutex (Some thread) }
+    {
+        self.owners[mutex as usize] = Some(thread);
+    }
+
+    /// The thread lets a mutex go. The answer is false, and nothing changes, where it isn't the owner.
+    pub(crate) fn unlock(&mut self, mutex: u32, thread: u32) -> bool
+        requires { mutex < length self.old }
+        ensures owner { result ≡ is_thread thread (slice_index_or self.old mutex None) }
+        ensures owners { self.new ≡ (if result then slice_set self.old mutex None else self.old) }
+    {
+        if self.owners[mutex as usize] == Some(thread) {
+            self.owners[mutex as usize] = None;
+            true
+        } else {
+            false
+        }
+    }
+}
