@@ -6,3 +6,4 @@ pub mod Touched
 pub mod Steps
 pub mod ThreadList
 pub mod ReleaseList
+pub mod Kept

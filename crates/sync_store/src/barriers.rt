@@ -1,10 +1,13 @@
-ghost use Rattle.std.specs.Prelude.{◌≡◌, ◌<◌, IfOk};
-ghost use Rattle.sync_store.specs.Store.{new_barrier};
+ghost use Rattle.std.specs.Prelude.{◌≡◌, ◌<◌, pos, if◌then◌else◌, length, map, IfOk};
+ghost use Rattle.sync_store.specs.Store.{new_barrier, barrier_of, with_barrier};
 ghost use Rattle.sync_store.specs.Enabled.{is_released};
 ghost use Rattle.sync_store.specs.Effect.{arrived_at, left_by, is_serial};
 
+use crate::applied::Applied;
 use crate::release_list::ReleaseList;
+use crate::store::Store;
 use crate::thread_list::ThreadList;
+use pct_ask::NumberList;
 use std::alloc::{AllocError as NoMemory, Global};
 use std::marker::Model;
 
@@ -36,6 +39,16 @@ impl Barrier {
         })
     }
 
+    pub(crate) fn several(alloc: Global, counts: &NumberList) -> Result<Vec<Barrier>, NoMemory>
+        ensures { IfOk result (λ barriers. barriers.items ≡ map new_barrier counts.now) }
+    {
+        let mut barriers = Vec::with_capacity(alloc, counts.len())?;
+        for count in counts.as_slice() {
+            barriers.push(Barrier::new(alloc, *count)?)?;
+        }
+        Ok(barriers)
+    }
+
     pub(crate) fn has_released(&self, thread: u32) -> bool
         requires { thread < 64 }
         ensures { result ≡ is_released thread self.now.released }
@@ -64,5 +77,24 @@ impl Barrier {
         let serial = self.released.has_serial(thread);
         self.released.leave(thread);
         serial
+    }
+}
+
+impl Store {
+    pub(crate) fn arrive(&mut self, thread: u32, barrier: u32)
+        requires there { thread < self.old.threads }
+        requires barrier { barrier < length self.old.barriers }
+        ensures { self.new ≡ with_barrier self.old barrier (arrived_at thread (barrier_of self.old barrier)) }
+    {
+        self.barriers[barrier as usize].arrive(thread);
+    }
+
+    pub(crate) fn leave(&mut self, thread: u32, barrier: u32) -> Applied
+        requires there { thread < self.old.threads }
+        requires barrier { barrier < length self.old.barriers }
+        ensures store { self.new ≡ with_barrier self.old barrier (left_by thread (barrier_of self.old barrier)) }
+        ensures applied { result ≡ Applied.Answer (if is_serial thread (barrier_of self.old barrier).released then pos 1 else pos 0) }
+    {
+        Applied::truth(self.barriers[barrier as usize].leave(thread))
     }
 }

@@ -1,6 +1,10 @@
-ghost use Rattle.std.specs.Prelude.{◌≡◌, ◌<◌, if◌then◌else◌, is_none, length, replicate, slice_index_or, slice_set, IfOk};
-ghost use Rattle.sync_store.specs.Effect.{is_thread};
+ghost use Rattle.std.specs.Prelude.{◌≡◌, ◌<◌, if◌then◌else◌, is_none, pos, length, replicate, slice_index_or, slice_set, IfOk};
+ghost use Rattle.sync_store.specs.Store.{owner_of, with_owner};
+ghost use Rattle.sync_store.specs.Effect.{is_thread, effect, store_after, applied_of};
 
+use crate::applied::{not_owner, Applied};
+use crate::store::Store;
+use pct_ask::Ask;
 use std::alloc::{AllocError as NoMemory, Global};
 use std::marker::Model;
 
@@ -54,5 +58,34 @@ impl Mutexes {
         } else {
             false
         }
+    }
+}
+
+impl Store {
+    pub(crate) fn lock(&mut self, thread: u32, mutex: u32)
+        requires { mutex < length self.old.owners }
+        ensures { self.new ≡ with_owner self.old mutex (Some thread) }
+    {
+        self.mutexes.lock(mutex, thread);
+    }
+
+    pub(crate) fn try_lock(&mut self, thread: u32, mutex: u32) -> Applied
+        requires { mutex < length self.old.owners }
+        ensures store { self.new ≡ (if is_none (owner_of self.old mutex) then with_owner self.old mutex (Some thread) else self.old) }
+        ensures applied { result ≡ Applied.Answer (if is_none (owner_of self.old mutex) then pos 1 else pos 0) }
+    {
+        let free = self.mutexes.is_free(mutex);
+        if free {
+            self.mutexes.lock(mutex, thread);
+        }
+        Applied::truth(free)
+    }
+
+    pub(crate) fn unlock(&mut self, thread: u32, line: u32, mutex: u32) -> Applied
+        requires { mutex < length self.old.owners }
+        ensures store { self.new ≡ store_after self.old (effect self.old thread line (Ask.Unlock mutex)) }
+        ensures applied { result ≡ applied_of (effect self.old thread line (Ask.Unlock mutex)) }
+    {
+        Applied::done_or(self.mutexes.unlock(mutex, thread), not_owner(thread, line))
     }
 }

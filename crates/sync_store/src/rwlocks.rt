@@ -1,8 +1,11 @@
-ghost use Rattle.std.specs.Prelude.{◌≡◌, ◌<◌, ◌+◌, ◌-◌, if◌then◌else◌, is_some, is_none, nat_lt, length, slice_index, IfOk, MatchOption};
-ghost use Rattle.sync_store.specs.Store.{new_rwlock};
+ghost use Rattle.std.specs.Prelude.{◌≡◌, ◌<◌, ◌+◌, ◌-◌, if◌then◌else◌, is_some, is_none, nat_lt, length, replicate, slice_index, IfOk, MatchOption};
+ghost use Rattle.sync_store.specs.Store.{new_rwlock, rwlock_of, with_rwlock};
 ghost use Rattle.sync_store.specs.Enabled.{is_unread};
-ghost use Rattle.sync_store.specs.Effect.{max_reads, with_writer, with_reads, unlocked};
+ghost use Rattle.sync_store.specs.Effect.{max_reads, with_writer, with_reads, unlocked, effect, store_after, applied_of};
 
+use crate::applied::{not_owner, Applied};
+use crate::store::Store;
+use pct_ask::{Ask, MisuseKind, Verdict};
 use std::alloc::{AllocError as NoMemory, Global};
 use std::marker::Model;
 
@@ -33,6 +36,16 @@ impl ReadWriteLock {
             writer: None,
             reads: Vec::from_elem(alloc, 0, threads as usize)?,
         })
+    }
+
+    pub(crate) fn several(alloc: Global, count: u32, threads: u32) -> Result<Vec<ReadWriteLock>, NoMemory>
+        ensures { IfOk result (λ rwlocks. rwlocks.items ≡ replicate count (new_rwlock threads)) }
+    {
+        let mut rwlocks = Vec::with_capacity(alloc, count as usize)?;
+        for _ in 0..count {
+            rwlocks.push(ReadWriteLock::new(alloc, threads)?)?;
+        }
+        Ok(rwlocks)
     }
 
     pub(crate) fn has_no_writer(&self) -> bool
@@ -87,5 +100,66 @@ impl ReadWriteLock {
             return true;
         }
         false
+    }
+}
+
+impl Store {
+    pub(crate) fn read_lock(&mut self, thread: u32, line: u32, rwlock: u32) -> Applied
+        requires there { thread < self.old.threads }
+        requires rwlock { rwlock < length self.old.rwlocks }
+        ensures store { self.new ≡ store_after self.old (effect self.old thread line (Ask.RdLock rwlock)) }
+        ensures applied { result ≡ applied_of (effect self.old thread line (Ask.RdLock rwlock)) }
+    {
+        Applied::done_or(
+            self.rwlocks[rwlock as usize].read(thread),
+            Verdict::Misuse {
+                thread,
+                line,
+                kind: MisuseKind::TooManyReads,
+            },
+        )
+    }
+
+    pub(crate) fn write_lock(&mut self, thread: u32, rwlock: u32)
+        requires { rwlock < length self.old.rwlocks }
+        ensures { self.new ≡ with_rwlock self.old rwlock (with_writer (rwlock_of self.old rwlock) (Some thread)) }
+    {
+        self.rwlocks[rwlock as usize].write(thread);
+    }
+
+    pub(crate) fn try_read_lock(&mut self, thread: u32, rwlock: u32) -> Applied
+        requires there { thread < self.old.threads }
+        requires rwlock { rwlock < length self.old.rwlocks }
+        ensures store { self.new ≡ store_after self.old (effect self.old thread 0 (Ask.TryRdLock rwlock)) }
+        ensures applied { result ≡ applied_of (effect self.old thread 0 (Ask.TryRdLock rwlock)) }
+    {
+        let lock = &mut self.rwlocks[rwlock as usize];
+        let held = lock.has_no_writer() && lock.read(thread);
+        Applied::truth(held)
+    }
+
+    pub(crate) fn try_write_lock(&mut self, thread: u32, rwlock: u32) -> Applied
+        requires { rwlock < length self.old.rwlocks }
+        ensures store { self.new ≡ store_after self.old (effect self.old thread 0 (Ask.TryWrLock rwlock)) }
+        ensures applied { result ≡ applied_of (effect self.old thread 0 (Ask.TryWrLock rwlock)) }
+    {
+        let lock = &mut self.rwlocks[rwlock as usize];
+        let free = lock.has_no_writer() && lock.is_unread();
+        if free {
+            lock.write(thread);
+        }
+        Applied::truth(free)
+    }
+
+    pub(crate) fn read_write_unlock(&mut self, thread: u32, line: u32, rwlock: u32) -> Applied
+        requires there { thread < self.old.threads }
+        requires rwlock { rwlock < length self.old.rwlocks }
+        ensures store { self.new ≡ store_after self.old (effect self.old thread line (Ask.RwUnlock rwlock)) }
+        ensures applied { result ≡ applied_of (effect self.old thread line (Ask.RwUnlock rwlock)) }
+    {
+        Applied::done_or(
+            self.rwlocks[rwlock as usize].unlock(thread),
+            not_owner(thread, line),
+        )
     }
 }

@@ -1,7 +1,10 @@
 ghost use Rattle.std.specs.Prelude.{◌≡◌, ◌<◌, ◌+ℤ◌, ◌-ℤ◌, pos, int_lt, IsTrue, if◌then◌else◌, length, slice_index_or, slice_set, IfOk};
-ghost use Rattle.sync_store.specs.Effect.{sem_max};
+ghost use Rattle.sync_store.specs.Store.{number_of, with_number};
+ghost use Rattle.sync_store.specs.Effect.{sem_max, effect, store_after, applied_of};
 
-use pct_ask::NumberList;
+use crate::applied::Applied;
+use crate::store::Store;
+use pct_ask::{Ask, MisuseKind, NumberList, Verdict};
 use std::alloc::{AllocError as NoMemory, Global};
 use std::marker::Model;
 
@@ -59,5 +62,42 @@ impl Semaphores {
         } else {
             false
         }
+    }
+}
+
+impl Store {
+    pub(crate) fn down(&mut self, sem: u32)
+        requires within { sem < length self.old.numbers }
+        requires open { IsTrue (int_lt (pos 0) (number_of self.old sem)) }
+        ensures { self.new ≡ with_number self.old sem (number_of self.old sem -ℤ pos 1) }
+    {
+        self.semaphores.down(sem);
+    }
+
+    pub(crate) fn try_down(&mut self, sem: u32) -> Applied
+        requires { sem < length self.old.numbers }
+        ensures store { self.new ≡ (if int_lt (pos 0) (number_of self.old sem) then with_number self.old sem (number_of self.old sem -ℤ pos 1) else self.old) }
+        ensures applied { result ≡ Applied.Answer (if int_lt (pos 0) (number_of self.old sem) then pos 1 else pos 0) }
+    {
+        let open = self.semaphores.is_open(sem);
+        if open {
+            self.semaphores.down(sem);
+        }
+        Applied::truth(open)
+    }
+
+    pub(crate) fn up(&mut self, thread: u32, line: u32, sem: u32) -> Applied
+        requires { sem < length self.old.numbers }
+        ensures store { self.new ≡ store_after self.old (effect self.old thread line (Ask.Up sem)) }
+        ensures applied { result ≡ applied_of (effect self.old thread line (Ask.Up sem)) }
+    {
+        Applied::done_or(
+            self.semaphores.up(sem),
+            Verdict::Misuse {
+                thread,
+                line,
+                kind: MisuseKind::SemFull,
+            },
+        )
     }
 }
