@@ -1,1 +1,2 @@
 pub mod ThreadLists
+pub mod ReleaseLists

@@ -5,3 +5,5 @@ pub mod Effect
 pub mod Touched
 pub mod Steps
 pub mod ThreadList
+pub mod ReleaseList
+pub mod Kept

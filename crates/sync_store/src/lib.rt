@@ -2,10 +2,19 @@
 #![tactic(auto)]
 
 mod applied;
+mod barriers;
+mod conditions;
+mod mutexes;
 mod ready;
+mod release_list;
+mod rwlocks;
+mod semaphores;
+mod store;
 mod thread_list;
 mod touched;
+mod variables;
 
 pub use applied::Applied;
 pub use ready::Ready;
+pub use store::Store;
 pub use touched::Touched;

@@ -1,4 +1,4 @@
-ghost use Rattle.std.specs.Prelude.{◌≡◌, ◌<◌, ◌≤◌, [], ◌∷◌, length, IfOk, MatchOption};
+ghost use Rattle.std.specs.Prelude.{◌≡◌, ◌<◌, ◌≤◌, [], ◌∷◌, length, IfOk, MatchOption, All};
 ghost use Rattle.sync_store.specs.Store.{is_on};
 ghost use Rattle.sync_store.specs.Effect.{onto, without, all_onto};
 
@@ -42,6 +42,13 @@ impl ThreadList {
         ensures few { result ≤ 64 }
     {
         self.threads.len()
+    }
+
+    pub(crate) fn as_slice(&self) -> &[u32]
+        ensures items { result.now ≡ self.now }
+        ensures below { All (λ t. t < 64) result.now }
+    {
+        self.threads.as_slice()
     }
 
     pub(crate) fn has(&self, thread: u32) -> bool

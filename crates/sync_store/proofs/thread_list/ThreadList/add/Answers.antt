@@ -1,4 +1,4 @@
-use Rattle.std.proofs.Common.{◌≡◌, ◌<◌, ◌∙◌, sym, false, length, slice_index_or, arith}
+use Rattle.std.proofs.Common.{◌≡◌, ◌<◌, ◌∙◌, sym, false, length, arith}
 use Rattle.sync_store.specs.Store.{is_on}
 use Rattle.sync_store.proofs.ThreadLists.{added, length_room}
 use Rattle.sync_store.proofs.thread_list.ThreadList.add.Goals as goal

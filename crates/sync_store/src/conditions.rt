@@ -1,0 +1,136 @@
+ghost use Rattle.std.specs.Prelude.{◌≡◌, ◌<◌, ◌≤◌, [], ◌∷◌, pos, min, length, replicate, IfOk};
+ghost use Rattle.sync_store.specs.Store.{is_on, new_condition, condition_of, with_condition, with_owner};
+ghost use Rattle.sync_store.specs.Effect.{onto, without, all_onto, signalled, effect, store_after, applied_of};
+
+use crate::applied::{not_owner, Applied};
+use crate::store::Store;
+use crate::thread_list::ThreadList;
+use pct_ask::Ask;
+use std::alloc::{AllocError as NoMemory, Global};
+use std::marker::Model;
+
+/// A condition variable.
+#[derive(Drop)]
+pub(crate) struct Condition {
+    waiting: ThreadList,
+    woken: ThreadList,
+}
+
+impl Model for Condition {
+    ghost use Rattle.sync_store.specs.Store.{ConditionState};
+
+    ghost Value = { ConditionState };
+
+    ghost view = { λ c. record { waiting = c.waiting; woken = c.woken } };
+}
+
+impl Condition {
+    pub(crate) fn new(alloc: Global) -> Result<Self, NoMemory>
+        ensures { IfOk result (λ condition. condition ≡ new_condition) }
+    {
+        Ok(Condition {
+            waiting: ThreadList::new(alloc)?,
+            woken: ThreadList::new(alloc)?,
+        })
+    }
+
+    pub(crate) fn several(alloc: Global, count: u32) -> Result<Vec<Condition>, NoMemory>
+        ensures { IfOk result (λ conditions. conditions.items ≡ replicate count new_condition) }
+    {
+        let mut conditions = Vec::with_capacity(alloc, count as usize)?;
+        for _ in 0..count {
+            conditions.push(Condition::new(alloc)?)?;
+        }
+        Ok(conditions)
+    }
+
+    pub(crate) fn has_woken(&self, thread: u32) -> bool
+        requires { thread < 64 }
+        ensures { result ≡ is_on thread self.now.woken }
+    {
+        self.woken.has(thread)
+    }
+
+    /// The thread waits for a signal.
+    pub(crate) fn wait(&mut self, thread: u32)
+        requires { thread < 64 }
+        ensures { self.new ≡ record self.old { waiting = onto thread self.old.waiting } }
+    {
+        self.waiting.add(thread);
+    }
+
+    /// The woken thread goes on.
+    pub(crate) fn go_on(&mut self, thread: u32)
+        requires { thread < 64 }
+        ensures { self.new ≡ record self.old { woken = without thread self.old.woken } }
+    {
+        self.woken.leave(thread);
+    }
+
+    /// Wakes the longest waiter. The answer is how many it wakes.
+    pub(crate) fn signal(&mut self) -> usize
+        ensures signalled { self.new ≡ signalled self.old.waiting self.old.woken }
+        ensures woken { result ≡ min 1 (length self.old.waiting) }
+    {
+        match self.waiting.take_first() {
+            Some(thread) => {
+                self.woken.add(thread);
+                1
+            }
+            None => 0,
+        }
+    }
+
+    /// Wakes all waiters. The answer is how many it wakes.
+    pub(crate) fn broadcast(&mut self) -> usize
+        ensures woken { self.new ≡ record { waiting = []; woken = all_onto self.old.waiting self.old.woken } }
+        ensures count { result ≡ length self.old.waiting }
+        ensures few { result ≤ 64 }
+    {
+        let count = self.waiting.len();
+        self.waiting.move_to(&mut self.woken);
+        count
+    }
+}
+
+impl Store {
+    pub(crate) fn release(&mut self, thread: u32, line: u32, cond: u32, mutex: u32) -> Applied
+        requires there { thread < self.old.threads }
+        requires cond { cond < length self.old.conditions }
+        requires mutex { mutex < length self.old.owners }
+        ensures store { self.new ≡ store_after self.old (effect self.old thread line (Ask.Release cond mutex)) }
+        ensures applied { result ≡ applied_of (effect self.old thread line (Ask.Release cond mutex)) }
+    {
+        if !self.mutexes.unlock(mutex, thread) {
+            return Applied::Ends(not_owner(thread, line));
+        }
+        self.conditions[cond as usize].wait(thread);
+        Applied::Answer(0)
+    }
+
+    pub(crate) fn regain(&mut self, thread: u32, cond: u32, mutex: u32)
+        requires there { thread < self.old.threads }
+        requires cond { cond < length self.old.conditions }
+        requires mutex { mutex < length self.old.owners }
+        ensures { self.new ≡ with_condition (with_owner self.old mutex (Some thread)) cond (record (condition_of self.old cond) { woken = without thread (condition_of self.old cond).woken }) }
+    {
+        self.mutexes.lock(mutex, thread);
+        self.conditions[cond as usize].go_on(thread);
+    }
+
+    pub(crate) fn signal(&mut self, cond: u32) -> Applied
+        requires { cond < length self.old.conditions }
+        ensures store { self.new ≡ with_condition self.old cond (signalled (condition_of self.old cond).waiting (condition_of self.old cond).woken) }
+        ensures applied { result ≡ Applied.Answer (pos (min 1 (length (condition_of self.old cond).waiting))) }
+    {
+        Applied::Answer(self.conditions[cond as usize].signal() as i64)
+    }
+
+    pub(crate) fn broadcast(&mut self, cond: u32) -> Applied
+        requires { cond < length self.old.conditions }
+        ensures store { self.new ≡ with_condition self.old cond (record { waiting = []; woken = all_onto (condition_of self.old cond).waiting (condition_of self.old cond).woken }) }
+        ensures applied { result ≡ Applied.Answer (pos (length (condition_of self.old cond).waiting)) }
+    {
+        Applied::Answer(self.conditions[cond as usize].broadcast() as i64)
+    }
+}

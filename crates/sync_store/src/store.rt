@@ -1,0 +1,63 @@
+ghost use Rattle.std.specs.Prelude.{◌≡◌, ◌<◌, length, IfOk};
+ghost use Rattle.sync_store.specs.Store.{first, is_on, sizes_of};
+
+use crate::barriers::Barrier;
+use crate::conditions::Condition;
+use crate::mutexes::Mutexes;
+use crate::rwlocks::ReadWriteLock;
+use crate::semaphores::Semaphores;
+use crate::thread_list::ThreadList;
+use crate::variables::Variables;
+use pct_ask::Deal;
+use std::alloc::{AllocError as NoMemory, Global};
+use std::marker::Model;
+
+/// What the threads of a test share. All its lists have room for all threads, so only `new` takes memory.
+#[derive(Drop)]
+pub struct Store {
+    pub(crate) threads: u32,
+    pub(crate) variables: Variables,
+    pub(crate) mutexes: Mutexes,
+    pub(crate) conditions: Vec<Condition>,
+    pub(crate) semaphores: Semaphores,
+    pub(crate) barriers: Vec<Barrier>,
+    pub(crate) started: ThreadList,
+    pub(crate) rwlocks: Vec<ReadWriteLock>,
+}
+
+impl Model for Store {
+    ghost use Rattle.sync_store.specs.Store.{StoreState};
+    ghost use Rattle.sync_store.specs.Kept.{IsKept};
+
+    ghost Value = { StoreState };
+
+    ghost view = { λ s. record { threads = s.threads; values = s.variables; owners = s.mutexes; conditions = s.conditions.items; numbers = s.semaphores; barriers = s.barriers.items; started = s.started; rwlocks = s.rwlocks.items } };
+
+    ghost invariant = { λ s. IsKept s.threads s.rwlocks.items };
+}
+
+impl Store {
+    /// The store at the start of a run.
+    pub fn new(alloc: Global, deal: &Deal) -> Result<Self, NoMemory>
+        ensures { IfOk result (λ store. store ≡ first deal.now) }
+    {
+        Ok(Store {
+            threads: deal.threads,
+            variables: Variables::new(alloc, &deal.vars)?,
+            mutexes: Mutexes::new(alloc, deal.mutexes)?,
+            conditions: Condition::several(alloc, deal.conds)?,
+            semaphores: Semaphores::new(alloc, &deal.sems)?,
+            barriers: Barrier::several(alloc, &deal.barriers)?,
+            started: ThreadList::new(alloc)?,
+            rwlocks: ReadWriteLock::several(alloc, deal.rwlocks, deal.threads)?,
+        })
+    }
+
+    /// Whether a thread was started by another one.
+    pub fn is_started(&self, thread: u32) -> bool
+        requires { thread < self.now.threads }
+        ensures { result ≡ is_on thread self.now.started }
+    {
+        self.started.has(thread)
+    }
+}
