@@ -1,13 +1,14 @@
 //! The forms that a line may have.
 
-ghost use Rattle.std.specs.Prelude.{◌≡◌};
+ghost use Rattle.std.specs.Prelude.{◌≡◌, ◌<◌, true, IfSome};
 ghost use Rattle.std.specs.List.{list_all};
 ghost use Rattle.std.specs.Option.{option_map};
 ghost use Rattle.std.specs.Str.{bytes_eq};
 ghost use Rattle.pct_ask.specs.Characters as characters;
 ghost use Rattle.straight_script.specs.Cutting.{seen, all_seen};
-ghost use Rattle.straight_script.specs.Forms.{number_in, register_in, operand_in, expression_in, seen_form};
+ghost use Rattle.straight_script.specs.Forms.{number_in, register_in, operand_in, expression_in, seen_form, form_fits};
 ghost use Rattle.straight_script.specs.Forms as forms;
+ghost use Rattle.straight_script.specs.Fitting.{operand_fits, expression_fits};
 
 use crate::script::{Expression, Operand};
 use crate::token::{Token, are_digits};
@@ -46,7 +47,8 @@ fn number_of(digits: &[u8]) -> Option<i64>
 
 /// The place of a register among r0 to r15.
 fn register_of(word: &[u8]) -> Option<u32>
-    ensures { result ≡ register_in word.now }
+    ensures place { result ≡ register_in word.now }
+    ensures fits { IfSome result (λ place. place < 16) }
 {
     match word {
         [b'r', ones @ b'0'..=b'9'] => Some(u32::from(*ones - b'0')),
@@ -56,7 +58,8 @@ fn register_of(word: &[u8]) -> Option<u32>
 }
 
 fn operand_of(token: &Token<'_>) -> Option<Operand>
-    ensures { result ≡ operand_in (seen token.now) }
+    ensures operand { result ≡ operand_in (seen token.now) }
+    ensures fits { IfSome result (λ operand. operand_fits operand ≡ true) }
 {
     match token {
         Token::Number(digits) => Some(Operand::Number(number_of(digits)?)),
@@ -66,7 +69,8 @@ fn operand_of(token: &Token<'_>) -> Option<Operand>
 }
 
 fn equal_expression(left: &Token<'_>, sign: &Token<'_>, right: &Token<'_>) -> Option<Expression>
-    ensures { result ≡ forms.equal_expression (seen left.now) (seen sign.now) (seen right.now) }
+    ensures expression { result ≡ forms.equal_expression (seen left.now) (seen sign.now) (seen right.now) }
+    ensures fits { IfSome result (λ value. expression_fits value ≡ true) }
 {
     let Token::Symbol(signs) = sign else {
         return None;
@@ -80,7 +84,8 @@ fn equal_expression(left: &Token<'_>, sign: &Token<'_>, right: &Token<'_>) -> Op
 }
 
 fn expression_of(tokens: &[Token<'_>]) -> Option<Expression>
-    ensures { result ≡ expression_in (all_seen tokens.now) }
+    ensures expression { result ≡ expression_in (all_seen tokens.now) }
+    ensures fits { IfSome result (λ value. expression_fits value ≡ true) }
 {
     match tokens {
         [only] => Some(Expression::Just(operand_of(only)?)),
@@ -90,18 +95,29 @@ fn expression_of(tokens: &[Token<'_>]) -> Option<Expression>
 }
 
 fn header_form<'a>(operands: &[Token<'a>]) -> Option<Form<'a>>
-    ensures { option_map seen_form result ≡ forms.header_form (all_seen operands.now) }
+    ensures form { option_map seen_form result ≡ forms.header_form (all_seen operands.now) }
+    ensures fits { IfSome result (λ form. form_fits (seen_form form) ≡ true) }
 {
     let [Token::Number(digits)] = operands else {
         return None;
     };
-    if says(digits, b"1") { Some(Form::Header) } else { None }
+    if says(digits, b"1") {
+        Some(Form::Header)
+    } else {
+        None
+    }
 }
 
 fn var_form<'a>(operands: &[Token<'a>]) -> Option<Form<'a>>
-    ensures { option_map seen_form result ≡ forms.var_form (all_seen operands.now) }
+    ensures form { option_map seen_form result ≡ forms.var_form (all_seen operands.now) }
+    ensures fits { IfSome result (λ form. form_fits (seen_form form) ≡ true) }
 {
-    let [Token::Word(name), Token::Symbol(signs), Token::Number(digits)] = operands else {
+    let [
+        Token::Word(name),
+        Token::Symbol(signs),
+        Token::Number(digits),
+    ] = operands
+    else {
         return None;
     };
     if !says(signs, b"=") {
@@ -112,7 +128,8 @@ fn var_form<'a>(operands: &[Token<'a>]) -> Option<Form<'a>>
 }
 
 fn thread_form<'a>(operands: &[Token<'a>]) -> Option<Form<'a>>
-    ensures { option_map seen_form result ≡ forms.thread_form (all_seen operands.now) }
+    ensures form { option_map seen_form result ≡ forms.thread_form (all_seen operands.now) }
+    ensures fits { IfSome result (λ form. form_fits (seen_form form) ≡ true) }
 {
     let [Token::Word(name)] = operands else {
         return None;
@@ -121,7 +138,8 @@ fn thread_form<'a>(operands: &[Token<'a>]) -> Option<Form<'a>>
 }
 
 fn read_form<'a>(operands: &[Token<'a>]) -> Option<Form<'a>>
-    ensures { option_map seen_form result ≡ forms.read_form (all_seen operands.now) }
+    ensures form { option_map seen_form result ≡ forms.read_form (all_seen operands.now) }
+    ensures fits { IfSome result (λ form. form_fits (seen_form form) ≡ true) }
 {
     let [Token::Word(register), Token::Word(var)] = operands else {
         return None;
@@ -131,7 +149,8 @@ fn read_form<'a>(operands: &[Token<'a>]) -> Option<Form<'a>>
 }
 
 fn write_form<'a>(operands: &[Token<'a>]) -> Option<Form<'a>>
-    ensures { option_map seen_form result ≡ forms.write_form (all_seen operands.now) }
+    ensures form { option_map seen_form result ≡ forms.write_form (all_seen operands.now) }
+    ensures fits { IfSome result (λ form. form_fits (seen_form form) ≡ true) }
 {
     let [Token::Word(var), value @ ..] = operands else {
         return None;
@@ -141,21 +160,28 @@ fn write_form<'a>(operands: &[Token<'a>]) -> Option<Form<'a>>
 }
 
 fn assert_form<'a>(operands: &[Token<'a>]) -> Option<Form<'a>>
-    ensures { option_map seen_form result ≡ forms.assert_form (all_seen operands.now) }
+    ensures form { option_map seen_form result ≡ forms.assert_form (all_seen operands.now) }
+    ensures fits { IfSome result (λ form. form_fits (seen_form form) ≡ true) }
 {
     let test = expression_of(operands)?;
     Some(Form::Assert { test })
 }
 
 fn end_form<'a>(operands: &[Token<'a>]) -> Option<Form<'a>>
-    ensures { option_map seen_form result ≡ forms.end_form (all_seen operands.now) }
+    ensures form { option_map seen_form result ≡ forms.end_form (all_seen operands.now) }
+    ensures fits { IfSome result (λ form. form_fits (seen_form form) ≡ true) }
 {
-    if operands.is_empty() { Some(Form::End) } else { None }
+    if operands.is_empty() {
+        Some(Form::End)
+    } else {
+        None
+    }
 }
 
 /// The form of a line that isn't blank.
 pub fn form_of<'a>(tokens: &[Token<'a>]) -> Option<Form<'a>>
-    ensures { option_map seen_form result ≡ forms.form_of (all_seen tokens.now) }
+    ensures form { option_map seen_form result ≡ forms.form_of (all_seen tokens.now) }
+    ensures fits { IfSome result (λ form. form_fits (seen_form form) ≡ true) }
 {
     let [Token::Word(keyword), operands @ ..] = tokens else {
         return None;

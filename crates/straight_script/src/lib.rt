@@ -3,9 +3,11 @@
 #![tactic(auto)]
 
 mod form;
+mod parse;
+mod reader;
 mod script;
 mod token;
 
 pub use form::Form;
-pub use script::{Expression, Operand};
+pub use script::{Expression, Operand, Script, Statement, StatementList, ThreadList, ThreadText};
 pub use token::Token;

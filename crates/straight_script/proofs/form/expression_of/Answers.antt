@@ -11,5 +11,5 @@ expression_in-two (a ∷ []) two = absurd (omega arith)
 expression_in-two (a ∷ b ∷ []) two = refl
 expression_in-two (a ∷ b ∷ c ∷ ts) two = absurd (omega arith)
 
-pub returns-in_default-2 : goal.returns-in_default-2
-returns-in_default-2 c = sym (expression_in-two c.args.tokens.now (omega (arith, c.in_default.len_at_least, c.in_default.len_below)))
+pub returns-in_default-2-clause-expression : goal.returns-in_default-2-clause-expression
+returns-in_default-2-clause-expression c = sym (expression_in-two c.args.tokens.now (omega (arith, c.in_default.len_at_least, c.in_default.len_below)))
