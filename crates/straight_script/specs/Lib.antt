@@ -3,5 +3,7 @@ pub mod Fitting
 pub mod Forms
 pub mod ScriptText
 pub mod Part
-pub mod Reading
 pub mod Said
+pub mod Grammar
+pub mod Reading
+pub mod Faults

@@ -12,6 +12,9 @@ use Rattle.straight_script.specs.declared.reader.Place.{Place}
 use Rattle.straight_script.specs.declared.reader.Place.TheVariants as places
 use Rattle.straight_script.specs.ScriptText.{ScriptText}
 use Rattle.straight_script.specs.Part.{Part}
+use Rattle.straight_script.specs.Fitting.{line_fits}
+use Rattle.straight_script.specs.Said.{said_by}
+use Rattle.pct_ask.specs.Lines.{lines_of}
 use Rattle.straight_script.specs.Forms.{Form, Header, Var, Thread, Read, Write, Assert, End}
 
 abbrev pub start : Part
@@ -28,7 +31,7 @@ is_empty (x ∷ xs) = false
 abbrev pub with_var : Part → List ℕ → ℤ → Option Part
 with_var part name value =
     if is_empty part.threads && nat_lt (length part.vars) 64 && is_new name part.names
-    then Some (record part { names = with_name kinds.Var name part.names; vars = part.vars ++ value ∷ [] })
+    then Some (record part { names = with_name kinds.Var name part.names; vars = part.vars ++ value ∷ []; place = places.Outside })
     else None
 
 abbrev pub with_thread : Part → ℕ → List ℕ → Option Part
@@ -73,3 +76,21 @@ finished_at place part = None
 -- the script, where the last line was read
 abbrev pub finished : Part → Option ScriptText
 finished part = finished_at part.place part
+
+abbrev pub read_said : Part → ℕ → Option (Option Form) → Option Part
+read_said part line None = None
+read_said part line (Some None) = Some part
+read_said part line (Some (Some form)) = step part line form
+
+-- one more line, where the script may have so many: a blank one changes nothing
+abbrev pub read_line : Part → ℕ → List ℕ → Option Part
+read_line part line text = if line_fits line then read_said part line (said_by text) else None
+
+-- the script after these lines, of which the first has this number
+abbrev pub read_from : Part → ℕ → List (List ℕ) → Option ScriptText
+read_from part line [] = finished part
+read_from part line (text ∷ texts) = option_and_then (λ next. read_from next (line + 1) texts) (read_line part line text)
+
+-- the script that a text is read as, from its first line to its last
+abbrev pub read : List ℕ → Option ScriptText
+read bytes = if nat_le (length bytes) 1048576 then read_from start 1 (lines_of bytes) else None

@@ -4,8 +4,8 @@ use Rattle.std.specs.Option.{option_map}
 use Rattle.std.specs.Str.{is_utf8}
 use Rattle.pct_ask.specs.Tokens.{Token, tokens_of}
 use Rattle.straight_script.specs.Forms.{Form, form_of, seen_form, form_fits}
-use Rattle.straight_script.specs.declared.parse.Said.{Said}
-use Rattle.straight_script.specs.declared.parse.Said.TheVariants as code
+use Rattle.straight_script.specs.declared.parsing.Said.{Said}
+use Rattle.straight_script.specs.declared.parsing.Said.TheVariants as code
 
 abbrev pub said_by_tokens : Option (List Token) → Option (Option Form)
 said_by_tokens None = None

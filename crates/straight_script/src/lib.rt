@@ -2,12 +2,13 @@
 //! nor blocking.
 #![tactic(auto)]
 
+mod fault;
 mod form;
-mod parse;
+mod parsing;
 mod reader;
 mod script;
 mod token;
 
-pub use form::Form;
+pub use fault::{ScriptError, ScriptFault};
+pub use parsing::parse;
 pub use script::{Expression, Operand, Script, Statement, StatementList, ThreadList, ThreadText};
-pub use token::Token;

@@ -1,7 +1,7 @@
 //! A script, read line by line.
 
 ghost use Rattle.std.specs.Prelude.{◌≡◌, IfOk, IfSome, IsTrue, Some, true, false, length};
-ghost use Rattle.pct_ask.specs.NameLists.{all_names};
+ghost use Rattle.pct_ask.specs.NameLists.{all_names, AreNames};
 ghost use Rattle.pct_ask.specs.Words.{is_name, is_among};
 ghost use Rattle.straight_script.specs.Forms.{seen_form, form_fits};
 ghost use Rattle.straight_script.specs.Fitting.{line_fits, statement_fits};
@@ -51,6 +51,8 @@ impl Model for Reader {
 }
 
 impl Reader {
+    ghost use Rattle.straight_script.specs.ScriptText.{IsShaped};
+
     pub fn new(alloc: Global) -> Self
         ensures { result ≡ start }
     {
@@ -81,7 +83,8 @@ impl Reader {
 
     /// The script, where the last line was read.
     pub fn finish(self) -> Option<Script>
-        ensures { result ≡ finished self }
+        ensures script { result ≡ finished self }
+        ensures lawful { IfSome result (λ script. AreNames script.names × IsShaped script) }
     {
         let Reader { declared, place } = self;
         match place {
@@ -93,6 +96,7 @@ impl Reader {
 
 impl Declared {
     ghost use Rattle.straight_script.specs.Part.{part_of, IsRead};
+    ghost use Rattle.straight_script.specs.ScriptText.{IsShaped};
 
     fn after_header(self, form: &Form<'_>) -> Option<Reader>
         requires { IsRead (part_of self Place.Header) }
@@ -245,9 +249,10 @@ impl Declared {
 
     fn script(self) -> Option<Script>
         requires { IsRead (part_of self Place.Outside) }
-        ensures { result ≡ finished (part_of self Place.Outside) }
+        ensures script { result ≡ finished (part_of self Place.Outside) }
+        ensures lawful { IfSome result (λ script. AreNames script.names × IsShaped script) }
     {
-        if self.threads.len() == 0 {
+        if self.names.count(NameKind::Thread) == 0 {
             return None;
         }
         let Declared {
