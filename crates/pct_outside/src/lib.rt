@@ -5,8 +5,6 @@
 
 mod calls;
 pub mod gates;
-
-
 pub mod host;
 pub mod memory_shelves;
 pub mod memory_sinks;
@@ -14,14 +12,11 @@ pub mod shelves;
 pub mod sinks;
 
 pub use gates::{Gate, OpenGate};
-
-
 pub use host::{HostShelf, HostSink};
 pub use memory_shelves::{MemoryShelf, SureShelf};
 pub use memory_sinks::{MemorySink, SureSink};
 pub use shelves::{Shelf, ShelfError};
 pub use sinks::{Sink, SinkError};
-
 
 #[cfg(test)]
 mod tests;

@@ -8,8 +8,7 @@ ghost use Rattle.pct_outside.specs.ShelfState.{is_refused, after_read, FailsOnly
 
 use crate::calls::Calls;
 use crate::shelves::{Shelf, ShelfError, keep_name};
-use std::alloc::AllocError as NoMemory;
-use std::alloc::Global;
+use std::alloc::{AllocError as NoMemory, Global};
 use std::collections::BTreeMap;
 use std::marker::Model;
 

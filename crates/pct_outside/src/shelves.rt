@@ -53,7 +53,11 @@ pub trait Shelf {
 }
 
 /// Keeps the name of a read that failed.
-pub(crate) fn keep_name(alloc: Global, names: &mut Vec<String>, name: &str) -> Result<(), AllocError>
+pub(crate) fn keep_name(
+    alloc: Global,
+    names: &mut Vec<String>,
+    name: &str,
+) -> Result<(), AllocError>
     ensures ok { OnOk result (texts_of names.new.items ≡ with_name (texts_of names.old.items) name.now) }
     ensures err { OnErr result (names.new.items ≡ names.old.items) }
 {

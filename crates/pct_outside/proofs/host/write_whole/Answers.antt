@@ -15,8 +15,8 @@ loop-preserved g c =
     let rest = c.loop.rest.now in
     elim c.match-write.branch [
       | in-Ok w ↦
-        let n = w.in-Ok.count in
-        (done ++ take n rest, moves_front _ done rest n split ∙ ap (λ r. (done ++ take n rest) ++ r.now) (sym w.rest-is), Appends-trans _ _ _ _ _ appended w.in-Ok.ensures.bytes)
+          let n = w.in-Ok.count in
+          (done ++ take n rest, moves_front _ done rest n split ∙ ap (λ r. (done ++ take n rest) ++ r.now) (sym w.rest-is), Appends-trans _ _ _ _ _ appended w.in-Ok.ensures.bytes)
       | in-Err w ↦
-        (done, split ∙ ap (λ r. done ++ r.now) (sym w.rest-is), Appends-kept _ _ _ _ appended w.in-Err.ensures.bytes)
+          (done, split ∙ ap (λ r. done ++ r.now) (sym w.rest-is), Appends-kept _ _ _ _ appended w.in-Err.ensures.bytes)
     ]
