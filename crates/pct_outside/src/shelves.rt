@@ -1,9 +1,13 @@
 //! Where files are read from.
-ghost use Rattle.std.specs.Prelude.{◌≡◌, ℕ, ◌≤◌, List, ◌⊎◌, Option, IfOk, OnOk, OnErr, vec_len};
+ghost use Rattle.std.specs.Prelude.{◌≡◌, ℕ, ◌≤◌, List, ◌⊎◌, ◌↔◌, Option, IfOk, OnOk, OnErr, vec_len};
+ghost use Rattle.std.specs.IoError.{error_kind};
+ghost use Rattle.std.specs.declared.io.ErrorKind.TheVariants.{OutOfMemory};
 ghost use Rattle.pct_outside.specs.Reading.{FirstOf, with_name, texts_of};
 ghost use Rattle.pct_outside.specs.declared.shelves.ShelfError.TheVariants.{NoMemory};
 
 use std::alloc::{AllocError, AllocFailed, Global};
+use std::io;
+use std::io::ErrorKind;
 
 /// Why a read gave no bytes.
 #[derive(Clone, Copy, Debug, PartialEq, Eq)]
@@ -27,6 +31,18 @@ impl<T: Drop> From<AllocFailed<T>> for ShelfError {
 
     fn from(_error: AllocFailed<T>) -> ShelfError {
         ShelfError::NoMemory
+    }
+}
+
+/// Want of memory is told apart from all other errors of the host.
+impl From<io::Error> for ShelfError {
+    ghost from_gives = { λ e s. (s ≡ NoMemory) ↔ (error_kind e ≡ OutOfMemory) };
+
+    fn from(error: io::Error) -> ShelfError {
+        match error.kind() {
+            ErrorKind::OutOfMemory => ShelfError::NoMemory,
+            _ => ShelfError::Failed,
+        }
     }
 }
 

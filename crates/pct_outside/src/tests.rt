@@ -1,5 +1,6 @@
 use crate::gates::{Gate, OpenGate};
-use crate::host::{HostShelf, HostSink};
+use crate::host_shelves::HostShelf;
+use crate::host_sinks::HostSink;
 use crate::memory_shelves::{MemoryShelf, SureShelf};
 use crate::memory_sinks::{MemorySink, SureSink};
 use crate::shelves::{Shelf, ShelfError};

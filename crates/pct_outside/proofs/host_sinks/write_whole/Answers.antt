@@ -2,8 +2,8 @@
 use Rattle.std.proofs.Common.{◌≡◌, ℕ, ◌-◌, List, ◌++◌, length, take, drop, sym, ap, ◌∙◌, append_assoc, take-append-drop}
 use Rattle.std.proofs.lemmas.List.{take_rest}
 use Rattle.std.proofs.KnownBytes.{Appends-trans, Appends-kept}
-use Rattle.pct_outside.proofs.host.write_whole.Goals as goal
-use Rattle.pct_outside.proofs.host.write_whole.Goals.{in-Ok, in-Err}
+use Rattle.pct_outside.proofs.host_sinks.write_whole.Goals as goal
+use Rattle.pct_outside.proofs.host_sinks.write_whole.Goals.{in-Ok, in-Err}
 
 moves_front : (all done rest : List ℕ) (n : ℕ) → all ≡ done ++ rest → all ≡ (done ++ take n rest) ++ take (length rest - n) (drop n rest)
 moves_front all done rest n e =
