@@ -35,7 +35,7 @@ same_text name q = sym (is_eq-slice_cmp name q) ∙ (eq_by_cmp_equiv nat_list_cm
 pub insert-files : {A B : Type 0} (m n : BTreeMap (String A) (Vec ℕ B)) (name : List ℕ) (v : Vec ℕ B) → ((q : List ℕ) → get_by_text n q ≡ update bytes_eq (get_by_text m) name (Some v) q) → from_entries {R = slice_cmp nat_cmp} (map file_of n.entries) ≡ insert (from_entries (map file_of m.entries)) name v.items
 insert-files m n name v differs =
     same_map nat_list_cmp_total (slice_cmp-IsAntisymmetric nat_cmp-IsAntisymmetric) _ _ (λ q.
-      get-files n q ∙ ap (option_map (λ bytes. bytes.items)) (differs q) ∙ option_map-cond (λ bytes. bytes.items) (bytes_eq name q) (Some v) (get_by_text m q)
-      ∙ ap (λ b. cond b (Some v.items) (option_map (λ bytes. bytes.items) (get_by_text m q))) (same_text name q)
-      ∙ ap (cond (eq_by_cmp (slice_cmp nat_cmp) q name) (Some v.items)) (sym (get-files m q))
-      ∙ sym (get-insert nat_list_cmp_total (from_entries (map file_of m.entries)) name v.items q))
+    get-files n q ∙ ap (option_map (λ bytes. bytes.items)) (differs q) ∙ option_map-cond (λ bytes. bytes.items) (bytes_eq name q) (Some v) (get_by_text m q)
+    ∙ ap (λ b. cond b (Some v.items) (option_map (λ bytes. bytes.items) (get_by_text m q))) (same_text name q)
+    ∙ ap (cond (eq_by_cmp (slice_cmp nat_cmp) q name) (Some v.items)) (sym (get-files m q))
+    ∙ sym (get-insert nat_list_cmp_total (from_entries (map file_of m.entries)) name v.items q))

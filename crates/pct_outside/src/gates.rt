@@ -8,7 +8,7 @@ pub trait Gate: Sync {
 }
 
 /// A gate that holds nobody.
-#[derive(Clone, Copy, Debug)]
+#[derive(Clone, Copy, Debug, Default)]
 pub struct OpenGate;
 
 impl OpenGate {

@@ -5,23 +5,20 @@
 
 mod calls;
 pub mod gates;
-
-
-pub mod host;
+pub mod host_shelves;
+pub mod host_sinks;
 pub mod memory_shelves;
 pub mod memory_sinks;
 pub mod shelves;
 pub mod sinks;
 
 pub use gates::{Gate, OpenGate};
-
-
-pub use host::{HostShelf, HostSink};
+pub use host_shelves::HostShelf;
+pub use host_sinks::HostSink;
 pub use memory_shelves::{MemoryShelf, SureShelf};
 pub use memory_sinks::{MemorySink, SureSink};
 pub use shelves::{Shelf, ShelfError};
 pub use sinks::{Sink, SinkError};
-
 
 #[cfg(test)]
 mod tests;

@@ -1,15 +1,13 @@
 //! Shelves in memory.
-ghost use Rattle.std.specs.Prelude.{◌≡◌, ◌≢◌, [], ◌≤◌, ◌⊎◌, IfOk, OnOk, OnErr, vec_len, take, option_copied, option_map};
+ghost use Rattle.std.specs.Prelude.{◌≡◌, ◌≢◌, [], ◌≤◌, ◌⊎◌, IfOk, OnOk, OnErr, vec_len, option_copied, option_map};
 ghost use Rattle.std.specs.FinMap as map;
-ghost use Rattle.pct_outside.specs.Counter.{is_next, one_more};
 ghost use Rattle.pct_outside.specs.Files.{bytes_of};
 ghost use Rattle.pct_outside.specs.Reading.{FirstBytes, with_name};
 ghost use Rattle.pct_outside.specs.ShelfState.{is_refused, after_read, FailsOnly};
 
 use crate::calls::Calls;
 use crate::shelves::{Shelf, ShelfError, keep_name};
-use std::alloc::AllocError as NoMemory;
-use std::alloc::Global;
+use std::alloc::{AllocError as NoMemory, Global};
 use std::collections::BTreeMap;
 use std::marker::Model;
 

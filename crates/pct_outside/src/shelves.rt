@@ -1,9 +1,13 @@
 //! Where files are read from.
-ghost use Rattle.std.specs.Prelude.{◌≡◌, ℕ, ◌≤◌, List, ◌⊎◌, Option, IfOk, OnOk, OnErr, vec_len};
+ghost use Rattle.std.specs.Prelude.{◌≡◌, ℕ, ◌≤◌, List, ◌⊎◌, ◌↔◌, Option, IfOk, OnOk, OnErr, vec_len};
+ghost use Rattle.std.specs.IoError.{error_kind};
+ghost use Rattle.std.specs.declared.io.ErrorKind.TheVariants.{OutOfMemory};
 ghost use Rattle.pct_outside.specs.Reading.{FirstOf, with_name, texts_of};
 ghost use Rattle.pct_outside.specs.declared.shelves.ShelfError.TheVariants.{NoMemory};
 
 use std::alloc::{AllocError, AllocFailed, Global};
+use std::io;
+use std::io::ErrorKind;
 
 /// Why a read gave no bytes.
 #[derive(Clone, Copy, Debug, PartialEq, Eq)]
@@ -30,6 +34,18 @@ impl<T: Drop> From<AllocFailed<T>> for ShelfError {
     }
 }
 
+/// Want of memory is told apart from all other errors of the host.
+impl From<io::Error> for ShelfError {
+    ghost from_gives = { λ e s. (s ≡ NoMemory) ↔ (error_kind e ≡ OutOfMemory) };
+
+    fn from(error: io::Error) -> ShelfError {
+        match error.kind() {
+            ErrorKind::OutOfMemory => ShelfError::NoMemory,
+            _ => ShelfError::Failed,
+        }
+    }
+}
+
 /// Files that are read by their names.
 pub trait Shelf {
     /// The bytes of each file by its name, where the shelf tells them. A name that it does not hold
@@ -53,7 +69,11 @@ pub trait Shelf {
 }
 
 /// Keeps the name of a read that failed.
-pub(crate) fn keep_name(alloc: Global, names: &mut Vec<String>, name: &str) -> Result<(), AllocError>
+pub(crate) fn keep_name(
+    alloc: Global,
+    names: &mut Vec<String>,
+    name: &str,
+) -> Result<(), AllocError>
     ensures ok { OnOk result (texts_of names.new.items ≡ with_name (texts_of names.old.items) name.now) }
     ensures err { OnErr result (names.new.items ≡ names.old.items) }
 {

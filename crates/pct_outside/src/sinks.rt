@@ -1,7 +1,13 @@
 //! Where bytes are written to.
-ghost use Rattle.std.specs.Prelude.{◌≡◌, ℕ, ◌≤◌, List, Option, OnOk, OnErr};
+ghost use Rattle.std.specs.Prelude.{◌≡◌, ℕ, ◌≤◌, List, ◌↔◌, Option, OnOk, OnErr};
+ghost use Rattle.std.specs.IoError.{error_kind};
+ghost use Rattle.std.specs.declared.io.ErrorKind.TheVariants.{OutOfMemory};
 ghost use Rattle.pct_outside.specs.Counter.{Rose};
 ghost use Rattle.pct_outside.specs.Piece.{Appended, AppendedPart};
+ghost use Rattle.pct_outside.specs.declared.sinks.SinkError.TheVariants.{NoMemory};
+
+use std::io;
+use std::io::ErrorKind;
 
 /// Why a piece was not put whole.
 #[derive(Clone, Copy, Debug, PartialEq, Eq)]
@@ -10,6 +16,18 @@ pub enum SinkError {
     Failed,
     /// There was no memory for the piece.
     NoMemory,
+}
+
+/// Want of memory is told apart from all other errors of the host.
+impl From<io::Error> for SinkError {
+    ghost from_gives = { λ e s. (s ≡ NoMemory) ↔ (error_kind e ≡ OutOfMemory) };
+
+    fn from(error: io::Error) -> SinkError {
+        match error.kind() {
+            ErrorKind::OutOfMemory => SinkError::NoMemory,
+            _ => SinkError::Failed,
+        }
+    }
 }
 
 /// A stream that bytes are put on, piece by piece.

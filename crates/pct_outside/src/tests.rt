@@ -1,13 +1,13 @@
 use crate::gates::{Gate, OpenGate};
-use crate::host::{HostShelf, HostSink};
+use crate::host_shelves::HostShelf;
+use crate::host_sinks::HostSink;
 use crate::memory_shelves::{MemoryShelf, SureShelf};
 use crate::memory_sinks::{MemorySink, SureSink};
 use crate::shelves::{Shelf, ShelfError};
 use crate::sinks::{Sink, SinkError};
-use std::process;
 use std::process::Abort;
 use std::test::Fail;
-use std::{env, fs};
+use std::{env, fs, process};
 
 /// Reads through the trait, and compares what came.
 fn expect_read<S: Shelf>(

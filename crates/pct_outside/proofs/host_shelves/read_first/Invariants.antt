@@ -1,7 +1,7 @@
 -- What was read stands at the front of what the reader had.
 use Rattle.std.proofs.Common.{◌≤◌, vec_len}
 use Rattle.std.specs.Io.KnownBytes.{Consumes}
-use Rattle.pct_outside.proofs.host.read_first.Given as goal
+use Rattle.pct_outside.proofs.host_shelves.read_first.Given as goal
 
 abbrev pub invariant-loop : goal.invariant-loop
 invariant-loop g l =
