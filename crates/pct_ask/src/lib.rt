@@ -3,6 +3,7 @@
 
 mod ask;
 mod blocked;
+mod body;
 mod deal;
 mod event;
 mod line;
@@ -14,6 +15,7 @@ mod words;
 
 pub use ask::{Ask, FaultKind, Post};
 pub use blocked::Blocked;
+pub use body::Body;
 pub use deal::Deal;
 pub use event::{Event, EventList, Row, RowList, Standing};
 pub use line::{Lines, split_lines};
