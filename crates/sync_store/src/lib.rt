@@ -4,11 +4,13 @@
 mod applied;
 mod barriers;
 mod conditions;
+mod enabled;
 mod mutexes;
 mod ready;
 mod release_list;
 mod rwlocks;
 mod semaphores;
+mod steps;
 mod store;
 mod thread_list;
 mod touched;
