@@ -1,2 +1,4 @@
 pub mod ThreadLists
 pub mod ReleaseLists
+pub mod Agreement
+pub mod AfterStep

@@ -2,6 +2,8 @@ ghost use Rattle.std.specs.Prelude.{◌≡◌, ◌<◌, pos, if◌then◌else◌
 ghost use Rattle.sync_store.specs.Store.{sizes_of};
 ghost use Rattle.sync_store.specs.Enabled.{IsInRange, enabled, others_ended};
 ghost use Rattle.sync_store.specs.Effect.{effect, store_after, applied_of};
+ghost use Rattle.sync_store.specs.Touched.{KeepsOthers, touched_of};
+ghost use Rattle.pct_ask.specs.declared.Verdict.{Verdict};
 
 use crate::applied::Applied;
 use crate::store::Store;
@@ -15,8 +17,22 @@ fn check(thread: u32, line: u32, holds: bool) -> Applied
 }
 
 impl Store {
-    /// Takes the step of a thread's ask, which stands on a line of the test.
-    pub(crate) fn step(&mut self, thread: u32, line: u32, ask: Ask) -> Applied
+    /// Takes the step of a thread's ask, which stands on a line of the test. It costs at most as many turns as there
+    /// are threads, and takes no memory.
+    pub fn apply(&mut self, thread: u32, line: u32, ask: &Ask) -> Applied
+        requires thread { thread < self.old.threads }
+        requires ask { IsInRange (sizes_of self.old) ask.now }
+        requires enabled { IsTrue (enabled self.old (others_ended thread) thread ask.now) }
+        ensures store { self.new ≡ store_after self.old (effect self.old thread line ask.now) }
+        ensures applied { result ≡ applied_of (effect self.old thread line ask.now) }
+        ensures unchanged { (verdict : Verdict) → result ≡ Applied.Ends verdict → self.new ≡ self.old }
+        ensures sizes { sizes_of self.new ≡ sizes_of self.old }
+        ensures others { KeepsOthers thread (touched_of ask.now) self.old self.new }
+    {
+        self.step(thread, line, *ask)
+    }
+
+    fn step(&mut self, thread: u32, line: u32, ask: Ask) -> Applied
         requires thread { thread < self.old.threads }
         requires ask { IsInRange (sizes_of self.old) ask }
         requires enabled { IsTrue (enabled self.old (others_ended thread) thread ask) }
