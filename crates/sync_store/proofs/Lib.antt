@@ -2,3 +2,4 @@ pub mod ThreadLists
 pub mod ReleaseLists
 pub mod Agreement
 pub mod AfterStep
+pub mod Targets

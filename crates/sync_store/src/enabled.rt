@@ -1,4 +1,4 @@
-ghost use Rattle.std.specs.Prelude.{◌≡◌, ◌<◌, length};
+ghost use Rattle.std.specs.Prelude.{◌≡◌, ◌<◌, ◌↔◌, ℕ, IsTrue, length};
 ghost use Rattle.sync_store.specs.Store.{sizes_of};
 ghost use Rattle.sync_store.specs.Enabled.{IsInRange};
 ghost use Rattle.sync_store.specs.Ready.{readiness, away_by, ended_by};
@@ -13,7 +13,8 @@ impl Store {
         requires thread { thread < self.now.threads }
         requires standings { length standings.now ≡ self.now.threads }
         requires ask { IsInRange (sizes_of self.now) ask.now }
-        ensures { result ≡ readiness self.now (away_by standings.now) (ended_by standings.now) thread ask.now }
+        ensures unknown { (u : ℕ) → (result ≡ Ready.Unknown u) ↔ ((ask.now ≡ Ask.Join u) × IsTrue (away_by standings.now u)) }
+        ensures ready { result ≡ readiness self.now (away_by standings.now) (ended_by standings.now) thread ask.now }
     {
         match *ask {
             Ask::Lock { mutex } => Ready::of(self.mutexes.is_free(mutex)),
