@@ -33,7 +33,7 @@ keeps_others t object before after same ended u (Release c m) apart off = refl
 keeps_others t object before after same ended u (Regain c m) apart off =
     let parts = or_parts (is_cond c object) (is_mutex m object) off in
     ap (λ woken. woken && is_none (owner_of after m)) (same.woken u c apart parts.0)
-        ∙ ap (λ owner. is_on u (condition_of before c).woken && is_none owner) (same.owners m parts.1)
+    ∙ ap (λ owner. is_on u (condition_of before c).woken && is_none owner) (same.owners m parts.1)
 keeps_others t object before after same ended u (Signal c) apart off = refl
 keeps_others t object before after same ended u (Broadcast c) apart off = refl
 keeps_others t object before after same ended u (Down s) apart off = ap (int_lt (pos 0)) (same.numbers s off)
@@ -61,7 +61,7 @@ same_store t object store = record {
   barriers = λ b off. refl;
   started = λ u off. refl;
   rwlocks = λ l off. refl;
-  sizes = refl
+  sizes = refl;
 }
 
 pub other_value : (t : ℕ) (object : Touched) (store : StoreState) (x : ℕ) (value : ℤ) → Agrees t object store (with_value store x value)
@@ -72,7 +72,7 @@ other_value t object store x value = record {
   barriers = λ b off. refl;
   started = λ u off. refl;
   rwlocks = λ l off. refl;
-  sizes = ap (λ n. record (sizes_of store) { vars = n }) (length-set store.values x value)
+  sizes = ap (λ n. record (sizes_of store) { vars = n }) (length-set store.values x value);
 }
 
 pub other_owner : (t : ℕ) (store : StoreState) (m : ℕ) (owner : Option ℕ) → Agrees t (Mutex m) store (with_owner store m owner)
@@ -83,7 +83,7 @@ other_owner t store m owner = record {
   barriers = λ b off. refl;
   started = λ u off. refl;
   rwlocks = λ l off. refl;
-  sizes = ap (λ n. record (sizes_of store) { mutexes = n }) (length-set store.owners m owner)
+  sizes = ap (λ n. record (sizes_of store) { mutexes = n }) (length-set store.owners m owner);
 }
 
 pub other_condition : (t : ℕ) (store : StoreState) (c : ℕ) (condition : ConditionState) → Agrees t (Cond c) store (with_condition store c condition)
@@ -94,7 +94,7 @@ other_condition t store c condition = record {
   barriers = λ b off. refl;
   started = λ u off. refl;
   rwlocks = λ l off. refl;
-  sizes = ap (λ n. record (sizes_of store) { conds = n }) (length-set store.conditions c condition)
+  sizes = ap (λ n. record (sizes_of store) { conds = n }) (length-set store.conditions c condition);
 }
 
 pub other_number : (t : ℕ) (store : StoreState) (s : ℕ) (number : ℤ) → Agrees t (Sem s) store (with_number store s number)
@@ -105,7 +105,7 @@ other_number t store s number = record {
   barriers = λ b off. refl;
   started = λ u off. refl;
   rwlocks = λ l off. refl;
-  sizes = ap (λ n. record (sizes_of store) { sems = n }) (length-set store.numbers s number)
+  sizes = ap (λ n. record (sizes_of store) { sems = n }) (length-set store.numbers s number);
 }
 
 pub other_barrier : (t : ℕ) (store : StoreState) (b : ℕ) (barrier : BarrierState) → Agrees t (Barrier b) store (with_barrier store b barrier)
@@ -116,7 +116,7 @@ other_barrier t store b barrier = record {
   barriers = λ d off. get_or-set_other store.barriers b d barrier _ (eqb-false d b off);
   started = λ u off. refl;
   rwlocks = λ l off. refl;
-  sizes = ap (λ n. record (sizes_of store) { barriers = n }) (length-set store.barriers b barrier)
+  sizes = ap (λ n. record (sizes_of store) { barriers = n }) (length-set store.barriers b barrier);
 }
 
 pub other_rwlock : (t : ℕ) (store : StoreState) (l : ℕ) (rwlock : RwLockState) → Agrees t (RwLock l) store (with_rwlock store l rwlock)
@@ -127,7 +127,7 @@ other_rwlock t store l rwlock = record {
   barriers = λ b off. refl;
   started = λ u off. refl;
   rwlocks = λ k off. get_or-set_other store.rwlocks l k rwlock _ (eqb-false k l off);
-  sizes = ap (λ n. record (sizes_of store) { rwlocks = n }) (length-set store.rwlocks l rwlock)
+  sizes = ap (λ n. record (sizes_of store) { rwlocks = n }) (length-set store.rwlocks l rwlock);
 }
 
 -- a condition whose woken list is the same for a thread
@@ -135,9 +135,9 @@ woken_kept : (conditions : List ConditionState) (c d u : ℕ) (state : Condition
 woken_kept conditions c d u state e =
     elim (cases_eq d c) [
       | inl same ↦ rw same (elim (cases_lt c (length conditions)) [
-          | inl inside ↦ ap (λ (s : ConditionState). is_on u s.woken) (get_or-set_same conditions c state new_condition inside) ∙ e
-          | inr outside ↦ ap (λ (states : List ConditionState). is_on u (slice_index_or states c new_condition).woken) (set_past conditions c state outside)
-        ])
+        | inl inside ↦ ap (λ (s : ConditionState). is_on u s.woken) (get_or-set_same conditions c state new_condition inside) ∙ e
+        | inr outside ↦ ap (λ (states : List ConditionState). is_on u (slice_index_or states c new_condition).woken) (set_past conditions c state outside)
+      ])
       | inr other ↦ ap (λ (s : ConditionState). is_on u s.woken) (get_or-set_other conditions c d state new_condition other)
     ]
 
@@ -150,7 +150,7 @@ other_wait t store m owner c state kept = record {
   barriers = λ b off. refl;
   started = λ u off. refl;
   rwlocks = λ l off. refl;
-  sizes = ap (λ n. record (sizes_of store) { mutexes = n; conds = length (slice_set store.conditions c state) }) (length-set store.owners m owner) ∙ ap (λ n. record (sizes_of store) { conds = n }) (length-set store.conditions c state)
+  sizes = ap (λ n. record (sizes_of store) { mutexes = n; conds = length (slice_set store.conditions c state) }) (length-set store.owners m owner) ∙ ap (λ n. record (sizes_of store) { conds = n }) (length-set store.conditions c state);
 }
 
 pub without_other : (u t : ℕ) (threads : List ℕ) → u ≢ t → is_on u (without t threads) ≡ is_on u threads
@@ -167,5 +167,5 @@ other_started t store v = record {
   barriers = λ b off. refl;
   started = λ u off. let whole = is_on-push u v store.started in grind arith;
   rwlocks = λ l off. refl;
-  sizes = refl
+  sizes = refl;
 }

@@ -13,10 +13,6 @@ impl Ready {
     pub(crate) fn of(enabled: bool) -> Self
         ensures { result ≡ (if enabled then Ready.Yes else Ready.No) }
     {
-        if enabled {
-            Ready::Yes
-        } else {
-            Ready::No
-        }
+        if enabled { Ready::Yes } else { Ready::No }
     }
 }

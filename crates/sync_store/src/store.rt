@@ -1,5 +1,5 @@
 ghost use Rattle.std.specs.Prelude.{◌≡◌, ◌<◌, length, IfOk};
-ghost use Rattle.sync_store.specs.Store.{first, is_on};
+ghost use Rattle.sync_store.specs.Store.{first, is_on, sizes_of, sizes_of_deal};
 ghost use Rattle.sync_store.specs.Effect.{effect, store_after, applied_of};
 
 use crate::applied::Applied;
@@ -41,7 +41,8 @@ impl Model for Store {
 impl Store {
     /// The store at the start of a run.
     pub fn new(alloc: Global, deal: &Deal) -> Result<Self, NoMemory>
-        ensures { IfOk result (λ store. store ≡ first deal.now) }
+        ensures first { IfOk result (λ store. store ≡ first deal.now) }
+        ensures sizes { IfOk result (λ store. sizes_of store ≡ sizes_of_deal deal.now) }
     {
         Ok(Store {
             threads: deal.threads,
