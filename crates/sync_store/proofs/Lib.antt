@@ -1,2 +1,5 @@
 pub mod ThreadLists
 pub mod ReleaseLists
+pub mod Agreement
+pub mod AfterStep
+pub mod Targets

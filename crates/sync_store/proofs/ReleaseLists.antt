@@ -31,8 +31,8 @@ without-by serial t (x ∷ xs) =
     let kept = release_by serial x ∷ others t (releases_by serial xs) in
     let gone = others t (releases_by serial xs) in
     cond_both test (x ∷ without t xs) (without t xs) (λ ys. releases_by serial ys ≡ cond test kept gone)
-        (λ e. ap (λ ys. release_by serial x ∷ ys) rest ∙ sym (cond-true test kept gone e))
-        (λ e. rest ∙ sym (cond-false test kept gone e))
+    (λ e. ap (λ ys. release_by serial x ∷ ys) rest ∙ sym (cond-true test kept gone e))
+    (λ e. rest ∙ sym (cond-false test kept gone e))
 
 -- a flag of a thread that isn't on the list says nothing
 pub releases-set : (serial : List Bool) (t : ℕ) (s : Bool) (xs : List ℕ) → is_on t xs ≡ false → releases_by (slice_set serial t s) xs ≡ releases_by serial xs
@@ -51,9 +51,9 @@ releases-onto serial t s xs ys fits off e =
     let more : ys ≡ xs ++ t ∷ [] = e ∙ cond-false (is_on t xs) xs (xs ++ t ∷ []) off in
     let before = releases_by serial xs in
     ap (releases_by flags) more ∙ map_push (release_by flags) xs t
-        ∙ ap (λ r. releases_by flags xs ++ r ∷ []) last
-        ∙ ap (λ rs. rs ++ release ∷ []) (releases-set serial t s xs off)
-        ∙ sym (cond-false (is_released t before) before (before ++ release ∷ []) (is_released-by serial t xs ∙ off))
+    ∙ ap (λ r. releases_by flags xs ++ r ∷ []) last
+    ∙ ap (λ rs. rs ++ release ∷ []) (releases-set serial t s xs off)
+    ∙ sym (cond-false (is_released t before) before (before ++ release ∷ []) (is_released-by serial t xs ∙ off))
 
 pub let_through-again : (serial : List Bool) (t : ℕ) (s : Bool) (xs : List ℕ) → is_on t xs ≡ true → releases_by serial xs ≡ let_through t s (releases_by serial xs)
 let_through-again serial t s xs on =

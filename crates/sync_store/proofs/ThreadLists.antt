@@ -46,7 +46,7 @@ below_on q (x ∷ xs) h e =
 pub on_range : (q : ℕ) → q < 64 → is_on q (range_with_len 0 64) ≡ true
 on_range q h =
     list_any_at (nat_eq q) (range_with_len 0 64) q 0 (rw (length-range_with_len 0 64) h)
-        (eq-eqb q (slice_index_or (range_with_len 0 64) q 0) (omega (arith, get_or-range_with_len 0 64 q 0 h)))
+    (eq-eqb q (slice_index_or (range_with_len 0 64) q 0) (omega (arith, get_or-range_with_len 0 64 q 0 h)))
 
 none_from_off : (x : ℕ) (ys : List ℕ) → is_on x ys ≡ false → AllByRecursion (λ y. nat_eq x y ≡ false) ys
 none_from_off x [] e = tt
@@ -81,7 +81,7 @@ added xs ys room room' present t h l fits off e r =
       once = subst IsOnce (sym e) (once-push t xs h.once off');
       below = subst (All (λ u. u < 64)) (sym e) (All-push (λ u. u < 64) xs t h.below fits);
       marked = λ u below. marked_at u below ∙ sym (is_on-push u t xs) ∙ ap (is_on u) (sym e);
-      reserved = omega (arith, h.reserved)
+      reserved = omega (arith, h.reserved);
     }
 
 pub emptied : (xs : List ℕ) (room : ℕ) → xs ≡ [] → 64 ≤ room → IsThreadList xs room (replicate 64 false)
@@ -89,7 +89,7 @@ emptied xs room e r = record {
   once = subst IsOnce (sym e) tt;
   below = subst (All (λ u. u < 64)) (sym e) (All-nil (λ u. u < 64));
   marked = λ u below. get_or-replicate 64 u false false below ∙ ap (is_on u) (sym e);
-  reserved = r
+  reserved = r;
 }
 
 unset_marked : (present : List Bool) (t u : ℕ) → length present ≡ 64 → t < 64 → (on : Bool) → slice_index_or present u false ≡ on → slice_index_or (slice_set present t false) u false ≡ (on && not (nat_eq t u))
@@ -100,7 +100,7 @@ departed xs ys room room' present t h l fits e r = record {
   once = subst IsOnce (sym e) (once-without t xs h.once);
   below = subst (All (λ u. u < 64)) (sym e) (All-filter (λ u. not (nat_eq t u)) (λ u. u < 64) xs h.below);
   marked = λ u below. unset_marked present t u l fits _ (h.marked u below) ∙ sym (is_on-without u t xs) ∙ ap (is_on u) (sym e);
-  reserved = omega (arith, h.reserved)
+  reserved = omega (arith, h.reserved);
 }
 
 -- where a thread leaves that is on the list only once, the rest stays
@@ -113,7 +113,7 @@ without_off t (x ∷ xs) e =
     grind arith
 
 pub without_first : (t : ℕ) (xs : List ℕ) → IsOnce (t ∷ xs) → without t (t ∷ xs) ≡ xs
-without_first t xs h = 
+without_first t xs h =
     let here = eq-eqb t t refl in
     let rest = without_off t xs h.0 in
     grind arith

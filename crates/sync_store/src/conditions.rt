@@ -2,7 +2,7 @@ ghost use Rattle.std.specs.Prelude.{◌≡◌, ◌<◌, ◌≤◌, [], ◌∷◌
 ghost use Rattle.sync_store.specs.Store.{is_on, new_condition, condition_of, with_condition, with_owner};
 ghost use Rattle.sync_store.specs.Effect.{onto, without, all_onto, signalled, effect, store_after, applied_of};
 
-use crate::applied::{not_owner, Applied};
+use crate::applied::{Applied, not_owner};
 use crate::store::Store;
 use crate::thread_list::ThreadList;
 use pct_ask::Ask;

@@ -4,12 +4,16 @@
 mod applied;
 mod barriers;
 mod conditions;
+mod enabled;
 mod mutexes;
 mod ready;
 mod release_list;
 mod rwlocks;
 mod semaphores;
+mod steps;
 mod store;
+#[cfg(test)]
+mod tests;
 mod thread_list;
 mod touched;
 mod variables;

@@ -2,7 +2,7 @@ ghost use Rattle.std.specs.Prelude.{◌≡◌, ◌<◌, if◌then◌else◌, is_
 ghost use Rattle.sync_store.specs.Store.{owner_of, with_owner};
 ghost use Rattle.sync_store.specs.Effect.{is_thread, effect, store_after, applied_of};
 
-use crate::applied::{not_owner, Applied};
+use crate::applied::{Applied, not_owner};
 use crate::store::Store;
 use pct_ask::Ask;
 use std::alloc::{AllocError as NoMemory, Global};

@@ -1,3 +1,5 @@
+ghost use Rattle.std.specs.Prelude.{◌≡◌, if◌then◌else◌};
+
 /// Whether an ask may take its step.
 #[derive(Clone, Copy, Debug, PartialEq, Eq, Hash)]
 pub enum Ready {
@@ -5,4 +7,12 @@ pub enum Ready {
     No,
     /// It joins a thread whose next post isn't known yet.
     Unknown { target: u32 },
+}
+
+impl Ready {
+    pub(crate) fn of(enabled: bool) -> Self
+        ensures { result ≡ (if enabled then Ready.Yes else Ready.No) }
+    {
+        if enabled { Ready::Yes } else { Ready::No }
+    }
 }

@@ -2,7 +2,7 @@ ghost use Rattle.std.specs.Prelude.{◌≡◌, ◌<◌, [], IfOk, not, ◌==◌,
 ghost use Rattle.sync_store.specs.Enabled.{is_released};
 ghost use Rattle.sync_store.specs.Effect.{let_through, all_through, is_serial};
 
-use crate::thread_list::{ThreadList, MAX_THREADS};
+use crate::thread_list::{MAX_THREADS, ThreadList};
 use std::alloc::{AllocError as NoMemory, Global};
 use std::marker::Model;
 

@@ -3,7 +3,7 @@ ghost use Rattle.sync_store.specs.Store.{new_rwlock, rwlock_of, with_rwlock};
 ghost use Rattle.sync_store.specs.Enabled.{is_unread};
 ghost use Rattle.sync_store.specs.Effect.{max_reads, with_writer, with_reads, unlocked, effect, store_after, applied_of};
 
-use crate::applied::{not_owner, Applied};
+use crate::applied::{Applied, not_owner};
 use crate::store::Store;
 use pct_ask::{Ask, MisuseKind, Verdict};
 use std::alloc::{AllocError as NoMemory, Global};
@@ -38,7 +38,11 @@ impl ReadWriteLock {
         })
     }
 
-    pub(crate) fn several(alloc: Global, count: u32, threads: u32) -> Result<Vec<ReadWriteLock>, NoMemory>
+    pub(crate) fn several(
+        alloc: Global,
+        count: u32,
+        threads: u32,
+    ) -> Result<Vec<ReadWriteLock>, NoMemory>
         ensures { IfOk result (λ rwlocks. rwlocks.items ≡ replicate count (new_rwlock threads)) }
     {
         let mut rwlocks = Vec::with_capacity(alloc, count as usize)?;

@@ -1,6 +1,8 @@
 ghost use Rattle.std.specs.Prelude.{◌≡◌, ◌<◌, length, IfOk};
-ghost use Rattle.sync_store.specs.Store.{first, is_on, sizes_of};
+ghost use Rattle.sync_store.specs.Store.{first, is_on, sizes_of, sizes_of_deal};
+ghost use Rattle.sync_store.specs.Effect.{effect, store_after, applied_of};
 
+use crate::applied::Applied;
 use crate::barriers::Barrier;
 use crate::conditions::Condition;
 use crate::mutexes::Mutexes;
@@ -8,7 +10,7 @@ use crate::rwlocks::ReadWriteLock;
 use crate::semaphores::Semaphores;
 use crate::thread_list::ThreadList;
 use crate::variables::Variables;
-use pct_ask::Deal;
+use pct_ask::{Ask, Deal, MisuseKind, Verdict};
 use std::alloc::{AllocError as NoMemory, Global};
 use std::marker::Model;
 
@@ -39,7 +41,8 @@ impl Model for Store {
 impl Store {
     /// The store at the start of a run.
     pub fn new(alloc: Global, deal: &Deal) -> Result<Self, NoMemory>
-        ensures { IfOk result (λ store. store ≡ first deal.now) }
+        ensures first { IfOk result (λ store. store ≡ first deal.now) }
+        ensures sizes { IfOk result (λ store. sizes_of store ≡ sizes_of_deal deal.now) }
     {
         Ok(Store {
             threads: deal.threads,
@@ -59,5 +62,24 @@ impl Store {
         ensures { result ≡ is_on thread self.now.started }
     {
         self.started.has(thread)
+    }
+
+    pub(crate) fn start(&mut self, thread: u32, line: u32, target: u32) -> Applied
+        requires { target < self.old.threads }
+        ensures store { self.new ≡ store_after self.old (effect self.old thread line (Ask.Start target)) }
+        ensures applied { result ≡ applied_of (effect self.old thread line (Ask.Start target)) }
+    {
+        let fresh = !self.started.has(target);
+        if fresh {
+            self.started.add(target);
+        }
+        Applied::done_or(
+            fresh,
+            Verdict::Misuse {
+                thread,
+                line,
+                kind: MisuseKind::AlreadyStarted,
+            },
+        )
     }
 }
