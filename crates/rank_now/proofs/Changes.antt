@@ -1,12 +1,12 @@
 -- The steps that give an index, by change points and by moments: each index is given at one step at most.
-use Rattle.std.proofs.Common.{◌≡◌, ◌≢◌, ℕ, zero, suc, ◌+◌, ◌-◌, ◌<◌, ◌≤◌, Bool, true, false, cond, ◌&&◌, nat_lt, eqb, List, [], ◌∷◌, ◌++◌, length, get_or, set, take, map, refl, sym, ap, subst, ◌∙◌, arith, add-one, ne_eqb, eq-eqb, eqb-true}
+use Rattle.std.proofs.Common.{◌≡◌, ◌≢◌, ℕ, zero, suc, ◌+◌, ◌-◌, ◌<◌, ◌≤◌, cond, ◌&&◌, nat_lt, eqb, List, [], ◌∷◌, ◌++◌, length, get_or, set, map, refl, sym, ap, subst, ◌∙◌, arith, add-one, ne_eqb, eq-eqb, eqb-true}
 use Rattle.std.specs.List.{count_by}
 use Rattle.std.proofs.lemmas.List.{length_push, take-append-le, take_all}
 use Rattle.std.proofs.lemmas.List.FromFn.{length-map-range_with_len, get_or-map-range_with_len}
 use Rattle.std.proofs.lemmas.List.Sums.{sum_by_push, sum_by-take-le}
 use Rattle.std.proofs.lemmas.Bool.{and_parts}
 use Rattle.rank_now.specs.declared.moment.Moment.{Moment}
-use Rattle.rank_now.specs.Positions.{greatest, passes_at, last_position}
+use Rattle.rank_now.specs.Positions.{passes_at}
 use Rattle.rank_now.specs.Order.{IsOrder}
 use Rattle.rank_now.specs.Rank.{place_of, last_change, rank_by, index_of_point, own_steps, is_moment, index_of_moment, threads_of, ranks, ranks_by_events}
 use Rattle.rank_now.proofs.Orders.{place-within-order}

@@ -1,6 +1,6 @@
 -- A list that is an order, found place by place.
-use Rattle.std.proofs.Common.{Bool, cond, nat_lt, ltb, ◌≡◌, ◌≢◌, ℕ, zero, suc, ◌+◌, ◌-◌, ◌<◌, ◌≤◌, ◌⊎◌, List, [], ◌∷◌, length, get_or, set, take, map, refl, true, false, eqb, ne_eqb, eq-eqb, eqb-true, sym, ap, subst, ◌∙◌, arith, inl, inr}
-use Rattle.std.specs.List.{Contains, range_with_len, position_or_len, list_any, IsDistinct, count_by}
+use Rattle.std.proofs.Common.{Bool, cond, nat_lt, ◌≡◌, ◌≢◌, ℕ, zero, suc, ◌+◌, ◌-◌, ◌<◌, ◌≤◌, List, [], ◌∷◌, length, get_or, set, take, map, refl, true, false, eqb, ne_eqb, eq-eqb, eqb-true, sym, ap, ◌∙◌, arith, inl, inr}
+use Rattle.std.specs.List.{list_any, count_by}
 use Rattle.std.proofs.lemmas.List.{get_or-take, length-take, get_or_default, get_or-set_same, get_or-set_other, length-set}
 use Rattle.std.proofs.lemmas.Bool.{cases_lt, cases_eq}
 use Rattle.std.proofs.lemmas.Bool.Decides.{nat_tests}
@@ -10,8 +10,8 @@ use Rattle.std.proofs.lemmas.List.FromFn.{fill_by_all, length-map-range_with_len
 use Rattle.std.proofs.lemmas.Map.Keys.{IsDistinct-from_apart}
 use Rattle.std.proofs.lemmas.Map.Steps.{length-le_from_distinct_below}
 use Rattle.rank_now.specs.Rank.{place_of, threads_of}
-use Rattle.rank_now.specs.Ranking.{AreDistinct, IsAtPlace, IsKept, place_by_value}
-use Rattle.rank_now.specs.Order.{IsOrder, IsWrongAt, IsFirstWrong}
+use Rattle.rank_now.specs.Ranking.{AreDistinct, IsAtPlace, IsKept}
+use Rattle.rank_now.specs.Order.{IsOrder, IsWrongAt}
 
 module _ (order : List ℕ) (sound : (place : ℕ) → place < length order → ¬ IsWrongAt order place) where
   below : (place : ℕ) → place < length order → get_or order place 0 < length order
@@ -30,8 +30,8 @@ module _ (order : List ℕ) (sound : (place : ℕ) → place < length order → 
     | inr ne ↦ elim (cases_lt first second) [
       | inl lt ↦ absurd (once first second lt q e)
       | inr ge ↦ absurd (once second first (omega arith) p (sym e))
-      ]
     ]
+  ]
 
   -- a thread that is named nowhere, and then the order's
   abbrev more : ℕ → List ℕ
@@ -50,28 +50,28 @@ module _ (order : List ℕ) (sound : (place : ℕ) → place < length order → 
   not-missing : (thread : ℕ) → thread < length order → ¬ ((place : ℕ) → place < length order → get_or order place 0 ≢ thread)
   not-missing thread small absent =
       let apart : (i j d : ℕ) → i < j → j < length (more thread) → eqb (get_or (more thread) i d) (get_or (more thread) j d) ≡ false = λ i j d lt q.
-          let first = get_or_default (more thread) i d 0 (omega arith) in
-          let second = get_or_default (more thread) j d 0 q in
-          ne_eqb (get_or (more thread) i d) (get_or (more thread) j d) (λ e. more-apart thread absent i j lt q (sym first ∙ e ∙ second)) in
+      let first = get_or_default (more thread) i d 0 (omega arith) in
+      let second = get_or_default (more thread) j d 0 q in
+      ne_eqb (get_or (more thread) i d) (get_or (more thread) j d) (λ e. more-apart thread absent i j lt q (sym first ∙ e ∙ second)) in
       let within : (q : ℕ) → list_any (eqb q) (more thread) ≡ true → q < length order = λ q any.
-          let w = Any-from_list_any (eqb q) (more thread) any in
-          let is = get_or_default (more thread) w.0 0 w.1 w.2 in
-          omega (arith, more-below thread small w.0 w.2, is, w.3, eqb-true q w.1 w.4) in
+      let w = Any-from_list_any (eqb q) (more thread) any in
+      let is = get_or_default (more thread) w.0 0 w.1 w.2 in
+      omega (arith, more-below thread small w.0 w.2, is, w.3, eqb-true q w.1 w.4) in
       let few = length-le_from_distinct_below (more thread) (length order) (IsDistinct-from_apart eqb (more thread) apart) within in
       omega arith
 
   stands : (thread : ℕ) → thread < length order → (place_of order thread < length order) × (get_or order (place_of order thread) 0 ≡ thread)
   stands thread small =
       elim (cases_lt (place_of order thread) (length order)) [
-      | inl there ↦ (there, eqb-true (get_or order (place_of order thread) 0) thread (passes_at_first (λ other. eqb other thread) order 0 there))
-      | inr past ↦ absurd (not-missing thread small (λ place within e. grind (arith, nat_tests, fails_before_first (λ other. eqb other thread) order place 0 (omega arith))))
+        | inl there ↦ (there, eqb-true (get_or order (place_of order thread) 0) thread (passes_at_first (λ other. eqb other thread) order 0 there))
+        | inr past ↦ absurd (not-missing thread small (λ place within e. grind (arith, nat_tests, fails_before_first (λ other. eqb other thread) order place 0 (omega arith))))
       ]
 
   pub is-order : IsOrder order
   is-order = record {
     below = below;
     once = once;
-    all = λ thread small. let at = stands thread small in (place_of order thread, at.0, get_or_default order (place_of order thread) thread 0 at.0 ∙ at.1)
+    all = λ thread small. let at = stands thread small in (place_of order thread, at.0, get_or_default order (place_of order thread) thread 0 at.0 ∙ at.1);
   }
 
 -- what a test adds to a count
@@ -104,9 +104,9 @@ one-more values thread value distinct within is =
     let agree : (k : ℕ) → k < length without → nat_lt value (get_or without k 0) ≡ nat_lt (suc value) (get_or without k 0) = λ k p. elim (cases_eq k thread) [
       | inl e ↦ let z : get_or without k 0 ≡ 0 = ap (λ x. get_or without x 0) e ∙ get_or-set_same values thread 0 0 within in grind (arith, nat_tests)
       | inr ne ↦ let same = get_or-set_other values thread k 0 0 ne in
-        let other : get_or values k 0 ≢ suc value = λ e. ne (distinct k thread (omega arith) within (e ∙ sym is)) in
-        grind (arith, nat_tests)
-      ] in
+          let other : get_or values k 0 ≢ suc value = λ e. ne (distinct k thread (omega arith) within (e ∙ sym is)) in
+          grind (arith, nat_tests)
+    ] in
     let others = count_by-agree (nat_lt value) (nat_lt (suc value)) without agree in
     let low : count_by (nat_lt value) without + one_if (nat_lt value (get_or values thread 0)) ≡ count_by (nat_lt value) values + one_if (nat_lt value 0) = sum_by-set (λ x. one_if (nat_lt value x)) values thread 0 0 within in
     let high : count_by (nat_lt (suc value)) without + one_if (nat_lt (suc value) (get_or values thread 0)) ≡ count_by (nat_lt (suc value)) values + one_if (nat_lt (suc value) 0) = sum_by-set (λ x. one_if (nat_lt (suc value) x)) values thread 0 0 within in
@@ -127,8 +127,8 @@ named : (order : List ℕ) → IsOrder order → (thread : ℕ) → thread < len
 named order is thread small =
     let w = is.all thread small in
     elim (cases_lt (place_of order thread) (length order)) [
-    | inl there ↦ (there, eqb-true (get_or order (place_of order thread) 0) thread (passes_at_first (λ other. eqb other thread) order 0 there))
-    | inr past ↦ absurd (let none = fails_before_first (λ other. eqb other thread) order w.0 thread (omega (arith, w.1)) in grind (arith, nat_tests, w.2))
+      | inl there ↦ (there, eqb-true (get_or order (place_of order thread) 0) thread (passes_at_first (λ other. eqb other thread) order 0 there))
+      | inr past ↦ absurd (let none = fails_before_first (λ other. eqb other thread) order w.0 thread (omega (arith, w.1)) in grind (arith, nat_tests, w.2))
     ]
 
 module _ (order values : List ℕ) (count : ℕ) (is : IsOrder order) (long : length values ≡ length order) (given : (place : ℕ) → place < length order → get_or values (get_or order place 0) 0 ≡ count + length order - place) where
@@ -161,7 +161,7 @@ module _ (order values : List ℕ) (count : ℕ) (is : IsOrder order) (long : le
   walked : (place : ℕ) → place < length values → IsAtPlace values place (get_or order place 0)
   walked place within = record {
     within = omega (arith, is.below place (omega arith));
-    greater = ap (λ x. count_by (nat_lt x) values) (given place (omega arith)) ∙ place-is place (omega arith)
+    greater = ap (λ x. count_by (nat_lt x) values) (given place (omega arith)) ∙ place-is place (omega arith);
   }
 
   pub kept-first : length order ≤ 64 → count ≤ 7 → IsKept count values order
@@ -171,7 +171,7 @@ module _ (order values : List ℕ) (count : ℕ) (is : IsOrder order) (long : le
     small = λ thread within. omega (arith, value-of thread (omega arith));
     distinct = distinct;
     whole = sym long;
-    walked = walked
+    walked = walked;
   }
 
 -- the values of the definition are kept with the order as the walk
@@ -180,7 +180,7 @@ first-kept order values count is made few_threads few_points =
     let f : ℕ → ℕ = λ t. count + length order - place_of order t in
     let long : length values ≡ length order = ap length made ∙ length-map-range_with_len f 0 (length order) in
     let given : (place : ℕ) → place < length order → get_or values (get_or order place 0) 0 ≡ count + length order - place = λ place within.
-        ap (λ x. get_or x (get_or order place 0) 0) made ∙ get_or-map-range_with_len f 0 (length order) (get_or order place 0) (get_or order place 0) 0 (is.below place within) (omega arith) ∙ ap (λ x. count + length order - x) (place-of-named order is place within) in
+    ap (λ x. get_or x (get_or order place 0) 0) made ∙ get_or-map-range_with_len f 0 (length order) (get_or order place 0) (get_or order place 0) 0 (is.below place within) (omega arith) ∙ ap (λ x. count + length order - x) (place-of-named order is place within) in
     kept-first order values count is long given few_threads few_points
 
 -- each thread's place is one of the order's

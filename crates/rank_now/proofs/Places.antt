@@ -1,6 +1,6 @@
 -- A thread's place is how many threads have a greater value. What becomes of the places where one value changes.
-use Rattle.std.proofs.Common.{◌≡◌, ◌≢◌, ℕ, ◌+◌, ◌-◌, ◌<◌, ◌≤◌, Bool, true, false, cond, nat_lt, ltb, List, length, get_or, set, slice_index, refl, sym, ap, subst, ◌∙◌, arith, inl, inr, length-set}
-use Rattle.std.specs.List.{count_by, sum_by, remove}
+use Rattle.std.proofs.Common.{◌≡◌, ◌≢◌, ℕ, ◌+◌, ◌-◌, ◌<◌, ◌≤◌, cond, nat_lt, List, length, get_or, set, refl, sym, ap, subst, ◌∙◌, arith, inl, inr, length-set}
+use Rattle.std.specs.List.{count_by, remove}
 use Rattle.std.proofs.lemmas.List.{get_or-set_same, get_or-set_other, get_or_read}
 use Rattle.std.proofs.lemmas.List.Sums.{count_by-le-length, sum_by-remove, sum_by-set, sum_by-le-sum_by}
 use Rattle.std.proofs.lemmas.List.Edits.{length-remove}
@@ -64,7 +64,7 @@ shifted from to old new lost got other not_lost not_got same below_lost above_lo
   below = λ p q. grind (arith, nat_tests);
   nearer_up = λ p q. grind (arith, nat_tests);
   nearer_down = λ p q. grind (arith, nat_tests);
-  above = λ p q. grind (arith, nat_tests)
+  above = λ p q. grind (arith, nat_tests);
 }
 
 module _ (count : ℕ) (values walk moved : List ℕ) (thread value : ℕ) (kept : IsKept count values walk) (within : thread < length values) (low : value ≤ count) (free : (other : ℕ) → other < length values → get_or values other 0 ≢ value) (moves : IsMoved walk moved (place_by_value values thread) (count_by (nat_lt value) (set values thread value))) where
@@ -127,15 +127,15 @@ module _ (count : ℕ) (values walk moved : List ℕ) (thread value : ℕ) (kept
   walked-lowered place there =
       let here : place < length values = omega (arith, as-long) in
       elim (cases_eq place to) [
-      | inl e ↦ let Q : ℕ → Type 0 = λ x. IsAtPlace after x (get_or moved x 0) in subst Q (sym e) own
-      | inr ne ↦ elim (cases_lt place to) [
-        | inl lt ↦ elim (cases_lt place from) [
-          | inl before ↦ stands place place here (λ e. omega arith) (λ s. s.below before lt) (moves.below place before lt)
-          | inr behind ↦ stands (place + 1) place (omega (arith, place-within after thread (omega (arith, as-long)), own-place, as-long)) (λ e. omega arith) (λ s. omega (arith, s.nearer_up (omega arith) (omega arith))) (moves.nearer_up place behind lt)
+        | inl e ↦ let Q : ℕ → Type 0 = λ x. IsAtPlace after x (get_or moved x 0) in subst Q (sym e) own
+        | inr ne ↦ elim (cases_lt place to) [
+          | inl lt ↦ elim (cases_lt place from) [
+            | inl before ↦ stands place place here (λ e. omega arith) (λ s. s.below before lt) (moves.below place before lt)
+            | inr behind ↦ stands (place + 1) place (omega (arith, place-within after thread (omega (arith, as-long)), own-place, as-long)) (λ e. omega arith) (λ s. omega (arith, s.nearer_up (omega arith) (omega arith))) (moves.nearer_up place behind lt)
           ]
-        | inr ge ↦ elim (cases_lt from place) [
-          | inl behind ↦ stands place place here (λ e. omega arith) (λ s. s.above behind (omega arith)) (moves.above place behind (omega arith))
-          | inr before ↦ stands (place - 1) place (omega arith) (λ e. omega arith) (λ s. omega (arith, s.nearer_down (omega arith) (omega arith))) (moves.nearer_down place (omega arith) before)
+          | inr ge ↦ elim (cases_lt from place) [
+            | inl behind ↦ stands place place here (λ e. omega arith) (λ s. s.above behind (omega arith)) (moves.above place behind (omega arith))
+            | inr before ↦ stands (place - 1) place (omega arith) (λ e. omega arith) (λ s. omega (arith, s.nearer_down (omega arith) (omega arith))) (moves.nearer_down place (omega arith) before)
           ]
         ]
       ]
@@ -143,13 +143,13 @@ module _ (count : ℕ) (values walk moved : List ℕ) (thread value : ℕ) (kept
   distinct-lowered : AreDistinct after
   distinct-lowered first second p q e =
       elim (cases_eq first thread) [
-      | inl f ↦ elim (cases_eq second thread) [
-        | inl s ↦ f ∙ sym s
-        | inr s ↦ absurd (free second (omega (arith, as-long)) (sym (other-value second s) ∙ sym e ∙ ap (λ x. get_or after x 0) f ∙ own-value))
+        | inl f ↦ elim (cases_eq second thread) [
+          | inl s ↦ f ∙ sym s
+          | inr s ↦ absurd (free second (omega (arith, as-long)) (sym (other-value second s) ∙ sym e ∙ ap (λ x. get_or after x 0) f ∙ own-value))
         ]
-      | inr f ↦ elim (cases_eq second thread) [
-        | inl s ↦ absurd (free first (omega (arith, as-long)) (sym (other-value first f) ∙ e ∙ ap (λ x. get_or after x 0) s ∙ own-value))
-        | inr s ↦ kept.distinct first second (omega (arith, as-long)) (omega (arith, as-long)) (sym (other-value first f) ∙ e ∙ other-value second s)
+        | inr f ↦ elim (cases_eq second thread) [
+          | inl s ↦ absurd (free first (omega (arith, as-long)) (sym (other-value first f) ∙ e ∙ ap (λ x. get_or after x 0) s ∙ own-value))
+          | inr s ↦ kept.distinct first second (omega (arith, as-long)) (omega (arith, as-long)) (sym (other-value first f) ∙ e ∙ other-value second s)
         ]
       ]
 
@@ -157,7 +157,7 @@ module _ (count : ℕ) (values walk moved : List ℕ) (thread value : ℕ) (kept
   small-lowered other there = elim (cases_eq other thread) [
     | inl e ↦ let same : get_or after other 0 ≡ value = ap (λ x. get_or after x 0) e ∙ own-value in omega arith
     | inr ne ↦ let same = other-value other ne in omega (arith, as-long, kept.small other (omega (arith, as-long)))
-    ]
+  ]
 
   -- lowering one value and moving its thread keeps the walk
   pub kept-lowered : IsKept count after moved
@@ -167,7 +167,7 @@ module _ (count : ℕ) (values walk moved : List ℕ) (thread value : ℕ) (kept
     small = small-lowered;
     distinct = distinct-lowered;
     whole = moves.whole ∙ kept.whole ∙ sym as-long;
-    walked = walked-lowered
+    walked = walked-lowered;
   }
 
 -- the places that the code counts

@@ -1,17 +1,12 @@
 -- What becomes of the ranks as a schedule grows by one step.
-use Rattle.std.proofs.Common.{◌≡◌, ◌≢◌, ℕ, zero, suc, ◌+◌, ◌-◌, ◌<◌, ◌≤◌, ◌⊎◌, Bool, true, false, cond, ◌&&◌, nat_lt, eqb, ltb, Option, Some, None, List, [], ◌∷◌, ◌++◌, length, get_or, set, take, map, refl, sym, ap, subst, ◌∙◌, inl, inr, arith, add-one, slice_get, eq-eqb, ne_eqb, eqb-true}
-use Rattle.std.specs.List.{count_by}
+use Rattle.std.proofs.Common.{◌≡◌, ◌≢◌, ℕ, zero, suc, ◌+◌, ◌-◌, ◌<◌, ◌≤◌, Bool, true, false, cond, ◌&&◌, nat_lt, eqb, Option, Some, None, List, [], ◌∷◌, ◌++◌, length, get_or, set, map, refl, sym, ap, ◌∙◌, inl, inr, arith, add-one, slice_get, eq-eqb, ne_eqb}
 use Rattle.std.specs.Option.{option_map_or}
-use Rattle.std.proofs.lemmas.List.{length-append, length_push, length-set, get_or-set_same, get_or-set_other, take-append-le, take_all}
+use Rattle.std.proofs.lemmas.List.{length_push, length-set, get_or-set_same, get_or-set_other}
 use Rattle.std.proofs.lemmas.List.FromFn.{fill_by_all, length-map-range_with_len, get_or-map-range_with_len}
-use Rattle.std.proofs.lemmas.List.Sums.{sum_by_push, sum_by-take-le}
-use Rattle.std.proofs.lemmas.Bool.{cases_lt, cases_eq, and_parts}
+use Rattle.std.proofs.lemmas.Bool.{cases_eq}
 use Rattle.std.proofs.lemmas.Bool.Decides.{nat_tests}
-use Rattle.rank_now.specs.declared.moment.Moment.{Moment}
-use Rattle.rank_now.specs.Positions.{greatest, passes_at, last_position}
-use Rattle.rank_now.specs.Order.{IsOrder}
-use Rattle.rank_now.specs.Rank.{place_of, last_change, rank_by, rank, index_of_point, own_steps, is_moment, index_of_moment, threads_of, ranks, ranks_by_events}
-use Rattle.rank_now.proofs.Orders.{place-within-order}
+use Rattle.rank_now.specs.Positions.{greatest, passes_at}
+use Rattle.rank_now.specs.Rank.{place_of, last_change, rank_by, threads_of}
 
 -- ---- positions
 pub greatest-le : (test : ℕ → Bool) (n : ℕ) → greatest test n ≤ n
@@ -39,7 +34,7 @@ greatest-is test zero k some low passes above = absurd (omega arith)
 greatest-is test (suc n) k some low passes above = elim (cases_eq k (suc n)) [
   | inl e ↦ ap (λ b. cond b (suc n) (greatest test n)) (sym (ap test e) ∙ passes) ∙ sym e
   | inr ne ↦ ap (λ b. cond b (suc n) (greatest test n)) (above (suc n) (omega arith) (omega arith)) ∙ greatest-is test n k some (omega arith) passes (λ j p q. above j p (omega arith))
-  ]
+]
 
 pub greatest-none : (test : ℕ → Bool) (n : ℕ) → ((j : ℕ) → 0 < j → j ≤ n → test j ≡ false) → greatest test n ≡ 0
 greatest-none test zero none = refl
@@ -69,9 +64,22 @@ pub passes_at-agree : {X : Type 0} (p q : X → Bool) → ((x : X) → p x ≡ q
 passes_at-agree p q agree xs zero = refl
 passes_at-agree p q agree xs (suc k) = map_or-agree p q agree (slice_get xs k)
 
+passes_at-suc : {X : Type 0} (test : X → Bool) (xs : List X) (k : ℕ) (d : X) → k < length xs → passes_at test xs (suc k) ≡ test (get_or xs k d)
+passes_at-suc test [] k d within = absurd (omega arith)
+passes_at-suc test (x ∷ xs) zero d within = refl
+passes_at-suc test (x ∷ xs) (suc k) d within = passes_at-suc test xs k d (omega arith)
+
 map_or-both : {X : Type 0} (p q : X → Bool) (o : Option X) → option_map_or p o false ≡ true → option_map_or q o false ≡ true → (x : X) × (p x ≡ true) × (q x ≡ true)
 map_or-both p q None e f = cc
 map_or-both p q (Some x) e f = (x, e, f)
+
+-- the test of the item at a place, which is one position more
+pub passes_at-read : {X : Type 0} (test : X → Bool) (xs : List X) (k : ℕ) (d : X) → k < length xs → passes_at test xs (k + 1) ≡ test (get_or xs k d)
+passes_at-read test xs k d within = ap (passes_at test xs) (add-one k) ∙ passes_at-suc test xs k d within
+
+-- the greatest number up to one more
+pub greatest-more : (test : ℕ → Bool) (n : ℕ) → greatest test (n + 1) ≡ cond (test (n + 1)) (n + 1) (greatest test n)
+greatest-more test n = ap (greatest test) (add-one n) ∙ ap (λ x. cond (test x) x (greatest test n)) (sym (add-one n))
 
 -- one item at a position that passes two tests
 pub passes_at-both : {X : Type 0} (p q : X → Bool) (xs : List X) (k : ℕ) → passes_at p xs k ≡ true → passes_at q xs k ≡ true → (x : X) × (p x ≡ true) × (q x ≡ true)
@@ -147,6 +155,6 @@ module _ (given given' : ℕ → ℕ) (count : ℕ) (order schedule : List ℕ) 
       let long : length values ≡ length order = ap length same ∙ length-map-range_with_len (rank_by given count order schedule) 0 (length order) in
       fill_by_all (rank_by given' count order after) (set values thread value) (length order) 0 (length-set values thread value ∙ long)
       (λ k within. elim (cases_eq k thread) [
-      | inl e ↦ ap (λ x. get_or (set values thread value) x 0) e ∙ get_or-set_same values thread value 0 (omega arith) ∙ is ∙ sym (rank_by-taker (omega arith)) ∙ ap (rank_by given' count order after) (sym e)
-      | inr ne ↦ get_or-set_other values thread k value 0 ne ∙ ap (λ x. get_or x k 0) same ∙ get_or-map-range_with_len (rank_by given count order schedule) 0 (length order) k k 0 within (omega arith) ∙ sym (rank_by-other k ne)
+        | inl e ↦ ap (λ x. get_or (set values thread value) x 0) e ∙ get_or-set_same values thread value 0 (omega arith) ∙ is ∙ sym (rank_by-taker (omega arith)) ∙ ap (rank_by given' count order after) (sym e)
+        | inr ne ↦ get_or-set_other values thread k value 0 ne ∙ ap (λ x. get_or x k 0) same ∙ get_or-map-range_with_len (rank_by given count order schedule) 0 (length order) k k 0 within (omega arith) ∙ sym (rank_by-other k ne)
       ])

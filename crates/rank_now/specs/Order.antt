@@ -1,5 +1,5 @@
 -- Orders of n threads: lists that name each number below n once.
-use Rattle.std.specs.Prelude.{◌≡◌, ◌≢◌, ℕ, ◌<◌, ◌≤◌, ◌⊎◌, List, length, slice_index, take}
+use Rattle.std.specs.Prelude.{◌≢◌, ℕ, ◌<◌, ◌≤◌, ◌⊎◌, List, length, slice_index, take}
 use Rattle.std.specs.List.{Contains}
 
 -- an order names each thread below its length, and none twice

@@ -49,7 +49,11 @@ impl Ranks {
         }
         let values = first_values(alloc, order, count)?;
         let walk = Vec::from_slice(alloc, order)?;
-        Ok(Ranks { count, values, walk })
+        Ok(Ranks {
+            count,
+            values,
+            walk,
+        })
     }
 
     /// Gives the thread a value that no thread has, at the cost of a few passes over the threads.

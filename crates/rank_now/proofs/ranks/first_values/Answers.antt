@@ -1,4 +1,4 @@
-use Rattle.std.proofs.Common.{◌<◌, length, arith}
+use Rattle.std.proofs.Common.{arith}
 use Rattle.rank_now.proofs.Orders.{first-values-are}
 use Rattle.rank_now.proofs.ranks.first_values.Goals as goal
 

@@ -1,6 +1,6 @@
 use Rattle.std.proofs.Common.{◌≡◌, ◌<◌, List, ℕ, length, ap, sym, subst, ◌∙◌, arith, set}
-use Rattle.std.proofs.lemmas.List.{with_items_is, length-set}
-use Rattle.rank_now.specs.Ranking.{Ranking, IsKept, place_by_value}
+use Rattle.std.proofs.lemmas.List.{with_items_is}
+use Rattle.rank_now.specs.Ranking.{Ranking, IsKept}
 use Rattle.rank_now.proofs.Places.{place-within, from-is, to-within, kept-after}
 use Rattle.rank_now.proofs.Changes.{ranks-step, ranks_by_events-step}
 use Rattle.rank_now.proofs.ranks.Ranks.lower.Goals as goal

@@ -1,4 +1,4 @@
-use Rattle.std.proofs.Common.{refl, rules, sym, subst, List, ℕ}
+use Rattle.std.proofs.Common.{refl, sym, subst, List, ℕ}
 use Rattle.rank_now.specs.Ranking.{IsKept}
 use Rattle.rank_now.proofs.Orders.{is-order, first-kept}
 use Rattle.rank_now.proofs.Changes.{ranks-first, ranks_by_events-first}

@@ -1,4 +1,4 @@
-use Rattle.std.proofs.Common.{◌≡◌, List, ℕ, length, ap, sym, arith}
+use Rattle.std.proofs.Common.{◌≡◌, length, ap, sym, arith}
 use Rattle.rank_now.specs.Ranking.{Ranking}
 use Rattle.rank_now.proofs.Places.{walk-only}
 use Rattle.rank_now.proofs.ranks.Ranks.walk.Goals as goal
