@@ -9,3 +9,4 @@ pub mod Numbers
 pub mod VerdictText
 pub mod Places
 pub mod PlaceLaws
+pub mod TraceText

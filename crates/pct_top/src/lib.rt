@@ -1,0 +1,2 @@
+//! The program's words, its runs and what it writes.
+#![tactic(auto)]
