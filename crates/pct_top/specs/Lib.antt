@@ -3,4 +3,5 @@ pub mod Run
 pub mod Posts
 pub mod StraightRun
 pub mod Straight
+pub mod StraightSteps
 pub mod Rows

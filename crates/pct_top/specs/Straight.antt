@@ -4,7 +4,7 @@ use Rattle.pct_ask.specs.declared.ask.Ask.{Ask}
 use Rattle.pct_ask.specs.declared.ask.Ask.TheVariants.{Read, Write, Check}
 use Rattle.pct_ask.specs.declared.event.Event.{Event}
 use Rattle.pct_ask.specs.declared.verdict.Verdict.{Verdict}
-use Rattle.pct_ask.specs.declared.verdict.Verdict.TheVariants.{Passed, Failed}
+use Rattle.pct_ask.specs.declared.verdict.Verdict.TheVariants.{Passed, Failed, Cut}
 use Rattle.straight_script.specs.Fitting.{line_fits}
 
 -- a read, a write or an assertion, of a variable that there is
@@ -18,8 +18,9 @@ ask_fits vars ask = false
 abbrev pub event_fits : ℕ → ℕ → Event → Bool
 event_fits threads vars event = nat_lt event.thread threads && line_fits event.line && ask_fits vars event.ask
 
--- a straight script passes or fails
+-- a straight script passes or fails, or its run is cut
 abbrev pub verdict_fits : ℕ → Verdict → Bool
 verdict_fits threads Passed = true
 verdict_fits threads (Failed thread line) = nat_lt thread threads && line_fits line
+verdict_fits threads Cut = true
 verdict_fits threads verdict = false
