@@ -1,0 +1,4 @@
+pub mod StraightLists
+pub mod StraightWorlds
+pub mod StraightMeaning
+pub mod StraightFits

@@ -1,5 +1,5 @@
 -- The run of a straight script as the code goes it: the threads one after another, each to its end.
-use Rattle.std.specs.Prelude.{◌≡◌, ℕ, ℤ, pos, ◌-◌, ◌==◌, ◌&&◌, nat_lt, Bool, true, false, not, if◌then◌else◌, List, [], ◌∷◌, ◌++◌, Option, Some, None, slice_index_or, slice_set}
+use Rattle.std.specs.Prelude.{ℕ, ℤ, pos, ◌-◌, ◌==◌, nat_lt, Bool, true, false, not, if◌then◌else◌, List, [], ◌∷◌, ◌++◌, Option, Some, None, slice_index_or, slice_set}
 use Rattle.std.specs.Ordering.{int_eq}
 use Rattle.pct_ask.specs.declared.ask.Ask.{Ask}
 use Rattle.pct_ask.specs.declared.ask.Ask.TheVariants as asks
@@ -57,11 +57,11 @@ moment going = record { values = going.values.items; events = going.events; left
 -- whether the run goes on
 pub data Stage : Type 0 where
   Still : (moment : Moment) → Stage
-  Ended : (events : List Event) → (verdict : Verdict) → Stage
+  Closed : (events : List Event) → (verdict : Verdict) → Stage
 
 abbrev pub stage_of : Moment → Option Verdict → Stage
 stage_of m None = Still m
-stage_of m (Some verdict) = Ended m.events verdict
+stage_of m (Some verdict) = Closed m.events verdict
 
 abbrev pub after_ask : ℕ → ℕ → Ask → Moment → Moment
 after_ask t line ask m = record {
@@ -71,7 +71,7 @@ after_ask t line ask m = record {
 }
 
 abbrev pub step_ask : ℕ → ℕ → Ask → Moment → Stage
-step_ask t line ask m = if m.left == 0 then Ended m.events Cut else stage_of (after_ask t line ask m) (verdict_of t line ask)
+step_ask t line ask m = if m.left == 0 then Closed m.events Cut else stage_of (after_ask t line ask m) (verdict_of t line ask)
 
 abbrev pub plain_step : ℕ → Registers → Statement → Moment → Stage
 plain_step t registers s m = step_ask t (line_of s) (ask_of registers s) m
@@ -81,12 +81,12 @@ registers_then registers s m = registers_after registers s (answer_to m.values (
 
 abbrev pub further : Stage → (Moment → Stage) → Stage
 further (Still m) more = more m
-further (Ended events verdict) more = Ended events verdict
+further (Closed events verdict) more = Closed events verdict
 
 abbrev pub plain_body : ℕ → Registers → List Statement → Moment → Stage
 plain_body t registers [] m = Still m
 plain_body t registers (s ∷ ss) m = further (plain_step t registers s m) (plain_body t (registers_then registers s m) ss)
 
 abbrev pub plain_threads : List ThreadText → List ℕ → Moment → Stage
-plain_threads threads [] m = Ended m.events Passed
+plain_threads threads [] m = Closed m.events Passed
 plain_threads threads (t ∷ ts) m = further (plain_body t zeros (slice_index_or threads t no_text).body m) (plain_threads threads ts)

@@ -10,7 +10,7 @@ ghost use Rattle.pct_top.specs.Posts.{zeros, registers_after};
 ghost use Rattle.pct_top.specs.Straight.{ask_fits, event_fits, verdict_fits};
 ghost use Rattle.pct_top.specs.StraightRun.{straight_run};
 ghost use Rattle.pct_top.specs.StraightSteps as plain;
-ghost use Rattle.pct_top.specs.StraightSteps.{Ended, moment, stage_of, answer_to, values_after, plain_step, plain_body, plain_threads};
+ghost use Rattle.pct_top.specs.StraightSteps.{Closed, moment, stage_of, answer_to, values_after, plain_step, plain_body, plain_threads};
 
 use pct_ask::{Ask, Event, EventList, Verdict};
 use std::alloc::{AllocError as NoMemory, Global};
@@ -170,7 +170,7 @@ impl Going {
     fn go(&mut self, threads: &[ThreadText], order: &[u32]) -> Result<Verdict, NoMemory>
         requires fit { list_all (thread_fits (length self.old.values.items)) threads.now ≡ true }
         requires order { list_all (λ thread. nat_lt thread (length threads.now)) order.now ≡ true }
-        ensures { IfOk result (λ verdict. Ended self.new.events verdict ≡ plain_threads threads.now order.now (moment self.old)) }
+        ensures { IfOk result (λ verdict. Closed self.new.events verdict ≡ plain_threads threads.now order.now (moment self.old)) }
     {
         for thread in order {
             let text = &threads[*thread as usize];
