@@ -1,3 +1,4 @@
+pub mod Settings
 pub mod World
 pub mod Run
 pub mod Posts
