@@ -84,8 +84,12 @@ impl Model for MemoryShelf {
 
     ghost coded = { coded_shelf };
 
-    ghost view = { λ s. record { files = s.files; failed = texts_of s.failed.items;
-        fails = s.calls.fails.items; calls = s.calls.count } };
+    ghost view = { λ s. record {
+      files = s.files;
+      failed = texts_of s.failed.items;
+      fails = s.calls.fails.items;
+      calls = s.calls.count;
+    } };
 }
 
 impl MemoryShelf {

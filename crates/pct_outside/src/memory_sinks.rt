@@ -22,8 +22,13 @@ impl Model for MemorySink {
 
     ghost Value = { SinkState };
 
-    ghost view = { λ s. record { written = s.bytes.items; faults = s.faults; shorts = s.shorts;
-        fails = s.calls.fails.items; calls = s.calls.count } };
+    ghost view = { λ s. record {
+      written = s.bytes.items;
+      faults = s.faults;
+      shorts = s.shorts;
+      fails = s.calls.fails.items;
+      calls = s.calls.count;
+    } };
 }
 
 impl MemorySink {
