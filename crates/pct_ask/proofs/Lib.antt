@@ -2,3 +2,5 @@ pub mod NameLemmas
 pub mod PlaceLemmas
 pub mod NumberLemmas
 pub mod LineLemmas
+pub mod WordLemmas
+pub mod VerdictWordLemmas

@@ -7,5 +7,7 @@ pub mod Rows
 pub mod NameLists
 pub mod Numbers
 pub mod VerdictText
+pub mod VerdictWords
+pub mod VerdictRead
 pub mod Places
 pub mod PlaceLaws
