@@ -4,3 +4,5 @@ pub mod NumberLemmas
 pub mod LineLemmas
 pub mod WordLemmas
 pub mod VerdictWordLemmas
+pub mod StuckLemmas
+pub mod VerdictReadLemmas

@@ -1,12 +1,12 @@
 -- Facts on how the words of a verdict's text are read.
-use Rattle.std.specs.Prelude.{◌==◌, ◌&&◌, nat_le, cond, codes, decimal, FitsSigned, if◌then◌else◌}
+use Rattle.std.specs.Prelude.{◌&&◌, nat_le, codes, decimal, FitsSigned, if◌then◌else◌}
 use Rattle.std.specs.Int.{w128}
 use Rattle.std.proofs.lemmas.Int.{fits_signed_from_abs}
 use Rattle.std.specs.Str.{bytes_eq}
 use Rattle.std.specs.Str.Parse.{digits_value}
-use Rattle.std.proofs.Common.{◌≡◌, ℕ, ◌+◌, ◌<◌, ◌≤◌, Bool, true, false, List, [], ◌∷◌, ◌++◌, length, Bor, ℤ, pos, negsuc, Option, Some, None, refl, sym, ◌∙◌, ap, arith, rules}
+use Rattle.std.proofs.Common.{◌≡◌, ℕ, ◌+◌, ◌<◌, ◌≤◌, Bool, true, false, List, [], ◌∷◌, ◌++◌, Bor, ℤ, pos, negsuc, Option, Some, None, refl, sym, ◌∙◌, ap, arith}
 use Rattle.std.proofs.lemmas.Fmt.{decimal_is_IsNumeral}
-use Rattle.std.proofs.lemmas.Bool.Decides.{leb_tells, nat_tests}
+use Rattle.std.proofs.lemmas.Bool.Decides.{nat_tests}
 use Rattle.std.proofs.lemmas.Slice.Eq.{bytes_eq-Decides}
 use Rattle.pct_ask.specs.Numbers.{number_text}
 use Rattle.pct_ask.specs.Words.{is_name}
@@ -19,7 +19,7 @@ use Rattle.std.proofs.lemmas.List.Quantifiers.{position-Some}
 use Rattle.pct_ask.specs.VerdictText.{IsLine}
 use Rattle.pct_ask.specs.VerdictWords.{words_of, words_after, line_number, line_in_range, place_by, stuck_step, first_place, placed_kind, placed_words, stuck_words, verdict_of_words}
 use Rattle.pct_ask.specs.declared.verdict_text.VerdictRead.{VerdictRead}
-use Rattle.pct_ask.specs.declared.verdict_text.VerdictRead.TheVariants.{Is, NoForm, UnknownName}
+use Rattle.pct_ask.specs.declared.verdict_text.VerdictRead.TheVariants.{NoForm}
 use Rattle.pct_ask.proofs.WordLemmas.{words_of-some}
 
 -- a line's decimal is read as the line
@@ -79,7 +79,7 @@ line_number-number word (pos n) is every = by (line_in_range (pos n)) refl
     by : (r : Option ℕ) → line_in_range (pos n) ≡ r → r ≡ line_number word
     by (Some line) e = let k = in-range n line e in sym (line_number-decimal line word k.0 (is ∙ ap decimal k.1))
     by None e =
-      sym (line_number-None word (λ line range spelled.
+        sym (line_number-None word (λ line range spelled.
         let some : Some (pos n) ≡ Some (pos line) = every (pos line) (fits-line line range) spelled in
         let same : n ≡ line = cc in
         let low : nat_le 1 n ≡ true = grind (arith, nat_tests) in

@@ -13,17 +13,29 @@ use crate::verdict_text::VerdictRead;
 use crate::words::is_lawful_name;
 
 pub const PASSED: &[u8] = b"passed";
+
 pub const FAILED: &[u8] = b"failed";
+
 pub const STUCK: &[u8] = b"stuck";
+
 pub const MISUSE: &[u8] = b"misuse";
+
 pub const FAULT: &[u8] = b"fault";
+
 pub const CUT: &[u8] = b"cut";
+
 pub const NOT_OWNER: &[u8] = b"notowner";
+
 pub const SEM_FULL: &[u8] = b"semfull";
+
 pub const ALREADY_STARTED: &[u8] = b"alreadystarted";
+
 pub const TOO_MANY_READS: &[u8] = b"toomanyreads";
+
 pub const OVERFLOW: &[u8] = b"overflow";
+
 pub const ZERO_DIVISOR: &[u8] = b"zerodivisor";
+
 pub const SPIN: &[u8] = b"spin";
 
 /// What a verdict says of one thread at one line.

@@ -1,5 +1,5 @@
 -- Two words or more make no kind.
-use Rattle.std.proofs.Common.{◌≡◌, true, None, Some, sym, ◌∙◌}
+use Rattle.std.proofs.Common.{sym, ◌∙◌}
 use Rattle.pct_ask.proofs.VerdictWordLemmas.{kind_of-longer}
 use Rattle.pct_ask.proofs.verdict_words.read_kind.Goals as goal
 

@@ -1,5 +1,5 @@
 -- More words than one are read by the first.
-use Rattle.std.proofs.Common.{sym, ap, ◌∙◌, ◌≡◌, None, Some}
+use Rattle.std.proofs.Common.{sym, ◌∙◌}
 use Rattle.pct_ask.proofs.VerdictWordLemmas.{read-stuck, read-placed}
 use Rattle.pct_ask.proofs.verdict_words.read_words.Goals as goal
 
