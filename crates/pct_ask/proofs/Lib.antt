@@ -6,3 +6,4 @@ pub mod WordLemmas
 pub mod VerdictWordLemmas
 pub mod StuckLemmas
 pub mod VerdictReadLemmas
+pub mod PieceLemmas

@@ -25,5 +25,5 @@ pub use names::{NameKind, Names};
 pub use number::{read_number, write_number};
 pub use sequence::{NumberList, OrderList, PointList, Sequence};
 pub use verdict::{MisuseKind, Outcome, Verdict};
-pub use verdict_text::{VerdictRead, read_verdict};
+pub use verdict_text::{VerdictRead, read_verdict, write_verdict};
 pub use words::is_lawful_name;
