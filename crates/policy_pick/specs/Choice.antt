@@ -72,12 +72,18 @@ HasAwayTarget chances Ended = Unit {0}
 abbrev pub TargetsAreAway : List Chance → Type 0
 TargetsAreAway chances = (thread : ℕ) → thread < length chances → HasAwayTarget chances (chance_of chances thread)
 
--- a picked thread is Ready, one that is waited for is Away, and where nobody is picked every thread is Blocked or Ended
-abbrev pub IsSound : List Chance → Pick → Type 0
-IsSound chances (Thread thread) = (thread < length chances) × (chance_of chances thread ≡ Ready)
-IsSound chances (Waits thread) = (thread < length chances) × (chance_of chances thread ≡ Away)
-IsSound chances Nobody = (thread : ℕ) → thread < length chances → is_open (chance_of chances thread) ≡ false
-IsSound chances (Departs thread) = thread < length chances
+-- only a list of threads can be departed from
+abbrev pub MayDepart : Plan → Type 0
+MayDepart (ByPoints order points) = ⊥
+MayDepart (ByEvents order events) = ⊥
+MayDepart (ByList listed) = Unit {0}
+
+-- A picked thread is Ready, one that is waited for is Away, and where nobody is picked every thread is Blocked or Ended.
+abbrev pub IsSound : Plan → List Chance → Pick → Type 0
+IsSound plan chances (Thread thread) = (thread < length chances) × (chance_of chances thread ≡ Ready)
+IsSound plan chances (Waits thread) = (thread < length chances) × (chance_of chances thread ≡ Away)
+IsSound plan chances Nobody = (thread : ℕ) → thread < length chances → is_open (chance_of chances thread) ≡ false
+IsSound plan chances (Departs thread) = MayDepart plan × (thread < length chances)
 
 -- whether a thread's next step is known: neither Away nor Unknown
 abbrev pub is_known : Chance → Bool

@@ -13,7 +13,7 @@ use Rattle.policy_pick.specs.declared.chance.Chance.TheVariants.{Ended}
 use Rattle.policy_pick.specs.declared.chance.Pick.{Pick}
 use Rattle.policy_pick.specs.declared.chance.Pick.TheVariants.{Thread}
 use Rattle.policy_pick.specs.Plan.{Plan, ByPoints, ByEvents, ByList, SpeaksOf}
-use Rattle.policy_pick.specs.Choice.{chance_of, pick_at, choice_by_list, choice, TargetsAreAway, IsSound, KeepsKnown, IsWaits}
+use Rattle.policy_pick.specs.Choice.{MayDepart, chance_of, pick_at, choice_by_list, choice, TargetsAreAway, IsSound, KeepsKnown, IsWaits}
 use Rattle.policy_pick.specs.Laws.Chances.{pick-known, sound-at}
 use Rattle.policy_pick.specs.Laws.Walks.{rank-keeps, rank-sound, number-keeps, number-sound}
 
@@ -36,12 +36,12 @@ holds-at P [] k x all e = cc
 holds-at P (y ∷ xs) zero x all e = let same : y ≡ x = cc in subst P same (All-head P y xs all)
 holds-at P (y ∷ xs) (suc k) x all e = holds-at P xs k x (All-tail P y xs all) e
 
-listed-sound : (next : Option ℕ) (chances : List Chance) → ((thread : ℕ) → next ≡ Some thread → thread < length chances) → TargetsAreAway chances → IsSound chances (choice_by_list next chances)
-listed-sound None chances within targets = number-sound chances targets
-listed-sound (Some thread) chances within targets = sound-at chances (Thread thread) thread (within thread refl) (λ ready. (within thread refl, ready)) (targets thread (within thread refl))
+listed-sound : (plan : Plan) (next : Option ℕ) (chances : List Chance) → MayDepart plan → ((thread : ℕ) → next ≡ Some thread → thread < length chances) → TargetsAreAway chances → IsSound plan chances (choice_by_list next chances)
+listed-sound plan None chances departs within targets = number-sound plan chances departs targets
+listed-sound plan (Some thread) chances departs within targets = sound-at plan chances (Thread thread) thread (within thread refl) (λ ready. (within thread refl, ready)) (λ closed. departs) (targets thread (within thread refl))
 
 -- Each choice is sound.
-pub choice-sound : (plan : Plan) (schedule : List ℕ) (chances : List Chance) → SpeaksOf plan (length chances) → TargetsAreAway chances → IsSound chances (choice plan schedule chances)
-choice-sound (ByPoints order points) schedule chances speaks targets = rank-sound (ranks order points schedule) chances targets
-choice-sound (ByEvents order events) schedule chances speaks targets = rank-sound (ranks_by_events order events schedule) chances targets
-choice-sound (ByList listed) schedule chances speaks targets = listed-sound (slice_get listed (length schedule)) chances (λ thread e. holds-at (λ t. t < length chances) listed (length schedule) thread speaks.1 e) targets
+pub choice-sound : (plan : Plan) (schedule : List ℕ) (chances : List Chance) → SpeaksOf plan (length chances) → TargetsAreAway chances → IsSound plan chances (choice plan schedule chances)
+choice-sound (ByPoints order points) schedule chances speaks targets = rank-sound (ByPoints order points) (ranks order points schedule) chances targets
+choice-sound (ByEvents order events) schedule chances speaks targets = rank-sound (ByEvents order events) (ranks_by_events order events schedule) chances targets
+choice-sound (ByList listed) schedule chances speaks targets = listed-sound (ByList listed) (slice_get listed (length schedule)) chances tt (λ thread e. holds-at (λ t. t < length chances) listed (length schedule) thread speaks.1 e) targets

@@ -17,7 +17,7 @@ pub trait Policy: Send + Drop {
         requires threads { SpeaksOf (plan self.now) (length chances.now) }
         requires targets { TargetsAreAway chances.now }
         ensures choice { (schedule : List ℕ) → stands self.now schedule → result ≡ choice (plan self.now) schedule chances.now }
-        ensures sound { IsSound chances.now result };
+        ensures sound { IsSound (plan self.now) chances.now result };
 
     /// Notes that the thread took a step.
     fn took(&mut self, thread: u32)
@@ -30,5 +30,5 @@ pub trait Policy: Send + Drop {
     ghost keeps: { (policy : Self) (schedule : List ℕ) (earlier later : List Chance) → SpeaksOf (plan policy) (length earlier) → KeepsKnown earlier later → ¬ IsWaits (choice (plan policy) schedule earlier) → choice (plan policy) schedule later ≡ choice (plan policy) schedule earlier };
 
     // Each choice is sound.
-    ghost sound: { (policy : Self) (schedule : List ℕ) (chances : List Chance) → SpeaksOf (plan policy) (length chances) → TargetsAreAway chances → IsSound chances (choice (plan policy) schedule chances) };
+    ghost sound: { (policy : Self) (schedule : List ℕ) (chances : List Chance) → SpeaksOf (plan policy) (length chances) → TargetsAreAway chances → IsSound (plan policy) chances (choice (plan policy) schedule chances) };
 }

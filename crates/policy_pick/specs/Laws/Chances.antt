@@ -4,7 +4,8 @@ use Rattle.policy_pick.specs.declared.chance.Chance.{Chance}
 use Rattle.policy_pick.specs.declared.chance.Chance.TheVariants.{Away, Ready, Blocked, Unknown, Ended}
 use Rattle.policy_pick.specs.declared.chance.Pick.{Pick}
 use Rattle.policy_pick.specs.declared.chance.Pick.TheVariants.{Thread, Waits, Nobody, Departs}
-use Rattle.policy_pick.specs.Choice.{chance_of, is_open, is_known, pick_at, HasAwayTarget, IsSound, IsWaits, KeepsKnown}
+use Rattle.policy_pick.specs.Plan.{Plan}
+use Rattle.policy_pick.specs.Choice.{MayDepart, chance_of, is_open, is_known, pick_at, HasAwayTarget, IsSound, IsWaits, KeepsKnown}
 
 -- a thread that a walk passes over is known
 pub closed-known : (c : Chance) → is_open c ≡ false → is_known c ≡ true
@@ -30,16 +31,16 @@ pick-known ready thread Blocked h = refl
 pick-known ready thread (Unknown target) h = absurd (h tt)
 pick-known ready thread Ended h = refl
 
-sound-by : (chances : List Chance) (ready : Pick) (thread : ℕ) (c : Chance) → thread < length chances → chance_of chances thread ≡ c → (c ≡ Ready → IsSound chances ready) → HasAwayTarget chances c → IsSound chances (pick_at ready thread c)
-sound-by chances ready thread Away within is sound target = (within, is)
-sound-by chances ready thread Ready within is sound target = sound refl
-sound-by chances ready thread Blocked within is sound target = within
-sound-by chances ready thread (Unknown other) within is sound target = target
-sound-by chances ready thread Ended within is sound target = within
+sound-by : (plan : Plan) (chances : List Chance) (ready : Pick) (thread : ℕ) (c : Chance) → thread < length chances → chance_of chances thread ≡ c → (c ≡ Ready → IsSound plan chances ready) → (is_open c ≡ false → MayDepart plan) → HasAwayTarget chances c → IsSound plan chances (pick_at ready thread c)
+sound-by plan chances ready thread Away within is sound departs target = (within, is)
+sound-by plan chances ready thread Ready within is sound departs target = sound refl
+sound-by plan chances ready thread Blocked within is sound departs target = (departs refl, within)
+sound-by plan chances ready thread (Unknown other) within is sound departs target = target
+sound-by plan chances ready thread Ended within is sound departs target = (departs refl, within)
 
 -- the pick at a thread is sound
-pub sound-at : (chances : List Chance) (ready : Pick) (thread : ℕ) → thread < length chances → (chance_of chances thread ≡ Ready → IsSound chances ready) → HasAwayTarget chances (chance_of chances thread) → IsSound chances (pick_at ready thread (chance_of chances thread))
-sound-at chances ready thread within sound target = sound-by chances ready thread (chance_of chances thread) within refl sound target
+pub sound-at : (plan : Plan) (chances : List Chance) (ready : Pick) (thread : ℕ) → thread < length chances → (chance_of chances thread ≡ Ready → IsSound plan chances ready) → (is_open (chance_of chances thread) ≡ false → MayDepart plan) → HasAwayTarget chances (chance_of chances thread) → IsSound plan chances (pick_at ready thread (chance_of chances thread))
+sound-at plan chances ready thread within sound departs target = sound-by plan chances ready thread (chance_of chances thread) within refl sound departs target
 
 open-by : (earlier later : Chance) (b : Bool) → is_open earlier ≡ b → (is_known earlier ≡ true → later ≡ earlier) → is_open later ≡ true → is_open earlier ≡ true
 open-by earlier later true is keeps goes = is

@@ -7,7 +7,8 @@ use Rattle.policy_pick.specs.declared.chance.Chance.{Chance}
 use Rattle.policy_pick.specs.declared.chance.Chance.TheVariants.{Ready}
 use Rattle.policy_pick.specs.declared.chance.Pick.{Pick}
 use Rattle.policy_pick.specs.declared.chance.Pick.TheVariants.{Thread, Nobody, Departs}
-use Rattle.policy_pick.specs.Choice.{chance_of, is_open, is_known, pick_at, pick_of_walk, threads_of, is_highest, choice_by_rank, choice_by_number, TargetsAreAway, IsSound, IsWaits, KeepsKnown}
+use Rattle.policy_pick.specs.Plan.{Plan}
+use Rattle.policy_pick.specs.Choice.{MayDepart, chance_of, is_open, is_known, pick_at, pick_of_walk, threads_of, is_highest, choice_by_rank, choice_by_number, TargetsAreAway, IsSound, IsWaits, KeepsKnown}
 use Rattle.policy_pick.specs.Laws.Finds.{find-is, find-none, found-or-none, IsFirst, all-below, all-from-below}
 use Rattle.policy_pick.specs.Laws.Chances.{open-ready, sound-at, open-before, closed-after}
 
@@ -119,9 +120,9 @@ module _ (ranks : List ℕ) (earlier later : List Chance) (keeps : KeepsKnown ea
       rank-ends ranks later (find-none (is_highest ranks later) 0 (length later) (λ k p q. closed-not-highest ranks later k (closed-after earlier later k keeps (within-later k (omega arith)) (closed k (within-later k (omega arith)))))) ∙ sym (rank-ends ranks earlier w.0)
     ]
 
-pub rank-sound : (ranks : List ℕ) (chances : List Chance) → TargetsAreAway chances → IsSound chances (choice_by_rank ranks chances)
-rank-sound ranks chances targets = let P : Pick → Type 0 = IsSound chances in elim (found-or-none (is_highest ranks chances) (length chances)) [
-  | inl w ↦ subst P (sym (rank-stops ranks chances w.0 w.1)) (sound-at chances (Thread w.0) w.0 w.2.within (λ ready. (w.2.within, ready)) (targets w.0 w.2.within))
+pub rank-sound : (plan : Plan) (ranks : List ℕ) (chances : List Chance) → TargetsAreAway chances → IsSound plan chances (choice_by_rank ranks chances)
+rank-sound plan ranks chances targets = let P : Pick → Type 0 = IsSound plan chances in elim (found-or-none (is_highest ranks chances) (length chances)) [
+  | inl w ↦ subst P (sym (rank-stops ranks chances w.0 w.1)) (sound-at plan chances (Thread w.0) w.0 w.2.within (λ ready. (w.2.within, ready)) (λ closed. absurd (let goes = (highest-parts ranks chances w.0 w.2.passes).0 in cc)) (targets w.0 w.2.within))
   | inr w ↦ subst P (sym (rank-ends ranks chances w.0)) (none-open ranks chances w.1)
   ]
 
@@ -147,8 +148,8 @@ number-keeps earlier later keeps waits = elim (found-or-none (open_at earlier) (
   | inr w ↦ number-ends later (find-none (open_at later) 0 (length later) (λ k p q. closed-after earlier later k keeps (omega (arith, keeps.threads)) (w.1 k (omega (arith, keeps.threads))))) ∙ sym (number-ends earlier w.0)
   ]
 
-pub number-sound : (chances : List Chance) → TargetsAreAway chances → IsSound chances (choice_by_number chances)
-number-sound chances targets = let P : Pick → Type 0 = IsSound chances in elim (found-or-none (open_at chances) (length chances)) [
-  | inl w ↦ subst P (sym (number-stops chances w.0 w.1)) (sound-at chances (Departs w.0) w.0 w.2.within (λ ready. w.2.within) (targets w.0 w.2.within))
+pub number-sound : (plan : Plan) (chances : List Chance) → MayDepart plan → TargetsAreAway chances → IsSound plan chances (choice_by_number chances)
+number-sound plan chances departs targets = let P : Pick → Type 0 = IsSound plan chances in elim (found-or-none (open_at chances) (length chances)) [
+  | inl w ↦ subst P (sym (number-stops chances w.0 w.1)) (sound-at plan chances (Departs w.0) w.0 w.2.within (λ ready. (departs, w.2.within)) (λ closed. departs) (targets w.0 w.2.within))
   | inr w ↦ subst P (sym (number-ends chances w.0)) w.1
   ]
