@@ -4,4 +4,5 @@ pub mod Run
 pub mod Posts
 pub mod StraightRun
 pub mod Straight
+pub mod Spaced
 pub mod Rows

@@ -2,7 +2,9 @@
 #![tactic(auto)]
 
 mod settings;
+mod straight_run;
 mod text;
+mod trace;
 mod words;
 
 pub use settings::{Settings, WordsError};
