@@ -1,3 +1,4 @@
+pub mod Lines
 pub mod StraightLists
 pub mod StraightWorlds
 pub mod StraightMeaning

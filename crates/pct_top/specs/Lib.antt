@@ -1,7 +1,9 @@
+pub mod Settings
 pub mod World
 pub mod Run
 pub mod Posts
 pub mod StraightRun
 pub mod Straight
 pub mod StraightSteps
+pub mod Spaced
 pub mod Rows

@@ -1,6 +1,6 @@
 -- A text that is read as a script spells it.
 use Rattle.std.proofs.Common.{◌≡◌, ℕ, ◌+◌, ◌≤◌, Bool, true, false, cond, leb, List, [], ◌∷◌, ◌++◌, length, map, Option, Some, None, refl, sym, ap, ◌∙◌, append_assoc, arith, subst}
-use Rattle.std.specs.Prelude.{◌&&◌, nat_le, Result, Ok, Err, IfOk}
+use Rattle.std.specs.Prelude.{◌&&◌, nat_le, Result, Ok, Err, IfOk, IfErr}
 use Rattle.std.specs.Option.{option_map, option_and_then}
 use Rattle.std.proofs.lemmas.List.{append-nil}
 use Rattle.std.proofs.lemmas.Bool.{and_parts, leb-true}
@@ -9,7 +9,8 @@ use Rattle.pct_ask.specs.NameLists.{AreNames}
 use Rattle.straight_script.specs.declared.reader.Place.{Place}
 use Rattle.straight_script.specs.declared.reader.Place.TheVariants as places
 use Rattle.straight_script.specs.declared.fault.ScriptError.{ScriptError}
-use Rattle.straight_script.specs.Faults.{Gives}
+use Rattle.straight_script.specs.declared.fault.ScriptError.TheVariants as errors
+use Rattle.straight_script.specs.Faults.{Gives, IsFault}
 use Rattle.straight_script.specs.Fitting.{line_fits}
 use Rattle.straight_script.specs.Forms.{Form, Header}
 use Rattle.straight_script.specs.ScriptText.{ScriptText, IsShaped}
@@ -17,6 +18,7 @@ use Rattle.straight_script.specs.Part.{Part}
 use Rattle.straight_script.specs.Said.{said_by}
 use Rattle.straight_script.specs.Grammar.{Line, declarations, all_thread_lines, line_before, lines_from, HasOnlyVars, Spells}
 use Rattle.straight_script.specs.Reading.{start, step, finished, finished_at, is_empty, read_said, read_line, read_from, read}
+use Rattle.straight_script.proofs.Whole.{read-Spells, some_script}
 use Rattle.straight_script.proofs.Sound.{IsTop, HasReadOutside, HasReadAt, HasRead, HasRead-step, some_is}
 
 -- the lines are those of the script
@@ -96,6 +98,18 @@ Spells-read bytes script names shape e =
       shape = shape;
     }
 
+none_some : (script : ScriptText) → None ≡ some_script script → ⊥
+none_some script e = cc
+
 pub found_is : (bytes : List ℕ) (r : Result ScriptText ScriptError) → Gives r (read bytes) → IfOk r (λ s. AreNames s.names × IsShaped s) → IfOk r (λ s. Spells bytes s)
 found_is bytes (Ok script) e lawful = Spells-read bytes script lawful.0 lawful.1 e
 found_is bytes (Err error) e lawful = tt
+
+pub only_is : (bytes : List ℕ) (r : Result ScriptText ScriptError) → Gives r (read bytes) → (script : ScriptText) → Spells bytes script → IfOk r (λ s. s ≡ script)
+only_is bytes (Ok found) e script spelled = some_is found script (sym e ∙ read-Spells bytes script spelled)
+only_is bytes (Err error) e script spelled = tt
+
+pub fault_is : (bytes : List ℕ) (r : Result ScriptText ScriptError) → Gives r (read bytes) → IfErr r (λ error. IsFault error bytes)
+fault_is bytes (Ok found) e = tt
+fault_is bytes (Err errors.NoMemory) e = tt
+fault_is bytes (Err (errors.Bad line kind)) e = (e.1, e.2, λ script spelled. none_some script (sym e.0 ∙ read-Spells bytes script spelled))

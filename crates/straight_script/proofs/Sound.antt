@@ -70,7 +70,7 @@ guard_some : {A : Type 0} (b : Bool) (x y : A) → cond b (Some x) None ≡ Some
 guard_some true x y e = (refl, cc)
 guard_some false x y e = absurd cc
 
-mapped_some : {A B : Type 0} (f : A → B) (o : Option A) (y : B) → option_map f o ≡ Some y → (x : A) × (o ≡ Some x) × (f x ≡ y)
+pub mapped_some : {A B : Type 0} (f : A → B) (o : Option A) (y : B) → option_map f o ≡ Some y → (x : A) × (o ≡ Some x) × (f x ≡ y)
 mapped_some f None y e = absurd cc
 mapped_some f (Some x) y e = (x, refl, some_is (f x) y e)
 

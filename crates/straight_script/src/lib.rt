@@ -10,5 +10,5 @@ mod script;
 mod token;
 
 pub use fault::{ScriptError, ScriptFault};
-pub use parsing::parse;
+pub use parsing::{one_script, parse};
 pub use script::{Expression, Operand, Script, Statement, StatementList, ThreadList, ThreadText};

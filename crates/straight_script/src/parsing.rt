@@ -1,6 +1,6 @@
 //! A text as a script.
 
-ghost use Rattle.std.specs.Prelude.{◌≡◌, ◌≤◌, Some, IfOk, IfSome, OnSome};
+ghost use Rattle.std.specs.Prelude.{◌≡◌, ◌≤◌, Some, IfOk, IfErr, IfSome, OnSome};
 ghost use Rattle.std.specs.Str.{is_utf8};
 ghost use Rattle.straight_script.specs.Cutting.{all_seen};
 ghost use Rattle.straight_script.specs.Said.{sound_line, IsSaid};
@@ -8,9 +8,9 @@ ghost use Rattle.straight_script.specs.Said as said;
 ghost use Rattle.pct_ask.specs.Lines.{lines_of};
 ghost use Rattle.straight_script.specs.Reading.{start, read_from, read};
 ghost use Rattle.straight_script.specs.Reading as reading;
-ghost use Rattle.straight_script.specs.Faults.{Gives};
+ghost use Rattle.straight_script.specs.Faults.{Gives, IsFault, SpellsOnce};
 ghost use Rattle.straight_script.specs.Grammar.{Spells};
-ghost use Rattle.straight_script.specs.ScriptText.{IsShaped};
+ghost use Rattle.straight_script.specs.ScriptText.{ScriptText, IsShaped};
 ghost use Rattle.pct_ask.specs.NameLists.{AreNames};
 
 use crate::fault::{ScriptError, ScriptFault};
@@ -123,6 +123,13 @@ fn read_all(alloc: Global, bytes: &[u8]) -> Result<Script, ScriptError>
 /// The script that a text spells.
 pub fn parse(alloc: Global, bytes: &[u8]) -> Result<Script, ScriptError>
     ensures found { IfOk result (λ script. Spells bytes.now script) }
+    ensures only { (script : ScriptText) → Spells bytes.now script → IfOk result (λ found. found ≡ script) }
+    ensures fault { IfErr result (λ error. IsFault error bytes.now) }
 {
     read_all(alloc, bytes)
 }
+
+/// A law: no text spells two scripts.
+pub fn one_script()
+    ensures { SpellsOnce }
+{}
