@@ -1,4 +1,5 @@
--- The run of a straight script as the code goes it: the threads one after another, each to its end.
+-- The run of a straight script as the code goes it: the threads one after another, each to its end. Only private
+-- functions cite this. The public contract is the run by the threads' ranks.
 use Rattle.std.specs.Prelude.{ℕ, ℤ, pos, ◌-◌, ◌==◌, nat_lt, Bool, true, false, not, if◌then◌else◌, List, [], ◌∷◌, ◌++◌, Option, Some, None, slice_index_or, slice_set}
 use Rattle.std.specs.Ordering.{int_eq}
 use Rattle.pct_ask.specs.declared.ask.Ask.{Ask}
@@ -9,6 +10,7 @@ use Rattle.pct_ask.specs.declared.verdict.Verdict.TheVariants.{Passed, Failed, C
 use Rattle.straight_script.specs.declared.script.Statement.{Statement}
 use Rattle.straight_script.specs.declared.script.Statement.TheVariants.{Read, Write, Assert}
 use Rattle.straight_script.specs.declared.script.ThreadText.{ThreadText}
+use Rattle.straight_script.specs.Fitting.{expression_fits}
 use Rattle.pct_top.specs.declared.straight_run.Going.{Going}
 use Rattle.pct_top.specs.Posts.{Registers, zeros, value_of, registers_after, no_text}
 
@@ -27,6 +29,11 @@ abbrev pub register_fits : Statement → Bool
 register_fits (Read line register var) = nat_lt register 16
 register_fits (Write line var value) = true
 register_fits (Assert line test) = true
+
+abbrev pub operands_fit : Statement → Bool
+operands_fit (Read line register var) = true
+operands_fit (Write line var value) = expression_fits value
+operands_fit (Assert line test) = expression_fits test
 
 abbrev pub answer_to : List ℤ → Ask → ℤ
 answer_to values (asks.Read x) = slice_index_or values x (pos 0)

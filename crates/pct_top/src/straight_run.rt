@@ -68,10 +68,9 @@ fn line_of(statement: Statement) -> u32
 }
 
 /// What a statement asks.
-fn ask_of(registers: &[i64; 16], vars: usize, statement: Statement) -> Ask
-    requires { statement_fits vars statement ≡ true }
-    ensures asked { result ≡ plain.ask_of registers.now statement }
-    ensures fits { ask_fits vars result ≡ true }
+fn ask_of(registers: &[i64; 16], statement: Statement) -> Ask
+    requires { plain.operands_fit statement ≡ true }
+    ensures { result ≡ plain.ask_of registers.now statement }
 {
     match statement {
         Statement::Read { var, .. } => Ask::Read { var },
@@ -123,7 +122,7 @@ fn keep_answer(registers: &mut [i64; 16], statement: Statement, answer: i64)
 
 impl Going {
     /// A thread takes a step. The verdict where it ends the run.
-    fn take(
+    fn step(
         &mut self,
         thread: u32,
         registers: &mut [i64; 16],
@@ -139,7 +138,7 @@ impl Going {
         }
         self.left -= 1;
         let line = line_of(statement);
-        let ask = ask_of(registers, self.values.len(), statement);
+        let ask = ask_of(registers, statement);
         let answer = answer_by(&mut self.values, ask);
         keep_answer(registers, statement, answer);
         self.events.try_push(Event {
@@ -152,29 +151,29 @@ impl Going {
     }
 
     /// A thread takes its steps, up to its end. The verdict where the run ends before.
-    fn take_all(&mut self, thread: u32, body: &[Statement]) -> Result<Option<Verdict>, NoMemory>
+    fn run_thread(&mut self, thread: u32, body: &[Statement]) -> Result<Option<Verdict>, NoMemory>
         requires { body_fits (length self.old.values.items) body.now ≡ true }
         ensures stage { IfOk result (λ verdict. stage_of (moment self.new) verdict ≡ plain_body thread zeros body.now (moment self.old)) }
         ensures as_many { IfOk result (λ verdict. length self.new.values.items ≡ length self.old.values.items) }
     {
         let mut registers = [0; 16];
         for statement in body {
-            if let Some(verdict) = self.take(thread, &mut registers, *statement)? {
+            if let Some(verdict) = self.step(thread, &mut registers, *statement)? {
                 return Ok(Some(verdict));
             }
         }
         Ok(None)
     }
 
-    /// The threads go, one after another in their order. The verdict of the run.
-    fn go(&mut self, threads: &[ThreadText], order: &[u32]) -> Result<Verdict, NoMemory>
+    /// The threads take their steps, one thread after another in their order. The verdict of the run.
+    fn run_threads(&mut self, threads: &[ThreadText], order: &[u32]) -> Result<Verdict, NoMemory>
         requires fit { list_all (thread_fits (length self.old.values.items)) threads.now ≡ true }
         requires order { list_all (λ thread. nat_lt thread (length threads.now)) order.now ≡ true }
         ensures { IfOk result (λ verdict. Closed self.new.events verdict ≡ plain_threads threads.now order.now (moment self.old)) }
     {
         for thread in order {
             let text = &threads[*thread as usize];
-            if let Some(verdict) = self.take_all(*thread, text.body.as_slice())? {
+            if let Some(verdict) = self.run_thread(*thread, text.body.as_slice())? {
                 return Ok(verdict);
             }
         }
@@ -196,7 +195,7 @@ pub fn run(alloc: Global, script: &Script, order: &[u32], limit: u32) -> Result<
         events: EventList::new(alloc),
         left: limit,
     };
-    let verdict = going.go(script.threads().as_slice(), order)?;
+    let verdict = going.run_threads(script.threads().as_slice(), order)?;
     Ok(Played {
         events: going.events,
         verdict,

@@ -2,7 +2,7 @@ use Rattle.std.proofs.Common.{◌≡◌, length, drop, true}
 use Rattle.straight_script.specs.Fitting.{body_fits}
 use Rattle.pct_top.specs.Posts.{zeros}
 use Rattle.pct_top.specs.StraightSteps.{moment, plain_body}
-use Rattle.pct_top.proofs.straight_run.Going.take_all.Given as goal
+use Rattle.pct_top.proofs.straight_run.Going.run_thread.Given as goal
 
 abbrev pub invariant-loop-statement : goal.invariant-loop-statement
 invariant-loop-statement l = record {

@@ -7,7 +7,7 @@ use Rattle.straight_script.specs.declared.script.Statement.TheVariants.{Read}
 use Rattle.straight_script.specs.Fitting.{statement_fits, body_fits}
 use Rattle.pct_top.specs.Posts.{Registers}
 use Rattle.pct_top.specs.StraightSteps.{Moment, Stage, stage_of, further, registers_then, plain_step, plain_body}
-use Rattle.pct_top.proofs.straight_run.Going.take_all.Goals as goal
+use Rattle.pct_top.proofs.straight_run.Going.run_thread.Goals as goal
 
 goes_on : (t : ℕ) (registers after : Registers) (body : List Statement) (i : ℕ) (d : Statement) (m m' : Moment) (verdict : Option Verdict) → verdict ≡ None → i < length body
     → stage_of m' verdict ≡ plain_step t registers (get_or body i d) m → IfNone verdict (after ≡ registers_then registers (get_or body i d) m)

@@ -1,7 +1,7 @@
 use Rattle.std.proofs.Common.{◌≡◌, length, drop, true, nat_lt}
 use Rattle.std.specs.List.{list_all}
 use Rattle.pct_top.specs.StraightSteps.{moment, plain_threads}
-use Rattle.pct_top.proofs.straight_run.Going.go.Given as goal
+use Rattle.pct_top.proofs.straight_run.Going.run_threads.Given as goal
 
 abbrev pub invariant-loop-thread : goal.invariant-loop-thread
 invariant-loop-thread l = record {
