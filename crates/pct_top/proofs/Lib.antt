@@ -3,3 +3,6 @@ pub mod StraightLists
 pub mod StraightWorlds
 pub mod StraightMeaning
 pub mod StraightFits
+pub mod Orders
+pub mod Outcomes
+pub mod Calls

@@ -6,4 +6,10 @@ pub mod StraightRun
 pub mod Straight
 pub mod StraightSteps
 pub mod Spaced
+pub mod Refusing
+pub mod Ordered
+pub mod Saying
+pub mod Output
+pub mod Outcome
+pub mod Call
 pub mod Rows

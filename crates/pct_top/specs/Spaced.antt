@@ -1,5 +1,5 @@
 -- Words behind spaces.
-use Rattle.std.specs.Prelude.{ℕ, List, [], ◌∷◌, map}
+use Rattle.std.specs.Prelude.{ℕ, List, [], ◌∷◌}
 use Rattle.std.specs.List.{flat_map}
 use Rattle.pct_ask.specs.TraceText.{TraceHead}
 

@@ -1,12 +1,20 @@
 //! The program's words, its runs and what it writes.
 #![tactic(auto)]
 
+mod order;
+mod outcome;
+mod printing;
+mod refusal;
 mod settings;
+mod status;
 mod straight_run;
 mod text;
+mod top;
 mod trace;
 mod words;
 
 pub use settings::{Settings, WordsError};
+pub use status::Status;
 pub use text::{Text, TextList};
+pub use top::pct;
 pub use words::read_words;

@@ -1,0 +1,50 @@
+//! An order of a script's threads, by their names.
+
+ghost use Rattle.std.specs.Prelude.{◌≡◌, ℕ, ◌≤◌, List, length, IfOk, MatchOption, MatchBool};
+ghost use Rattle.rank_now.specs.Order.{IsOrder};
+ghost use Rattle.pct_top.specs.Ordered.{threads_named, NamesAll};
+
+use crate::text::Text;
+use pct_ask::{NameKind, Names, OrderList};
+use rank_now::{RankError, Ranks};
+use std::alloc::{AllocError as NoMemory, Global};
+
+/// The threads that names stand for, where each is a thread's.
+fn threads_of(alloc: Global, names: &Names, items: &[Text]) -> Result<Option<OrderList>, NoMemory>
+    ensures { IfOk result (λ threads. threads ≡ threads_named names.now items.now) }
+{
+    let mut threads = OrderList::new(alloc);
+    for item in items {
+        match names.find(NameKind::Thread, item.as_str().as_bytes()) {
+            Some(thread) => threads.try_push(thread)?,
+            None => return Ok(None),
+        }
+    }
+    Ok(Some(threads))
+}
+
+/// Whether the list names each thread of as many as it has once.
+fn is_order(alloc: Global, threads: &[u32]) -> Result<bool, NoMemory>
+    requires { length threads.now ≤ 64 }
+    ensures { IfOk result (λ order. MatchBool order (IsOrder threads.now) (¬ IsOrder threads.now)) }
+{
+    match Ranks::new(alloc, threads, 0) {
+        Ok(_) => return Ok(true),
+        Err(RankError::NotAnOrder { .. }) => return Ok(false),
+        Err(RankError::NoMemory) => return Err(NoMemory),
+    }
+}
+
+/// The order in which names list the threads of a script, where they list each once.
+pub fn order_of(alloc: Global, names: &Names, items: &[Text]) -> Result<Option<OrderList>, NoMemory>
+    ensures { IfOk result (λ order. MatchOption order ((other : List ℕ) → ¬ NamesAll names.now items.now other) (NamesAll names.now items.now)) }
+{
+    let Some(threads) = threads_of(alloc, names, items)? else {
+        return Ok(None);
+    };
+    if threads.len() != names.count(NameKind::Thread) as usize {
+        return Ok(None);
+    }
+    let whole = is_order(alloc, threads.as_slice())?;
+    Ok(whole.then_some(threads))
+}

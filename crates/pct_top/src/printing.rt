@@ -1,0 +1,120 @@
+//! What is put on the output and the error stream.
+
+ghost use Rattle.std.specs.Prelude.{◌≡◌, ◌≤◌, ◌<◌, ◌+◌, ◌++◌, ◌⊎◌, length, decimal, Err, OnOk, OnErr};
+ghost use Rattle.arrayvec.specs.ArrayString.{array_string_len};
+ghost use Rattle.pct_top.specs.Refusing as refusing;
+ghost use Rattle.pct_top.specs.Refusing.{refusal_line};
+ghost use Rattle.pct_top.specs.Saying.{Says};
+ghost use Rattle.pct_outside.specs.Counter.{Rose};
+ghost use Rattle.pct_outside.specs.Piece.{Appended, AppendedPart};
+
+use crate::refusal::Refusal;
+use arrayvec::ArrayString;
+use itoa::Buffer;
+use pct_outside::{Sink, SinkError};
+use straight_script::ScriptFault;
+
+/// How many bytes the first line of a text has, with its LF.
+fn line_length(text: &[u8]) -> usize
+    requires { 0 < length text.now }
+    ensures some { 0 < result }
+    ensures within { result ≤ length text.now }
+{
+    match text.iter().position(|byte| *byte == b'\n') {
+        Some(end) => end + 1,
+        None => text.len(),
+    }
+}
+
+/// Puts a text on a sink, one line at a time. Nothing is put after a put that was refused.
+pub fn put_lines<O: Sink>(out: &mut O, text: &[u8]) -> Result<(), SinkError>
+    ensures whole { OnOk result (Appended text.now (O.written out.old) (O.written out.new)) }
+    ensures part { OnErr result (AppendedPart text.now (O.written out.old) (O.written out.new)) }
+    ensures failed { result ≡ Err SinkError.Failed → Rose (O.faults out.old) (O.faults out.new) }
+    ensures short { result ≡ Err SinkError.NoMemory → Rose (O.shorts out.old) (O.shorts out.new) }
+    ensures faults { O.faults out.old ≤ O.faults out.new }
+    ensures shorts { O.shorts out.old ≤ O.shorts out.new }
+{
+    let mut rest = text;
+    while !rest.is_empty() {
+        let (line, others) = rest.split_at(line_length(rest));
+        match out.put(line) {
+            Ok(()) => rest = others,
+            Err(error) => return Err(error),
+        }
+    }
+    Ok(())
+}
+
+/// A line of the error stream, which takes no memory.
+type Line = ArrayString<64>;
+
+fn push_count(line: &mut Line, count: u32)
+    requires { array_string_len line.old + 10 ≤ 64 }
+    ensures bytes { line.new.bytes ≡ line.old.bytes ++ decimal count }
+    ensures short { array_string_len line.new ≤ array_string_len line.old + 10 }
+{
+    let mut buffer = Buffer::new();
+    line.push_str(buffer.format(count));
+}
+
+fn usage_line(word: u32) -> Line
+    ensures { result.bytes ≡ refusal_line (Refusal.Usage word) }
+{
+    let mut line = Line::new();
+    line.push_str("usage: word ");
+    push_count(&mut line, word);
+    line.push_str("\n");
+    line
+}
+
+fn kind_name(kind: ScriptFault) -> &'static str
+    ensures name { result.now ≡ refusing.kind_name kind }
+    ensures short { length result.now ≤ 20 }
+{
+    match kind {
+        ScriptFault::BadStatement => "BadStatement",
+    }
+}
+
+fn script_line(number: u32, kind: ScriptFault) -> Line
+    ensures { result.bytes ≡ refusal_line (Refusal.Script number kind) }
+{
+    let mut line = Line::new();
+    line.push_str("script: line ");
+    push_count(&mut line, number);
+    line.push_str(" ");
+    line.push_str(kind_name(kind));
+    line.push_str("\n");
+    line
+}
+
+fn plain_line(text: &str) -> Line
+    requires { length text.now ≤ 64 }
+    ensures { result.bytes ≡ text.now }
+{
+    let mut line = Line::new();
+    line.push_str(text);
+    line
+}
+
+/// The line that says why a call gives no output.
+fn line_of(refusal: &Refusal) -> Line
+    ensures { result.bytes ≡ refusal_line refusal.now }
+{
+    match refusal {
+        Refusal::Usage { word } => usage_line(*word),
+        Refusal::Script { line, kind } => script_line(*line, *kind),
+        Refusal::Read => plain_line("read fault\n"),
+        Refusal::Write => plain_line("write fault\n"),
+        Refusal::Memory => plain_line("no memory\n"),
+    }
+}
+
+/// Says on the error stream why a call gives no output. A put that is refused there changes nothing else.
+pub fn say<E: Sink>(err: &mut E, refusal: &Refusal)
+    ensures { Says (refusal_line refusal.now) (E.written err.old) (E.written err.new) (Rose (E.faults err.old) (E.faults err.new) ⊎ Rose (E.shorts err.old) (E.shorts err.new)) }
+{
+    let line = line_of(refusal);
+    let _ = err.put(line.as_bytes());
+}
