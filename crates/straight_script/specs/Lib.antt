@@ -7,3 +7,4 @@ pub mod Said
 pub mod Grammar
 pub mod Reading
 pub mod Faults
+pub mod Rows
