@@ -1,12 +1,12 @@
 -- How a line's pieces follow from its first bytes.
-use Rattle.std.proofs.Common.{◌≡◌, ℕ, zero, suc, ◌<◌, ◌≤◌, Bool, true, false, cond, eqb, List, [], ◌∷◌, ◌++◌, length, drop, take, Option, Some, None, ◌⊎◌, inl, inr, refl, sym, ap, ◌∙◌, append_assoc, arith}
+use Rattle.std.proofs.Common.{◌≡◌, ℕ, zero, suc, Bool, true, false, cond, eqb, List, [], ◌∷◌, ◌++◌, drop, take, Option, Some, None, ◌⊎◌, inl, inr, refl, sym, ap, ◌∙◌, append_assoc, arith}
 use Rattle.std.specs.Prelude.{◌||◌}
 use Rattle.std.specs.List.{prefix_len}
 use Rattle.std.specs.Option.{option_map}
 use Rattle.std.proofs.Math.Numerals.{one-add}
 use Rattle.std.proofs.lemmas.Bool.{eqb-true, cases_Bool, ne_eqb}
 use Rattle.std.proofs.lemmas.Bool.Decides.{nat_tests}
-use Rattle.pct_ask.specs.Characters.{is_blank, is_digit, is_letter, is_word_byte}
+use Rattle.pct_ask.specs.Characters.{is_blank, is_word_byte}
 use Rattle.straight_script.specs.Cutting.{BeginsWithPiece}
 use Rattle.pct_ask.specs.Tokens.{Token, before, joined, pieces_of, token_of, tokens_of_pieces, tokens_of, is_short_symbol, is_long_symbol}
 

@@ -1,13 +1,12 @@
 -- A known text spells its script, and another spells none.
-use Rattle.std.proofs.Common.{◌≡◌, ℕ, ◌≤◌, true, false, List, [], ◌∷◌, length, Option, Some, None, refl, sym, ◌∙◌, arith}
+use Rattle.std.proofs.Common.{◌≡◌, ℕ, ◌≤◌, List, [], ◌∷◌, length, Some, None, refl, sym, ◌∙◌, arith}
 use Rattle.std.specs.Prelude.{codes}
 use Rattle.std.specs.Str.{is_utf8, chars}
 use lib.Utf8.{encode}
 use Rattle.std.proofs.lemmas.List.Elements.{All-nil, All-cons}
 use Rattle.pct_ask.specs.declared.names.NameKind.{NameKind}
 use Rattle.pct_ask.specs.declared.names.NameKind.TheVariants as kinds
-use Rattle.pct_ask.specs.NameLists.{NameLists, AreNames, list_of}
-use Rattle.straight_script.specs.ScriptText.{ScriptText}
+use Rattle.pct_ask.specs.NameLists.{AreNames, list_of}
 use Rattle.straight_script.specs.Grammar.{Spells}
 use Rattle.straight_script.specs.Faults.{SpellsNone}
 use Rattle.straight_script.specs.Reading.{read}

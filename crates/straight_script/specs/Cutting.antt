@@ -1,5 +1,5 @@
 -- How the code's tokens stand for those of the language.
-use Rattle.std.specs.Prelude.{◌≡◌, ℕ, zero, suc, ◌<◌, List, [], ◌∷◌, length, map, take, drop, Bool, false, Option, Some, None}
+use Rattle.std.specs.Prelude.{◌≡◌, ℕ, zero, suc, ◌<◌, List, [], ◌∷◌, length, map, take, drop, false, Some, None}
 use Rattle.std.specs.Option.{option_map}
 use Rattle.pct_ask.specs.Tokens as language
 use Rattle.pct_ask.specs.Characters.{is_blank}

@@ -3,13 +3,12 @@ use Rattle.std.specs.Prelude.{◌≡◌, ℕ, pos, List, [], ◌∷◌, ◌++◌
 use Rattle.std.specs.Str.{is_utf8, chars}
 use lib.Utf8.{encode}
 use Rattle.pct_ask.specs.Lines.{lines_of}
-use Rattle.pct_ask.specs.Tokens.{tokens_of}
 use Rattle.straight_script.specs.declared.script.Operand.TheVariants.{Number, Register}
 use Rattle.straight_script.specs.declared.script.Expression.TheVariants.{Just, Equal}
 use Rattle.straight_script.specs.declared.script.Statement.TheVariants as statements
-use Rattle.straight_script.specs.Forms.{Header, Var, Thread, Read, Write, Assert, form_of}
+use Rattle.straight_script.specs.Forms.{Header, Var, Thread, Read}
 use Rattle.straight_script.specs.ScriptText.{ScriptText}
-use Rattle.straight_script.specs.Said.{said_by, said_by_tokens}
+use Rattle.straight_script.specs.Said.{said_by}
 use Rattle.straight_script.specs.Grammar.{Line, lines_from, all_thread_lines}
 
 -- one thread writes 1 where the other asserts that it reads 0

@@ -14,7 +14,7 @@ use crate::script::{Expression, Operand};
 use crate::token::{Token, are_digits};
 
 /// What a line says.
-#[derive(Clone, Copy, Debug, PartialEq, Eq)]
+#[derive(Clone, Copy)]
 pub enum Form<'a> {
     Header,
     Var { name: &'a [u8], value: i64 },

@@ -120,7 +120,8 @@ fn read_all(alloc: Global, bytes: &[u8]) -> Result<Script, ScriptError>
     read_lines(alloc, bytes)?.ok_or(NO_SCRIPT)
 }
 
-/// The script that a text spells.
+/// The script that a text spells. A text has at most 1,048,576 bytes and 4,096 lines, a line at most 256 bytes
+/// without its LF.
 pub fn parse(alloc: Global, bytes: &[u8]) -> Result<Script, ScriptError>
     ensures found { IfOk result (λ script. Spells bytes.now script) }
     ensures only { (script : ScriptText) → Spells bytes.now script → IfOk result (λ found. found ≡ script) }
@@ -129,7 +130,7 @@ pub fn parse(alloc: Global, bytes: &[u8]) -> Result<Script, ScriptError>
     read_all(alloc, bytes)
 }
 
-/// A law: no text spells two scripts.
+/// A law of the language, and no work: no text spells two scripts.
 pub fn one_script()
     ensures { SpellsOnce }
 {}

@@ -15,7 +15,7 @@ use std::alloc::{AllocError as NoMemory, Global};
 use std::marker::Model;
 
 /// Where the next line stands.
-#[derive(Debug, Drop)]
+#[derive(Drop)]
 pub enum Place {
     /// Before the header.
     Header,
@@ -26,7 +26,7 @@ pub enum Place {
 }
 
 /// The names, first values and whole threads that were read.
-#[derive(Debug, Drop)]
+#[derive(Drop)]
 pub struct Declared {
     names: Names,
     vars: NumberList,
@@ -34,7 +34,7 @@ pub struct Declared {
 }
 
 /// What was read of a script.
-#[derive(Debug, Drop)]
+#[derive(Drop)]
 pub struct Reader {
     declared: Declared,
     place: Place,

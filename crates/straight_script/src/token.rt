@@ -10,7 +10,7 @@ ghost use Rattle.straight_script.specs.Cutting.{seen, all_seen, BeginsPlain, Beg
 use std::alloc::{AllocError as NoMemory, Global};
 
 /// A word, a number or a symbol of a line.
-#[derive(Clone, Copy, Debug, PartialEq, Eq)]
+#[derive(Clone, Copy)]
 pub enum Token<'a> {
     Word(&'a [u8]),
     Number(&'a [u8]),
@@ -111,6 +111,7 @@ fn piece_length(first: u8, after: &[u8]) -> usize
     usize::from(is_short_symbol(first))
 }
 
+/// Whether a text is digits alone.
 pub fn are_digits(text: &[u8]) -> bool
     ensures { result ≡ list_all characters.is_digit text.now }
 {
