@@ -2,8 +2,9 @@
 
 ghost use Rattle.std.specs.Prelude.{◌≡◌, ◌≤◌, Some, IfOk, IfErr, IfSome, OnSome};
 ghost use Rattle.std.specs.Str.{is_utf8};
-ghost use Rattle.straight_script.specs.Cutting.{all_seen};
-ghost use Rattle.straight_script.specs.Said.{sound_line, IsSaid};
+ghost use Rattle.straight_script.specs.Seen.{all_seen};
+ghost use Rattle.straight_script.specs.Said.{sound_line};
+ghost use Rattle.straight_script.specs.Seen.{IsSaid};
 ghost use Rattle.straight_script.specs.Said as said;
 ghost use Rattle.pct_ask.specs.Lines.{lines_of};
 ghost use Rattle.straight_script.specs.Reading.{start, read_from, read};
@@ -124,7 +125,7 @@ fn read_all(alloc: Global, bytes: &[u8]) -> Result<Script, ScriptError>
 /// without its LF.
 pub fn parse(alloc: Global, bytes: &[u8]) -> Result<Script, ScriptError>
     ensures found { IfOk result (λ script. Spells bytes.now script) }
-    ensures only { (script : ScriptText) → Spells bytes.now script → IfOk result (λ found. found ≡ script) }
+    ensures only { (script : ScriptText) → Spells bytes.now script → IfOk result (λ s. s ≡ script) }
     ensures fault { IfErr result (λ error. IsFault error bytes.now) }
 {
     read_all(alloc, bytes)

@@ -3,7 +3,7 @@
 ghost use Rattle.std.specs.Prelude.{◌≡◌, IfOk, IfSome, IsTrue, Some, true, false, length};
 ghost use Rattle.pct_ask.specs.NameLists.{all_names, AreNames};
 ghost use Rattle.pct_ask.specs.Words.{is_name, is_among};
-ghost use Rattle.straight_script.specs.Forms.{seen_form, form_fits};
+ghost use Rattle.straight_script.specs.Seen.{seen_form, form_fits};
 ghost use Rattle.straight_script.specs.Fitting.{line_fits, statement_fits};
 ghost use Rattle.straight_script.specs.Reading.{start, step, finished};
 ghost use Rattle.straight_script.specs.Reading as reading;

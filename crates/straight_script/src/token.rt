@@ -5,7 +5,8 @@ ghost use Rattle.std.specs.List.{prefix_len, list_all};
 ghost use Rattle.std.specs.Option.{option_map};
 ghost use Rattle.pct_ask.specs.Characters as characters;
 ghost use Rattle.pct_ask.specs.Tokens.{pieces_of, tokens_of, token_of as token_in, is_short_symbol as is_short, is_long_symbol as is_long};
-ghost use Rattle.straight_script.specs.Cutting.{seen, all_seen, BeginsPlain, BeginsWithPiece, IsNext};
+ghost use Rattle.straight_script.specs.Cutting.{BeginsPlain, BeginsWithPiece, IsNext};
+ghost use Rattle.straight_script.specs.Seen.{seen, all_seen};
 
 use std::alloc::{AllocError as NoMemory, Global};
 
