@@ -19,7 +19,7 @@ lines_of-cut text i at =
     let first = position-Some (λ b. b == 10) text i 0 at in
     rw add-one (cut-at text i first.0 first.1 first.2)
 
-not-here : (t : Bool) (n m : ℕ) → suc n ≤ cond (not t) (1 + m) 0 → (t ≡ false) × (n ≤ m)
+pub not-here : (t : Bool) (n m : ℕ) → suc n ≤ cond (not t) (1 + m) 0 → (t ≡ false) × (n ≤ m)
 not-here true n m h = absurd (omega arith)
 not-here false n m h = (refl, omega arith)
 
@@ -30,7 +30,7 @@ whole (b ∷ c ∷ bs) h none =
     let here = not-here (b == 10) (suc (length bs)) (position_or_len (λ x. x == 10) (c ∷ bs)) none in
     rw here.0 (ap (λ lines. onto_first b lines) (whole (c ∷ bs) (omega arith) here.1))
 
-none-left : (n m : ℕ) → cond (nat_lt n m) (Some n) None ≡ None → m ≤ n
+pub none-left : (n m : ℕ) → cond (nat_lt n m) (Some n) None ≡ None → m ≤ n
 none-left n m h = grind (arith, nat_tests)
 
 -- a text with no LF is one line

@@ -1,14 +1,17 @@
 -- Facts on the names of a test.
 use Rattle.std.specs.Prelude.{codes, ◌==◌, ◌&&◌, not, nat_le, if◌then◌else◌}
-use Rattle.std.proofs.Common.{◌≡◌, ℕ, ◌<◌, ◌≤◌, Bool, true, false, ◌||◌, List, [], ◌∷◌, ◌++◌, length, refl, sym, ◌∙◌, arith, append_assoc, append-nil, length-append}
-use Rattle.std.specs.List.{All, list_any}
+use Rattle.std.proofs.Common.{◌≡◌, ℕ, ◌<◌, ◌≤◌, Bool, true, false, ◌||◌, List, [], ◌∷◌, ◌++◌, length, get_or, zero, suc, Some, refl, sym, ap, ◌∙◌, ◌+◌, add-zero, arith, append_assoc, append-nil, length-append}
+use Rattle.std.specs.List.{All, list_any, position_from}
+use Rattle.std.proofs.lemmas.List.{take_at}
+use Rattle.std.proofs.lemmas.List.Quantifiers.{position-Some}
+use Rattle.std.proofs.lemmas.Iterator.Adapters.{position_from-zero}
 use Rattle.std.specs.Str.{bytes_eq}
-use Rattle.std.proofs.lemmas.List.Elements.{All-cons, All-head, All-tail}
+use Rattle.std.proofs.lemmas.List.Elements.{All-cons, All-head, All-tail, All-take}
 use Rattle.std.proofs.lemmas.List.Folds.{list_any-append}
 use Rattle.std.proofs.lemmas.Slice.Eq.{bytes_eq-Decides}
 use Rattle.std.proofs.lemmas.Bool.Decides.{same_from_decides, Decides-like}
 use Rattle.pct_ask.specs.Words.{is_word, is_name, is_among, first_keywords, registers}
-use Rattle.pct_ask.specs.NameLists.{NameLists, list_of, all_names, AreDistinct, AreNames}
+use Rattle.pct_ask.specs.NameLists.{NameLists, list_of, all_names, place_of, AreDistinct, AreNames}
 use Rattle.pct_ask.specs.declared.names.NameKind.{NameKind}
 use Rattle.pct_ask.specs.declared.names.NameKind.TheVariants.{Thread, Var, Mutex, Cond, Sem, Barrier, RwLock}
 
@@ -142,3 +145,43 @@ by_version false false word h = among-fewer (bytes_eq word) (is_word word) (not 
 -- a name that is lawful by a later version's keywords is lawful by the first version's
 pub is_name-first : (version : ℕ) (word : List ℕ) → is_name version word ≡ true → is_name 1 word ≡ true
 is_name-first version word h = by_version (nat_le version 1) (version == 2) word h
+
+-- a name that is found stands at its place
+pub place_of-Some : (name : List ℕ) (names : List (List ℕ)) (place : ℕ) → place_of name names ≡ Some place → (place < length names) × (get_or names place [] ≡ name)
+place_of-Some name names place found =
+    let at = position-Some (bytes_eq name) names place [] found in
+    (at.0, sym ((bytes_eq-Decides name (get_or names place [])).0 at.1))
+
+AreDistinct-left : (front back : List (List ℕ)) → AreDistinct (front ++ back) → AreDistinct front
+AreDistinct-left [] back distinct = tt
+AreDistinct-left (name ∷ names) back distinct =
+    (or-false_left _ _ (sym (list_any-append (bytes_eq name) names back) ∙ distinct.0), AreDistinct-left names back distinct.1)
+
+not-at : (name : List ℕ) (names : List (List ℕ)) (k : ℕ) → is_among name names ≡ false → k < length names → bytes_eq name (get_or names k []) ≡ false
+not-at name [] k fresh h = absurd (omega arith)
+not-at name (other ∷ others) zero fresh h = or-false_left _ _ fresh
+not-at name (other ∷ others) (suc k) fresh h = not-at name others k (or-false_right (bytes_eq name other) _ fresh) (omega arith)
+
+found-at : (names : List (List ℕ)) (k i : ℕ) → k < length names → AreDistinct names → position_from (bytes_eq (get_or names k [])) i names ≡ Some (i + k)
+found-at [] k i h distinct = absurd (omega arith)
+found-at (name ∷ names) zero i h distinct =
+    let same : bytes_eq name name ≡ true = (bytes_eq-Decides name name).1 refl in rw (same, add-zero)
+found-at (name ∷ names) (suc k) i h distinct =
+    let other : bytes_eq (get_or names k []) name ≡ false = bytes_eq-sym (get_or names k []) name ∙ not-at name names k distinct.0 (omega arith) in
+    let later : i + 1 + k ≡ i + suc k = omega arith in
+    rw other (found-at names k (i + 1) (omega arith) distinct.1 ∙ ap (λ n. Some n) later)
+
+-- the name at a thread's place is found there
+pub place_of-thread : (names : NameLists) (thread : ℕ) → AreNames names → thread < length names.threads → place_of (get_or names.threads thread []) names.threads ≡ Some thread
+place_of-thread names thread sound h =
+    let zero_more : 0 + thread ≡ thread = omega arith in
+    position_from-zero (bytes_eq (get_or names.threads thread [])) names.threads
+    ∙ found-at names.threads thread 0 h (AreDistinct-left names.threads (back_of Thread names) sound.distinct)
+    ∙ ap (λ n. Some n) zero_more
+
+-- each thread's name is lawful
+pub thread-lawful : (names : NameLists) (thread : ℕ) → AreNames names → thread < length names.threads → is_name 1 (get_or names.threads thread []) ≡ true
+thread-lawful names thread sound h =
+    let IsLawful = λ (word : List ℕ). is_name 1 word ≡ true in
+    let all : All IsLawful names.threads = rw take_at at (All-take IsLawful (length names.threads) (all_names names) sound.lawful) in
+    all thread [] h

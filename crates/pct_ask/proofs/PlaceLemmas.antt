@@ -31,7 +31,7 @@ line_of-places thread first (suc k) (Some line ∷ lines) e =
     rw apart (line_of-places thread (first + 1) k lines (omega arith))
 
 -- one more number before rising ones
-increasing-cons : (x : ℕ) (xs : List ℕ) → (0 < length xs → x < get_or xs 0 0) → IsStrictlyIncreasing xs → IsStrictlyIncreasing (x ∷ xs)
+pub increasing-cons : (x : ℕ) (xs : List ℕ) → (0 < length xs → x < get_or xs 0 0) → IsStrictlyIncreasing xs → IsStrictlyIncreasing (x ∷ xs)
 increasing-cons x xs first rising zero h = first (omega arith)
 increasing-cons x xs first rising (suc k) h =
     let later = rw add-one at (rising k (omega arith)) in rw add-one later

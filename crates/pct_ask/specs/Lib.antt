@@ -7,5 +7,9 @@ pub mod Rows
 pub mod NameLists
 pub mod Numbers
 pub mod VerdictText
+pub mod VerdictPieces
+pub mod VerdictWords
+pub mod VerdictRead
 pub mod Places
 pub mod PlaceLaws
+pub mod TraceText

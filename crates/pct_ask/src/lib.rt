@@ -11,6 +11,8 @@ mod names;
 mod number;
 mod sequence;
 mod verdict;
+mod verdict_text;
+mod verdict_words;
 mod words;
 
 pub use ask::{Ask, FaultKind, Post};
@@ -23,4 +25,5 @@ pub use names::{NameKind, Names};
 pub use number::{read_number, write_number};
 pub use sequence::{NumberList, OrderList, PointList, Sequence};
 pub use verdict::{MisuseKind, Outcome, Verdict};
+pub use verdict_text::{VerdictRead, read_verdict, write_verdict};
 pub use words::is_lawful_name;

@@ -8,6 +8,7 @@ use std::alloc::AllocError as NoMemory;
 /// The number that a canonical decimal spells. `None` where the text is no canonical decimal, or one outside i128.
 pub fn read_number(text: &[u8]) -> Option<i128>
     ensures spelled { IfSome result (λ number. text.now ≡ number_text number) }
+    ensures fits { IfSome result (λ number. FitsSigned w128 number) }
     ensures every { (number : ℤ) → FitsSigned w128 number → text.now ≡ number_text number → result ≡ Some number }
 {
     let Ok(digits) = str::from_utf8(text) else {

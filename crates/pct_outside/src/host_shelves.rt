@@ -72,7 +72,8 @@ fn read_file<R: Files + AllocGlobal>(rt: &R, name: &str, most: u64) -> Result<Ve
 /// Reads to the end of the reader, which is where a read gives no bytes, or until there are so many.
 fn read_first<F: Read>(alloc: Global, file: &mut F, most: u64) -> Result<Vec<u8>, ShelfError>
     ensures most { IfOk result (λ bytes. vec_len bytes ≤ most) }
-    ensures first { IfOk result (λ bytes. IfSome (F.remaining file.old) (λ known. FirstBytes most known bytes.items)) }
+    ensures first { IfOk result (λ bytes.
+        IfSome (F.remaining file.old) (λ known. FirstBytes most known bytes.items)) }
 {
     let mut bytes = Vec::new(alloc);
     let mut chunk = [0; CHUNK];

@@ -65,8 +65,10 @@ impl<W: Write + Drop> Sink for HostSink<W> {
 
     fn put(&mut self, piece: &[u8]) -> Result<(), SinkError>
         // What the stream holds, where it is one that tells it.
-        ensures appends { OnOk result (Appends (W.contents self.old.stream) (W.contents self.new.stream) piece.now) }
-        ensures appends_part { OnErr result (AppendsPart (W.contents self.old.stream) (W.contents self.new.stream) piece.now) }
+        ensures appends { OnOk result
+            (Appends (W.contents self.old.stream) (W.contents self.new.stream) piece.now) }
+        ensures appends_part { OnErr result
+            (AppendsPart (W.contents self.old.stream) (W.contents self.new.stream) piece.now) }
 
         // Each error is counted once.
         ensures counted { self.new.faults ≡ faults_after self.old.faults result }
@@ -91,7 +93,8 @@ impl<W: Write + Drop> Sink for HostSink<W> {
 /// Writes the piece whole. A write that takes nothing of it is a fault.
 fn write_whole<W: Write>(stream: &mut W, piece: &[u8]) -> Result<(), SinkError>
     ensures whole { OnOk result (Appends (W.contents stream.old) (W.contents stream.new) piece.now) }
-    ensures part { OnErr result (AppendsPart (W.contents stream.old) (W.contents stream.new) piece.now) }
+    ensures part { OnErr result
+        (AppendsPart (W.contents stream.old) (W.contents stream.new) piece.now) }
 {
     let mut rest = piece;
     for _ in 0..u64::MAX {

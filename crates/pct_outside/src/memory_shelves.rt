@@ -84,7 +84,12 @@ impl Model for MemoryShelf {
 
     ghost coded = { coded_shelf };
 
-    ghost view = { λ s. record { files = s.files; failed = texts_of s.failed.items; fails = s.calls.fails.items; calls = s.calls.count } };
+    ghost view = { λ s. record {
+      files = s.files;
+      failed = texts_of s.failed.items;
+      fails = s.calls.fails.items;
+      calls = s.calls.count;
+    } };
 }
 
 impl MemoryShelf {
@@ -125,7 +130,8 @@ impl Shelf for MemoryShelf {
 
         // As of every shelf.
         ensures most { IfOk result (λ bytes. vec_len bytes ≤ most) }
-        ensures first { IfOk result (λ bytes. FirstBytes most (bytes_of self.old.files name.now) bytes.items) }
+        ensures first { IfOk result (λ bytes.
+            FirstBytes most (bytes_of self.old.files name.now) bytes.items) }
         ensures files { self.new.files ≡ self.old.files }
         ensures failed { (self.new.failed ≡ self.old.failed)
             ⊎ (self.new.failed ≡ with_name self.old.failed name.now) }

@@ -1,7 +1,6 @@
 //! Sinks in memory.
-ghost use Rattle.std.specs.Prelude.{◌≡◌, [], ◌≤◌, ◌≢◌, OnOk, OnErr};
+ghost use Rattle.std.specs.Prelude.{◌≡◌, [], ◌≤◌, ◌≢◌};
 ghost use Rattle.pct_outside.specs.Counter.{Rose, is_next};
-ghost use Rattle.pct_outside.specs.Piece.{Appended, AppendedPart};
 ghost use Rattle.pct_outside.specs.SinkState.{after_put, written_after, shorts_after, FailsExactly};
 
 use crate::calls::Calls;
@@ -23,7 +22,13 @@ impl Model for MemorySink {
 
     ghost Value = { SinkState };
 
-    ghost view = { λ s. record { written = s.bytes.items; faults = s.faults; shorts = s.shorts; fails = s.calls.fails.items; calls = s.calls.count } };
+    ghost view = { λ s. record {
+      written = s.bytes.items;
+      faults = s.faults;
+      shorts = s.shorts;
+      fails = s.calls.fails.items;
+      calls = s.calls.count;
+    } };
 }
 
 impl MemorySink {
@@ -62,8 +67,6 @@ impl Sink for MemorySink {
         ensures after { self.new ≡ after_put self.old piece.now result }
 
         // As of every sink.
-        ensures whole { OnOk result (Appended piece.now (Some self.old.written) (Some self.new.written)) }
-        ensures part { OnErr result (AppendedPart piece.now (Some self.old.written) (Some self.new.written)) }
         ensures failed { result ≡ Err SinkError.Failed → Rose self.old.faults self.new.faults }
         ensures short { result ≡ Err SinkError.NoMemory → Rose self.old.shorts self.new.shorts }
         ensures faults { self.old.faults ≤ self.new.faults }
@@ -130,8 +133,6 @@ impl Sink for SureSink {
         ensures sure { result ≢ Err SinkError.Failed }
 
         // As of every sink.
-        ensures whole { OnOk result (Appended piece.now (Some self.old.written) (Some self.new.written)) }
-        ensures part { OnErr result (AppendedPart piece.now (Some self.old.written) (Some self.new.written)) }
         ensures short { result ≡ Err SinkError.NoMemory → Rose self.old.shorts self.new.shorts }
         ensures shorts { self.old.shorts ≤ self.new.shorts }
     {

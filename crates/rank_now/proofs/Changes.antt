@@ -63,7 +63,8 @@ module _ (schedule : List ℕ) (thread : ℕ) where
   own_steps-earlier : (other step : ℕ) → step ≤ length schedule → own_steps after other step ≡ own_steps schedule other step
   own_steps-earlier other step within = ap (count_by (λ taker. eqb taker other)) (take-append-le step schedule (thread ∷ []) within)
 
-  own_steps-last : own_steps after thread (suc (length schedule)) ≡ count_by (λ taker. eqb taker thread) schedule + 1
+  -- the step that the thread has just taken is its own step of the next number
+  pub own_steps-last : own_steps after thread (suc (length schedule)) ≡ count_by (λ taker. eqb taker thread) schedule + 1
   own_steps-last =
       let one : cond (eqb thread thread) (suc zero) zero ≡ suc zero = ap (λ b. cond b (suc zero) zero) (eq-eqb thread thread refl) in
       ap (count_by (λ taker. eqb taker thread)) (take_all (suc (length schedule)) after (omega (arith, length_push schedule thread))) ∙ sum_by_push (λ taker. cond (eqb taker thread) 1 0) schedule thread ∙ ap (λ x. count_by (λ taker. eqb taker thread) schedule + x) one

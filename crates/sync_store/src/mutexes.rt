@@ -38,6 +38,13 @@ impl Mutexes {
         self.owners[mutex as usize].is_none()
     }
 
+    pub(crate) fn is_owner(&self, mutex: u32, thread: u32) -> bool
+        requires { mutex < length self.now }
+        ensures { result ≡ is_thread thread (slice_index_or self.now mutex None) }
+    {
+        self.owners[mutex as usize] == Some(thread)
+    }
+
     /// The thread takes a mutex, which nobody owns.
     pub(crate) fn lock(&mut self, mutex: u32, thread: u32)
         requires { mutex < length self.old }
@@ -52,12 +59,11 @@ impl Mutexes {
         ensures owner { result ≡ is_thread thread (slice_index_or self.old mutex None) }
         ensures owners { self.new ≡ (if result then slice_set self.old mutex None else self.old) }
     {
-        if self.owners[mutex as usize] == Some(thread) {
+        let owner = self.is_owner(mutex, thread);
+        if owner {
             self.owners[mutex as usize] = None;
-            true
-        } else {
-            false
         }
+        owner
     }
 }
 

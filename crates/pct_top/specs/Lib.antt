@@ -1,0 +1,8 @@
+pub mod Settings
+pub mod World
+pub mod Run
+pub mod Posts
+pub mod StraightRun
+pub mod Straight
+pub mod Spaced
+pub mod Rows
