@@ -99,6 +99,18 @@ fn script_has_its_values(rt: HostRuntime) -> Result<(), Fail> {
 }
 
 #[test]
+fn errors_are_printed(rt: HostRuntime) -> Result<(), Fail> {
+    let kind = ScriptFault::BadStatement;
+    for (error, want) in [
+        (ScriptError::Bad { line: 1, kind }, "line 1: BadStatement"),
+        (ScriptError::NoMemory, "no memory"),
+    ] {
+        assert_eq!(rt; format!(in rt.alloc(); "{error}")?.as_str(), want);
+    }
+    Ok(())
+}
+
+#[test]
 fn texts_are_told_apart(rt: HostRuntime) {
     for (text, want) in [
         ("script 1\r\nthread A\r\nend\r\n", true),
