@@ -48,10 +48,6 @@ pub distinct_back : (xs ys : List (List ℕ)) → AreDistinct (xs ++ ys) → Are
 distinct_back [] ys h = h
 distinct_back (x ∷ xs) ys h = distinct_back xs ys h.1
 
-pub distinct_front : (xs ys : List (List ℕ)) → AreDistinct (xs ++ ys) → AreDistinct xs
-distinct_front [] ys h = tt
-distinct_front (x ∷ xs) ys h = ((among_parts x xs ys h.0).0, distinct_front xs ys h.1)
-
 pub all_back : (P : List ℕ → Type 0) (xs ys : List (List ℕ)) → All P (xs ++ ys) → All P ys
 all_back P [] ys h = h
 all_back P (x ∷ xs) ys h = all_back P xs ys (All-tail P x (xs ++ ys) h)

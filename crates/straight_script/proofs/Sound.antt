@@ -90,10 +90,6 @@ empty_is : {X : Type 0} (xs : List X) → is_empty xs ≡ true → xs ≡ []
 empty_is [] e = refl
 empty_is (x ∷ xs) e = absurd cc
 
-filled_is : {X : Type 0} (xs : List X) → cond (is_empty xs) (false) true ≡ true → is_empty xs ≡ false
-filled_is [] e = absurd cc
-filled_is (x ∷ xs) e = refl
-
 place_name : (name : List ℕ) (vars : List (List ℕ)) (var : ℕ) → place_of name vars ≡ Some var → var_name vars var ≡ name
 place_name name vars var e = sym ((bytes_eq-Decides name (slice_index_or vars var [])).0 (position-Some (bytes_eq name) vars var [] e).1)
 
