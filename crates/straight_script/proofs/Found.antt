@@ -1,6 +1,6 @@
 -- A text that is read as a script spells it.
-use Rattle.std.proofs.Common.{◌≡◌, ℕ, ◌+◌, ◌≤◌, Bool, true, false, cond, leb, List, [], ◌∷◌, ◌++◌, length, map, Option, Some, None, refl, sym, ap, ◌∙◌, append_assoc, arith, subst}
-use Rattle.std.specs.Prelude.{◌&&◌, nat_le, Result, Ok, Err, IfOk, IfErr}
+use Rattle.std.proofs.Common.{◌≡◌, ℕ, ◌+◌, ◌≤◌, Bool, true, false, cond, List, [], ◌∷◌, ◌++◌, length, map, Option, Some, None, refl, sym, ap, ◌∙◌, append_assoc, arith, subst}
+use Rattle.std.specs.Prelude.{nat_le, Result, Ok, Err, IfOk, IfErr}
 use Rattle.std.specs.Option.{option_map, option_and_then}
 use Rattle.std.proofs.lemmas.List.{append-nil}
 use Rattle.std.proofs.lemmas.Bool.{and_parts, leb-true}
@@ -17,9 +17,9 @@ use Rattle.straight_script.specs.ScriptText.{ScriptText, IsShaped}
 use Rattle.straight_script.specs.Part.{Part}
 use Rattle.straight_script.specs.Said.{said_by}
 use Rattle.straight_script.specs.Grammar.{Line, declarations, all_thread_lines, line_before, lines_from, HasOnlyVars, Spells}
-use Rattle.straight_script.specs.Reading.{start, step, finished, finished_at, is_empty, read_said, read_line, read_from, read}
+use Rattle.straight_script.specs.Reading.{start, finished_at, is_empty, read_said, read_line, read_from, read}
 use Rattle.straight_script.proofs.Whole.{read-Spells, some_script}
-use Rattle.straight_script.proofs.Sound.{IsTop, HasReadOutside, HasReadAt, HasRead, HasRead-step, some_is}
+use Rattle.straight_script.proofs.Sound.{HasReadAt, HasRead, HasRead-step, some_is}
 
 -- the lines are those of the script
 pub record AreLines (lines : List Line) (script : ScriptText) : Type 0 where

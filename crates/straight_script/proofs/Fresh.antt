@@ -1,5 +1,5 @@
 -- Names that are new where they are declared, and stand at one place.
-use Rattle.std.proofs.Common.{◌≡◌, ℕ, zero, suc, ◌+◌, ◌<◌, Bool, true, false, cond, ltb, get_or, List, [], ◌∷◌, ◌++◌, length, Some, refl, sym, ap, ◌∙◌, arith}
+use Rattle.std.proofs.Common.{◌≡◌, ℕ, zero, suc, ◌<◌, Bool, true, false, get_or, List, [], ◌∷◌, ◌++◌, length, Some, refl, sym, ap, ◌∙◌, arith}
 use Rattle.std.specs.Prelude.{◌||◌, not}
 use Rattle.std.specs.List.{All, prefix_len}
 use Rattle.std.specs.Str.{bytes_eq}
@@ -47,10 +47,6 @@ apart (x ∷ xs) ys name h =
 pub distinct_back : (xs ys : List (List ℕ)) → AreDistinct (xs ++ ys) → AreDistinct ys
 distinct_back [] ys h = h
 distinct_back (x ∷ xs) ys h = distinct_back xs ys h.1
-
-pub distinct_front : (xs ys : List (List ℕ)) → AreDistinct (xs ++ ys) → AreDistinct xs
-distinct_front [] ys h = tt
-distinct_front (x ∷ xs) ys h = ((among_parts x xs ys h.0).0, distinct_front xs ys h.1)
 
 pub all_back : (P : List ℕ → Type 0) (xs ys : List (List ℕ)) → All P (xs ++ ys) → All P ys
 all_back P [] ys h = h

@@ -4,3 +4,4 @@ pub mod Sound
 pub mod Found
 pub mod Fresh
 pub mod Whole
+pub mod Rows

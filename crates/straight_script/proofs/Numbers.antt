@@ -1,5 +1,5 @@
 -- What `parse` reads is what digits stand for.
-use Rattle.std.proofs.Common.{◌≡◌, ℕ, zero, suc, ◌+◌, ◌^◌, ◌<◌, ◌≤◌, Bool, true, false, cond, ltb, List, [], ◌∷◌, length, Option, Some, None, Result, Ok, Err, inl, inr, refl, ◌∙◌, arith, rules}
+use Rattle.std.proofs.Common.{◌≡◌, ℕ, zero, suc, ◌^◌, ◌<◌, ◌≤◌, true, cond, ltb, List, [], ◌∷◌, length, Some, None, Result, Ok, Err, inl, inr, refl, ◌∙◌, arith, rules}
 use Rattle.std.specs.Prelude.{ℤ, pos, slice_index}
 use Rattle.std.specs.Int.{w64}
 use Rattle.std.specs.List.{list_all}

@@ -1,30 +1,13 @@
 -- How a line's pieces follow from its first bytes.
-use Rattle.std.proofs.Common.{◌≡◌, ℕ, zero, suc, ◌<◌, ◌≤◌, Bool, true, false, cond, eqb, List, [], ◌∷◌, ◌++◌, length, drop, take, Option, Some, None, ◌⊎◌, inl, inr, refl, sym, ap, ◌∙◌, append_assoc, arith}
-use Rattle.std.specs.Prelude.{◌||◌}
+use Rattle.std.proofs.Common.{◌≡◌, ℕ, zero, suc, true, false, cond, eqb, List, [], ◌∷◌, ◌++◌, drop, take, Option, Some, None, inl, inr, refl, sym, ap, ◌∙◌, append_assoc, arith}
 use Rattle.std.specs.List.{prefix_len}
 use Rattle.std.specs.Option.{option_map}
 use Rattle.std.proofs.Math.Numerals.{one-add}
-use Rattle.std.proofs.lemmas.Bool.{eqb-true, cases_Bool, ne_eqb}
+use Rattle.std.proofs.lemmas.Bool.{cases_Bool}
 use Rattle.std.proofs.lemmas.Bool.Decides.{nat_tests}
-use Rattle.pct_ask.specs.Characters.{is_blank, is_digit, is_letter, is_word_byte}
+use Rattle.pct_ask.specs.Characters.{is_blank, is_word_byte}
 use Rattle.straight_script.specs.Cutting.{BeginsWithPiece}
-use Rattle.pct_ask.specs.Tokens.{Token, before, joined, pieces_of, token_of, tokens_of_pieces, tokens_of, is_short_symbol, is_long_symbol}
-
-pub either_true : (x y : Bool) → (x || y) ≡ true → (x ≡ true) ⊎ (y ≡ true)
-either_true true y h = inl refl
-either_true false y h = inr h
-
-pub blank_cases : (b : ℕ) → is_blank b ≡ true → (b ≡ 32) ⊎ ((b ≡ 9) ⊎ (b ≡ 13))
-blank_cases b h =
-    elim (either_true (eqb b 32 || eqb b 9) (eqb b 13) h) [
-      | inl h ↦ elim (either_true (eqb b 32) (eqb b 9) h) [ inl e ↦ inl (eqb-true _ _ e) | inr e ↦ inr (inl (eqb-true _ _ e)) ]
-      | inr e ↦ inr (inr (eqb-true _ _ e))
-    ]
-
--- a blank at the front changes nothing
-pub pieces_of-blank : (b : ℕ) (bs : List ℕ) → is_blank b ≡ true → pieces_of (b ∷ bs) ≡ pieces_of bs
-pieces_of-blank b [] h = elim (blank_cases b h) [ inl e ↦ rw e refl | inr d ↦ elim d [ inl e ↦ rw e refl | inr e ↦ rw e refl ] ]
-pieces_of-blank b (c ∷ bs) h = elim (blank_cases b h) [ inl e ↦ rw e refl | inr d ↦ elim d [ inl e ↦ rw e refl | inr e ↦ rw e refl ] ]
+use Rattle.pct_ask.specs.Tokens.{Token, before, joined, pieces_of, token_of, tokens_of_pieces, tokens_of}
 
 -- what a letter or a digit isn't
 pub word_byte_is_plain : (b : ℕ) → is_word_byte b ≡ true → (eqb b 35 ≡ false) × (is_blank b ≡ false)
@@ -57,16 +40,6 @@ with_front front tokens = option_map (λ others. front ++ others) tokens
 pub with_front-push : (front : List Token) (token : Token) (tokens : Option (List Token)) → with_front front (option_map (λ others. token ∷ others) tokens) ≡ with_front (front ++ token ∷ []) tokens
 with_front-push front token None = refl
 with_front-push front token (Some tokens) = ap (λ (ts : List Token). Some ts) (sym (append_assoc front (token ∷ []) tokens))
-
--- the pieces of a text that begins with a symbol
-abbrev pub symbol_then : ℕ → List ℕ → Option (List (List ℕ))
-symbol_then b [] = cond (is_short_symbol b) (Some ((b ∷ []) ∷ [])) None
-symbol_then b (c ∷ bs) = cond (is_long_symbol b c) (before (b ∷ c ∷ []) (pieces_of bs)) (cond (is_short_symbol b) (before (b ∷ []) (pieces_of (c ∷ bs))) None)
-
--- a symbol is a piece, the longer one where there are two
-pub pieces_of-symbol : (b : ℕ) (bs : List ℕ) → is_blank b ≡ false → (b ≡ 35 → ⊥) → is_word_byte b ≡ false → pieces_of (b ∷ bs) ≡ symbol_then b bs
-pieces_of-symbol b [] blank comment word = rw (ne_eqb b 35 comment, blank, word) refl
-pieces_of-symbol b (c ∷ bs) blank comment word = rw (ne_eqb b 35 comment, blank, word) refl
 
 pub piece_at : (n : ℕ) (text : List ℕ) → (n ≡ 0 → ⊥) → BeginsWithPiece n text → pieces_of text ≡ before (take n text) (pieces_of (drop n text))
 piece_at zero text some h = absurd (some refl)

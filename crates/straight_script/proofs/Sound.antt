@@ -1,8 +1,8 @@
 -- What is read is spelled so.
-use Rattle.std.proofs.Common.{◌≡◌, ℕ, zero, suc, ◌+◌, ◌≤◌, Bool, true, false, cond, nat_lt, List, [], ◌∷◌, ◌++◌, length, map, Option, Some, None, refl, sym, ap, ◌∙◌, append_assoc, arith, subst}
+use Rattle.std.proofs.Common.{◌≡◌, ℕ, Bool, true, false, cond, nat_lt, List, [], ◌∷◌, ◌++◌, length, map, Option, Some, None, refl, sym, ap, ◌∙◌, append_assoc, arith, subst}
 use Rattle.std.specs.Prelude.{ℤ, ◌&&◌, slice_index_or}
-use Rattle.std.specs.Option.{option_map, option_and_then}
-use Rattle.std.proofs.lemmas.List.{append-nil, map_push, length_push, map-append}
+use Rattle.std.specs.Option.{option_map}
+use Rattle.std.proofs.lemmas.List.{append-nil, map_push, length_push}
 use Rattle.std.proofs.lemmas.Bool.{and_parts}
 use Rattle.std.proofs.lemmas.List.Quantifiers.{position-Some}
 use Rattle.std.proofs.lemmas.Slice.Eq.{bytes_eq-Decides}
@@ -15,10 +15,9 @@ use Rattle.straight_script.specs.declared.script.ThreadText.{ThreadText}
 use Rattle.straight_script.specs.declared.reader.Place.{Place}
 use Rattle.straight_script.specs.declared.reader.Place.TheVariants as places
 use Rattle.straight_script.specs.Forms.{Form, Header, Var, Thread, Read, Write, Assert, End}
-use Rattle.straight_script.specs.ScriptText.{ScriptText}
 use Rattle.straight_script.specs.Part.{Part}
 use Rattle.straight_script.specs.Grammar.{Line, declarations, var_name, statement_line, thread_lines, all_thread_lines, HasOnlyVars}
-use Rattle.straight_script.specs.Reading.{with_var, with_thread, statement_on, with_statement, ended, is_empty, is_new, step, step_at, finished, finished_at}
+use Rattle.straight_script.specs.Reading.{with_var, with_thread, statement_on, with_statement, ended, is_empty, is_new, step, step_at}
 
 -- what holds of a part at each place
 pub record IsTop (part : Part) (top : List Line) : Type 0 where
@@ -90,10 +89,6 @@ all_thread_lines_push (u ∷ us) vars (n ∷ ns) t name same =
 empty_is : {X : Type 0} (xs : List X) → is_empty xs ≡ true → xs ≡ []
 empty_is [] e = refl
 empty_is (x ∷ xs) e = absurd cc
-
-filled_is : {X : Type 0} (xs : List X) → cond (is_empty xs) (false) true ≡ true → is_empty xs ≡ false
-filled_is [] e = absurd cc
-filled_is (x ∷ xs) e = refl
 
 place_name : (name : List ℕ) (vars : List (List ℕ)) (var : ℕ) → place_of name vars ≡ Some var → var_name vars var ≡ name
 place_name name vars var e = sym ((bytes_eq-Decides name (slice_index_or vars var [])).0 (position-Some (bytes_eq name) vars var [] e).1)

@@ -1,30 +1,28 @@
 -- A text that spells a script is read as that script.
-use Rattle.std.proofs.Common.{◌≡◌, ℕ, ◌+◌, ◌<◌, ◌≤◌, Bool, true, false, cond, List, [], ◌∷◌, ◌++◌, length, map, Option, Some, None, refl, sym, ap, ◌∙◌, append_assoc, arith}
-use Rattle.std.specs.Prelude.{ℤ, ◌&&◌, nat_le, nat_lt}
+use Rattle.std.proofs.Common.{◌≡◌, ℕ, ◌+◌, ◌<◌, ◌≤◌, true, false, List, [], ◌∷◌, ◌++◌, length, map, Option, Some, None, refl, sym, ap, ◌∙◌, append_assoc, arith}
+use Rattle.std.specs.Prelude.{ℤ, ◌&&◌, nat_lt}
 use Rattle.std.specs.List.{All, list_all}
 use Rattle.std.specs.Option.{option_map, option_and_then}
 use Rattle.std.proofs.lemmas.List.{append-nil, length_push}
 use Rattle.std.proofs.lemmas.List.Elements.{All-head, All-tail}
 use Rattle.std.proofs.lemmas.Bool.{and_parts, lt-ltb, le-leb, ltb-true}
-use Rattle.std.proofs.lemmas.Bool.Decides.{nat_tests}
 use Rattle.pct_ask.specs.Lines.{lines_of}
-use Rattle.pct_ask.specs.NameLists.{NameLists, AreDistinct, AreNames, all_names}
+use Rattle.pct_ask.specs.NameLists.{NameLists, AreDistinct, all_names}
 use Rattle.pct_ask.specs.Words.{is_among}
 use Rattle.pct_ask.specs.declared.names.NameKind.TheVariants as kinds
 use Rattle.straight_script.specs.declared.script.Statement.{Statement}
 use Rattle.straight_script.specs.declared.script.Statement.TheVariants as statements
 use Rattle.straight_script.specs.declared.script.ThreadText.{ThreadText}
-use Rattle.straight_script.specs.declared.reader.Place.{Place}
 use Rattle.straight_script.specs.declared.reader.Place.TheVariants as places
 use Rattle.straight_script.specs.Fitting.{line_fits, statement_fits, body_fits, thread_fits, expression_fits}
-use Rattle.straight_script.specs.Forms.{Form, Header, Var, Thread, Read, Write, Assert, End}
+use Rattle.straight_script.specs.Forms.{Form, Header, Var, Thread, End}
 use Rattle.straight_script.specs.ScriptText.{ScriptText}
 use Rattle.straight_script.specs.Part.{Part}
 use Rattle.straight_script.specs.Said.{said_by}
-use Rattle.straight_script.specs.Grammar.{Line, declarations, var_name, statement_line, thread_lines, all_thread_lines, line_before, lines_from, HasOnlyVars, Spells}
-use Rattle.straight_script.specs.Reading.{start, step, finished, is_empty, is_new, statement_on, with_statement, read_said, read_from, read}
+use Rattle.straight_script.specs.Grammar.{Line, declarations, statement_line, thread_lines, all_thread_lines, line_before, lines_from, HasOnlyVars, Spells}
+use Rattle.straight_script.specs.Reading.{start, step, finished, is_new, statement_on, with_statement, read_said, read_from, read}
 use Rattle.straight_script.proofs.Sound.{mapped_some, some_is}
-use Rattle.straight_script.proofs.Fresh.{IsLawful, among_parts, among-append, apart, distinct_back, distinct_front, all_back, all_front, place_at}
+use Rattle.straight_script.proofs.Fresh.{IsLawful, among_parts, among-append, apart, distinct_back, all_back, all_front, place_at}
 
 -- the script after these lines
 abbrev taken : Part → List Line → Option ScriptText

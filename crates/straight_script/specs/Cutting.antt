@@ -1,22 +1,11 @@
--- How the code's tokens stand for those of the language.
-use Rattle.std.specs.Prelude.{◌≡◌, ℕ, zero, suc, ◌<◌, List, [], ◌∷◌, length, map, take, drop, Bool, false, Option, Some, None}
+-- What is known while a line is cut into tokens.
+use Rattle.std.specs.Prelude.{◌≡◌, ℕ, zero, suc, ◌<◌, List, [], ◌∷◌, length, take, drop, false, Some, None}
 use Rattle.std.specs.Option.{option_map}
-use Rattle.pct_ask.specs.Tokens as language
 use Rattle.pct_ask.specs.Characters.{is_blank}
 use Rattle.pct_ask.specs.Tokens.{before, pieces_of, tokens_of}
+use Rattle.straight_script.specs.Seen.{seen}
 use Rattle.straight_script.specs.declared.token.Next.{Next}
 use Rattle.straight_script.specs.declared.token.Next.TheVariants as next
-use Rattle.straight_script.specs.declared.token.Token.{Token}
-use Rattle.straight_script.specs.declared.token.Token.TheVariants.{Word, Number, Symbol}
-
--- a token without where it lies in memory
-abbrev pub seen : Token → language.Token
-seen (Word letters) = language.Word letters.now
-seen (Number digits) = language.Number digits.now
-seen (Symbol signs) = language.Symbol signs.now
-
-abbrev pub all_seen : List Token → List language.Token
-all_seen tokens = map seen tokens
 
 -- the text begins with no blank
 abbrev pub BeginsPlain : List ℕ → Type 0

@@ -1,19 +1,17 @@
 -- The forms that a line may have, as cases on its tokens.
-use Rattle.std.specs.Prelude.{ℕ, ℤ, pos, ◌+◌, ◌-◌, ◌^◌, ◌&&◌, ◌==◌, Bool, true, nat_le, nat_lt, if◌then◌else◌, List, [], ◌∷◌, Option, Some, None, codes}
+use Rattle.std.specs.Prelude.{ℕ, ℤ, pos, ◌+◌, ◌-◌, ◌^◌, ◌&&◌, ◌==◌, nat_le, nat_lt, if◌then◌else◌, List, [], ◌∷◌, Option, Some, None, codes}
 use Rattle.std.specs.List.{list_all}
 use Rattle.std.specs.Option.{option_map, option_and_then}
 use Rattle.std.specs.Str.{bytes_eq}
 use Rattle.std.specs.Str.Parse.{digits_value}
 use Rattle.pct_ask.specs.Characters.{is_digit}
 use Rattle.pct_ask.specs.Tokens.{Token, Word, Number, Symbol}
-use Rattle.straight_script.specs.Fitting.{expression_fits}
 use Rattle.straight_script.specs.declared.script.Operand.{Operand}
 use Rattle.straight_script.specs.declared.script.Operand.TheVariants as operands
 use Rattle.straight_script.specs.declared.script.Expression.{Expression}
 use Rattle.straight_script.specs.declared.script.Expression.TheVariants.{Just, Equal}
-use Rattle.straight_script.specs.declared.form.Form.{Form as CodeForm}
-use Rattle.straight_script.specs.declared.form.Form.TheVariants as code
 
+-- what a line says
 pub data Form : Type 0 where
   Header : Form
   Var : (name : List ℕ) (value : ℤ) → Form
@@ -22,26 +20,6 @@ pub data Form : Type 0 where
   Write : (var : List ℕ) (value : Expression) → Form
   Assert : (test : Expression) → Form
   End : Form
-
--- a form without where its names lie in memory
-abbrev pub seen_form : CodeForm → Form
-seen_form code.Header = Header
-seen_form (code.Var name value) = Var name.now value
-seen_form (code.Thread name) = Thread name.now
-seen_form (code.Read register var) = Read register var.now
-seen_form (code.Write var value) = Write var.now value
-seen_form (code.Assert test) = Assert test
-seen_form code.End = End
-
--- a form names registers that there are
-abbrev pub form_fits : Form → Bool
-form_fits Header = true
-form_fits (Var name value) = true
-form_fits (Thread name) = true
-form_fits (Read register var) = nat_lt register 16
-form_fits (Write var value) = expression_fits value
-form_fits (Assert test) = expression_fits test
-form_fits End = true
 
 -- the number that digits stand for in base ten, where it isn't above the greatest i64
 abbrev pub number_in : List ℕ → Option ℤ

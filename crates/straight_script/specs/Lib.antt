@@ -1,9 +1,11 @@
-pub mod Cutting
 pub mod Fitting
 pub mod Forms
 pub mod ScriptText
-pub mod Part
 pub mod Said
 pub mod Grammar
-pub mod Reading
 pub mod Faults
+pub mod Rows
+pub mod Seen
+pub mod Cutting
+pub mod Part
+pub mod Reading

@@ -1,13 +1,11 @@
 -- Reading a script from its first line to its last.
-use Rattle.std.specs.Prelude.{◌≡◌, ℕ, suc, ℤ, ◌+◌, ◌≤◌, ◌==◌, ◌&&◌, Bool, true, false, not, nat_le, nat_lt, if◌then◌else◌, List, [], ◌∷◌, ◌++◌, length, Option, Some, None}
-use Rattle.std.specs.List.{list_all}
+use Rattle.std.specs.Prelude.{ℕ, ℤ, ◌+◌, ◌&&◌, Bool, true, false, not, nat_le, nat_lt, if◌then◌else◌, List, [], ◌∷◌, ◌++◌, length, Option, Some, None}
 use Rattle.std.specs.Option.{option_map, option_and_then}
 use Rattle.pct_ask.specs.Words.{is_name, is_among}
 use Rattle.pct_ask.specs.NameLists.{NameLists, no_names, with_name, all_names, place_of}
 use Rattle.pct_ask.specs.declared.names.NameKind.TheVariants as kinds
 use Rattle.straight_script.specs.declared.script.Statement.{Statement}
 use Rattle.straight_script.specs.declared.script.Statement.TheVariants as statements
-use Rattle.straight_script.specs.declared.script.ThreadText.{ThreadText}
 use Rattle.straight_script.specs.declared.reader.Place.{Place}
 use Rattle.straight_script.specs.declared.reader.Place.TheVariants as places
 use Rattle.straight_script.specs.ScriptText.{ScriptText}

@@ -4,7 +4,6 @@ ghost use Rattle.std.specs.Prelude.{◌≡◌};
 ghost use Rattle.straight_script.specs.declared.fault.ScriptError.TheVariants.{NoMemory as no_memory};
 
 use std::alloc::AllocError;
-use std::fmt;
 use thiserror::Error;
 
 /// What is wrong with a line.
@@ -13,17 +12,11 @@ pub enum ScriptFault {
     BadStatement,
 }
 
-impl fmt::Display for ScriptFault {
-    fn fmt<W: fmt::Write>(&self, f: &mut fmt::Formatter<W>) -> fmt::Result {
-        f.write_str(match self {
-            ScriptFault::BadStatement => "BadStatement",
-        })
-    }
-}
-
+/// Why a text gives no script.
 #[derive(Debug, Drop, Error)]
 pub enum ScriptError {
-    #[error("line {line}: {kind}")]
+    /// The line, from 1, and what is wrong with it.
+    #[error("line {line}: {kind:?}")]
     Bad { line: u32, kind: ScriptFault },
     #[error("no memory")]
     NoMemory,

@@ -5,8 +5,9 @@ ghost use Rattle.std.specs.List.{list_all};
 ghost use Rattle.std.specs.Option.{option_map};
 ghost use Rattle.std.specs.Str.{bytes_eq};
 ghost use Rattle.pct_ask.specs.Characters as characters;
-ghost use Rattle.straight_script.specs.Cutting.{seen, all_seen};
-ghost use Rattle.straight_script.specs.Forms.{number_in, register_in, operand_in, expression_in, seen_form, form_fits};
+ghost use Rattle.straight_script.specs.Seen.{seen, all_seen};
+ghost use Rattle.straight_script.specs.Forms.{number_in, register_in, operand_in, expression_in};
+ghost use Rattle.straight_script.specs.Seen.{seen_form, form_fits};
 ghost use Rattle.straight_script.specs.Forms as forms;
 ghost use Rattle.straight_script.specs.Fitting.{operand_fits, expression_fits};
 
@@ -14,7 +15,7 @@ use crate::script::{Expression, Operand};
 use crate::token::{Token, are_digits};
 
 /// What a line says.
-#[derive(Clone, Copy, Debug, PartialEq, Eq)]
+#[derive(Clone, Copy)]
 pub enum Form<'a> {
     Header,
     Var { name: &'a [u8], value: i64 },

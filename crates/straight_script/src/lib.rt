@@ -7,6 +7,8 @@ mod form;
 mod parsing;
 mod reader;
 mod script;
+#[cfg(test)]
+mod tests;
 mod token;
 
 pub use fault::{ScriptError, ScriptFault};

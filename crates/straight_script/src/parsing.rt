@@ -2,8 +2,9 @@
 
 ghost use Rattle.std.specs.Prelude.{◌≡◌, ◌≤◌, Some, IfOk, IfErr, IfSome, OnSome};
 ghost use Rattle.std.specs.Str.{is_utf8};
-ghost use Rattle.straight_script.specs.Cutting.{all_seen};
-ghost use Rattle.straight_script.specs.Said.{sound_line, IsSaid};
+ghost use Rattle.straight_script.specs.Seen.{all_seen};
+ghost use Rattle.straight_script.specs.Said.{sound_line};
+ghost use Rattle.straight_script.specs.Seen.{IsSaid};
 ghost use Rattle.straight_script.specs.Said as said;
 ghost use Rattle.pct_ask.specs.Lines.{lines_of};
 ghost use Rattle.straight_script.specs.Reading.{start, read_from, read};
@@ -120,16 +121,17 @@ fn read_all(alloc: Global, bytes: &[u8]) -> Result<Script, ScriptError>
     read_lines(alloc, bytes)?.ok_or(NO_SCRIPT)
 }
 
-/// The script that a text spells.
+/// The script that a text spells. A text has at most 1,048,576 bytes and 4,096 lines, a line at most 256 bytes
+/// without its LF.
 pub fn parse(alloc: Global, bytes: &[u8]) -> Result<Script, ScriptError>
     ensures found { IfOk result (λ script. Spells bytes.now script) }
-    ensures only { (script : ScriptText) → Spells bytes.now script → IfOk result (λ found. found ≡ script) }
+    ensures only { (script : ScriptText) → Spells bytes.now script → IfOk result (λ s. s ≡ script) }
     ensures fault { IfErr result (λ error. IsFault error bytes.now) }
 {
     read_all(alloc, bytes)
 }
 
-/// A law: no text spells two scripts.
+/// A law of the language, and no work: no text spells two scripts.
 pub fn one_script()
     ensures { SpellsOnce }
 {}

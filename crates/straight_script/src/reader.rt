@@ -3,7 +3,7 @@
 ghost use Rattle.std.specs.Prelude.{◌≡◌, IfOk, IfSome, IsTrue, Some, true, false, length};
 ghost use Rattle.pct_ask.specs.NameLists.{all_names, AreNames};
 ghost use Rattle.pct_ask.specs.Words.{is_name, is_among};
-ghost use Rattle.straight_script.specs.Forms.{seen_form, form_fits};
+ghost use Rattle.straight_script.specs.Seen.{seen_form, form_fits};
 ghost use Rattle.straight_script.specs.Fitting.{line_fits, statement_fits};
 ghost use Rattle.straight_script.specs.Reading.{start, step, finished};
 ghost use Rattle.straight_script.specs.Reading as reading;
@@ -15,7 +15,7 @@ use std::alloc::{AllocError as NoMemory, Global};
 use std::marker::Model;
 
 /// Where the next line stands.
-#[derive(Debug, Drop)]
+#[derive(Drop)]
 pub enum Place {
     /// Before the header.
     Header,
@@ -26,7 +26,7 @@ pub enum Place {
 }
 
 /// The names, first values and whole threads that were read.
-#[derive(Debug, Drop)]
+#[derive(Drop)]
 pub struct Declared {
     names: Names,
     vars: NumberList,
@@ -34,7 +34,7 @@ pub struct Declared {
 }
 
 /// What was read of a script.
-#[derive(Debug, Drop)]
+#[derive(Drop)]
 pub struct Reader {
     declared: Declared,
     place: Place,

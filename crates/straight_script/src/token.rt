@@ -5,12 +5,13 @@ ghost use Rattle.std.specs.List.{prefix_len, list_all};
 ghost use Rattle.std.specs.Option.{option_map};
 ghost use Rattle.pct_ask.specs.Characters as characters;
 ghost use Rattle.pct_ask.specs.Tokens.{pieces_of, tokens_of, token_of as token_in, is_short_symbol as is_short, is_long_symbol as is_long};
-ghost use Rattle.straight_script.specs.Cutting.{seen, all_seen, BeginsPlain, BeginsWithPiece, IsNext};
+ghost use Rattle.straight_script.specs.Cutting.{BeginsPlain, BeginsWithPiece, IsNext};
+ghost use Rattle.straight_script.specs.Seen.{seen, all_seen};
 
 use std::alloc::{AllocError as NoMemory, Global};
 
 /// A word, a number or a symbol of a line.
-#[derive(Clone, Copy, Debug, PartialEq, Eq)]
+#[derive(Clone, Copy)]
 pub enum Token<'a> {
     Word(&'a [u8]),
     Number(&'a [u8]),
@@ -111,6 +112,7 @@ fn piece_length(first: u8, after: &[u8]) -> usize
     usize::from(is_short_symbol(first))
 }
 
+/// Whether a text is digits alone.
 pub fn are_digits(text: &[u8]) -> bool
     ensures { result ≡ list_all characters.is_digit text.now }
 {

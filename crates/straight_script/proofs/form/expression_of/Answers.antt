@@ -1,6 +1,6 @@
 use Rattle.std.proofs.Common.{◌≡◌, List, [], ◌∷◌, length, None, refl, sym, arith}
 use Rattle.straight_script.specs.declared.token.Token.{Token}
-use Rattle.straight_script.specs.Cutting.{all_seen}
+use Rattle.straight_script.specs.Seen.{all_seen}
 use Rattle.straight_script.specs.Forms.{expression_in}
 use Rattle.straight_script.proofs.form.expression_of.Goals as goal
 

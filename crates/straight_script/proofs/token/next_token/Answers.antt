@@ -1,7 +1,7 @@
 use Rattle.std.proofs.Common.{◌∷◌}
 use Rattle.std.proofs.Common.{sym, arith}
 use Rattle.straight_script.proofs.Pieces.{IsCut, tokens_of-none, tokens_of-some}
-use Rattle.straight_script.specs.Cutting.{seen}
+use Rattle.straight_script.specs.Seen.{seen}
 use Rattle.straight_script.proofs.token.next_token.Goals as goal
 use Rattle.straight_script.proofs.token.next_token.Goals.{After-token_of}
 

@@ -1,7 +1,7 @@
 use Rattle.std.proofs.Common.{◌≡◌, ◌++◌, ◌∷◌, [], sym, ap, ◌∙◌}
 use Rattle.std.proofs.lemmas.List.{map_push}
 use Rattle.pct_ask.specs.Tokens.{tokens_of}
-use Rattle.straight_script.specs.Cutting.{seen, all_seen}
+use Rattle.straight_script.specs.Seen.{seen, all_seen}
 use Rattle.straight_script.proofs.Pieces.{with_front, with_front-push}
 use Rattle.straight_script.proofs.token.tokens.Goals as goal
 

@@ -1,6 +1,6 @@
 use Rattle.std.proofs.Common.{◌≡◌, length}
 use Rattle.pct_ask.specs.Tokens.{tokens_of}
-use Rattle.straight_script.specs.Cutting.{all_seen}
+use Rattle.straight_script.specs.Seen.{all_seen}
 use Rattle.straight_script.proofs.Pieces.{with_front}
 use Rattle.straight_script.proofs.token.tokens.Given as goal
 
