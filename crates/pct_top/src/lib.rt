@@ -13,6 +13,8 @@ mod top;
 mod trace;
 mod words;
 
+pub use printing::say;
+pub use refusal::Refusal;
 pub use settings::{Settings, WordsError};
 pub use status::Status;
 pub use text::{Text, TextList};
