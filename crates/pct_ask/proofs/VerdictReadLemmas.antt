@@ -395,3 +395,24 @@ named-form names Cut sound has whole rises = tt
 -- what is written of a verdict is read as it
 pub ReadsAs-written : (names : NameLists) (verdict : Verdict) → AreNames names → HasNames names verdict → IsWhole verdict → Rises verdict → ReadsAs names (verdict_text names verdict) (Is verdict)
 ReadsAs-written names verdict sound has whole rises = (has, named-form names verdict sound has whole rises, refl)
+
+lines-named : (names : NameLists) (places : List (ℕ × ℕ)) → All IsPlace (map (named_place names) places) → All (λ (p : ℕ × ℕ). IsLine p.1) places
+lines-named names [] all = All-nil (λ (p : ℕ × ℕ). IsLine p.1)
+lines-named names (p ∷ ps) all =
+    let here : IsPlace (named_place names p) = All-head IsPlace (named_place names p) (map (named_place names) ps) all in
+    All-cons (λ (q : ℕ × ℕ). IsLine q.1) p ps here.1 (lines-named names ps (All-tail IsPlace (named_place names p) (map (named_place names) ps) all))
+
+form-whole : (names : NameLists) (verdict : Verdict) → IsForm names (named names verdict) → IsWhole verdict
+form-whole names Passed form = tt
+form-whole names (Failed thread line) form = form.1
+form-whole names (Stuck places) form =
+    let some : 0 < length places = rw length-map at form.0 in (some, lines-named names places form.1)
+form-whole names (Misuse thread line kind) form = form.1
+form-whole names (Fault thread line kind) form = form.1
+form-whole names Cut form = tt
+
+-- a verdict that was read can be written
+pub read-written : (names : NameLists) (text : List ℕ) (read : VerdictRead) (verdict : Verdict) → ReadsAs names text read → read ≡ Is verdict → HasNames names verdict × IsWhole verdict
+read-written names text read verdict reads is =
+    let as_verdict : ReadsAs names text (Is verdict) = rw is at reads in
+    (as_verdict.0, form-whole names verdict as_verdict.1)
