@@ -302,7 +302,13 @@ fn no_verdicts(rt: HostRuntime) -> Result<(), Fail> {
     Ok(())
 }
 
-fn block(rt: &impl Abort, alloc: Global, names: &mut Names, text: &mut Vec<u8>, name: &[u8]) -> Result<(), Fail> {
+fn block(
+    rt: &impl Abort,
+    alloc: Global,
+    names: &mut Names,
+    text: &mut Vec<u8>,
+    name: &[u8],
+) -> Result<(), Fail> {
     add(rt, alloc, names, NameKind::Thread, name)?;
     text.push(b' ')?;
     text.extend_from_slice(name)?;
