@@ -7,3 +7,4 @@ pub mod VerdictWordLemmas
 pub mod StuckLemmas
 pub mod VerdictReadLemmas
 pub mod PieceLemmas
+pub mod SameLemmas

@@ -9,6 +9,7 @@ use Rattle.std.proofs.lemmas.List.Elements.{All-nil, All-cons, All-head, All-tai
 use Rattle.pct_ask.specs.Words.{is_name}
 use Rattle.pct_ask.specs.NameLists.{NameLists, AreNames, place_of}
 use Rattle.pct_ask.specs.VerdictText.{IsPlace, place_words, known_threads, thread_name}
+use Rattle.pct_ask.specs.VerdictPieces.{HasName}
 use Rattle.pct_ask.specs.VerdictWords.{line_number, stuck_read, stuck_step, stuck_words}
 use Rattle.pct_ask.specs.declared.verdict_text.VerdictRead.{VerdictRead}
 use Rattle.pct_ask.specs.declared.verdict_text.VerdictRead.TheVariants.{NoForm}
@@ -156,9 +157,6 @@ stuck_places-form names least blocked unknown (p ∷ ps) read form e =
 -- a place with its thread by its name
 abbrev pub named_place : NameLists → ℕ × ℕ → List ℕ × ℕ
 named_place names place = (thread_name names place.0, place.1)
-
-abbrev pub HasName : NameLists → ℕ → Type 0
-HasName names thread = thread < length names.threads
 
 -- places with the names of threads are those threads' places
 pub known-named : (names : NameLists) (places : List (ℕ × ℕ)) → AreNames names → All (HasName names) (map (λ (p : ℕ × ℕ). p.0) places) → (known_places names (map (named_place names) places) ≡ places) × (any_unknown names (map (named_place names) places) ≡ false)

@@ -5,10 +5,12 @@ use Rattle.std.specs.Option.{option_map}
 use Rattle.std.specs.Str.{bytes_eq}
 use Rattle.std.proofs.Common.{◌≡◌, ℕ, ◌<◌, Bool, true, false, List, [], ◌∷◌, length, get_or, zero, suc, Option, Some, None, refl, sym, ◌∙◌, ap, arith}
 use Rattle.std.proofs.lemmas.List.Elements.{All-nil, All-cons, All-head, All-tail}
+use Rattle.std.proofs.lemmas.List.{length-map}
 use Rattle.std.proofs.lemmas.Slice.Eq.{bytes_eq-Decides}
 use Rattle.pct_ask.specs.Words.{is_name}
 use Rattle.pct_ask.specs.NameLists.{NameLists, AreNames, place_of}
-use Rattle.pct_ask.specs.VerdictText.{NamedVerdict, NamedPassed, NamedFailed, NamedStuck, NamedMisuse, NamedFault, NamedCut, misuse_word, fault_word, place_words, verdict_words, named_text, named, thread_name, IsPlace, IsForm, known_threads, HasUnknown, HasNames}
+use Rattle.pct_ask.specs.VerdictText.{NamedVerdict, NamedPassed, NamedFailed, NamedStuck, NamedMisuse, NamedFault, NamedCut, misuse_word, fault_word, place_words, verdict_words, named_text, named, thread_name, IsPlace, IsForm, IsWhole, known_threads, HasUnknown, HasNames, IsLine, verdict_text}
+use Rattle.pct_ask.specs.VerdictPieces.{HasName, Rises}
 use Rattle.pct_ask.specs.VerdictRead.{ReadsAs}
 use Rattle.pct_ask.specs.VerdictWords.{words_of, line_number, place_by, first_place, misuse_kind, fault_kind, placed_kind, verdict_at, placed_read, placed_words, stuck_read, stuck_words, verdict_of_words}
 use Rattle.pct_ask.specs.declared.ask.FaultKind.{FaultKind}
@@ -21,10 +23,10 @@ use Rattle.pct_ask.specs.declared.verdict_text.VerdictRead.{VerdictRead}
 use Rattle.pct_ask.specs.declared.verdict_text.VerdictRead.TheVariants.{Is, NoForm, UnknownName}
 use Rattle.pct_ask.specs.declared.verdict_words.PlacedKind.{PlacedKind}
 use Rattle.pct_ask.specs.declared.verdict_words.PlacedKind.TheVariants.{Failure, Misused, Faulted}
-use Rattle.pct_ask.proofs.NameLemmas.{place_of-Some, place_of-thread}
+use Rattle.pct_ask.proofs.NameLemmas.{place_of-Some, place_of-thread, thread-lawful}
 use Rattle.pct_ask.proofs.WordLemmas.{IsSolid, AreSolid, words_of-join, join-words_of, solid-by, name-solid, decimal-solid}
 use Rattle.pct_ask.proofs.VerdictWordLemmas.{line_number-decimal, line_number-Some}
-use Rattle.pct_ask.proofs.StuckLemmas.{stuck_places, stuck_words-places, stuck_words-read, stuck_places-rising, stuck_places-form, RiseFrom-increasing, increasing-RiseFrom, known_places, any_unknown, named_place, HasName, known-named, named-known, NoThread, unknown-any, any-unknown}
+use Rattle.pct_ask.proofs.StuckLemmas.{stuck_places, stuck_words-places, stuck_words-read, stuck_places-rising, stuck_places-form, RiseFrom-increasing, increasing-RiseFrom, known_places, any_unknown, named_place, known-named, named-known, NoThread, unknown-any, any-unknown}
 
 -- ---- the words of a verdict's text
 
@@ -361,3 +363,56 @@ ReadsAs-only names text UnknownName sound h =
     text-read names text h.0 h.1 h.3 ∙ outcome-unknown names h.0 h.1 h.2
 ReadsAs-only names text NoForm sound h =
     none-by names text (verdict_of_words names (words_of text)) refl h
+
+-- ---- what is written is read back
+
+named-places : (names : NameLists) (places : List (ℕ × ℕ)) → AreNames names → All (HasName names) (map (λ (p : ℕ × ℕ). p.0) places) → All (λ (p : ℕ × ℕ). IsLine p.1) places → All IsPlace (map (named_place names) places)
+named-places names [] sound has lines = All-nil IsPlace
+named-places names (p ∷ ps) sound has lines =
+    let here = All-head (HasName names) p.0 (map (λ (q : ℕ × ℕ). q.0) ps) has in
+    All-cons IsPlace (named_place names p) (map (named_place names) ps) (thread-lawful names p.0 sound here, All-head (λ (q : ℕ × ℕ). IsLine q.1) p ps lines) (named-places names ps sound (All-tail (HasName names) p.0 (map (λ (q : ℕ × ℕ). q.0) ps) has) (All-tail (λ (q : ℕ × ℕ). IsLine q.1) p ps lines))
+
+threads-known : (names : NameLists) (places : List (ℕ × ℕ)) → AreNames names → All (HasName names) (map (λ (p : ℕ × ℕ). p.0) places) → known_threads names (map (named_place names) places) ≡ map (λ (p : ℕ × ℕ). p.0) places
+threads-known names [] sound has = refl
+threads-known names (p ∷ ps) sound has =
+    let at = place_of-thread names p.0 sound (All-head (HasName names) p.0 (map (λ (q : ℕ × ℕ). q.0) ps) has) in
+    rw at (ap (λ ts. p.0 ∷ ts) (threads-known names ps sound (All-tail (HasName names) p.0 (map (λ (q : ℕ × ℕ). q.0) ps) has)))
+
+place-form : (names : NameLists) (thread line : ℕ) → AreNames names → All (HasName names) (thread ∷ []) → IsLine line → IsPlace (thread_name names thread, line)
+place-form names thread line sound has lines =
+    (thread-lawful names thread sound (All-head (HasName names) thread [] has), lines)
+
+named-form : (names : NameLists) (verdict : Verdict) → AreNames names → HasNames names verdict → IsWhole verdict → Rises verdict → IsForm names (named names verdict)
+named-form names Passed sound has whole rises = tt
+named-form names (Failed thread line) sound has whole rises = place-form names thread line sound has whole
+named-form names (Stuck places) sound has whole rises =
+    let some : 0 < length (map (named_place names) places) = rw length-map whole.0 in
+    (some, named-places names places sound has whole.1, let same = threads-known names places sound has in rw same rises.rising)
+named-form names (Misuse thread line kind) sound has whole rises = place-form names thread line sound has whole
+named-form names (Fault thread line kind) sound has whole rises = place-form names thread line sound has whole
+named-form names Cut sound has whole rises = tt
+
+-- what is written of a verdict is read as it
+pub ReadsAs-written : (names : NameLists) (verdict : Verdict) → AreNames names → HasNames names verdict → IsWhole verdict → Rises verdict → ReadsAs names (verdict_text names verdict) (Is verdict)
+ReadsAs-written names verdict sound has whole rises = (has, named-form names verdict sound has whole rises, refl)
+
+lines-named : (names : NameLists) (places : List (ℕ × ℕ)) → All IsPlace (map (named_place names) places) → All (λ (p : ℕ × ℕ). IsLine p.1) places
+lines-named names [] all = All-nil (λ (p : ℕ × ℕ). IsLine p.1)
+lines-named names (p ∷ ps) all =
+    let here : IsPlace (named_place names p) = All-head IsPlace (named_place names p) (map (named_place names) ps) all in
+    All-cons (λ (q : ℕ × ℕ). IsLine q.1) p ps here.1 (lines-named names ps (All-tail IsPlace (named_place names p) (map (named_place names) ps) all))
+
+form-whole : (names : NameLists) (verdict : Verdict) → IsForm names (named names verdict) → IsWhole verdict
+form-whole names Passed form = tt
+form-whole names (Failed thread line) form = form.1
+form-whole names (Stuck places) form =
+    let some : 0 < length places = rw length-map at form.0 in (some, lines-named names places form.1)
+form-whole names (Misuse thread line kind) form = form.1
+form-whole names (Fault thread line kind) form = form.1
+form-whole names Cut form = tt
+
+-- a verdict that was read can be written
+pub read-written : (names : NameLists) (text : List ℕ) (read : VerdictRead) (verdict : Verdict) → ReadsAs names text read → read ≡ Is verdict → HasNames names verdict × IsWhole verdict
+read-written names text read verdict reads is =
+    let as_verdict : ReadsAs names text (Is verdict) = rw is at reads in
+    (as_verdict.0, form-whole names verdict as_verdict.1)

@@ -78,10 +78,10 @@ impl Blocked {
         ensures line { result ≡ line_of thread self.now }
         ensures rising { AreRising self.now }
     {
-        if thread < 64 {
-            self.lines[thread as usize]
-        } else {
-            None
+        let lines = &self.lines;
+        if thread >= 64 {
+            return None;
         }
+        lines[thread as usize]
     }
 }

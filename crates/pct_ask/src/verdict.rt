@@ -1,3 +1,5 @@
+ghost use Rattle.std.specs.Prelude.{◌≡◌, ◌↔◌, IsTrue};
+
 use crate::ask::FaultKind;
 use crate::blocked::Blocked;
 
@@ -47,4 +49,22 @@ pub enum Verdict {
 pub enum Outcome {
     Verdict(Verdict),
     Departed { thread: u32 },
+}
+
+impl Verdict {
+    /// Whether two verdicts are the same, threads and lines too. So is `==`.
+    pub fn is(&self, other: &Verdict) -> bool
+        ensures { IsTrue result ↔ (self.now ≡ other.now) }
+    {
+        self == other
+    }
+}
+
+impl Outcome {
+    /// Whether two outcomes are the same. So is `==`.
+    pub fn is(&self, other: &Outcome) -> bool
+        ensures { IsTrue result ↔ (self.now ≡ other.now) }
+    {
+        self == other
+    }
 }

@@ -3,7 +3,8 @@
 ghost use Rattle.std.specs.Prelude.{◌≡◌, ◌++◌, ◌∷◌, ◌<◌, length, decimal, codes, OnOk, OnErr, All, map};
 ghost use Rattle.std.specs.List.{flat_map};
 ghost use Rattle.pct_ask.specs.VerdictText.{misuse_word, fault_word, HasNames, IsWhole, verdict_text};
-ghost use Rattle.pct_ask.specs.VerdictPieces.{Begins, place_piece, HasName};
+ghost use Rattle.pct_ask.specs.VerdictPieces.{Begins, Rises, place_piece, HasName};
+ghost use Rattle.pct_ask.specs.Places.{AreRising};
 ghost use Rattle.pct_ask.specs.VerdictRead.{ReadsAs};
 
 use crate::ask::FaultKind;
@@ -41,7 +42,10 @@ pub fn write_verdict(verdict: &Verdict, names: &Names, out: &mut Vec<u8>) -> Res
     requires whole { IsWhole verdict.now }
     ensures written { OnOk result (out.new.items ≡ out.old.items ++ verdict_text names.now verdict.now) }
     ensures unchanged { OnErr result (out.new.items ≡ out.old.items) }
+    ensures read_back { OnOk result (ReadsAs names.now (verdict_text names.now verdict.now) (VerdictRead.Is verdict.now)) }
 {
+    // The names are lawful, and so what is written can be read.
+    let _ = names.count(NameKind::Thread);
     let before = out.len();
     let written = push_verdict(verdict, names, out);
     if written.is_err() {
@@ -54,6 +58,7 @@ fn push_verdict(verdict: &Verdict, names: &Names, out: &mut Vec<u8>) -> Result<(
     requires { HasNames names.now verdict.now }
     ensures written { OnOk result (out.new.items ≡ out.old.items ++ verdict_text names.now verdict.now) }
     ensures begun { OnErr result (Begins out.old.items out.new.items) }
+    ensures rising { OnOk result (Rises verdict.now) }
 {
     match verdict {
         Verdict::Passed => out.extend_from_slice(PASSED),
@@ -75,6 +80,7 @@ fn push_stuck(blocked: &Blocked, names: &Names, out: &mut Vec<u8>) -> Result<(),
     requires { All (HasName names.now) (map (λ place. place.0) blocked.now) }
     ensures written { OnOk result (out.new.items ≡ out.old.items ++ codes "stuck" ++ flat_map (place_piece names.now) blocked.now) }
     ensures begun { OnErr result (Begins out.old.items out.new.items) }
+    ensures rising { OnOk result (AreRising blocked.now) }
 {
     out.extend_from_slice(STUCK)?;
     for thread in 0..64 {

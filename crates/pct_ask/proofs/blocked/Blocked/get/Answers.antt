@@ -4,17 +4,17 @@ use Rattle.std.proofs.lemmas.List.{get_or_past}
 use Rattle.pct_ask.proofs.PlaceLemmas.{line_of-places, AreRising-places}
 use Rattle.pct_ask.proofs.blocked.Blocked.get.Goals as goal
 
-pub returns-then-thread-lt64-clause-line : goal.returns-then-thread-lt64-clause-line
-returns-then-thread-lt64-clause-line c =
+pub returns-clause-line : goal.returns-clause-line
+returns-clause-line c =
     rw (← c.self.view_is) (line_of-places c.args.thread 0 c.args.thread c.self.inside.lines (omega arith))
 
-pub returns-then-thread-lt64-clause-rising : goal.returns-then-thread-lt64-clause-rising
-returns-then-thread-lt64-clause-rising c = AreRising-places c.self.inside.lines _ c.self.invariant c.self.view_is
+pub returns-clause-rising : goal.returns-clause-rising
+returns-clause-rising c = AreRising-places c.self.inside.lines _ c.self.invariant c.self.view_is
 
-pub returns-else-thread-lt64-clause-line : goal.returns-else-thread-lt64-clause-line
-returns-else-thread-lt64-clause-line c =
+pub returns-then-thread-ge64-clause-line : goal.returns-then-thread-ge64-clause-line
+returns-then-thread-ge64-clause-line c =
     let past : length c.self.inside.lines ≤ c.args.thread = omega (arith, c.self.invariant) in
     rw (← c.self.view_is) (sym (get_or_past c.self.inside.lines c.args.thread None past) ∙ line_of-places c.args.thread 0 c.args.thread c.self.inside.lines (omega arith))
 
-pub returns-else-thread-lt64-clause-rising : goal.returns-else-thread-lt64-clause-rising
-returns-else-thread-lt64-clause-rising c = AreRising-places c.self.inside.lines _ c.self.invariant c.self.view_is
+pub returns-then-thread-ge64-clause-rising : goal.returns-then-thread-ge64-clause-rising
+returns-then-thread-ge64-clause-rising c = AreRising-places c.self.inside.lines _ c.self.invariant c.self.view_is
