@@ -8,6 +8,11 @@ mod pct;
 mod policy;
 mod walk;
 
+#[cfg(test)]
+mod slow;
+#[cfg(test)]
+mod tests;
+
 pub use chance::{Chance, Pick};
 pub use directed::DirectedPolicy;
 pub use listed::Listed;
