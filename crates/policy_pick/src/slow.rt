@@ -44,7 +44,8 @@ fn slow_is_moment(schedule: &[u32], place: usize, moment: Moment) -> bool
     requires short { length schedule.now ≤ 100 }
     ensures { result ≡ is_moment schedule.now (place + 1) moment }
 {
-    schedule[place] == moment.thread && slow_own(schedule, moment.thread, place + 1) == moment.number
+    schedule[place] == moment.thread
+        && slow_own(schedule, moment.thread, place + 1) == moment.number
 }
 
 /// The greatest index, from 1, of a moment that is the step at the place, and 0 where none is.
@@ -115,7 +116,13 @@ fn slow_rank(given: &[u32], count: u32, order: &[u32], schedule: &[u32], thread:
 }
 
 /// The ranks of all threads.
-fn slow_ranks(alloc: Global, given: &[u32], count: u32, order: &[u32], schedule: &[u32]) -> Result<Vec<u32>, AllocError>
+fn slow_ranks(
+    alloc: Global,
+    given: &[u32],
+    count: u32,
+    order: &[u32],
+    schedule: &[u32],
+) -> Result<Vec<u32>, AllocError>
     requires as_many { length given.now ≡ length schedule.now }
     requires short { length schedule.now ≤ 100 }
     requires few_threads { length order.now ≤ 64 }
@@ -130,7 +137,12 @@ fn slow_ranks(alloc: Global, given: &[u32], count: u32, order: &[u32], schedule:
 }
 
 /// The ranks by change points.
-pub fn slow_by_points(alloc: Global, order: &[u32], points: &[u32], schedule: &[u32]) -> Result<Vec<u32>, AllocError>
+pub fn slow_by_points(
+    alloc: Global,
+    order: &[u32],
+    points: &[u32],
+    schedule: &[u32],
+) -> Result<Vec<u32>, AllocError>
     requires short { length schedule.now ≤ 100 }
     requires few_threads { length order.now ≤ 64 }
     requires few_points { length points.now ≤ 7 }
@@ -144,7 +156,12 @@ pub fn slow_by_points(alloc: Global, order: &[u32], points: &[u32], schedule: &[
 }
 
 /// The ranks by moments.
-pub fn slow_by_events(alloc: Global, order: &[u32], events: &[Moment], schedule: &[u32]) -> Result<Vec<u32>, AllocError>
+pub fn slow_by_events(
+    alloc: Global,
+    order: &[u32],
+    events: &[Moment],
+    schedule: &[u32],
+) -> Result<Vec<u32>, AllocError>
     requires short { length schedule.now ≤ 100 }
     requires few_threads { length order.now ≤ 64 }
     requires few_events { length events.now ≤ 7 }

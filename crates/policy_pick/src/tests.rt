@@ -62,7 +62,11 @@ fn chances_of(number: u32) -> [Chance; 3] {
         [_, _, 0] => Some(2),
         _ => None,
     };
-    [chance_of(kinds[0], away), chance_of(kinds[1], away), chance_of(kinds[2], away)]
+    [
+        chance_of(kinds[0], away),
+        chance_of(kinds[1], away),
+        chance_of(kinds[2], away),
+    ]
 }
 
 fn chance_of(kind: u32, away: Option<u32>) -> Chance {
@@ -76,7 +80,13 @@ fn chance_of(kind: u32, away: Option<u32>) -> Chance {
 }
 
 /// The policy picks as wanted before each step of the schedule.
-fn expect_along<P: Policy>(rt: &impl Abort, mut policy: P, schedule: &[u32], number: u32, wanted: &[Pick])
+fn expect_along<P: Policy>(
+    rt: &impl Abort,
+    mut policy: P,
+    schedule: &[u32],
+    number: u32,
+    wanted: &[Pick],
+)
     requires threads { SpeaksOf (P.plan policy) 3 }
     requires stands { P.stands policy [] }
     requires short { length schedule.now ≤ 100 }
@@ -86,7 +96,11 @@ fn expect_along<P: Policy>(rt: &impl Abort, mut policy: P, schedule: &[u32], num
     for taken in 0..schedule.len() {
         let chances = chances_of(number + taken as u32);
         assert!(rt; targets_are_away(&chances));
-        assert_eq!(rt; policy.pick(&chances), wanted[taken], "step {taken} of {number}");
+        assert_eq!(rt;
+            policy.pick(&chances),
+            wanted[taken],
+            "step {taken} of {number}"
+        );
         let thread = schedule[taken];
         assert!(rt; thread < 3);
         policy.took(thread);
@@ -94,7 +108,14 @@ fn expect_along<P: Policy>(rt: &impl Abort, mut policy: P, schedule: &[u32], num
 }
 
 /// The picks by points, from the plain programs.
-fn wanted_by_points(rt: &impl Abort, alloc: Global, order: &[u32], points: &[u32], schedule: &[u32], number: u32) -> Result<Vec<Pick>, Fail>
+fn wanted_by_points(
+    rt: &impl Abort,
+    alloc: Global,
+    order: &[u32],
+    points: &[u32],
+    schedule: &[u32],
+    number: u32,
+) -> Result<Vec<Pick>, Fail>
     requires few_threads { length order.now ≤ 64 }
     requires few_points { length points.now ≤ 7 }
     requires short { length schedule.now ≤ 100 }
@@ -110,7 +131,14 @@ fn wanted_by_points(rt: &impl Abort, alloc: Global, order: &[u32], points: &[u32
 }
 
 /// The picks by moments, from the plain programs.
-fn wanted_by_events(rt: &impl Abort, alloc: Global, order: &[u32], events: &[Moment], schedule: &[u32], number: u32) -> Result<Vec<Pick>, Fail>
+fn wanted_by_events(
+    rt: &impl Abort,
+    alloc: Global,
+    order: &[u32],
+    events: &[Moment],
+    schedule: &[u32],
+    number: u32,
+) -> Result<Vec<Pick>, Fail>
     requires few_threads { length order.now ≤ 64 }
     requires few_events { length events.now ≤ 7 }
     requires short { length schedule.now ≤ 100 }
@@ -128,7 +156,12 @@ fn wanted_by_events(rt: &impl Abort, alloc: Global, order: &[u32], events: &[Mom
 /// Three threads whose chances are given by hand, with a change point after the first step.
 #[test]
 fn points_by_hand(rt: HostRuntime) -> Result<(), Fail> {
-    let (away, ready, blocked, ended) = (Chance::Away, Chance::Ready, Chance::Blocked, Chance::Ended);
+    let (away, ready, blocked, ended) = (
+        Chance::Away,
+        Chance::Ready,
+        Chance::Blocked,
+        Chance::Ended,
+    );
     let unknown = |target: u32| Chance::Unknown { target };
     let order = [0, 1, 2];
     // A lost update: the first thread reads and is lowered, the second one reads and writes, and a third one joins both.
@@ -189,7 +222,11 @@ fn moments_by_hand(rt: HostRuntime) -> Result<(), Fail> {
         (&[ready, ready, ready], Pick::Thread(1)),
     ];
     assert!(rt; second_step.as_slice().len() <= 7);
-    expect_picks(&rt, DirectedPolicy::new(rt.alloc(), &order, second_step.as_slice())?, &cases);
+    expect_picks(
+        &rt,
+        DirectedPolicy::new(rt.alloc(), &order, second_step.as_slice())?,
+        &cases,
+    );
     // Of equal moments the greatest index stands.
     let equal = [(0, 1), (1, 1), (0, 1)].map(|(thread, number)| Moment { thread, number });
     let cases: [(&[Chance], Pick); 4] = [
@@ -198,13 +235,22 @@ fn moments_by_hand(rt: HostRuntime) -> Result<(), Fail> {
         (&[ready, ready, blocked], Pick::Thread(0)),
         (&[ready, ready, ready], Pick::Thread(2)),
     ];
-    expect_picks(&rt, DirectedPolicy::new(rt.alloc(), &order, &equal)?, &cases);
+    expect_picks(
+        &rt,
+        DirectedPolicy::new(rt.alloc(), &order, &equal)?,
+        &cases,
+    );
     Ok(())
 }
 
 #[test]
 fn list_by_hand(rt: HostRuntime) -> Result<(), Fail> {
-    let (away, ready, blocked, ended) = (Chance::Away, Chance::Ready, Chance::Blocked, Chance::Ended);
+    let (away, ready, blocked, ended) = (
+        Chance::Away,
+        Chance::Ready,
+        Chance::Blocked,
+        Chance::Ended,
+    );
     let unknown = |target: u32| Chance::Unknown { target };
     let cases: [(&[Chance], Pick); 13] = [
         (&[ready, ready, ready], Pick::Thread(0)),
@@ -235,13 +281,25 @@ fn compare_case(rt: &impl Abort, alloc: Global, order: &[u32], case: u32) -> Res
     let schedule = [steps % 3, steps / 3 % 3, steps / 9 % 3];
     let points = [1 + case % 4, 1 + case / 4 % 4];
     let wanted = wanted_by_points(rt, alloc, order, &points, &schedule, 3 * case)?;
-    expect_along(rt, Pct::new(alloc, order, &points)?, &schedule, 3 * case, &wanted);
+    expect_along(
+        rt,
+        Pct::new(alloc, order, &points)?,
+        &schedule,
+        3 * case,
+        &wanted,
+    );
     let events = points.map(|point| Moment {
         thread: point % 3,
         number: 1 + point / 3,
     });
     let wanted = wanted_by_events(rt, alloc, order, &events, &schedule, 3 * case)?;
-    expect_along(rt, DirectedPolicy::new(alloc, order, &events)?, &schedule, 3 * case, &wanted);
+    expect_along(
+        rt,
+        DirectedPolicy::new(alloc, order, &events)?,
+        &schedule,
+        3 * case,
+        &wanted,
+    );
     Ok(())
 }
 
@@ -249,7 +307,14 @@ fn compare_case(rt: &impl Abort, alloc: Global, order: &[u32], case: u32) -> Res
 #[test]
 fn picks_are_the_slow_ones(rt: HostRuntime) -> Result<(), Fail> {
     for case in 0..16 * 27 {
-        for order in [[0, 1, 2], [0, 2, 1], [1, 0, 2], [1, 2, 0], [2, 0, 1], [2, 1, 0]] {
+        for order in [
+            [0, 1, 2],
+            [0, 2, 1],
+            [1, 0, 2],
+            [1, 2, 0],
+            [2, 0, 1],
+            [2, 1, 0],
+        ] {
             assert_eq!(rt; order.len(), 3);
             compare_case(&rt, rt.alloc(), &order, case)?;
         }

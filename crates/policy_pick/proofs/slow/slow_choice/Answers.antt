@@ -1,8 +1,8 @@
-use Rattle.std.proofs.Common.{◌≡◌, ℕ, ◌<◌, ◌≤◌, Bool, true, false, length, sym, ap, ◌∙◌, arith}
+use Rattle.std.proofs.Common.{◌<◌, length, sym, ap, ◌∙◌, arith}
 use Rattle.std.proofs.lemmas.List.{get_or_default}
 use Rattle.policy_pick.specs.declared.chance.Chance.TheVariants.{Away, Ended}
 use Rattle.policy_pick.specs.declared.chance.Pick.TheVariants.{Thread}
-use Rattle.policy_pick.specs.Choice.{is_open, chance_of, pick_at, is_highest}
+use Rattle.policy_pick.specs.Choice.{pick_at, is_highest}
 use Rattle.policy_pick.specs.Laws.Finds.{find-is, find-none}
 use Rattle.policy_pick.specs.Laws.Walks.{rank-stops, rank-ends}
 use Rattle.policy_pick.proofs.slow.slow_choice.Goals as goal

@@ -16,6 +16,6 @@ pub loop-earlier-preserved : goal.loop-earlier-preserved
 loop-earlier-preserved c =
     let test : Moment → Bool = is_moment c.args.schedule.now (c.args.place + 1) in
     elim c.if-slow_is_moment.branch [
-    | then-slow_is_moment w ↦ w.index-is ∙ sym (more test c.args.events.now c.loop-earlier.earlier none true (omega (arith, c.loop-earlier-test.true)) w.if-slow_is_moment.ensures)
-    | else-slow_is_moment w ↦ w.index-is ∙ c.loop-earlier.invariant ∙ sym (more test c.args.events.now c.loop-earlier.earlier none false (omega (arith, c.loop-earlier-test.true)) w.if-slow_is_moment.ensures)
+      | then-slow_is_moment w ↦ w.index-is ∙ sym (more test c.args.events.now c.loop-earlier.earlier none true (omega (arith, c.loop-earlier-test.true)) w.if-slow_is_moment.ensures)
+      | else-slow_is_moment w ↦ w.index-is ∙ c.loop-earlier.invariant ∙ sym (more test c.args.events.now c.loop-earlier.earlier none false (omega (arith, c.loop-earlier-test.true)) w.if-slow_is_moment.ensures)
     ]

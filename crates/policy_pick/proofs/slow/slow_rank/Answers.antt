@@ -1,4 +1,4 @@
-use Rattle.std.proofs.Common.{◌≡◌, ℕ, ◌≤◌, ◌<◌, ◌+◌, ◌-◌, ◌&&◌, nat_lt, eqb, not, cond, ap, sym, ◌∙◌, length, get_or, arith, ne_eqb}
+use Rattle.std.proofs.Common.{◌≡◌, ℕ, ◌≤◌, ◌+◌, ◌-◌, ◌&&◌, nat_lt, eqb, not, cond, ap, sym, ◌∙◌, length, get_or, arith, ne_eqb}
 use Rattle.std.proofs.lemmas.List.Sums.{prefix_len-le-length}
 use Rattle.rank_now.specs.Positions.{passes_at}
 use Rattle.rank_now.specs.Rank.{rank_by, place_of, last_change}

@@ -1,4 +1,4 @@
-use Rattle.std.proofs.Common.{ℕ, ◌-◌, get_or, ◌∙◌}
+use Rattle.std.proofs.Common.{◌-◌, get_or, ◌∙◌}
 use Rattle.rank_now.specs.Rank.{rank_by}
 use Rattle.policy_pick.proofs.SlowRanks.{made-more}
 use Rattle.policy_pick.proofs.slow.slow_ranks.Goals as goal

@@ -1,4 +1,4 @@
-use Rattle.std.proofs.Common.{◌≡◌, ℕ, ◌≤◌, List, length}
+use Rattle.std.proofs.Common.{ℕ, ◌≤◌, List, length}
 use Rattle.policy_pick.specs.Plan.{SpeaksOf}
 use Rattle.policy_pick.proofs.tests.expect_along.Given as goal
 
