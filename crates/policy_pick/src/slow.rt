@@ -1,9 +1,9 @@
 //! Plain, slow programs whose contracts are the definitions.
-ghost use Rattle.std.specs.Prelude.{◌≡◌, ℕ, ◌+◌, ◌-◌, ◌<◌, ◌≤◌, ◌==◌, ◌&&◌, nat_lt, List, length, map, slice_index, IfOk};
-ghost use Rattle.std.specs.List.{position_or_len};
+ghost use Rattle.std.specs.Prelude.{◌≡◌, ℕ, ◌+◌, ◌-◌, ◌<◌, ◌≤◌, ◌==◌, ◌&&◌, nat_lt, List, length, map, slice_index, slice_get, IfOk, IfSome};
+ghost use Rattle.std.specs.List.{position_or_len, All, find, range_with_len};
 ghost use Rattle.rank_now.specs.declared.moment.Moment.{Moment};
 ghost use Rattle.rank_now.specs.Rank.{place_of, last_change, rank_by, index_of_point, own_steps, is_moment, index_of_moment, threads_of, ranks, ranks_by_events};
-ghost use Rattle.policy_pick.specs.Choice.{is_highest, choice_by_rank};
+ghost use Rattle.policy_pick.specs.Choice.{is_open, chance_of, is_highest, choice_by_rank, choice_by_number, choice_by_list};
 
 use crate::chance::{Chance, Pick, is_open, pick_at};
 use rank_now::Moment;
@@ -203,4 +203,40 @@ pub fn slow_choice(ranks: &[u32], chances: &[Chance]) -> Pick
         }
     }
     Pick::Nobody
+}
+
+/// The open thread of least number.
+fn slow_first(chances: &[Chance]) -> Option<usize>
+    ensures within { IfSome result (λ first. first < length chances.now) }
+    ensures found { result ≡ find (λ thread. is_open (chance_of chances.now thread)) (range_with_len 0 (length chances.now)) }
+{
+    for thread in 0..chances.len() {
+        if is_open(chances[thread]) {
+            return Some(thread);
+        }
+    }
+    None
+}
+
+/// The choice by number, by its definition.
+fn slow_by_number(chances: &[Chance]) -> Pick
+    requires { length chances.now ≤ 64 }
+    ensures { result ≡ choice_by_number chances.now }
+{
+    match slow_first(chances) {
+        Some(first) => pick_at(Pick::Departs(first as u32), first as u32, chances[first]),
+        None => Pick::Nobody,
+    }
+}
+
+/// The choice by a list, by its definition.
+pub fn slow_by_list(listed: &[u32], taken: usize, chances: &[Chance]) -> Pick
+    requires few_threads { length chances.now ≤ 64 }
+    requires threads { All (λ thread. thread < length chances.now) listed.now }
+    ensures { result ≡ choice_by_list (slice_get listed.now taken) chances.now }
+{
+    match listed.get(taken).copied() {
+        Some(thread) => pick_at(Pick::Thread(thread), thread, chances[thread as usize]),
+        None => slow_by_number(chances),
+    }
 }

@@ -2,7 +2,7 @@ ghost use Rattle.std.specs.Prelude.{◌≡◌, ℕ, ◌+◌, ◌<◌, ◌≤◌,
 ghost use Rattle.policy_pick.specs.Plan.{SpeaksOf};
 ghost use Rattle.policy_pick.specs.Choice.{choice, TargetsAreAway, IsSound};
 
-use crate::slow::{slow_by_events, slow_by_points, slow_choice};
+use crate::slow::{slow_by_events, slow_by_list, slow_by_points, slow_choice};
 use crate::{Chance, DirectedPolicy, Listed, Moment, MomentList, Pct, Pick, Policy};
 use std::alloc::Global;
 use std::process::Abort;
@@ -318,6 +318,41 @@ fn picks_are_the_slow_ones(rt: HostRuntime) -> Result<(), Fail> {
             assert_eq!(rt; order.len(), 3);
             compare_case(&rt, rt.alloc(), &order, case)?;
         }
+    }
+    Ok(())
+}
+
+/// A list picks as the plain program does, also after the list.
+fn compare_list(
+    rt: &impl Abort,
+    alloc: Global,
+    listed: &[u32],
+    schedule: &[u32],
+    number: u32,
+) -> Result<(), Fail>
+    requires short { length schedule.now ≤ 100 }
+    requires small { number < 1000000 }
+{
+    assert!(rt; listed.iter().all(|thread| *thread < 3));
+    let mut wanted = Vec::new(alloc);
+    for taken in 0..schedule.len() {
+        wanted.push(slow_by_list(listed, taken, &chances_of(number + taken as u32)))?;
+    }
+    expect_along(rt, Listed::new(alloc, listed)?, schedule, number, &wanted);
+    Ok(())
+}
+
+/// Every list of two threads, with each three combinations of chances.
+#[test]
+fn lists_pick_as_slow_ones(rt: HostRuntime) -> Result<(), Fail> {
+    for case in 0..9 * 125 {
+        compare_list(
+            &rt,
+            rt.alloc(),
+            &[case % 3, case / 3 % 3],
+            &[0, 1, 2],
+            case / 9,
+        )?;
     }
     Ok(())
 }
