@@ -1,13 +1,13 @@
 -- What a policy of moments counts, and the moment that a step is.
-use Rattle.std.proofs.Common.{◌≡◌, ◌≢◌, ℕ, zero, suc, ◌+◌, ◌<◌, ◌≤◌, Bool, true, false, cond, ◌&&◌, eqb, List, [], ◌∷◌, ◌++◌, length, get_or, set, map, replicate, refl, sym, ap, ◌∙◌, inl, inr, arith, add-one, eq-eqb, ne_eqb, eqb-true}
+use Rattle.std.proofs.Common.{◌≡◌, ◌≢◌, ℕ, zero, suc, ◌+◌, ◌<◌, ◌≤◌, Bool, cond, ◌&&◌, eqb, List, [], ◌∷◌, ◌++◌, length, get_or, set, replicate, refl, sym, ap, ◌∙◌, inl, inr, arith, add-one, eq-eqb, ne_eqb}
 use Rattle.std.specs.List.{count_by}
 use Rattle.std.proofs.lemmas.Bool.{cases_eq}
 use Rattle.std.proofs.lemmas.List.{get_or_read, length-set, get_or-set_same, get_or-set_other, get_or-replicate, length-replicate}
 use Rattle.std.proofs.lemmas.List.FromFn.{fill_by_all, length-map-range_with_len, get_or-map-range_with_len}
 use Rattle.std.proofs.lemmas.List.Sums.{sum_by_push}
 use Rattle.rank_now.specs.declared.moment.Moment.{Moment}
-use Rattle.rank_now.specs.Positions.{greatest, passes_at, last_position}
-use Rattle.rank_now.specs.Rank.{own_steps, is_moment, index_of_moment, threads_of}
+use Rattle.rank_now.specs.Positions.{passes_at, last_position}
+use Rattle.rank_now.specs.Rank.{own_steps, is_moment, index_of_moment}
 use Rattle.rank_now.proofs.Schedule.{greatest-le, greatest-agree, passes_at-last, passes_at-agree}
 use Rattle.rank_now.proofs.Changes.{own_steps-last}
 use Rattle.policy_pick.specs.Kept.{own_counts}
@@ -37,8 +37,8 @@ own_counts-after order schedule own thread number same is =
     let long = own_counts-threads order schedule own same in
     fill_by_all (steps_of (schedule ++ thread ∷ [])) (set own thread number) (length order) 0 (length-set own thread number ∙ long)
     (λ k within. elim (cases_eq k thread) [
-    | inl e ↦ ap (λ x. get_or (set own thread number) x 0) e ∙ get_or-set_same own thread number 0 (omega arith) ∙ is ∙ sym (steps_of-taker schedule thread) ∙ ap (steps_of (schedule ++ thread ∷ [])) (sym e)
-    | inr ne ↦ get_or-set_other own thread k number 0 ne ∙ own_counts-at order schedule own k same within ∙ sym (steps_of-other schedule thread k ne)
+      | inl e ↦ ap (λ x. get_or (set own thread number) x 0) e ∙ get_or-set_same own thread number 0 (omega arith) ∙ is ∙ sym (steps_of-taker schedule thread) ∙ ap (steps_of (schedule ++ thread ∷ [])) (sym e)
+      | inr ne ↦ get_or-set_other own thread k number 0 ne ∙ own_counts-at order schedule own k same within ∙ sym (steps_of-other schedule thread k ne)
     ])
 
 pub own_counts-first : (order own : List ℕ) → own ≡ replicate (length order) 0 → own ≡ own_counts order []
@@ -63,8 +63,8 @@ module _ (schedule : List ℕ) (thread number : ℕ) (is : number ≡ steps_of s
   is_now-moment moment =
       let taken = passes_at-last (λ taker. eqb taker moment.thread) schedule thread in
       elim (cases_eq moment.thread thread) [
-      | inl e ↦ ap (λ b. b && eqb moment.number number) (eq-eqb moment.thread thread e) ∙ eqb-flip moment.number number ∙ ap (λ x. eqb x moment.number) (sym (own-number moment.thread e)) ∙ sym (ap (λ b. b && eqb (own_steps after moment.thread (suc (length schedule))) moment.number) (taken ∙ eq-eqb thread moment.thread (sym e)))
-      | inr ne ↦ ap (λ b. b && eqb moment.number number) (ne_eqb moment.thread thread ne) ∙ sym (ap (λ b. b && eqb (own_steps after moment.thread (suc (length schedule))) moment.number) (taken ∙ ne_eqb thread moment.thread (λ e. ne (sym e))))
+        | inl e ↦ ap (λ b. b && eqb moment.number number) (eq-eqb moment.thread thread e) ∙ eqb-flip moment.number number ∙ ap (λ x. eqb x moment.number) (sym (own-number moment.thread e)) ∙ sym (ap (λ b. b && eqb (own_steps after moment.thread (suc (length schedule))) moment.number) (taken ∙ eq-eqb thread moment.thread (sym e)))
+        | inr ne ↦ ap (λ b. b && eqb moment.number number) (ne_eqb moment.thread thread ne) ∙ sym (ap (λ b. b && eqb (own_steps after moment.thread (suc (length schedule))) moment.number) (taken ∙ ne_eqb thread moment.thread (λ e. ne (sym e))))
       ]
 
   pub last_position-moment : (events : List Moment) → last_position is_now events ≡ index_of_moment events after (length schedule + 1)
@@ -87,5 +87,5 @@ step-is order own events items schedule thread before index same within read see
     record {
       own = number;
       given = is ∙ last_position-moment schedule thread (before + 1) number events;
-      low = omega (arith, is, greatest-le (passes_at test events) (length events))
+      low = omega (arith, is, greatest-le (passes_at test events) (length events));
     }

@@ -1,5 +1,5 @@
 -- How many values there are, and the refusal of a list that is no order, passed on.
-use Rattle.std.proofs.Common.{◌≡◌, ℕ, ◌+◌, ◌-◌, List, length, map, ap, ◌∙◌, Result, Ok, Err, ◌↔◌}
+use Rattle.std.proofs.Common.{◌≡◌, ℕ, ◌+◌, ◌-◌, List, length, map, ap, ◌∙◌, Result, Err, ◌↔◌}
 use Rattle.std.proofs.lemmas.List.FromFn.{length-map-range_with_len}
 use Rattle.rank_now.specs.declared.order.RankError.{RankError}
 use Rattle.rank_now.specs.declared.order.RankError.TheVariants.{NotAnOrder}

@@ -13,7 +13,7 @@ use Rattle.policy_pick.specs.Plan.{Plan, ByPoints, ByEvents, ByList}
 abbrev pub chance_of : List Chance → ℕ → Chance
 chance_of chances thread = slice_index_or chances thread Ended
 
--- whether a walk stops at the thread
+-- whether a walk stops at the thread: it passes over the Blocked and the Ended ones
 abbrev pub is_open : Chance → Bool
 is_open Away = true
 is_open Ready = true
@@ -50,7 +50,7 @@ choice_by_rank ranks chances = pick_of_walk Thread chances (find (is_highest ran
 unfoldable pub choice_by_number : List Chance → Pick
 choice_by_number chances = pick_of_walk Departs chances (find (λ thread. is_open (chance_of chances thread)) (threads_of chances))
 
--- The listed thread goes, and after the list nobody may.
+-- The listed thread goes, and after the list nobody may (this project).
 abbrev pub choice_by_list : Option ℕ → List Chance → Pick
 choice_by_list None chances = choice_by_number chances
 choice_by_list (Some thread) chances = pick_at (Thread thread) thread (chance_of chances thread)
@@ -61,7 +61,7 @@ choice (ByPoints order points) schedule chances = choice_by_rank (ranks order po
 choice (ByEvents order events) schedule chances = choice_by_rank (ranks_by_events order events schedule) chances
 choice (ByList listed) schedule chances = choice_by_list (slice_get listed (length schedule)) chances
 
--- the next step of the thread whose end or next ask an Unknown waits for is not known
+-- the target of an Unknown is Away
 abbrev pub HasAwayTarget : List Chance → Chance → Type 0
 HasAwayTarget chances (Unknown target) = (target < length chances) × (chance_of chances target ≡ Away)
 HasAwayTarget chances Away = Unit {0}
@@ -69,6 +69,7 @@ HasAwayTarget chances Ready = Unit {0}
 HasAwayTarget chances Blocked = Unit {0}
 HasAwayTarget chances Ended = Unit {0}
 
+-- the target of every Unknown is
 abbrev pub TargetsAreAway : List Chance → Type 0
 TargetsAreAway chances = (thread : ℕ) → thread < length chances → HasAwayTarget chances (chance_of chances thread)
 
@@ -98,6 +99,7 @@ pub record KeepsKnown (earlier later : List Chance) : Type 0 where
   pub threads : length later ≡ length earlier
   pub known : (thread : ℕ) → thread < length earlier → is_known (chance_of earlier thread) ≡ true → chance_of later thread ≡ chance_of earlier thread
 
+-- the pick waits for a thread
 abbrev pub IsWaits : Pick → Type 0
 IsWaits (Waits thread) = Unit {0}
 IsWaits (Thread thread) = ⊥

@@ -13,10 +13,11 @@ pub record PointsKept : Type 0 where
   pub taken : ℕ
   pub values : List ℕ
 
+-- its parameters
 abbrev pub points_plan : PointsKept → Plan
 points_plan kept = ByPoints kept.order kept.points
 
--- the steps are as many, and the values are the ranks
+-- it stands for a schedule: it counted as many steps, and the values are the ranks after it
 pub record PointsStand (kept : PointsKept) (schedule : List ℕ) : Type 0 where
   pub taken : kept.taken ≡ length schedule
   pub values : kept.values ≡ ranks kept.order kept.points schedule
@@ -29,6 +30,7 @@ pub record EventsKept : Type 0 where
   pub values : List ℕ
   pub own : List ℕ
 
+-- its parameters
 abbrev pub events_plan : EventsKept → Plan
 events_plan kept = ByEvents kept.order kept.events
 
@@ -36,6 +38,7 @@ events_plan kept = ByEvents kept.order kept.events
 abbrev pub own_counts : List ℕ → List ℕ → List ℕ
 own_counts order schedule = map (λ thread. count_by (λ taker. taker == thread) schedule) (threads_of order)
 
+-- it stands for a schedule: the same, by its events, and each thread's own steps are counted
 pub record EventsStand (kept : EventsKept) (schedule : List ℕ) : Type 0 where
   pub taken : kept.taken ≡ length schedule
   pub values : kept.values ≡ ranks_by_events kept.order kept.events schedule
@@ -46,9 +49,11 @@ pub record ListKept : Type 0 where
   pub listed : List ℕ
   pub taken : ℕ
 
+-- its parameters
 abbrev pub list_plan : ListKept → Plan
 list_plan kept = ByList kept.listed
 
+-- it stands for a schedule: it counted as many steps
 abbrev pub ListStands : ListKept → List ℕ → Type 0
 ListStands kept schedule = kept.taken ≡ length schedule
 

@@ -21,8 +21,8 @@ listed-keeps : (next : Option ℕ) (earlier later : List Chance) → KeepsKnown 
 listed-keeps None earlier later keeps waits = number-keeps earlier later keeps waits
 listed-keeps (Some thread) earlier later keeps waits =
     elim (cases_lt thread (length earlier)) [
-    | inl within ↦ ap (pick_at (Thread thread) thread) (keeps.known thread within (pick-known (Thread thread) thread (chance_of earlier thread) waits))
-    | inr past ↦ ap (pick_at (Thread thread) thread) (get_or_past later thread Ended (omega (arith, keeps.threads)) ∙ sym (get_or_past earlier thread Ended past))
+      | inl within ↦ ap (pick_at (Thread thread) thread) (keeps.known thread within (pick-known (Thread thread) thread (chance_of earlier thread) waits))
+      | inr past ↦ ap (pick_at (Thread thread) thread) (get_or_past later thread Ended (omega (arith, keeps.threads)) ∙ sym (get_or_past earlier thread Ended past))
     ]
 
 -- A choice that waits for nobody stays, as what was not known becomes known.

@@ -6,16 +6,19 @@ mod directed;
 mod listed;
 mod pct;
 mod policy;
+#[cfg(test)]
+mod slow;
+#[cfg(test)]
+mod tests;
 mod walk;
 
 pub use chance::{Chance, Pick};
 pub use directed::DirectedPolicy;
 pub use listed::Listed;
 pub use pct::Pct;
+use pct_ask::Sequence;
 pub use policy::Policy;
 pub use rank_now::Moment;
-
-use pct_ask::Sequence;
 
 /// Moments, the one of lowest value first.
 pub type MomentList = Sequence<Moment>;

@@ -8,8 +8,10 @@ use crate::chance::{Chance, Pick};
 /// Who goes next. A policy has parameters, its plan, which never change, and it stands for a schedule: the threads
 /// that took the steps so far.
 pub trait Policy: Send + Drop {
+    // its parameters
     ghost plan: { Self → Plan };
 
+    // what it keeps now is what this schedule left
     ghost stands: { Self → List ℕ → Type 0 };
 
     /// Picks the thread that goes next, from one chance for each thread.

@@ -28,7 +28,7 @@ module _ (given : ℕ → ℕ) (count : ℕ) (order schedule : List ℕ) (is : I
       rank_by-free other (omega arith) (sym (ap (λ x. get_or x other 0) same ∙ get_or-map-range_with_len (rank_by given count order schedule) 0 (length order) other other 0 (omega arith) (omega arith)) ∙ e)
 
 -- ---- change points
-point-once : (points : List ℕ) (first second : ℕ) → 0 < index_of_point points first → index_of_point points first ≡ index_of_point points second → first ≡ second
+pub point-once : (points : List ℕ) (first second : ℕ) → 0 < index_of_point points first → index_of_point points first ≡ index_of_point points second → first ≡ second
 point-once points first second some e =
     let a = greatest-passes (passes_at (λ point. eqb point first) points) (length points) some in
     let b = greatest-passes (passes_at (λ point. eqb point second) points) (length points) (omega (arith, e)) in

@@ -1,4 +1,5 @@
 pub mod Changes
+pub mod Distinct
 pub mod Orders
 pub mod Places
 pub mod Schedule

@@ -123,7 +123,7 @@ place-of-named order is place within =
     position_or_len_is (λ other. eqb other thread) order place 0 (omega arith) (λ k p. ne_eqb (get_or order k 0) thread (is.once k place p within)) (λ p. eq-eqb thread thread refl)
 
 -- the place of a thread, and that it stands there
-named : (order : List ℕ) → IsOrder order → (thread : ℕ) → thread < length order → (place_of order thread < length order) × (get_or order (place_of order thread) 0 ≡ thread)
+pub named : (order : List ℕ) → IsOrder order → (thread : ℕ) → thread < length order → (place_of order thread < length order) × (get_or order (place_of order thread) 0 ≡ thread)
 named order is thread small =
     let w = is.all thread small in
     elim (cases_lt (place_of order thread) (length order)) [

@@ -86,6 +86,20 @@ pub passes_at-both : {X : Type 0} (p q : X → Bool) (xs : List X) (k : ℕ) →
 passes_at-both p q xs zero e f = cc
 passes_at-both p q xs (suc k) e f = map_or-both p q (slice_get xs k) e f
 
+-- ---- ranks by two ways to give indices that agree at the schedule's steps
+module _ (given given' : ℕ → ℕ) (count : ℕ) (order schedule : List ℕ) (agree : (step : ℕ) → 0 < step → step ≤ length schedule → given' step ≡ given step) where
+  last_change-agree : (thread : ℕ) → last_change given' schedule thread ≡ last_change given schedule thread
+  last_change-agree thread = greatest-agree (λ step. passes_at (λ taker. eqb taker thread) schedule step && nat_lt 0 (given' step)) (λ step. passes_at (λ taker. eqb taker thread) schedule step && nat_lt 0 (given step)) (length schedule) (λ k low high. ap (λ x. passes_at (λ taker. eqb taker thread) schedule k && nat_lt 0 x) (agree k low high))
+
+  value-agree : (thread step : ℕ) → step ≤ length schedule → cond (eqb step 0) (count + length order - place_of order thread) (given' step) ≡ cond (eqb step 0) (count + length order - place_of order thread) (given step)
+  value-agree thread zero within = refl
+  value-agree thread (suc k) within = ap (λ x. cond (eqb (suc k) 0) (count + length order - place_of order thread) x) (agree (suc k) (omega arith) within)
+
+  pub rank_by-agree : (thread : ℕ) → rank_by given' count order schedule thread ≡ rank_by given count order schedule thread
+  unfolding rank_by
+  rank_by-agree thread =
+      ap (λ step. cond (eqb step 0) (count + length order - place_of order thread) (given' step)) (last_change-agree thread) ∙ value-agree thread (last_change given schedule thread) (greatest-le (λ step. passes_at (λ taker. eqb taker thread) schedule step && nat_lt 0 (given step)) (length schedule))
+
 -- ---- one more step
 and-false : (b : Bool) → (b && false) ≡ false
 and-false true = refl

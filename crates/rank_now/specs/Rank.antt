@@ -54,5 +54,6 @@ threads_of order = range_with_len 0 (length order)
 abbrev pub ranks : List ℕ → List ℕ → List ℕ → List ℕ
 ranks order points schedule = map (rank order points schedule) (threads_of order)
 
+-- the same by moments
 abbrev pub ranks_by_events : List ℕ → List Moment → List ℕ → List ℕ
 ranks_by_events order events schedule = map (rank_by_events order events schedule) (threads_of order)

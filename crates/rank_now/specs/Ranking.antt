@@ -20,7 +20,7 @@ pub record IsAtPlace (values : List ℕ) (place thread : ℕ) : Type 0 where
   pub within : thread < length values
   pub greater : place_by_value values thread ≡ place
 
--- what is kept: the values, and the threads by falling value
+-- what a `Ranks` keeps true of its values and of the walk: the threads by falling value
 pub record IsKept (count : ℕ) (values walk : List ℕ) : Type 0 where
   pub few_threads : length values ≤ 64
   pub few_points : count ≤ 7

@@ -1,5 +1,5 @@
 -- The first number of a range that passes a test, and tests of all numbers of a range.
-use Rattle.std.proofs.Common.{◌≡◌, ℕ, zero, suc, ◌+◌, ◌<◌, ◌≤◌, Bool, true, false, cond, List, [], ◌∷◌, length, get_or, Option, Some, None, refl, sym, ap, ◌∙◌, arith, ◌⊎◌, inl, inr}
+use Rattle.std.proofs.Common.{◌≡◌, ℕ, zero, suc, ◌+◌, ◌<◌, ◌≤◌, Bool, true, false, cond, get_or, Some, None, refl, sym, ap, ◌∙◌, arith, ◌⊎◌, inl, inr}
 use Rattle.std.specs.List.{find, list_all, range_with_len}
 use Rattle.std.proofs.lemmas.Bool.{cases_eq}
 use Rattle.std.proofs.lemmas.List.FromFn.{length-range_with_len, get_or-range_with_len}
@@ -12,7 +12,7 @@ find-is test from zero found low high passes before = absurd (omega arith)
 find-is test from (suc many) found low high passes before = elim (cases_eq from found) [
   | inl e ↦ ap (λ b. cond b (Some from) (find test (range_with_len (from + 1) many))) (ap test e ∙ passes) ∙ ap Some e
   | inr ne ↦ ap (λ b. cond b (Some from) (find test (range_with_len (from + 1) many))) (before from (omega arith) (omega arith)) ∙ find-is test (from + 1) many found (omega arith) (omega arith) passes (λ k p q. before k (omega arith) q)
-  ]
+]
 
 pub find-none : (test : ℕ → Bool) (from many : ℕ) → ((k : ℕ) → from ≤ k → k < from + many → test k ≡ false) → find test (range_with_len from many) ≡ None
 find-none test from zero none = refl
@@ -38,7 +38,7 @@ finds-by test from many true is rest = inl (from, ap (λ b. cond b (Some from) (
 finds-by test from many false is rest = elim rest [
   | inl w ↦ inl (w.0, ap (λ b. cond b (Some from) (find test (range_with_len (from + 1) many))) is ∙ w.1, record { low = omega (arith, w.2.low); high = omega (arith, w.2.high); passes = w.2.passes; before = λ k p q. elim (cases_eq from k) [ inl e ↦ sym (ap test e) ∙ is | inr ne ↦ w.2.before k (omega arith) q ] })
   | inr w ↦ inr (ap (λ b. cond b (Some from) (find test (range_with_len (from + 1) many))) is ∙ w.0, λ k p q. elim (cases_eq from k) [ inl e ↦ sym (ap test e) ∙ is | inr ne ↦ w.1 k (omega arith) (omega arith) ])
-  ]
+]
 
 finds : (test : ℕ → Bool) (from many : ℕ) → Finds test from many
 finds test from zero = inr (refl, λ k p q. absurd (omega arith))
@@ -49,7 +49,7 @@ pub found-or-none : (test : ℕ → Bool) (many : ℕ) → ((found : ℕ) × (fi
 found-or-none test many = elim (finds test 0 many) [
   | inl w ↦ inl (w.0, w.1, record { within = omega (arith, w.2.high); passes = w.2.passes; before = λ k p. w.2.before k (omega arith) p })
   | inr w ↦ inr (w.0, λ k p. w.1 k (omega arith) (omega arith))
-  ]
+]
 
 -- ---- tests of all numbers below n
 pub all-below : (test : ℕ → Bool) (many : ℕ) → list_all test (range_with_len 0 many) ≡ true → (k : ℕ) → k < many → test k ≡ true

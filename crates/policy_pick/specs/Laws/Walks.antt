@@ -1,6 +1,6 @@
 -- The walks over the threads: where they stop, and that a stop stays.
-use Rattle.std.proofs.Common.{◌≡◌, ◌≢◌, ℕ, zero, suc, ◌+◌, ◌<◌, ◌≤◌, Bool, true, false, cond, not, ◌&&◌, ◌||◌, nat_le, nat_lt, leb, List, length, get_or, slice_index, Option, Some, None, refl, sym, ap, subst, ◌∙◌, arith, ◌⊎◌, inl, inr}
-use Rattle.std.specs.List.{find, list_all, range_with_len, count_by}
+use Rattle.std.proofs.Common.{◌≡◌, ℕ, zero, suc, ◌<◌, ◌≤◌, Bool, true, false, not, ◌&&◌, ◌||◌, leb, List, length, get_or, Some, None, refl, sym, ap, subst, ◌∙◌, arith, ◌⊎◌, inl, inr}
+use Rattle.std.specs.List.{find, list_all}
 use Rattle.std.proofs.lemmas.Bool.{cases_lt, cases_eq, and_parts}
 use Rattle.std.proofs.lemmas.Bool.Decides.{nat_tests}
 use Rattle.policy_pick.specs.declared.chance.Chance.{Chance}
@@ -57,14 +57,14 @@ best-by : (goes : ℕ → Bool) (rank : ℕ → ℕ) (many : ℕ) (b : Bool) →
 best-by goes rank many false is rest = elim rest [
   | inl none ↦ inl (λ k p. elim (cases_eq k many) [ inl e ↦ ap goes e ∙ is | inr ne ↦ none k (omega arith) ])
   | inr w ↦ inr (w.0, omega (arith, w.1), w.2, λ k p o. elim (cases_eq k many) [ inl e ↦ absurd (let a : goes many ≡ true = sym (ap goes e) ∙ o in cc) | inr ne ↦ w.3 k (omega arith) o ])
-  ]
+]
 best-by goes rank many true is rest = elim rest [
   | inl none ↦ inr (many, omega arith, is, λ k p o. elim (cases_eq k many) [ inl e ↦ let same = ap rank e in omega arith | inr ne ↦ absurd (let a = none k (omega arith) in cc) ])
   | inr w ↦ elim (cases_lt (rank w.0) (rank many)) [
     | inl lt ↦ inr (many, omega arith, is, λ k p o. elim (cases_eq k many) [ inl e ↦ let same = ap rank e in omega arith | inr ne ↦ let le = w.3 k (omega arith) o in omega arith ])
     | inr ge ↦ inr (w.0, omega (arith, w.1), w.2, λ k p o. elim (cases_eq k many) [ inl e ↦ let same = ap rank e in omega arith | inr ne ↦ w.3 k (omega arith) o ])
-    ]
   ]
+]
 
 best : (goes : ℕ → Bool) (rank : ℕ → ℕ) (many : ℕ) → Best goes rank many
 best goes rank zero = inl (λ k p. absurd (omega arith))
@@ -75,7 +75,7 @@ none-open : (ranks : List ℕ) (chances : List Chance) → ((k : ℕ) → k < le
 none-open ranks chances none k within = elim (best (open_at chances) (λ t. get_or ranks t 0) (length chances)) [
   | inl closed ↦ closed k within
   | inr w ↦ absurd (let a = highest-from ranks chances w.0 w.2 w.3 in let b = none w.0 w.1 in cc)
-  ]
+]
 
 -- ---- the walk by falling rank
 pub rank-stops : (ranks : List ℕ) (chances : List Chance) (thread : ℕ) → find (is_highest ranks chances) (threads_of chances) ≡ Some thread → choice_by_rank ranks chances ≡ pick_at (Thread thread) thread (chance_of chances thread)
@@ -109,22 +109,22 @@ module _ (ranks : List ℕ) (earlier later : List Chance) (keeps : KeepsKnown ea
   pub rank-keeps : ¬ IsWaits (choice_by_rank ranks earlier) → choice_by_rank ranks later ≡ choice_by_rank ranks earlier
   rank-keeps waits = elim (found-or-none (is_highest ranks earlier) (length earlier)) [
     | inl w ↦
-      let thread = w.0 in
-      let was = rank-stops ranks earlier thread w.1 in
-      let P : Pick → Type 0 = λ p. ¬ IsWaits p in
-      let ready = open-ready (Thread thread) thread (chance_of earlier thread) (highest-parts ranks earlier thread w.2.passes).0 (subst P was waits) in
-      let same = keeps.known thread w.2.within (ap is_known ready) in
-      rank-stops ranks later thread (rank-keeps-at thread w.2 ready) ∙ ap (pick_at (Thread thread) thread) same ∙ sym was
+        let thread = w.0 in
+        let was = rank-stops ranks earlier thread w.1 in
+        let P : Pick → Type 0 = λ p. ¬ IsWaits p in
+        let ready = open-ready (Thread thread) thread (chance_of earlier thread) (highest-parts ranks earlier thread w.2.passes).0 (subst P was waits) in
+        let same = keeps.known thread w.2.within (ap is_known ready) in
+        rank-stops ranks later thread (rank-keeps-at thread w.2 ready) ∙ ap (pick_at (Thread thread) thread) same ∙ sym was
     | inr w ↦
-      let closed = none-open ranks earlier w.1 in
-      rank-ends ranks later (find-none (is_highest ranks later) 0 (length later) (λ k p q. closed-not-highest ranks later k (closed-after earlier later k keeps (within-later k (omega arith)) (closed k (within-later k (omega arith)))))) ∙ sym (rank-ends ranks earlier w.0)
-    ]
+        let closed = none-open ranks earlier w.1 in
+        rank-ends ranks later (find-none (is_highest ranks later) 0 (length later) (λ k p q. closed-not-highest ranks later k (closed-after earlier later k keeps (within-later k (omega arith)) (closed k (within-later k (omega arith)))))) ∙ sym (rank-ends ranks earlier w.0)
+  ]
 
 pub rank-sound : (plan : Plan) (ranks : List ℕ) (chances : List Chance) → TargetsAreAway chances → IsSound plan chances (choice_by_rank ranks chances)
 rank-sound plan ranks chances targets = let P : Pick → Type 0 = IsSound plan chances in elim (found-or-none (is_highest ranks chances) (length chances)) [
   | inl w ↦ subst P (sym (rank-stops ranks chances w.0 w.1)) (sound-at plan chances (Thread w.0) w.0 w.2.within (λ ready. (w.2.within, ready)) (λ closed. absurd (let goes = (highest-parts ranks chances w.0 w.2.passes).0 in cc)) (targets w.0 w.2.within))
   | inr w ↦ subst P (sym (rank-ends ranks chances w.0)) (none-open ranks chances w.1)
-  ]
+]
 
 -- ---- the walk by rising number
 pub number-stops : (chances : List Chance) (thread : ℕ) → find (open_at chances) (threads_of chances) ≡ Some thread → choice_by_number chances ≡ pick_at (Departs thread) thread (chance_of chances thread)
@@ -138,18 +138,18 @@ number-ends chances is = ap (pick_of_walk Departs chances) is
 pub number-keeps : (earlier later : List Chance) → KeepsKnown earlier later → ¬ IsWaits (choice_by_number earlier) → choice_by_number later ≡ choice_by_number earlier
 number-keeps earlier later keeps waits = elim (found-or-none (open_at earlier) (length earlier)) [
   | inl w ↦
-    let thread = w.0 in
-    let was = number-stops earlier thread w.1 in
-    let P : Pick → Type 0 = λ p. ¬ IsWaits p in
-    let ready = open-ready (Departs thread) thread (chance_of earlier thread) w.2.passes (subst P was waits) in
-    let same = keeps.known thread w.2.within (ap is_known ready) in
-    let found = find-is (open_at later) 0 (length later) thread (omega arith) (omega (arith, w.2.within, keeps.threads)) (ap is_open (same ∙ ready)) (λ k p q. closed-after earlier later k keeps (omega (arith, w.2.within)) (w.2.before k q)) in
-    number-stops later thread found ∙ ap (pick_at (Departs thread) thread) same ∙ sym was
+      let thread = w.0 in
+      let was = number-stops earlier thread w.1 in
+      let P : Pick → Type 0 = λ p. ¬ IsWaits p in
+      let ready = open-ready (Departs thread) thread (chance_of earlier thread) w.2.passes (subst P was waits) in
+      let same = keeps.known thread w.2.within (ap is_known ready) in
+      let found = find-is (open_at later) 0 (length later) thread (omega arith) (omega (arith, w.2.within, keeps.threads)) (ap is_open (same ∙ ready)) (λ k p q. closed-after earlier later k keeps (omega (arith, w.2.within)) (w.2.before k q)) in
+      number-stops later thread found ∙ ap (pick_at (Departs thread) thread) same ∙ sym was
   | inr w ↦ number-ends later (find-none (open_at later) 0 (length later) (λ k p q. closed-after earlier later k keeps (omega (arith, keeps.threads)) (w.1 k (omega (arith, keeps.threads))))) ∙ sym (number-ends earlier w.0)
-  ]
+]
 
 pub number-sound : (plan : Plan) (chances : List Chance) → MayDepart plan → TargetsAreAway chances → IsSound plan chances (choice_by_number chances)
 number-sound plan chances departs targets = let P : Pick → Type 0 = IsSound plan chances in elim (found-or-none (open_at chances) (length chances)) [
   | inl w ↦ subst P (sym (number-stops chances w.0 w.1)) (sound-at plan chances (Departs w.0) w.0 w.2.within (λ ready. (departs, w.2.within)) (λ closed. departs) (targets w.0 w.2.within))
   | inr w ↦ subst P (sym (number-ends chances w.0)) w.1
-  ]
+]

@@ -1,4 +1,4 @@
-use Rattle.std.proofs.Common.{◌≡◌, ℕ, ◌<◌, ◌≤◌, Bool, true, false, length, refl, sym, ap, ◌∙◌, arith, inl, inr}
+use Rattle.std.proofs.Common.{◌<◌, length, sym, ap, ◌∙◌, arith, inl, inr}
 use Rattle.std.proofs.lemmas.Bool.{cases_eq}
 use Rattle.std.proofs.lemmas.List.{get_or_default}
 use Rattle.policy_pick.specs.declared.chance.Pick.TheVariants.{Departs}
@@ -10,11 +10,11 @@ use Rattle.policy_pick.proofs.walk.pick_by_number.Goals as goal
 
 pub loop-thread-preserved : goal.loop-thread-preserved
 loop-thread-preserved c = λ other below. elim (cases_eq other c.loop-thread.thread) [
-    | inl e ↦
+  | inl e ↦
       let read = get_or_default c.args.chances.now c.loop-thread.thread Away Ended (omega (arith, c.loop-thread-test.true)) in
       ap (λ t. is_open (chance_of c.args.chances.now t)) e ∙ sym (ap is_open read) ∙ sym c.is_open.ensures ∙ c.if-is_open.false
-    | inr ne ↦ c.loop-thread.invariant other (omega arith)
-    ]
+  | inr ne ↦ c.loop-thread.invariant other (omega arith)
+]
 
 pub returns-then-is_open : goal.returns-then-is_open
 returns-then-is_open c =

@@ -1,5 +1,4 @@
-use Rattle.std.proofs.Common.{◌≡◌, ℕ, ◌+◌, ◌<◌, ◌≤◌, ◌++◌, ◌∷◌, [], List, length, eqb, sym, ap, subst, ◌∙◌, arith}
-use Rattle.std.specs.List.{count_by}
+use Rattle.std.proofs.Common.{◌≡◌, ◌+◌, ◌<◌, length, eqb, sym, ap, subst, ◌∙◌, arith}
 use Rattle.std.proofs.lemmas.List.{length_push, get_or_read}
 use Rattle.std.proofs.lemmas.List.Sums.{count_by-le-length}
 use Rattle.rank_now.proofs.Changes.{ranks_by_events-same, ranks_by_events-free}
@@ -54,7 +53,7 @@ returns-then-index-gt0-clause-stands c = λ schedule stood.
     record {
       taken = omega (arith, stands.taken, length_push schedule c.args.thread);
       values = c.lower.ensures.by_events f.order.items f.events.items schedule stands.values step.given;
-      own = own_counts-after f.order.items schedule f.own.items c.args.thread (c.index.result.now + 1) stands.own step.own
+      own = own_counts-after f.order.items schedule f.own.items c.args.thread (c.index.result.now + 1) stands.own step.own;
     }
 
 pub returns-else-index-gt0-clause-stands : goal.returns-else-index-gt0-clause-stands
@@ -68,5 +67,5 @@ returns-else-index-gt0-clause-stands c = λ schedule stood.
     record {
       taken = omega (arith, stands.taken, length_push schedule c.args.thread);
       values = stands.values ∙ ranks_by_events-same f.order.items f.events.items schedule c.args.thread (omega (arith, c.if-index-gt0.false, step.given));
-      own = own_counts-after f.order.items schedule f.own.items c.args.thread (c.index.result.now + 1) stands.own step.own
+      own = own_counts-after f.order.items schedule f.own.items c.args.thread (c.index.result.now + 1) stands.own step.own;
     }

@@ -1,4 +1,4 @@
-use Rattle.std.proofs.Common.{◌≡◌, ℕ, List, length, sym, ap, subst, ◌∙◌, arith}
+use Rattle.std.proofs.Common.{length, sym, ap, subst, ◌∙◌, arith}
 use Rattle.std.proofs.lemmas.Result.{err_from_is_err_and}
 use Rattle.rank_now.specs.Order.{IsOrder}
 use Rattle.policy_pick.proofs.Orders.{values-threads, refusal-same}
@@ -15,5 +15,5 @@ invariant_of-result c =
       few_threads = omega (arith, ap length same, c.requires.few_threads);
       few_changes = omega (arith, ap length c.in_ok-points.ensures.items, c.requires.few_points);
       as_many = c.in_ok-ranks.ensures.count ∙ sym (ap length c.in_ok-points.ensures.items);
-      threads = values-threads c.args.order.now (length c.args.points.now) c.in_ok-ranks.ranks.values c.in_ok-ranks.ensures.values ∙ sym (ap length same)
+      threads = values-threads c.args.order.now (length c.args.points.now) c.in_ok-ranks.ranks.values c.in_ok-ranks.ensures.values ∙ sym (ap length same);
     }

@@ -1,4 +1,4 @@
-use Rattle.std.proofs.Common.{◌≡◌, ℕ, ◌+◌, ◌<◌, ◌≤◌, ◌++◌, ◌∷◌, [], List, length, eqb, sym, ap, subst, ◌∙◌, arith}
+use Rattle.std.proofs.Common.{◌≡◌, ◌+◌, length, eqb, sym, ap, subst, ◌∙◌, arith}
 use Rattle.std.proofs.lemmas.List.{length_push}
 use Rattle.rank_now.specs.Positions.{passes_at}
 use Rattle.rank_now.specs.Rank.{index_of_point}
@@ -27,7 +27,7 @@ returns-then-index-gt0-clause-stands c = λ schedule stood.
     let index : c.index_of_point-index.result ≡ index_of_point f.points.items (length schedule + 1) = c.index_of_point-index.ensures ∙ ap (λ points. index_of_point points (f.taken + 1)) c.deref.ensures.value ∙ ap (λ taken. index_of_point f.points.items (taken + 1)) stands.taken in
     record {
       taken = omega (arith, stands.taken, length_push schedule c.args.thread);
-      values = c.lower.ensures.by_points f.order.items f.points.items schedule stands.values index
+      values = c.lower.ensures.by_points f.order.items f.points.items schedule stands.values index;
     }
 
 pub returns-else-index-gt0-clause-stands : goal.returns-else-index-gt0-clause-stands
@@ -38,5 +38,5 @@ returns-else-index-gt0-clause-stands c = λ schedule stood.
     let index : c.index_of_point-index.result ≡ index_of_point f.points.items (length schedule + 1) = c.index_of_point-index.ensures ∙ ap (λ points. index_of_point points (f.taken + 1)) c.deref.ensures.value ∙ ap (λ taken. index_of_point f.points.items (taken + 1)) stands.taken in
     record {
       taken = omega (arith, stands.taken, length_push schedule c.args.thread);
-      values = stands.values ∙ ranks-same f.order.items f.points.items schedule c.args.thread (omega (arith, c.if-index-gt0.false, index))
+      values = stands.values ∙ ranks-same f.order.items f.points.items schedule c.args.thread (omega (arith, c.if-index-gt0.false, index));
     }
