@@ -4,3 +4,12 @@ pub mod Characters
 pub mod Tokens
 pub mod Words
 pub mod Rows
+pub mod NameLists
+pub mod Numbers
+pub mod VerdictText
+pub mod VerdictPieces
+pub mod VerdictWords
+pub mod VerdictRead
+pub mod Places
+pub mod PlaceLaws
+pub mod TraceText

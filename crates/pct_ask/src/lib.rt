@@ -3,14 +3,27 @@
 
 mod ask;
 mod blocked;
+mod body;
 mod deal;
 mod event;
+mod line;
+mod names;
+mod number;
 mod sequence;
 mod verdict;
+mod verdict_text;
+mod verdict_words;
+mod words;
 
 pub use ask::{Ask, FaultKind, Post};
 pub use blocked::Blocked;
+pub use body::Body;
 pub use deal::Deal;
 pub use event::{Event, EventList, Row, RowList, Standing};
+pub use line::{Lines, split_lines};
+pub use names::{NameKind, Names};
+pub use number::{read_number, write_number};
 pub use sequence::{NumberList, OrderList, PointList, Sequence};
 pub use verdict::{MisuseKind, Outcome, Verdict};
+pub use verdict_text::{VerdictRead, read_verdict, write_verdict};
+pub use words::is_lawful_name;

@@ -1,0 +1,16 @@
+-- The pieces of a verdict's text, as they are written one after another.
+use Rattle.std.specs.Prelude.{◌≡◌, ℕ, ◌<◌, List, ◌∷◌, ◌++◌, length, take, decimal}
+use Rattle.pct_ask.specs.NameLists.{NameLists}
+use Rattle.pct_ask.specs.VerdictText.{thread_name}
+
+-- the second list begins with the first
+abbrev pub Begins : List ℕ → List ℕ → Type 0
+Begins before after = take (length before) after ≡ before
+
+-- a thread's name and a line, with a space before each
+abbrev pub place_piece : NameLists → ℕ × ℕ → List ℕ
+place_piece names place = 32 ∷ (thread_name names place.0 ++ 32 ∷ decimal place.1)
+
+-- whether a thread has a name
+abbrev pub HasName : NameLists → ℕ → Type 0
+HasName names thread = thread < length names.threads

@@ -1,0 +1,115 @@
+-- A verdict as a text: words with one space between them, in which threads stand by their names (this project).
+use Rattle.std.specs.Prelude.{◌≡◌, ℕ, ◌≤◌, ◌<◌, None, List, [], ◌∷◌, true, length, codes, decimal, map, All, Any, ⊤}
+use Rattle.std.specs.List.{slice_index_or, flat_map, filter_map, join_with_byte}
+use Rattle.std.specs.List.Sorted.{IsStrictlyIncreasing}
+use Rattle.pct_ask.specs.Words.{is_name}
+use Rattle.pct_ask.specs.NameLists.{NameLists, place_of}
+use Rattle.pct_ask.specs.declared.ask.FaultKind.{FaultKind}
+use Rattle.pct_ask.specs.declared.ask.FaultKind.TheVariants.{Overflow, ZeroDivisor, Spin}
+use Rattle.pct_ask.specs.declared.verdict.MisuseKind.{MisuseKind}
+use Rattle.pct_ask.specs.declared.verdict.MisuseKind.TheVariants.{NotOwner, SemFull, AlreadyStarted, TooManyReads}
+use Rattle.pct_ask.specs.declared.verdict.Verdict.{Verdict}
+use Rattle.pct_ask.specs.declared.verdict.Verdict.TheVariants.{Passed, Failed, Stuck, Misuse, Fault, Cut}
+
+-- a verdict whose threads are given by their names
+pub data NamedVerdict : Type 0 where
+  NamedPassed : NamedVerdict
+  NamedFailed : (name : List ℕ) (line : ℕ) → NamedVerdict
+  NamedStuck : (places : List (List ℕ × ℕ)) → NamedVerdict
+  NamedMisuse : (name : List ℕ) (line : ℕ) (kind : MisuseKind) → NamedVerdict
+  NamedFault : (name : List ℕ) (line : ℕ) (kind : FaultKind) → NamedVerdict
+  NamedCut : NamedVerdict
+
+abbrev pub misuse_word : MisuseKind → List ℕ
+misuse_word NotOwner = codes "notowner"
+misuse_word SemFull = codes "semfull"
+misuse_word AlreadyStarted = codes "alreadystarted"
+misuse_word TooManyReads = codes "toomanyreads"
+
+abbrev pub fault_word : FaultKind → List ℕ
+fault_word Overflow = codes "overflow"
+fault_word ZeroDivisor = codes "zerodivisor"
+fault_word Spin = codes "spin"
+
+abbrev pub place_words : List ℕ × ℕ → List (List ℕ)
+place_words place = place.0 ∷ decimal place.1 ∷ []
+
+abbrev pub verdict_words : NamedVerdict → List (List ℕ)
+verdict_words NamedPassed = codes "passed" ∷ []
+verdict_words (NamedFailed name line) = codes "failed" ∷ name ∷ decimal line ∷ []
+verdict_words (NamedStuck places) = codes "stuck" ∷ flat_map place_words places
+verdict_words (NamedMisuse name line kind) = codes "misuse" ∷ name ∷ decimal line ∷ misuse_word kind ∷ []
+verdict_words (NamedFault name line kind) = codes "fault" ∷ name ∷ decimal line ∷ fault_word kind ∷ []
+verdict_words NamedCut = codes "cut" ∷ []
+
+abbrev pub named_text : NamedVerdict → List ℕ
+named_text verdict = join_with_byte 32 (verdict_words verdict)
+
+abbrev pub thread_name : NameLists → ℕ → List ℕ
+thread_name names thread = slice_index_or names.threads thread []
+
+-- the verdict with its threads by their names
+abbrev pub named : NameLists → Verdict → NamedVerdict
+named names Passed = NamedPassed
+named names (Failed thread line) = NamedFailed (thread_name names thread) line
+named names (Stuck places) = NamedStuck (map (λ place. (thread_name names place.0, place.1)) places)
+named names (Misuse thread line kind) = NamedMisuse (thread_name names thread) line kind
+named names (Fault thread line kind) = NamedFault (thread_name names thread) line kind
+named names Cut = NamedCut
+
+abbrev pub verdict_text : NameLists → Verdict → List ℕ
+verdict_text names verdict = named_text (named names verdict)
+
+abbrev pub IsLine : ℕ → Type 0
+IsLine line = (1 ≤ line) × (line ≤ 4096)
+
+-- a lawful name by the first version's keywords, and a line of a test
+abbrev pub IsPlace : List ℕ × ℕ → Type 0
+IsPlace place = (is_name 1 place.0 ≡ true) × IsLine place.1
+
+-- the threads of those names that are a thread's
+abbrev pub known_threads : NameLists → List (List ℕ × ℕ) → List ℕ
+known_threads names places = filter_map (λ place. place_of place.0 names.threads) places
+
+-- A verdict by form: its names are lawful and its lines are a test's. A list of blocked threads isn't empty, and the
+-- threads among its names stand in strictly rising order.
+abbrev pub IsForm : NameLists → NamedVerdict → Type 0
+IsForm names NamedPassed = ⊤
+IsForm names (NamedFailed name line) = IsPlace (name, line)
+IsForm names (NamedStuck places) = (0 < length places) × All IsPlace places × IsStrictlyIncreasing (known_threads names places)
+IsForm names (NamedMisuse name line kind) = IsPlace (name, line)
+IsForm names (NamedFault name line kind) = IsPlace (name, line)
+IsForm names NamedCut = ⊤
+
+abbrev pub names_in : NamedVerdict → List (List ℕ)
+names_in NamedPassed = []
+names_in (NamedFailed name line) = name ∷ []
+names_in (NamedStuck places) = map (λ place. place.0) places
+names_in (NamedMisuse name line kind) = name ∷ []
+names_in (NamedFault name line kind) = name ∷ []
+names_in NamedCut = []
+
+-- some name in it is no thread's
+abbrev pub HasUnknown : NameLists → NamedVerdict → Type 0
+HasUnknown names verdict = Any (λ name. place_of name names.threads ≡ None) (names_in verdict)
+
+abbrev pub threads_in : Verdict → List ℕ
+threads_in Passed = []
+threads_in (Failed thread line) = thread ∷ []
+threads_in (Stuck places) = map (λ place. place.0) places
+threads_in (Misuse thread line kind) = thread ∷ []
+threads_in (Fault thread line kind) = thread ∷ []
+threads_in Cut = []
+
+-- every thread in it has a name
+abbrev pub HasNames : NameLists → Verdict → Type 0
+HasNames names verdict = All (λ thread. thread < length names.threads) (threads_in verdict)
+
+-- its lines are a test's, and a list of blocked threads isn't empty
+abbrev pub IsWhole : Verdict → Type 0
+IsWhole Passed = ⊤
+IsWhole (Failed thread line) = IsLine line
+IsWhole (Stuck places) = (0 < length places) × All (λ place. IsLine place.1) places
+IsWhole (Misuse thread line kind) = IsLine line
+IsWhole (Fault thread line kind) = IsLine line
+IsWhole Cut = ⊤

@@ -1,0 +1,36 @@
+ghost use Rattle.std.specs.Prelude.{◌≡◌, ◌++◌, ℤ, IfSome, OnOk, OnErr, Some, FitsSigned};
+ghost use Rattle.std.specs.Int.{w128};
+ghost use Rattle.pct_ask.specs.Numbers.{number_text};
+
+use itoa::Buffer;
+use std::alloc::AllocError as NoMemory;
+
+/// The number that a canonical decimal spells. `None` where the text is no canonical decimal, or one outside i128.
+pub fn read_number(text: &[u8]) -> Option<i128>
+    ensures spelled { IfSome result (λ number. text.now ≡ number_text number) }
+    ensures fits { IfSome result (λ number. FitsSigned w128 number) }
+    ensures every { (number : ℤ) → FitsSigned w128 number → text.now ≡ number_text number → result ≡ Some number }
+{
+    let Ok(digits) = str::from_utf8(text) else {
+        return None;
+    };
+    let Ok(number) = digits.parse::<i128>() else {
+        return None;
+    };
+    let mut buffer = Buffer::new();
+    let canonical = buffer.format(number).as_bytes();
+    if canonical == text {
+        Some(number)
+    } else {
+        None
+    }
+}
+
+/// Writes a number's canonical decimal at the end. After an `Err` the bytes are as before.
+pub fn write_number(value: i128, out: &mut Vec<u8>) -> Result<(), NoMemory>
+    ensures written { OnOk result (out.new.items ≡ out.old.items ++ number_text value) }
+    ensures unchanged { OnErr result (out.new.items ≡ out.old.items) }
+{
+    let mut buffer = Buffer::new();
+    out.extend_from_slice(buffer.format(value).as_bytes())
+}

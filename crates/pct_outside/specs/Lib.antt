@@ -1,0 +1,6 @@
+pub mod Counter
+pub mod Piece
+pub mod Reading
+pub mod Files
+pub mod ShelfState
+pub mod SinkState

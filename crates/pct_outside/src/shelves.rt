@@ -1,0 +1,82 @@
+//! Where files are read from.
+ghost use Rattle.std.specs.Prelude.{◌≡◌, ℕ, ◌≤◌, List, ◌⊎◌, ◌↔◌, Option, IfOk, OnOk, OnErr, vec_len};
+ghost use Rattle.std.specs.IoError.{error_kind};
+ghost use Rattle.std.specs.declared.io.ErrorKind.TheVariants.{OutOfMemory};
+ghost use Rattle.pct_outside.specs.Reading.{FirstOf, with_name, texts_of};
+ghost use Rattle.pct_outside.specs.declared.shelves.ShelfError.TheVariants.{NoMemory};
+
+use std::alloc::{AllocError, AllocFailed, Global};
+use std::io;
+use std::io::ErrorKind;
+
+/// Why a read gave no bytes.
+#[derive(Clone, Copy, Debug, PartialEq, Eq)]
+pub enum ShelfError {
+    /// The file could not be read.
+    Failed,
+    /// There was no memory for its bytes, or for its name among those that failed.
+    NoMemory,
+}
+
+impl From<AllocError> for ShelfError {
+    ghost from_gives = { λ _ e. e ≡ NoMemory };
+
+    fn from(_error: AllocError) -> ShelfError {
+        ShelfError::NoMemory
+    }
+}
+
+impl<T: Drop> From<AllocFailed<T>> for ShelfError {
+    ghost from_gives = { λ _ e. e ≡ NoMemory };
+
+    fn from(_error: AllocFailed<T>) -> ShelfError {
+        ShelfError::NoMemory
+    }
+}
+
+/// Want of memory is told apart from all other errors of the host.
+impl From<io::Error> for ShelfError {
+    ghost from_gives = { λ e s. (s ≡ NoMemory) ↔ (error_kind e ≡ OutOfMemory) };
+
+    fn from(error: io::Error) -> ShelfError {
+        match error.kind() {
+            ErrorKind::OutOfMemory => ShelfError::NoMemory,
+            _ => ShelfError::Failed,
+        }
+    }
+}
+
+/// Files that are read by their names.
+pub trait Shelf {
+    /// The bytes of each file by its name, where the shelf tells them. A name that it does not hold
+    /// has no bytes.
+    ghost files: { Self → Option (List ℕ → List ℕ) };
+
+    /// The names of the reads that have failed, in the order of the calls.
+    ghost failed: { Self → List (List ℕ) };
+
+    /// Reads the first bytes of a file, at most so many.
+    fn read_up_to(&mut self, name: &str, most: u64) -> Result<Vec<u8>, ShelfError>
+        ensures most { IfOk result (λ bytes. vec_len bytes ≤ most) }
+        ensures first { IfOk result (λ bytes. FirstOf (files self.old) name.now most bytes.items) }
+        ensures files { files self.new ≡ files self.old }
+
+        // No name is kept but this one, and that of a failed read is.
+        ensures failed { (failed self.new ≡ failed self.old)
+            ⊎ (failed self.new ≡ with_name (failed self.old) name.now) }
+        ensures cause { result ≡ Err ShelfError.Failed
+            → failed self.new ≡ with_name (failed self.old) name.now };
+}
+
+/// Keeps the name of a read that failed.
+pub(crate) fn keep_name(
+    alloc: Global,
+    names: &mut Vec<String>,
+    name: &str,
+) -> Result<(), AllocError>
+    ensures ok { OnOk result (texts_of names.new.items ≡ with_name (texts_of names.old.items) name.now) }
+    ensures err { OnErr result (names.new.items ≡ names.old.items) }
+{
+    names.push(String::from_str(alloc, name)?)?;
+    Ok(())
+}

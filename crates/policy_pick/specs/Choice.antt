@@ -1,0 +1,105 @@
+-- Who goes next: the choice that a policy's parameters make after a schedule, a list of threads, from what is known of
+-- each thread. (The threads of a run by PCT go by falling rank; lists, and what is known of a thread, are this project's.)
+use Rattle.std.specs.Prelude.{◌≡◌, ℕ, ◌<◌, Bool, true, false, ◌&&◌, ◌||◌, not, nat_le, List, length, slice_get, slice_index, slice_index_or, Option, Some, None}
+use Rattle.std.specs.List.{find, list_all, range_with_len}
+use Rattle.rank_now.specs.Rank.{ranks, ranks_by_events}
+use Rattle.policy_pick.specs.declared.chance.Chance.{Chance}
+use Rattle.policy_pick.specs.declared.chance.Chance.TheVariants.{Away, Ready, Blocked, Unknown, Ended}
+use Rattle.policy_pick.specs.declared.chance.Pick.{Pick}
+use Rattle.policy_pick.specs.declared.chance.Pick.TheVariants.{Thread, Waits, Nobody, Departs}
+use Rattle.policy_pick.specs.Plan.{Plan, ByPoints, ByEvents, ByList}
+
+-- the thread's chance; a thread that there isn't has ended
+abbrev pub chance_of : List Chance → ℕ → Chance
+chance_of chances thread = slice_index_or chances thread Ended
+
+-- whether a walk stops at the thread
+abbrev pub is_open : Chance → Bool
+is_open Away = true
+is_open Ready = true
+is_open Blocked = false
+is_open (Unknown target) = true
+is_open Ended = false
+
+-- what is picked at a thread, and `ready` where the thread is Ready
+abbrev pub pick_at : Pick → ℕ → Chance → Pick
+pick_at ready thread Away = Waits thread
+pick_at ready thread Ready = ready
+pick_at ready thread Blocked = Departs thread
+pick_at ready thread (Unknown target) = Waits target
+pick_at ready thread Ended = Departs thread
+
+-- what is picked where a walk over the threads stops, or at its end
+abbrev pub pick_of_walk : (ℕ → Pick) → List Chance → Option ℕ → Pick
+pick_of_walk ready chances None = Nobody
+pick_of_walk ready chances (Some thread) = pick_at (ready thread) thread (chance_of chances thread)
+
+-- the threads by rising number
+abbrev pub threads_of : List Chance → List ℕ
+threads_of chances = range_with_len 0 (length chances)
+
+-- whether the thread is open, and no open thread has a greater rank
+abbrev pub is_highest : List ℕ → List Chance → ℕ → Bool
+is_highest ranks chances thread = is_open (chance_of chances thread) && list_all (λ other. not (is_open (chance_of chances other)) || nat_le (slice_index ranks other) (slice_index ranks thread)) (threads_of chances)
+
+-- The walk by falling rank stops at the open thread of greatest rank.
+unfoldable pub choice_by_rank : List ℕ → List Chance → Pick
+choice_by_rank ranks chances = pick_of_walk Thread chances (find (is_highest ranks chances) (threads_of chances))
+
+-- The walk by rising number stops at the first open thread. Who goes there was not listed.
+unfoldable pub choice_by_number : List Chance → Pick
+choice_by_number chances = pick_of_walk Departs chances (find (λ thread. is_open (chance_of chances thread)) (threads_of chances))
+
+-- The listed thread goes, and after the list nobody may.
+abbrev pub choice_by_list : Option ℕ → List Chance → Pick
+choice_by_list None chances = choice_by_number chances
+choice_by_list (Some thread) chances = pick_at (Thread thread) thread (chance_of chances thread)
+
+-- the choice after a schedule
+abbrev pub choice : Plan → List ℕ → List Chance → Pick
+choice (ByPoints order points) schedule chances = choice_by_rank (ranks order points schedule) chances
+choice (ByEvents order events) schedule chances = choice_by_rank (ranks_by_events order events schedule) chances
+choice (ByList listed) schedule chances = choice_by_list (slice_get listed (length schedule)) chances
+
+-- the next step of the thread whose end or next ask an Unknown waits for is not known
+abbrev pub HasAwayTarget : List Chance → Chance → Type 0
+HasAwayTarget chances (Unknown target) = (target < length chances) × (chance_of chances target ≡ Away)
+HasAwayTarget chances Away = Unit {0}
+HasAwayTarget chances Ready = Unit {0}
+HasAwayTarget chances Blocked = Unit {0}
+HasAwayTarget chances Ended = Unit {0}
+
+abbrev pub TargetsAreAway : List Chance → Type 0
+TargetsAreAway chances = (thread : ℕ) → thread < length chances → HasAwayTarget chances (chance_of chances thread)
+
+-- only a list of threads can be departed from
+abbrev pub MayDepart : Plan → Type 0
+MayDepart (ByPoints order points) = ⊥
+MayDepart (ByEvents order events) = ⊥
+MayDepart (ByList listed) = Unit {0}
+
+-- A picked thread is Ready, one that is waited for is Away, and where nobody is picked every thread is Blocked or Ended.
+abbrev pub IsSound : Plan → List Chance → Pick → Type 0
+IsSound plan chances (Thread thread) = (thread < length chances) × (chance_of chances thread ≡ Ready)
+IsSound plan chances (Waits thread) = (thread < length chances) × (chance_of chances thread ≡ Away)
+IsSound plan chances Nobody = (thread : ℕ) → thread < length chances → is_open (chance_of chances thread) ≡ false
+IsSound plan chances (Departs thread) = MayDepart plan × (thread < length chances)
+
+-- whether a thread's next step is known: neither Away nor Unknown
+abbrev pub is_known : Chance → Bool
+is_known Away = false
+is_known Ready = true
+is_known Blocked = true
+is_known (Unknown target) = false
+is_known Ended = true
+
+-- the later chances say the same of each thread that is known in the earlier ones
+pub record KeepsKnown (earlier later : List Chance) : Type 0 where
+  pub threads : length later ≡ length earlier
+  pub known : (thread : ℕ) → thread < length earlier → is_known (chance_of earlier thread) ≡ true → chance_of later thread ≡ chance_of earlier thread
+
+abbrev pub IsWaits : Pick → Type 0
+IsWaits (Waits thread) = Unit {0}
+IsWaits (Thread thread) = ⊥
+IsWaits Nobody = ⊥
+IsWaits (Departs thread) = ⊥

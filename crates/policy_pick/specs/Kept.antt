@@ -1,0 +1,61 @@
+-- What each policy keeps, and the schedules that it stands for.
+use Rattle.std.specs.Prelude.{◌≡◌, ℕ, ◌==◌, ◌≤◌, List, length, map}
+use Rattle.std.specs.List.{count_by}
+use Rattle.rank_now.specs.declared.moment.Moment.{Moment}
+use Rattle.rank_now.specs.Order.{IsOrder}
+use Rattle.rank_now.specs.Rank.{ranks, ranks_by_events, threads_of}
+use Rattle.policy_pick.specs.Plan.{Plan, ByPoints, ByEvents, ByList}
+
+-- of a `Pct`: its order and points, how many steps were taken, and each thread's value
+pub record PointsKept : Type 0 where
+  pub order : List ℕ
+  pub points : List ℕ
+  pub taken : ℕ
+  pub values : List ℕ
+
+abbrev pub points_plan : PointsKept → Plan
+points_plan kept = ByPoints kept.order kept.points
+
+-- the steps are as many, and the values are the ranks
+pub record PointsStand (kept : PointsKept) (schedule : List ℕ) : Type 0 where
+  pub taken : kept.taken ≡ length schedule
+  pub values : kept.values ≡ ranks kept.order kept.points schedule
+
+-- of a `DirectedPolicy`: the same with events, and how many steps each thread took
+pub record EventsKept : Type 0 where
+  pub order : List ℕ
+  pub events : List Moment
+  pub taken : ℕ
+  pub values : List ℕ
+  pub own : List ℕ
+
+abbrev pub events_plan : EventsKept → Plan
+events_plan kept = ByEvents kept.order kept.events
+
+-- how many steps of the schedule each thread of the order took
+abbrev pub own_counts : List ℕ → List ℕ → List ℕ
+own_counts order schedule = map (λ thread. count_by (λ taker. taker == thread) schedule) (threads_of order)
+
+pub record EventsStand (kept : EventsKept) (schedule : List ℕ) : Type 0 where
+  pub taken : kept.taken ≡ length schedule
+  pub values : kept.values ≡ ranks_by_events kept.order kept.events schedule
+  pub own : kept.own ≡ own_counts kept.order schedule
+
+-- of a `Listed`: the threads, and how many steps were taken
+pub record ListKept : Type 0 where
+  pub listed : List ℕ
+  pub taken : ℕ
+
+abbrev pub list_plan : ListKept → Plan
+list_plan kept = ByList kept.listed
+
+abbrev pub ListStands : ListKept → List ℕ → Type 0
+ListStands kept schedule = kept.taken ≡ length schedule
+
+-- what a policy that goes by rank keeps true: `count` values to give, one for each of its changes
+pub record FitsOrder (order values : List ℕ) (count changes : ℕ) : Type 0 where
+  pub is_order : IsOrder order
+  pub few_threads : length order ≤ 64
+  pub few_changes : changes ≤ 7
+  pub as_many : count ≡ changes
+  pub threads : length values ≡ length order

@@ -1,0 +1,4 @@
+pub mod Choice
+pub mod Kept
+pub mod Laws
+pub mod Plan

@@ -1,0 +1,22 @@
+-- The parameters of a policy, as plain data.
+use Rattle.std.specs.Prelude.{◌≡◌, ℕ, ◌<◌, ◌≤◌, List, length}
+use Rattle.std.specs.List.{All}
+use Rattle.rank_now.specs.declared.moment.Moment.{Moment}
+
+pub data Plan : Type 0 where
+  -- an order of the threads, and the change points of PCT
+  ByPoints : List ℕ → List ℕ → Plan
+  -- an order of the threads, and moments in the place of change points
+  ByEvents : List ℕ → List Moment → Plan
+  -- a list of threads, one a step
+  ByList : List ℕ → Plan
+
+-- how many threads a policy speaks of: those of its order, or any number up to 64 that the listed threads are below
+abbrev pub SpeaksOf : Plan → ℕ → Type 0
+SpeaksOf (ByPoints order points) threads = threads ≡ length order
+SpeaksOf (ByEvents order events) threads = threads ≡ length order
+SpeaksOf (ByList listed) threads = (threads ≤ 64) × All (λ thread. thread < threads) listed
+
+-- the thread is one of those
+abbrev pub IsThreadOf : Plan → ℕ → Type 0
+IsThreadOf plan thread = (threads : ℕ) × SpeaksOf plan threads × (thread < threads)

@@ -1,0 +1,97 @@
+ghost use Rattle.std.specs.Prelude.{◌≡◌, ℕ, ◌≤◌, ◌==◌, ◌&&◌, [], List, length, IfOk, ◌↔◌};
+ghost use Rattle.rank_now.specs.Order.{IsOrder, IsFirstWrong};
+ghost use Rattle.rank_now.specs.Positions.{last_position};
+ghost use Rattle.policy_pick.specs.Plan.{ByEvents};
+ghost use Rattle.policy_pick.specs.Kept.{events_plan, EventsStand};
+
+use crate::chance::{Chance, Pick};
+use crate::policy::Policy;
+use crate::walk::pick_by_rank;
+use rank_now::{Moment, RankError, Ranks};
+use std::alloc::{AllocError, Global};
+use std::marker::Model;
+
+/// The scheduler of PCT with moments in the place of change points: a thread is lowered after its own step of a number.
+#[derive(Debug, Drop)]
+pub struct DirectedPolicy {
+    order: Vec<u32>,
+    events: Vec<Moment>,
+    ranks: Ranks,
+    taken: u32,
+    own: Vec<u32>,
+}
+
+impl Model for DirectedPolicy {
+    ghost use Rattle.std.specs.Prelude.{length};
+    ghost use Rattle.policy_pick.specs.Kept.{EventsKept, FitsOrder};
+
+    ghost Value = { EventsKept };
+
+    ghost view = { λ p. record { order = p.order.items; events = p.events.items; taken = p.taken; values = p.ranks.values; own = p.own.items } };
+
+    ghost invariant = { λ p. FitsOrder p.order.items p.ranks.values p.ranks.count (length p.events.items) };
+}
+
+impl DirectedPolicy {
+    /// The order names the highest thread first.
+    pub fn new(alloc: Global, order: &[u32], events: &[Moment]) -> Result<DirectedPolicy, RankError>
+        requires few_threads { length order.now ≤ 64 }
+        requires few_events { length events.now ≤ 7 }
+        ensures plan { IfOk result (λ p. events_plan p ≡ ByEvents order.now events.now) }
+        ensures stands { IfOk result (λ p. EventsStand p []) }
+        ensures not_an_order { (at : ℕ) → (result ≡ Err (RankError.NotAnOrder at)) ↔ IsFirstWrong order.now at }
+    {
+        let ranks = Ranks::new(alloc, order, events.len() as u32)?;
+        let own = vec![in alloc; 0; order.len()]?;
+        let order = Vec::from_slice(alloc, order)?;
+        let events = Vec::from_slice(alloc, events)?;
+        Ok(DirectedPolicy {
+            order,
+            events,
+            ranks,
+            taken: 0,
+            own,
+        })
+    }
+}
+
+impl Policy for DirectedPolicy {
+    ghost use Rattle.policy_pick.specs.Kept.{events_plan, EventsStand};
+    ghost use Rattle.policy_pick.specs.Laws.{choice-keeps, choice-sound};
+
+    ghost plan = { events_plan };
+
+    ghost stands = { EventsStand };
+
+    fn pick(&self, chances: &[Chance]) -> Pick {
+        pick_by_rank(&self.ranks, chances)
+    }
+
+    fn took(&mut self, thread: u32) {
+        self.taken += 1;
+        let number = self.own[thread as usize] + 1;
+        self.own[thread as usize] = number;
+        let index = index_of_moment(&self.events, thread, number);
+        if index > 0 {
+            self.ranks.lower(thread, index);
+        }
+    }
+
+    ghost keeps = { λ policy schedule earlier later speaks known waits. choice-keeps (events_plan policy) schedule earlier later known waits };
+
+    ghost sound = { λ policy schedule chances speaks targets. choice-sound (events_plan policy) schedule chances speaks targets };
+}
+
+/// The greatest index, from 1, of the moment that is this own step of the thread, and 0 where none is.
+fn index_of_moment(events: &[Moment], thread: u32, number: u32) -> u32
+    requires { length events.now ≤ 7 }
+    ensures { result ≡ last_position (λ e. e.thread == thread && e.number == number) events.now }
+{
+    let mut index = 0;
+    for (place, event) in events.iter().enumerate() {
+        if event.thread == thread && event.number == number {
+            index = place as u32 + 1;
+        }
+    }
+    index
+}

@@ -1,0 +1,92 @@
+ghost use Rattle.std.specs.Prelude.{◌≡◌, ℕ, ◌≤◌, [], List, length, IfOk, ◌↔◌};
+ghost use Rattle.rank_now.specs.Order.{IsOrder, IsFirstWrong};
+ghost use Rattle.rank_now.specs.Rank.{index_of_point};
+ghost use Rattle.policy_pick.specs.Plan.{ByPoints};
+ghost use Rattle.policy_pick.specs.Kept.{points_plan, PointsStand};
+
+use crate::chance::{Chance, Pick};
+use crate::policy::Policy;
+use crate::walk::pick_by_rank;
+use rank_now::{RankError, Ranks};
+use std::alloc::{AllocError, Global};
+use std::marker::Model;
+
+/// The scheduler of PCT: the highest thread goes, and at each change point the one that took the step is lowered.
+#[derive(Debug, Drop)]
+pub struct Pct {
+    order: Vec<u32>,
+    points: Vec<u32>,
+    ranks: Ranks,
+    taken: u32,
+}
+
+impl Model for Pct {
+    ghost use Rattle.std.specs.Prelude.{length};
+    ghost use Rattle.policy_pick.specs.Kept.{PointsKept, FitsOrder};
+
+    ghost Value = { PointsKept };
+
+    ghost view = { λ p. record { order = p.order.items; points = p.points.items; taken = p.taken; values = p.ranks.values } };
+
+    ghost invariant = { λ p. FitsOrder p.order.items p.ranks.values p.ranks.count (length p.points.items) };
+}
+
+impl Pct {
+    /// The order names the highest thread first. The change points are numbers of steps of the run, from 1.
+    pub fn new(alloc: Global, order: &[u32], points: &[u32]) -> Result<Pct, RankError>
+        requires few_threads { length order.now ≤ 64 }
+        requires few_points { length points.now ≤ 7 }
+        ensures plan { IfOk result (λ p. points_plan p ≡ ByPoints order.now points.now) }
+        ensures stands { IfOk result (λ p. PointsStand p []) }
+        ensures not_an_order { (at : ℕ) → (result ≡ Err (RankError.NotAnOrder at)) ↔ IsFirstWrong order.now at }
+    {
+        let ranks = Ranks::new(alloc, order, points.len() as u32)?;
+        let order = Vec::from_slice(alloc, order)?;
+        let points = Vec::from_slice(alloc, points)?;
+        Ok(Pct {
+            order,
+            points,
+            ranks,
+            taken: 0,
+        })
+    }
+}
+
+impl Policy for Pct {
+    ghost use Rattle.policy_pick.specs.Kept.{points_plan, PointsStand};
+    ghost use Rattle.policy_pick.specs.Laws.{choice-keeps, choice-sound};
+
+    ghost plan = { points_plan };
+
+    ghost stands = { PointsStand };
+
+    fn pick(&self, chances: &[Chance]) -> Pick {
+        pick_by_rank(&self.ranks, chances)
+    }
+
+    fn took(&mut self, thread: u32) {
+        self.taken += 1;
+        let index = index_of_point(&self.points, self.taken);
+        if index > 0 {
+            self.ranks.lower(thread, index);
+        }
+    }
+
+    ghost keeps = { λ policy schedule earlier later speaks known waits. choice-keeps (points_plan policy) schedule earlier later known waits };
+
+    ghost sound = { λ policy schedule chances speaks targets. choice-sound (points_plan policy) schedule chances speaks targets };
+}
+
+/// The greatest index, from 1, of a point that is the step, and 0 where none is.
+fn index_of_point(points: &[u32], step: u32) -> u32
+    requires { length points.now ≤ 7 }
+    ensures { result ≡ index_of_point points.now step }
+{
+    let mut index = 0;
+    for (place, point) in points.iter().enumerate() {
+        if *point == step {
+            index = place as u32 + 1;
+        }
+    }
+    index
+}

@@ -1,0 +1,34 @@
+ghost use Rattle.std.specs.Prelude.{◌≡◌, ℕ, ◌<◌, List, [], ◌∷◌, ◌++◌, length};
+ghost use Rattle.policy_pick.specs.declared.chance.Chance.{Chance};
+ghost use Rattle.policy_pick.specs.Plan.{Plan, SpeaksOf, IsThreadOf};
+ghost use Rattle.policy_pick.specs.Choice.{choice, TargetsAreAway, IsSound, KeepsKnown, IsWaits};
+
+use crate::chance::{Chance, Pick};
+
+/// Who goes next. A policy has parameters, its plan, which never change, and it stands for a schedule: the threads
+/// that took the steps so far.
+pub trait Policy: Send + Drop {
+    ghost plan: { Self → Plan };
+
+    ghost stands: { Self → List ℕ → Type 0 };
+
+    /// Picks the thread that goes next, from one chance for each thread.
+    fn pick(&self, chances: &[Chance]) -> Pick
+        requires threads { SpeaksOf (plan self.now) (length chances.now) }
+        requires targets { TargetsAreAway chances.now }
+        ensures choice { (schedule : List ℕ) → stands self.now schedule → result ≡ choice (plan self.now) schedule chances.now }
+        ensures sound { IsSound (plan self.now) chances.now result };
+
+    /// Notes that the thread took a step.
+    fn took(&mut self, thread: u32)
+        requires thread { IsThreadOf (plan self.old) thread }
+        requires short { (schedule : List ℕ) × stands self.old schedule × (length schedule < 100000) }
+        ensures plan { plan self.new ≡ plan self.old }
+        ensures stands { (schedule : List ℕ) → stands self.old schedule → stands self.new (schedule ++ thread ∷ []) };
+
+    // A choice that waits for nobody stays, as what was not known becomes known.
+    ghost keeps: { (policy : Self) (schedule : List ℕ) (earlier later : List Chance) → SpeaksOf (plan policy) (length earlier) → KeepsKnown earlier later → ¬ IsWaits (choice (plan policy) schedule earlier) → choice (plan policy) schedule later ≡ choice (plan policy) schedule earlier };
+
+    // Each choice is sound.
+    ghost sound: { (policy : Self) (schedule : List ℕ) (chances : List Chance) → SpeaksOf (plan policy) (length chances) → TargetsAreAway chances → IsSound (plan policy) chances (choice (plan policy) schedule chances) };
+}

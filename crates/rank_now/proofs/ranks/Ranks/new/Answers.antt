@@ -1,0 +1,30 @@
+use Rattle.std.proofs.Common.{refl, sym, subst, List, ℕ}
+use Rattle.rank_now.specs.Ranking.{IsKept}
+use Rattle.rank_now.proofs.Orders.{is-order, first-kept}
+use Rattle.rank_now.proofs.Changes.{ranks-first, ranks_by_events-first}
+use Rattle.rank_now.proofs.ranks.Ranks.new.Goals as goal
+
+pub first_values-requires-clause-order : goal.first_values-requires-clause-order
+first_values-requires-clause-order c = is-order c.args.order.now (c.in_default.ensures.none refl)
+
+pub invariant_of-result : goal.invariant_of-result
+invariant_of-result c =
+    let order = c.args.order.now in
+    let kept = first-kept order c.in_ok-values.values.items c.args.count (is-order order (c.in_default.ensures.none refl)) c.in_ok-values.ensures c.requires.few_threads c.requires.few_points in
+    let P : List ℕ → Type 0 = λ walk. IsKept c.args.count c.in_ok-values.values.items walk in
+    subst P (sym (c.in_ok-walk.ensures.items)) kept
+
+pub returns-clause-distinct : goal.returns-clause-distinct
+returns-clause-distinct c =
+    let order = c.args.order.now in
+    let kept = first-kept order c.in_ok-values.values.items c.args.count (is-order order (c.in_default.ensures.none refl)) c.in_ok-values.ensures c.requires.few_threads c.requires.few_points in
+    kept.distinct
+
+pub returns-clause-order : goal.returns-clause-order
+returns-clause-order c = is-order c.args.order.now (c.in_default.ensures.none refl)
+
+pub returns-clause-by_points : goal.returns-clause-by_points
+returns-clause-by_points c = λ points same. ranks-first c.args.order.now points c.in_ok-values.values.items c.args.count same c.in_ok-values.ensures
+
+pub returns-clause-by_events : goal.returns-clause-by_events
+returns-clause-by_events c = λ events same. ranks_by_events-first c.args.order.now events c.in_ok-values.values.items c.args.count same c.in_ok-values.ensures

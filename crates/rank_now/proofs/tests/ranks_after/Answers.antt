@@ -1,0 +1,43 @@
+use Rattle.std.proofs.Common.{◌≡◌, ◌<◌, ◌+◌, eqb, length, take, get_or, ap, sym, ◌∙◌, arith, ◌++◌, ◌∷◌, []}
+use Rattle.std.proofs.lemmas.List.{take_more, length-take-le}
+use Rattle.std.proofs.lemmas.List.FromFn.{length-map-range_with_len}
+use Rattle.rank_now.specs.Ranking.{Ranking}
+use Rattle.rank_now.specs.Positions.{passes_at}
+use Rattle.rank_now.specs.Rank.{ranks, rank, index_of_point}
+use Rattle.rank_now.proofs.Schedule.{greatest-le}
+use Rattle.rank_now.proofs.Changes.{ranks-same, ranks-free}
+use Rattle.rank_now.proofs.tests.ranks_after.Goals as goal
+use Rattle.rank_now.proofs.tests.ranks_after.Goals.{then-index-gt0, else-index-gt0}
+
+pub lower-requires-clause-thread : goal.lower-requires-clause-thread
+lower-requires-clause-thread c =
+    let long : length c.loop-taken.ranks.values ≡ length c.args.order.now = ap length c.loop-taken.invariant.0 ∙ length-map-range_with_len (rank c.args.order.now c.args.points.now (take c.loop-taken.taken c.args.schedule.now)) 0 (length c.args.order.now) in
+    omega (arith, c.requires.threads c.loop-taken.taken 0 (omega (arith, c.loop-taken-test.true)))
+
+pub lower-requires-clause-low : goal.lower-requires-clause-low
+lower-requires-clause-low c = omega (arith, c.slow_index-index.ensures, c.loop-taken.invariant.1, greatest-le (passes_at (λ point. eqb point (c.loop-taken.taken + 1)) c.args.points.now) (length c.args.points.now))
+
+pub lower-requires-clause-free : goal.lower-requires-clause-free
+lower-requires-clause-free c =
+    let before = take c.loop-taken.taken c.args.schedule.now in
+    let long : length before ≡ c.loop-taken.taken = length-take-le c.loop-taken.taken c.args.schedule.now (omega (arith, c.loop-taken-test.true)) in
+    ranks-free c.args.order.now c.args.points.now before 0 c.loop-taken.invariant.2 c.loop-taken.ranks.values c.slow_index-index.result (omega (arith, c.if-index-gt0.true)) (c.slow_index-index.ensures ∙ ap (λ x. index_of_point c.args.points.now (x + 1)) (sym long)) c.loop-taken.invariant.0
+
+pub loop-taken-preserved : goal.loop-taken-preserved
+loop-taken-preserved c =
+    let order = c.args.order.now in
+    let points = c.args.points.now in
+    let taken = c.loop-taken.taken in
+    let before = take taken c.args.schedule.now in
+    let thread = get_or c.args.schedule.now taken 0 in
+    let within : taken < length c.args.schedule.now = omega (arith, c.loop-taken-test.true) in
+    let long : length before ≡ taken = length-take-le taken c.args.schedule.now (omega arith) in
+    let index : c.slow_index-index.result ≡ index_of_point points (length before + 1) = c.slow_index-index.ensures ∙ ap (λ x. index_of_point points (x + 1)) (sym long) in
+    let after : take (taken + 1) c.args.schedule.now ≡ before ++ thread ∷ [] = take_more c.args.schedule.now taken 0 within in
+    elim c.if-index-gt0.branch [
+      | then-index-gt0 w ↦ (ap (λ (r : Ranking). r.values) w.ranks-is ∙ w.lower.ensures.by_points order points before c.loop-taken.invariant.0 index ∙ sym (ap (ranks order points) after), ap (λ (r : Ranking). r.count) w.ranks-is ∙ w.lower.ensures.count ∙ c.loop-taken.invariant.1, c.loop-taken.invariant.2)
+      | else-index-gt0 w ↦ (ap (λ (r : Ranking). r.values) w.ranks-is ∙ c.loop-taken.invariant.0 ∙ ranks-same order points before thread (omega (arith, w.if-index-gt0.false, index)) ∙ sym (ap (ranks order points) after), ap (λ (r : Ranking). r.count) w.ranks-is ∙ c.loop-taken.invariant.1, c.loop-taken.invariant.2)
+    ]
+
+pub returns-clause-threads : goal.returns-clause-threads
+returns-clause-threads c = ap length c.loop-taken.invariant.0 ∙ length-map-range_with_len (rank c.args.order.now c.args.points.now (take c.loop-taken.taken c.args.schedule.now)) 0 (length c.args.order.now)

@@ -1,0 +1,4 @@
+pub mod Order
+pub mod Positions
+pub mod Rank
+pub mod Ranking

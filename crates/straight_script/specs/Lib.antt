@@ -1,0 +1,9 @@
+pub mod Cutting
+pub mod Fitting
+pub mod Forms
+pub mod ScriptText
+pub mod Part
+pub mod Said
+pub mod Grammar
+pub mod Reading
+pub mod Faults
