@@ -1,4 +1,4 @@
--- What an enabled step does.
+-- What an enabled step does (POSIX threads; where POSIX leaves a case open, this project).
 use Rattle.std.specs.Prelude.{ℕ, ◌+◌, ◌-◌, min, ◌==◌, ◌&&◌, nat_lt, ℤ, pos, negsuc, ◌+ℤ◌, ◌-ℤ◌, int_lt, int_le, Bool, false, not, if◌then◌else◌, List, [], ◌∷◌, ◌++◌, length, filter, Option, is_none, Some, None, slice_index, slice_set}
 use Rattle.std.specs.Ordering.{int_eq}
 use Rattle.std.specs.List.{list_any}
@@ -19,7 +19,7 @@ pub data Effect : Type 0 where
   Goes : (after : StoreState) → (answer : ℤ) → Effect
   Stops : (verdict : Verdict) → Effect
 
--- a thread goes last on a list, unless the list has it
+-- a thread goes last on a list; a list that has it stays as it is, with the old entry (this project)
 abbrev pub onto : ℕ → List ℕ → List ℕ
 onto t threads = if is_on t threads then threads else threads ++ t ∷ []
 
@@ -32,20 +32,21 @@ all_onto (t ∷ ts) threads = all_onto ts (onto t threads)
 abbrev pub without : ℕ → List ℕ → List ℕ
 without t threads = filter (λ u. not (t == u)) threads
 
--- what a variable holds
+-- the numbers that a variable may hold (this project)
 abbrev pub is_i64 : ℤ → Bool
 is_i64 n = int_le (negsuc 9223372036854775807) n && int_le n (pos 9223372036854775807)
 
+-- whether an owner or a writer is the thread t
 abbrev pub is_thread : ℕ → Option ℕ → Bool
 is_thread t None = false
 is_thread t (Some u) = u == t
 
--- the longest waiter of a condition is woken, if there is one
+-- the longest waiter of a condition is woken, if there is one; a signal that nobody waits for is lost (POSIX)
 abbrev pub signalled : List ℕ → List ℕ → ConditionState
 signalled [] woken = record { waiting = []; woken = woken }
 signalled (t ∷ waiting) woken = record { waiting = waiting; woken = onto t woken }
 
--- the greatest number of a semaphore (POSIX's SEM_VALUE_MAX, at its least)
+-- the greatest number of a semaphore: POSIX's SEM_VALUE_MAX, whose value is this project's
 abbrev pub sem_max : ℤ
 sem_max = pos 2147483647
 
@@ -53,12 +54,12 @@ sem_max = pos 2147483647
 abbrev pub max_reads : ℕ
 max_reads = 1000
 
--- a thread is let through a barrier, unless it already was
+-- a thread goes last on the list of those that are let through; a list that has it stays as it is (this project)
 abbrev pub let_through : ℕ → Bool → List Released → List Released
 let_through t serial released =
     if is_released t released then released else released ++ record { thread = t; serial = serial } ∷ []
 
--- threads are let through, one after another; the one that arrived last is the serial one
+-- threads are let through, one after another; the one that arrived last is the serial one (POSIX leaves open which)
 abbrev pub all_through : ℕ → List ℕ → List Released → List Released
 all_through last [] released = released
 all_through last (t ∷ ts) released = all_through last ts (let_through t (t == last) released)
@@ -70,6 +71,7 @@ met t barrier =
     then record barrier { arrived = []; released = all_through t barrier.arrived barrier.released }
     else barrier
 
+-- the thread t arrives
 abbrev pub arrived_at : ℕ → BarrierState → BarrierState
 arrived_at t barrier = met t (record barrier { arrived = onto t barrier.arrived })
 
@@ -81,6 +83,7 @@ left_by t barrier = record barrier { released = filter (λ release. not (t == re
 abbrev pub is_serial : ℕ → List Released → Bool
 is_serial t released = list_any (λ release. t == release.thread && release.serial) released
 
+-- a read-write lock with another writer, and with another number of read holds of one thread
 abbrev pub with_writer : RwLockState → Option ℕ → RwLockState
 with_writer rwlock writer = record rwlock { writer = writer }
 
@@ -99,6 +102,7 @@ goes_or store l None verdict = Stops verdict
 goes_or store l (Some rwlock) verdict = Goes (with_rwlock store l rwlock) (pos 0)
 
 -- The step of the thread t, whose ask stands on a line of the test: the store after it and the answer, or a verdict.
+-- It speaks of steps that are enabled.
 abbrev pub effect : StoreState → ℕ → ℕ → Ask → Effect
 effect store t line (Read x) = Goes store (value_of store x)
 effect store t line (Write x value) = Goes (with_value store x value) (pos 0)

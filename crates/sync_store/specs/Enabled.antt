@@ -1,4 +1,4 @@
--- When a thread's ask may take its step.
+-- When a thread's ask may take its step (POSIX threads; this project's own asks never wait).
 use Rattle.std.specs.Prelude.{◌<◌, ℕ, ◌==◌, ◌&&◌, pos, int_lt, Bool, true, not, List, is_none}
 use Rattle.std.specs.List.{list_any, list_all}
 use Rattle.pct_ask.specs.declared.Ask.{Ask}
@@ -48,7 +48,7 @@ enabled store ended t (RwUnlock l) = true
 abbrev pub others_ended : ℕ → ℕ → Bool
 others_ended t u = not (u == t)
 
--- an ask names objects and threads that there are
+-- an ask names only objects and threads that there are
 abbrev pub IsInRange : Sizes → Ask → Type 0
 IsInRange sizes (Read x) = x < sizes.vars
 IsInRange sizes (Write x value) = x < sizes.vars

@@ -19,6 +19,7 @@ abbrev pub unknown_target : (ℕ → Bool) → Option ℕ → Option ℕ
 unknown_target away None = None
 unknown_target away (Some u) = if away u then Some u else None
 
+-- unknown where there is such a thread, else by whether the ask is enabled
 abbrev pub ready_by : Option ℕ → Bool → Ready
 ready_by (Some u) is_enabled = Unknown u
 ready_by None is_enabled = if is_enabled then Yes else No
@@ -28,6 +29,7 @@ ready_by None is_enabled = if is_enabled then Yes else No
 abbrev pub readiness : StoreState → (ℕ → Bool) → (ℕ → Bool) → ℕ → Ask → Ready
 readiness store away ended t ask = ready_by (unknown_target away (awaited ask)) (enabled store ended t ask)
 
+-- of a thread's standing: whether its next post isn't known, and whether it has ended
 abbrev pub is_away : Option Standing → Bool
 is_away (Some Away) = true
 is_away (Some Asks) = false

@@ -36,6 +36,7 @@ pub record StoreState : Type 0 where
   pub started : List ℕ
   pub rwlocks : List RwLockState
 
+-- a condition, a barrier and a read-write lock at the start
 abbrev pub new_condition : ConditionState
 new_condition = record { waiting = []; woken = [] }
 
@@ -110,6 +111,7 @@ pub record Sizes : Type 0 where
   pub barriers : ℕ
   pub rwlocks : ℕ
 
+-- those of a deal, and those of a store
 abbrev pub sizes_of_deal : Deal → Sizes
 sizes_of_deal deal = record {
   threads = deal.threads;

@@ -7,7 +7,7 @@ use Rattle.sync_store.specs.declared.touched.Touched.TheVariants.{Nothing, Mutex
 use Rattle.sync_store.specs.Store.{StoreState}
 use Rattle.sync_store.specs.Enabled.{enabled}
 
--- the object that the step of an ask touches
+-- the object that the step of an ask touches (this project)
 abbrev pub touched_of : Ask → Touched
 touched_of (Read x) = Nothing
 touched_of (Write x value) = Nothing
@@ -37,6 +37,7 @@ touched_of (TryRdLock l) = RwLock l
 touched_of (TryWrLock l) = RwLock l
 touched_of (RwUnlock l) = RwLock l
 
+-- whether an object is the mutex m, the condition c and so on
 abbrev pub is_mutex : ℕ → Touched → Bool
 is_mutex m (Mutex n) = m == n
 is_mutex m _ = false

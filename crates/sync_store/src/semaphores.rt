@@ -8,7 +8,7 @@ use pct_ask::{Ask, MisuseKind, NumberList, Verdict};
 use std::alloc::{AllocError as NoMemory, Global};
 use std::marker::Model;
 
-/// The greatest number of a semaphore: POSIX's SEM_VALUE_MAX, at its least.
+/// The greatest number of a semaphore: POSIX's SEM_VALUE_MAX, whose value is this project's.
 const SEM_VALUE_MAX: i64 = 2_147_483_647;
 
 /// The semaphores.

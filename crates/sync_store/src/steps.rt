@@ -17,8 +17,8 @@ fn check(thread: u32, line: u32, holds: bool) -> Applied
 }
 
 impl Store {
-    /// Takes the step of a thread's ask, which stands on a line of the test. It costs at most as many turns as there
-    /// are threads, and takes no memory.
+    /// Takes the step of a thread's ask, which stands on a line of the test. It takes no memory, and its time grows with
+    /// the number of threads at most.
     pub fn apply(&mut self, thread: u32, line: u32, ask: &Ask) -> Applied
         requires thread { thread < self.old.threads }
         requires ask { IsInRange (sizes_of self.old) ask.now }

@@ -94,15 +94,18 @@ fn misuse(thread: u32, kind: MisuseKind) -> Seen {
     })
 }
 
+fn fault(thread: u32, kind: FaultKind) -> Seen {
+    Seen::Ends(Verdict::Fault {
+        thread,
+        line: LINE,
+        kind,
+    })
+}
+
 #[test]
 fn variables(rt: HostRuntime) -> Result<(), Fail> {
     let deal = small_deal(rt.alloc())?;
     let mut store = Store::new(rt.alloc(), &deal)?;
-    let overflow = Verdict::Fault {
-        thread: 1,
-        line: LINE,
-        kind: FaultKind::Overflow,
-    };
     let steps = [
         (0, Ask::Read { var: 0 }, Seen::Told(5)),
         (1, Ask::Write { var: 0, value: 7 }, Seen::Told(0)),
@@ -113,7 +116,7 @@ fn variables(rt: HostRuntime) -> Result<(), Fail> {
                 var: 0,
                 value: i64::MAX,
             },
-            Seen::Ends(overflow),
+            fault(1, FaultKind::Overflow),
         ),
         (
             0,
@@ -133,7 +136,11 @@ fn variables(rt: HostRuntime) -> Result<(), Fail> {
             },
             Seen::Told(0),
         ),
-        (1, Ask::Add { var: 0, value: -1 }, Seen::Ends(overflow)),
+        (
+            1,
+            Ask::Add { var: 0, value: -1 },
+            fault(1, FaultKind::Overflow),
+        ),
         (2, Ask::Read { var: 0 }, Seen::Told(i64::MIN)),
     ];
     expect(&rt, &deal, &mut store, &steps);
@@ -197,23 +204,20 @@ fn conditions(rt: HostRuntime) -> Result<(), Fail> {
 fn waits_twice(rt: HostRuntime) -> Result<(), Fail> {
     let deal = small_deal(rt.alloc())?;
     let mut store = Store::new(rt.alloc(), &deal)?;
-    let lock = (0, Ask::Lock { mutex: 0 }, Seen::Told(0));
-    let release = (0, Ask::Release { cond: 0, mutex: 0 }, Seen::Told(0));
-    let signal = (2, Ask::Signal { cond: 0 }, Seen::Told(1));
     let steps = [
-        lock,
-        release,
+        (0, Ask::Lock { mutex: 0 }, Seen::Told(0)),
+        (0, Ask::Release { cond: 0, mutex: 0 }, Seen::Told(0)),
         (1, Ask::Lock { mutex: 1 }, Seen::Told(0)),
         (1, Ask::Release { cond: 0, mutex: 1 }, Seen::Told(0)),
-        lock,
-        release,
-        signal,
+        (0, Ask::Lock { mutex: 0 }, Seen::Told(0)),
+        (0, Ask::Release { cond: 0, mutex: 0 }, Seen::Told(0)),
+        (2, Ask::Signal { cond: 0 }, Seen::Told(1)),
         (1, Ask::Regain { cond: 0, mutex: 1 }, Seen::Waits),
-        lock,
-        release,
-        signal,
+        (0, Ask::Lock { mutex: 0 }, Seen::Told(0)),
+        (0, Ask::Release { cond: 0, mutex: 0 }, Seen::Told(0)),
+        (2, Ask::Signal { cond: 0 }, Seen::Told(1)),
         (1, Ask::Regain { cond: 0, mutex: 1 }, Seen::Told(0)),
-        signal,
+        (2, Ask::Signal { cond: 0 }, Seen::Told(1)),
         (2, Ask::Signal { cond: 0 }, Seen::Told(0)),
         (0, Ask::Regain { cond: 0, mutex: 0 }, Seen::Told(0)),
         (0, Ask::Unlock { mutex: 0 }, Seen::Told(0)),
@@ -282,11 +286,6 @@ fn threads(rt: HostRuntime) -> Result<(), Fail> {
         thread: 1,
         line: LINE,
     };
-    let spin = Verdict::Fault {
-        thread: 2,
-        line: LINE,
-        kind: FaultKind::Spin,
-    };
     let steps = [
         (0, Ask::Join { thread: 1 }, Seen::Told(0)),
         (0, Ask::Join { thread: 0 }, Seen::Waits),
@@ -298,7 +297,7 @@ fn threads(rt: HostRuntime) -> Result<(), Fail> {
             Ask::Fault {
                 kind: FaultKind::Spin,
             },
-            Seen::Ends(spin),
+            fault(2, FaultKind::Spin),
         ),
         (1, Ask::Begin, Seen::Waits),
         (0, Ask::Start { thread: 1 }, Seen::Told(0)),
