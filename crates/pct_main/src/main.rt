@@ -1,40 +1,20 @@
 //! The program `pct`: a tester for threaded code that shows the orderings that ordinary runs seldom meet.
 #![tactic(auto)]
 
+ghost use Rattle.std.specs.Prelude.{◌≡◌, ◌⊎◌};
+ghost use Rattle.pct_outside.specs.Counter.{Rose};
+ghost use Rattle.pct_outside.specs.Piece.{Appended};
+ghost use Rattle.pct_top.specs.Refusing.{status_of_refusal, refusal_line};
+ghost use Rattle.pct_top.specs.Saying.{Says};
+
+mod own;
+
+use own::Own;
 use pct_outside::{HostShelf, HostSink, OpenGate, Sink};
 use pct_top::{Refusal, Status, pct, say};
 use std::env::{self, Env};
 use std::io::{self, ErrorKind};
 use std::process::ExitCode;
-
-/// What `pct --help` answers.
-const HELP: &str = "\
-pct runs a test script of threads under one order of their priorities, and prints the run's trace.
-
-usage: pct run FILE --order NAMES
-       pct --help
-       pct --version
-
-FILE is the script, and NAMES are all its threads, joined by commas, the highest priority first.
-The status is 0 where the run passes, 1 where it ends in another way, 2 for a word that isn't
-taken, 3 for a file that is no script, 6 and 7 for files and output that can't be read or
-written, and 8 where there is no memory.
-";
-
-/// What `pct --version` answers.
-const VERSION: &str = "pct 0.1.0\n";
-
-/// The text that the words ask the program for, where they are its own option.
-fn own_answer(words: &[String]) -> Option<&'static str> {
-    match words {
-        [word] => match word.as_str() {
-            "--help" => Some(HELP),
-            "--version" => Some(VERSION),
-            _ => None,
-        },
-        _ => None,
-    }
-}
 
 /// The words after the program's own name.
 fn words_of(rt: &(impl Env + AllocGlobal)) -> io::Result<Vec<String>> {
@@ -54,12 +34,18 @@ fn refusal_of(error: &io::Error) -> Refusal {
 }
 
 /// Says why a call gives no output.
-fn refuse(err: &mut impl Sink, refusal: &Refusal) -> Status {
+fn refuse<E: Sink>(err: &mut E, refusal: &Refusal) -> Status
+    ensures status { result ≡ status_of_refusal refusal.now }
+    ensures said { Says (refusal_line refusal.now) (E.written err.old) (E.written err.new) (Rose (E.faults err.old) (E.faults err.new) ⊎ Rose (E.shorts err.old) (E.shorts err.new)) }
+{
     say(err, refusal);
     refusal.status()
 }
 
-fn put_answer(out: &mut impl Sink, err: &mut impl Sink, text: &str) -> Status {
+/// The program's own answer, put on the output.
+fn put_answer<O: Sink, E: Sink>(out: &mut O, err: &mut E, text: &str) -> Status
+    ensures done { result ≡ Status.Done → Appended text.now (O.written out.old) (O.written out.new) }
+{
     match out.put(text.as_bytes()) {
         Ok(()) => Status::Done,
         Err(error) => refuse(err, &Refusal::from(error)),
@@ -73,8 +59,8 @@ fn status_of(rt: &HostRuntime) -> Status {
         Ok(words) => words,
         Err(error) => return refuse(&mut err, &refusal_of(&error)),
     };
-    match own_answer(words.as_slice()) {
-        Some(text) => put_answer(&mut out, &mut err, text),
+    match Own::of_words(words.as_slice()) {
+        Some(own) => put_answer(&mut out, &mut err, own.text()),
         None => {
             let mut shelf = HostShelf::new(rt);
             let gate = OpenGate::new();

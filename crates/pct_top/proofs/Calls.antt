@@ -13,10 +13,13 @@ use Rattle.straight_script.specs.declared.fault.ScriptFault.TheVariants.{BadStat
 use Rattle.pct_top.specs.declared.settings.Settings.{Settings}
 use Rattle.pct_top.specs.declared.settings.WordsError.{WordsError}
 use Rattle.pct_top.specs.Settings.{Taken, ReadsAs}
-use Rattle.pct_top.specs.Refusing.{refusal_line}
+use Rattle.pct_top.specs.Refusing.{status_of_refusal, refusal_line}
 use Rattle.pct_top.specs.Output.{Printed, status_of, refused, OfBytes, OfTaken, script_bytes}
 use Rattle.pct_top.specs.Outcome.{printed_of, IsOutcomeOf}
-use Rattle.pct_top.specs.Call.{OfRun, PutsOutcome, Prints, Answers, Ends}
+use Rattle.pct_top.specs.Call.{OfRun, PutsOutcome, Prints, RefusedFirst, Answers, RefusedWords, CanRun, Completes, Ends}
+use Rattle.pct_top.specs.Ordered.{NamesAll}
+use Rattle.straight_script.specs.ScriptText.{ScriptText}
+use Rattle.straight_script.proofs.Whole.{Spells-one}
 
 -- nothing is put where there is no outcome
 pub prints_refusal : (may : Printed → Type 0) (written : Option (List ℕ)) (fault : Type 0) (refusal : Refusal) → IsOutcomeOf may (Err refusal) → Prints may written written fault (Err refusal)
@@ -108,3 +111,46 @@ ends_ran taken told failed failed' written written' fault said unsaid statuses.B
 ends_ran taken told failed failed' written written' fault said unsaid statuses.ReadFault p = absurd p.0
 ends_ran taken told failed failed' written written' fault said unsaid statuses.WriteFault p = absurd p.0
 ends_ran taken told failed failed' written written' fault said unsaid statuses.NoMemory p = absurd p.0
+
+-- words that aren't taken, and the answer
+pub refused_not : (taken : Taken) (read : Result Settings WordsError) (asked : Settings) (r : Result Status Refusal) → ReadsAs read taken → read ≡ Ok asked → RefusedFirst taken r
+refused_not taken read asked r reads is =
+    let same : taken ≡ Ok asked = subst (λ s. ReadsAs s taken) is reads in
+    subst (λ t. RefusedFirst t r) (sym same) tt
+
+pub refused_ran : (taken : Taken) (status : Status) → RefusedFirst taken (Ok status) → RefusedWords taken status
+refused_ran (Ok asked) status h = tt
+refused_ran (Err number) status h = absurd h
+
+pub refused_said : (taken : Taken) (refusal : Refusal) → RefusedFirst taken (Err refusal) → RefusedWords taken (status_of_refusal refusal)
+refused_said (Ok asked) refusal h = tt
+refused_said (Err number) (Usage word) h = tt
+refused_said (Err number) (Script line kind) h = absurd h
+refused_said (Err number) Read h = absurd h
+refused_said (Err number) Write h = absurd h
+refused_said (Err number) Memory h = tt
+
+-- what fits is run
+fits_runs : (taken : Taken) (files : List ℕ → List ℕ) (printed : Printed) → CanRun taken files → OfTaken taken files printed → OfRun printed.status
+fits_runs (Ok (RunOrder file items word)) files printed fits h = elim h [
+  | inl spelled ↦ elim spelled.2 [
+    | inl traced ↦ ran printed.status traced.2.0.1 (ap (λ (p : Printed). p.status) traced.2.2)
+    | inr unnamed ↦ absurd (unnamed.0 fits.2.0 (subst (λ (s : ScriptText). NamesAll s.names items fits.2.0) (Spells-one (take script_bytes (files file)) fits.0 spelled.0 fits.1 spelled.1) fits.2.1))
+  ]
+  | inr bad ↦ absurd (bad.0 fits.0 fits.1)
+]
+fits_runs (Err number) files printed fits h = absurd fits
+
+pub completes : (taken : Taken) (told : Option (List ℕ → List ℕ)) (failed failed' : List (List ℕ)) (written written' : Option (List ℕ)) (fault : Type 0) (said said' : Option (List ℕ)) (unsaid : Type 0) (status : Status)
+    → Ends taken told failed failed' written written' fault said said' unsaid status → Completes taken told failed failed' fault status
+completes taken told failed failed' written written' fault said said' unsaid statuses.Done h = λ files is fits unread sound. inl tt
+completes taken told failed failed' written written' fault said said' unsaid statuses.Found h = λ files is fits unread sound. inl tt
+completes taken told failed failed' written written' fault said said' unsaid statuses.Usage h = λ files is fits unread sound.
+    let q = h.1 files is in absurd (subst OfRun (sym q.2.1) (fits_runs taken files q.0 fits q.1))
+completes taken told failed failed' written written' fault said said' unsaid statuses.BadScript h = λ files is fits unread sound.
+    let q = h.1 files is in absurd (subst OfRun (sym q.2.1) (fits_runs taken files q.0 fits q.1))
+completes taken told failed failed' written written' fault said said' unsaid statuses.BadTrace h = absurd h
+completes taken told failed failed' written written' fault said said' unsaid statuses.BadDirective h = absurd h
+completes taken told failed failed' written written' fault said said' unsaid statuses.ReadFault h = λ files is fits unread sound. absurd (unread h.1.0 h.1.1 h.1.2)
+completes taken told failed failed' written written' fault said said' unsaid statuses.WriteFault h = λ files is fits unread sound. absurd (sound h.0)
+completes taken told failed failed' written written' fault said said' unsaid statuses.NoMemory h = λ files is fits unread sound. inr refl

@@ -1,7 +1,9 @@
 -- What a call of the program does to the shelf, the output and the error stream, by its answer.
-use Rattle.std.specs.Prelude.{◌≡◌, ℕ, ◌⊎◌, List, [], Option, Some, Result, Ok, Err}
+use Rattle.std.specs.Prelude.{◌≡◌, ℕ, ◌⊎◌, List, [], take, Option, Some, Result, Ok, Err}
 use Rattle.pct_outside.specs.Piece.{Appended, AppendedPart}
 use Rattle.pct_outside.specs.Reading.{with_name}
+use Rattle.straight_script.specs.ScriptText.{ScriptText}
+use Rattle.straight_script.specs.Grammar.{Spells}
 use Rattle.pct_top.specs.declared.refusal.Refusal.{Refusal}
 use Rattle.pct_top.specs.declared.refusal.Refusal.TheVariants.{Usage, Script, Read, Write, Memory}
 use Rattle.pct_top.specs.declared.settings.Settings.TheVariants.{RunOrder}
@@ -9,7 +11,8 @@ use Rattle.pct_top.specs.declared.status.Status.{Status}
 use Rattle.pct_top.specs.declared.status.Status.TheVariants as statuses
 use Rattle.pct_top.specs.Settings.{Taken}
 use Rattle.pct_top.specs.Refusing.{refusal_line}
-use Rattle.pct_top.specs.Output.{Printed, refused, OfTaken}
+use Rattle.pct_top.specs.Ordered.{NamesAll}
+use Rattle.pct_top.specs.Output.{Printed, refused, script_bytes, OfTaken}
 use Rattle.pct_top.specs.Saying.{Says}
 
 -- where the files are told, what is printed has this
@@ -64,6 +67,19 @@ Answers taken files failed failed' written written' fault (Err Write) = fault ×
 Answers taken files failed failed' written written' fault (Err Memory) = (written' ≡ written) ⊎ IsPrinted taken files (λ printed. AppendedPart printed.out written written')
 
 -- ---- the whole call, by its status
+
+-- the file spells a script, and the items name an order of its threads
+abbrev pub CanRun : Taken → (List ℕ → List ℕ) → Type 0
+CanRun (Ok (RunOrder file items word)) files =
+    (script : ScriptText) × Spells (take script_bytes (files file)) script × ((order : List ℕ) × NamesAll script.names items order)
+CanRun (Err number) files = ⊥
+
+-- Words that are taken, a script, an order that fits, no failed read of its file and no fault of the output give a run,
+-- want of memory aside.
+abbrev pub Completes : Taken → Option (List ℕ → List ℕ) → List (List ℕ) → List (List ℕ) → Type 0 → Status → Type 0
+Completes taken told failed failed' fault status =
+    (files : List ℕ → List ℕ) → told ≡ Some files → CanRun taken files
+    → ((file : List ℕ) → AsksFor taken file → ¬ (failed' ≡ with_name failed file)) → ¬ fault → OfRun status ⊎ (status ≡ statuses.NoMemory)
 
 -- Where the words aren't taken, the status says so, want of memory aside. This holds where no files are told.
 abbrev pub RefusedWords : Taken → Status → Type 0

@@ -6,7 +6,7 @@ ghost use Rattle.pct_outside.specs.Reading.{texts_of};
 ghost use Rattle.pct_top.specs.Settings.{settings};
 ghost use Rattle.pct_top.specs.Output.{OfBytes};
 ghost use Rattle.pct_top.specs.Outcome.{printed_of};
-ghost use Rattle.pct_top.specs.Call.{Prints, PutsOutcome, Answers, Ends};
+ghost use Rattle.pct_top.specs.Call.{Prints, PutsOutcome, RefusedFirst, Answers, RefusedWords, Completes, Ends};
 
 use crate::outcome::{Outcome, outcome_of};
 use crate::printing::{put_lines, say};
@@ -95,13 +95,36 @@ fn answer<H: Shelf, O: Sink>(
     shelf: &mut H,
     out: &mut O,
 ) -> Result<Status, Refusal>
-    ensures { Answers (settings (texts_of words.now)) (H.files shelf.old) (H.failed shelf.old) (H.failed shelf.new)
+    ensures answers { Answers (settings (texts_of words.now)) (H.files shelf.old) (H.failed shelf.old) (H.failed shelf.new)
         (O.written out.old) (O.written out.new) (Rose (O.faults out.old) (O.faults out.new)) result }
+    ensures refused { RefusedFirst (settings (texts_of words.now)) result }
 {
     match read_words(alloc, words) {
         Ok(asked) => print_settings(alloc, &asked, shelf, out),
         Err(WordsError::Word(word)) => Err(Refusal::Usage { word }),
         Err(WordsError::NoMemory) => Err(Refusal::Memory),
+    }
+}
+
+/// What the words ask for, put on the output, or the line that says why not.
+fn answer_or_say<H: Shelf, O: Sink, E: Sink>(
+    alloc: Global,
+    words: &[String],
+    shelf: &mut H,
+    out: &mut O,
+    err: &mut E,
+) -> Status
+    ensures ends { Ends (settings (texts_of words.now)) (H.files shelf.old) (H.failed shelf.old) (H.failed shelf.new)
+        (O.written out.old) (O.written out.new) (Rose (O.faults out.old) (O.faults out.new))
+        (E.written err.old) (E.written err.new) (Rose (E.faults err.old) (E.faults err.new) ⊎ Rose (E.shorts err.old) (E.shorts err.new)) result }
+    ensures refused { RefusedWords (settings (texts_of words.now)) result }
+{
+    match answer(alloc, words, shelf, out) {
+        Ok(status) => status,
+        Err(refusal) => {
+            say(err, &refusal);
+            refusal.status()
+        }
     }
 }
 
@@ -114,15 +137,11 @@ pub fn pct<H: Shelf, O: Sink, E: Sink, G: Gate>(
     err: &mut E,
     _gate: &G,
 ) -> Status
-    ensures { Ends (settings (texts_of words.now)) (H.files shelf.old) (H.failed shelf.old) (H.failed shelf.new)
+    ensures ends { Ends (settings (texts_of words.now)) (H.files shelf.old) (H.failed shelf.old) (H.failed shelf.new)
         (O.written out.old) (O.written out.new) (Rose (O.faults out.old) (O.faults out.new))
         (E.written err.old) (E.written err.new) (Rose (E.faults err.old) (E.faults err.new) ⊎ Rose (E.shorts err.old) (E.shorts err.new)) result }
+    ensures refused { RefusedWords (settings (texts_of words.now)) result }
+    ensures complete { Completes (settings (texts_of words.now)) (H.files shelf.old) (H.failed shelf.old) (H.failed shelf.new) (Rose (O.faults out.old) (O.faults out.new)) result }
 {
-    match answer(alloc, words, shelf, out) {
-        Ok(status) => status,
-        Err(refusal) => {
-            say(err, &refusal);
-            refusal.status()
-        }
-    }
+    answer_or_say(alloc, words, shelf, out, err)
 }
