@@ -13,8 +13,13 @@ mod top;
 mod trace;
 mod words;
 
+pub use printing::say;
+pub use refusal::Refusal;
 pub use settings::{Settings, WordsError};
 pub use status::Status;
 pub use text::{Text, TextList};
 pub use top::pct;
 pub use words::read_words;
+
+#[cfg(test)]
+mod tests;
