@@ -35,7 +35,7 @@ prints_outcome may written written' fault outcome (Ok status) h p = (printed_of 
 prints_outcome may written written' fault outcome (Err (Usage n)) h p = absurd p
 prints_outcome may written written' fault outcome (Err (Script line kind)) h p = absurd p
 prints_outcome may written written' fault outcome (Err Read) h p = absurd p
-prints_outcome may written written' fault outcome (Err Write) h p = (p.0, (printed_of outcome, h, p.1))
+prints_outcome may written written' fault outcome (Err Write) h p = (p.0, (printed_of outcome, h, (refl, p.1)))
 prints_outcome may written written' fault outcome (Err Memory) h p = inr (printed_of outcome, h, p)
 
 -- only a run has nothing to say

@@ -6,3 +6,4 @@ pub mod StraightFits
 pub mod Orders
 pub mod Outcomes
 pub mod Calls
+pub mod OnePrinted

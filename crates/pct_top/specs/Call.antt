@@ -33,6 +33,10 @@ OfRun statuses.Done = Unit {0}
 OfRun statuses.Found = Unit {0}
 OfRun status = ⊥
 
+-- a part of the output of a run was put
+abbrev pub PutsPart : Option (List ℕ) → Option (List ℕ) → Printed → Type 0
+PutsPart before after printed = (printed.err ≡ []) × AppendedPart printed.out before after
+
 -- This is put, or a part of it where the output's fault shows or there is no memory.
 abbrev pub PutsOutcome : Printed → Option (List ℕ) → Option (List ℕ) → Type 0 → Result Status Refusal → Type 0
 PutsOutcome printed written written' fault (Ok status) = PutsAll written written' status printed
@@ -46,7 +50,7 @@ Prints may written written' fault (Ok status) = (printed : Printed) × may print
 Prints may written written' fault (Err (Usage n)) = (written' ≡ written) × may (refused (Usage n))
 Prints may written written' fault (Err (Script line kind)) = (written' ≡ written) × may (refused (Script line kind))
 Prints may written written' fault (Err Read) = ⊥
-Prints may written written' fault (Err Write) = fault × ((printed : Printed) × may printed × AppendedPart printed.out written written')
+Prints may written written' fault (Err Write) = fault × ((printed : Printed) × may printed × PutsPart written written' printed)
 Prints may written written' fault (Err Memory) = (written' ≡ written) ⊎ ((printed : Printed) × may printed × AppendedPart printed.out written written')
 
 -- Where the words aren't taken, the answer says which, want of memory aside.
@@ -63,7 +67,7 @@ Answers taken files failed failed' written written' fault (Ok status) = OfRun st
 Answers taken files failed failed' written written' fault (Err (Usage n)) = (written' ≡ written) × IsPrinted taken files (λ printed. printed ≡ refused (Usage n))
 Answers taken files failed failed' written written' fault (Err (Script line kind)) = (written' ≡ written) × IsPrinted taken files (λ printed. printed ≡ refused (Script line kind))
 Answers taken files failed failed' written written' fault (Err Read) = (written' ≡ written) × ((file : List ℕ) × AsksFor taken file × (failed' ≡ with_name failed file))
-Answers taken files failed failed' written written' fault (Err Write) = fault × IsPrinted taken files (λ printed. AppendedPart printed.out written written')
+Answers taken files failed failed' written written' fault (Err Write) = fault × IsPrinted taken files (PutsPart written written')
 Answers taken files failed failed' written written' fault (Err Memory) = (written' ≡ written) ⊎ IsPrinted taken files (λ printed. AppendedPart printed.out written written')
 
 -- ---- the whole call, by its status
@@ -88,6 +92,18 @@ RefusedWords (Err number) statuses.Usage = Unit {0}
 RefusedWords (Err number) statuses.NoMemory = Unit {0}
 RefusedWords (Err number) status = ⊥
 
+-- no status of what is printed: a read or a write was at fault, or there was no memory
+abbrev pub IsFault : Status → Type 0
+IsFault statuses.ReadFault = Unit {0}
+IsFault statuses.WriteFault = Unit {0}
+IsFault statuses.NoMemory = Unit {0}
+IsFault status = ⊥
+
+-- The status is that of all that may be printed for the words and the files, faults aside.
+abbrev pub Agrees : Taken → Option (List ℕ → List ℕ) → Status → Type 0
+Agrees taken told status =
+    (files : List ℕ → List ℕ) → told ≡ Some files → (printed : Printed) → OfTaken taken files printed → (status ≡ printed.status) ⊎ IsFault status
+
 -- what is printed for the words is on both streams
 abbrev pub PrintsAll : Option (List ℕ) → Option (List ℕ) → Option (List ℕ) → Option (List ℕ) → Type 0 → Status → Printed → Type 0
 PrintsAll written written' said said' unsaid status printed =
@@ -105,6 +121,6 @@ Ends taken files failed failed' written written' fault said said' unsaid statuse
 Ends taken files failed failed' written written' fault said said' unsaid statuses.ReadFault =
     (written' ≡ written) × ((file : List ℕ) × AsksFor taken file × (failed' ≡ with_name failed file)) × Says (refusal_line Read) said said' unsaid
 Ends taken files failed failed' written written' fault said said' unsaid statuses.WriteFault =
-    fault × IsPrinted taken files (λ printed. AppendedPart printed.out written written') × Says (refusal_line Write) said said' unsaid
+    fault × IsPrinted taken files (PutsPart written written') × Says (refusal_line Write) said said' unsaid
 Ends taken files failed failed' written written' fault said said' unsaid statuses.NoMemory =
     ((written' ≡ written) ⊎ IsPrinted taken files (λ printed. AppendedPart printed.out written written')) × Says (refusal_line Memory) said said' unsaid

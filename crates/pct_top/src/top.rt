@@ -6,7 +6,7 @@ ghost use Rattle.pct_outside.specs.Reading.{texts_of};
 ghost use Rattle.pct_top.specs.Settings.{settings};
 ghost use Rattle.pct_top.specs.Output.{OfBytes};
 ghost use Rattle.pct_top.specs.Outcome.{printed_of};
-ghost use Rattle.pct_top.specs.Call.{Prints, PutsOutcome, RefusedFirst, Answers, RefusedWords, Completes, Ends};
+ghost use Rattle.pct_top.specs.Call.{Prints, PutsOutcome, RefusedFirst, Answers, RefusedWords, Completes, Agrees, Ends};
 
 use crate::outcome::{Outcome, outcome_of};
 use crate::printing::{put_lines, say};
@@ -142,6 +142,7 @@ pub fn pct<H: Shelf, O: Sink, E: Sink, G: Gate>(
         (E.written err.old) (E.written err.new) (Rose (E.faults err.old) (E.faults err.new) ⊎ Rose (E.shorts err.old) (E.shorts err.new)) result }
     ensures refused { RefusedWords (settings (texts_of words.now)) result }
     ensures complete { Completes (settings (texts_of words.now)) (H.files shelf.old) (H.failed shelf.old) (H.failed shelf.new) (Rose (O.faults out.old) (O.faults out.new)) result }
+    ensures exact { Agrees (settings (texts_of words.now)) (H.files shelf.old) result }
 {
     answer_or_say(alloc, words, shelf, out, err)
 }
