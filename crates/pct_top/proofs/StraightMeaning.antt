@@ -14,7 +14,7 @@ use Rattle.rank_now.specs.Rank.{threads_of}
 use Rattle.straight_script.specs.declared.script.Statement.{Statement}
 use Rattle.straight_script.specs.declared.script.ThreadText.{ThreadText}
 use Rattle.straight_script.specs.ScriptText.{ScriptText}
-use Rattle.pct_top.specs.World.{answers_of}
+use Rattle.sync_store.specs.World.{answers_of}
 use Rattle.pct_top.specs.Posts.{Registers, zeros, post_of, pending_from, pending, no_text, text_of}
 use Rattle.pct_top.specs.Run.{next_thread, run_from}
 use Rattle.pct_top.specs.StraightRun.{straight_run}

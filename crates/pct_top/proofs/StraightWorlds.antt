@@ -19,7 +19,7 @@ use Rattle.rank_now.specs.Rank.{place_of, rank, threads_of}
 use Rattle.straight_script.specs.declared.script.Statement.{Statement}
 use Rattle.straight_script.specs.declared.script.Statement.TheVariants.{Read, Write, Assert}
 use Rattle.straight_script.specs.ScriptText.{ScriptText}
-use Rattle.pct_top.specs.World.{Source, World, answers_of, has_ended, step_on, step_of, world_from, world_after}
+use Rattle.sync_store.specs.World.{Source, World, answers_of, has_ended, step_on, step_of, world_from, world_after}
 use Rattle.pct_top.specs.Posts.{Registers, value_of, post_of, pending, store_at_start}
 use Rattle.pct_top.specs.Run.{Setting, may_go, is_idle, blocked_at, rest_verdict, verdict_of_blocked, next_thread, next_of, next_after, cut_at, go_on, run_from, Ended}
 use Rattle.pct_top.specs.StraightRun.{setting_of}

@@ -1,5 +1,4 @@
 pub mod Settings
-pub mod World
 pub mod Run
 pub mod Posts
 pub mod StraightRun

@@ -11,7 +11,7 @@ use Rattle.pct_ask.specs.declared.verdict.Verdict.TheVariants.{Passed, Stuck, Cu
 use Rattle.sync_store.specs.Store.{StoreState, is_on}
 use Rattle.sync_store.specs.Enabled.{enabled}
 use Rattle.rank_now.specs.Rank.{rank, threads_of}
-use Rattle.pct_top.specs.World.{Source, World, has_ended, world_after}
+use Rattle.sync_store.specs.World.{Source, World, has_ended, world_after}
 
 -- what a run is made of: the store at its start, the posts of its threads, their order and the change points
 pub record Setting : Type 0 where

@@ -1,7 +1,7 @@
 -- The run of a straight script under an order of its threads.
 use Rattle.std.specs.Prelude.{ℕ, List, [], Option}
 use Rattle.straight_script.specs.ScriptText.{ScriptText}
-use Rattle.pct_top.specs.World.{posts_of_bodies}
+use Rattle.sync_store.specs.World.{posts_of_bodies}
 use Rattle.pct_top.specs.Posts.{pending, store_at_start}
 use Rattle.pct_top.specs.Run.{Setting, Ended, run}
 

@@ -7,3 +7,4 @@ pub mod Steps
 pub mod ThreadList
 pub mod ReleaseList
 pub mod Kept
+pub mod World
