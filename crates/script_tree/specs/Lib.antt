@@ -5,3 +5,10 @@ pub mod Fitting
 pub mod ScriptParts
 pub mod ScriptSeen
 pub mod DealOf
+pub mod Expressions
+pub mod Forms
+pub mod Lines
+pub mod Ranges
+pub mod Grammar
+pub mod Faults
+pub mod ExpressionRows
