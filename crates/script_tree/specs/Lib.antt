@@ -12,3 +12,6 @@ pub mod Ranges
 pub mod Grammar
 pub mod Faults
 pub mod ExpressionRows
+pub mod Layout
+pub mod Renumbering
+pub mod LayoutRows
