@@ -14,4 +14,5 @@ pub mod Faults
 pub mod ExpressionRows
 pub mod Layout
 pub mod Renumbering
+pub mod Printing
 pub mod LayoutRows
