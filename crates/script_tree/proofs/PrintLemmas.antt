@@ -1,6 +1,6 @@
 -- What has been printed of statements.
-use Rattle.std.proofs.Common.{◌≡◌, ℕ, ◌+◌, ◌<◌, ◌≤◌, Bool, true, List, [], ◌∷◌, ◌++◌, length, get_or, drop, map, refl, sym, ap, ◌∙◌, append_assoc}
-use Rattle.std.specs.Prelude.{codes, ◌&&◌}
+use Rattle.std.proofs.Common.{◌≡◌, ℕ, ◌+◌, ◌<◌, ◌≤◌, Bool, true, List, [], ◌∷◌, ◌++◌, length, get_or, drop, refl, sym, ap, ◌∙◌, append_assoc}
+use Rattle.std.specs.Prelude.{codes}
 use Rattle.std.specs.List.{flat_map, list_all}
 use Rattle.std.proofs.lemmas.Bool.{and_from, and_parts}
 use Rattle.std.proofs.lemmas.List.{map-append, append-nil, at_drop_more, at_drop_all}
@@ -9,13 +9,12 @@ use Rattle.script_tree.specs.Seen.{statement, statements, block}
 use Rattle.script_tree.specs.declared.stmt.Block.{Block}
 use Rattle.script_tree.specs.declared.stmt.Stmt.{Stmt}
 use Rattle.script_tree.proofs.SeenLemmas.{list-block}
-use Rattle.script_tree.specs.Trees.{Expression, Statement, Statements, Closed, Then, list, end_line}
-use Rattle.script_tree.specs.Trees as trees
+use Rattle.script_tree.specs.Trees.{Statements, Closed, Then, list, end_line}
 use Rattle.script_tree.specs.Forms.{Meant}
 use Rattle.script_tree.specs.Forms as forms
 use Rattle.script_tree.specs.Grammar.{Line, statement_lines, block_lines}
-use Rattle.script_tree.specs.Layout.{spaced, expression_text, text_of_lines, form_text, meanings}
-use Rattle.script_tree.specs.Printing.{printed, are_ranged, is_ranged, is_ranged_form}
+use Rattle.script_tree.specs.Layout.{text_of_lines, form_text, meanings}
+use Rattle.script_tree.specs.Printing.{printed, are_ranged, is_ranged_form}
 
 pub text_of_lines-append : (a b : List (List ℕ)) → text_of_lines (a ++ b) ≡ text_of_lines a ++ text_of_lines b
 text_of_lines-append [] b = refl

@@ -1,5 +1,5 @@
 -- What has been printed, and that its numbers are those of the code.
-use Rattle.std.specs.Prelude.{ℕ, ℤ, pos, ◌^◌, ◌&&◌, Bool, true, int_lt, List, map}
+use Rattle.std.specs.Prelude.{ℕ, pos, ◌^◌, ◌&&◌, Bool, true, int_lt, List, map}
 use Rattle.std.specs.List.{list_all}
 use Rattle.script_tree.specs.Trees.{Expression, Number, Reg, Not, Minus, Two}
 use Rattle.script_tree.specs.Forms.{Meant, Write, Add, Cas, Assert, Set, If, While}

@@ -1,8 +1,9 @@
 //! A script as a text, in its canonical layout.
 
-ghost use Rattle.std.specs.Prelude.{◌≡◌, ◌++◌, true, All, length, map, IfOk, OnOk, FitsSigned};
+ghost use Rattle.std.specs.Prelude.{◌≡◌, [], ◌∷◌, ◌++◌, true, All, length, map, IfOk, OnOk, FitsSigned};
 ghost use Rattle.std.specs.Int.{w64};
 ghost use Rattle.pct_ask.specs.NameLists.{list_of};
+ghost use Rattle.pct_ask.specs.Numbers.{number_text};
 ghost use Rattle.script_tree.specs.ScriptSeen.{text};
 ghost use Rattle.script_tree.specs.ScriptParts.{thread};
 ghost use Rattle.script_tree.specs.Layout.{layout, header_text, text_of_lines, form_text, plain_forms, valued_forms, declared_forms, meanings};
@@ -61,17 +62,26 @@ fn push_valued(
 ) -> Result<(), NoMemory>
     requires { length values.now ≡ length (list_of kind names.now) }
     ensures written { OnOk result (out.new.items ≡ out.old.items ++ text_of_lines (map form_text (valued_forms kind (list_of kind names.now) values.now))) }
-    ensures ranged { All (FitsSigned w64) values.now }
+    ensures ranged { OnOk result (All (FitsSigned w64) values.now) }
 {
-    let values = values.as_slice();
+    let firsts = values.as_slice();
     for place in 0..names.count(kind) {
         push_spaced(kind_word(kind), out)?;
         push_spaced(name_at(names, kind, place), out)?;
         push_spaced(b"=", out)?;
-        write_number(i128::from(values[place as usize]), out)?;
-        out.push(b'\n')?;
+        let first = firsts[place as usize];
+        push_value(first, out)?;
     }
     Ok(())
+}
+
+// A first value, which ends its line.
+fn push_value(value: i64, out: &mut Vec<u8>) -> Result<(), NoMemory>
+    ensures written { OnOk result (out.new.items ≡ out.old.items ++ (number_text value ++ 10 ∷ [])) }
+    ensures ranged { FitsSigned w64 value }
+{
+    write_number(i128::from(value), out)?;
+    Ok(out.push(b'\n')?)
 }
 
 fn push_threads(threads: &[ThreadText], names: &Names, out: &mut Vec<u8>) -> Result<(), NoMemory>
