@@ -1,7 +1,6 @@
 -- The draws of a seed, one after another.
-use Rattle.std.proofs.Common.{◌≡◌, ℕ, zero, suc, ◌+◌, ◌-◌, ◌*◌, ◌%◌, ◌^◌, ◌<◌, ◌≤◌, List, [], ◌∷◌, ◌++◌, length, get_or, map, take, drop, refl, sym, ap, subst, ◌∙◌, arith, append_assoc, append-nil, length-append, length-drop, below_more, get_or-set_other, get_or-set_same, set, ◌≢◌}
-use Rattle.std.specs.List.{All, remove, range_with_len}
-use Rattle.std.proofs.Math.Nat.{mod-add-mod}
+use Rattle.std.proofs.Common.{◌≡◌, ℕ, ◌+◌, ◌-◌, ◌*◌, ◌<◌, ◌≤◌, List, [], ◌∷◌, ◌++◌, length, get_or, take, drop, refl, sym, ap, ◌∙◌, arith, append_assoc, append-nil, length-append, length-drop, below_more, get_or-set_other, get_or-set_same, set, ◌≢◌}
+use Rattle.std.specs.List.{All, remove}
 use Rattle.std.proofs.lemmas.List.{drop_more, drop_all, drop_at, take_at, take_rest}
 use borrow.Rule.Slice.PartMut.{put_mid}
 use Rattle.std.proofs.lemmas.List.Edits.{length-remove}
@@ -9,7 +8,7 @@ use Rattle.std.proofs.lemmas.List.FromFn.{length-range_with_len, length-map-rang
 use Rattle.priority_draw.specs.Words.{SeedWords, first_words, place_after, after}
 use Rattle.priority_draw.specs.Orders.{declared_order, ArePlaces, taken_from, order_of}
 use Rattle.priority_draw.specs.Drawing.{draw, drawn_places, drawn_order, drawn_points, IsStep}
-use Rattle.priority_draw.proofs.WordLemmas.{draw-lt, draw-after, draw-next, after-after}
+use Rattle.priority_draw.proofs.WordLemmas.{draw-lt, draw-after}
 
 pub drawn-length : (seed place threads : ℕ) → length (drawn_places seed place threads) ≡ threads
 unfolding drawn_places

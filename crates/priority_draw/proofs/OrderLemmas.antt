@@ -1,5 +1,5 @@
 -- Every order of the threads is that of exactly one list of places in bounds.
-use Rattle.std.proofs.Common.{Bool, true, false, cond, nat_lt, eqb, eq-eqb, ne_eqb, eqb-true, ◌≡◌, ◌≢◌, ℕ, zero, suc, ◌+◌, ◌-◌, ◌<◌, ◌≤◌, List, [], ◌∷◌, length, get_or, refl, sym, ap, subst, ◌∙◌, arith, inl, inr}
+use Rattle.std.proofs.Common.{Bool, true, eqb, eq-eqb, ne_eqb, ◌≡◌, ◌≢◌, ℕ, ◌<◌, ◌≤◌, List, length, get_or, refl, sym, ap, subst, ◌∙◌, arith, inl, inr}
 use Rattle.std.specs.List.{remove, count_by, Contains}
 use Rattle.std.proofs.lemmas.Bool.{cases_lt}
 use Rattle.std.proofs.lemmas.List.{get_or_default}

@@ -1,12 +1,11 @@
 -- Orders and their lists of places.
-use Rattle.std.proofs.Common.{Bool, true, false, cond, nat_lt, eqb, eq-eqb, ne_eqb, eqb-true, ◌≡◌, ◌≢◌, ℕ, zero, suc, ◌+◌, ◌-◌, ◌<◌, ◌≤◌, List, [], ◌∷◌, length, get_or, refl, sym, ap, ◌∙◌, arith, ◌⊎◌, inl, inr}
-use Rattle.std.specs.List.{remove, count_by, range_with_len}
+use Rattle.std.proofs.Common.{Bool, nat_lt, eqb, eq-eqb, ◌≡◌, ℕ, zero, suc, ◌+◌, ◌-◌, ◌<◌, ◌≤◌, List, [], ◌∷◌, length, get_or, refl, ap, ◌∙◌, arith, ◌⊎◌, inl, inr}
+use Rattle.std.specs.List.{remove, count_by}
 use Rattle.std.proofs.lemmas.Bool.Decides.{nat_tests}
-use Rattle.std.proofs.lemmas.Bool.{cases_lt, cases_eq}
+use Rattle.std.proofs.lemmas.Bool.{cases_lt}
 use Rattle.std.proofs.lemmas.List.Edits.{length-remove, get_or-remove_below, get_or-remove_above}
-use Rattle.std.proofs.lemmas.List.FromFn.{length-range_with_len, get_or-range_with_len}
-use Rattle.priority_draw.specs.Orders.{declared_order, IsOrder, ArePlaces, taken_from, order_of, places_of, AreOnlyPlaces}
-use Rattle.priority_draw.proofs.CountLemmas.{one_if, count_of, lower, count-cons, count-remove, count-none, count-all, count-some, located, count-once, lower-same}
+use Rattle.priority_draw.specs.Orders.{ArePlaces, taken_from, places_of}
+use Rattle.priority_draw.proofs.CountLemmas.{one_if, count_of, lower, count-cons, count-remove, count-none, located, lower-same}
 
 -- numbers that rise along the list
 abbrev pub IsRising : List ℕ → Type 0

@@ -1,5 +1,5 @@
 -- Small theorems that read the definitions on known values.
-use Rattle.std.specs.Prelude.{◌≡◌, ◌^◌, ◌-◌, ℕ, List, [], ◌∷◌, length, refl, replicate, ◌++◌}
+use Rattle.std.specs.Prelude.{◌≡◌, [], ◌∷◌, refl, replicate}
 use Rattle.priority_draw.specs.Words.{key_bytes}
 use Rattle.priority_draw.specs.Orders.{order_of, places_of}
 use Rattle.priority_draw.specs.Drawing.{scale}

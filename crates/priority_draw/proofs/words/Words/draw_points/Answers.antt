@@ -1,4 +1,4 @@
-use Rattle.std.proofs.Common.{◌≡◌, ℕ, ◌+◌, List, ap, ◌∙◌, sym, subst, arith}
+use Rattle.std.proofs.Common.{◌≡◌, ℕ, List, ◌∙◌, sym, subst, arith}
 use Rattle.std.specs.List.{All}
 use Rattle.priority_draw.specs.Drawing.{drawn_points, IsStep}
 use Rattle.std.proofs.lemmas.Grind.{common_steps}

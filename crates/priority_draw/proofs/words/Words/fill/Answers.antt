@@ -1,4 +1,4 @@
-use Rattle.std.proofs.Common.{◌≡◌, ℕ, ◌+◌, ◌*◌, length, ap, ◌∙◌, arith}
+use Rattle.std.proofs.Common.{ℕ, ◌+◌, ◌*◌, length, ap, ◌∙◌, arith}
 use Rattle.priority_draw.specs.Words.{SeedWords, after}
 use Rattle.priority_draw.specs.Drawing.{draw}
 use Rattle.priority_draw.proofs.WordLemmas.{draw-next, after-after}

@@ -1,5 +1,5 @@
 use Rattle.std.proofs.Common.{◌≡◌, ℕ, List, ◌++◌, replicate, ap, ◌∙◌, arith}
-use Rattle.rand_chacha.specs.ChaCha.{ChaCha, of_seed}
+use Rattle.rand_chacha.specs.ChaCha.{of_seed}
 use Rattle.priority_draw.specs.Words.{key_bytes}
 use Rattle.priority_draw.proofs.WordLemmas.{of-key, view-of-key}
 use Rattle.priority_draw.proofs.words.Words.of_seed.Goals as goal

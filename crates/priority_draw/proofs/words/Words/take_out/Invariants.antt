@@ -1,4 +1,4 @@
-use Rattle.std.proofs.Common.{◌≡◌, ℕ, ◌+◌, ◌*◌, length}
+use Rattle.std.proofs.Common.{◌≡◌, ◌*◌, length}
 use Rattle.priority_draw.specs.Words.{after}
 use Rattle.priority_draw.proofs.DrawLemmas.{IsDrawnSoFar}
 use Rattle.priority_draw.proofs.words.Words.take_out.Given as goal
