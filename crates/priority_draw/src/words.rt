@@ -1,6 +1,6 @@
 ghost use Rattle.std.specs.Prelude.{◌≡◌, ℕ, ◌+◌, ◌*◌, ◌<◌, ◌≤◌, [], ◌∷◌, List, All, length, slice_index, remove, IfOk, OnOk, OnErr};
 ghost use Rattle.priority_draw.specs.Words.{after, first_words};
-ghost use Rattle.priority_draw.specs.Orders.{declared_order, places_of, IsOrder, ArePlaces, AreOnlyPlaces};
+ghost use Rattle.priority_draw.specs.Orders.{declared_order, order_of, places_of, IsOrder, ArePlaces, AreOnlyPlaces};
 ghost use Rattle.priority_draw.specs.Drawing.{scale, draw, drawn_places, drawn_order, drawn_points, drawn, IsStep};
 
 use pct_ask::{OrderList, PointList};
@@ -67,8 +67,9 @@ impl Words {
         // From a seed's first word on it is the seed's order.
         ensures of_seed { IfOk result (λ order. (seed steps depth : ℕ) → self.old ≡ first_words seed → order ≡ (drawn seed threads steps depth).order) }
 
-        // The places are in bounds, and each order is that of exactly one list of places in bounds.
+        // The places are in bounds. Each list of places in bounds gives an order, and each order is given by exactly one.
         ensures places { ArePlaces threads (drawn_places self.old.seed self.old.place threads) }
+        ensures each_list { (places : List ℕ) → ArePlaces threads places → IsOrder threads (order_of places) }
         ensures each_order { (order : List ℕ) → IsOrder threads order → AreOnlyPlaces threads order (places_of order) }
     {
         let mut order = declared_order(alloc, threads)?;

@@ -11,6 +11,9 @@ use Rattle.priority_draw.proofs.words.Words.draw_order.Goals as goal
 pub returns-in_err-order-clause-places : goal.returns-in_err-order-clause-places
 returns-in_err-order-clause-places c = drawn-are c.args.self.now.seed c.args.self.now.place c.args.threads
 
+pub returns-in_err-order-clause-each_list : goal.returns-in_err-order-clause-each_list
+returns-in_err-order-clause-each_list c = λ places are. order-of-is c.args.threads places are
+
 pub returns-in_err-order-clause-each_order : goal.returns-in_err-order-clause-each_order
 returns-in_err-order-clause-each_order c = λ order is. only-places c.args.threads order is
 
@@ -43,6 +46,9 @@ returns-clause-of_seed c = λ seed steps depth stand. value c ∙ ap (λ (w : Se
 
 pub returns-clause-places : goal.returns-clause-places
 returns-clause-places c = drawn-are c.args.self.now.seed c.args.self.now.place c.args.threads
+
+pub returns-clause-each_list : goal.returns-clause-each_list
+returns-clause-each_list c = λ places are. order-of-is c.args.threads places are
 
 pub returns-clause-each_order : goal.returns-clause-each_order
 returns-clause-each_order c = λ order is. only-places c.args.threads order is
