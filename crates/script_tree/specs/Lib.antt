@@ -5,3 +5,7 @@ pub mod Fitting
 pub mod ScriptParts
 pub mod ScriptSeen
 pub mod DealOf
+pub mod Values
+pub mod Moves
+pub mod Posts
+pub mod Rows
