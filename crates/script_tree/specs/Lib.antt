@@ -9,3 +9,10 @@ pub mod Values
 pub mod Moves
 pub mod Posts
 pub mod Rows
+pub mod Expressions
+pub mod Forms
+pub mod Lines
+pub mod Ranges
+pub mod Grammar
+pub mod Faults
+pub mod ExpressionRows
