@@ -5,6 +5,10 @@ pub mod Fitting
 pub mod ScriptParts
 pub mod ScriptSeen
 pub mod DealOf
+pub mod Values
+pub mod Moves
+pub mod Posts
+pub mod Rows
 pub mod Expressions
 pub mod Forms
 pub mod Lines

@@ -45,6 +45,36 @@ mutual
     Closed : (line : ℕ) → Statements
     Then : Statement → Statements → Statements
 
+-- the line of a statement
+abbrev pub line_of : Statement → ℕ
+line_of (Read line reg var) = line
+line_of (Write line var value) = line
+line_of (Add line reg var value) = line
+line_of (Cas line reg var old new) = line
+line_of (Lock line mutex) = line
+line_of (TryLock line reg mutex) = line
+line_of (Unlock line mutex) = line
+line_of (Wait line cond mutex) = line
+line_of (Signal line cond) = line
+line_of (Broadcast line cond) = line
+line_of (Down line sem) = line
+line_of (TryDown line reg sem) = line
+line_of (Up line sem) = line
+line_of (Arrive line reg barrier) = line
+line_of (Join line thread) = line
+line_of (Yield line) = line
+line_of (Assert line test) = line
+line_of (Set line reg value) = line
+line_of (If line test first) = line
+line_of (IfElse line test first otherwise) = line
+line_of (While line test body) = line
+line_of (Start line thread) = line
+line_of (RdLock line rwlock) = line
+line_of (WrLock line rwlock) = line
+line_of (TryRdLock line reg rwlock) = line
+line_of (TryWrLock line reg rwlock) = line
+line_of (RwUnlock line rwlock) = line
+
 abbrev pub list : Statements → List Statement
 list (Closed line) = []
 list (Then s rest) = s ∷ list rest
