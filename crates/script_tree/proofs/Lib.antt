@@ -1,3 +1,11 @@
 pub mod SeenLemmas
 pub mod PrintLemmas
 pub mod DeclarationLemmas
+pub mod Cuts
+pub mod ExpressionCuts
+pub mod FormCuts
+pub mod PrintedLines
+pub mod InnerLines
+pub mod Renumbered
+pub mod NamesPrinted
+pub mod PrintLaw

@@ -7,7 +7,8 @@ ghost use Rattle.pct_ask.specs.Numbers.{number_text};
 ghost use Rattle.script_tree.specs.ScriptSeen.{text};
 ghost use Rattle.script_tree.specs.ScriptParts.{thread};
 ghost use Rattle.script_tree.specs.Layout.{layout, header_text, text_of_lines, form_text, plain_forms, valued_forms, declared_forms, meanings};
-ghost use Rattle.script_tree.specs.Grammar.{all_thread_lines};
+ghost use Rattle.script_tree.specs.Grammar.{all_thread_lines, Spells};
+ghost use Rattle.script_tree.specs.Renumbering.{renumbered, IsShort};
 ghost use Rattle.script_tree.specs.Printing.{printed, are_ranged};
 
 use crate::printing_statements::push_statements;
@@ -17,10 +18,14 @@ use crate::stmt::ThreadText;
 use pct_ask::{NameKind, Names, NumberList, write_number};
 use std::alloc::{AllocError as NoMemory, Global};
 
-/// The canonical layout of a script: each script has just one.
+/// The canonical layout of a script: each script has just one. Where that is no longer than a script may be, it is
+/// a text of the same script, with the lines that its statements have in it.
 pub fn print_script(alloc: Global, script: &Script) -> Result<Vec<u8>, NoMemory>
-    ensures { IfOk result (λ bytes. bytes.items ≡ layout (text script.now)) }
+    ensures layout { IfOk result (λ bytes. bytes.items ≡ layout (text script.now)) }
+    ensures spelled { IfOk result (λ bytes. IsShort bytes.items → Spells bytes.items (renumbered (text script.now))) }
 {
+    // The names are lawful, and so what is printed can be read.
+    let _ = script.names.count(NameKind::Thread);
     let mut out = Vec::new(alloc);
     push_spaced(b"script", &mut out)?;
     write_number(i128::from(script.version), &mut out)?;
