@@ -20,3 +20,4 @@ pub mod Layout
 pub mod Renumbering
 pub mod Printing
 pub mod LayoutRows
+pub mod EveryForm

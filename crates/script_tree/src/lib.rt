@@ -8,6 +8,8 @@ mod printing_statements;
 mod printing_words;
 mod script;
 mod stmt;
+#[cfg(test)]
+mod tests;
 
 pub use expr::{Expr, Op};
 pub use fault::ScriptFault;
