@@ -1,10 +1,10 @@
 -- A script that has every declaration, statement and operator, and its canonical layout.
-use Rattle.std.specs.Prelude.{◌≡◌, ℕ, ℤ, pos, negsuc, List, [], ◌∷◌, ◌++◌, codes, refl}
+use Rattle.std.specs.Prelude.{◌≡◌, ℕ, pos, negsuc, List, [], ◌∷◌, ◌++◌, codes, refl}
 use Rattle.std.specs.Fmt.{digits}
 use Rattle.pct_ask.specs.NameLists.{NameLists}
 use Rattle.script_tree.specs.declared.expr.Op.TheVariants as ops
-use Rattle.script_tree.specs.Trees.{Expression, Statement, Statements, Closed, Then, closed_at, Reg, Number, Not, Minus, Two, Read, Write, Add, Cas, Lock, TryLock, Unlock, Wait, Signal, Broadcast, Down, TryDown, Up, Arrive, Join, Yield, Assert, Set, If, IfElse, While, Start, RdLock, WrLock, TryRdLock, TryWrLock, RwUnlock}
-use Rattle.script_tree.specs.ScriptText.{ScriptText, Thread}
+use Rattle.script_tree.specs.Trees.{Expression, Statement, Closed, Then, closed_at, Reg, Number, Not, Minus, Two, Read, Write, Add, Cas, Lock, TryLock, Unlock, Wait, Signal, Broadcast, Down, TryDown, Up, Arrive, Join, Yield, Assert, Set, If, IfElse, While, Start, RdLock, WrLock, TryRdLock, TryWrLock, RwUnlock}
+use Rattle.script_tree.specs.ScriptText.{ScriptText}
 use Rattle.script_tree.specs.Layout.{layout}
 
 abbrev pub every_name : NameLists

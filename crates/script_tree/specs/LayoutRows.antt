@@ -10,8 +10,8 @@ use Rattle.script_tree.specs.Layout.{expression_text, layout}
 use Rattle.script_tree.specs.Renumbering.{renumbered}
 
 -- two threads each add one to x, and the third, which waits for both, wants 2
-abbrev names : NameLists
-names = record {
+abbrev pub lost_update_names : NameLists
+lost_update_names = record {
   threads = codes "A" ∷ codes "B" ∷ codes "C" ∷ [];
   vars = codes "x" ∷ [];
   mutexes = [];
@@ -21,23 +21,23 @@ names = record {
   rwlocks = [];
 }
 
-abbrev register_0 : Expression
+abbrev pub register_0 : Expression
 register_0 = trees.Reg 0
 
-abbrev plus_one : Expression
+abbrev pub plus_one : Expression
 plus_one = trees.Two ops.Plus register_0 (trees.Number (pos 1))
 
-abbrev is_two : Expression
+abbrev pub is_two : Expression
 is_two = trees.Two ops.Eq register_0 (trees.Number (pos 2))
 
 -- its threads, where these are the lines of their names
-abbrev adder : ℕ → ℕ → ℕ → ℕ → Thread
+abbrev pub adder : ℕ → ℕ → ℕ → ℕ → Thread
 adder name read write end = record { line = name; body = Then (Read read 0 0) (Then (Write write 0 plus_one) (Closed end)) }
 
-abbrev lost_update : Thread → Thread → Thread → ScriptText
-lost_update a b c = record { version = 1; names = names; vars = pos 0 ∷ []; sems = []; barriers = []; threads = a ∷ b ∷ c ∷ [] }
+abbrev pub lost_update : Thread → Thread → Thread → ScriptText
+lost_update a b c = record { version = 1; names = lost_update_names; vars = pos 0 ∷ []; sems = []; barriers = []; threads = a ∷ b ∷ c ∷ [] }
 
-abbrev checker : Thread
+abbrev pub checker : Thread
 checker = record { line = 11; body = Then (Join 12 0) (Then (Join 13 1) (Then (Read 14 0 0) (Then (Assert 15 is_two) (Closed 16)))) }
 
 abbrev other_checker : Thread
