@@ -4,3 +4,5 @@ pub mod Placing
 pub mod Whole
 pub mod Pieces
 pub mod EmitLemmas
+pub mod Listings
+pub mod Threads

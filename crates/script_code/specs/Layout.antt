@@ -30,7 +30,12 @@ abbrev mutual
 abbrev pub body_code : (at : ℕ) → Statements → List Operation
 body_code at body = codes_of at (at + counts_of body) body ++ End (end_line body) ∷ []
 
--- the operations of a thread: one that is held begins
+-- what stands before the statements of a thread: one that is held begins
+abbrev pub beginning : Bool → (line : ℕ) → List Operation
+beginning false line = []
+beginning true line = Begin line 1 ∷ []
+
+-- the operations of a thread
 abbrev pub thread_code : Bool → Thread → List Operation
 thread_code false t = body_code 0 t.body
 thread_code true t = Begin t.line 1 ∷ body_code 1 t.body

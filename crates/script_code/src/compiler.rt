@@ -4,7 +4,7 @@ ghost use Rattle.script_tree.specs.Fitting.{counts_of};
 ghost use Rattle.script_tree.specs.ScriptParts.{thread};
 ghost use Rattle.script_tree.specs.ScriptSeen.{text};
 ghost use Rattle.script_code.specs.Operations.{operations};
-ghost use Rattle.script_code.specs.Layout.{thread_code};
+ghost use Rattle.script_code.specs.Layout.{beginning, thread_code};
 ghost use Rattle.script_code.specs.Listing.{listing};
 ghost use Rattle.script_code.specs.CodeOf.{IsCodeOf};
 
@@ -32,21 +32,27 @@ pub fn compile(alloc: Global, script: &Script) -> Result<Code, NoMemory>
     Ok(Code { threads })
 }
 
+// The operations of a thread's text.
 fn compile_thread(alloc: Global, text: &ThreadText, held: bool) -> Result<FlatList, NoMemory>
     requires { counts_of (block text.now.body) ≤ 4096 }
     ensures { IfOk result (λ list. operations list ≡ thread_code held (thread text.now)) }
 {
-    let mut ops = Vec::new(alloc);
-    if held {
-        ops.push(Flat::Begin {
-            line: text.line,
-            next: 1,
-        })?;
-    }
+    let mut ops = begin(alloc, text.line, held)?;
     let end = ops.len() as u32 + counts_of(&text.body);
     emit_block(alloc, &mut ops, &text.body, end)?;
     ops.push(Flat::End {
         line: text.body.end_line,
     })?;
     Ok(Sequence::from_vec(ops))
+}
+
+// What stands before a thread's statements.
+fn begin(alloc: Global, line: u32, held: bool) -> Result<Vec<Flat>, NoMemory>
+    ensures { IfOk result (λ ops. operations ops.items ≡ beginning held line) }
+{
+    let mut ops = Vec::new(alloc);
+    if held {
+        ops.push(Flat::Begin { line, next: 1 })?;
+    }
+    Ok(ops)
 }

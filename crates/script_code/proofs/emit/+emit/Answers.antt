@@ -29,7 +29,7 @@ emit_block-loop-i-preserved t c =
     }
 
 pub emit_stmt-emit_block-requires-in-Some-2 : goal.emit_stmt-emit_block-requires-in-Some-2
-emit_stmt-emit_block-requires-in-Some-2 t c = 
+emit_stmt-emit_block-requires-in-Some-2 t c =
     let a = c.in-If in
     let b = c.in-Some.otherwise in
     let s : statement c.args.stmt.now ≡ _ = ap statement a.is ∙ ap (λ o. statement (If a.line a.test a.then o)) c.in-Some.is ∙ statement-IfElse a.line a.test a.then b in
@@ -45,11 +45,11 @@ emit_stmt-returns-in_ok-push-in-None t c =
     let s : statement c.args.stmt.now ≡ _ = ap statement a.is ∙ ap (λ o. statement (If a.line a.test a.then o)) c.in-None.is ∙ statement-If a.line a.test a.then in
     on_ok c.emit_block.result
     (λ m. emit_if c.args.ops.now.items c.push.new.self.items c.emit_block.new.ops.items _ a.line c.args.next c.entry-first.result (expression a.test) (block a.then) (statement c.args.stmt.now)
-      c.in_ok-push-in-None.ensures.items
-      (ap (λ e. Test a.line e c.entry-first.result c.args.next) c.in_ok-copy_expr-in-None.ensures)
-      (c.entry-first.ensures ∙ ap (entry (c.len-at.result + 1) c.args.next) (from_start a.then) ∙ ap (λ (k : ℕ). entry (k + 1) c.args.next (block a.then)) at)
-      m
-      s)
+    c.in_ok-push-in-None.ensures.items
+    (ap (λ e. Test a.line e c.entry-first.result c.args.next) c.in_ok-copy_expr-in-None.ensures)
+    (c.entry-first.ensures ∙ ap (entry (c.len-at.result + 1) c.args.next) (from_start a.then) ∙ ap (λ (k : ℕ). entry (k + 1) c.args.next (block a.then)) at)
+    m
+    s)
     c.emit_block.ensures
 
 pub emit_stmt-returns-in_ok-emit_block-in-Some : goal.emit_stmt-returns-in_ok-emit_block-in-Some
@@ -60,13 +60,13 @@ emit_stmt-returns-in_ok-emit_block-in-Some t c =
     let s : statement c.args.stmt.now ≡ _ = ap statement a.is ∙ ap (λ o. statement (If a.line a.test a.then o)) c.in-Some.is ∙ statement-IfElse a.line a.test a.then b in
     on_ok c.emit_block-in-Some-2.result
     (λ m. emit_if_else c.args.ops.now.items c.push-in-Some.new.self.items c.emit_block-in-Some.new.ops.items c.emit_block-in-Some-2.new.ops.items _ a.line c.args.next c.entry-first.result c.entry.result (expression a.test) (block a.then) (block b) (statement c.args.stmt.now)
-      c.in_ok-push-in-Some.ensures.items
-      (ap (λ e. Test a.line e c.entry-first.result c.entry.result) c.in_ok-copy_expr-in-Some.ensures)
-      (c.entry-first.ensures ∙ ap (entry (c.len-at.result + 1) c.args.next) (from_start a.then) ∙ ap (λ (k : ℕ). entry (k + 1) c.args.next (block a.then)) at)
-      (c.entry.ensures ∙ ap (entry (c.len-at.result + 1 + c.counts_of.result) c.args.next) (from_start b) ∙ ap₂ (λ (k n : ℕ). entry (k + 1 + n) c.args.next (block b)) at c.counts_of.ensures)
-      c.in_ok-emit_block-in-Some.ensures
-      m
-      s)
+    c.in_ok-push-in-Some.ensures.items
+    (ap (λ e. Test a.line e c.entry-first.result c.entry.result) c.in_ok-copy_expr-in-Some.ensures)
+    (c.entry-first.ensures ∙ ap (entry (c.len-at.result + 1) c.args.next) (from_start a.then) ∙ ap (λ (k : ℕ). entry (k + 1) c.args.next (block a.then)) at)
+    (c.entry.ensures ∙ ap (entry (c.len-at.result + 1 + c.counts_of.result) c.args.next) (from_start b) ∙ ap₂ (λ (k n : ℕ). entry (k + 1 + n) c.args.next (block b)) at c.counts_of.ensures)
+    c.in_ok-emit_block-in-Some.ensures
+    m
+    s)
     c.emit_block-in-Some-2.ensures
 
 pub emit_stmt-returns-in_ok-push-in-While : goal.emit_stmt-returns-in_ok-push-in-While
@@ -82,4 +82,3 @@ emit_stmt-returns-in_ok-push-in-While t c =
     (m ∙ ap (λ (k : ℕ). operations c.push-in-While.new.self.items ++ codes_of (length c.push-in-While.new.self.items) k (block a.body)) at)
     s)
     c.emit_block-in-While.ensures
-
