@@ -25,7 +25,8 @@ pub(crate) fn take_answer(code: &Code, thread: u32, state: &mut State, value: i6
     match code.flat(thread, state.place) {
         Flat::Do { stmt, next } => take_lone(stmt, *next, state, value),
         Flat::Begin { next, .. } => state.go(*next),
-        Flat::Test { .. } | Flat::End { .. } => state.go(code.end(thread)),
+        Flat::End { .. } => state.go(code.end(thread)),
+        Flat::Test { .. } => unreachable!(),
     }
 }
 

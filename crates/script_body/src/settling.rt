@@ -29,11 +29,10 @@ pub(crate) fn settle(code: &Code, thread: u32, state: &mut State) -> Post
             }
         }
     }
-    let post = match turn_at(code, thread, state) {
-        Turn::Posts(post) => post,
-        Turn::Moves { line } => fault(line, FaultKind::Spin),
-    };
-    stop(code, thread, state, post)
+    match turn_at(code, thread, state) {
+        Turn::Posts(post) => stop(code, thread, state, post),
+        Turn::Moves { line } => stop(code, thread, state, fault(line, FaultKind::Spin)),
+    }
 }
 
 fn fault(line: u32, kind: FaultKind) -> Post
