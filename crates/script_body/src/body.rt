@@ -25,14 +25,28 @@ pub struct ScriptBody<'c> {
 
 impl<'c> ScriptBody<'c> {
     ghost use Rattle.std.specs.Prelude.{ℤ, List};
+    ghost use Rattle.pct_ask.specs.declared.deal.Deal.{Deal};
+    ghost use Rattle.script_tree.specs.ScriptText.{ScriptText};
+    ghost use Rattle.script_tree.specs.Fitting.{IsScript};
+    ghost use Rattle.script_tree.specs.DealOf.{IsDealOf};
+    ghost use Rattle.script_tree.specs.Naming.{IsPostOf};
+    ghost use Rattle.script_tree.specs.Posts.{pending};
     ghost use Rattle.script_code.specs.FlatPosts.{flat_pending};
+    ghost use Rattle.script_code.specs.CodeOf.{IsCodeOf};
     ghost use Rattle.script_body.specs.BodyPosts.{pending_of};
 
     /// The body of a thread that has had no answer.
     pub fn new(code: &'c Code, thread: u32) -> Self
         requires { thread < length (listing code.now) }
-        ensures { (answers : List ℤ) →
+        // What its code posts, after any answers.
+        ensures code { (answers : List ℤ) →
             pending_of result answers ≡ flat_pending (listing_of (listing code.now) thread) answers }
+        // Of the code of a script: what the script's thread posts.
+        ensures script { (script : ScriptText) → IsCodeOf script (listing code.now) → (answers : List ℤ) →
+            pending_of result answers ≡ pending script thread answers }
+        // Of the code of a sound script: its posts name only what the script's deal has.
+        ensures named { (script : ScriptText) (deal : Deal) → IsCodeOf script (listing code.now)
+            → IsScript script → IsDealOf script deal → (answers : List ℤ) → IsPostOf deal (pending_of result answers) }
     {
         let mut state = State {
             place: 0,

@@ -17,3 +17,4 @@ pub mod Ranges
 pub mod Grammar
 pub mod Faults
 pub mod ExpressionRows
+pub mod Naming
