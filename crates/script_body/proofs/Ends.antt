@@ -1,12 +1,12 @@
 -- A thread at its end stays there, whatever its numbers.
-use Rattle.std.proofs.Common.{◌≡◌, ℕ, zero, suc, ℤ, Bool, true, false, List, [], ◌∷◌, Option, Some, None, refl, sym, ap, ◌∙◌, subst}
+use Rattle.std.proofs.Common.{◌≡◌, ℕ, zero, suc, ℤ, true, false, List, [], ◌∷◌, Option, Some, None, refl, sym, ap, ◌∙◌, subst}
 use Rattle.std.specs.Prelude.{slice_get}
 use Rattle.pct_ask.specs.declared.ask.FaultKind.TheVariants.{Spin}
-use Rattle.script_tree.specs.Machine.{Act, Moves, Asks, Ends, Stand, by_act, by_move, faults, stand, pending_from}
+use Rattle.script_tree.specs.Machine.{Act, Ends, Stand, by_act, by_move, faults, stand, pending_from}
 use Rattle.script_tree.specs.Posts.{most_moves}
 use Rattle.script_code.specs.Operations.{Operation, Do, Test, End, Begin}
 use Rattle.script_code.specs.Placed.{is_end}
-use Rattle.script_code.specs.FlatPosts.{Spot, spot, last_spot, flat_act, flat_head, flat_pending_from}
+use Rattle.script_code.specs.FlatPosts.{Spot, last_spot, flat_act, flat_head, flat_pending_from}
 
 -- the line of an end
 abbrev pub end_of : Option Operation → ℕ

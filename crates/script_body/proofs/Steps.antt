@@ -1,12 +1,12 @@
 -- From what comes first at a spot to where the thread stands.
-use Rattle.std.proofs.Common.{◌≡◌, ℕ, zero, suc, ◌+◌, ◌-◌, ◌<◌, ℤ, Bool, true, false, not, cond, List, [], ◌∷◌, length, Option, Some, None, Result, Ok, Err, refl, sym, ap, ◌∙◌, subst, arith}
+use Rattle.std.proofs.Common.{◌≡◌, ℕ, zero, suc, ◌+◌, ◌<◌, ℤ, Bool, true, false, not, cond, List, [], ◌∷◌, length, Option, Some, None, Result, Ok, Err, refl, sym, ap, ◌∙◌, subst, arith}
 use Rattle.std.specs.Prelude.{slice_get}
 use Rattle.pct_ask.specs.declared.ask.Ask.{Ask}
 use Rattle.pct_ask.specs.declared.ask.Ask.TheVariants.{Fault, Begin as Beginning}
 use Rattle.pct_ask.specs.declared.ask.FaultKind.{FaultKind}
 use Rattle.pct_ask.specs.declared.ask.FaultKind.TheVariants.{Spin}
 use Rattle.pct_ask.specs.declared.ask.Post.{Post}
-use Rattle.script_tree.specs.Machine.{Act, Moves, Asks, Ends, Stand, by_act, by_move, faults, stand, pending_from}
+use Rattle.script_tree.specs.Machine.{Act, Moves, Asks, Ends, Stand, by_act, by_move, faults, stand}
 use Rattle.script_tree.specs.Moves.{State, act}
 use Rattle.script_tree.specs.Posts.{most_moves}
 use Rattle.script_tree.specs.Values.{Value, value_of}
@@ -15,7 +15,7 @@ use Rattle.script_code.specs.Placed.{is_end, last_place}
 use Rattle.script_code.specs.FlatPosts.{Spot, spot, last_spot, is_fault, lone_move, after_lone, test_move, flat_act, flat_head, flat_pending_from}
 use Rattle.script_code.proofs.Listings.{some_operation}
 use Rattle.script_body.specs.declared.turn.Turn.TheVariants as turns
-use Rattle.script_body.specs.Turns.{turn_of, is_move}
+use Rattle.script_body.specs.Turns.{turn_of}
 use Rattle.script_body.specs.Waiting.{after_act, spot_after, is_waiting, stand_of, Settles, asks_fault, stopped, pending_at}
 use Rattle.script_body.proofs.Ends.{head_at_end}
 

@@ -1,5 +1,5 @@
 -- What an operator makes of two numbers (this project).
-use Rattle.std.specs.Prelude.{ℤ, ◌+ℤ◌, ◌-ℤ◌, ◌*ℤ◌, pos, Bool, true, false, not, int_lt, int_le, if◌then◌else◌, Option, Some, None, Result, Ok, Err}
+use Rattle.std.specs.Prelude.{ℤ, ◌+ℤ◌, ◌-ℤ◌, ◌*ℤ◌, pos, not, int_lt, int_le, if◌then◌else◌, Option, Some, None}
 use Rattle.std.specs.Ordering.{int_eq}
 use Rattle.script_tree.specs.Values.{Value, in_range, is_zero, truth, quotient, remainder}
 use Rattle.script_tree.specs.declared.expr.Op.{Op}

@@ -1,5 +1,4 @@
 -- Where a body stands in its thread's code.
-use Rattle.std.specs.Prelude.{List}
 use Rattle.script_code.specs.FlatPosts.{Spot}
 use Rattle.script_body.specs.declared.state.State.{State}
 

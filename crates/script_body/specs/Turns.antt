@@ -1,6 +1,5 @@
 -- What comes first at a spot, without where it leads (this project).
-use Rattle.std.specs.Prelude.{ℕ, ◌≡◌, Bool, true, false, Some, None, Result, Ok, Err}
-use Rattle.pct_ask.specs.declared.ask.FaultKind.{FaultKind}
+use Rattle.std.specs.Prelude.{ℕ, Bool, true, false, Some, None}
 use Rattle.script_tree.specs.Machine.{Act, Moves, Asks, Ends}
 use Rattle.script_body.specs.declared.turn.Turn.{Turn}
 use Rattle.script_body.specs.declared.turn.Turn.TheVariants as turns

@@ -1,5 +1,5 @@
 -- What the body of a thread posts that stands somewhere in its code (this project).
-use Rattle.std.specs.Prelude.{◌≡◌, ℕ, ◌<◌, ℤ, Bool, true, false, not, if◌then◌else◌, Option, Some, None, List, [], ◌∷◌, length}
+use Rattle.std.specs.Prelude.{◌≡◌, ◌<◌, ℤ, Bool, true, false, not, if◌then◌else◌, Option, Some, None, List, [], ◌∷◌, length}
 use Rattle.pct_ask.specs.declared.ask.Ask.{Ask}
 use Rattle.pct_ask.specs.declared.ask.Post.{Post}
 use Rattle.script_tree.specs.Machine.{Act, Moves, Asks, Ends, Stand, stand}

@@ -1,18 +1,16 @@
 -- A thread that runs flat code does what the thread of the script does.
-use Rattle.std.proofs.Common.{◌≡◌, ℕ, zero, suc, ◌+◌, ℤ, pos, Bool, true, false, cond, List, [], ◌∷◌, ◌++◌, replicate, Option, Some, None, Result, Ok, Err, refl, sym, ap, ap₂, ◌∙◌, subst}
+use Rattle.std.proofs.Common.{◌≡◌, ℕ, zero, suc, ℤ, Bool, true, false, cond, List, [], ◌∷◌, Option, Some, None, Result, Ok, Err, refl, sym, ap, ap₂, ◌∙◌, subst}
 use Rattle.std.specs.Prelude.{slice_get, slice_set}
-use Rattle.pct_ask.specs.declared.ask.Ask.{Ask}
 use Rattle.pct_ask.specs.declared.ask.FaultKind.{FaultKind}
 use Rattle.pct_ask.specs.declared.ask.FaultKind.TheVariants.{Spin}
-use Rattle.pct_ask.specs.declared.ask.Post.{Post}
-use Rattle.script_tree.specs.Trees.{Expression, Statement, Statements, Read, Write, Add, Cas, Lock, TryLock, Unlock, Wait, Signal, Broadcast, Down, TryDown, Up, Arrive, Join, Yield, Assert, Set, If, IfElse, While, Start, RdLock, WrLock, TryRdLock, TryWrLock, RwUnlock, line_of, list}
+use Rattle.script_tree.specs.Trees.{Expression, Statement, Read, Write, Add, Cas, TryLock, Wait, TryDown, Arrive, Assert, Set, If, IfElse, While, TryRdLock, TryWrLock, line_of}
 use Rattle.script_tree.specs.Values.{Value, is_zero, value_of}
 use Rattle.script_tree.specs.Machine.{Act, Moves, Asks, Ends, Stand, by_move, by_act, faults, stand, pending_from}
 use Rattle.script_tree.specs.Moves.{State, before, ended, moves, asks_by, chosen, act, between, head}
-use Rattle.script_code.specs.Operations.{Operation, Do, Test, End, Begin}
+use Rattle.script_code.specs.Operations.{Operation, Do, Test, End}
 use Rattle.script_code.specs.Placed.{last_place}
 use Rattle.script_code.specs.FlatPosts.{Spot, spot, last_spot, after_lone, lone_move, test_move, flat_act, flat_head}
-use Rattle.script_code.proofs.Laid.{Laid, LaidAll, Follows, follows_all}
+use Rattle.script_code.proofs.Laid.{Laid, Follows, follows_all}
 
 -- the numbers count where statements remain
 abbrev SameNumbers : List Statement → State → Spot → Type 0

@@ -5,7 +5,7 @@ use Rattle.std.proofs.Math.Seq.{get_or-append_seam}
 use Rattle.std.proofs.lemmas.Option.{slice_get-get_or}
 use Rattle.script_tree.specs.Trees.{Statement, Statements, Closed, Then, If, IfElse, While, list}
 use Rattle.script_tree.specs.Fitting.{count_of, counts_of}
-use Rattle.script_code.specs.Operations.{Operation, Do, Test, End, Begin}
+use Rattle.script_code.specs.Operations.{Operation, Do, Test, End}
 use Rattle.script_code.specs.Layout.{entry, code_of, codes_of}
 
 -- operations stand in the code from this place on

@@ -1,7 +1,7 @@
 -- The statements of a block from one of them on.
 use Rattle.std.proofs.Common.{◌≡◌, ℕ, ◌+◌, ◌<◌, ◌≤◌, List, [], ◌∷◌, length, get_or, drop, length-drop, refl, sym, ap, ◌∙◌, arith}
 use Rattle.std.proofs.lemmas.List.{drop_all, drop_more}
-use Rattle.script_tree.specs.Trees.{Statement, Statements, Closed, Then, closed_at}
+use Rattle.script_tree.specs.Trees.{Closed, Then, closed_at}
 use Rattle.script_tree.specs.Seen.{statement, block, statements}
 use Rattle.script_code.specs.Layout.{entry}
 use Rattle.script_code.specs.Rest.{from}

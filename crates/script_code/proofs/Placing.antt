@@ -1,18 +1,16 @@
 -- The code of a sound script names only places and registers that there are, and begins only where a thread is held.
-use Rattle.std.proofs.Common.{◌≡◌, ℕ, ◌+◌, ◌-◌, ◌^◌, ◌<◌, ◌≤◌, ◌&&◌, Bool, true, false, List, [], ◌∷◌, ◌++◌, length, Some, refl, sym, ap, ap₂, ◌∙◌, subst, arith, length-append}
+use Rattle.std.proofs.Common.{◌≡◌, ℕ, ◌+◌, ◌-◌, ◌<◌, ◌≤◌, ◌&&◌, Bool, true, false, List, [], ◌∷◌, ◌++◌, length, Some, refl, ap₂, ◌∙◌, subst, arith, length-append}
 use Rattle.std.specs.Prelude.{nat_lt, nat_le, slice_get}
 use Rattle.std.specs.List.{list_all}
-use Rattle.std.proofs.lemmas.Bool.{lt-ltb, ltb-true}
-use Rattle.std.proofs.lemmas.Bool.Decides.{nat_tests}
+use Rattle.std.proofs.lemmas.Bool.{lt-ltb}
 use Rattle.std.proofs.lemmas.List.Folds.{list_all-append}
 use Rattle.pct_ask.specs.NameLists.{NameLists}
-use Rattle.script_tree.specs.Trees.{Expression, Statement, Statements, Closed, Then, Read, Write, Add, Cas, TryLock, TryDown, Arrive, Assert, Set, If, IfElse, While, Start, TryRdLock, TryWrLock, end_line, line_of}
-use Rattle.script_tree.specs.ScriptText.{Thread, ScriptText}
-use Rattle.script_tree.specs.Fitting.{count_of, counts_of, line_fits, reg_fits, place_fits, expression_fits, statement_fits, statements_fit, thread_fits}
-use Rattle.script_code.specs.Operations.{Operation, Do, Test, End, Begin}
-use Rattle.script_code.specs.Placed.{has_no_block, is_lone, is_placed, is_end, last_place, is_listing}
+use Rattle.script_tree.specs.Trees.{Expression, Statement, Statements, Closed, Then, Read, Write, Add, Cas, TryLock, TryDown, Arrive, Assert, Set, If, IfElse, While, TryRdLock, TryWrLock, end_line}
+use Rattle.script_tree.specs.Fitting.{count_of, counts_of, line_fits, reg_fits, place_fits, expression_fits, statement_fits, statements_fit}
+use Rattle.script_code.specs.Operations.{Operation, Do, Test, End}
+use Rattle.script_code.specs.Placed.{has_no_block, is_lone, is_placed, last_place}
 use Rattle.script_code.specs.CodeOf.{goes_on}
-use Rattle.script_code.specs.Layout.{entry, code_of, codes_of, body_code, thread_code, code_from}
+use Rattle.script_code.specs.Layout.{entry, code_of, codes_of, body_code}
 use Rattle.script_code.proofs.Laid.{length-codes_of, has_all, has_back}
 
 pub left_true : (a b : Bool) → (a && b) ≡ true → a ≡ true

@@ -1,13 +1,12 @@
 -- The threads of a script from one of them on.
-use Rattle.std.proofs.Common.{◌≡◌, ℕ, ◌+◌, ◌<◌, ◌≤◌, ◌||◌, ◌&&◌, cond, zero, suc, Bool, true, false, List, [], ◌∷◌, ◌++◌, length, map, get_or, drop, refl, sym, ap, ap₂, ◌∙◌, subst, arith, append_assoc, append-nil, length-append}
-use Rattle.std.specs.Prelude.{slice_index_or}
+use Rattle.std.proofs.Common.{◌≡◌, ℕ, ◌+◌, ◌<◌, ◌≤◌, ◌||◌, ◌&&◌, cond, zero, suc, Bool, true, false, List, [], ◌∷◌, ◌++◌, length, map, get_or, drop, refl, sym, ap, ap₂, ◌∙◌, subst, arith, append_assoc, append-nil}
 use Rattle.std.specs.List.{list_all, list_any}
 use Rattle.std.proofs.lemmas.List.{drop_all, drop_more, length-map, map-append}
 use Rattle.std.proofs.lemmas.Bool.Decides.{nat_tests}
 use Rattle.std.specs.Prelude.{nat_le}
 use Rattle.script_tree.specs.Fitting.{counts_of, line_fits, statements_fit, thread_fits, IsScript}
 use Rattle.script_tree.specs.Seen.{block}
-use Rattle.script_tree.specs.ScriptText.{Thread, ScriptText}
+use Rattle.script_tree.specs.ScriptText.{Thread}
 use Rattle.script_tree.specs.ScriptParts.{thread}
 use Rattle.script_tree.specs.ScriptSeen.{text}
 use Rattle.script_tree.specs.Posts.{any_starts, is_held}
@@ -17,7 +16,7 @@ use Rattle.script_tree.specs.declared.script.Script.{Script}
 use Rattle.script_tree.specs.declared.stmt.ThreadText.{ThreadText}
 use Rattle.script_code.specs.declared.flat.Flat.{Flat}
 use Rattle.script_code.specs.declared.flat.Flat.TheVariants as flats
-use Rattle.script_code.specs.Operations.{Operation, End, operation, operations, listings}
+use Rattle.script_code.specs.Operations.{End, operation, operations, listings}
 use Rattle.script_code.specs.Layout.{beginning, codes_of, body_code, thread_code, code_from, script_code}
 
 abbrev pub threads_from : Script → ℕ → List Thread

@@ -1,23 +1,22 @@
 -- The code that is laid out for a script is the script's.
-use Rattle.std.proofs.Common.{◌≡◌, ℕ, zero, suc, ◌+◌, ◌-◌, ◌^◌, ◌<◌, ◌≤◌, ◌&&◌, ℤ, pos, Bool, true, false, List, [], ◌∷◌, ◌++◌, length, replicate, Some, refl, sym, ap, ap₂, ◌∙◌, subst, arith, length-append, append-nil}
+use Rattle.std.proofs.Common.{◌≡◌, ℕ, zero, suc, ◌+◌, ◌^◌, ◌<◌, ◌≤◌, ◌&&◌, ℤ, pos, Bool, true, false, List, [], ◌∷◌, ◌++◌, length, replicate, Some, refl, sym, ap, ◌∙◌, subst, arith, append-nil}
 use Rattle.std.specs.Prelude.{nat_lt, nat_le, slice_get, slice_index_or}
 use Rattle.std.specs.List.{list_all}
 use Rattle.std.proofs.lemmas.Bool.Decides.{nat_tests}
 use Rattle.pct_ask.specs.NameLists.{NameLists}
-use Rattle.pct_ask.specs.declared.ask.Post.{Post}
 use Rattle.script_tree.specs.Trees.{Statements, Closed, Then, list, end_line}
 use Rattle.script_tree.specs.ScriptText.{Thread, ScriptText}
-use Rattle.script_tree.specs.Fitting.{count_of, counts_of, line_fits, statements_fit, thread_fits, IsScript}
+use Rattle.script_tree.specs.Fitting.{counts_of, line_fits, statements_fit, thread_fits, IsScript}
 use Rattle.script_tree.specs.Machine.{pending_from}
-use Rattle.script_tree.specs.Moves.{head, ended, at_start}
-use Rattle.script_tree.specs.Posts.{held_pending, body_pending, is_held, thread_of, no_thread, most_moves, pending}
-use Rattle.script_code.specs.Operations.{Operation, Do, Test, End, Begin}
+use Rattle.script_tree.specs.Moves.{at_start}
+use Rattle.script_tree.specs.Posts.{held_pending, body_pending, is_held, thread_of, no_thread, most_moves}
+use Rattle.script_code.specs.Operations.{Operation, End, Begin}
 use Rattle.script_code.specs.Placed.{is_placed, is_end, last_place, is_listing, listing_of}
 use Rattle.script_code.specs.FlatPosts.{first_spot, last_spot, spot, flat_head, flat_pending}
-use Rattle.script_code.specs.CodeOf.{goes_on, BeginsWhereHeld, IsCodeOf}
+use Rattle.script_code.specs.CodeOf.{BeginsWhereHeld, IsCodeOf}
 use Rattle.script_code.specs.Layout.{entry, codes_of, body_code, thread_code, code_from, script_code}
-use Rattle.script_code.proofs.Laid.{LaidAll, Follows, follows_all, has_all, has_front, has_back, length-codes_of, laid_all}
-use Rattle.script_code.proofs.Alike.{Alike, alike_before, pending_alike}
+use Rattle.script_code.proofs.Laid.{Follows, follows_all, has_all, has_front, laid_all}
+use Rattle.script_code.proofs.Alike.{alike_before, pending_alike}
 use Rattle.script_code.proofs.Placing.{left_true, right_true, both_true, all_append, placed_codes, body_goes_on, length-body_code, end_at, last_is_end, lt}
 
 entry_is : (at : ℕ) (body : Statements) → entry at (at + counts_of body) body ≡ at

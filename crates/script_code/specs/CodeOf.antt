@@ -1,9 +1,9 @@
 -- Which code is a script's (this project).
-use Rattle.std.specs.Prelude.{◌≡◌, ℕ, ◌<◌, ℤ, Bool, true, false, List, [], ◌∷◌, length}
+use Rattle.std.specs.Prelude.{◌≡◌, ℕ, ◌<◌, ℤ, Bool, true, false, List, ◌∷◌, length}
 use Rattle.std.specs.List.{list_all}
 use Rattle.script_tree.specs.ScriptText.{ScriptText}
 use Rattle.script_tree.specs.Posts.{pending, is_held, thread_of}
-use Rattle.script_code.specs.Operations.{Operation, Do, Test, End, Begin}
+use Rattle.script_code.specs.Operations.{Operation, Begin}
 use Rattle.script_code.specs.Placed.{listing_of}
 use Rattle.script_code.specs.FlatPosts.{flat_pending}
 

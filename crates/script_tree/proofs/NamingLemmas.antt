@@ -1,6 +1,6 @@
 -- The posts of a sound script name only what its threads share.
-use Rattle.std.proofs.Common.{◌≡◌, ℕ, zero, suc, ◌+◌, ◌-◌, ◌<◌, ◌≤◌, ◌&&◌, ℤ, Bool, true, false, cond, List, [], ◌∷◌, ◌++◌, length, map, Option, Some, None, Result, Ok, Err, refl, sym, ap, ◌∙◌, subst, arith, append-nil}
-use Rattle.std.specs.Prelude.{nat_lt, nat_le, slice_set, slice_index_or}
+use Rattle.std.proofs.Common.{◌≡◌, ℕ, zero, suc, ◌-◌, ◌<◌, ◌≤◌, ◌&&◌, ℤ, Bool, true, false, cond, List, [], ◌∷◌, ◌++◌, length, Option, Some, None, Result, Ok, Err, sym, ap, ◌∙◌, subst, arith, append-nil}
+use Rattle.std.specs.Prelude.{nat_lt, nat_le, slice_index_or}
 use Rattle.std.specs.List.{list_all}
 use Rattle.std.proofs.lemmas.Bool.{ltb-true}
 use Rattle.std.proofs.lemmas.Bool.Decides.{nat_tests}
@@ -9,18 +9,17 @@ use Rattle.pct_ask.specs.declared.ask.Ask.{Ask}
 use Rattle.pct_ask.specs.declared.ask.Ask.TheVariants as asks
 use Rattle.pct_ask.specs.declared.ask.FaultKind.{FaultKind}
 use Rattle.pct_ask.specs.declared.ask.FaultKind.TheVariants.{Spin}
-use Rattle.pct_ask.specs.declared.ask.Post.{Post}
 use Rattle.pct_ask.specs.declared.deal.Deal.{Deal}
-use Rattle.script_tree.specs.Trees.{Expression, Statement, Statements, Closed, Then, Read, Write, Add, Cas, Lock, TryLock, Unlock, Wait, Signal, Broadcast, Down, TryDown, Up, Arrive, Join, Yield, Assert, Set, If, IfElse, While, Start, RdLock, WrLock, TryRdLock, TryWrLock, RwUnlock, line_of, list, end_line}
+use Rattle.script_tree.specs.Trees.{Statement, Statements, Closed, Then, Read, Write, Add, Cas, Lock, TryLock, Unlock, Wait, Signal, Broadcast, Down, TryDown, Up, Arrive, Join, Yield, Assert, Set, If, IfElse, While, Start, RdLock, WrLock, TryRdLock, TryWrLock, RwUnlock, line_of, list, end_line}
 use Rattle.script_tree.specs.ScriptText.{Thread, ScriptText}
-use Rattle.script_tree.specs.Fitting.{line_fits, reg_fits, place_fits, expression_fits, count_of, counts_of, statement_fits, statements_fit, thread_fits, IsScript}
+use Rattle.script_tree.specs.Fitting.{line_fits, reg_fits, place_fits, expression_fits, counts_of, statement_fits, statements_fit, thread_fits, IsScript}
 use Rattle.script_tree.specs.Values.{Value, is_zero, value_of}
-use Rattle.script_tree.specs.Machine.{Act, Moves, Asks, Ends, Stand, by_act, by_move, faults, stand, pending_from}
-use Rattle.script_tree.specs.Moves.{State, before, ended, moves, asks_by, chosen, act, between, head, at_start}
+use Rattle.script_tree.specs.Machine.{Act, Moves, Asks, Ends, Stand, by_act, faults, stand, pending_from}
+use Rattle.script_tree.specs.Moves.{State, ended, moves, asks_by, act, head, at_start}
 use Rattle.script_tree.specs.Posts.{most_moves, body_pending, held_pending, is_held, thread_of, no_thread, pending}
 use Rattle.script_tree.specs.DealOf.{IsDealOf}
 use Rattle.script_tree.specs.Naming.{NamesOnly, AsksOnly, IsPostOf}
-use Rattle.script_tree.proofs.Tests.{left_true, right_true, first_of_3, first_of_4, first_of_5, second_of_3, third_of_4, third_of_5, fourth_of_5}
+use Rattle.script_tree.proofs.Tests.{left_true, right_true, first_of_3, first_of_4, first_of_5, second_of_3, third_of_4, third_of_5}
 
 -- ---- lines
 

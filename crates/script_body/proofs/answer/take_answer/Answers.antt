@@ -1,6 +1,5 @@
-use Rattle.std.proofs.Common.{◌≡◌, ℕ, ℤ, true, Some, refl, sym, ap, ◌∙◌, subst}
+use Rattle.std.proofs.Common.{◌≡◌, ℕ, true, Some, sym, ap, ◌∙◌, subst}
 use Rattle.std.specs.Prelude.{slice_get}
-use Rattle.script_tree.specs.Machine.{Act}
 use Rattle.script_code.specs.Operations.{operation}
 use Rattle.script_code.specs.Listing.{listing}
 use Rattle.script_code.specs.Placed.{listing_of, is_end, last_place}

@@ -1,12 +1,10 @@
-use Rattle.std.proofs.Common.{◌≡◌, ℕ, ◌+◌, ◌-◌, ◌<◌, ◌≤◌, length, Some, refl, sym, ap, ◌∙◌, subst, arith}
-use Rattle.std.specs.Prelude.{slice_get}
+use Rattle.std.proofs.Common.{◌≡◌, ℕ, ◌+◌, ◌-◌, sym, ap, ◌∙◌, subst, arith}
 use Rattle.script_tree.specs.Posts.{most_moves}
 use Rattle.script_code.specs.Listing.{listing}
 use Rattle.script_code.specs.Placed.{listing_of}
-use Rattle.script_code.specs.FlatPosts.{last_spot}
 use Rattle.script_code.proofs.Listings.{listing_at, ends}
 use Rattle.script_body.specs.Spots.{spot_of}
-use Rattle.script_body.specs.Waiting.{Settles, stand_of}
+use Rattle.script_body.specs.Waiting.{Settles}
 use Rattle.script_body.proofs.Steps.{most_is, the_stand, stand_moves, settled_post, settled_move_fault, settled_spin}
 use Rattle.script_body.proofs.settling.settle.Goals as goal
 

@@ -1,11 +1,10 @@
-use Rattle.std.proofs.Common.{◌≡◌, ◌<◌, ◌≤◌, true, length, get_or, arith, sym, ap, ◌∙◌, subst}
+use Rattle.std.proofs.Common.{◌≡◌, ◌<◌, ◌≤◌, true, length, get_or, arith, sym, ap, subst}
 use Rattle.std.specs.List.{list_all}
 use Rattle.std.proofs.lemmas.List.{length-map}
 use Rattle.script_tree.specs.ScriptParts.{thread}
 use Rattle.script_tree.specs.ScriptSeen.{text}
-use Rattle.script_code.specs.Operations.{operations, listings}
+use Rattle.script_code.specs.Operations.{operations}
 use Rattle.script_code.specs.Placed.{is_listing}
-use Rattle.script_code.specs.Layout.{script_code}
 use Rattle.script_code.specs.CodeOf.{IsCodeOf}
 use Rattle.script_code.proofs.Threads.{few_statements, few_threads, listings_all}
 use Rattle.script_code.proofs.Whole.{all_listed, length-code_from, is_code_of}

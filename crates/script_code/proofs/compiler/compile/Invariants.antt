@@ -1,4 +1,4 @@
-use Rattle.std.proofs.Common.{◌≡◌, ℕ, ◌<◌, ◌||◌, ◌++◌, false, length}
+use Rattle.std.proofs.Common.{◌≡◌, ℕ, ◌<◌, ◌||◌, ◌++◌, false}
 use Rattle.std.specs.Prelude.{slice_index_or}
 use Rattle.script_tree.specs.ScriptSeen.{text}
 use Rattle.script_tree.specs.Posts.{is_held}

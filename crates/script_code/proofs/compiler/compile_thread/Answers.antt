@@ -1,4 +1,4 @@
-use Rattle.std.proofs.Common.{◌≡◌, ℕ, ◌+◌, ap, ap₂, ◌∙◌}
+use Rattle.std.proofs.Common.{ℕ, ◌+◌, ap, ap₂, ◌∙◌}
 use Rattle.script_code.specs.Operations.{operations}
 use Rattle.script_code.proofs.Threads.{thread_made}
 use Rattle.script_code.proofs.compiler.compile_thread.Goals as goal

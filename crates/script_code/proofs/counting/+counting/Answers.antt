@@ -1,7 +1,5 @@
-use Rattle.std.proofs.Common.{◌≡◌, ◌+◌, ◌<◌, ◌≤◌, length, get_or, arith, rules, ap, sym, ◌∙◌, subst}
-use Rattle.script_tree.specs.Trees.{Statements}
-use Rattle.script_tree.specs.Seen.{block, statement}
-use Rattle.script_tree.specs.Fitting.{count_of, counts_of}
+use Rattle.std.proofs.Common.{◌≡◌, ◌<◌, ◌≤◌, length, get_or, arith, rules, ap, subst}
+use Rattle.script_tree.specs.Fitting.{counts_of}
 use Rattle.script_code.proofs.Pieces.{from_start, from_next, from_end}
 use Rattle.script_tree.specs.declared.stmt.Stmt.{the_lemmas}
 use Rattle.script_code.proofs.counting.+counting.Goals as goal

@@ -1,13 +1,13 @@
-use Rattle.std.proofs.Common.{◌≡◌, ℕ, ◌+◌, ◌<◌, ◌^◌, ◌++◌, length, get_or, None, Some, refl, sym, ap, ap₂, ◌∙◌, subst, arith, rules}
+use Rattle.std.proofs.Common.{◌≡◌, ℕ, ◌+◌, ◌<◌, ◌++◌, length, get_or, ap, ap₂, ◌∙◌, subst, arith, rules}
 use Rattle.script_tree.specs.Seen.{expression, statement, block}
 use Rattle.script_tree.specs.Fitting.{count_of, counts_of}
 use Rattle.script_tree.specs.declared.stmt.Stmt.{If, the_lemmas}
 use Rattle.script_tree.proofs.SeenLemmas.{statement-If, statement-IfElse, statement-While}
-use Rattle.script_code.specs.Operations.{Do, Test, operations}
+use Rattle.script_code.specs.Operations.{Test, operations}
 use Rattle.script_code.specs.Layout.{entry, codes_of}
 use Rattle.script_code.specs.Rest.{from}
 use Rattle.script_code.proofs.Pieces.{from_start, from_next}
-use Rattle.script_code.proofs.EmitLemmas.{emit_lone, emit_if, emit_if_else, emit_while, emit_length, emit_all_length, push_length, emit_next, code_of_lone, on_ok}
+use Rattle.script_code.proofs.EmitLemmas.{emit_if, emit_if_else, emit_while, emit_length, emit_all_length, push_length, emit_next, on_ok}
 use Rattle.script_code.proofs.emit.+emit.Goals as goal
 
 pub emit_block-loop-i-preserved : goal.emit_block-loop-i-preserved

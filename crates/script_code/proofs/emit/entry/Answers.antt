@@ -1,4 +1,4 @@
-use Rattle.std.proofs.Common.{◌≡◌, ◌<◌, length, sym, arith}
+use Rattle.std.proofs.Common.{◌<◌, length, sym, arith}
 use Rattle.script_code.proofs.Pieces.{from_more}
 use Rattle.script_code.proofs.emit.entry.Goals as goal
 
