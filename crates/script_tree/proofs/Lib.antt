@@ -1,4 +1,6 @@
 pub mod SeenLemmas
+pub mod Tests
+pub mod NamingLemmas
 pub mod PrintLemmas
 pub mod DeclarationLemmas
 pub mod Cuts
