@@ -1,2 +1,4 @@
 pub mod Values
 pub mod Cuts
+pub mod HeadWords
+pub mod Ends

@@ -33,15 +33,18 @@ abbrev pub onto : {A : Type 0} → Option A → Option (List A) → Option (List
 onto None others = None
 onto (Some x) others = option_map (λ xs. x ∷ xs) others
 
+-- what each word is, in their order, where each is something
+abbrev pub all_of : (List ℕ → Option ℕ) → List (List ℕ) → Option (List ℕ)
+all_of says [] = Some []
+all_of says (word ∷ words) = onto (says word) (all_of says words)
+
 -- the threads of these names, where each is one's
 abbrev pub threads_of : NameLists → List (List ℕ) → Option (List ℕ)
-threads_of names [] = Some []
-threads_of names (word ∷ words) = onto (place_of word names.threads) (threads_of names words)
+threads_of names words = all_of (λ word. place_of word names.threads) words
 
 -- numbers in 1..100000
 abbrev pub step_counts : List (List ℕ) → Option (List ℕ)
-step_counts [] = Some []
-step_counts (word ∷ words) = onto (count_of 1 100000 word) (step_counts words)
+step_counts words = all_of (count_of 1 100000) words
 
 abbrev pub point_words : List (List ℕ) → Option (List ℕ)
 point_words [] = None

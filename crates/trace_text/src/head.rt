@@ -1,14 +1,15 @@
 //! The four lines of a trace's head.
 
 ghost use Rattle.std.specs.Prelude.{◌≡◌, IfOk};
-ghost use Rattle.std.specs.List.{list_all};
+ghost use Rattle.std.specs.List.{list_all, list_any};
+ghost use Rattle.std.specs.Str.{bytes_eq};
 ghost use Rattle.std.specs.Option.{option_map};
 ghost use Rattle.pct_ask.specs.Words as lexis;
 ghost use Rattle.pct_ask.specs.VerdictWords.{words_of};
 ghost use Rattle.trace_text.specs.Heads as heads;
 ghost use Rattle.trace_text.specs.Lines.{pieces_of};
 ghost use Rattle.trace_text.specs.Reading as reading;
-ghost use Rattle.trace_text.specs.Seen.{seen, pieces_after, Gives};
+ghost use Rattle.trace_text.specs.Seen.{seen, cut_value, Gives};
 
 use crate::fault::{TraceError, TraceFault};
 use crate::line::{cut_line, first_words};
@@ -26,10 +27,26 @@ const POINTS: &[u8] = b"points";
 
 const LIMIT: &[u8] = b"limit";
 
-const fn bad_header(line: u32) -> TraceError {
-    TraceError::Bad {
-        line,
-        kind: TraceFault::BadHeader,
+/// What a line of the head says, and what follows its LF.
+fn head_value<T: Drop>(
+    line: u32,
+    value: Option<T>,
+    after: Option<&[u8]>,
+) -> Result<(T, &[u8]), TraceError>
+    ensures { Gives (λ x. (x.0, pieces_of x.1.now)) result (cut_value line value after.entry) }
+{
+    let Some(after) = after else {
+        return Err(TraceError::Bad {
+            line,
+            kind: TraceFault::BadHeader,
+        });
+    };
+    match value {
+        Some(value) => Ok((value, after)),
+        None => Err(TraceError::Bad {
+            line,
+            kind: TraceFault::BadHeader,
+        }),
     }
 }
 
@@ -50,14 +67,11 @@ pub fn read_version(text: &[u8]) -> Result<(u32, &[u8]), TraceError>
     ensures { Gives (λ x. (x.0, pieces_of x.1.now)) result (reading.head_line 1 heads.version_in (pieces_of text.now)) }
 {
     let (line, after) = cut_line(text);
-    match (version_in(line), after) {
-        (Some(version), Some(after)) => Ok((version, after)),
-        _ => Err(bad_header(1)),
-    }
+    head_value(1, version_in(line), after)
 }
 
 fn is_among(word: &[u8], words: &[&[u8]]) -> bool
-    ensures { result ≡ lexis.is_among word.now (seen words.now) }
+    ensures { result ≡ list_any (λ other. bytes_eq word.now other.now) words.now }
 {
     words.iter().any(|other| word == *other)
 }
@@ -65,28 +79,30 @@ fn is_among(word: &[u8], words: &[&[u8]]) -> bool
 fn are_different(words: &[&[u8]]) -> bool
     ensures { result ≡ heads.are_different (seen words.now) }
 {
-    let mut rest = words;
-    while let [word, others @ ..] = rest {
-        if is_among(word, others) {
-            return false;
-        }
-        rest = others;
+    match words.split_first() {
+        None => true,
+        Some((word, others)) => !is_among(word, others) && are_different(others),
     }
-    true
 }
 
 fn are_lawful(words: &[&[u8]]) -> bool
-    ensures { result ≡ list_all (lexis.is_name 1) (seen words.now) }
+    ensures { result ≡ list_all (λ word. lexis.is_name 1 word.now) words.now }
 {
     words.iter().all(|word| is_lawful_name(1, word))
 }
 
+fn are_order_names(names: &Names, words: &[&[u8]]) -> bool
+    ensures { result ≡ heads.are_order_names names.now (seen words.now) }
+{
+    let threads = names.count(NameKind::Thread) as usize;
+    words.len() == threads && are_lawful(words) && are_different(words)
+}
+
 fn order_names<'a, 'b>(names: &Names, words: &'b [&'a [u8]]) -> Option<&'b [&'a [u8]]>
-    ensures { option_map (λ w. seen w.now) result ≡ heads.order_words names.now (seen words.now) }
+    ensures { option_map (λ found. seen found.now) result ≡ heads.order_words names.now (seen words.now) }
 {
     let (head, others) = words.split_first()?;
-    let threads = names.count(NameKind::Thread) as usize;
-    if *head == ORDER && others.len() == threads && are_lawful(others) && are_different(others) {
+    if *head == ORDER && are_order_names(names, others) {
         Some(others)
     } else {
         None
@@ -98,11 +114,13 @@ fn threads_of(alloc: Global, names: &Names, words: &[&[u8]]) -> Result<Option<Or
     ensures { IfOk result (λ order. order ≡ heads.threads_of names.now (seen words.now)) }
 {
     let mut order = OrderList::new(alloc);
-    for word in words {
+    let mut rest = words;
+    while let [word, others @ ..] = rest {
         let Some(thread) = names.find(NameKind::Thread, word) else {
             return Ok(None);
         };
         order.try_push(thread)?;
+        rest = others;
     }
     Ok(Some(order))
 }
@@ -118,9 +136,7 @@ pub fn read_order<'a>(
     let (line, after) = cut_line(text);
     let most = names.count(NameKind::Thread) as usize + 2;
     let words = first_words(alloc, line, most)?;
-    let (Some(threads), Some(after)) = (order_names(names, words.as_slice()), after) else {
-        return Err(bad_header(2));
-    };
+    let (threads, after) = head_value(2, order_names(names, words.as_slice()), after)?;
     match threads_of(alloc, names, threads)? {
         Some(order) => Ok((order, after)),
         None => Err(TraceError::Bad {
@@ -134,11 +150,13 @@ fn step_counts(alloc: Global, words: &[&[u8]]) -> Result<Option<PointList>, NoMe
     ensures { IfOk result (λ points. points ≡ heads.step_counts (seen words.now)) }
 {
     let mut points = PointList::new(alloc);
-    for word in words {
+    let mut rest = words;
+    while let [word, others @ ..] = rest {
         let Some(point) = count_of(1, 100_000, word) else {
             return Ok(None);
         };
         points.try_push(point)?;
+        rest = others;
     }
     Ok(Some(points))
 }
@@ -162,10 +180,7 @@ pub fn read_points(alloc: Global, text: &[u8]) -> Result<(PointList, &[u8]), Tra
 {
     let (line, after) = cut_line(text);
     let words = first_words(alloc, line, 9)?;
-    match (points_in(alloc, words.as_slice())?, after) {
-        (Some(points), Some(after)) => Ok((points, after)),
-        _ => Err(bad_header(3)),
-    }
+    head_value(3, points_in(alloc, words.as_slice())?, after)
 }
 
 fn limit_in(words: &[&[u8]]) -> Option<u32>
@@ -183,8 +198,5 @@ pub fn read_limit(alloc: Global, text: &[u8]) -> Result<(u32, &[u8]), TraceError
 {
     let (line, after) = cut_line(text);
     let words = first_words(alloc, line, 3)?;
-    match (limit_in(words.as_slice()), after) {
-        (Some(limit), Some(after)) => Ok((limit, after)),
-        _ => Err(bad_header(4)),
-    }
+    head_value(4, limit_in(words.as_slice()), after)
 }

@@ -1,7 +1,6 @@
 //! The lines after the head of a trace: steps and the verdict.
 
-ghost use Rattle.std.specs.Prelude.{◌≡◌, IfOk, codes};
-ghost use Rattle.std.specs.Str.{bytes_eq};
+ghost use Rattle.std.specs.Prelude.{◌≡◌, IfOk, length};
 ghost use Rattle.pct_ask.specs.VerdictWords.{words_of, verdict_of_words};
 ghost use Rattle.pct_ask.specs.declared.names.NameKind.TheVariants as kinds;
 ghost use Rattle.trace_text.specs.Asks as asks;
@@ -79,26 +78,79 @@ fn step_of(names: &Names, around: &Around<'_>, ask: Option<Option<Ask>>) -> Opti
     })
 }
 
+fn bare_step(names: &Names, words: &[&[u8]]) -> Option<Row>
+    ensures { length words.now ≡ 6 → result ≡ lines.step_of_words names.now 1 (seen words.now) }
+{
+    let [number, thread, line, word, sign, answer] = words else {
+        return None;
+    };
+    let around = Around {
+        number,
+        thread,
+        line,
+        sign,
+        answer,
+    };
+    step_of(names, &around, bare_ask(word))
+}
+
+fn step_on_one(names: &Names, version: u32, words: &[&[u8]]) -> Option<Row>
+    ensures { length words.now ≡ 7 → result ≡ lines.step_of_words names.now version (seen words.now) }
+{
+    let [number, thread, line, word, a, sign, answer] = words else {
+        return None;
+    };
+    let around = Around {
+        number,
+        thread,
+        line,
+        sign,
+        answer,
+    };
+    step_of(names, &around, ask_on_one(names, version, word, a))
+}
+
+fn step_on_two(names: &Names, words: &[&[u8]]) -> Option<Row>
+    ensures { length words.now ≡ 8 → result ≡ lines.step_of_words names.now 1 (seen words.now) }
+{
+    let [number, thread, line, word, a, b, sign, answer] = words else {
+        return None;
+    };
+    let around = Around {
+        number,
+        thread,
+        line,
+        sign,
+        answer,
+    };
+    step_of(names, &around, ask_on_two(names, word, a, b))
+}
+
+fn step_on_three(names: &Names, words: &[&[u8]]) -> Option<Row>
+    ensures { length words.now ≡ 9 → result ≡ lines.step_of_words names.now 1 (seen words.now) }
+{
+    let [number, thread, line, word, a, b, c, sign, answer] = words else {
+        return None;
+    };
+    let around = Around {
+        number,
+        thread,
+        line,
+        sign,
+        answer,
+    };
+    step_of(names, &around, ask_on_three(names, word, a, b, c))
+}
+
+/// The step that the words of a line tell. The words of its ask are one to four.
 fn read_step(names: &Names, version: u32, words: &[&[u8]]) -> Option<Row>
     ensures { result ≡ lines.step_of_words names.now version (seen words.now) }
 {
-    match words {
-        [number, thread, line, word, sign, answer] => {
-            let around = Around { number, thread, line, sign, answer };
-            step_of(names, &around, bare_ask(word))
-        }
-        [number, thread, line, word, a, sign, answer] => {
-            let around = Around { number, thread, line, sign, answer };
-            step_of(names, &around, ask_on_one(names, version, word, a))
-        }
-        [number, thread, line, word, a, b, sign, answer] => {
-            let around = Around { number, thread, line, sign, answer };
-            step_of(names, &around, ask_on_two(names, word, a, b))
-        }
-        [number, thread, line, word, a, b, c, sign, answer] => {
-            let around = Around { number, thread, line, sign, answer };
-            step_of(names, &around, ask_on_three(names, word, a, b, c))
-        }
+    match words.len() {
+        6 => bare_step(names, words),
+        7 => step_on_one(names, version, words),
+        8 => step_on_two(names, words),
+        9 => step_on_three(names, words),
         _ => None,
     }
 }
