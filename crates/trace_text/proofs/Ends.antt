@@ -9,10 +9,11 @@ use Rattle.pct_ask.specs.declared.ask.Ask.{Ask}
 use Rattle.pct_ask.specs.declared.verdict.Verdict.{Verdict}
 use Rattle.pct_ask.specs.declared.verdict_text.VerdictRead.{VerdictRead}
 use Rattle.pct_ask.specs.declared.verdict_text.VerdictRead.TheVariants.{Is, NoForm, UnknownName}
+use Rattle.pct_ask.specs.VerdictWords.{words_of}
 use Rattle.trace_text.specs.Lawful.{is_of_second}
 use Rattle.trace_text.specs.Numbers.{value_of, natural_of, count_of}
 use Rattle.trace_text.specs.Asks.{object}
-use Rattle.trace_text.specs.StepLines.{tells_reads, end_of, event_of, step_of, step_of_words}
+use Rattle.trace_text.specs.StepLines.{tells_reads, end_of, event_of, step_of, step_of_words, row_of}
 use Rattle.trace_text.specs.Seen.{seen}
 use Rattle.trace_text.specs.declared.row.Row.{Row}
 use Rattle.trace_text.specs.declared.row.Row.TheVariants.{Step, End}
@@ -48,9 +49,11 @@ end-verdict version text read verdict is apart = rw (is, other-version version a
 -- ---- the words of a step
 
 pub step-unanswered : (names : NameLists) (number thread line : List ℕ) (ask : Option (Option Ask)) (sign answer : List ℕ) (n : ℕ) (t : Option ℕ) (l : ℕ) (a : Option Ask) → natural_of number ≡ Some n → object names Thread thread ≡ Some t → count_of 1 4096 line ≡ Some l → ask ≡ Some a → bytes_eq sign (codes "=") ≡ true → value_of answer ≡ None → step_of names number thread line ask sign answer ≡ None
+unfolding step_of
 step-unanswered names number thread line ask sign answer n t l a p q r s u v = rw (p, q, r, s, u, v)
 
 pub step-whole : (names : NameLists) (number thread line : List ℕ) (ask : Option (Option Ask)) (sign answer : List ℕ) (n : ℕ) (t : Option ℕ) (l : ℕ) (a : Option Ask) (v : ℤ) → natural_of number ≡ Some n → object names Thread thread ≡ Some t → count_of 1 4096 line ≡ Some l → ask ≡ Some a → bytes_eq sign (codes "=") ≡ true → value_of answer ≡ Some v → step_of names number thread line ask sign answer ≡ Some (Step n (event_of t l a v))
+unfolding step_of
 step-whole names number thread line ask sign answer n t l a v p q r s u w = rw (p, q, r, s, u, w)
 
 -- no other number of words makes a step
@@ -80,3 +83,8 @@ step_of_words-take names version (a ∷ b ∷ c ∷ d ∷ e ∷ f ∷ g ∷ []) 
 step_of_words-take names version (a ∷ b ∷ c ∷ d ∷ e ∷ f ∷ g ∷ h ∷ []) = refl
 step_of_words-take names version (a ∷ b ∷ c ∷ d ∷ e ∷ f ∷ g ∷ h ∷ i ∷ []) = refl
 step_of_words-take names version (a ∷ b ∷ c ∷ d ∷ e ∷ f ∷ g ∷ h ∷ i ∷ j ∷ words) = refl
+
+-- a line that doesn't begin as the verdict's
+pub row-step : (names : NameLists) (version : ℕ) (text : List ℕ) → bytes_eq (take 8 text) (codes "verdict ") ≡ false → row_of names version text ≡ step_of_words names version (words_of text)
+unfolding row_of
+row-step names version text other = rw other

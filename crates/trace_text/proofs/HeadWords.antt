@@ -3,7 +3,7 @@ use Rattle.std.specs.Prelude.{◌==◌, ◌&&◌, not, nat_le, if◌then◌else�
 use Rattle.std.specs.List.{list_all, list_any, slice_split, onto_first}
 use Rattle.std.specs.Option.{option_map}
 use Rattle.std.specs.Str.{bytes_eq}
-use Rattle.std.proofs.Common.{◌≡◌, ℕ, ◌+◌, ◌<◌, ◌≤◌, Bool, true, false, cond, List, [], ◌∷◌, ◌++◌, length, take, zero, suc, Option, Some, None, Result, Ok, Err, Bor, refl, sym, ◌∙◌, ap, arith, append_assoc, append-nil}
+use Rattle.std.proofs.Common.{◌≡◌, ◌≢◌, ℕ, ◌+◌, ◌<◌, ◌≤◌, Bool, true, false, cond, List, [], ◌∷◌, ◌++◌, length, take, zero, suc, Option, Some, None, Result, Ok, Err, Bor, refl, sym, ◌∙◌, ap, arith, append_assoc, append-nil}
 use Rattle.std.proofs.lemmas.Bool.Decides.{nat_tests}
 use Rattle.std.proofs.lemmas.List.{take_all, length-take-le, length-map}
 use Rattle.pct_ask.specs.VerdictWords.{words_of}
@@ -153,5 +153,15 @@ pub different-none : (words : List (Bor (List ℕ))) → length words ≡ 0 → 
 different-none [] none = refl
 different-none (word ∷ words) none = absurd (omega arith)
 
-pub order-test : (names : NameLists) (words : List (Bor (List ℕ))) → are_order_names names (seen words) ≡ ((length words == length names.threads) && list_all (λ w. is_name 1 w.now) words && are_different (seen words))
-order-test names words = rw (length-map {A = Bor (List ℕ)}, all-seen (is_name 1) words)
+pub order-long : (names : NameLists) (words : List (Bor (List ℕ))) → length words ≢ length names.threads → false ≡ are_order_names names (seen words)
+order-long names words apart =
+    let other : (length words == length names.threads) ≡ false = grind (arith, nat_tests) in
+    rw (length-map {A = Bor (List ℕ)}, other)
+
+pub order-parts : (names : NameLists) (words : List (Bor (List ℕ))) (lawful : Bool) → length words ≡ length names.threads → lawful ≡ list_all (λ w. is_name 1 w.now) words → are_order_names names (seen words) ≡ (lawful && are_different (seen words))
+order-parts names words lawful long is =
+    let same : (length words == length names.threads) ≡ true = grind (arith, nat_tests) in
+    rw (length-map {A = Bor (List ℕ)}, same, ← all-seen (is_name 1) words, is)
+
+pub test-same : (x y : ℕ) → (x == y) ≡ true → x ≡ y
+test-same x y h = grind (arith, nat_tests)

@@ -75,3 +75,6 @@ value_of-none word read every was = by (value_of word) refl
     by (Some z) e =
         let is = Some-value_of word z e in
         let some : None ≡ Some z = sym was ∙ every z (fits-wider z is.1) is.0 in cc
+
+pub fits-natural : (n : ℕ) → n < 2 ^ 63 → FitsSigned w64 (pos n)
+fits-natural n h = fits_signed_from_abs w64 (pos n) (omega arith)

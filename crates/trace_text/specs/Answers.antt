@@ -1,5 +1,5 @@
 -- What reading a text answers (this project).
-use Rattle.std.specs.Prelude.{◌≡◌, ◌≢◌, ℕ, List, Result, Ok, Err}
+use Rattle.std.specs.Prelude.{ℕ, List, Result, Ok, Err}
 use Rattle.pct_ask.specs.NameLists.{NameLists}
 use Rattle.trace_text.specs.Trace.{IsTrace}
 use Rattle.trace_text.specs.Faults.{IsTraceFault}
@@ -12,6 +12,3 @@ abbrev pub Answers : List ℕ → NameLists → Result TraceFile TraceError → 
 Answers bytes names (Ok file) = IsTrace bytes names file
 Answers bytes names (Err (Bad line kind)) = IsTraceFault bytes names line kind
 Answers bytes names (Err NoMemory) = Unit {0}
-
-abbrev pub IsNoMemory : Result TraceFile TraceError → Type 0
-IsNoMemory result = result ≡ Err NoMemory

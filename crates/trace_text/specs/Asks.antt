@@ -72,7 +72,7 @@ ask_by names None word operand = plain_ask word operand
 ask_by names (Some kind) word operand = option_map (λ found. option_map (ask_of kind word) found) (object names kind operand)
 
 -- an ask of two words
-abbrev pub ask_on_one : NameLists → ℕ → List ℕ → List ℕ → Option (Option Ask)
+unfoldable pub ask_on_one : NameLists → ℕ → List ℕ → List ℕ → Option (Option Ask)
 ask_on_one names version word operand = ask_by names (kind_of version word) word operand
 
 abbrev pub with_value : (ℕ → ℤ → Ask) → Option (Option ℕ) → Option ℤ → Option (Option Ask)
@@ -91,7 +91,7 @@ waiting ask (Some c) None = None
 waiting ask (Some c) (Some m) = Some (both ask c m)
 
 -- an ask of three words: write X V, add X V, release C M, regain C M
-abbrev pub ask_on_two : NameLists → List ℕ → List ℕ → List ℕ → Option (Option Ask)
+unfoldable pub ask_on_two : NameLists → List ℕ → List ℕ → List ℕ → Option (Option Ask)
 ask_on_two names word a b =
     if bytes_eq word (codes "write") then with_value Write (object names Var a) (value_of b)
     else (if bytes_eq word (codes "add") then with_value Add (object names Var a) (value_of b)
@@ -105,6 +105,6 @@ exchange (Some found) (Some old) None = None
 exchange (Some found) (Some old) (Some new) = Some (option_map (λ x. Cas x old new) found)
 
 -- an ask of four words: cas X OLD NEW
-abbrev pub ask_on_three : NameLists → List ℕ → List ℕ → List ℕ → List ℕ → Option (Option Ask)
+unfoldable pub ask_on_three : NameLists → List ℕ → List ℕ → List ℕ → List ℕ → Option (Option Ask)
 ask_on_three names word a b c =
     if bytes_eq word (codes "cas") then exchange (object names Var a) (value_of b) (value_of c) else None

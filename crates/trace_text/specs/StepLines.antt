@@ -32,7 +32,7 @@ step_of_parts (Some n) (Some thread) (Some line) (Some ask) true None = None
 step_of_parts (Some n) (Some thread) (Some line) (Some ask) true (Some answer) = Some (Step n (event_of thread line ask answer))
 
 -- the parts of a step line, but for its ask
-abbrev pub step_of : NameLists → List ℕ → List ℕ → List ℕ → Option (Option Ask) → List ℕ → List ℕ → Option Row
+unfoldable pub step_of : NameLists → List ℕ → List ℕ → List ℕ → Option (Option Ask) → List ℕ → List ℕ → Option Row
 step_of names number thread line ask sign answer =
     step_of_parts (natural_of number) (object names Thread thread) (count_of 1 4096 line) ask (bytes_eq sign (codes "=")) (value_of answer)
 
@@ -59,7 +59,7 @@ end_of version text (Is verdict) = if version == 1 && is_of_second verdict then 
 
 -- What a line says: a step, by its number and its event, or a verdict; none of them where a name isn't declared with the
 -- kind that its place needs. Nothing where the line has neither form.
-abbrev pub row_of : NameLists → ℕ → List ℕ → Option Row
+unfoldable pub row_of : NameLists → ℕ → List ℕ → Option Row
 row_of names version text =
     if bytes_eq (take 8 text) (codes "verdict ") then end_of version (drop 8 text) (verdict_of_words names (words_of (drop 8 text)))
     else step_of_words names version (words_of text)

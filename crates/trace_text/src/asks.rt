@@ -214,6 +214,7 @@ fn plain_ask(word: &[u8], operand: &[u8]) -> Option<Option<Ask>>
 }
 
 /// An ask of two words.
+#[tactic(auto, unfolding(crate::specs::Asks::ask_on_one))]
 pub fn ask_on_one(
     names: &Names,
     version: u32,
@@ -244,6 +245,7 @@ fn with_add(found: Option<u32>, value: i64) -> Option<Ask>
 }
 
 /// An ask of three words.
+#[tactic(auto, unfolding(crate::specs::Asks::ask_on_two))]
 pub fn ask_on_two(names: &Names, word: &[u8], first: &[u8], second: &[u8]) -> Option<Option<Ask>>
     ensures { result ≡ asks.ask_on_two names.now word.now first.now second.now }
 {
@@ -287,6 +289,7 @@ fn regain(cond: Option<u32>, mutex: Option<u32>) -> Option<Ask>
 }
 
 /// An ask of four words.
+#[tactic(auto, unfolding(crate::specs::Asks::ask_on_three))]
 pub fn ask_on_three(
     names: &Names,
     word: &[u8],
@@ -296,11 +299,18 @@ pub fn ask_on_three(
 ) -> Option<Option<Ask>>
     ensures { result ≡ asks.ask_on_three names.now word.now var.now old.now new.now }
 {
-    if word != CAS {
-        return None;
+    if word == CAS {
+        let found = object(names, NameKind::Var, var)?;
+        let old = value_of(old)?;
+        let new = value_of(new)?;
+        Some(with_exchange(found, old, new))
+    } else {
+        None
     }
-    let found = object(names, NameKind::Var, var)?;
-    let old = value_of(old)?;
-    let new = value_of(new)?;
-    Some(found.map(|var| Ask::Cas { var, old, new }))
+}
+
+fn with_exchange(found: Option<u32>, old: i64, new: i64) -> Option<Ask>
+    ensures { result ≡ option_map (λ x. Ask.Cas x old new) found }
+{
+    found.map(|var| Ask::Cas { var, old, new })
 }

@@ -1,16 +1,22 @@
 //! A trace, read from its first line to its last.
 
-ghost use Rattle.std.specs.Prelude.{◌≡◌, ◌≢◌, ◌+◌, ◌≤◌, IfOk, length, map};
+ghost use Rattle.std.specs.Prelude.{◌≡◌, ◌⊎◌, ℕ, ◌+◌, ◌≤◌};
+ghost use Rattle.pct_ask.specs.NameLists.{AreNames};
+ghost use Rattle.trace_text.specs.Answers.{Answers};
+ghost use Rattle.trace_text.specs.Faults.{IsTraceFault};
 ghost use Rattle.trace_text.specs.Lines.{pieces_of};
 ghost use Rattle.trace_text.specs.Reading as reading;
 ghost use Rattle.trace_text.specs.Seen.{Gives};
+ghost use Rattle.trace_text.specs.Trace.{IsTrace};
+ghost use Rattle.trace_text.specs.declared.fault.TraceFault.{TraceFault};
+ghost use Rattle.trace_text.specs.declared.file.TraceFile.{TraceFile};
 
 use crate::fault::{TraceError, TraceFault};
 use crate::file::{Header, TraceFile};
 use crate::head::{read_limit, read_order, read_points, read_version};
 use crate::line::cut_line;
 use crate::row::{Sound, judged, read_row, unended_fault};
-use pct_ask::{EventList, Names, Verdict};
+use pct_ask::{EventList, NameKind, Names, Verdict};
 use std::alloc::Global;
 
 const MOST_BYTES: usize = 16_777_216;
@@ -43,7 +49,7 @@ fn read_body(
     let mut events = EventList::new(alloc);
     let mut next = 1;
     let mut rest = text;
-    loop {
+    'lines: loop {
         let (text, after) = cut_line(rest);
         let row = read_row(alloc, names, version, text)?;
         let line = line_of(next);
@@ -70,8 +76,10 @@ fn read_body(
 }
 
 fn read(alloc: Global, bytes: &[u8], names: &Names) -> Result<TraceFile, TraceError>
-    ensures { Gives (λ file. file) result (reading.read names.now bytes.now) }
+    ensures read { Gives (λ file. file) result (reading.read names.now bytes.now) }
+    ensures lawful { AreNames names.now }
 {
+    let _ = names.count(NameKind::Thread);
     if bytes.len() > MOST_BYTES {
         return Err(TraceError::Bad {
             line: 1,
@@ -97,6 +105,12 @@ fn read(alloc: Global, bytes: &[u8], names: &Names) -> Result<TraceFile, TraceEr
 }
 
 /// Reads a trace under the names of a test.
-pub fn read_trace(alloc: Global, bytes: &[u8], names: &Names) -> Result<TraceFile, TraceError> {
+pub fn read_trace(alloc: Global, bytes: &[u8], names: &Names) -> Result<TraceFile, TraceError>
+    ensures answer { Answers bytes.now names.now result }
+
+    // A trace gives its file, and a fault itself, unless there is no memory.
+    ensures trace { (file : TraceFile) → IsTrace bytes.now names.now file → (result ≡ Ok file) ⊎ (result ≡ Err TraceError.NoMemory) }
+    ensures fault { (line : ℕ) (kind : TraceFault) → IsTraceFault bytes.now names.now line kind → (result ≡ Err (TraceError.Bad line kind)) ⊎ (result ≡ Err TraceError.NoMemory) }
+{
     read(alloc, bytes, names)
 }

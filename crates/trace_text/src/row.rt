@@ -1,6 +1,7 @@
 //! The lines after the head of a trace: steps and the verdict.
 
-ghost use Rattle.std.specs.Prelude.{◌≡◌, IfOk, length};
+ghost use Rattle.std.specs.Prelude.{◌≡◌, ℕ, IfOk, length, codes};
+ghost use Rattle.std.specs.Str.{bytes_eq};
 ghost use Rattle.pct_ask.specs.VerdictWords.{words_of, verdict_of_words};
 ghost use Rattle.pct_ask.specs.declared.names.NameKind.TheVariants as kinds;
 ghost use Rattle.trace_text.specs.Asks as asks;
@@ -61,6 +62,13 @@ fn event_of(thread: Option<u32>, line: u32, ask: Option<Ask>, answer: i64) -> Op
     })
 }
 
+fn is_sign(word: &[u8]) -> bool
+    ensures { result ≡ bytes_eq word.now (codes "=") }
+{
+    word == SIGN
+}
+
+#[tactic(auto, unfolding(crate::specs::StepLines::step_of))]
 fn step_of(names: &Names, around: &Around<'_>, ask: Option<Option<Ask>>) -> Option<Row>
     ensures { result ≡ lines.step_of names.now around.now.number.now around.now.thread.now around.now.line.now ask around.now.sign.now around.now.answer.now }
 {
@@ -68,7 +76,7 @@ fn step_of(names: &Names, around: &Around<'_>, ask: Option<Option<Ask>>) -> Opti
     let thread = object(names, NameKind::Thread, around.thread)?;
     let line = count_of(1, 4096, around.line)?;
     let ask = ask?;
-    if around.sign != SIGN {
+    if !is_sign(around.sign) {
         return None;
     }
     let answer = value_of(around.answer)?;
@@ -79,7 +87,7 @@ fn step_of(names: &Names, around: &Around<'_>, ask: Option<Option<Ask>>) -> Opti
 }
 
 fn bare_step(names: &Names, words: &[&[u8]]) -> Option<Row>
-    ensures { length words.now ≡ 6 → result ≡ lines.step_of_words names.now 1 (seen words.now) }
+    ensures { (version : ℕ) → length words.now ≡ 6 → result ≡ lines.step_of_words names.now version (seen words.now) }
 {
     let [number, thread, line, word, sign, answer] = words else {
         return None;
@@ -111,7 +119,7 @@ fn step_on_one(names: &Names, version: u32, words: &[&[u8]]) -> Option<Row>
 }
 
 fn step_on_two(names: &Names, words: &[&[u8]]) -> Option<Row>
-    ensures { length words.now ≡ 8 → result ≡ lines.step_of_words names.now 1 (seen words.now) }
+    ensures { (version : ℕ) → length words.now ≡ 8 → result ≡ lines.step_of_words names.now version (seen words.now) }
 {
     let [number, thread, line, word, a, b, sign, answer] = words else {
         return None;
@@ -127,9 +135,10 @@ fn step_on_two(names: &Names, words: &[&[u8]]) -> Option<Row>
 }
 
 fn step_on_three(names: &Names, words: &[&[u8]]) -> Option<Row>
-    ensures { length words.now ≡ 9 → result ≡ lines.step_of_words names.now 1 (seen words.now) }
+    ensures { (version : ℕ) → length words.now ≡ 9 → result ≡ lines.step_of_words names.now version (seen words.now) }
 {
-    let [number, thread, line, word, a, b, c, sign, answer] = words else {
+    let (first, operands) = words.split_at(4);
+    let ([number, thread, line, word], [a, b, c, sign, answer]) = (first, operands) else {
         return None;
     };
     let around = Around {
@@ -146,12 +155,16 @@ fn step_on_three(names: &Names, words: &[&[u8]]) -> Option<Row>
 fn read_step(names: &Names, version: u32, words: &[&[u8]]) -> Option<Row>
     ensures { result ≡ lines.step_of_words names.now version (seen words.now) }
 {
-    match words.len() {
-        6 => bare_step(names, words),
-        7 => step_on_one(names, version, words),
-        8 => step_on_two(names, words),
-        9 => step_on_three(names, words),
-        _ => None,
+    if words.len() == 6 {
+        bare_step(names, words)
+    } else if words.len() == 7 {
+        step_on_one(names, version, words)
+    } else if words.len() == 8 {
+        step_on_two(names, words)
+    } else if words.len() == 9 {
+        step_on_three(names, words)
+    } else {
+        None
     }
 }
 
@@ -199,6 +212,7 @@ fn read_end(names: &Names, version: u32, text: &[u8]) -> Option<Row>
 }
 
 /// What a line says, where it has a form.
+#[tactic(auto, unfolding(crate::specs::StepLines::row_of))]
 pub fn read_row(
     alloc: Global,
     names: &Names,
