@@ -1,7 +1,7 @@
 -- How the line of a verdict is read, and how many words a step has.
 use Rattle.std.specs.Prelude.{◌==◌, ◌&&◌, if◌then◌else◌, codes}
 use Rattle.std.specs.Str.{bytes_eq}
-use Rattle.std.proofs.Common.{◌≡◌, ◌≢◌, ℕ, ◌+◌, ◌<◌, ◌≤◌, Bool, true, false, List, [], ◌∷◌, length, take, zero, suc, ℤ, Option, Some, None, Bor, refl, sym, ◌∙◌, ap, arith}
+use Rattle.std.proofs.Common.{◌≡◌, ◌≢◌, ℕ, ◌+◌, ◌<◌, ◌≤◌, Bool, true, false, List, [], ◌∷◌, length, take, get_or, zero, suc, ℤ, Option, Some, None, Bor, refl, sym, ◌∙◌, ap, arith}
 use Rattle.std.proofs.lemmas.Bool.Decides.{nat_tests}
 use Rattle.pct_ask.specs.NameLists.{NameLists}
 use Rattle.pct_ask.specs.declared.names.NameKind.TheVariants.{Thread}
@@ -12,7 +12,7 @@ use Rattle.pct_ask.specs.declared.verdict_text.VerdictRead.TheVariants.{Is, NoFo
 use Rattle.pct_ask.specs.VerdictWords.{words_of}
 use Rattle.trace_text.specs.Lawful.{is_of_second}
 use Rattle.trace_text.specs.Numbers.{value_of, natural_of, count_of}
-use Rattle.trace_text.specs.Asks.{object}
+use Rattle.trace_text.specs.Asks.{object, ask_on_three}
 use Rattle.trace_text.specs.StepLines.{tells_reads, end_of, event_of, step_of, step_of_words, row_of}
 use Rattle.trace_text.specs.Seen.{seen}
 use Rattle.trace_text.specs.declared.row.Row.{Row}
@@ -88,3 +88,21 @@ step_of_words-take names version (a ∷ b ∷ c ∷ d ∷ e ∷ f ∷ g ∷ h �
 pub row-step : (names : NameLists) (version : ℕ) (text : List ℕ) → bytes_eq (take 8 text) (codes "verdict ") ≡ false → row_of names version text ≡ step_of_words names version (words_of text)
 unfolding row_of
 row-step names version text other = rw other
+
+-- the words of a step whose ask has four
+pub nine-words : (names : NameLists) (version : ℕ) (words : List (Bor (List ℕ))) (d : Bor (List ℕ)) (ask : Option (Option Ask)) (result : Option Row) → length words ≡ 9
+    → ask ≡ ask_on_three names (get_or words 3 d).now (get_or words 4 d).now (get_or words 5 d).now (get_or words 6 d).now
+    → result ≡ step_of names (get_or words 0 d).now (get_or words 1 d).now (get_or words 2 d).now ask (get_or words 7 d).now (get_or words 8 d).now
+    → result ≡ step_of_words names version (seen words)
+nine-words names version [] x ask result long p q = absurd (omega arith)
+nine-words names version (a ∷ []) x ask result long p q = absurd (omega arith)
+nine-words names version (a ∷ b ∷ []) x ask result long p q = absurd (omega arith)
+nine-words names version (a ∷ b ∷ c ∷ []) x ask result long p q = absurd (omega arith)
+nine-words names version (a ∷ b ∷ c ∷ d ∷ []) x ask result long p q = absurd (omega arith)
+nine-words names version (a ∷ b ∷ c ∷ d ∷ e ∷ []) x ask result long p q = absurd (omega arith)
+nine-words names version (a ∷ b ∷ c ∷ d ∷ e ∷ f ∷ []) x ask result long p q = absurd (omega arith)
+nine-words names version (a ∷ b ∷ c ∷ d ∷ e ∷ f ∷ g ∷ []) x ask result long p q = absurd (omega arith)
+nine-words names version (a ∷ b ∷ c ∷ d ∷ e ∷ f ∷ g ∷ h ∷ []) x ask result long p q = absurd (omega arith)
+nine-words names version (a ∷ b ∷ c ∷ d ∷ e ∷ f ∷ g ∷ h ∷ i ∷ []) x ask result long p q =
+    q ∙ ap (λ k. step_of names a.now b.now c.now k h.now i.now) p
+nine-words names version (a ∷ b ∷ c ∷ d ∷ e ∷ f ∷ g ∷ h ∷ i ∷ j ∷ words) x ask result long p q = absurd (omega arith)

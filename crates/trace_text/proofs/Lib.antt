@@ -6,3 +6,4 @@ pub mod Bodies
 pub mod Names
 pub mod AskWords
 pub mod StepWords
+pub mod Bytes

@@ -137,8 +137,7 @@ fn step_on_two(names: &Names, words: &[&[u8]]) -> Option<Row>
 fn step_on_three(names: &Names, words: &[&[u8]]) -> Option<Row>
     ensures { (version : ℕ) → length words.now ≡ 9 → result ≡ lines.step_of_words names.now version (seen words.now) }
 {
-    let (first, operands) = words.split_at(4);
-    let ([number, thread, line, word], [a, b, c, sign, answer]) = (first, operands) else {
+    let [number, thread, line, word, a, b, c, sign, answer] = words else {
         return None;
     };
     let around = Around {

@@ -1,4 +1,5 @@
 use Rattle.trace_text.proofs.StepWords.{words-told, words-known}
+use Rattle.trace_text.proofs.Bytes.{no-end, step-high}
 use Rattle.trace_text.proofs.reading.read_trace.Goals as goal
 
 pub returns-clause-answer : goal.returns-clause-answer
