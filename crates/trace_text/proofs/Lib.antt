@@ -7,3 +7,8 @@ pub mod Names
 pub mod AskWords
 pub mod StepWords
 pub mod Bytes
+pub mod Written
+pub mod Rows
+pub mod Heads
+pub mod Wholes
+pub mod FaultLines

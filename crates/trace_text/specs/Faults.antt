@@ -79,51 +79,47 @@ has_unknown_thread names (Some words) = is_none (threads_of names words)
 -- ---- when line k is faulty by a kind
 
 -- The file has more than 16,777,216 bytes, which is said of line 1; or a step line's number is above the limit.
-abbrev pub is_too_long : List ℕ → NameLists → ℕ → Bool
-is_too_long bytes names k =
-    (k == 1) && nat_lt 16777216 (length bytes)
-    || is_in_body names (pieces_of bytes) k && is_past (limit_of (pieces_of bytes)) (row_at names (pieces_of bytes) k)
+abbrev pub is_too_long : ℕ → NameLists → List (List ℕ) → ℕ → Bool
+is_too_long size names pieces k =
+    (k == 1) && nat_lt 16777216 size || is_in_body names pieces k && is_past (limit_of pieces) (row_at names pieces k)
 
 -- One of the lines 1 to 4 is missing, lacks its LF or isn't of its form.
-abbrev pub is_bad_header : List ℕ → NameLists → ℕ → Bool
-is_bad_header bytes names k =
-    nat_le 1 k && nat_le k 4 && not (is_whole (line_at (pieces_of bytes) k) && is_head_line names (pieces_of bytes) k)
+abbrev pub is_bad_header : NameLists → List (List ℕ) → ℕ → Bool
+is_bad_header names pieces k = nat_le 1 k && nat_le k 4 && not (is_whole (line_at pieces k) && is_head_line names pieces k)
 
 -- A later line is neither a step line nor a verdict line by form, or lacks its LF.
-abbrev pub is_bad_line : List ℕ → NameLists → ℕ → Bool
-is_bad_line bytes names k =
-    is_in_body names (pieces_of bytes) k && is_there (pieces_of bytes) k
-    && not (is_whole (line_at (pieces_of bytes) k) && is_some (row_at names (pieces_of bytes) k))
+abbrev pub is_bad_line : NameLists → List (List ℕ) → ℕ → Bool
+is_bad_line names pieces k =
+    is_in_body names pieces k && is_there pieces k && not (is_whole (line_at pieces k) && is_some (row_at names pieces k))
 
 -- A name isn't declared with the kind that its place needs.
-abbrev pub is_unknown_name : List ℕ → NameLists → ℕ → Bool
-is_unknown_name bytes names k =
-    (k == 2) && has_unknown_thread names (order_in names (text_in (line_at (pieces_of bytes) k)))
-    || is_in_body names (pieces_of bytes) k && has_unknown (row_at names (pieces_of bytes) k)
+abbrev pub is_unknown_name : NameLists → List (List ℕ) → ℕ → Bool
+is_unknown_name names pieces k =
+    (k == 2) && has_unknown_thread names (order_in names (text_in (line_at pieces k)))
+    || is_in_body names pieces k && has_unknown (row_at names pieces k)
 
 -- A step line's number isn't one more than that of the step before it, or not 1 for the first step.
-abbrev pub is_out_of_order : List ℕ → NameLists → ℕ → Bool
-is_out_of_order bytes names k =
-    is_in_body names (pieces_of bytes) k
-    && is_other_number (number_before names (pieces_of bytes) k + 1) (row_at names (pieces_of bytes) k)
+abbrev pub is_out_of_order : NameLists → List (List ℕ) → ℕ → Bool
+is_out_of_order names pieces k =
+    is_in_body names pieces k && is_other_number (number_before names pieces k + 1) (row_at names pieces k)
 
 -- The file ends where a line should follow, and no line is the verdict's.
-abbrev pub is_no_verdict : List ℕ → NameLists → ℕ → Bool
-is_no_verdict bytes names k = is_in_body names (pieces_of bytes) k && not (is_there (pieces_of bytes) k)
+abbrev pub is_no_verdict : NameLists → List (List ℕ) → ℕ → Bool
+is_no_verdict names pieces k = is_in_body names pieces k && not (is_there pieces k)
 
 -- A byte stands after the verdict line, which is the line before.
-abbrev pub is_more_after_verdict : List ℕ → NameLists → ℕ → Bool
-is_more_after_verdict bytes names k =
-    nat_le 6 k && is_verdict (row_at names (pieces_of bytes) (k - 1)) && is_there (pieces_of bytes) k
+abbrev pub is_more_after_verdict : NameLists → List (List ℕ) → ℕ → Bool
+is_more_after_verdict names pieces k = nat_le 6 k && is_verdict (row_at names pieces (k - 1)) && is_there pieces k
 
-abbrev pub is_faulty : List ℕ → NameLists → ℕ → TraceFault → Bool
-is_faulty bytes names k TooLong = is_too_long bytes names k
-is_faulty bytes names k BadHeader = is_bad_header bytes names k
-is_faulty bytes names k BadLine = is_bad_line bytes names k
-is_faulty bytes names k UnknownName = is_unknown_name bytes names k
-is_faulty bytes names k OutOfOrder = is_out_of_order bytes names k
-is_faulty bytes names k NoVerdict = is_no_verdict bytes names k
-is_faulty bytes names k MoreAfterVerdict = is_more_after_verdict bytes names k
+-- a text of so many bytes and of these pieces: whether its line k is faulty by a kind
+abbrev pub is_faulty : ℕ → NameLists → List (List ℕ) → ℕ → TraceFault → Bool
+is_faulty size names pieces k TooLong = is_too_long size names pieces k
+is_faulty size names pieces k BadHeader = is_bad_header names pieces k
+is_faulty size names pieces k BadLine = is_bad_line names pieces k
+is_faulty size names pieces k UnknownName = is_unknown_name names pieces k
+is_faulty size names pieces k OutOfOrder = is_out_of_order names pieces k
+is_faulty size names pieces k NoVerdict = is_no_verdict names pieces k
+is_faulty size names pieces k MoreAfterVerdict = is_more_after_verdict names pieces k
 
 -- ---- the first of them
 
@@ -137,8 +133,12 @@ rank OutOfOrder = 4
 rank NoVerdict = 5
 rank MoreAfterVerdict = 6
 
--- The text's fault: the line is faulty by the kind and by none before it, and no line before is faulty.
-pub record IsTraceFault (bytes : List ℕ) (names : NameLists) (line : ℕ) (kind : TraceFault) : Type 0 where
-  pub faulty : is_faulty bytes names line kind ≡ true
-  pub first_kind : (other : TraceFault) → rank other < rank kind → is_faulty bytes names line other ≡ false
-  pub first_line : (before : ℕ) (other : TraceFault) → before < line → is_faulty bytes names before other ≡ false
+-- The line is faulty by the kind and by none before it, and no line before is faulty.
+pub record IsFirstFault (size : ℕ) (names : NameLists) (pieces : List (List ℕ)) (line : ℕ) (kind : TraceFault) : Type 0 where
+  pub faulty : is_faulty size names pieces line kind ≡ true
+  pub first_kind : (other : TraceFault) → rank other < rank kind → is_faulty size names pieces line other ≡ false
+  pub first_line : (before : ℕ) (other : TraceFault) → before < line → is_faulty size names pieces before other ≡ false
+
+-- the text's fault
+abbrev pub IsTraceFault : List ℕ → NameLists → ℕ → TraceFault → Type 0
+IsTraceFault bytes names line kind = IsFirstFault (length bytes) names (pieces_of bytes) line kind
