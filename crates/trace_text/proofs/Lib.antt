@@ -12,3 +12,4 @@ pub mod Rows
 pub mod Heads
 pub mod Wholes
 pub mod FaultLines
+pub mod FaultBodies

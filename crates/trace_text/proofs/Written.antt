@@ -52,13 +52,17 @@ regrouped_head : (old version order points limit end : List ℕ)
     → (((((old ++ (version ++ end)) ++ order) ++ end) ++ points) ++ end) ++ (limit ++ end) ≡ old ++ ((version ++ end) ++ ((order ++ end) ++ ((points ++ end) ++ ((limit ++ end) ++ []))))
 regrouped_head old version order points limit end = simp (append_assoc, append-nil)
 
+same-head : (old a b c d x y z w end : List ℕ) → a ≡ x → b ≡ y → c ≡ z → d ≡ w → old ++ ((a ++ end) ++ ((b ++ end) ++ ((c ++ end) ++ ((d ++ end) ++ [])))) ≡ old ++ ((x ++ end) ++ ((y ++ end) ++ ((z ++ end) ++ ((w ++ end) ++ []))))
+same-head old a b c d x y z w end p q r s = rw (p, q, r, s)
+
 -- the four lines of a head
 pub head_text : (names : NameLists) (head : TraceHead) (old : List ℕ)
     → (((((old ++ (codes "trace" ++ spaced (decimal head.version ∷ []) ++ 10 ∷ [])) ++ (codes "order" ++ spaced (map (thread_name names) head.order))) ++ 10 ∷ []) ++ (codes "points" ++ spaced (map decimal head.points))) ++ 10 ∷ []) ++ (codes "limit" ++ spaced (decimal head.limit ∷ []) ++ 10 ∷ []) ≡ old ++ flat_map line_text (head_lines names head)
 head_text names head old =
-    let lines = head_lines names head in
-    rw (join-spaced (codes "order") (map (thread_name names) head.order), join-spaced (codes "points") (map decimal head.points), join-spaced (codes "trace") (decimal head.version ∷ []), join-spaced (codes "limit") (decimal head.limit ∷ []))
-    (regrouped_head old (codes "trace" ++ spaced (decimal head.version ∷ [])) (codes "order" ++ spaced (map (thread_name names) head.order)) (codes "points" ++ spaced (map decimal head.points)) (codes "limit" ++ spaced (decimal head.limit ∷ [])) (10 ∷ []))
+    regrouped_head old (codes "trace" ++ spaced (decimal head.version ∷ [])) (codes "order" ++ spaced (map (thread_name names) head.order)) (codes "points" ++ spaced (map decimal head.points)) (codes "limit" ++ spaced (decimal head.limit ∷ [])) (10 ∷ [])
+    ∙ same-head old (codes "trace" ++ spaced (decimal head.version ∷ [])) (codes "order" ++ spaced (map (thread_name names) head.order)) (codes "points" ++ spaced (map decimal head.points)) (codes "limit" ++ spaced (decimal head.limit ∷ []))
+    (join_with_byte 32 (codes "trace" ∷ decimal head.version ∷ [])) (join_with_byte 32 (codes "order" ∷ map (thread_name names) head.order)) (join_with_byte 32 (codes "points" ∷ map decimal head.points)) (join_with_byte 32 (codes "limit" ∷ decimal head.limit ∷ [])) (10 ∷ [])
+    (sym (join-spaced (codes "trace") (decimal head.version ∷ []))) (sym (join-spaced (codes "order") (map (thread_name names) head.order))) (sym (join-spaced (codes "points") (map decimal head.points))) (sym (join-spaced (codes "limit") (decimal head.limit ∷ [])))
 
 -- a head, steps and a verdict one behind another
 pub whole_text : (head : TraceHead) (names : NameLists) (events : List Event) (verdict : Verdict)

@@ -173,11 +173,11 @@ fn push_step(out: &mut Vec<u8>, step: usize) -> Result<(), NoMemory>
     write_number(step as i128, out)
 }
 
-fn push_answer(out: &mut Vec<u8>, answer: i64) -> Result<(), NoMemory>
-    ensures { OnOk result (out.new.items ≡ out.old.items ++ (spaced (codes "=" ∷ signed_decimal answer ∷ []) ++ 10 ∷ [])) }
+fn push_answer(out: &mut Vec<u8>, event: &Event) -> Result<(), NoMemory>
+    ensures { OnOk result (out.new.items ≡ out.old.items ++ (spaced (codes "=" ∷ signed_decimal event.now.answer ∷ []) ++ 10 ∷ [])) }
 {
     push_word(out, b"=")?;
-    push_value(out, answer)?;
+    push_value(out, event.answer)?;
     out.push(b'\n')?;
     Ok(())
 }
@@ -196,7 +196,7 @@ fn push_event(
     push_name(out, names, NameKind::Thread, event.thread)?;
     push_count(out, event.line)?;
     push_ask(out, names, version, event.ask)?;
-    push_answer(out, event.answer)
+    push_answer(out, event)
 }
 
 fn push_steps(

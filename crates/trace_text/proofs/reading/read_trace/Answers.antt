@@ -1,7 +1,7 @@
 use Rattle.trace_text.proofs.StepWords.{words-told, words-known}
 use Rattle.trace_text.proofs.Bytes.{no-end, step-high}
 use Rattle.trace_text.proofs.Wholes.{body-told, body-known}
-use Rattle.trace_text.proofs.FaultLines.{faulty-at, judged-none}
+use Rattle.trace_text.proofs.FaultBodies.{body-faults}
 use Rattle.trace_text.proofs.Heads.{order-told, order-known}
 use Rattle.trace_text.proofs.reading.read_trace.Goals as goal
 
