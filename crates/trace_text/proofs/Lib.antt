@@ -13,3 +13,5 @@ pub mod Heads
 pub mod Wholes
 pub mod FaultLines
 pub mod FaultBodies
+pub mod Readings
+pub mod Traces
