@@ -297,3 +297,11 @@ written-trace names bytes file sound run is = record { run = run; small = rw is 
 
 pub written-answer : (names : NameLists) (bytes : List ℕ) (file : TraceFile) (answer : Result TraceFile TraceError) → AreNames names → IsTrace bytes names file → Answers bytes names answer → (answer ≡ Ok file) ⊎ (answer ≡ Err NoMemory)
 written-answer names bytes file answer sound trace told = answered-by names bytes file answer sound trace told
+
+-- ---- what was read can be written
+
+pub few-steps : (names : NameLists) (file : TraceFile) (events : List Event) → IsRun names file → events ≡ file.events → length events ≤ file.header.limit
+few-steps names file events run is = rw is run.few
+
+pub all-steps : (names : NameLists) (file : TraceFile) (events : List Event) → IsRun names file → events ≡ file.events → All (IsStep names file.header.version) events
+all-steps names file events run is = rw is run.steps
