@@ -1,0 +1,4 @@
+pub mod Worlds
+pub mod More
+pub mod Prefix
+pub mod Boards

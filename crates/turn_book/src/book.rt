@@ -1,0 +1,7 @@
+ghost use Rattle.std.specs.Prelude.{◌≡◌};
+
+use crate::board::Board;
+
+pub struct TurnBook {
+    board: Board,
+}
