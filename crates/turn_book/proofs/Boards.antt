@@ -220,7 +220,7 @@ pub none-blocked : (store : StoreState) (next : NextPosts) (blocked : List (ℕ 
 none-blocked store next blocked none = record { list = none; below = All-same (λ (place : ℕ × ℕ). place.0 < 0) blocked [] none (All-nil (λ (place : ℕ × ℕ). place.0 < 0)); says = ap verdict_of_blocked none }
 
 -- ---- no thread has posted
-nothing-posted : (n t : ℕ) → listed (replicate n None) t ≡ None
+pub nothing-posted : (n t : ℕ) → listed (replicate n None) t ≡ None
 nothing-posted n t = elim (cases_lt t n) [
   | inl within ↦ get_or-replicate n t None None within
   | inr past ↦ let none : Option Post = None in get_or_past (replicate n none) t none (omega (arith, length-replicate n none))

@@ -2,3 +2,5 @@ pub mod Worlds
 pub mod More
 pub mod Prefix
 pub mod Boards
+pub mod PostLists
+pub mod Books

@@ -25,7 +25,7 @@ use Rattle.policy_pick.specs.declared.chance.Chance.TheVariants.{Away, Ready as 
 use Rattle.policy_pick.specs.declared.chance.Pick.{Pick}
 use Rattle.policy_pick.specs.declared.chance.Pick.TheVariants.{Thread, Waits, Nobody, Departs}
 use Rattle.policy_pick.specs.Plan.{Plan, SpeaksOf}
-use Rattle.policy_pick.specs.Choice.{choice, chance_of, is_open, is_known, IsSound, IsWaits, KeepsKnown, HasAwayTarget, TargetsAreAway}
+use Rattle.policy_pick.specs.Choice.{choice, chance_of, is_open, is_known, IsSound, IsWaits, MayDepart, KeepsKnown, HasAwayTarget, TargetsAreAway}
 use Rattle.policy_pick.specs.Laws.{choice-keeps, choice-sound}
 use Rattle.policy_pick.specs.Laws.Chances.{closed-known}
 use Rattle.turn_book.specs.Chances.{NextPosts, is_unknown, is_ended, chance_by, chance_of_ask, chance_of_post, chance, chances, threads_below, blocked_by_post, blocked_at, verdict_of_blocked, rest_verdict}
@@ -144,20 +144,48 @@ as_away-target chances Blocked = tt
 as_away-target chances (Unknown target) = tt
 as_away-target chances Ended = tt
 
-pub nobody-closed : (plan : Plan) (schedule : List ℕ) (all : List Chance) → SpeaksOf plan (length all) → choice plan schedule all ≡ Nobody → (t : ℕ) → t < length all → is_open (chance_of all t) ≡ false
-nobody-closed plan schedule all speaks nobody t within =
+-- a choice that waits for nobody is sound, whatever the targets are
+sound-anyway : (plan : Plan) (schedule : List ℕ) (all : List Chance) → SpeaksOf plan (length all) → ¬ IsWaits (choice plan schedule all) → IsSound plan (map as_away all) (choice plan schedule all)
+sound-anyway plan schedule all speaks waits =
     let away = map as_away all in
     let long : length away ≡ length all = length-map all as_away in
     let at : (u : ℕ) → chance_of away u ≡ as_away (chance_of all u) = λ u. get_or-map as_away all u Ended in
     let keeps : KeepsKnown all away = record { threads = long; known = λ u there known. at u ∙ as_away-known (chance_of all u) known } in
-    let NoWait : Pick → Type 0 = λ p. ¬ IsWaits p in
-    let still : choice plan schedule away ≡ Nobody = choice-keeps plan schedule all away keeps (subst NoWait (sym nobody) (λ h. h)) ∙ nobody in
+    let still : choice plan schedule away ≡ choice plan schedule all = choice-keeps plan schedule all away keeps waits in
     let Target : Chance → Type 0 = HasAwayTarget away in
     let targets : TargetsAreAway away = λ u there. subst Target (sym (at u)) (as_away-target away (chance_of all u)) in
     let P : Pick → Type 0 = IsSound plan away in
     let Speaks : ℕ → Type 0 = SpeaksOf plan in
-    let closed = subst P still (choice-sound plan schedule away (subst Speaks (sym long) speaks) targets) in
-    sym (as_away-open (chance_of all t)) ∙ sym (ap is_open (at t)) ∙ closed t (omega arith)
+    subst P still (choice-sound plan schedule away (subst Speaks (sym long) speaks) targets)
+
+abbrev NoWait : Pick → Type 0
+NoWait pick = ¬ IsWaits pick
+
+pub nobody-closed : (plan : Plan) (schedule : List ℕ) (all : List Chance) → SpeaksOf plan (length all) → choice plan schedule all ≡ Nobody → (t : ℕ) → t < length all → is_open (chance_of all t) ≡ false
+nobody-closed plan schedule all speaks nobody t within =
+    let P : Pick → Type 0 = IsSound plan (map as_away all) in
+    let closed = subst P nobody (sound-anyway plan schedule all speaks (subst NoWait (sym nobody) (λ h. h))) in
+    sym (as_away-open (chance_of all t)) ∙ sym (ap is_open (get_or-map as_away all t Ended)) ∙ closed t (omega (arith, length-map all as_away))
+
+as_away-ready : (c : Chance) → as_away c ≡ Goes → c ≡ Goes
+as_away-ready Away e = e
+as_away-ready Goes e = e
+as_away-ready Blocked e = e
+as_away-ready (Unknown target) e = absurd cc
+as_away-ready Ended e = e
+
+-- a chosen thread is there, and Ready
+pub chosen-ready : (plan : Plan) (schedule : List ℕ) (all : List Chance) (t : ℕ) → SpeaksOf plan (length all) → choice plan schedule all ≡ Thread t → (t < length all) × (chance_of all t ≡ Goes)
+chosen-ready plan schedule all t speaks chosen =
+    let P : Pick → Type 0 = IsSound plan (map as_away all) in
+    let sound = subst P chosen (sound-anyway plan schedule all speaks (subst NoWait (sym chosen) (λ h. h))) in
+    (omega (arith, sound.0, length-map all as_away), as_away-ready (chance_of all t) (sym (get_or-map as_away all t Ended) ∙ sound.1))
+
+-- only a list is departed from
+pub departs-may : (plan : Plan) (schedule : List ℕ) (all : List Chance) (t : ℕ) → SpeaksOf plan (length all) → choice plan schedule all ≡ Departs t → MayDepart plan
+departs-may plan schedule all t speaks departs =
+    let P : Pick → Type 0 = IsSound plan (map as_away all) in
+    (subst P departs (sound-anyway plan schedule all speaks (subst NoWait (sym departs) (λ h. h)))).0
 
 filter_map-same : {X : Type 0} (f g : ℕ → Option X) (from many : ℕ) → ((k : ℕ) → from ≤ k → k < from + many → f k ≡ g k) → filter_map f (range_with_len from many) ≡ filter_map g (range_with_len from many)
 filter_map-same f g from zero same = refl

@@ -14,6 +14,7 @@ use Rattle.sync_store.specs.Enabled.{enabled}
 use Rattle.sync_store.specs.Effect.{Effect, Goes, Stops, effect, store_after}
 use Rattle.sync_store.specs.World.{Source, World, start, has_ended, with_effect, step_on, step_by, step_of, world_from, world_after}
 use Rattle.turn_book.specs.Posts.{schedule_of}
+use Rattle.turn_book.specs.Board.{answer_of, verdict_of}
 
 -- ---- lists
 pub cons-same : {A : Type 0} (x y : A) (xs ys : List A) → x ∷ xs ≡ y ∷ ys → (x ≡ y) × (xs ≡ ys)
@@ -35,15 +36,7 @@ map-some f None y e = absurd cc
 map-some f (Some x) y e = (x, refl, cc)
 
 -- ---- one step
--- what the thread is told, and how the run ends
-abbrev pub answer_of : Effect → ℤ
-answer_of (Goes after answer) = answer
-answer_of (Stops verdict) = pos 0
-
-abbrev pub verdict_of : Effect → Option Verdict
-verdict_of (Goes after answer) = None
-verdict_of (Stops verdict) = Some verdict
-
+-- the step as the trace has it
 abbrev pub event_of : ℕ → ℕ → Ask → Effect → Event
 event_of t line ask step = record { thread = t; line = line; ask = ask; answer = answer_of step }
 

@@ -4,3 +4,4 @@ pub mod Obeys
 pub mod Told
 pub mod Board
 pub mod Kept
+pub mod Answers

@@ -95,3 +95,11 @@ pub record IsRunOver (book : Told) (posts : List (List Post)) (events : List Eve
   pub more : HasMore book.posts posts
   pub obeys : Obeys book.plan book.deal (source_of posts) book.limit events
   pub ends : settled book.plan book.deal (source_of posts) book.limit events ≡ Some outcome
+
+-- A later sight of a book: what it was made with is the same, and its steps and each thread's posts begin with those of
+-- the earlier one.
+pub record Within (earlier later : Told) : Type 0 where
+  pub making : SameMaking earlier later
+  pub rest : List Event
+  pub trace : later.trace ≡ earlier.trace ++ rest
+  pub posts : HasMore earlier.posts later.posts

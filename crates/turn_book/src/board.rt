@@ -1,5 +1,5 @@
 ghost use Rattle.std.specs.Prelude.{◌≡◌, ◌<◌, ◌≤◌, length, replicate, Some, None, slice_set, IfOk};
-ghost use Rattle.sync_store.specs.Store.{first, sizes_of};
+ghost use Rattle.sync_store.specs.Store.{first, sizes_of, sizes_of_deal};
 ghost use Rattle.policy_pick.specs.declared.chance.Chance.{Chance};
 ghost use Rattle.policy_pick.specs.Choice.{TargetsAreAway};
 ghost use Rattle.turn_book.specs.Chances.{chance, chances, rest_verdict};
@@ -35,7 +35,8 @@ impl Model for Board {
 impl Board {
     /// No thread has posted.
     pub fn new(alloc: Global, deal: &Deal) -> Result<Self, NoMemory>
-        ensures { IfOk result (λ board. board ≡ record { store = first deal.now; posts = replicate deal.now.threads None }) }
+        ensures board { IfOk result (λ board. board ≡ record { store = first deal.now; posts = replicate deal.now.threads None }) }
+        ensures sizes { IfOk result (λ board. sizes_of board.store ≡ sizes_of_deal deal.now) }
     {
         Ok(Board {
             store: Store::new(alloc, deal)?,

@@ -5,6 +5,7 @@ mod board;
 mod book;
 mod known;
 mod objects;
+mod settle;
 mod taken;
 #[cfg(test)]
 mod tests;
