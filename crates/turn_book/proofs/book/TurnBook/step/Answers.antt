@@ -53,7 +53,8 @@ invariant_of-self g c =
     (ap (λ n. eqb n f.limit) (c.len.ensures ∙ trace.ok.0 ∙ ap length items)) (c.settle-next.ensures.pick (schedule_of (f.trace.items ++ event ∷ [])) stands) c.settle-next.ensures.outcome in
     let Q : List Event → Type 0 = λ es. IsKept f.deal f.limit plan after es c.settle-next.result.0 c.settle-next.result.1 (vec_capacity f.trace) in
     let R : ℕ → Type 0 = λ n. IsKept f.deal f.limit plan after trace.items c.settle-next.result.0 c.settle-next.result.1 n in
-    (subst R (sym c.push_reserved.ensures.capacity) (subst Q (sym items) goes_on), subst Stands (sym (ap schedule_of items)) stands)
+    let room : vec_capacity trace ≡ vec_capacity f.trace = c.push_reserved.ensures.capacity in
+    (subst R (sym room) (subst Q (sym items) goes_on), subst Stands (sym (ap schedule_of items)) stands)
 
 pub returns-clause-answered : goal.returns-clause-answered
 returns-clause-answered g c =
