@@ -1,10 +1,7 @@
 -- Sights of one book: the later ones begin with the earlier ones.
-use Rattle.std.proofs.Common.{◌≡◌, ◌≢◌, ℕ, ℤ, ◌<◌, Option, Some, None, List, [], ◌∷◌, ◌++◌, length, set, refl, sym, ap, subst, ◌∙◌}
+use Rattle.std.proofs.Common.{◌≡◌, ◌≢◌, ℕ, ℤ, ◌<◌, List, [], ◌∷◌, ◌++◌, length, refl, sym, ap, subst, ◌∙◌}
 use Rattle.std.proofs.lemmas.List.{append-nil, append_assoc, get_or-set_other, get_or-set_same}
-use Rattle.pct_ask.specs.declared.Deal.{Deal}
 use Rattle.pct_ask.specs.declared.ask.Post.{Post}
-use Rattle.pct_ask.specs.declared.event.Event.{Event}
-use Rattle.policy_pick.specs.Plan.{Plan}
 use Rattle.turn_book.specs.Posts.{events_of, posts_of, source_of, HasMore}
 use Rattle.turn_book.specs.Obeys.{Obeys}
 use Rattle.turn_book.specs.Told.{Told, SameMaking, IsPosted, IsAnswered, IsLawful, Within}

@@ -100,12 +100,7 @@ fn not_yet(at: u32, because: Because) -> Taken {
 }
 
 /// The order names every thread once.
-fn book_of(
-    alloc: Global,
-    order: &[u32],
-    points: &[u32],
-    limit: u32,
-) -> Result<TurnBook<Pct>, Fail>
+fn book_of(alloc: Global, order: &[u32], points: &[u32], limit: u32) -> Result<TurnBook<Pct>, Fail>
     requires some { 1 ≤ length order.now }
     requires few_threads { length order.now ≤ 64 }
     requires few_points { length points.now ≤ 7 }
@@ -118,8 +113,11 @@ fn book_of(
 }
 
 const READ: Ask = Ask::Read { var: 0 };
+
 const WRITE: Ask = Ask::Write { var: 0, value: 1 };
+
 const JOIN_A: Ask = Ask::Join { thread: 0 };
+
 const JOIN_B: Ask = Ask::Join { thread: 1 };
 
 /// A thread is told whose turn it is, or who has to post first.

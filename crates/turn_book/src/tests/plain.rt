@@ -115,13 +115,7 @@ fn world_of(
 }
 
 /// The chance of a thread where every thread has posted.
-fn chance_of(
-    rt: &impl Abort,
-    deal: &Deal,
-    store: &Store,
-    posts: [Post; 3],
-    thread: u32,
-) -> Chance
+fn chance_of(rt: &impl Abort, deal: &Deal, store: &Store, posts: [Post; 3], thread: u32) -> Chance
     requires { sizes_of store.now ≡ sizes_of_deal deal.now }
 {
     assert_eq!(rt; deal.threads, 3);
