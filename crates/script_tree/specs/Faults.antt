@@ -1,0 +1,218 @@
+-- The first faulty line of a text and what is wrong with it: for each kind of fault, which lines have it (this project).
+use Rattle.std.specs.Prelude.{◌≡◌, ℕ, ◌+◌, ◌<◌, ◌≤◌, ◌⊎◌, ◌==◌, ◌&&◌, nat_le, Bool, true, false, not, List, [], ◌∷◌, ◌++◌, length, map, None, codes, reverse}
+use Rattle.std.specs.List.{list_all}
+use Rattle.std.specs.Str.{is_utf8}
+use Rattle.pct_ask.specs.Lines.{lines_of}
+use Rattle.pct_ask.specs.Tokens.{Token, tokens_of}
+use Rattle.pct_ask.specs.Words.{is_among}
+use Rattle.pct_ask.specs.declared.names.NameKind.{NameKind}
+use Rattle.pct_ask.specs.declared.names.NameKind.TheVariants as kinds
+use Rattle.script_tree.specs.declared.fault.ScriptFault.{ScriptFault}
+use Rattle.script_tree.specs.declared.fault.ScriptFault.TheVariants as faults
+use Rattle.script_tree.specs.Forms.{Cut, Meant, Plain, Valued, Thread, On, Into, Write, Add, Cas, Wait, If, While, End, Else, IsForm, on_kind, into_kind}
+use Rattle.script_tree.specs.Ranges.{is_out_of_range}
+use Rattle.script_tree.specs.Fitting.{most_threads}
+use Rattle.script_tree.specs.Lines.{tokens_in, is_blank_line, version_in, version_of, begins, names_of, depth, opener, threads_in}
+
+-- a line in its text, with the lines before it and those after it
+pub record Place : Type 0 where
+  pub before : List (List ℕ)
+  pub line : List ℕ
+  pub after : List (List ℕ)
+
+-- the tokens of the lines before it
+abbrev pub earlier : Place → List (List Token)
+earlier place = map tokens_in place.before
+
+abbrev pub are_blank : List (List ℕ) → Bool
+are_blank lines = list_all is_blank_line lines
+
+abbrev pub is_last : Place → Type 0
+is_last place = place.after ≡ []
+
+-- ---- where a form may stand
+
+abbrev pub has_thread : List (List Token) → Bool
+has_thread lines = not (length (names_of kinds.Thread lines) == 0)
+
+abbrev pub is_inside : List (List Token) → Bool
+is_inside lines = nat_le 1 (depth lines)
+
+-- The form may stand after these lines: a declaration above the first thread, a thread outside threads, a statement
+-- inside one, and an `end` or `else` anywhere.
+abbrev pub may_stand : List (List Token) → Cut → Bool
+may_stand lines (Plain kind name) = not (has_thread lines)
+may_stand lines (Valued kind name value) = not (has_thread lines)
+may_stand lines (Thread name) = not (is_inside lines)
+may_stand lines End = true
+may_stand lines Else = true
+may_stand lines form = is_inside lines
+
+-- a line below the header that isn't blank
+pub record IsBelow (place : Place) : Type 0 where
+  pub below : are_blank place.before ≡ false
+  pub says : is_blank_line place.line ≡ false
+
+-- the line has this form, which may stand at its place
+pub record HasForm (place : Place) (cut : Cut) (meant : Meant) : Type 0 where
+  pub is_below : IsBelow place
+  pub form : IsForm (version_of (earlier place)) (tokens_in place.line) cut meant
+  pub stands : may_stand (earlier place) cut ≡ true
+
+-- the line has a form of which this test holds
+abbrev pub HasFormWith : (Cut → Bool) → Place → Type 0
+HasFormWith test place = (cut : Cut) × (meant : Meant) × HasForm place cut meant × (test cut ≡ true)
+
+-- ---- what a form asks of the lines around it
+
+-- A name of this kind is declared: on a line before, but a thread on any line of the file.
+abbrev pub is_declared : Place → NameKind → List ℕ → Bool
+is_declared place kinds.Thread name = is_among name (threads_in (place.before ++ place.line ∷ place.after))
+is_declared place kind name = is_among name (names_of kind (earlier place))
+
+-- it uses a name that isn't declared with the kind that is needed
+abbrev pub uses_unknown : Place → Cut → Bool
+uses_unknown place (On verb object) = not (is_declared place (on_kind verb) object)
+uses_unknown place (Into verb register object) = not (is_declared place (into_kind verb) object)
+uses_unknown place (Write var value) = not (is_declared place kinds.Var var)
+uses_unknown place (Add register var value) = not (is_declared place kinds.Var var)
+uses_unknown place (Cas register var old new) = not (is_declared place kinds.Var var)
+uses_unknown place (Wait cond mutex) = not (is_declared place kinds.Cond cond && is_declared place kinds.Mutex mutex)
+uses_unknown place form = false
+
+-- the names of all kinds that the lines declare
+abbrev pub declared_names : List (List Token) → List (List ℕ)
+declared_names lines =
+    names_of kinds.Thread lines ++ (names_of kinds.Var lines ++ (names_of kinds.Mutex lines ++ (names_of kinds.Cond lines
+    ++ (names_of kinds.Sem lines ++ (names_of kinds.Barrier lines ++ names_of kinds.RwLock lines)))))
+
+-- it declares a name that a line before declares, of whatever kind
+abbrev pub declares_again : Place → Cut → Bool
+declares_again place (Plain kind name) = is_among name (declared_names (earlier place))
+declares_again place (Valued kind name value) = is_among name (declared_names (earlier place))
+declares_again place (Thread name) = is_among name (declared_names (earlier place))
+declares_again place form = false
+
+-- ---- blocks and limits
+
+-- an `end` with no open block, or an `else` where the innermost open block isn't an `if` without `else`
+abbrev pub closes_nothing : List (List Token) → Cut → Bool
+closes_nothing lines End = depth lines == 0
+closes_nothing lines Else = not (begins (codes "if") (opener 0 (reverse lines)))
+closes_nothing lines form = false
+
+-- one thread, object or nested block more than a script may have; the thread isn't counted among the 32 nested blocks
+abbrev pub is_too_many : List (List Token) → Cut → Bool
+is_too_many lines (Thread name) = nat_le (most_threads (version_of lines)) (length (names_of kinds.Thread lines))
+is_too_many lines (Plain kind name) = nat_le 64 (length (names_of kind lines))
+is_too_many lines (Valued kind name value) = nat_le 64 (length (names_of kind lines))
+is_too_many lines (If test) = nat_le 33 (depth lines)
+is_too_many lines (While test) = nat_le 33 (depth lines)
+is_too_many lines form = false
+
+-- ---- the kinds of fault
+
+abbrev pub NotUtf8 : Place → Type 0
+NotUtf8 place = is_utf8 place.line ≡ false
+
+abbrev pub LineTooLong : Place → Type 0
+LineTooLong place = 256 < length place.line
+
+abbrev pub TooManyLines : Place → Type 0
+TooManyLines place = 4096 ≤ length place.before
+
+-- it is the first line that isn't blank and no header; or line 1, where all are blank
+abbrev pub BadHeader : Place → Type 0
+BadHeader place =
+    ((are_blank place.before ≡ true) × (is_blank_line place.line ≡ false) × (version_in (tokens_in place.line) ≡ None))
+    ⊎ ((place.before ≡ []) × (are_blank (place.line ∷ place.after) ≡ true))
+
+abbrev pub BadToken : Place → Type 0
+BadToken place = tokens_of place.line ≡ None
+
+abbrev pub BadStatement : Place → Type 0
+BadStatement place = IsBelow place × ((cut : Cut) (meant : Meant) → ¬ HasForm place cut meant)
+
+abbrev pub UnknownName : Place → Type 0
+UnknownName place = HasFormWith (uses_unknown place) place
+
+abbrev pub TwiceNamed : Place → Type 0
+TwiceNamed place = HasFormWith (declares_again place) place
+
+abbrev pub NumberRange : Place → Type 0
+NumberRange place = HasFormWith is_out_of_range place
+
+abbrev pub NoEnd : Place → Type 0
+NoEnd place = is_last place × (1 ≤ depth (earlier place ++ tokens_in place.line ∷ []))
+
+abbrev pub StrayEnd : Place → Type 0
+StrayEnd place = HasFormWith (closes_nothing (earlier place)) place
+
+abbrev pub NoThread : Place → Type 0
+NoThread place = is_last place × (names_of kinds.Thread (earlier place ++ tokens_in place.line ∷ []) ≡ [])
+
+abbrev pub TooMany : Place → Type 0
+TooMany place = HasFormWith (is_too_many (earlier place)) place
+
+abbrev pub IsFaulty : ScriptFault → Place → Type 0
+IsFaulty faults.NotUtf8 = NotUtf8
+IsFaulty faults.LineTooLong = LineTooLong
+IsFaulty faults.TooManyLines = TooManyLines
+IsFaulty faults.BadHeader = BadHeader
+IsFaulty faults.BadToken = BadToken
+IsFaulty faults.BadStatement = BadStatement
+IsFaulty faults.UnknownName = UnknownName
+IsFaulty faults.TwiceNamed = TwiceNamed
+IsFaulty faults.NumberRange = NumberRange
+IsFaulty faults.NoEnd = NoEnd
+IsFaulty faults.StrayEnd = StrayEnd
+IsFaulty faults.NoThread = NoThread
+IsFaulty faults.TooMany = TooMany
+
+-- ---- the first fault
+
+-- the order of the kinds: of a line's faults the first of these counts
+abbrev pub rank : ScriptFault → ℕ
+rank faults.NotUtf8 = 0
+rank faults.LineTooLong = 1
+rank faults.TooManyLines = 2
+rank faults.BadHeader = 3
+rank faults.BadToken = 4
+rank faults.BadStatement = 5
+rank faults.UnknownName = 6
+rank faults.TwiceNamed = 7
+rank faults.NumberRange = 8
+rank faults.NoEnd = 9
+rank faults.StrayEnd = 10
+rank faults.NoThread = 11
+rank faults.TooMany = 12
+
+-- the line's own first fault is of this kind
+pub record IsFirstKind (place : Place) (kind : ScriptFault) : Type 0 where
+  pub faulty : IsFaulty kind place
+  pub first : (other : ScriptFault) → rank other < rank kind → ¬ IsFaulty other place
+
+-- no line before it is faulty
+abbrev pub IsFirstLine : Place → Type 0
+IsFirstLine place =
+    (front back : List (List ℕ)) (line : List ℕ) (kind : ScriptFault) → place.before ≡ front ++ line ∷ back
+    → ¬ IsFaulty kind (record { before = front; line = line; after = back ++ place.line ∷ place.after })
+
+-- the lines of a text, where a text without any is judged as one blank line
+abbrev pub judged_lines : List ℕ → List (List ℕ)
+judged_lines [] = [] ∷ []
+judged_lines (b ∷ bs) = lines_of (b ∷ bs)
+
+-- the first faulty line of the text has this number, and its first fault is of this kind
+pub record IsFirstFault (bytes : List ℕ) (number : ℕ) (kind : ScriptFault) : Type 0 where
+  pub place : Place
+  pub of : judged_lines bytes ≡ place.before ++ place.line ∷ place.after
+  pub number_is : number ≡ length place.before + 1
+  pub first_line : IsFirstLine place
+  pub first_kind : IsFirstKind place kind
+
+-- The fault of a text: one of more bytes than a script may have is refused at line 1, before any line is looked at.
+abbrev pub IsFault : List ℕ → ℕ → ScriptFault → Type 0
+IsFault bytes number kind =
+    ((1048576 < length bytes) × (number ≡ 1) × (kind ≡ faults.TooMany))
+    ⊎ ((length bytes ≤ 1048576) × IsFirstFault bytes number kind)

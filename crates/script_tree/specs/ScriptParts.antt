@@ -1,0 +1,20 @@
+-- A script of the code by its parts.
+use Rattle.std.specs.Prelude.{ℕ, ℤ, List, map}
+use Rattle.pct_ask.specs.NameLists.{NameLists}
+use Rattle.script_tree.specs.ScriptText.{Thread, ScriptText}
+use Rattle.script_tree.specs.Seen.{block}
+use Rattle.script_tree.specs.declared.stmt.ThreadText.{ThreadText}
+
+abbrev pub thread : ThreadText → Thread
+thread t = record { line = t.line; body = block t.body }
+
+-- a script of these parts
+abbrev pub text_of : ℕ → NameLists → List ℤ → List ℤ → List ℤ → List ThreadText → ScriptText
+text_of version names vars sems barriers threads = record {
+  version = version;
+  names = names;
+  vars = vars;
+  sems = sems;
+  barriers = barriers;
+  threads = map thread threads;
+}
