@@ -1,0 +1,6 @@
+pub mod Worlds
+pub mod More
+pub mod Prefix
+pub mod Boards
+pub mod PostLists
+pub mod Books
