@@ -1,0 +1,4 @@
+pub mod Bodies
+pub mod Run
+pub mod Played
+pub mod Served

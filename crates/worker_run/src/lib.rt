@@ -1,0 +1,6 @@
+//! Runs of bodies under a policy.
+#![tactic(auto)]
+
+mod played;
+
+pub use played::Played;
