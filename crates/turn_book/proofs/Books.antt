@@ -1,6 +1,6 @@
 -- What a book keeps, along its calls, and what follows of what it tells.
 use Rattle.std.proofs.Common.{◌≡◌, ◌≢◌, ℕ, zero, suc, ◌+◌, ◌<◌, ◌≤◌, ℤ, pos, Bool, true, false, cond, eqb, Option, Some, None, option_to_list, List, [], ◌∷◌, ◌++◌, length, get_or, set, map, replicate, refl, sym, ap, subst, ◌∙◌, arith, ◌⊎◌, inl, inr, eq-eqb, ne_eqb}
-use Rattle.std.specs.Prelude.{slice_get}
+use Rattle.std.specs.Prelude.{slice_get, is_some}
 use Rattle.std.specs.Option.{option_and_then, option_map}
 use Rattle.std.specs.List.{All}
 use Rattle.std.proofs.lemmas.List.Elements.{All-get_or}
@@ -33,12 +33,14 @@ use Rattle.policy_pick.specs.Laws.Walks.{open_at, number-stops, number-ends}
 use Rattle.turn_book.specs.Chances.{NextPosts, is_unknown, is_ended, chance_by, chance_of_post, chance, chances, rest_verdict}
 use Rattle.turn_book.specs.Posts.{schedule_of, posts_of, source_of, HasMore, KeepsPosts}
 use Rattle.turn_book.specs.Obeys.{choice_in, choice_after, Obeys, outcome_by_pick, outcome_by, settled}
-use Rattle.turn_book.specs.Told.{Told, next_post, standing_by, standing_of, choice_of, post_of_event, IsLawful}
+use Rattle.turn_book.specs.Told.{Told, next_post, standing_by_ask, standing_by, standing_of, choice_of, post_of_event, IsLawful}
 use Rattle.turn_book.specs.Board.{BoardState, TakesStep, listed, answer_of, verdict_of}
 use Rattle.turn_book.specs.Kept.{posts_by, told, IsAt, IsKept}
 use Rattle.turn_book.proofs.Worlds.{map-some, cons-same, event_of, effect-is, Steps, IsMade, made-events, made-push}
 use Rattle.turn_book.proofs.More.{choice-at, settled-at, obeys-more, made-more, chosen-ready, nobody-closed, departs-may}
 use Rattle.turn_book.proofs.Boards.{chance-at, length-chances, nothing-posted}
+use Rattle.turn_book.specs.Answers.{MayWait}
+use Rattle.turn_book.proofs.Takes.{may-wait}
 use Rattle.turn_book.proofs.PostLists.{made, length-posts, next-is, posts-are, posts-posted, posts-taken, more-keeps, set-more}
 
 -- ---- steps that obey
@@ -371,3 +373,26 @@ kept-new deal limit plan board next events reserved is sizes speaks some few roo
       outcome = sym (settled-now plan deal board [] at limit ∙ ap (outcome_by_pick rest (eqb 0 limit)) waits.1);
       pick = λ undecided. picks ∙ ap (λ n. choice plan [] (chances n board.store (listed board.posts))) threads;
     })
+
+-- ---- as the calls need it
+pub choice-next : (deal : Deal) (limit : ℕ) (plan : Plan) (board : BoardState) (events : List Event) (next : Pick) (last : Option Outcome) (reserved : ℕ) (kept : IsKept deal limit plan board events next last reserved) → last ≡ None → choice_of (told deal limit plan board.posts events last) ≡ Some next
+choice-next deal limit plan board events next last reserved kept running = choice-told deal limit plan board events next last reserved kept ∙ ap Some (sym (kept.pick running))
+
+pub choice-first : (plan : Plan) (board : BoardState) (known : List Chance) (next : Pick) → known ≡ chances (board.store).threads board.store (listed board.posts) → next ≡ choice plan [] known → next ≡ choice plan [] (chances (board.store).threads board.store (listed board.posts))
+choice-first plan board all_chances next is picks = picks ∙ ap (choice plan []) is
+
+pub none-from : (o : Option Outcome) → is_some o ≡ false → o ≡ None
+none-from None e = refl
+none-from (Some outcome) e = absurd cc
+
+pub away-none : (o : Option Post) → standing_by o ≡ AwayStanding → o ≡ None
+away-none None e = refl
+away-none (Some post) e = absurd (not-away post.ask e) where
+  not-away : (ask : Option Ask) → standing_by_ask ask ≡ AwayStanding → ⊥
+  not-away None e = cc
+  not-away (Some ask) e = cc
+
+pub goes-on-book : (deal : Deal) (limit : ℕ) (plan : Plan) (board : BoardState) (events : List Event) (next : Pick) (last : Option Outcome) (reserved : ℕ) (kept : IsKept deal limit plan board events next last reserved) → last ≡ None → MayWait next
+goes-on-book deal limit plan board events next last reserved kept running =
+    let P : Pick → Type 0 = MayWait in
+    subst P (sym (kept.pick running)) (may-wait (rest_verdict deal.threads board.store (listed board.posts)) (eqb (length events) limit) (pick_now plan deal board events) (undecided deal limit plan board events next last reserved kept running))

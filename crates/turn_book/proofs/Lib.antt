@@ -4,3 +4,5 @@ pub mod Prefix
 pub mod Boards
 pub mod PostLists
 pub mod Books
+pub mod Takes
+pub mod Fronts

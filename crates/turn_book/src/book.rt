@@ -11,7 +11,7 @@ ghost use Rattle.turn_book.specs.Answers.{IsAnswer};
 
 use crate::board::Board;
 use crate::settle::settle;
-use crate::taken::{Because, Taken};
+use crate::taken::{Because, Taken, reason};
 use pct_ask::{Deal, Event, EventList, Outcome, Post, Sequence, Standing};
 use policy_pick::{Pick, Policy};
 use std::alloc::{AllocError as NoMemory, Global};
@@ -103,22 +103,12 @@ impl<P: Policy> TurnBook<P> {
         if let Some(outcome) = self.outcome {
             return Taken::Over(outcome);
         }
-        match self.next {
-            Pick::Thread(next) if next == thread => Taken::Answer(self.step(thread)),
-            next => self.not_yet(next),
-        }
-    }
-
-    /// Why a thread doesn't have its turn.
-    fn not_yet(&self, next: Pick) -> Taken {
-        let because = match next {
-            Pick::Thread(other) => Because::Turn(other),
-            Pick::Waits(other) => Because::Away(other),
-            Pick::Nobody | Pick::Departs(_) => unreachable!(),
-        };
-        Taken::NotYet {
-            at: self.trace.len() as u32,
-            because,
+        match reason(self.next, thread) {
+            None => Taken::Answer(self.step(thread)),
+            Some(because) => Taken::NotYet {
+                at: self.trace.len() as u32,
+                because,
+            },
         }
     }
 
@@ -126,7 +116,8 @@ impl<P: Policy> TurnBook<P> {
     fn step(&mut self, thread: u32) -> i64
         requires running { self.old.outcome ≡ None }
         requires turn { choice_of self.old ≡ Some (Pick.Thread thread) }
-        ensures { IsAnswered self.old thread result self.new }
+        ensures answered { IsAnswered self.old thread result self.new }
+        ensures lawful { IsLawful self.new }
     {
         let (event, verdict) = self.board.step(thread);
         self.trace.push_reserved(event);

@@ -1,4 +1,8 @@
+ghost use Rattle.std.specs.Prelude.{◌≡◌, None};
+ghost use Rattle.turn_book.specs.Answers.{MayWait, because_of};
+
 use pct_ask::Outcome;
+use policy_pick::Pick;
 
 /// Why a thread doesn't have its turn.
 #[derive(Clone, Copy, Debug, PartialEq, Eq, Hash)]
@@ -18,4 +22,22 @@ pub enum Taken {
     NotYet { at: u32, because: Because },
     /// The run was over before.
     Over(Outcome),
+}
+
+/// Why a thread doesn't have its turn, or nothing where it has it.
+pub fn reason(next: Pick, thread: u32) -> Option<Because>
+    requires { MayWait next }
+    ensures { result ≡ because_of next thread }
+{
+    match next {
+        Pick::Thread(other) => {
+            if other == thread {
+                None
+            } else {
+                Some(Because::Turn(other))
+            }
+        }
+        Pick::Waits(other) => Some(Because::Away(other)),
+        Pick::Nobody | Pick::Departs(_) => unreachable!(),
+    }
 }
