@@ -69,6 +69,16 @@ target-by all Blocked known = tt
 target-by all (Unknown target) known = cc
 target-by all Ended known = tt
 
+-- where every thread is known, no choice waits
+pub known-no-wait : (plan : Plan) (schedule : List ℕ) (all : List Chance) (u : ℕ) → SpeaksOf plan (length all) → ((t : ℕ) → t < length all → is_known (chance_of all t) ≡ true) → choice plan schedule all ≡ Waits u → ⊥
+known-no-wait plan schedule all u speaks known waits =
+    let targets : TargetsAreAway all = λ t within. target-by all (chance_of all t) (known t within) in
+    let P : Pick → Type 0 = IsSound plan all in
+    let sound = subst P waits (choice-sound plan schedule all speaks targets) in
+    let here = known u sound.0 in
+    let away = ap is_known sound.1 in
+    cc
+
 -- the pick of the next thread, if there is one
 abbrev pub pick_of : Option ℕ → Pick
 pick_of None = Nobody
@@ -117,12 +127,7 @@ module _ (store : StoreState) (posts : ℕ → Post) where
     pub no-wait : (plan : Plan) (schedule : List ℕ) (u : ℕ) → SpeaksOf plan threads → choice plan schedule all ≡ Waits u → ⊥
     no-wait plan schedule u speaks waits =
         let Speaks : ℕ → Type 0 = SpeaksOf plan in
-        let targets : TargetsAreAway all = λ t within. target-by all (chance_of all t) (known-at t (omega (arith, long))) in
-        let P : Pick → Type 0 = IsSound plan all in
-        let sound = subst P waits (choice-sound plan schedule all (subst Speaks (sym long) speaks) targets) in
-        let here = known-at u (omega (arith, sound.0, long)) in
-        let away = ap is_known sound.1 in
-        cc
+        known-no-wait plan schedule all u (subst Speaks (sym long) speaks) (λ t within. known-at t (omega (arith, long))) waits
 
     module _ (ranks : List ℕ) (value : ℕ → ℕ) (same : (t : ℕ) → t < threads → get_or ranks t 0 ≡ value t) where
       -- enabled, and no enabled thread has a greater value

@@ -1,3 +1,4 @@
 pub mod Known
 pub mod Follows
 pub mod Only
+pub mod Services

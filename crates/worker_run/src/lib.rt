@@ -1,6 +1,9 @@
-//! Runs of bodies under a policy.
+//! Runs of the bodies of a test under a policy.
 #![tactic(auto)]
 
 mod played;
+mod run;
+mod service;
 
 pub use played::Played;
+pub use run::{run_here, run_threads};
