@@ -1,4 +1,5 @@
 pub mod Known
 pub mod Follows
 pub mod Only
+pub mod Whole
 pub mod Services
