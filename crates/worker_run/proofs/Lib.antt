@@ -3,3 +3,4 @@ pub mod Follows
 pub mod Only
 pub mod Whole
 pub mod Services
+pub mod Samples

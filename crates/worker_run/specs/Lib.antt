@@ -2,3 +2,4 @@ pub mod Bodies
 pub mod Run
 pub mod Played
 pub mod Served
+pub mod Samples

@@ -7,3 +7,6 @@ mod service;
 
 pub use played::Played;
 pub use run::{run_here, run_threads};
+
+#[cfg(test)]
+mod tests;
