@@ -1,1 +1,3 @@
 pub mod SeenLemmas
+pub mod Tests
+pub mod NamingLemmas
