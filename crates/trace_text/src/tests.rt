@@ -71,6 +71,9 @@ const READ_WRITE_LOCK: &[u8] =
 const STARTED_THREAD: &[u8] =
     b"trace 1\norder B A\npoints\nlimit 10000\n1 A 4 start B = 0\n2 B 7 begin = 0\n3 B 8 write x 1 = 0\n4 A 5 read x = 1\nverdict passed\n";
 
+/// Traces of three threads.
+const THREE_THREADS: [&[u8]; 2] = [IN_ORDER, LOST_UPDATE];
+
 /// Every ask, with the least and the greatest numbers, and the greatest line.
 const EVERY_ASK: &[u8] =
     b"trace 2\norder B A\npoints 1 2 3 4 5 6 100000\nlimit 100000\n1 A 1 read x = -9223372036854775808\n2 A 4096 write x 9223372036854775807 = 0\n3 B 1 add x -9223372036854775808 = 5\n4 B 1 cas x -1 0 = 1\n5 A 1 lock m = 0\n6 A 1 trylock m = 1\n7 A 1 unlock m = 0\n8 A 1 release c m = 0\n9 A 1 regain c m = 0\n10 A 1 signal c = 1\n11 A 1 broadcast c = 2\n12 A 1 down s = 0\n13 A 1 trydown s = 0\n14 A 1 up s = 0\n15 A 1 arrive b = 0\n16 A 1 leave b = 1\n17 A 1 join B = 0\n18 A 1 yield = 0\n19 A 1 check 1 = 0\n20 A 1 check 0 = 0\n21 A 1 fault overflow = 0\n22 A 1 fault zerodivisor = 0\n23 A 1 fault spin = 0\n24 A 1 start B = 0\n25 A 1 begin = 0\n26 A 1 rdlock l = 0\n27 A 1 wrlock l = 0\n28 A 1 tryrdlock l = 1\n29 A 1 trywrlock l = 0\n30 A 1 rwunlock l = 9223372036854775807\nverdict cut\n";
@@ -94,17 +97,25 @@ const TRACES: [&[u8]; 15] = [
     b"trace 1\norder A B\npoints\nlimit 1\nverdict cut\n",
 ];
 
+/// Each text is read and written as it was.
+fn expect_kept(rt: &impl Abort, alloc: Global, names: &Names, texts: &[&[u8]]) -> Result<(), Fail> {
+    for text in texts {
+        let again = rewritten(alloc, text, names)?;
+        assert!(rt; again.as_slice() == *text);
+    }
+    Ok(())
+}
+
 #[test]
 fn traces_there_and_back(rt: HostRuntime) -> Result<(), Fail> {
     let names = names_of(&rt, rt.alloc(), 2)?;
-    for text in TRACES {
-        assert_eq!(rt; rewritten(rt.alloc(), text, &names)?.as_slice(), text);
-    }
+    expect_kept(&rt, rt.alloc(), &names, &TRACES)
+}
+
+#[test]
+fn three_threads_there_and_back(rt: HostRuntime) -> Result<(), Fail> {
     let names = names_of(&rt, rt.alloc(), 3)?;
-    for text in [IN_ORDER, LOST_UPDATE] {
-        assert_eq!(rt; rewritten(rt.alloc(), text, &names)?.as_slice(), text);
-    }
-    Ok(())
+    expect_kept(&rt, rt.alloc(), &names, &THREE_THREADS)
 }
 
 /// The fault of a text.
@@ -136,19 +147,24 @@ fn fault_at(length: usize) -> (u32, TraceFault) {
     }
 }
 
-#[test]
-fn cut_traces(rt: HostRuntime) -> Result<(), Fail> {
-    let names = names_of(&rt, rt.alloc(), 3)?;
-    assert_eq!(rt; IN_ORDER.len(), 201);
+/// A trace of 201 bytes that is cut after each of them has the fault of the line that is cut.
+fn expect_cut(rt: &impl Abort, alloc: Global, names: &Names, whole: &[u8]) -> Result<(), Fail> {
+    assert_eq!(rt; whole.len(), 201);
     for length in 0..201 {
-        let read = read_trace(rt.alloc(), &IN_ORDER[..length], &names);
-        assert_eq!(rt; fault_of(read)?, Some(fault_at(length)));
+        let fault = fault_of(read_trace(alloc, &whole[..length], names))?;
+        assert!(rt; fault == Some(fault_at(length)));
     }
     Ok(())
 }
 
+#[test]
+fn cut_traces(rt: HostRuntime) -> Result<(), Fail> {
+    let names = names_of(&rt, rt.alloc(), 3)?;
+    expect_cut(&rt, rt.alloc(), &names, IN_ORDER)
+}
+
 /// Texts under the names of two threads, and what is wrong with them.
-const FAULTY: [(&[u8], u32, TraceFault); 66] = [
+const FAULTY: [Faulty; 66] = [
     (b"trace 1", 1, TraceFault::BadHeader),
     (b"trace 3\norder A B\n", 1, TraceFault::BadHeader),
     (b"trace 01\norder A B\n", 1, TraceFault::BadHeader),
@@ -415,42 +431,62 @@ const FAULTY: [(&[u8], u32, TraceFault); 66] = [
     ),
 ];
 
+type Faulty = (&'static [u8], u32, TraceFault);
+
+fn expect_faults(
+    rt: &impl Abort,
+    alloc: Global,
+    names: &Names,
+    table: &[Faulty],
+) -> Result<(), Fail> {
+    for (text, line, kind) in table {
+        let fault = fault_of(read_trace(alloc, text, names))?;
+        assert!(rt; fault == Some((*line, *kind)));
+    }
+    Ok(())
+}
+
 #[test]
 fn faulty_traces(rt: HostRuntime) -> Result<(), Fail> {
     let names = names_of(&rt, rt.alloc(), 2)?;
-    for (text, line, kind) in FAULTY {
-        let read = read_trace(rt.alloc(), text, &names);
-        assert_eq!(rt; fault_of(read)?, Some((line, kind)));
-    }
+    expect_faults(&rt, rt.alloc(), &names, &FAULTY)
+}
+
+/// A leading zero in the ninth line, and a line after the verdict.
+fn expect_bad(rt: &impl Abort, alloc: Global, names: &Names, whole: &[u8]) -> Result<(), Fail> {
+    assert_eq!(rt; whole.len(), 201);
+    let mut text = Vec::from_slice(alloc, &whole[..113])?;
+    text.extend_from_slice(b"0")?;
+    text.extend_from_slice(&whole[113..])?;
+    let fault = fault_of(read_trace(alloc, text.as_slice(), names))?;
+    assert!(rt; fault == Some((9, TraceFault::BadLine)));
+    let mut text = Vec::from_slice(alloc, whole)?;
+    text.extend_from_slice(b"x\n")?;
+    let fault = fault_of(read_trace(alloc, text.as_slice(), names))?;
+    assert!(rt; fault == Some((14, TraceFault::MoreAfterVerdict)));
     Ok(())
 }
 
 #[test]
 fn bad_traces(rt: HostRuntime) -> Result<(), Fail> {
     let names = names_of(&rt, rt.alloc(), 3)?;
-    let mut text = Vec::from_slice(rt.alloc(), &IN_ORDER[..113])?;
-    text.extend_from_slice(b"05 C 12 join A = 0\n")?;
-    text.extend_from_slice(&IN_ORDER[131..])?;
-    let read = read_trace(rt.alloc(), text.as_slice(), &names);
-    assert_eq!(rt; fault_of(read)?, Some((9, TraceFault::BadLine)));
-    let mut text = Vec::from_slice(rt.alloc(), IN_ORDER)?;
-    text.extend_from_slice(b"x\n")?;
-    let read = read_trace(rt.alloc(), text.as_slice(), &names);
-    assert_eq!(rt; fault_of(read)?, Some((14, TraceFault::MoreAfterVerdict)));
+    expect_bad(&rt, rt.alloc(), &names, IN_ORDER)
+}
+
+/// The fault of a file of so many bytes that are no trace.
+fn expect_large(rt: &impl Abort, alloc: Global, size: usize, kind: TraceFault) -> Result<(), Fail> {
+    let names = Names::new(alloc);
+    let text = vec![in alloc; b'x'; size]?;
+    let fault = fault_of(read_trace(alloc, text.as_slice(), &names))?;
+    assert!(rt; fault == Some((1, kind)));
     Ok(())
 }
 
 /// One byte more than a file may have is told before all else; as many as it may have are read.
 #[test]
 fn large_files(rt: HostRuntime) -> Result<(), Fail> {
-    let names = names_of(&rt, rt.alloc(), 2)?;
-    let text = vec![in rt.alloc(); b'x'; 16_777_217]?;
-    let read = read_trace(rt.alloc(), text.as_slice(), &names);
-    assert_eq!(rt; fault_of(read)?, Some((1, TraceFault::TooLong)));
-    let text = vec![in rt.alloc(); b'x'; 16_777_216]?;
-    let read = read_trace(rt.alloc(), text.as_slice(), &names);
-    assert_eq!(rt; fault_of(read)?, Some((1, TraceFault::BadHeader)));
-    Ok(())
+    expect_large(&rt, rt.alloc(), 16_777_217, TraceFault::TooLong)?;
+    expect_large(&rt, rt.alloc(), 16_777_216, TraceFault::BadHeader)
 }
 
 /// What stands in a longest step line after its number.
@@ -471,9 +507,16 @@ fn longest_trace(alloc: Global) -> Result<Vec<u8>, Fail> {
     Ok(text)
 }
 
+fn expect_many(rt: &impl Abort, alloc: Global, names: &Names) -> Result<(), Fail> {
+    let text = longest_trace(alloc)?;
+    let again = rewritten(alloc, text.as_slice(), names)?;
+    assert!(rt; again.as_slice() == text.as_slice());
+    Ok(())
+}
+
 #[test]
 fn many_steps(rt: HostRuntime) -> Result<(), Fail> {
-    let mut names = Names::new(rt.alloc());
+    let mut names = names_of(&rt, rt.alloc(), 0)?;
     add(
         &rt,
         rt.alloc(),
@@ -481,13 +524,7 @@ fn many_steps(rt: HostRuntime) -> Result<(), Fail> {
         NameKind::Thread,
         b"a_thread_of_exactly_32_character",
     )?;
-    for (kind, name) in &OBJECTS {
-        add(&rt, rt.alloc(), &mut names, *kind, name)?;
-    }
-    // A run's longest step line has 128 bytes.
+    // With the six digits of its number a run's longest step line has 128 bytes.
     assert_eq!(rt; LONGEST.len(), 122);
-    let text = longest_trace(rt.alloc())?;
-    let again = rewritten(rt.alloc(), text.as_slice(), &names)?;
-    assert!(rt; again.as_slice() == text.as_slice());
-    Ok(())
+    expect_many(&rt, rt.alloc(), &names)
 }
