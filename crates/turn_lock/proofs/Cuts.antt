@@ -59,8 +59,8 @@ record Origin (vs : List View) (id t i n : ℕ) : Type 0 where
 origin : (vs : List View) (id t : ℕ) (v : View) → get_elem? vs id ≡ some v → Serves v t → (i : ℕ) (x : View) (n : ℕ) → get_elem? (set vs id (without v t) ++ alone v t ∷ []) i ≡ some x → Serves x n → Origin vs id t i n
 origin vs id t v at mine i x n is h = ⊎_elim
     (λ a. ⊎_elim
-        (λ (b : (i ≡ id) × (without v t ≡ x)). let w : Serves (without v t) n = subst (λ (u : View). Serves u n) (sym b.1) h in record { from = id; view = v; at = at; serves = without-had v t n w; is = inl (b.0, λ _. without-not v t n w) })
-        (λ (b : (i ≢ id) × (get_elem? vs i ≡ some x)). record { from = i; view = x; at = b.1; serves = h; is = inl (refl, λ e. absurd (b.0 e)) }) (at_set vs id i (without v t) x a))
+    (λ (b : (i ≡ id) × (without v t ≡ x)). let w : Serves (without v t) n = subst (λ (u : View). Serves u n) (sym b.1) h in record { from = id; view = v; at = at; serves = without-had v t n w; is = inl (b.0, λ _. without-not v t n w) })
+    (λ (b : (i ≢ id) × (get_elem? vs i ≡ some x)). record { from = i; view = x; at = b.1; serves = h; is = inl (refl, λ e. absurd (b.0 e)) }) (at_set vs id i (without v t) x a))
     (λ (a : (i ≡ length (set vs id (without v t))) × (alone v t ≡ x)).
     let w : Serves (alone v t) n = subst (λ (u : View). Serves u n) (sym a.1) h in
     let e = alone-one v t n w in
@@ -94,7 +94,7 @@ splits made id v t live idle mine s k at =
       holds = λ j u is h. ⊎_elim (λ p. each (λ i x. x.held ≡ true → HoldsGate x k.slot (get_or s.words 0 0)) vs id w (λ held. absurd (not_both v.held held idle)) (λ i x _. k.holds i x) j u p h)
           (λ (e : a ≡ u). absurd (not_both u.held h (sym (ap (λ (x : View). x.held) e)))) (at_snoc (set vs id w) a u j is);
       ties = λ j u is alive. ⊎_elim (λ p. each (λ i x. x.live ≡ true → Ties x k.slot.book) vs id w
-              (λ _. record { within = tied.within; obeys = tied.obeys; own = λ n h. tied.own n (without-had v t n h); left = tied.left; right = tied.right; left_own = tied.left_own; right_own = tied.right_own }) (λ i x _. k.ties i x) j u p alive)
+          (λ _. record { within = tied.within; obeys = tied.obeys; own = λ n h. tied.own n (without-had v t n h); left = tied.left; right = tied.right; left_own = tied.left_own; right_own = tied.right_own }) (λ i x _. k.ties i x) j u p alive)
           (λ (e : a ≡ u). subst (λ (x : View). Ties x k.slot.book) e record {
             within = tied.within;
             obeys = tied.obeys;
@@ -154,12 +154,12 @@ source : (vs : List View) (id : ℕ) (v : View) (other : ℕ) (w : View) → get
 source vs id v other w at ne there i x n is h = ⊎_elim
     (λ (a : (i ≡ other) × (spent_view ≡ x)). absurd (spent-none n (subst (λ (u : View). Serves u n) (sym a.1) h)))
     (λ (a : (i ≢ other) × (get_elem? (set vs id (joined v w)) i ≡ some x)). ⊎_elim
-        (λ (b : (i ≡ id) × (joined v w ≡ x)). ⊎_elim
-            (λ f. record { from = id; view = v; at = at; serves = f; not = a.0; is = inl b.0 })
-            (λ g. record { from = other; view = w; at = there; serves = g; not = a.0; is = inr (refl, b.0) })
-            (either-serves v.serves w.serves n (subst (λ (u : View). Serves u n) (sym b.1) h)))
-        (λ (b : (i ≢ id) × (get_elem? vs i ≡ some x)). record { from = i; view = x; at = b.1; serves = h; not = a.0; is = inl refl })
-        (at_set vs id i (joined v w) x a.1))
+    (λ (b : (i ≡ id) × (joined v w ≡ x)). ⊎_elim
+    (λ f. record { from = id; view = v; at = at; serves = f; not = a.0; is = inl b.0 })
+    (λ g. record { from = other; view = w; at = there; serves = g; not = a.0; is = inr (refl, b.0) })
+    (either-serves v.serves w.serves n (subst (λ (u : View). Serves u n) (sym b.1) h)))
+    (λ (b : (i ≢ id) × (get_elem? vs i ≡ some x)). record { from = i; view = x; at = b.1; serves = h; not = a.0; is = inl refl })
+    (at_set vs id i (joined v w) x a.1))
     (at_set (set vs id (joined v w)) other i spent_view x is)
 
 -- the joined seat's ties

@@ -94,15 +94,15 @@ unmoved made s k id v w at e l idle was_idle tie =
     let wide = k.words in
     let same : get_or (set s.words 0 x) 0 0 ≡ x = get_or-set_same s.words 0 x 0 (omega arith) in
     moved made s k id v w k.slot (set s.words 0 x) s.homes at e l k.making k.lawful k.notes (length-set s.words 0 x ∙ wide) k.slots
-        (λ z. k.free (sym same ∙ z))
-        (λ t is.
-        let old = k.taken t (sym same ∙ is) in
-        let own = old.1 in
-        (old.0, record { id = own.id; view = own.view; at = set_else s.views id own.id w (not-holder s.views own.id id own.view v own.at own.held at was_idle) ∙ own.at; serves = own.serves; held = own.held }))
-        (λ held. absurd (not_both w.held held idle))
-        (λ j u ne is held. let h = k.holds j u is held in record { base = h.base; thread = h.thread; serves = h.serves; gate_is = same ∙ h.gate_is })
-        tie
-        (λ j u ne is alive. k.ties j u is alive)
+    (λ z. k.free (sym same ∙ z))
+    (λ t is.
+    let old = k.taken t (sym same ∙ is) in
+    let own = old.1 in
+    (old.0, record { id = own.id; view = own.view; at = set_else s.views id own.id w (not-holder s.views own.id id own.view v own.at own.held at was_idle) ∙ own.at; serves = own.serves; held = own.held }))
+    (λ held. absurd (not_both w.held held idle))
+    (λ j u ne is held. let h = k.holds j u is held in record { base = h.base; thread = h.thread; serves = h.serves; gate_is = same ∙ h.gate_is })
+    tie
+    (λ j u ne is alive. k.ties j u is alive)
 
 -- a view with the same parts but the gate's has the same ties
 same-ties : (v w : View) (book : Told) → w.seen ≡ v.seen → w.serves ≡ v.serves → w.left ≡ v.left → w.right ≡ v.right → w.left_had ≡ v.left_had → w.right_had ≡ v.right_had → Ties v book → Ties w book
@@ -153,14 +153,17 @@ grabs made slots id m t live idle serves inside s k long at small =
       keeps,
       tt,
       unmoved made s k id m.0 w at refl refl idle idle (λ _. same-ties m.0 w k.slot.book refl refl refl refl refl refl tied),
-      ((λ z. absurd (ne z)), λ _. record {
-        holder = h;
-        found_is = is;
-        after = refl;
-        other = λ mine. not-holder s.views own.id id own.view m.0 own.at own.held at idle (k.apart own.id id own.view m.0 h own.at at own.serves mine);
-        thread = omega arith;
-        obeys = (k.ties id m.0 at live).obeys;
-      }),
+      (
+        (λ z. absurd (ne z)),
+        λ _. record {
+          holder = h;
+          found_is = is;
+          after = refl;
+          other = λ mine. not-holder s.views own.id id own.view m.0 own.at own.held at idle (k.apart own.id id own.view m.0 h own.at at own.serves mine);
+          thread = omega arith;
+          obeys = (k.ties id m.0 at live).obeys;
+        },
+      ),
     ))
 
 -- ---- the store that opens the gate
@@ -221,8 +224,10 @@ opens made slots id m v c is live held goes = subst (λ (x : Seated). Allows (Ke
 pub marks : (made : Told) (slots id : ℕ) (m : Seated) (i : ℕ) (f : ℕ → ℕ) → 0 < i → Allows (Kept made) slots id m i f (λ _ n. n ≡ m)
 marks made slots id m i f off s k long at small =
     let words : List ℕ = set s.words i (f (get_or s.words i 0)) in
-    let same : get_or words 0 0 ≡ get_or s.words 0 0 = get_or-set_other s.words i 0 (f (get_or s.words i 0)) 0 (λ e. omega arith) in
-    (m.0, keeps, tt,
+    let same : get_or words 0 0 ≡ get_or s.words 0 0 = get_or-set_other s.words i 0 (f (get_or s.words i 0)) 0 (λ e. omega arith) in (
+      m.0,
+      keeps,
+      tt,
       subst (λ (vs : List View). Kept made (state words s.homes vs)) (sym (set_again s.views id m.0 at)) record {
         slot = k.slot;
         making = k.making;
@@ -236,7 +241,9 @@ marks made slots id m i f off s k long at small =
         ties = k.ties;
         spent = k.spent;
         apart = k.apart;
-      }, refl)
+      },
+      refl,
+    )
 
 -- ---- how the table begins
 only : (b : Told) (j : ℕ) (u : View) → get_elem? (first_view b ∷ []) j ≡ some u → (j ≡ 0) × (first_view b ≡ u)
@@ -294,3 +301,8 @@ closed made id v words homes last live idle all f is =
     let tied : Ties v k.slot.book = k.ties id v at live in
     let many : k.slot.book.deal.threads ≡ v.seen.deal.threads = ap (λ (d : Deal). d.threads) tied.within.making.deal in
     subst (λ (x : Slot). IsLast made v x.book) (some-injective k.slot last (sym there ∙ is)) record { making = k.making; lawful = k.lawful; seen = tied.within; own = λ t below. tied.own t (all t (omega arith)) }
+
+pub begins : (about : Slot) (words : List ℕ) (items : List Slot) (b : Told) (board : Board) → about ≡ record { book = b; board = board } → words ≡ replicate (b.deal.threads + 1) 0 → items ≡ record { book = b; board = board } ∷ [] → IsLawful b → NotesBelow b.deal.threads board
+    → Kept about.book (opening words items (first_view about.book))
+begins about words items b board a w i lawful notes =
+    subst (λ (x : Slot × List ℕ × List Slot). Kept x.0.book (opening x.1 x.2 (first_view x.0.book))) (λ j. (sym a j, sym w j, sym i j)) (starts b board lawful notes)

@@ -117,7 +117,7 @@ same-between t a b c p q s = record {
 obeys-in : (plan : Plan) (deal : Deal) (limit : ℕ) (b : Told) (posts : List (List Post)) → plan ≡ b.plan → deal ≡ b.deal → limit ≡ b.limit → HasMore b.posts posts → ObeysPlan b → Obeys plan deal (source_of posts) limit b.trace
 obeys-in plan deal limit b posts p d l more obeys =
     subst (λ (x : Plan × Deal × ℕ). Obeys x.0 x.1 (source_of posts) x.2 b.trace) (λ i. (sym p i, sym d i, sym l i))
-        (obeys-more b.plan b.deal (source_of b.posts) (source_of posts) b.limit b.trace (more-keeps b.trace b.posts posts more) obeys)
+    (obeys-more b.plan b.deal (source_of b.posts) (source_of posts) b.limit b.trace (more-keeps b.trace b.posts posts more) obeys)
 
 pub record Meets (a b c : Told) : Type 0 where
   pub within : Within (seen_together a b) c
@@ -129,7 +129,7 @@ pub meets : (a b c : Told) → Within a c → Within b c → ObeysPlan a → Obe
 meets a b c p q one other =
     let both = longer-begins a.trace b.trace c.trace (traces a c p) (traces b c q) in
     let posts : (t : ℕ) → Begins (posted_by (seen_together a b) t) (posted_by c t) × Begins (posted_by a t) (posted_by (seen_together a b) t) × Begins (posted_by b t) (posted_by (seen_together a b) t) =
-        λ t. subst (λ (l : List Post). Begins l (posted_by c t) × Begins (posted_by a t) l × Begins (posted_by b t) l) (sym (longer-at a.posts b.posts t)) (longer-begins (posted_by a t) (posted_by b t) (posted_by c t) (p.posts t) (q.posts t)) in
+    λ t. subst (λ (l : List Post). Begins l (posted_by c t) × Begins (posted_by a t) l × Begins (posted_by b t) l) (sym (longer-at a.posts b.posts t)) (longer-begins (posted_by a t) (posted_by b t) (posted_by c t) (p.posts t) (q.posts t)) in
     let making : SameMaking b a = record { deal = sym p.making.deal ∙ q.making.deal; limit = sym p.making.limit ∙ q.making.limit; plan = sym p.making.plan ∙ q.making.plan } in
     let F : List Event → Type 0 = λ l. Obeys a.plan a.deal (source_of (longer_posts a.posts b.posts)) a.limit l in
     record {

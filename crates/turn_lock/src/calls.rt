@@ -9,8 +9,8 @@ ghost use Rattle.turn_lock.specs.Seats.{without, alone, joined};
 ghost use Rattle.turn_lock.specs.Views.{view, IsOf};
 ghost use Rattle.pct_ask.specs.declared.event.Standing.TheVariants as standings;
 
+use crate::flags::{chosen, either};
 use crate::held::TurnLock;
-use crate::flags::{first_threads, either, chosen};
 use crate::rule::Both;
 use crate::seat::Seat;
 use crate::slot::Slot;
@@ -40,14 +40,7 @@ impl<P: Policy> TurnLock<P> {
         let mut slots = Vec::with_capacity(alloc, 1)?;
         slots.push_reserved(slot);
         match Table::new(alloc, words.as_slice(), slots, &about) {
-            Ok((table, seat)) => Ok((
-                TurnLock { table },
-                Seat {
-                    seat,
-                    serves: first_threads(threads),
-                    owes: [true; 64],
-                },
-            )),
+            Ok((table, seat)) => Ok((TurnLock { table }, Seat::first(seat, threads))),
             Err(Refused { slots: _ }) => Err(NoMemory),
         }
     }
@@ -88,7 +81,9 @@ impl<P: Policy> TurnLock<P> {
         } = other;
         let both = either(&seat.serves, &serves);
         let owing = chosen(&serves, &owes, &seat.owes);
-        self.table.shared.join_seat::<Both>(&mut seat.seat, their_seat);
+        self.table
+            .shared
+            .join_seat::<Both>(&mut seat.seat, their_seat);
         self.look(&mut seat.seat);
         seat.serves = both;
         seat.owes = owing;

@@ -6,7 +6,8 @@ ghost use Rattle.turn_lock.specs.Seats.{either_of};
 /// The first so many threads.
 pub fn first_threads(threads: u32) -> [bool; 64]
     requires { threads ≤ 64 }
-    ensures { result ≡ first_threads threads }
+    ensures first { result ≡ first_threads threads }
+    ensures flags { length result ≡ 64 }
 {
     let mut first = [false; 64];
     for thread in 0..threads {

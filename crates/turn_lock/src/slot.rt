@@ -69,7 +69,11 @@ impl<P: Policy> Slot<P> {
         requires notes { NotesBelow self.now.book.deal.threads self.now.board }
         ensures { IfSome result (λ word. word < self.now.book.deal.threads) }
     {
-        if wanted { self.board.word_of(thread) } else { None }
+        if wanted {
+            self.board.word_of(thread)
+        } else {
+            None
+        }
     }
 
     /// The turn words to wake: that of the thread whose turn it is, and once an outcome stands every word that was noted.

@@ -31,12 +31,7 @@ impl<P: Policy> TurnLock<P> {
     }
 
     /// The post and the turn, on the book in the seat's hand.
-    pub(crate) fn work(
-        &self,
-        seat: &mut TableSeat<P>,
-        thread: u32,
-        post: Option<Post>,
-    ) -> Work
+    pub(crate) fn work(&self, seat: &mut TableSeat<P>, thread: u32, post: Option<Post>) -> Work
         requires of { seat.old.table_id ≡ self.now.table.shared.table_id }
         requires ready { IsReady seat.old.me thread post }
         ensures same { SameSeat seat.old seat.new × (seat.new.me.0 ≡ seat.old.me.0) }
@@ -98,11 +93,7 @@ impl<P: Policy> TurnLock<P> {
         }
     }
 
-    pub(crate) fn split_as<W: Which>(
-        &self,
-        seat: &mut TableSeat<P>,
-        thread: u32,
-    ) -> TableSeat<P>
+    pub(crate) fn split_as<W: Which>(&self, seat: &mut TableSeat<P>, thread: u32) -> TableSeat<P>
         requires which { thread ≡ W.thread }
         requires of { seat.old.table_id ≡ self.now.table.shared.table_id }
         requires idle { Idle seat.old }

@@ -9,7 +9,7 @@ loop-i-preserved c =
     let t : List Bool = c.args.other.now in
     let e : suc x ≡ x + 1 = omega arith in
     subst (λ (l : List Bool). set l x (get_or l x false || get_or t x false) ≡ mixed (x + 1) o t) (sym c.loop-i.invariant)
-        (mixed-step x o t false false (omega (arith, c.told-one, c.loop-i-test.true)) (omega (arith, c.told-other, c.loop-i-test.true)) ∙ ap (λ (n : ℕ). mixed n o t) e)
+    (mixed-step x o t false false (omega (arith, c.told-one, c.loop-i-test.true)) (omega (arith, c.told-other, c.loop-i-test.true)) ∙ ap (λ (n : ℕ). mixed n o t) e)
 
 pub returns : goal.returns
 returns c =

@@ -11,4 +11,4 @@ pub returns-clause-row : goal.returns-clause-row
 returns-clause-row g c =
     let e = c.take.ensures in
     subst (λ (turn : Turn). Row c.args.book.now c.args.thread turn c.take.new.self) (sym c.as_turn.ensures)
-        (row-of _ _ _ (λ none. asks-or-ended _ (c.requires.here none) (λ ended. false≢true (sym c.if-has_ended.false ∙ c.has_ended.ensures.1 (none, ended)))) _ e.over e.answer e.turn e.away e.answered e.unchanged)
+    (row-of _ _ _ (λ none. asks-or-ended _ (c.requires.here none) (λ ended. false≢true (sym c.if-has_ended.false ∙ c.has_ended.ensures.1 (none, ended)))) _ e.over e.answer e.turn e.away e.answered e.unchanged)
