@@ -1,10 +1,10 @@
 -- The chances of all threads, from their standings, and the threads whose chance stays.
-use Rattle.std.proofs.Common.{◌≡◌, ◌≢◌, ℕ, zero, suc, ◌+◌, ◌<◌, ◌≤◌, Bool, true, false, cond, eqb, ◌||◌, Option, Some, None, List, [], ◌∷◌, ◌++◌, length, get_or, set, take, map, replicate, refl, sym, ap, subst, ◌∙◌, arith, inl, inr, ◌⊎◌, eq-eqb, ne_eqb, add-zero}
+use Rattle.std.proofs.Common.{◌≡◌, ◌≢◌, ℕ, zero, suc, ◌+◌, ◌<◌, Bool, true, false, cond, eqb, Option, Some, None, List, [], ◌∷◌, ◌++◌, length, set, take, map, replicate, refl, sym, ap, subst, ◌∙◌, arith, inl, inr, ◌⊎◌, eq-eqb}
 use Rattle.std.specs.Prelude.{is_none, slice_get}
 use Rattle.std.specs.Option.{option_map, option_map_or}
 use Rattle.std.specs.List.{All, cons_option, filter_map, range_with_len}
-use Rattle.std.proofs.lemmas.Bool.{cases_Bool, cases_eq, cases_lt, false≢true, or_parts}
-use Rattle.std.proofs.lemmas.List.{append-nil, length-map, length-replicate, length-set, map-set, get_or-replicate, get_or-set_other, get_or-set_same, get_or_past}
+use Rattle.std.proofs.lemmas.Bool.{cases_eq, cases_lt, false≢true, or_parts}
+use Rattle.std.proofs.lemmas.List.{append-nil, length-replicate, length-set, map-set, get_or-replicate, get_or-set_other, get_or-set_same, get_or_past}
 use Rattle.std.proofs.lemmas.List.FromFn.{length-map-range_with_len, get_or-map-range_with_len, fill_by_all}
 use Rattle.std.proofs.lemmas.List.Elements.{All-nil, All-push, All-same, All-weaker}
 use Rattle.std.proofs.lemmas.Option.{slice_get-map, slice_get-get_or}
@@ -14,20 +14,19 @@ use Rattle.pct_ask.specs.declared.ask.Post.{Post}
 use Rattle.pct_ask.specs.declared.Deal.{Deal}
 use Rattle.pct_ask.specs.declared.event.Standing.{Standing}
 use Rattle.pct_ask.specs.declared.event.Standing.TheVariants.{Away as AwayStanding}
-use Rattle.pct_ask.specs.declared.verdict.Verdict.{Verdict}
 use Rattle.pct_ask.specs.declared.verdict.Verdict.TheVariants.{Passed, Stuck}
 use Rattle.sync_store.specs.declared.touched.Touched.{Touched}
 use Rattle.sync_store.specs.Store.{StoreState, Sizes, sizes_of, first}
 use Rattle.sync_store.specs.Enabled.{IsInRange, enabled}
-use Rattle.sync_store.specs.Ready.{awaited, unknown_target, ready_by, readiness, away_by, ended_by, is_away, is_ended as is_ended_standing}
+use Rattle.sync_store.specs.Ready.{awaited, unknown_target, ready_by, away_by, ended_by, is_away, is_ended as is_ended_standing}
 use Rattle.sync_store.specs.Touched.{KeepsOthers, names}
 use Rattle.policy_pick.specs.declared.chance.Chance.{Chance}
-use Rattle.policy_pick.specs.declared.chance.Chance.TheVariants.{Away, Ready as Goes, Blocked, Unknown, Ended}
+use Rattle.policy_pick.specs.declared.chance.Chance.TheVariants.{Away, Ended}
 use Rattle.policy_pick.specs.Choice.{chance_of, HasAwayTarget, TargetsAreAway}
-use Rattle.turn_book.specs.Chances.{NextPosts, is_unknown, is_ended, chance_by, chance_of_ask, chance_of_post, chance, chances, blocked_by_post, blocked_at, verdict_of_blocked}
+use Rattle.turn_book.specs.Chances.{NextPosts, is_unknown, is_ended, chance_by, chance_of_ask, chance_of_post, chance, chances, blocked_at, verdict_of_blocked}
 use Rattle.turn_book.specs.Told.{PostIsInRange, standing_by_ask, standing_by}
 use Rattle.turn_book.specs.Board.{IsBoard, listed, ask_of_post, AreInRange, joins, concerns_ask, concerns}
-use Rattle.turn_book.proofs.More.{enabled-same, readiness-same}
+use Rattle.turn_book.proofs.More.{readiness-same}
 
 -- ---- all chances
 pub chance-at : (threads : ℕ) (store : StoreState) (next : NextPosts) (t : ℕ) → t < threads → chance_of (chances threads store next) t ≡ chance store next t
@@ -242,7 +241,7 @@ new-board deal store posts standings known is none away chances-away =
       in_range = λ t. subst P (sym (unposted t)) tt;
       standings = away ∙ sym (map-replicate standing_by deal.threads None) ∙ ap (map standing_by) (sym none);
       chances = chances-are store.threads store (listed posts) known (ap length chances-away ∙ length-replicate deal.threads Away ∙ sym threads)
-      (λ t within. ap (λ cs. chance_of cs t) chances-away ∙ get_or-replicate deal.threads t Away Ended (omega arith) ∙ sym (ap (chance_of_post store (is_unknown (listed posts)) (is_ended (listed posts)) t) (unposted t)));
+          (λ t within. ap (λ cs. chance_of cs t) chances-away ∙ get_or-replicate deal.threads t Away Ended (omega arith) ∙ sym (ap (chance_of_post store (is_unknown (listed posts)) (is_ended (listed posts)) t) (unposted t)));
     }
 
 -- ---- a thread's post in a board, and another store

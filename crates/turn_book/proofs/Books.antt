@@ -1,27 +1,24 @@
 -- What a book keeps, along its calls, and what follows of what it tells.
-use Rattle.std.proofs.Common.{◌≡◌, ◌≢◌, ℕ, zero, suc, ◌+◌, ◌<◌, ◌≤◌, ℤ, pos, Bool, true, false, cond, eqb, Option, Some, None, option_to_list, List, [], ◌∷◌, ◌++◌, length, get_or, set, map, replicate, refl, sym, ap, subst, ◌∙◌, arith, ◌⊎◌, inl, inr, eq-eqb, ne_eqb}
+use Rattle.std.proofs.Common.{◌≡◌, ◌≢◌, ℕ, ◌<◌, ◌≤◌, Bool, true, false, eqb, Option, Some, None, option_to_list, List, [], ◌∷◌, ◌++◌, length, set, replicate, refl, sym, ap, subst, ◌∙◌, arith, ◌⊎◌, inl, inr, eq-eqb}
 use Rattle.std.specs.Prelude.{slice_get, is_some}
-use Rattle.std.specs.Option.{option_and_then, option_map}
+use Rattle.std.specs.Option.{option_map}
 use Rattle.std.specs.List.{All}
 use Rattle.std.proofs.lemmas.List.Elements.{All-get_or}
 use Rattle.std.proofs.lemmas.Option.{slice_get_within, get_or_from_slice_get}
-use Rattle.std.proofs.lemmas.Bool.{cases_Bool, false≢true}
-use Rattle.std.proofs.lemmas.List.{append-nil, append_assoc, length-append, length-replicate, length-set}
+use Rattle.std.proofs.lemmas.Bool.{false≢true}
+use Rattle.std.proofs.lemmas.List.{length-append, length-replicate, length-set}
 use Rattle.pct_ask.specs.declared.ask.Ask.{Ask}
 use Rattle.pct_ask.specs.declared.ask.Post.{Post}
 use Rattle.pct_ask.specs.declared.Deal.{Deal}
 use Rattle.pct_ask.specs.declared.event.Event.{Event}
-use Rattle.pct_ask.specs.declared.event.Standing.{Standing}
 use Rattle.pct_ask.specs.declared.event.Standing.TheVariants.{Away as AwayStanding}
 use Rattle.pct_ask.specs.declared.verdict.Verdict.{Verdict}
-use Rattle.pct_ask.specs.declared.verdict.Verdict.TheVariants.{Cut}
 use Rattle.pct_ask.specs.declared.verdict.Outcome.{Outcome}
-use Rattle.pct_ask.specs.declared.verdict.Outcome.TheVariants.{Verdict as Ends}
 use Rattle.sync_store.specs.Store.{StoreState, Sizes, sizes_of, sizes_of_deal, first}
 use Rattle.sync_store.specs.Enabled.{enabled}
-use Rattle.sync_store.specs.Ready.{awaited, unknown_target, ready_by, readiness}
-use Rattle.sync_store.specs.Effect.{Effect, effect, store_after}
-use Rattle.sync_store.specs.World.{Source, World, has_ended, with_effect, world_after}
+use Rattle.sync_store.specs.Ready.{awaited, unknown_target, ready_by}
+use Rattle.sync_store.specs.Effect.{effect}
+use Rattle.sync_store.specs.World.{Source, World, has_ended, world_after}
 use Rattle.policy_pick.specs.declared.chance.Chance.{Chance}
 use Rattle.policy_pick.specs.declared.chance.Chance.TheVariants.{Away, Ready as Goes}
 use Rattle.policy_pick.specs.declared.chance.Pick.{Pick}
@@ -30,13 +27,13 @@ use Rattle.policy_pick.specs.Plan.{Plan, ByPoints, ByEvents, ByList, SpeaksOf}
 use Rattle.policy_pick.specs.Choice.{choice, choice_by_list, choice_by_number, chance_of, is_open, pick_at, MayDepart}
 use Rattle.policy_pick.specs.Laws.Finds.{found-or-none}
 use Rattle.policy_pick.specs.Laws.Walks.{open_at, number-stops, number-ends}
-use Rattle.turn_book.specs.Chances.{NextPosts, is_unknown, is_ended, chance_by, chance_of_post, chance, chances, rest_verdict}
+use Rattle.turn_book.specs.Chances.{is_unknown, is_ended, chance_by, chance_of_post, chance, chances, rest_verdict}
 use Rattle.turn_book.specs.Posts.{schedule_of, posts_of, source_of, HasMore, KeepsPosts}
 use Rattle.turn_book.specs.Obeys.{choice_in, choice_after, Obeys, outcome_by_pick, outcome_by, settled}
-use Rattle.turn_book.specs.Told.{Told, next_post, standing_by_ask, standing_by, standing_of, choice_of, post_of_event, IsLawful}
-use Rattle.turn_book.specs.Board.{BoardState, TakesStep, listed, answer_of, verdict_of}
+use Rattle.turn_book.specs.Told.{next_post, standing_by_ask, standing_by, standing_of, choice_of, IsLawful}
+use Rattle.turn_book.specs.Board.{BoardState, TakesStep, listed}
 use Rattle.turn_book.specs.Kept.{posts_by, told, IsAt, IsKept}
-use Rattle.turn_book.proofs.Worlds.{map-some, cons-same, event_of, effect-is, Steps, IsMade, made-events, made-push}
+use Rattle.turn_book.proofs.Worlds.{map-some, cons-same, effect-is, Steps, IsMade, made-events, made-push}
 use Rattle.turn_book.proofs.More.{choice-at, settled-at, obeys-more, made-more, chosen-ready, nobody-closed, departs-may}
 use Rattle.turn_book.proofs.Boards.{chance-at, length-chances, nothing-posted}
 use Rattle.turn_book.specs.Answers.{MayWait}
@@ -217,7 +214,7 @@ module _ (deal : Deal) (limit : ℕ) (plan : Plan) (board : BoardState) (events 
     at-post = record {
       verdict = (kept.at).verdict;
       world = (made-more (first deal) (source plan deal board events) (source plan deal after events) events (world plan deal board events kept.at) keeps (is-made plan deal board events kept.at)).at
-      ∙ ap (λ (s : StoreState). Some (record { store = s; events = events; verdict = (kept.at).verdict })) (sym store);
+          ∙ ap (λ (s : StoreState). Some (record { store = s; events = events; verdict = (kept.at).verdict })) (sym store);
     }
 
     threads-post : (after.store).threads ≡ deal.threads
@@ -273,7 +270,7 @@ module _ (deal : Deal) (limit : ℕ) (plan : Plan) (board : BoardState) (events 
       asks = refl;
       goes = enabled-now;
       next_is = effect-is (world plan deal board events kept.at) t event.line event.ask (effect board.store t event.line event.ask)
-      ∙ (λ j. record { store = sym taken.store j; events = events ++ record { thread = sym taken.thread j; line = event.line; ask = event.ask; answer = sym taken.answer j } ∷ []; verdict = sym taken.verdict j });
+          ∙ (λ j. record { store = sym taken.store j; events = events ++ record { thread = sym taken.thread j; line = event.line; ask = event.ask; answer = sym taken.answer j } ∷ []; verdict = sym taken.verdict j });
     }
 
     made-step : IsMade (first deal) (source plan deal board events) made_events world_after_step

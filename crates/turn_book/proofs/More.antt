@@ -1,5 +1,5 @@
 -- What stays as more posts become known: each world, each choice that waits for nobody, and what became of a run.
-use Rattle.std.proofs.Common.{◌≡◌, ◌≢◌, ℕ, zero, suc, ◌+◌, ◌<◌, ◌≤◌, Bool, true, false, cond, eqb, Option, Some, None, List, [], ◌∷◌, ◌++◌, length, get_or, map, refl, sym, ap, subst, ◌∙◌, arith, inl, inr}
+use Rattle.std.proofs.Common.{◌≡◌, ℕ, zero, suc, ◌+◌, ◌<◌, ◌≤◌, Bool, true, false, cond, eqb, Option, Some, None, List, [], ◌∷◌, ◌++◌, length, map, refl, sym, ap, subst, ◌∙◌, arith, inl, inr}
 use Rattle.std.specs.Prelude.{is_none}
 use Rattle.std.specs.Option.{option_and_then, option_map, option_map_or}
 use Rattle.std.specs.List.{cons_option, filter_map, range_with_len}
@@ -15,11 +15,10 @@ use Rattle.pct_ask.specs.declared.event.Event.{Event}
 use Rattle.pct_ask.specs.declared.Deal.{Deal}
 use Rattle.pct_ask.specs.declared.verdict.Verdict.{Verdict}
 use Rattle.pct_ask.specs.declared.verdict.Outcome.{Outcome}
-use Rattle.sync_store.specs.declared.ready.Ready.{Ready}
 use Rattle.sync_store.specs.Store.{StoreState, first}
 use Rattle.sync_store.specs.Enabled.{enabled}
 use Rattle.sync_store.specs.Ready.{awaited, unknown_target, ready_by, readiness}
-use Rattle.sync_store.specs.World.{Source, World, has_ended, step_of, world_from, world_after}
+use Rattle.sync_store.specs.World.{Source, World, has_ended, step_of, world_from}
 use Rattle.policy_pick.specs.declared.chance.Chance.{Chance}
 use Rattle.policy_pick.specs.declared.chance.Chance.TheVariants.{Away, Ready as Goes, Blocked, Unknown, Ended}
 use Rattle.policy_pick.specs.declared.chance.Pick.{Pick}
@@ -28,10 +27,10 @@ use Rattle.policy_pick.specs.Plan.{Plan, SpeaksOf}
 use Rattle.policy_pick.specs.Choice.{choice, chance_of, is_open, is_known, IsSound, IsWaits, MayDepart, KeepsKnown, HasAwayTarget, TargetsAreAway}
 use Rattle.policy_pick.specs.Laws.{choice-keeps, choice-sound}
 use Rattle.policy_pick.specs.Laws.Chances.{closed-known}
-use Rattle.turn_book.specs.Chances.{NextPosts, is_unknown, is_ended, chance_by, chance_of_ask, chance_of_post, chance, chances, threads_below, blocked_by_post, blocked_at, verdict_of_blocked, rest_verdict}
+use Rattle.turn_book.specs.Chances.{NextPosts, is_unknown, is_ended, chance_by, chance_of_ask, chance_of_post, chance, chances, blocked_by_post, blocked_at, verdict_of_blocked, rest_verdict}
 use Rattle.turn_book.specs.Posts.{schedule_of, KeepsPosts}
 use Rattle.turn_book.specs.Obeys.{next_in, choice_in, choice_after, Obeys, outcome_by_pick, outcome_by, outcome_in, settled}
-use Rattle.turn_book.proofs.Worlds.{Steps, steps-from, step-is, grows, IsMade, made-from, made-events, Passes, passes}
+use Rattle.turn_book.proofs.Worlds.{Steps, steps-from, step-is, grows, IsMade, made-from, made-events, passes}
 
 -- ---- asks
 -- whether an ask is enabled depends on who has ended only at the thread that it joins
@@ -104,10 +103,10 @@ module _ (earlier later : NextPosts) (keeps : KeepsNext earlier later) where
     chances-more threads = record {
       threads = length-map-range_with_len (chance store later) 0 threads ∙ sym (length-map-range_with_len (chance store earlier) 0 threads);
       known = λ t within known.
-      let there : t < threads = omega (arith, length-map-range_with_len (chance store earlier) 0 threads) in
-      let was = get_or-map-range_with_len (chance store earlier) 0 threads t t Ended there (omega arith) in
-      let is = get_or-map-range_with_len (chance store later) 0 threads t t Ended there (omega arith) in
-      is ∙ chance-more t (sym (ap is_known was) ∙ known) ∙ sym was;
+          let there : t < threads = omega (arith, length-map-range_with_len (chance store earlier) 0 threads) in
+          let was = get_or-map-range_with_len (chance store earlier) 0 threads t t Ended there (omega arith) in
+          let is = get_or-map-range_with_len (chance store later) 0 threads t t Ended there (omega arith) in
+          is ∙ chance-more t (sym (ap is_known was) ∙ known) ∙ sym was;
     }
 
     -- a choice that waits for nobody stays
@@ -265,14 +264,14 @@ module _ (plan : Plan) (deal : Deal) where
       let w = made-from (first deal) earlier events obeys.made in
       record {
         chosen = λ before after e cut.
-        let P : List Event → Type 0 = λ es. KeepsPosts es earlier later in
-        let M : List Event → Type 0 = λ es. IsMade (first deal) earlier es w.0 in
-        let p = passes (first deal) earlier before (e ∷ after) w.0 (subst M cut w.1) in
-        let front = keeps-front earlier later before (e ∷ after) (subst P cut keeps) in
-        let was : choice_in plan deal.threads earlier (schedule_of before) p.world ≡ Thread e.thread = let both = sym (choice-at earlier before p.world p.made) ∙ obeys.chosen before after e cut in cc in
-        let NoWait : Pick → Type 0 = λ p. ¬ IsWaits p in
-        let still = choice-more (next_in earlier p.world) (next_in later p.world) (keeps-next earlier later before p.world front p.made.trace) (p.world).store plan (schedule_of before) deal.threads (subst NoWait (sym was) (λ h. h)) in
-        choice-at later before p.world (made-more (first deal) earlier later before p.world front p.made) ∙ ap Some (still ∙ was);
+            let P : List Event → Type 0 = λ es. KeepsPosts es earlier later in
+            let M : List Event → Type 0 = λ es. IsMade (first deal) earlier es w.0 in
+            let p = passes (first deal) earlier before (e ∷ after) w.0 (subst M cut w.1) in
+            let front = keeps-front earlier later before (e ∷ after) (subst P cut keeps) in
+            let was : choice_in plan deal.threads earlier (schedule_of before) p.world ≡ Thread e.thread = let both = sym (choice-at earlier before p.world p.made) ∙ obeys.chosen before after e cut in cc in
+            let NoWait : Pick → Type 0 = λ p. ¬ IsWaits p in
+            let still = choice-more (next_in earlier p.world) (next_in later p.world) (keeps-next earlier later before p.world front p.made.trace) (p.world).store plan (schedule_of before) deal.threads (subst NoWait (sym was) (λ h. h)) in
+            choice-at later before p.world (made-more (first deal) earlier later before p.world front p.made) ∙ ap Some (still ∙ was);
         made = made-events (first deal) later events w.0 (made-more (first deal) earlier later events w.0 keeps w.1);
         within = obeys.within;
       }

@@ -1,22 +1,20 @@
 -- Steps that obey one plan over one source of posts: of two such lists one begins with the other, and what is settled
 -- doesn't go on.
-use Rattle.std.proofs.Common.{◌≡◌, ◌≢◌, ℕ, zero, suc, ◌+◌, ◌<◌, ◌≤◌, Bool, true, false, cond, eqb, Option, Some, None, List, [], ◌∷◌, ◌++◌, length, map, refl, sym, ap, subst, ◌∙◌, arith, ◌⊎◌, inl, inr, ne_eqb}
-use Rattle.std.specs.Option.{option_and_then, option_map}
+use Rattle.std.proofs.Common.{◌≡◌, ℕ, Bool, false, eqb, Option, Some, None, List, [], ◌∷◌, ◌++◌, length, refl, sym, ap, subst, ◌∙◌, arith, ne_eqb}
 use Rattle.std.proofs.lemmas.List.{append-nil, append_assoc, map-append, length-append}
-use Rattle.std.proofs.lemmas.Option.{option_and_then_some}
 use Rattle.pct_ask.specs.declared.Deal.{Deal}
 use Rattle.pct_ask.specs.declared.event.Event.{Event}
 use Rattle.pct_ask.specs.declared.verdict.Verdict.{Verdict}
 use Rattle.pct_ask.specs.declared.verdict.Outcome.{Outcome}
 use Rattle.sync_store.specs.Store.{first}
-use Rattle.sync_store.specs.World.{Source, World, step_of, world_from, world_after}
+use Rattle.sync_store.specs.World.{Source, World, world_after}
 use Rattle.policy_pick.specs.declared.chance.Pick.{Pick}
 use Rattle.policy_pick.specs.declared.chance.Pick.TheVariants.{Thread}
 use Rattle.policy_pick.specs.Plan.{Plan, SpeaksOf}
 use Rattle.turn_book.specs.Posts.{schedule_of, KeepsPosts}
 use Rattle.turn_book.specs.Chances.{rest_verdict}
-use Rattle.turn_book.specs.Obeys.{next_in, choice_in, choice_after, Obeys, outcome_by_pick, outcome_by, settled}
-use Rattle.turn_book.proofs.Worlds.{cons-same, same-cut, Steps, IsMade, made-from, Passes, passes, last-step}
+use Rattle.turn_book.specs.Obeys.{next_in, choice_in, Obeys, outcome_by_pick, outcome_by, settled}
+use Rattle.turn_book.proofs.Worlds.{cons-same, same-cut, IsMade, made-from, passes, last-step}
 use Rattle.turn_book.proofs.More.{choice-at, settled-at, obeys-more, settled-more}
 
 -- one list begins with another

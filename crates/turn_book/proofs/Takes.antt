@@ -1,14 +1,13 @@
 -- When a thread gets which answer.
-use Rattle.std.proofs.Common.{◌≡◌, ◌≢◌, ℕ, ℤ, Bool, true, false, cond, eqb, Option, Some, None, List, length, refl, sym, ap, subst, ◌∙◌, arith, inl, inr, eq-eqb, ne_eqb}
+use Rattle.std.proofs.Common.{◌≡◌, ◌≢◌, ℕ, ℤ, Bool, true, false, cond, eqb, Some, None, length, refl, sym, ap, ◌∙◌, inl, inr, eq-eqb, ne_eqb}
 use Rattle.std.specs.Prelude.{◌↔◌}
-use Rattle.std.proofs.lemmas.Bool.{cases_eq, false≢true}
+use Rattle.std.proofs.lemmas.Bool.{cases_eq}
 use Rattle.pct_ask.specs.declared.verdict.Verdict.{Verdict}
 use Rattle.pct_ask.specs.declared.verdict.Outcome.{Outcome}
 use Rattle.policy_pick.specs.declared.chance.Pick.{Pick}
 use Rattle.policy_pick.specs.declared.chance.Pick.TheVariants.{Thread, Waits, Nobody, Departs}
 use Rattle.turn_book.specs.declared.taken.Because.{Because}
 use Rattle.turn_book.specs.declared.taken.Because.TheVariants.{Turn, Away}
-use Rattle.turn_book.specs.declared.taken.Taken.{Taken}
 use Rattle.turn_book.specs.declared.taken.Taken.TheVariants.{Answer, NotYet, Over}
 use Rattle.turn_book.specs.Obeys.{outcome_by_pick}
 use Rattle.turn_book.specs.Told.{Told, choice_of, IsAnswered}
@@ -93,24 +92,24 @@ module _ (book : Told) (t : ℕ) (pick : Pick) (running : book.outcome ≡ None)
     pub not_yet-turn : (at u : ℕ) → (NotYet n because ≡ NotYet at (Turn u)) ↔ ((book.outcome ≡ None) × (choice_of book ≡ Some (Thread u)) × (u ≢ t) × (at ≡ length book.trace))
     not_yet-turn at u = (
       (λ e.
-        let same : n ≡ at = cc in
-        let why : because ≡ Turn u = cc in
-        let w = other-turn pick u t (is ∙ ap Some why) in
-        (running, chosen ∙ ap Some w.0, w.1, sym same ∙ long)),
+          let same : n ≡ at = cc in
+          let why : because ≡ Turn u = cc in
+          let w = other-turn pick u t (is ∙ ap Some why) in
+          (running, chosen ∙ ap Some w.0, w.1, sym same ∙ long)),
       (λ w.
-        let why : because ≡ Turn u = (let a = sym (other-because u t w.2) ∙ sym (ap (λ p. because_of p t) (same-pick (Thread u) w.1)) ∙ is in cc) in
-        ap (λ k. NotYet k because) (long ∙ sym w.3) ∙ ap (NotYet at) why)
+          let why : because ≡ Turn u = (let a = sym (other-because u t w.2) ∙ sym (ap (λ p. because_of p t) (same-pick (Thread u) w.1)) ∙ is in cc) in
+          ap (λ k. NotYet k because) (long ∙ sym w.3) ∙ ap (NotYet at) why),
     )
 
     pub not_yet-away : (at u : ℕ) → (NotYet n because ≡ NotYet at (Away u)) ↔ ((book.outcome ≡ None) × (choice_of book ≡ Some (Waits u)) × (at ≡ length book.trace))
     not_yet-away at u = (
       (λ e.
-        let same : n ≡ at = cc in
-        let why : because ≡ Away u = cc in
-        (running, chosen ∙ ap Some (waited pick u t (is ∙ ap Some why)), sym same ∙ long)),
+          let same : n ≡ at = cc in
+          let why : because ≡ Away u = cc in
+          (running, chosen ∙ ap Some (waited pick u t (is ∙ ap Some why)), sym same ∙ long)),
       (λ w.
-        let why : because ≡ Away u = (let a = sym (ap (λ p. because_of p t) (same-pick (Waits u) w.1)) ∙ is in cc) in
-        ap (λ k. NotYet k because) (long ∙ sym w.2) ∙ ap (NotYet at) why)
+          let why : because ≡ Away u = (let a = sym (ap (λ p. because_of p t) (same-pick (Waits u) w.1)) ∙ is in cc) in
+          ap (λ k. NotYet k because) (long ∙ sym w.2) ∙ ap (NotYet at) why),
     )
 
     pub not_yet-over : (outcome : Outcome) → (NotYet n because ≡ Over outcome) ↔ (book.outcome ≡ Some outcome)

@@ -1,9 +1,8 @@
 -- How a world grows along a schedule.
-use Rattle.std.proofs.Common.{◌≡◌, ◌≢◌, ℕ, zero, suc, ◌+◌, ◌<◌, ◌≤◌, ℤ, pos, Bool, true, false, cond, Option, Some, None, List, [], ◌∷◌, ◌++◌, length, map, refl, sym, ap, subst, ◌∙◌, arith}
+use Rattle.std.proofs.Common.{◌≡◌, ℕ, true, cond, Option, Some, None, List, [], ◌∷◌, ◌++◌, length, refl, sym, ap, ◌∙◌, arith}
 use Rattle.std.specs.Prelude.{is_none}
 use Rattle.std.specs.Option.{option_and_then, option_map}
-use Rattle.std.proofs.lemmas.Bool.{false≢true}
-use Rattle.std.proofs.lemmas.List.{append-nil, append_assoc, map-append, length-append, length-map}
+use Rattle.std.proofs.lemmas.List.{append-nil, append_assoc, map-append, length-map}
 use Rattle.std.proofs.lemmas.Option.{option_and_then_some, cond_some}
 use Rattle.pct_ask.specs.declared.ask.Ask.{Ask}
 use Rattle.pct_ask.specs.declared.ask.Post.{Post}
@@ -149,9 +148,9 @@ passes store source before after last made =
 pub made-push : (store : StoreState) (source : Source) (events : List Event) (world next : World) (e : Event) → IsMade store source events world → Steps source world e.thread next → next.events ≡ events ++ e ∷ [] → IsMade store source (events ++ e ∷ []) next
 made-push store source events world next e made steps is = record {
   at = ap (world_after store source) (map-append (λ (e : Event). e.thread) events (e ∷ []))
-  ∙ world_from-append source (schedule_of events) (e.thread ∷ []) (start store)
-  ∙ ap (option_and_then (λ w. world_from source w (e.thread ∷ []))) made.at
-  ∙ ap (option_and_then (λ w. world_from source w [])) (step-is source world e.thread next steps);
+      ∙ world_from-append source (schedule_of events) (e.thread ∷ []) (start store)
+      ∙ ap (option_and_then (λ w. world_from source w (e.thread ∷ []))) made.at
+      ∙ ap (option_and_then (λ w. world_from source w [])) (step-is source world e.thread next steps);
   trace = is;
 }
 

@@ -1,5 +1,5 @@
 -- The board of a book: the store, and each thread's next post. Nothing here is needed to read a public contract.
-use Rattle.std.specs.Prelude.{◌≡◌, ◌<◌, ◌≤◌, ℕ, ℤ, pos, Bool, false, ◌==◌, ◌||◌, List, length, map, Option, Some, None, slice_index_or, slice_set}
+use Rattle.std.specs.Prelude.{◌≡◌, ◌≤◌, ℕ, ℤ, pos, Bool, false, ◌==◌, ◌||◌, List, length, map, Option, Some, None, slice_index_or, slice_set}
 use Rattle.pct_ask.specs.declared.ask.Ask.{Ask}
 use Rattle.pct_ask.specs.declared.ask.Ask.TheVariants.{Join}
 use Rattle.pct_ask.specs.declared.ask.Post.{Post}

@@ -1,5 +1,5 @@
 -- A book of turns as plain data, and what its calls make of it (this project).
-use Rattle.std.specs.Prelude.{◌≡◌, ◌<◌, ◌≤◌, ℕ, ℤ, List, [], ◌∷◌, ◌++◌, length, map, replicate, Option, Some, None, option_to_list, slice_set}
+use Rattle.std.specs.Prelude.{◌≡◌, ◌≤◌, ℕ, ℤ, List, [], ◌∷◌, ◌++◌, length, map, replicate, Option, Some, None, option_to_list, slice_set}
 use Rattle.pct_ask.specs.declared.ask.Ask.{Ask}
 use Rattle.pct_ask.specs.declared.ask.Post.{Post}
 use Rattle.pct_ask.specs.declared.Deal.{Deal}
@@ -7,7 +7,7 @@ use Rattle.pct_ask.specs.declared.event.Event.{Event}
 use Rattle.pct_ask.specs.declared.event.Standing.{Standing}
 use Rattle.pct_ask.specs.declared.event.Standing.TheVariants.{Away, Asks, Ended}
 use Rattle.pct_ask.specs.declared.verdict.Outcome.{Outcome}
-use Rattle.sync_store.specs.Store.{Sizes, sizes_of_deal}
+use Rattle.sync_store.specs.Store.{Sizes}
 use Rattle.sync_store.specs.Enabled.{IsInRange}
 use Rattle.policy_pick.specs.declared.chance.Pick.{Pick}
 use Rattle.policy_pick.specs.Plan.{Plan, SpeaksOf}

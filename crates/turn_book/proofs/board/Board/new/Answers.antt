@@ -1,6 +1,3 @@
-use Rattle.std.proofs.Common.{◌≡◌, ◌≤◌, ℕ, List, Option, None, length, replicate, ap, sym, subst, ◌∙◌, arith}
-use Rattle.std.proofs.lemmas.List.{length-replicate}
-use Rattle.turn_book.specs.Chances.{chances}
 use Rattle.turn_book.proofs.Boards.{new-board}
 use Rattle.turn_book.proofs.board.Board.new.Goals as goal
 

@@ -1,5 +1,4 @@
-use Rattle.std.proofs.Common.{◌≡◌, ◌<◌, ℕ, List, Option, Some, false, length, set, sym, ap, subst, refl, ◌∙◌, arith, map}
-use Rattle.std.proofs.lemmas.List.{length-set}
+use Rattle.std.proofs.Common.{◌≡◌, List, Option, Some, false, length, set, sym, ap, subst, refl, ◌∙◌, map}
 use Rattle.pct_ask.specs.declared.ask.Post.{Post}
 use Rattle.sync_store.specs.declared.touched.Touched.TheVariants.{Nothing}
 use Rattle.sync_store.specs.Store.{sizes_of}

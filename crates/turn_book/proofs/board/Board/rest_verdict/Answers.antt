@@ -1,7 +1,7 @@
-use Rattle.std.proofs.Common.{◌≡◌, ℕ, ◌+◌, Bool, List, Option, Some, None, ap, sym, subst, ◌∙◌}
+use Rattle.std.proofs.Common.{ℕ, ◌+◌, ap, ◌∙◌}
 use Rattle.std.specs.Option.{option_map}
 use Rattle.turn_book.specs.Board.{listed}
-use Rattle.turn_book.proofs.Boards.{IsBlockedBelow, none-blocked, blocked-more, blocked-same, same-blocked}
+use Rattle.turn_book.proofs.Boards.{none-blocked, blocked-more, blocked-same, same-blocked}
 use Rattle.turn_book.proofs.board.Board.rest_verdict.Goals as goal
 use Rattle.turn_book.proofs.board.Board.rest_verdict.Goals.{in-Some, in_default}
 

@@ -1,4 +1,4 @@
-use Rattle.std.proofs.Common.{◌≡◌, ◌<◌, ℕ, List, Option, Some, None, false, length, set, sym, ap, subst, refl, ◌∙◌, arith, map}
+use Rattle.std.proofs.Common.{◌≡◌, List, Option, None, false, length, set, sym, ap, subst, refl, ◌∙◌, map}
 use Rattle.pct_ask.specs.declared.ask.Post.{Post}
 use Rattle.pct_ask.specs.declared.event.Standing.TheVariants.{Away}
 use Rattle.sync_store.specs.declared.touched.Touched.{Touched}

@@ -1,11 +1,6 @@
-use Rattle.std.proofs.Common.{◌≡◌, ◌≢◌, ◌<◌, ◌+◌, ℕ, ℤ, Bool, eqb, Option, Some, None, List, [], ◌∷◌, ◌++◌, length, set, refl, sym, ap, subst, ◌∙◌, arith, rules}
+use Rattle.std.proofs.Common.{◌≡◌, Some, None, sym, ap, ◌∙◌}
 use Rattle.std.proofs.Common.{vec_capacity}
-use Rattle.std.specs.Prelude.{IsSome, ◌↔◌}
-use Rattle.pct_ask.specs.declared.ask.Post.{Post}
-use Rattle.pct_ask.specs.declared.event.Event.{Event}
-use Rattle.turn_book.specs.Told.{Told, IsLawful, choice_of}
-use Rattle.turn_book.proofs.Books.{lawful-told}
-use Rattle.policy_pick.specs.declared.chance.Pick.{Pick}
+use Rattle.turn_book.specs.Told.{Told, choice_of}
 use Rattle.policy_pick.specs.declared.chance.Pick.TheVariants.{Thread}
 use Rattle.turn_book.proofs.Books.{choice-next}
 use Rattle.turn_book.proofs.book.TurnBook.granted.Goals as goal

@@ -1,8 +1,5 @@
-use Rattle.std.proofs.Common.{◌≡◌, ◌≢◌, ◌<◌, ◌+◌, ℕ, ℤ, Bool, eqb, Option, Some, None, List, [], ◌∷◌, ◌++◌, length, set, refl, sym, ap, subst, ◌∙◌, arith, rules}
+use Rattle.std.proofs.Common.{subst}
 use Rattle.std.proofs.Common.{vec_capacity}
-use Rattle.std.specs.Prelude.{IsSome, ◌↔◌}
-use Rattle.pct_ask.specs.declared.ask.Post.{Post}
-use Rattle.pct_ask.specs.declared.event.Event.{Event}
 use Rattle.turn_book.specs.Told.{Told, IsLawful}
 use Rattle.turn_book.proofs.Books.{lawful-told}
 use Rattle.turn_book.proofs.book.TurnBook.into_parts.Goals as goal

@@ -1,9 +1,7 @@
-use Rattle.std.proofs.Common.{◌≡◌, ◌≢◌, ◌<◌, ◌+◌, ℕ, ℤ, Bool, eqb, Option, Some, None, List, [], ◌∷◌, ◌++◌, length, set, refl, sym, ap, subst, ◌∙◌, arith, rules}
+use Rattle.std.proofs.Common.{◌≡◌, ℕ, eqb, Some, None, List, [], ◌∷◌, ◌++◌, length, refl, sym, ap, subst, ◌∙◌, arith, rules}
 use Rattle.std.proofs.Common.{vec_capacity}
-use Rattle.std.specs.Prelude.{IsSome, ◌↔◌}
-use Rattle.pct_ask.specs.declared.ask.Post.{Post}
 use Rattle.pct_ask.specs.declared.event.Event.{Event}
-use Rattle.turn_book.specs.Told.{Told, IsLawful, choice_of, IsAnswered}
+use Rattle.turn_book.specs.Told.{Told, choice_of, IsAnswered}
 use Rattle.turn_book.proofs.Books.{lawful-told}
 use Rattle.std.proofs.Common.{w64, to_z, of_z}
 use Rattle.std.proofs.lemmas.Int.{to_z-of_z}
@@ -12,7 +10,7 @@ use Rattle.policy_pick.specs.Plan.{Plan}
 use Rattle.policy_pick.specs.declared.chance.Pick.TheVariants.{Thread}
 use Rattle.turn_book.specs.Posts.{schedule_of}
 use Rattle.turn_book.specs.Kept.{posts_by, told, IsKept}
-use Rattle.turn_book.proofs.Books.{choice-told, next-told, pick_now, turn-ready, turn-room, kept-step, posts-same}
+use Rattle.turn_book.proofs.Books.{choice-told, next-told, pick_now, turn-ready, kept-step, posts-same}
 use Rattle.turn_book.proofs.book.TurnBook.step.Goals as goal
 
 pub step-verdict-requires-clause-thread : goal.step-verdict-requires-clause-thread
@@ -53,7 +51,8 @@ invariant_of-self g c =
     (ap (λ n. eqb n f.limit) (c.len.ensures ∙ trace.ok.0 ∙ ap length items)) (c.settle-next.ensures.pick (schedule_of (f.trace.items ++ event ∷ [])) stands) c.settle-next.ensures.outcome in
     let Q : List Event → Type 0 = λ es. IsKept f.deal f.limit plan after es c.settle-next.result.0 c.settle-next.result.1 (vec_capacity f.trace) in
     let R : ℕ → Type 0 = λ n. IsKept f.deal f.limit plan after trace.items c.settle-next.result.0 c.settle-next.result.1 n in
-    (subst R (sym c.push_reserved.ensures.capacity) (subst Q (sym items) goes_on), subst Stands (sym (ap schedule_of items)) stands)
+    let room : vec_capacity trace ≡ vec_capacity f.trace = c.push_reserved.ensures.capacity in
+    (subst R (sym room) (subst Q (sym items) goes_on), subst Stands (sym (ap schedule_of items)) stands)
 
 pub returns-clause-answered : goal.returns-clause-answered
 returns-clause-answered g c =

@@ -1,11 +1,7 @@
-use Rattle.std.proofs.Common.{◌≡◌, ◌≢◌, ◌<◌, ◌+◌, ℕ, ℤ, Bool, eqb, Option, Some, None, List, [], ◌∷◌, ◌++◌, length, set, refl, sym, ap, subst, ◌∙◌, arith, rules}
+use Rattle.std.proofs.Common.{◌≡◌, Some, None, length, sym, ap, subst, ◌∙◌}
 use Rattle.std.proofs.Common.{vec_capacity}
-use Rattle.std.specs.Prelude.{IsSome, ◌↔◌}
-use Rattle.pct_ask.specs.declared.ask.Post.{Post}
-use Rattle.pct_ask.specs.declared.event.Event.{Event}
-use Rattle.turn_book.specs.Told.{Told, IsLawful, choice_of, IsAnswered}
+use Rattle.turn_book.specs.Told.{Told, IsLawful, choice_of}
 use Rattle.turn_book.proofs.Books.{lawful-told}
-use Rattle.policy_pick.specs.declared.chance.Pick.TheVariants.{Thread}
 use Rattle.turn_book.proofs.Books.{choice-next, goes-on-book}
 use Rattle.turn_book.proofs.Takes.{own-turn, answer-answer, answer-turn, answer-away, not_yet-answer, not_yet-turn, not_yet-away}
 use Rattle.turn_book.proofs.book.TurnBook.take.Goals as goal
