@@ -1,13 +1,16 @@
 -- Who owes a post, by what a lawful book knows.
-use Rattle.std.proofs.Common.{◌≡◌, ◌≢◌, ℕ, suc, ◌+◌, ◌≤◌, eqb, Bool, true, false, Option, None, Some, option_to_list, List, [], ◌∷◌, ◌++◌, length, map, refl, sym, ap, ◌∙◌, subst, arith, eq-eqb, eqb-true}
+use Rattle.std.proofs.Common.{◌≡◌, ◌≢◌, ℕ, zero, suc, ◌+◌, ◌≤◌, eqb, Bool, true, false, Option, None, Some, option_to_list, List, [], ◌∷◌, ◌++◌, length, get_or, map, replicate, refl, sym, ap, ◌∙◌, subst, arith, eq-eqb, eqb-true}
 use Rattle.std.proofs.lemmas.List.{append-nil, length-map}
 use Rattle.std.proofs.lemmas.Option.{slice_get_past}
 use Rattle.std.proofs.lemmas.Bool.{false≢true}
+use Rattle.std.specs.Prelude.{slice_get}
+use Rattle.pct_ask.specs.declared.Deal.{Deal}
+use Rattle.policy_pick.specs.Plan.{Plan}
 use Rattle.pct_ask.specs.declared.ask.Ask.{Ask}
 use Rattle.pct_ask.specs.declared.ask.Post.{Post}
 use Rattle.pct_ask.specs.declared.event.Standing.{Standing}
 use Rattle.pct_ask.specs.declared.event.Standing.TheVariants.{Away, Asks, Ended}
-use Rattle.turn_book.specs.Told.{Told, IsLawful, next_post, standing_by, standing_by_ask, standing_of, post_of_event}
+use Rattle.turn_book.specs.Told.{Told, IsLawful, new_book, next_post, standing_by, standing_by_ask, standing_of, post_of_event}
 use Rattle.turn_lock.specs.Seen.{SameOf, pairs_of, posted_by, owes_of}
 
 pub owes-length : (book : Told) (t : ℕ) → owes_of book t ≡ true → length (posted_by book t) ≡ length (pairs_of book t)
@@ -50,3 +53,15 @@ pub asks-or-ended : (s : Standing) → s ≢ Away → s ≢ Ended → s ≡ Asks
 asks-or-ended Away a e = absurd (a refl)
 asks-or-ended Asks a e = refl
 asks-or-ended Ended a e = absurd (e refl)
+
+abbrev nothing : List Post
+nothing = []
+
+no-posts : (n t : ℕ) → get_or (replicate n nothing) t nothing ≡ nothing
+no-posts zero t = refl
+no-posts (suc n) zero = refl
+no-posts (suc n) (suc t) = no-posts n t
+
+-- in a new book every thread is away
+pub new-away : (deal : Deal) (limit : ℕ) (plan : Plan) (t : ℕ) → standing_of (new_book deal limit plan) t ≡ Away
+new-away deal limit plan t = ap (λ (l : List Post). standing_by (slice_get l 0)) (no-posts deal.threads t)

@@ -11,6 +11,8 @@ mod seat;
 mod seats;
 mod slot;
 mod steps;
+#[cfg(test)]
+mod tests;
 mod turn;
 mod turning;
 mod view;
