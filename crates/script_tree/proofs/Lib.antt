@@ -1,5 +1,5 @@
 pub mod SeenLemmas
-pub mod Tests
+pub mod Conjunctions
 pub mod NamingLemmas
 pub mod PrintLemmas
 pub mod DeclarationLemmas
