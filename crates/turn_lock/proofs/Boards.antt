@@ -1,9 +1,6 @@
 -- What is noted on a wait board.
-use Rattle.std.proofs.Common.{◌≡◌, ◌≢◌, ℕ, zero, suc, ◌<◌, List, [], ◌∷◌, Option, None, Some, get_or, set, replicate, sym, refl, ap, ◌∙◌, arith, get_or-set_same, get_or-set_other}
-use Rattle.std.proofs.lemmas.Bool.{cases_lt, cases_eq}
-use mathlib.Core.Logic.{dite}
-use native.Mathlib.Decide.{ℕ_discrete}
-use Rattle.turn_lock.specs.Slots.{NotesBelow, word_noted}
+use Rattle.std.proofs.Common.{◌≡◌, ℕ, zero, suc, ◌<◌, List, [], ◌∷◌, Option, None, Some, set, replicate, arith}
+use Rattle.turn_lock.specs.Slots.{NotesBelow}
 
 -- nothing is noted on a new board
 pub no-notes : (threads n : ℕ) → NotesBelow threads (replicate n None)

@@ -1,15 +1,14 @@
 -- A seat is cut in two, two seats are made one, and a load tells what the rule says of the last join.
-use Rattle.std.proofs.Common.{◌≡◌, ◌≢◌, ℕ, zero, suc, ◌+◌, ◌<◌, ◌≤◌, eqb, cond, Bool, true, false, ◌||◌, ◌⊎◌, List, [], ◌∷◌, ◌++◌, length, get_or, set, replicate, sym, refl, ap, ◌∙◌, subst, inl, inr, ⊎_elim, arith, length-set, get_or-set_same, get_or-set_other}
-use mathlib.Core.Option.{Option, none, some, some-injective, some-ne-none}
+use Rattle.std.proofs.Common.{◌≡◌, ◌≢◌, ℕ, zero, suc, Bool, true, false, ◌⊎◌, List, [], ◌∷◌, ◌++◌, length, get_or, set, replicate, sym, refl, ap, ◌∙◌, subst, inl, inr, ⊎_elim, length-set, get_or-set_other}
+use mathlib.Core.Option.{none, some, some-injective, some-ne-none}
 use mathlib.Core.Logic.{dite}
 use native.Mathlib.Decide.{ℕ_discrete}
 use lib.ListN.{get_elem?}
-use Rattle.atomic_table.specs.Table.{State, step, keeps, Allows, Splits, Joins}
-use Rattle.atomic_table.proofs.Lists.{at_set, set_here, set_else, at_longer, at_snoc, set_again}
-use Rattle.turn_book.specs.Told.{Told, Within}
+use Rattle.atomic_table.specs.Table.{step, keeps, Allows, Splits, Joins}
+use Rattle.atomic_table.proofs.Lists.{at_set, set_else, at_longer, at_snoc}
+use Rattle.turn_book.specs.Told.{Told}
 use Rattle.turn_lock.specs.Seen.{SameOf}
-use Rattle.turn_lock.specs.Slots.{Slot}
-use Rattle.turn_lock.specs.Rule.{LockState, Has, Serves, Ties, HoldsGate, Holder, Kept, spent_view}
+use Rattle.turn_lock.specs.Rule.{Has, Serves, Ties, HoldsGate, Kept, spent_view}
 use Rattle.turn_lock.specs.Plays.{Seated, Looks}
 use Rattle.turn_lock.specs.Seats.{without, alone, either_of, seen_together, joined}
 use Rattle.turn_lock.specs.declared.view.View.{View}

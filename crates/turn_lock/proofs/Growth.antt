@@ -1,27 +1,25 @@
 -- What a post and a turn do to the book, and so to the seat that made them.
-use Rattle.std.proofs.Common.{◌≡◌, ◌≢◌, ℕ, ℤ, zero, suc, ◌+◌, ◌<◌, true, false, ◌⊎◌, List, [], ◌∷◌, ◌++◌, length, get_or, set, refl, sym, ap, ◌∙◌, subst, inl, inr, ⊎_elim, Option, None, Some, option_to_list, length-set, length-append, get_or-set_same, get_or-set_other}
+use Rattle.std.proofs.Common.{◌≡◌, ◌≢◌, ℕ, ℤ, ◌<◌, ◌⊎◌, List, [], ◌∷◌, ◌++◌, length, get_or, refl, sym, ap, ◌∙◌, subst, inl, inr, ⊎_elim, Option, None, Some, option_to_list, get_or-set_same, get_or-set_other}
 use Rattle.std.proofs.lemmas.List.{append-nil}
 use Rattle.std.specs.Prelude.{IsSome}
 use mathlib.Core.Logic.{dite}
 use native.Mathlib.Decide.{ℕ_discrete}
-use Rattle.pct_ask.specs.declared.Deal.{Deal}
 use Rattle.pct_ask.specs.declared.ask.Post.{Post}
 use Rattle.pct_ask.specs.declared.event.Event.{Event}
-use Rattle.pct_ask.specs.declared.event.Standing.TheVariants as standings
 use Rattle.pct_ask.specs.declared.verdict.Outcome.{Outcome}
-use Rattle.turn_book.specs.Posts.{events_of, posts_of}
-use Rattle.turn_book.specs.Told.{Told, SameMaking, IsPosted, IsAnswered, IsLawful, Within, standing_of}
+use Rattle.turn_book.specs.Posts.{events_of}
+use Rattle.turn_book.specs.Told.{Told, IsPosted, IsAnswered, IsLawful, Within}
 use Rattle.turn_book.proofs.PostLists.{events-own, events-other}
-use Rattle.turn_lock.specs.Seen.{Begins, SameOf, pairs_of, posted_by, owes_of}
+use Rattle.turn_lock.specs.Seen.{Begins, SameOf, pairs_of, posted_by}
 use Rattle.turn_lock.specs.Slots.{Slot, NotesBelow}
 use Rattle.turn_lock.specs.Rule.{Serves, Ties}
-use Rattle.turn_lock.specs.Plays.{Seated, with_gate, with_book, IsTaken}
+use Rattle.turn_lock.specs.Plays.{with_gate, with_book, IsTaken}
 use Rattle.turn_lock.specs.Turns.{IsAsked, Row, TurnsTo, GainsPair, TookTurn}
-use Rattle.turn_lock.specs.Hands.{GoesOn, HasInHand, Stays}
+use Rattle.turn_lock.specs.Hands.{GoesOn}
 use Rattle.turn_lock.specs.declared.turn.Turn.{Turn}
 use Rattle.turn_lock.specs.declared.turn.Turn.TheVariants.{Answer, Ended, NotYet, Busy, Over}
 use Rattle.turn_lock.specs.declared.view.View.{View}
-use Rattle.turn_lock.proofs.Orders.{begins-self, making-self, within-self, within-along, same-self, same-along, making-along}
+use Rattle.turn_lock.proofs.Orders.{within-self, within-along, same-self, same-along}
 
 -- the book grew, by the thread t alone
 pub record Grew (t : ℕ) (old new : Told) : Type 0 where

@@ -1,22 +1,22 @@
 -- A call that took the slot: what it may do with it, and what it leaves with its seat.
-use Rattle.std.proofs.Common.{◌≡◌, ◌≢◌, ℕ, suc, ◌+◌, ◌<◌, ◌≤◌, Bool, true, false, List, [], ◌∷◌, ◌++◌, length, Option, Some, None, get_or, set, sym, refl, ap, ◌∙◌, subst, arith, get_or-set_same, get_or-set_other}
+use Rattle.std.proofs.Common.{◌≡◌, ◌≢◌, ℕ, ◌<◌, ◌≤◌, Bool, true, false, List, [], ◌∷◌, length, Option, Some, None, get_or, set, sym, refl, ap, ◌∙◌, subst, arith, get_or-set_same, get_or-set_other}
 use mathlib.Core.Logic.{dite}
 use native.Mathlib.Decide.{ℕ_discrete}
 use Rattle.pct_ask.specs.declared.Deal.{Deal}
 use Rattle.pct_ask.specs.declared.ask.Post.{Post}
 use Rattle.sync_store.specs.Store.{sizes_of_deal}
-use Rattle.turn_book.specs.Told.{Told, SameMaking, IsLawful, Within, PostIsInRange}
-use Rattle.turn_lock.specs.Seen.{Begins, SameOf, owes_of, ObeysPlan}
+use Rattle.turn_book.specs.Told.{Told, SameMaking, Within, PostIsInRange}
+use Rattle.turn_lock.specs.Seen.{SameOf, owes_of}
 use Rattle.turn_lock.specs.Slots.{Slot, NotesBelow}
-use Rattle.turn_lock.specs.Rule.{Has, Serves, Ties}
-use Rattle.turn_lock.specs.Plays.{Seated, with_gate, turned_away, with_book, IsTaken}
-use Rattle.turn_lock.specs.Turns.{GivenInRange, IsOwed, TurnsTo, TookTurn, TookOnce, IsBusy, Gives}
-use Rattle.turn_lock.specs.Hands.{HasInHand, IsReady, IsReadyForAny, GoesOn, AreBelow, Stays, IsWork, IsPassed, IsFound, IsSwept}
+use Rattle.turn_lock.specs.Rule.{Has, Serves}
+use Rattle.turn_lock.specs.Plays.{Seated, with_gate, with_book, IsTaken}
+use Rattle.turn_lock.specs.Turns.{GivenInRange, IsOwed, TookOnce, Gives}
+use Rattle.turn_lock.specs.Hands.{HasInHand, IsReady, IsReadyForAny, GoesOn, AreBelow, Stays, IsWork, IsPassed, IsSwept}
 use Rattle.turn_lock.specs.declared.turn.Turn.{Turn}
 use Rattle.turn_lock.specs.declared.turn.Turn.TheVariants.{Answer, Ended, NotYet, Busy, Over}
 use Rattle.turn_lock.specs.declared.view.View.{View}
 use Rattle.turn_lock.specs.declared.work.Work.{Work}
-use Rattle.turn_lock.proofs.Orders.{begins-self, begins-along, making-along, within-self, within-along, same-self, same-along}
+use Rattle.turn_lock.proofs.Orders.{begins-self}
 use Rattle.turn_lock.proofs.Growth.{took, goes, goes-back}
 use Rattle.turn_lock.proofs.Standings.{same-owes}
 

@@ -1,20 +1,20 @@
 -- The steps that keep the rule: the exchange on the gate word, the store that opens the gate, a load, a step on a turn
 -- word. How the table begins, and how it ends.
-use Rattle.std.proofs.Common.{◌≡◌, ◌≢◌, ℕ, zero, suc, ◌+◌, ◌-◌, ◌<◌, ◌≤◌, eqb, Bool, true, false, ◌⊎◌, List, [], ◌∷◌, ◌++◌, length, get_or, set, replicate, sym, refl, ap, ◌∙◌, subst, inl, inr, ⊎_elim, arith, length-set, get_or-set_same, get_or-set_other}
+use Rattle.std.proofs.Common.{◌≡◌, ◌≢◌, ℕ, zero, suc, ◌+◌, ◌-◌, ◌<◌, eqb, Bool, true, false, List, [], ◌∷◌, length, get_or, set, replicate, sym, refl, ap, ◌∙◌, subst, ⊎_elim, arith, length-set, get_or-set_same, get_or-set_other}
 use Rattle.std.proofs.lemmas.List.{get_or-replicate, length-replicate}
 use mathlib.Core.Option.{Option, none, some, some-injective, some-ne-none}
 use mathlib.Core.Logic.{dite}
 use native.Mathlib.Decide.{ℕ_discrete}
 use lib.ListN.{get_elem?}
 use prog.Atomic.{either}
-use Rattle.atomic_table.specs.Table.{State, step, Act, keeps, takes, gives, Valid, carried_after, stepped, Allows, opening, rest, Final, Seen}
+use Rattle.atomic_table.specs.Table.{step, Act, keeps, takes, gives, Valid, carried_after, stepped, Allows, opening, Final, Seen}
 use Rattle.atomic_table.proofs.Lists.{at_set, set_here, set_else, set_again, exchanged}
 use Rattle.pct_ask.specs.declared.Deal.{Deal}
 use Rattle.turn_book.specs.Told.{Told, SameMaking, IsLawful, Within}
 use Rattle.turn_lock.specs.Seen.{SameOf, ObeysPlan}
 use Rattle.turn_lock.specs.Slots.{Slot, Board, NotesBelow}
 use Rattle.turn_lock.specs.Rule.{LockState, Has, Serves, Ties, HoldsGate, Holder, Kept, first_view}
-use Rattle.turn_lock.specs.Plays.{Seated, with_gate, turned_away, with_book, IsTaken, IsTurnedAway, Grabs, Opens}
+use Rattle.turn_lock.specs.Plays.{Seated, with_gate, turned_away, with_book, Grabs, Opens}
 use Rattle.turn_lock.specs.Hands.{GoesOn}
 use Rattle.turn_lock.specs.declared.view.View.{View}
 use Rattle.turn_lock.proofs.Orders.{within-self, within-along, same-self, same-along, making-self, making-along}

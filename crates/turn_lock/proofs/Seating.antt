@@ -1,5 +1,5 @@
 -- What the flags of a seat tell.
-use Rattle.std.proofs.Common.{◌≡◌, ℕ, ◌<◌, true, List, Bool, sym, subst}
+use Rattle.std.proofs.Common.{ℕ, ◌<◌, List, Bool, sym, subst}
 use Rattle.policy_pick.specs.declared.policy.Policy.{Ghosts}
 use Rattle.turn_lock.specs.Rule.{Has, Serves}
 use Rattle.turn_lock.specs.Views.{view}

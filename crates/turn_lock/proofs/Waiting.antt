@@ -1,15 +1,13 @@
 -- The rounds of a call that waits.
-use Rattle.std.proofs.Common.{◌≡◌, ◌≢◌, ℕ, ◌+◌, ◌<◌, ◌≤◌, List, [], ◌∷◌, ◌++◌, Bool, true, false, length, Option, None, Some, option_to_list, refl, sym, ap, ◌∙◌, subst, arith, le_refl}
+use Rattle.std.proofs.Common.{◌≡◌, ℕ, List, [], ◌∷◌, ◌++◌, Bool, Option, option_to_list, refl, sym, ap, ◌∙◌, subst, arith, le_refl}
 use Rattle.pct_ask.specs.declared.ask.Post.{Post}
 use Rattle.pct_ask.specs.declared.event.Event.{Event}
-use Rattle.turn_book.specs.Told.{Told, Within}
-use Rattle.turn_lock.specs.Seen.{Begins, SameOf, pairs_of, posted_by, owes_of, ObeysPlan}
+use Rattle.turn_book.specs.Told.{Told}
+use Rattle.turn_lock.specs.Seen.{Begins, SameOf, owes_of}
 use Rattle.turn_lock.specs.Rule.{Has, Serves}
 use Rattle.turn_lock.specs.Plays.{turned_away}
-use Rattle.turn_lock.specs.Turns.{GainsPair, TookTurn, TookOnce, TookAtLast, IsBusy, Gives, TellsEnd}
+use Rattle.turn_lock.specs.Turns.{GainsPair, TookTurn, TookOnce, TookAtLast, IsBusy, Gives}
 use Rattle.turn_lock.specs.Hands.{Stays}
-use Rattle.turn_lock.specs.Rounds.{IsAnsweredRound, RoundTells}
-use Rattle.turn_lock.specs.declared.round.Round.{Round}
 use Rattle.turn_lock.specs.declared.turn.Turn.{Turn}
 use Rattle.turn_lock.specs.declared.turn.Turn.TheVariants.{Answer, Ended, NotYet, Busy, Over}
 use Rattle.turn_lock.specs.declared.view.View.{View}

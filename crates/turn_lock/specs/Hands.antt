@@ -1,7 +1,7 @@
 -- What stands between the steps of one call (this project).
-use Rattle.std.specs.Prelude.{◌≡◌, ◌<◌, ◌≤◌, ◌+◌, ℕ, Bool, true, false, List, [], ◌∷◌, Option, None, MatchOption}
+use Rattle.std.specs.Prelude.{◌≡◌, ◌<◌, ◌≤◌, ℕ, Bool, true, false, List, [], ◌∷◌, Option, None, MatchOption}
 use Rattle.pct_ask.specs.declared.ask.Post.{Post}
-use Rattle.turn_book.specs.Told.{Told, IsLawful, Within}
+use Rattle.turn_book.specs.Told.{IsLawful, Within}
 use Rattle.turn_lock.specs.Seen.{Begins, SameOf, owes_of}
 use Rattle.turn_lock.specs.Slots.{Slot, NotesBelow}
 use Rattle.turn_lock.specs.Rule.{Has, Serves}

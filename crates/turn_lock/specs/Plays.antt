@@ -1,5 +1,5 @@
 -- What each step tells: of the step, the seat before, the number found and the seat after (this project).
-use Rattle.std.specs.Prelude.{◌≡◌, ◌≢◌, ◌<◌, ◌+◌, ℕ, true, false, List, [], ◌∷◌, ◌++◌}
+use Rattle.std.specs.Prelude.{◌≡◌, ◌≢◌, ◌<◌, ◌+◌, ℕ, true, false, [], ◌∷◌, ◌++◌}
 use Rattle.atomic_table.specs.Table.{Me, Step, rest}
 use Rattle.turn_book.specs.Told.{Told, IsLawful, Within}
 use Rattle.turn_lock.specs.Slots.{Slot, NotesBelow}

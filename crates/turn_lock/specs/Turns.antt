@@ -1,5 +1,5 @@
 -- What a call makes of the book that it took, and what it leaves with its seat (this project).
-use Rattle.std.specs.Prelude.{◌≡◌, ◌≢◌, ◌<◌, ◌≤◌, ◌+◌, ℕ, ℤ, Bool, true, false, List, [], ◌∷◌, ◌++◌, length, Option, Some, None, option_to_list, IsSome}
+use Rattle.std.specs.Prelude.{◌≡◌, ◌≢◌, ◌<◌, ◌≤◌, ◌+◌, ℕ, Bool, true, false, List, [], ◌∷◌, ◌++◌, length, Option, Some, None, option_to_list, IsSome}
 use Rattle.pct_ask.specs.declared.ask.Post.{Post}
 use Rattle.pct_ask.specs.declared.event.Event.{Event}
 use Rattle.pct_ask.specs.declared.event.Standing.TheVariants as standings
@@ -11,9 +11,8 @@ use Rattle.turn_book.specs.declared.taken.Because.TheVariants as becauses
 use Rattle.turn_book.specs.declared.taken.Taken.{Taken}
 use Rattle.turn_book.specs.declared.taken.Taken.TheVariants as takens
 use Rattle.turn_lock.specs.Seen.{Begins, SameOf, pairs_of, posted_by, owes_of}
-use Rattle.turn_lock.specs.Slots.{Slot}
 use Rattle.turn_lock.specs.Rule.{Has, Serves}
-use Rattle.turn_lock.specs.Plays.{Seated, turned_away}
+use Rattle.turn_lock.specs.Plays.{turned_away}
 use Rattle.turn_lock.specs.declared.view.View.{View}
 use Rattle.turn_lock.specs.declared.turn.Turn.{Turn}
 use Rattle.turn_lock.specs.declared.turn.Turn.TheVariants.{Answer, Ended, NotYet, Busy, Over}

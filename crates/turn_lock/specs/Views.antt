@@ -1,5 +1,4 @@
 -- How contracts see a seat (this project).
-use Rattle.std.specs.Prelude.{◌≡◌, ℕ}
 use Rattle.policy_pick.specs.declared.policy.Policy.{Ghosts}
 use Rattle.turn_lock.specs.declared.view.View.{View}
 use Rattle.turn_lock.specs.declared.held.TurnLock.{TurnLock}

@@ -47,7 +47,8 @@ impl<P: Policy> Slot<P> {
     pub fn into_book(self) -> TurnBook<P>
         ensures { result ≡ self.book }
     {
-        self.book
+        let Slot { book, board: _ } = self;
+        book
     }
 
     /// The post, where one is given, and the thread's turn.

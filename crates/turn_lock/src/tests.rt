@@ -293,11 +293,17 @@ fn expect_apart<R: Threads + Wait + Sync + Abort>(
 }
 
 const READ: Ask = Ask::Read { var: 0 };
+
 const WRITE_1: Ask = Ask::Write { var: 0, value: 1 };
+
 const WRITE_2: Ask = Ask::Write { var: 0, value: 2 };
+
 const LOCK: Ask = Ask::Lock { mutex: 0 };
+
 const UNLOCK: Ask = Ask::Unlock { mutex: 0 };
+
 const JOIN_A: Ask = Ask::Join { thread: 0 };
+
 const JOIN_B: Ask = Ask::Join { thread: 1 };
 
 const SUMS: [Row; 8] = [
@@ -380,13 +386,28 @@ fn turns_of_one_seat(rt: HostRuntime) -> Result<(), Fail> {
     } = make_bench(rt.alloc(), &[0, 1, 2])?;
     let away = Because::Away(0);
     let joins = post_of(Script::Sums, 2, 0, 0);
-    assert_eq!(rt; turn(&rt, &lock, &deal, &mut seat, 2, joins), Turn::NotYet { at: 0, because: away });
+    assert_eq!(rt;
+        turn(&rt, &lock, &deal, &mut seat, 2, joins),
+        Turn::NotYet {
+            at: 0,
+            because: away
+        }
+    );
     let reads = post_of(Script::Sums, 0, 0, 0);
-    assert_eq!(rt; turn(&rt, &lock, &deal, &mut seat, 0, reads), Turn::Answer(0));
+    assert_eq!(rt;
+        turn(&rt, &lock, &deal, &mut seat, 0, reads),
+        Turn::Answer(0)
+    );
     assert!(rt; seat.serves(0));
     assert!(rt; seat.owes(0));
     let reads = post_of(Script::Sums, 1, 0, 0);
-    assert_eq!(rt; turn(&rt, &lock, &deal, &mut seat, 1, reads), Turn::NotYet { at: 1, because: away });
+    assert_eq!(rt;
+        turn(&rt, &lock, &deal, &mut seat, 1, reads),
+        Turn::NotYet {
+            at: 1,
+            because: away
+        }
+    );
     Ok(())
 }
 
@@ -414,7 +435,14 @@ fn board(rt: HostRuntime) -> Result<(), Fail> {
 #[test]
 fn three_threads(rt: HostRuntime) -> Result<(), Fail> {
     for _ in 0..200 {
-        expect_apart(&rt, rt.alloc(), &[0, 1, 2], Script::Sums, &SUMS, Verdict::Passed)?;
+        expect_apart(
+            &rt,
+            rt.alloc(),
+            &[0, 1, 2],
+            Script::Sums,
+            &SUMS,
+            Verdict::Passed,
+        )?;
     }
     Ok(())
 }
@@ -423,7 +451,14 @@ fn three_threads(rt: HostRuntime) -> Result<(), Fail> {
 #[test]
 fn eight_threads(rt: HostRuntime) -> Result<(), Fail> {
     for _ in 0..20 {
-        expect_apart(&rt, rt.alloc(), &[0, 1, 2, 3, 4, 5, 6, 7], Script::OneMutex, &ONE_MUTEX, Verdict::Passed)?;
+        expect_apart(
+            &rt,
+            rt.alloc(),
+            &[0, 1, 2, 3, 4, 5, 6, 7],
+            Script::OneMutex,
+            &ONE_MUTEX,
+            Verdict::Passed,
+        )?;
     }
     Ok(())
 }
@@ -432,7 +467,14 @@ fn eight_threads(rt: HostRuntime) -> Result<(), Fail> {
 #[test]
 fn ends_while_others_wait(rt: HostRuntime) -> Result<(), Fail> {
     for _ in 0..50 {
-        expect_apart(&rt, rt.alloc(), &[2, 1, 0], Script::EndsEarly, &ENDS_EARLY, Verdict::Passed)?;
+        expect_apart(
+            &rt,
+            rt.alloc(),
+            &[2, 1, 0],
+            Script::EndsEarly,
+            &ENDS_EARLY,
+            Verdict::Passed,
+        )?;
     }
     Ok(())
 }

@@ -1,4 +1,4 @@
-use Rattle.std.proofs.Common.{◌≡◌, ◌<◌, ℕ}
+use Rattle.std.proofs.Common.{◌<◌, ℕ}
 use Rattle.turn_lock.specs.Rule.{Has}
 use Rattle.turn_lock.proofs.flags.lowest.Given as goal
 

@@ -1,4 +1,4 @@
-use Rattle.std.proofs.Common.{◌-◌, ◌*◌, ◌+◌, ℕ}
+use Rattle.std.proofs.Common.{◌-◌, ◌*◌}
 use Rattle.turn_lock.proofs.tests.+team.Given as goal
 
 abbrev pub decreases-join+arg3 : goal.decreases-join+arg3

@@ -1,5 +1,4 @@
-use Rattle.std.proofs.Common.{rules, ◌≡◌, ◌<◌, ◌≤◌, ℕ, List, Bool, [], sym, ap, ◌∙◌, subst, arith}
-use Rattle.pct_ask.specs.declared.Deal.{Deal}
+use Rattle.std.proofs.Common.{rules, ◌≡◌, ◌<◌, ℕ, List, Bool, [], sym, ap, ◌∙◌, subst, arith}
 use Rattle.turn_lock.specs.Slots.{Slot}
 use Rattle.turn_lock.specs.Seen.{SameOf, owes_of}
 use Rattle.turn_lock.specs.Rule.{Has}

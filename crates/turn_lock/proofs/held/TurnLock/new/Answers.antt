@@ -1,4 +1,4 @@
-use Rattle.std.proofs.Common.{◌≡◌, ◌+◌, ◌<◌, ℕ, sym, ap, ◌∙◌, subst, List, ◌∷◌, [], ◌++◌, replicate}
+use Rattle.std.proofs.Common.{◌≡◌, ◌+◌, ◌<◌, ap, ◌∙◌, subst, List, ◌∷◌, [], ◌++◌, replicate}
 use Rattle.pct_ask.specs.declared.Deal.{Deal}
 use Rattle.turn_book.specs.Told.{Told}
 use Rattle.turn_lock.specs.Seen.{owes_of}

@@ -1,4 +1,4 @@
-use Rattle.std.proofs.Common.{◌≡◌, subst, Some}
+use Rattle.std.proofs.Common.{subst, Some}
 use Rattle.turn_lock.specs.Turns.{Gives}
 use Rattle.turn_lock.specs.Views.{view}
 use Rattle.turn_lock.specs.declared.turn.Turn.{Turn}

@@ -1,5 +1,4 @@
-use Rattle.std.proofs.Common.{◌≡◌, ℕ, Bool, List, [], Option, Some, None, ap, sym, ◌∙◌, subst, arith, length-set}
-use Rattle.turn_lock.specs.Seen.{ObeysPlan}
+use Rattle.std.proofs.Common.{ℕ, Bool, List, Option, ap, sym, ◌∙◌, subst, arith, length-set}
 use Rattle.turn_lock.specs.Plays.{Seated}
 use Rattle.turn_lock.specs.Turns.{TellsEnd}
 use Rattle.turn_lock.specs.Hands.{IsSwept}

@@ -1,8 +1,6 @@
-use Rattle.std.proofs.Common.{◌≡◌, ◌<◌, ℕ, List, Bool, false, get_or, sym, ap, ◌∙◌, subst}
+use Rattle.std.proofs.Common.{◌<◌, ℕ, sym, ap, ◌∙◌, subst}
 use Rattle.turn_lock.specs.Seen.{owes_of}
-use Rattle.turn_lock.specs.Rule.{Has}
 use Rattle.turn_lock.specs.Plays.{Seated}
-use Rattle.turn_lock.specs.Seats.{alone}
 use Rattle.turn_lock.proofs.Joining.{threads-alone, owed-alone}
 use Rattle.turn_lock.proofs.Seating.{inside, to-flag}
 use Rattle.turn_lock.proofs.held.TurnLock.split.Goals as goal

@@ -1,6 +1,4 @@
-use Rattle.std.proofs.Common.{◌≡◌, ℕ, Bool, List, [], ap, sym, ◌∙◌, subst, arith, length-set}
-use Rattle.turn_book.specs.Told.{SameMaking}
-use Rattle.turn_lock.specs.Seen.{ObeysPlan}
+use Rattle.std.proofs.Common.{ap, sym, ◌∙◌, arith, length-set}
 use Rattle.turn_lock.specs.Plays.{Seated}
 use Rattle.turn_lock.proofs.Orders.{making-along}
 use Rattle.turn_lock.proofs.Hands.{work-goes, turned, owes-after, gives, threads-after, owed-after}

@@ -1,4 +1,4 @@
-use Rattle.std.proofs.Common.{◌≡◌, subst}
+use Rattle.std.proofs.Common.{subst}
 use Rattle.turn_lock.specs.Rounds.{RoundTells}
 use Rattle.turn_lock.specs.Views.{view}
 use Rattle.turn_lock.specs.declared.round.Round.{Round}

@@ -1,4 +1,4 @@
-use Rattle.turn_lock.proofs.Rows.{none-below, below-set}
+use Rattle.turn_lock.proofs.Rows.{none-below}
 use Rattle.turn_lock.proofs.slot.Slot.wakes.Goals as goal
 
 pub loop-thread-init : goal.loop-thread-init
