@@ -6,6 +6,8 @@ mod fault;
 mod file;
 mod head;
 mod line;
+#[cfg(test)]
+mod long_tests;
 mod number;
 mod reading;
 mod row;

@@ -4,7 +4,7 @@ use std::alloc::Global;
 use std::process::Abort;
 use std::test::Fail;
 
-fn add(
+pub fn add(
     rt: &impl Abort,
     alloc: Global,
     names: &mut Names,
@@ -33,7 +33,7 @@ const OBJECTS: [(NameKind, &[u8]); 9] = [
 const THREADS: [&[u8]; 3] = [b"A", b"B", b"C"];
 
 /// The names of a test with two threads or three.
-fn names_of(rt: &impl Abort, alloc: Global, threads: usize) -> Result<Names, Fail> {
+pub fn names_of(rt: &impl Abort, alloc: Global, threads: usize) -> Result<Names, Fail> {
     let mut names = Names::new(alloc);
     for name in THREADS.iter().take(threads) {
         add(rt, alloc, &mut names, NameKind::Thread, name)?;
@@ -45,7 +45,7 @@ fn names_of(rt: &impl Abort, alloc: Global, threads: usize) -> Result<Names, Fai
 }
 
 /// A text, read and written again.
-fn rewritten(alloc: Global, text: &[u8], names: &Names) -> Result<Vec<u8>, Fail> {
+pub fn rewritten(alloc: Global, text: &[u8], names: &Names) -> Result<Vec<u8>, Fail> {
     let file = read_trace(alloc, text, names)?;
     Ok(write_trace(
         alloc,
@@ -453,24 +453,23 @@ fn faulty_traces(rt: HostRuntime) -> Result<(), Fail> {
 }
 
 /// A leading zero in the ninth line, and a line after the verdict.
-fn expect_bad(rt: &impl Abort, alloc: Global, names: &Names, whole: &[u8]) -> Result<(), Fail> {
-    assert_eq!(rt; whole.len(), 201);
-    let mut text = Vec::from_slice(alloc, &whole[..113])?;
-    text.extend_from_slice(b"0")?;
-    text.extend_from_slice(&whole[113..])?;
-    let fault = fault_of(read_trace(alloc, text.as_slice(), names))?;
-    assert!(rt; fault == Some((9, TraceFault::BadLine)));
-    let mut text = Vec::from_slice(alloc, whole)?;
-    text.extend_from_slice(b"x\n")?;
-    let fault = fault_of(read_trace(alloc, text.as_slice(), names))?;
-    assert!(rt; fault == Some((14, TraceFault::MoreAfterVerdict)));
-    Ok(())
-}
+const FAULTY_OF_THREE: [Faulty; 2] = [
+    (
+        b"trace 1\norder A B C\npoints\nlimit 10000\n1 A 4 read x = 0\n2 A 5 write x 1 = 0\n3 B 8 read x = 1\n4 B 9 write x 2 = 0\n05 C 12 join A = 0\n6 C 13 join B = 0\n7 C 14 read x = 2\n8 C 15 check 1 = 0\nverdict passed\n",
+        9,
+        TraceFault::BadLine,
+    ),
+    (
+        b"trace 1\norder A B C\npoints\nlimit 10000\n1 A 4 read x = 0\n2 A 5 write x 1 = 0\n3 B 8 read x = 1\n4 B 9 write x 2 = 0\n5 C 12 join A = 0\n6 C 13 join B = 0\n7 C 14 read x = 2\n8 C 15 check 1 = 0\nverdict passed\nx\n",
+        14,
+        TraceFault::MoreAfterVerdict,
+    ),
+];
 
 #[test]
 fn bad_traces(rt: HostRuntime) -> Result<(), Fail> {
     let names = names_of(&rt, rt.alloc(), 3)?;
-    expect_bad(&rt, rt.alloc(), &names, IN_ORDER)
+    expect_faults(&rt, rt.alloc(), &names, &FAULTY_OF_THREE)
 }
 
 /// The fault of a file of so many bytes that are no trace.
@@ -487,44 +486,4 @@ fn expect_large(rt: &impl Abort, alloc: Global, size: usize, kind: TraceFault) -
 fn large_files(rt: HostRuntime) -> Result<(), Fail> {
     expect_large(&rt, rt.alloc(), 16_777_217, TraceFault::TooLong)?;
     expect_large(&rt, rt.alloc(), 16_777_216, TraceFault::BadHeader)
-}
-
-/// What stands in a longest step line after its number.
-const LONGEST: &[u8] =
-    b" a_thread_of_exactly_32_character 4096 cas a_name_of_exactly_32_characters_ -9223372036854775808 -9223372036854775807 = 1\n";
-
-/// As many steps as a run may have, each as long as a run's may be.
-fn longest_trace(alloc: Global) -> Result<Vec<u8>, Fail> {
-    let mut text = Vec::from_slice(
-        alloc,
-        b"trace 1\norder a_thread_of_exactly_32_character\npoints\nlimit 100000\n",
-    )?;
-    for step in 1..=100_000 {
-        text.extend_from_slice(format!(in alloc; "{step}")?.as_bytes())?;
-        text.extend_from_slice(LONGEST)?;
-    }
-    text.extend_from_slice(b"verdict cut\n")?;
-    Ok(text)
-}
-
-fn expect_many(rt: &impl Abort, alloc: Global, names: &Names) -> Result<(), Fail> {
-    let text = longest_trace(alloc)?;
-    let again = rewritten(alloc, text.as_slice(), names)?;
-    assert!(rt; again.as_slice() == text.as_slice());
-    Ok(())
-}
-
-#[test]
-fn many_steps(rt: HostRuntime) -> Result<(), Fail> {
-    let mut names = names_of(&rt, rt.alloc(), 0)?;
-    add(
-        &rt,
-        rt.alloc(),
-        &mut names,
-        NameKind::Thread,
-        b"a_thread_of_exactly_32_character",
-    )?;
-    // With the six digits of its number a run's longest step line has 128 bytes.
-    assert_eq!(rt; LONGEST.len(), 122);
-    expect_many(&rt, rt.alloc(), &names)
 }
