@@ -1,13 +1,12 @@
-ghost use Rattle.std.specs.Prelude.{◌≡◌, IfOk, OnOk};
+ghost use Rattle.std.specs.Prelude.{◌≡◌, IfOk};
 ghost use Rattle.script_tree.specs.ScriptSeen.{text};
 ghost use Rattle.script_tree.specs.Rows.{spinner};
 
 use crate::ScriptBody;
-use pct_ask::{Ask, Body, FaultKind, NameKind, Names, Post, Sequence};
+use pct_ask::{Ask, Body, FaultKind, NameKind, Names, Sequence};
 use script_code::compile;
 use script_tree::{Block, Expr, Script, Stmt, ThreadText};
 use std::alloc::{AllocError as NoMemory, Global};
-use std::process::Abort;
 use std::test::Fail;
 
 /// A loop without end and without an ask.
@@ -38,29 +37,22 @@ fn spinner(alloc: Global) -> Result<Script, NoMemory>
     })
 }
 
-/// The posts of a body before these answers, in turn.
-fn expect_posts<B: Body>(rt: &impl Abort, mut body: B, cases: &[(Post, i64)]) {
-    for (want, answer) in cases {
-        let post = body.post();
-        assert_eq!(rt; post, *want);
-        assert!(rt; post.ask.is_some());
-        body.answer(*answer);
-    }
-}
-
 #[test]
 fn a_loop_without_asks_spins(rt: HostRuntime) -> Result<(), Fail> {
     let script = spinner(rt.alloc())?;
     let code = compile(rt.alloc(), &script)?;
     assert_eq!(rt; code.threads(), 1);
-    let spin = Post {
-        ask: Some(Ask::Fault {
-            kind: FaultKind::Spin,
-        }),
-        line: 3,
+    assert_eq!(rt; code.end(0), 1);
+    let mut body = ScriptBody::new(&code, 0);
+    let spin = Ask::Fault {
+        kind: FaultKind::Spin,
     };
-    let end = Post { ask: None, line: 5 };
-    let body = ScriptBody::new(&code, 0);
-    assert_eq!(rt; body.post(), spin);
+    let post = body.post();
+    assert_eq!(rt; post.ask, Some(spin));
+    assert_eq!(rt; post.line, 3);
+    body.answer(0);
+    let last = body.post();
+    assert_eq!(rt; last.ask, None);
+    assert_eq!(rt; last.line, 5);
     Ok(())
 }
