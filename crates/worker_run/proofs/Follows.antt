@@ -1,5 +1,5 @@
 -- Steps that obey an order over bodies and are settled are its run, whose verdict is the outcome.
-use Rattle.std.proofs.Common.{◌≡◌, ◌≢◌, ℕ, zero, suc, ◌+◌, ◌<◌, ◌≤◌, Bool, true, false, eqb, Option, Some, None, List, [], ◌∷◌, ◌++◌, length, map, refl, sym, ap, subst, ◌∙◌, arith, eq-eqb, ne_eqb}
+use Rattle.std.proofs.Common.{◌≡◌, ℕ, zero, suc, ◌+◌, eqb, Option, Some, None, List, [], ◌∷◌, ◌++◌, length, refl, sym, ap, subst, ◌∙◌, arith, eq-eqb, ne_eqb}
 use Rattle.std.specs.Option.{option_map, option_and_then}
 use Rattle.std.proofs.lemmas.List.{append-nil, append_assoc, map-append, length-append}
 use Rattle.pct_ask.specs.declared.Deal.{Deal}
@@ -12,16 +12,15 @@ use Rattle.rank_now.specs.declared.moment.Moment.{Moment}
 use Rattle.rank_now.specs.Rank.{rank, rank_by_events}
 use Rattle.sync_store.specs.Store.{first}
 use Rattle.sync_store.specs.World.{Source, World, world_after}
-use Rattle.policy_pick.specs.declared.chance.Pick.{Pick}
-use Rattle.policy_pick.specs.declared.chance.Pick.TheVariants.{Thread, Nobody}
+use Rattle.policy_pick.specs.declared.chance.Pick.TheVariants.{Thread}
 use Rattle.policy_pick.specs.Plan.{Plan, ByPoints, ByEvents, SpeaksOf}
 use Rattle.turn_book.specs.Posts.{schedule_of}
 use Rattle.turn_book.specs.Chances.{rest_verdict}
-use Rattle.turn_book.specs.Obeys.{next_in, choice_in, Obeys, outcome_by_pick, outcome_by, settled}
+use Rattle.turn_book.specs.Obeys.{next_in, choice_in, outcome_by_pick, outcome_by}
 use Rattle.turn_book.proofs.Worlds.{IsMade, made-from, last-step}
 use Rattle.turn_book.proofs.More.{choice-at, settled-at}
 use Rattle.worker_run.specs.Bodies.{Pending, source_of_bodies}
-use Rattle.worker_run.specs.Run.{Setting, Run, Next, Over, Goes, next_of, next_thread, next_after, cut_at, go_on, run_from, run, directed}
+use Rattle.worker_run.specs.Run.{Setting, Over, Goes, next_of, next_thread, next_after, cut_at, go_on, run_from, run, directed}
 use Rattle.worker_run.specs.Played.{IsPlayed, IsRun}
 use Rattle.worker_run.proofs.Known.{pick_of, pick_of-thread, points-pick, events-pick}
 

@@ -1,5 +1,5 @@
 -- Where every thread's next post is known, the walk by falling rank picks the enabled thread of the greatest rank.
-use Rattle.std.proofs.Common.{◌≡◌, ℕ, zero, suc, ◌+◌, ◌<◌, ◌≤◌, Bool, true, false, cond, not, ◌&&◌, ◌||◌, leb, Option, Some, None, List, length, get_or, map, refl, sym, ap, subst, ◌∙◌, arith, inl, inr}
+use Rattle.std.proofs.Common.{◌≡◌, ℕ, zero, suc, ◌+◌, ◌<◌, ◌≤◌, Bool, true, false, cond, not, ◌&&◌, ◌||◌, leb, Option, Some, None, List, length, get_or, refl, sym, ap, subst, ◌∙◌, arith, inl, inr}
 use Rattle.std.specs.Option.{option_map_or}
 use Rattle.std.specs.List.{find, list_all, range_with_len}
 use Rattle.std.proofs.lemmas.List.FromFn.{length-map-range_with_len, get_or-map-range_with_len}
@@ -11,12 +11,12 @@ use Rattle.rank_now.specs.Rank.{rank, rank_by_events, ranks, ranks_by_events}
 use Rattle.sync_store.specs.declared.ready.Ready.TheVariants.{Yes, No}
 use Rattle.sync_store.specs.Store.{StoreState}
 use Rattle.sync_store.specs.Enabled.{enabled}
-use Rattle.sync_store.specs.Ready.{awaited, unknown_target, ready_by, readiness}
+use Rattle.sync_store.specs.Ready.{awaited, unknown_target, ready_by}
 use Rattle.sync_store.specs.World.{World, answers_of}
 use Rattle.policy_pick.specs.declared.chance.Chance.{Chance}
 use Rattle.policy_pick.specs.declared.chance.Chance.TheVariants.{Away, Ready, Blocked, Unknown, Ended}
 use Rattle.policy_pick.specs.declared.chance.Pick.{Pick}
-use Rattle.policy_pick.specs.declared.chance.Pick.TheVariants.{Thread, Waits, Nobody, Departs}
+use Rattle.policy_pick.specs.declared.chance.Pick.TheVariants.{Thread, Waits, Nobody}
 use Rattle.policy_pick.specs.Plan.{Plan, ByPoints, ByEvents, SpeaksOf}
 use Rattle.policy_pick.specs.Choice.{choice, choice_by_rank, chance_of, is_open, is_known, is_highest, pick_at, threads_of, HasAwayTarget, TargetsAreAway, IsSound}
 use Rattle.policy_pick.specs.Laws.{choice-sound}
@@ -25,7 +25,7 @@ use Rattle.policy_pick.specs.Laws.Walks.{rank-stops, rank-ends, highest-parts}
 use Rattle.turn_book.specs.Chances.{NextPosts, is_unknown, is_ended, chance_by, chance_of_ask, chance, chances, threads_below}
 use Rattle.turn_book.specs.Obeys.{choice_in}
 use Rattle.worker_run.specs.Bodies.{Pending, pending_of, source_of_bodies}
-use Rattle.worker_run.specs.Run.{Setting, next_thread}
+use Rattle.worker_run.specs.Run.{next_thread}
 
 -- ---- lists of numbers
 all-same : (f g : ℕ → Bool) (from many : ℕ) → ((k : ℕ) → from ≤ k → k < from + many → f k ≡ g k) → list_all f (range_with_len from many) ≡ list_all g (range_with_len from many)
@@ -55,7 +55,7 @@ known-by : (goes : Bool) → is_known (chance_by (cond goes Yes No)) ≡ true
 known-by true = refl
 known-by false = refl
 
-ready-by : (c : Chance) → is_open c ≡ true → is_known c ≡ true → c ≡ Ready
+pub ready-by : (c : Chance) → is_open c ≡ true → is_known c ≡ true → c ≡ Ready
 ready-by Away e known = cc
 ready-by Ready e known = refl
 ready-by Blocked e known = cc

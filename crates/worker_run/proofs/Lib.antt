@@ -4,3 +4,5 @@ pub mod Only
 pub mod Whole
 pub mod Services
 pub mod Samples
+pub mod Ranges
+pub mod Again

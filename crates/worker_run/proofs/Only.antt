@@ -1,11 +1,10 @@
 -- Over bodies only one list of steps obeys a plan and is settled, with one outcome.
-use Rattle.std.proofs.Common.{◌≡◌, ℕ, Option, Some, None, List, ◌∷◌, ◌++◌, refl, sym, ap, ◌∙◌}
+use Rattle.std.proofs.Common.{◌≡◌, ℕ, List, sym, ap, ◌∙◌}
 use Rattle.pct_ask.specs.declared.Deal.{Deal}
 use Rattle.pct_ask.specs.declared.event.Event.{Event}
 use Rattle.pct_ask.specs.declared.verdict.Outcome.{Outcome}
-use Rattle.sync_store.specs.World.{Source}
 use Rattle.policy_pick.specs.Plan.{Plan}
-use Rattle.turn_book.specs.Obeys.{Obeys, settled}
+use Rattle.turn_book.specs.Obeys.{settled}
 use Rattle.turn_book.proofs.Prefix.{Compared, Same, Shorter, Longer, compare, goes-on}
 use Rattle.worker_run.specs.Bodies.{Pending, source_of_bodies}
 use Rattle.worker_run.specs.Played.{IsPlayed}

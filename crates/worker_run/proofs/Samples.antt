@@ -1,15 +1,14 @@
 -- The sample threads name only what there is, and their runs by two lists of change points.
-use Rattle.std.proofs.Common.{◌≡◌, ℕ, zero, suc, ◌+◌, ◌<◌, ◌≤◌, ℤ, pos, true, false, List, [], ◌∷◌, length, map, Some, refl, arith, lit≤}
+use Rattle.std.proofs.Common.{◌≡◌, ℕ, zero, suc, ◌+◌, ◌≤◌, ℤ, pos, true, false, List, [], ◌∷◌, map, Some, refl, arith}
 use Rattle.pct_ask.specs.declared.ask.Ask.{Ask}
 use Rattle.pct_ask.specs.declared.ask.Ask.TheVariants.{Read, Write, Join, Check}
-use Rattle.pct_ask.specs.declared.ask.Post.{Post}
 use Rattle.pct_ask.specs.declared.Deal.{Deal}
 use Rattle.pct_ask.specs.declared.event.Event.{Event}
-use Rattle.pct_ask.specs.declared.verdict.Verdict.TheVariants.{Passed, Failed, Cut}
+use Rattle.pct_ask.specs.declared.verdict.Verdict.TheVariants.{Passed, Failed}
 use Rattle.sync_store.specs.Store.{Sizes}
 use Rattle.rank_now.specs.Rank.{rank_by}
 use Rattle.turn_book.specs.Told.{PostIsInRange}
-use Rattle.worker_run.specs.Bodies.{Pending, pending_of, AreInRange}
+use Rattle.worker_run.specs.Bodies.{Pending, AreInRange}
 use Rattle.worker_run.specs.Run.{run}
 use Rattle.worker_run.specs.Samples.{sample_post, sample_pending}
 

@@ -1,7 +1,7 @@
 -- Bodies that are served by turns over a book: what holds between two calls stays, and the run goes on until it is over.
 use Rattle.std.proofs.Common.{◌≡◌, ◌≢◌, ℕ, zero, suc, ◌+◌, ◌<◌, ◌≤◌, ℤ, Bool, true, false, cond, eqb, Option, Some, None, option_to_list, List, [], ◌∷◌, ◌++◌, length, get_or, set, map, replicate, refl, sym, ap, subst, ◌∙◌, arith, ◌⊎◌, inl, inr}
 use Rattle.std.specs.Prelude.{slice_get, is_none, is_some, IsSome}
-use Rattle.std.proofs.lemmas.Bool.{cases_eq, false≢true}
+use Rattle.std.proofs.lemmas.Bool.{cases_eq}
 use Rattle.std.proofs.lemmas.List.{append-nil, append_assoc, map-append, map-set, length-map, length-append, length-set, get_or-map, get_or-set_same, get_or-set_other}
 use Rattle.std.proofs.lemmas.List.Elements.{filter-append}
 use Rattle.std.proofs.lemmas.List.FromFn.{length-map-range_with_len, get_or-map-range_with_len}
@@ -11,23 +11,22 @@ use Rattle.pct_ask.specs.declared.ask.Ask.TheVariants as asks
 use Rattle.pct_ask.specs.declared.ask.Post.{Post}
 use Rattle.pct_ask.specs.declared.Deal.{Deal}
 use Rattle.pct_ask.specs.declared.event.Event.{Event}
-use Rattle.pct_ask.specs.declared.event.Standing.{Standing}
 use Rattle.pct_ask.specs.declared.event.Standing.TheVariants.{Away as AwayStanding, Asks}
 use Rattle.pct_ask.specs.declared.verdict.Verdict.{Verdict}
 use Rattle.pct_ask.specs.declared.verdict.Outcome.{Outcome}
 use Rattle.sync_store.specs.Store.{StoreState, Sizes, sizes_of_deal, first}
 use Rattle.sync_store.specs.Enabled.{enabled, IsInRange}
-use Rattle.sync_store.specs.Ready.{awaited, unknown_target, ready_by, readiness}
+use Rattle.sync_store.specs.Ready.{awaited, unknown_target, ready_by}
 use Rattle.sync_store.specs.World.{Source, World, answers_of}
 use Rattle.policy_pick.specs.declared.chance.Chance.{Chance}
-use Rattle.policy_pick.specs.declared.chance.Chance.TheVariants.{Away, Ready as Goes, Blocked, Unknown, Ended}
+use Rattle.policy_pick.specs.declared.chance.Chance.TheVariants.{Ready as Goes, Ended}
 use Rattle.policy_pick.specs.declared.chance.Pick.{Pick}
 use Rattle.policy_pick.specs.declared.chance.Pick.TheVariants.{Thread, Waits, Nobody, Departs}
 use Rattle.policy_pick.specs.Plan.{Plan, SpeaksOf}
-use Rattle.policy_pick.specs.Choice.{choice, chance_of, is_known}
-use Rattle.turn_book.specs.Chances.{NextPosts, is_unknown, is_ended, chance_by, chance_of_ask, chance_of_post, chance, chances, rest_verdict}
+use Rattle.policy_pick.specs.Choice.{chance_of, is_known}
+use Rattle.turn_book.specs.Chances.{is_unknown, is_ended, chance_by, chance_of_ask, chance_of_post, chance, chances, rest_verdict}
 use Rattle.turn_book.specs.Posts.{schedule_of, events_of, posts_of, source_of, KeepsPosts}
-use Rattle.turn_book.specs.Obeys.{next_in, choice_in, outcome_by_pick, outcome_by, settled}
+use Rattle.turn_book.specs.Obeys.{next_in, choice_in, outcome_by_pick, outcome_by}
 use Rattle.turn_book.specs.Told.{Told, new_book, next_post, standing_by_ask, standing_by, standing_of, choice_of, post_of_event, PostIsInRange, IsLawful, SameMaking, IsPosted, IsAnswered}
 use Rattle.turn_book.proofs.Worlds.{cons-same, IsMade, made-from}
 use Rattle.turn_book.proofs.More.{chosen-ready, choice-at, settled-at, obeys-more, settled-more}

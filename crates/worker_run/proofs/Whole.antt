@@ -1,6 +1,6 @@
 -- Over bodies each plan that speaks of their threads has a run: some steps obey it and are settled. So a run by an order
 -- and change points, or by moments, is there, and is what is played.
-use Rattle.std.proofs.Common.{◌≡◌, ◌≢◌, ℕ, zero, suc, ◌+◌, ◌<◌, ◌≤◌, Bool, true, false, cond, eqb, Option, Some, None, List, [], ◌∷◌, ◌++◌, length, refl, sym, ap, subst, ◌∙◌, arith, eq-eqb, ne_eqb}
+use Rattle.std.proofs.Common.{◌≡◌, ◌≢◌, ℕ, zero, suc, ◌+◌, ◌<◌, Bool, true, false, eqb, Option, Some, None, List, [], ◌∷◌, ◌++◌, length, refl, sym, ap, subst, ◌∙◌, arith, eq-eqb}
 use Rattle.std.proofs.lemmas.Bool.{false≢true}
 use Rattle.std.proofs.lemmas.List.{length-append}
 use Rattle.std.proofs.lemmas.List.FromFn.{length-map-range_with_len, get_or-map-range_with_len}
@@ -14,19 +14,19 @@ use Rattle.pct_ask.specs.declared.verdict.Outcome.TheVariants.{Verdict as Ends}
 use Rattle.rank_now.specs.declared.moment.Moment.{Moment}
 use Rattle.sync_store.specs.Store.{StoreState, first}
 use Rattle.sync_store.specs.Enabled.{enabled}
-use Rattle.sync_store.specs.Ready.{awaited, unknown_target, ready_by, readiness}
+use Rattle.sync_store.specs.Ready.{awaited, unknown_target, ready_by}
 use Rattle.sync_store.specs.Effect.{Effect, effect, store_after}
-use Rattle.sync_store.specs.World.{Source, World, has_ended, answers_of, with_effect, world_after}
+use Rattle.sync_store.specs.World.{Source, World, has_ended, answers_of}
 use Rattle.policy_pick.specs.declared.chance.Chance.{Chance}
-use Rattle.policy_pick.specs.declared.chance.Chance.TheVariants.{Away, Ready as Goes, Blocked, Unknown, Ended}
+use Rattle.policy_pick.specs.declared.chance.Chance.TheVariants.{Ready as Goes, Ended}
 use Rattle.policy_pick.specs.declared.chance.Pick.{Pick}
 use Rattle.policy_pick.specs.declared.chance.Pick.TheVariants.{Thread, Waits, Nobody, Departs}
 use Rattle.policy_pick.specs.Plan.{Plan, ByPoints, ByEvents, SpeaksOf}
 use Rattle.policy_pick.specs.Choice.{chance_of}
 use Rattle.turn_book.specs.Chances.{is_unknown, is_ended, chance_by, chance_of_ask, chance, chances, rest_verdict}
 use Rattle.turn_book.specs.Posts.{schedule_of}
-use Rattle.turn_book.specs.Obeys.{next_in, choice_in, choice_after, Obeys, outcome_by_pick, outcome_by, settled}
-use Rattle.turn_book.specs.Board.{answer_of, verdict_of}
+use Rattle.turn_book.specs.Obeys.{next_in, choice_in, Obeys, outcome_by_pick, outcome_by, settled}
+use Rattle.turn_book.specs.Board.{verdict_of}
 use Rattle.turn_book.proofs.Worlds.{event_of, effect-is, Steps, IsMade, made-from, made-events, made-push}
 use Rattle.turn_book.proofs.More.{chosen-ready, choice-at, settled-at}
 use Rattle.turn_book.proofs.Books.{obeys-push, obeys-none}

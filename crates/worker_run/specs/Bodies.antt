@@ -1,5 +1,5 @@
 -- Bodies, each seen as what its thread posts after a list of answers, and the posts of a run over them (this project).
-use Rattle.std.specs.Prelude.{ℕ, ℤ, List, Option, None, slice_index_or}
+use Rattle.std.specs.Prelude.{ℕ, ℤ, List, None, slice_index_or}
 use Rattle.pct_ask.specs.declared.ask.Post.{Post}
 use Rattle.sync_store.specs.Store.{Sizes}
 use Rattle.sync_store.specs.World.{Source, posts_of_bodies}

@@ -1,6 +1,6 @@
 -- The threads of a small test (this project): the first two each read a variable and write the next number into it, and
 -- the third waits for both and checks that it is 2. Tests and examples run them.
-use Rattle.std.specs.Prelude.{ℕ, zero, suc, ◌+◌, ℤ, pos, if◌then◌else◌, List, [], ◌∷◌, Option, Some, None}
+use Rattle.std.specs.Prelude.{ℕ, zero, suc, ◌+◌, ℤ, pos, if◌then◌else◌, List, [], ◌∷◌, Some, None}
 use Rattle.std.specs.Ordering.{int_eq}
 use Rattle.pct_ask.specs.declared.ask.Ask.{Ask}
 use Rattle.pct_ask.specs.declared.ask.Ask.TheVariants.{Read, Write, Join, Check}

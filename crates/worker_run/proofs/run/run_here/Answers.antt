@@ -1,10 +1,8 @@
-use Rattle.std.proofs.Common.{◌≡◌, ℕ, List, length, map, replicate, sym, ap, subst, ◌∙◌, arith}
+use Rattle.std.proofs.Common.{map, replicate, ap, subst, ◌∙◌}
 use Rattle.std.proofs.lemmas.List.{length-map}
 use Rattle.policy_pick.specs.Plan.{Plan, SpeaksOf}
-use Rattle.turn_book.specs.Told.{Told, SameMaking, new_book}
-use Rattle.worker_run.specs.Bodies.{Pending}
+use Rattle.turn_book.specs.Told.{Told, SameMaking}
 use Rattle.worker_run.specs.Played.{IsPlayed}
-use Rattle.worker_run.specs.Served.{IsServed}
 use Rattle.worker_run.proofs.Follows.{points-run, events-run}
 use Rattle.worker_run.proofs.Services.{making-trans, served-new, played-over}
 use Rattle.worker_run.proofs.run.run_here.Goals as goal

@@ -1,4 +1,4 @@
-use Rattle.std.proofs.Common.{◌≡◌, arith}
+use Rattle.std.proofs.Common.{arith}
 use Rattle.sync_store.specs.Store.{sizes_of_deal}
 use Rattle.worker_run.specs.declared.tests.Sample.{Sample}
 use Rattle.worker_run.proofs.Samples.{samples-within}

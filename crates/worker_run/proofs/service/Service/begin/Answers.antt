@@ -1,4 +1,4 @@
-use Rattle.std.proofs.Common.{◌≡◌, ◌<◌, ℕ, sym, subst, arith, inl, inr}
+use Rattle.std.proofs.Common.{ℕ, sym, subst, arith, inl, inr}
 use Rattle.std.proofs.lemmas.Bool.{cases_eq}
 use Rattle.worker_run.specs.Served.{HasPosted}
 use Rattle.worker_run.proofs.Services.{making-trans}

@@ -1,6 +1,5 @@
-use Rattle.std.proofs.Common.{◌≡◌, List, Some, map, sym, ap, subst, ◌∙◌}
+use Rattle.std.proofs.Common.{◌≡◌, List, Some, map, sym, subst, ◌∙◌}
 use Rattle.pct_ask.specs.declared.event.Event.{Event}
-use Rattle.worker_run.specs.Bodies.{Pending}
 use Rattle.worker_run.specs.Played.{IsPlayed}
 use Rattle.worker_run.proofs.Services.{played}
 use Rattle.worker_run.proofs.service.Service.finish.Goals as goal

@@ -1,4 +1,4 @@
-use Rattle.std.proofs.Common.{◌≡◌, ◌<◌, ◌-◌, ℕ, List, length, map}
+use Rattle.std.proofs.Common.{◌<◌, ◌-◌, ℕ, List, length, map}
 use Rattle.turn_book.specs.Told.{SameMaking}
 use Rattle.worker_run.specs.Bodies.{Pending}
 use Rattle.worker_run.specs.Served.{IsServed, HasPosted}

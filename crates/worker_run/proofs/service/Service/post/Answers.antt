@@ -1,9 +1,9 @@
-use Rattle.std.proofs.Common.{◌≡◌, ◌<◌, List, [], length, map, sym, ap, subst, ◌∙◌, arith}
+use Rattle.std.proofs.Common.{◌≡◌, ◌<◌, [], length, map, sym, ap, subst, ◌∙◌, arith}
 use Rattle.std.proofs.lemmas.List.{length-map}
 use Rattle.pct_ask.specs.declared.ask.Post.{Post}
 use Rattle.sync_store.specs.Store.{sizes_of_deal}
 use Rattle.turn_book.specs.Told.{PostIsInRange}
-use Rattle.worker_run.specs.Bodies.{Pending, pending_of}
+use Rattle.worker_run.specs.Bodies.{pending_of}
 use Rattle.worker_run.proofs.Services.{pending-at, in-range-now, served-after}
 use Rattle.worker_run.proofs.service.Service.post.Goals as goal
 

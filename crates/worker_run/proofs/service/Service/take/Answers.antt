@@ -1,10 +1,9 @@
-use Rattle.std.proofs.Common.{◌≡◌, ◌<◌, ◌+◌, List, [], ◌∷◌, length, map, set, get_or, refl, sym, ap, subst, ◌∙◌, arith, rules, w64, to_z, of_z}
+use Rattle.std.proofs.Common.{◌≡◌, ◌<◌, ◌+◌, [], ◌∷◌, length, map, set, get_or, sym, ap, subst, ◌∙◌, arith, rules, w64}
 use Rattle.std.proofs.lemmas.Int.{to_z-of_z}
 use Rattle.std.proofs.lemmas.List.{length-map, length-set}
 use Rattle.std.proofs.lemmas.Grind.{get_or_default_zero}
 use Rattle.pct_ask.specs.declared.ask.Post.{Post}
-use Rattle.std.specs.Prelude.{is_some, IsSome}
-use Rattle.worker_run.specs.Bodies.{Pending, pending_of}
+use Rattle.std.specs.Prelude.{IsSome}
 use Rattle.worker_run.proofs.Services.{pending-at, pending-own, pending-other, turn-asks, making-threads, step-away, step-standing, step-long, asks-some, served-step, answers-fewer}
 use Rattle.worker_run.proofs.service.Service.take.Goals as goal
 
