@@ -1,0 +1,81 @@
+-- The board of a book: the store, and each thread's next post. Nothing here is needed to read a public contract.
+use Rattle.std.specs.Prelude.{◌≡◌, ◌<◌, ◌≤◌, ℕ, ℤ, pos, Bool, false, ◌==◌, ◌||◌, List, length, map, Option, Some, None, slice_index_or, slice_set}
+use Rattle.pct_ask.specs.declared.ask.Ask.{Ask}
+use Rattle.pct_ask.specs.declared.ask.Ask.TheVariants.{Join}
+use Rattle.pct_ask.specs.declared.ask.Post.{Post}
+use Rattle.pct_ask.specs.declared.event.Event.{Event}
+use Rattle.pct_ask.specs.declared.event.Standing.{Standing}
+use Rattle.pct_ask.specs.declared.verdict.Verdict.{Verdict}
+use Rattle.sync_store.specs.declared.touched.Touched.{Touched}
+use Rattle.sync_store.specs.declared.touched.Touched.TheVariants.{Nothing, Mutex, Cond, Sem, Barrier, Thread, RwLock}
+use Rattle.sync_store.specs.Store.{StoreState, sizes_of}
+use Rattle.sync_store.specs.Effect.{Effect, Goes, Stops, effect, store_after}
+use Rattle.sync_store.specs.Touched.{is_mutex, is_cond, is_sem, is_barrier, is_thread, is_rwlock, names}
+use Rattle.policy_pick.specs.declared.chance.Chance.{Chance}
+use Rattle.turn_book.specs.Chances.{NextPosts, chances}
+use Rattle.turn_book.specs.Told.{PostIsInRange, standing_by}
+
+pub record BoardState : Type 0 where
+  pub store : StoreState
+  pub posts : List (Option Post)
+
+-- each thread's next post, from the list of them
+abbrev pub listed : List (Option Post) → NextPosts
+listed posts t = slice_index_or posts t None
+
+abbrev pub ask_of_post : Option Post → Option Ask
+ask_of_post None = None
+ask_of_post (Some post) = post.ask
+
+-- the ids of every post are in range
+abbrev pub AreInRange : StoreState → List (Option Post) → Type 0
+AreInRange store posts = (t : ℕ) → PostIsInRange (sizes_of store) (ask_of_post (listed posts t))
+
+-- what is kept beside the store and the posts is what they give
+pub record IsBoard (store : StoreState) (posts : List (Option Post)) (stands : List Standing) (known : List Chance) : Type 0 where
+  pub threads : length posts ≡ store.threads
+  pub few : store.threads ≤ 64
+  pub in_range : AreInRange store posts
+  pub standings : stands ≡ map standing_by posts
+  pub chances : known ≡ chances store.threads store (listed posts)
+
+-- what the thread is told by a step, and how the run ends
+abbrev pub answer_of : Effect → ℤ
+answer_of (Goes after answer) = answer
+answer_of (Stops verdict) = pos 0
+
+abbrev pub verdict_of : Effect → Option Verdict
+verdict_of (Goes after answer) = None
+verdict_of (Stops verdict) = Some verdict
+
+-- a thread takes the step that it asks, and its next post isn't known any more
+pub record TakesStep (old : BoardState) (t : ℕ) (event : Event) (ends : Option Verdict) (new : BoardState) : Type 0 where
+  pub thread : event.thread ≡ t
+  pub asked : listed old.posts t ≡ Some (record { ask = Some event.ask; line = event.line })
+  pub answer : event.answer ≡ answer_of (effect old.store t event.line event.ask)
+  pub verdict : ends ≡ verdict_of (effect old.store t event.line event.ask)
+  pub store : new.store ≡ store_after old.store (effect old.store t event.line event.ask)
+  pub posts : new.posts ≡ slice_set old.posts t None
+
+-- whether two are the same object
+abbrev pub is_object : Touched → Touched → Bool
+is_object Nothing object = false
+is_object (Mutex m) object = is_mutex m object
+is_object (Cond c) object = is_cond c object
+is_object (Sem s) object = is_sem s object
+is_object (Barrier b) object = is_barrier b object
+is_object (Thread t) object = is_thread t object
+is_object (RwLock l) object = is_rwlock l object
+
+-- whether an ask joins a thread
+abbrev pub joins : ℕ → Ask → Bool
+joins t (Join u) = u == t
+joins t ask = false
+
+abbrev pub concerns_ask : ℕ → Touched → ℕ → Option Ask → Bool
+concerns_ask t object u None = false
+concerns_ask t object u (Some ask) = names u ask object || joins t ask
+
+-- whether the chance of a thread u with this post may change where the thread t posts or takes a step that touches an object
+abbrev pub concerns : ℕ → Touched → ℕ → Option Post → Bool
+concerns t object u post = u == t || concerns_ask t object u (ask_of_post post)

@@ -1,0 +1,7 @@
+pub mod Chances
+pub mod Posts
+pub mod Obeys
+pub mod Told
+pub mod Board
+pub mod Kept
+pub mod Answers

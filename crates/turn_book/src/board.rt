@@ -1,0 +1,139 @@
+ghost use Rattle.std.specs.Prelude.{◌≡◌, ◌<◌, ◌≤◌, length, replicate, Some, None, slice_set, IfOk};
+ghost use Rattle.sync_store.specs.Store.{first, sizes_of, sizes_of_deal};
+ghost use Rattle.policy_pick.specs.declared.chance.Chance.{Chance};
+ghost use Rattle.policy_pick.specs.Choice.{TargetsAreAway};
+ghost use Rattle.turn_book.specs.Chances.{chance, chances, rest_verdict};
+ghost use Rattle.turn_book.specs.Told.{PostIsInRange, standing_by};
+ghost use Rattle.turn_book.specs.Board.{TakesStep, listed};
+
+use crate::known::{asked, blocked_line, look_again, standing_of, step_of};
+use pct_ask::{Blocked, Deal, Event, Post, Standing, Verdict};
+use policy_pick::Chance;
+use std::alloc::{AllocError as NoMemory, Global};
+use std::marker::Model;
+use sync_store::{Store, Touched};
+
+/// What the threads share and ask, and what is known of each one's next step.
+#[derive(Drop)]
+pub struct Board {
+    store: Store,
+    posts: Vec<Option<Post>>,
+    standings: Vec<Standing>,
+    chances: Vec<Chance>,
+}
+
+impl Model for Board {
+    ghost use Rattle.turn_book.specs.Board.{BoardState, IsBoard};
+
+    ghost Value = { BoardState };
+
+    ghost view = { λ b. record { store = b.store; posts = b.posts.items } };
+
+    ghost invariant = { λ b. IsBoard b.store b.posts.items b.standings.items b.chances.items };
+}
+
+impl Board {
+    /// No thread has posted.
+    pub fn new(alloc: Global, deal: &Deal) -> Result<Self, NoMemory>
+        ensures board { IfOk result (λ board. board ≡ record { store = first deal.now; posts = replicate deal.now.threads None }) }
+        ensures sizes { IfOk result (λ board. sizes_of board.store ≡ sizes_of_deal deal.now) }
+    {
+        Ok(Board {
+            store: Store::new(alloc, deal)?,
+            posts: several(alloc, None, deal.threads)?,
+            standings: several(alloc, Standing::Away, deal.threads)?,
+            chances: several(alloc, Chance::Away, deal.threads)?,
+        })
+    }
+
+    pub fn standing(&self, thread: u32) -> Standing
+        requires { thread < length self.now.posts }
+        ensures { result ≡ standing_by (listed self.now.posts thread) }
+    {
+        self.standings[thread as usize]
+    }
+
+    pub fn chances(&self) -> &[Chance]
+        ensures chances { result.now ≡ chances self.now.store.threads self.now.store (listed self.now.posts) }
+        ensures targets { TargetsAreAway result.now }
+    {
+        self.chances.as_slice()
+    }
+
+    /// A thread posts.
+    pub fn post(&mut self, thread: u32, post: Post)
+        requires thread { thread < length self.old.posts }
+        requires in_range { PostIsInRange (sizes_of self.old.store) post.ask }
+        ensures store { self.new.store ≡ self.old.store }
+        ensures posts { self.new.posts ≡ slice_set self.old.posts thread (Some post) }
+    {
+        let place = thread as usize;
+        self.posts[place] = Some(post);
+        self.standings[place] = standing_of(Some(post));
+        look_again(
+            &self.store,
+            self.posts.as_slice(),
+            self.standings.as_slice(),
+            thread,
+            Touched::Nothing,
+            self.chances.as_mut_slice(),
+        );
+    }
+
+    /// A thread takes the step that it asks. Its next post isn't known then.
+    pub fn step(&mut self, thread: u32) -> (Event, Option<Verdict>)
+        requires thread { thread < length self.old.posts }
+        requires ready { chance self.old.store (listed self.old.posts) thread ≡ Chance.Ready }
+        ensures step { TakesStep self.old thread result.0 result.1 self.new }
+        ensures sizes { sizes_of self.new.store ≡ sizes_of self.old.store }
+    {
+        let place = thread as usize;
+        match asked(self.posts[place]) {
+            Some((line, ask)) => {
+                let applied = self.store.apply(thread, line, &ask);
+                self.posts[place] = None;
+                self.standings[place] = Standing::Away;
+                look_again(
+                    &self.store,
+                    self.posts.as_slice(),
+                    self.standings.as_slice(),
+                    thread,
+                    Store::touched(&ask),
+                    self.chances.as_mut_slice(),
+                );
+                step_of(thread, line, ask, applied)
+            }
+            None => unreachable!(),
+        }
+    }
+
+    /// How the run ends where nobody may go on.
+    pub fn rest_verdict(&self) -> Verdict
+        ensures { result ≡ rest_verdict self.now.store.threads self.now.store (listed self.now.posts) }
+    {
+        let mut blocked = Blocked::new();
+        let mut stuck = false;
+        for (thread, post) in self.posts.iter().enumerate() {
+            if let Some(line) = blocked_line(&self.store, thread as u32, *post) {
+                blocked.push(thread as u32, line);
+                stuck = true;
+            }
+        }
+        if stuck {
+            Verdict::Stuck { blocked }
+        } else {
+            Verdict::Passed
+        }
+    }
+}
+
+/// As many equal items.
+fn several<T: Copy + Drop>(alloc: Global, item: T, count: u32) -> Result<Vec<T>, NoMemory>
+    ensures { IfOk result (λ v. v.items ≡ replicate count item) }
+{
+    let mut items = Vec::with_capacity(alloc, count as usize)?;
+    for _ in 0..count {
+        items.push(item)?;
+    }
+    Ok(items)
+}

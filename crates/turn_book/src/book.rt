@@ -1,0 +1,184 @@
+ghost use Rattle.std.specs.Prelude.{◌≡◌, ◌≢◌, ◌<◌, ◌≤◌, ◌↔◌, ℕ, ℤ, [], ◌++◌, List, length, Some, None, IfOk, IsSome};
+ghost use Rattle.pct_ask.specs.declared.ask.Post.{Post};
+ghost use Rattle.pct_ask.specs.declared.event.Event.{Event};
+ghost use Rattle.pct_ask.specs.declared.event.Standing.{Standing};
+ghost use Rattle.pct_ask.specs.declared.verdict.Outcome.{Outcome};
+ghost use Rattle.sync_store.specs.Store.{sizes_of_deal};
+ghost use Rattle.policy_pick.specs.declared.chance.Pick.{Pick};
+ghost use Rattle.policy_pick.specs.Plan.{SpeaksOf};
+ghost use Rattle.turn_book.specs.Told.{new_book, standing_of, choice_of, PostIsInRange, IsLawful, IsPosted, IsAnswered, IsRunOver};
+ghost use Rattle.turn_book.specs.Answers.{IsAnswer};
+
+use crate::board::Board;
+use crate::settle::settle;
+use crate::taken::{Because, Taken, reason};
+use pct_ask::{Deal, Event, EventList, Outcome, Post, Sequence, Standing};
+use policy_pick::{Pick, Policy};
+use std::alloc::{AllocError as NoMemory, Global};
+use std::marker::Model;
+
+/// A book of turns. Threads post what they ask, and the policy says whose turn it is. A thread goes on as soon as that is
+/// known, also where others haven't posted. Contracts see a book as what it was made with, each thread's posts, the steps
+/// and the outcome. Only `new` takes memory, and every call's time grows with the number of threads at most.
+#[derive(Drop)]
+pub struct TurnBook<P: Policy> {
+    deal: Deal,
+    limit: u32,
+    policy: P,
+    board: Board,
+    trace: Vec<Event>,
+    next: Pick,
+    outcome: Option<Outcome>,
+}
+
+impl<P: Policy> Model for TurnBook<P> {
+    ghost use Rattle.std.specs.Prelude.{vec_capacity};
+    ghost use Rattle.turn_book.specs.Posts.{schedule_of};
+    ghost use Rattle.turn_book.specs.Told.{Told};
+    ghost use Rattle.turn_book.specs.Kept.{told, IsKept};
+
+    ghost Value = { Told };
+
+    ghost view = { λ b. told b.deal b.limit (P.plan b.policy) b.board.posts b.trace.items b.outcome };
+
+    ghost invariant = { λ b. IsKept b.deal b.limit (P.plan b.policy) b.board b.trace.items b.next b.outcome (vec_capacity b.trace) × P.stands b.policy (schedule_of b.trace.items) };
+}
+
+impl<P: Policy> TurnBook<P> {
+    /// A book in which no thread has posted, of a run of at most `limit` steps.
+    pub fn new(alloc: Global, deal: Deal, policy: P, limit: u32) -> Result<TurnBook<P>, NoMemory>
+        requires some_steps { 1 ≤ limit }
+        requires few_steps { limit ≤ 100000 }
+        requires stands { P.stands policy [] }
+        requires speaks { SpeaksOf (P.plan policy) deal.threads }
+        ensures made { IfOk result (λ book. book ≡ new_book deal limit (P.plan policy)) }
+        ensures lawful { IfOk result IsLawful }
+    {
+        let board = Board::new(alloc, &deal)?;
+        let trace = Vec::with_capacity(alloc, limit as usize)?;
+        let next = policy.pick(board.chances());
+        Ok(TurnBook {
+            deal,
+            limit,
+            policy,
+            board,
+            trace,
+            next,
+            outcome: None,
+        })
+    }
+
+    /// A thread posts. Where the run is over this changes nothing.
+    pub fn post(&mut self, thread: u32, post: Post)
+        requires thread { thread < self.old.deal.threads }
+        requires away { standing_of self.old thread ≡ Standing.Away }
+        requires in_range { PostIsInRange (sizes_of_deal self.old.deal) post.ask }
+        ensures posted { self.old.outcome ≡ None → IsPosted self.old thread post self.new }
+        ensures over { IsSome self.old.outcome → self.new ≡ self.old }
+        ensures lawful { IsLawful self.new }
+    {
+        if self.outcome.is_none() {
+            self.board.post(thread, post);
+            let full = self.trace.len() == self.limit as usize;
+            let (next, outcome) = settle(&self.policy, &self.board, None, full);
+            self.next = next;
+            self.outcome = outcome;
+        }
+    }
+
+    /// A thread asks for its turn, and takes its step where it has it.
+    pub fn take(&mut self, thread: u32) -> Taken
+        requires { self.old.outcome ≡ None → standing_of self.old thread ≡ Standing.Asks }
+
+        // Each answer comes exactly where this holds.
+        ensures over { (outcome : Outcome) → (result ≡ Taken.Over outcome) ↔ (self.old.outcome ≡ Some outcome) }
+        ensures answer { IsAnswer result ↔ ((self.old.outcome ≡ None) × (choice_of self.old ≡ Some (Pick.Thread thread))) }
+        ensures turn { (at u : ℕ) → (result ≡ Taken.NotYet at (Because.Turn u)) ↔ ((self.old.outcome ≡ None) × (choice_of self.old ≡ Some (Pick.Thread u)) × (u ≢ thread) × (at ≡ length self.old.trace)) }
+        ensures away { (at u : ℕ) → (result ≡ Taken.NotYet at (Because.Away u)) ↔ ((self.old.outcome ≡ None) × (choice_of self.old ≡ Some (Pick.Waits u)) × (at ≡ length self.old.trace)) }
+
+        ensures answered { (answer : ℤ) → result ≡ Taken.Answer answer → IsAnswered self.old thread answer self.new }
+        ensures unchanged { ¬ IsAnswer result → self.new ≡ self.old }
+        ensures lawful { IsLawful self.new }
+    {
+        if let Some(outcome) = self.outcome {
+            return Taken::Over(outcome);
+        }
+        match reason(self.next, thread) {
+            None => Taken::Answer(self.step(thread)),
+            Some(because) => Taken::NotYet {
+                at: self.trace.len() as u32,
+                because,
+            },
+        }
+    }
+
+    /// The thread takes the step that it asks.
+    fn step(&mut self, thread: u32) -> i64
+        requires running { self.old.outcome ≡ None }
+        requires turn { choice_of self.old ≡ Some (Pick.Thread thread) }
+        ensures answered { IsAnswered self.old thread result self.new }
+        ensures lawful { IsLawful self.new }
+    {
+        let (event, verdict) = self.board.step(thread);
+        self.trace.push_reserved(event);
+        self.policy.took(thread);
+        let full = self.trace.len() == self.limit as usize;
+        let (next, outcome) = settle(&self.policy, &self.board, verdict, full);
+        self.next = next;
+        self.outcome = outcome;
+        event.answer
+    }
+
+    /// The thread whose turn it is, if that is known.
+    pub fn granted(&self) -> Option<u32>
+        ensures { (u : ℕ) → (result ≡ Some u) ↔ ((self.now.outcome ≡ None) × (choice_of self.now ≡ Some (Pick.Thread u))) }
+    {
+        match (self.outcome, self.next) {
+            (None, Pick::Thread(thread)) => Some(thread),
+            _ => None,
+        }
+    }
+
+    /// The steps so far, which obey the plan over the posts. Whatever the threads may post besides, they begin every whole
+    /// run over it, and once an outcome stands they are that run.
+    pub fn trace(&self) -> &[Event]
+        ensures trace { result.now ≡ self.now.trace }
+        ensures lawful { IsLawful self.now }
+        ensures prefix { (posts : List (List Post)) (events : List Event) → IsRunOver self.now posts events → (rest : List Event) × (events ≡ result.now ++ rest) }
+        ensures whole { (posts : List (List Post)) (events : List Event) → IsRunOver self.now posts events → IsSome self.now.outcome → events ≡ result.now }
+    {
+        self.trace.as_slice()
+    }
+
+    /// What became of the run, if that is settled.
+    pub fn outcome(&self) -> Option<Outcome>
+        ensures outcome { result ≡ self.now.outcome }
+        ensures lawful { IsLawful self.now }
+    {
+        self.outcome
+    }
+
+    /// What is known of a thread's next post.
+    pub fn standing(&self, thread: u32) -> Standing
+        requires { thread < self.now.deal.threads }
+        ensures { result ≡ standing_of self.now thread }
+    {
+        self.board.standing(thread)
+    }
+
+    /// What the book was made with.
+    pub fn deal(&self) -> &Deal
+        ensures { result.now ≡ self.now.deal }
+    {
+        &self.deal
+    }
+
+    /// The steps, and what became of the run, if that is settled.
+    pub fn into_parts(self) -> (EventList, Option<Outcome>)
+        ensures events { result.0 ≡ self.trace }
+        ensures outcome { result.1 ≡ self.outcome }
+        ensures lawful { IsLawful self }
+    {
+        (Sequence::from_vec(self.trace), self.outcome)
+    }
+}

@@ -1,0 +1,141 @@
+ghost use Rattle.std.specs.Prelude.{◌≡◌, ◌<◌, ◌≤◌, ℕ, false, List, length, map, Some, None, MatchOption};
+ghost use Rattle.std.specs.Option.{option_map};
+ghost use Rattle.pct_ask.specs.declared.ask.Post.{Post};
+ghost use Rattle.sync_store.specs.Store.{sizes_of};
+ghost use Rattle.sync_store.specs.Effect.{Effect, applied_of};
+ghost use Rattle.sync_store.specs.Ready.{away_by, ended_by};
+ghost use Rattle.policy_pick.specs.Choice.{chance_of};
+ghost use Rattle.turn_book.specs.Chances.{chance, chance_by, chance_of_post, chances, is_ended, is_unknown, blocked_by_post};
+ghost use Rattle.turn_book.specs.Told.{PostIsInRange, standing_by};
+ghost use Rattle.turn_book.specs.Board.{AreInRange, ask_of_post, answer_of, verdict_of, concerns, listed};
+
+use crate::objects::{is_object, joins, named};
+use pct_ask::{Ask, Event, Post, Standing, Verdict};
+use policy_pick::Chance;
+use sync_store::{Applied, Ready, Store, Touched};
+
+/// What is known of a thread with this next post.
+pub fn standing_of(post: Option<Post>) -> Standing
+    ensures { result ≡ standing_by post }
+{
+    match post {
+        None => Standing::Away,
+        Some(post) => match post.ask {
+            None => Standing::Ended,
+            Some(_) => Standing::Asks,
+        },
+    }
+}
+
+/// The line and the ask of a post, if it has one.
+pub fn asked(post: Option<Post>) -> Option<(u32, Ask)>
+    ensures { MatchOption result (ask_of_post post ≡ None) (λ found. post ≡ Some (record { ask = Some found.1; line = found.0 })) }
+{
+    match post {
+        None => None,
+        Some(post) => match post.ask {
+            None => None,
+            Some(ask) => Some((post.line, ask)),
+        },
+    }
+}
+
+/// A step as the trace has it, and how it ends the run.
+pub fn step_of(thread: u32, line: u32, ask: Ask, applied: Applied) -> (Event, Option<Verdict>)
+    ensures thread { result.0.thread ≡ thread }
+    ensures line { result.0.line ≡ line }
+    ensures ask { result.0.ask ≡ ask }
+    ensures answer { (step : Effect) → applied ≡ applied_of step → result.0.answer ≡ answer_of step }
+    ensures verdict { (step : Effect) → applied ≡ applied_of step → result.1 ≡ verdict_of step }
+{
+    let (answer, verdict) = match applied {
+        Applied::Answer(answer) => (answer, None),
+        Applied::Ends(verdict) => (0, Some(verdict)),
+    };
+    let event = Event {
+        thread,
+        line,
+        ask,
+        answer,
+    };
+    (event, verdict)
+}
+
+/// The line of a thread that is blocked where nobody may go on.
+pub fn blocked_line(store: &Store, thread: u32, post: Option<Post>) -> Option<u32>
+    requires { thread < store.now.threads }
+    ensures { blocked_by_post store.now thread post ≡ option_map (λ line. (thread, line)) result }
+{
+    let (line, ask) = asked(post)?;
+    if ask == Ask::Begin && !store.is_started(thread) {
+        None
+    } else {
+        Some(line)
+    }
+}
+
+/// The chance of a thread with this next post.
+fn chance_of(store: &Store, standings: &[Standing], thread: u32, post: Option<Post>) -> Chance
+    requires thread { thread < store.now.threads }
+    requires standings { length standings.now ≡ store.now.threads }
+    requires in_range { PostIsInRange (sizes_of store.now) (ask_of_post post) }
+    ensures { result ≡ chance_of_post store.now (away_by standings.now) (ended_by standings.now) thread post }
+{
+    match post {
+        None => Chance::Away,
+        Some(post) => match post.ask {
+            None => Chance::Ended,
+            Some(ask) => chance_by(store.ready(standings, thread, &ask)),
+        },
+    }
+}
+
+fn chance_by(ready: Ready) -> Chance
+    ensures { result ≡ chance_by ready }
+{
+    match ready {
+        Ready::Yes => Chance::Ready,
+        Ready::No => Chance::Blocked,
+        Ready::Unknown { target } => Chance::Unknown { target },
+    }
+}
+
+/// Whether a thread's chance may change where another thread posts or takes a step.
+fn concerns(thread: u32, touched: Touched, other: u32, post: Option<Post>) -> bool
+    ensures { result ≡ concerns thread touched other post }
+{
+    if other == thread {
+        return true;
+    }
+    match asked(post) {
+        None => false,
+        Some((_, ask)) => {
+            let (first, second) = named(other, &ask);
+            is_object(first, touched) || is_object(second, touched) || joins(thread, &ask)
+        }
+    }
+}
+
+/// Looks again at the threads that the post or the step of a thread concerns.
+pub fn look_again(
+    store: &Store,
+    posts: &[Option<Post>],
+    standings: &[Standing],
+    thread: u32,
+    touched: Touched,
+    known: &mut [Chance],
+)
+    requires threads { length posts.now ≡ store.now.threads }
+    requires few { store.now.threads ≤ 64 }
+    requires in_range { AreInRange store.now posts.now }
+    requires standings { standings.now ≡ map standing_by posts.now }
+    requires as_many { length known.old ≡ store.now.threads }
+    requires others { (u : ℕ) → u < store.now.threads → concerns thread touched u (listed posts.now u) ≡ false → chance_of known.old u ≡ chance store.now (listed posts.now) u }
+    ensures { known.new ≡ chances store.now.threads store.now (listed posts.now) }
+{
+    for (other, post) in posts.iter().enumerate() {
+        if concerns(thread, touched, other as u32, *post) {
+            known[other] = chance_of(store, standings, other as u32, *post);
+        }
+    }
+}

@@ -1,0 +1,14 @@
+//! The turns of the threads of a test: each thread posts what it asks, and a policy says whose turn it is.
+#![tactic(auto)]
+
+mod board;
+mod book;
+mod known;
+mod objects;
+mod settle;
+mod taken;
+#[cfg(test)]
+mod tests;
+
+pub use book::TurnBook;
+pub use taken::{Because, Taken};
