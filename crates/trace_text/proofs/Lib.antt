@@ -1,0 +1,17 @@
+pub mod Values
+pub mod Cuts
+pub mod HeadWords
+pub mod Ends
+pub mod Bodies
+pub mod Names
+pub mod AskWords
+pub mod StepWords
+pub mod Bytes
+pub mod Written
+pub mod Rows
+pub mod Heads
+pub mod Wholes
+pub mod FaultLines
+pub mod FaultBodies
+pub mod Readings
+pub mod Traces
