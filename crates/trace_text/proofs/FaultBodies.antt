@@ -89,8 +89,10 @@ reach-more size names all version limit m next piece after pieces event r j =
   where
     both-false : (a b : Bool) → a ≡ false → b ≡ false → (a || b) ≡ false
     both-false a b p q = rw (p, q)
+
     later-number : (b : Bool) (x n : ℕ) → b ≡ false → x ≡ n → (if b then 0 else x) ≡ n
     later-number b x n p q = rw (p, q)
+
     no-second : (a b : Bool) → b ≡ false → (a && b) ≡ false
     no-second true b p = p
     no-second false b p = refl

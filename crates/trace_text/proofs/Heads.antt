@@ -132,10 +132,10 @@ once-told names (t ∷ ts) h =
     let fresh = not-true (is_among (thread_name names t) (map (thread_name names) ts)) here in
     AllPairs-cons ◌≢◌ t ts
     (λ k d within same.
-        let far = not-at (thread_name names t) (map (thread_name names) ts) k fresh (rw length-map within) in
-        let near : bytes_eq (thread_name names t) (get_or (map (thread_name names) ts) k []) ≡ true =
-            rw (get-map (thread_name names) ts k d within, ← same) (test-word (thread_name names t)) in
-        false-true _ far near)
+    let far = not-at (thread_name names t) (map (thread_name names) ts) k fresh (rw length-map within) in
+    let near : bytes_eq (thread_name names t) (get_or (map (thread_name names) ts) k []) ≡ true =
+    rw (get-map (thread_name names) ts k d within, ← same) (test-word (thread_name names t)) in
+    false-true _ far near)
     (once-told names ts (and-right (not (is_among (thread_name names t) (map (thread_name names) ts))) (are_different (map (thread_name names) ts)) h))
   where
     not-true : (a : Bool) → not a ≡ true → a ≡ false

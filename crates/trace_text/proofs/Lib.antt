@@ -14,4 +14,5 @@ pub mod Wholes
 pub mod FaultLines
 pub mod FaultBodies
 pub mod Readings
+pub mod Sizes
 pub mod Traces

@@ -193,10 +193,13 @@ stage-five size names p1 p2 p3 p4 p5 rest version words order points limit small
   where
     unknown : has_unknown_thread names (Some words) ≡ false
     unknown = rw t
+
     versions : (h : version_in p1 ≡ Some version) → Rattle.trace_text.specs.Faults.version_of (p1 ∷ p2 ∷ p3 ∷ p4 ∷ p5 ∷ rest) ≡ version
     versions h = rw h
+
     limits : (h : limit_in p4 ≡ Some limit) → Rattle.trace_text.specs.Faults.limit_of (p1 ∷ p2 ∷ p3 ∷ p4 ∷ p5 ∷ rest) ≡ limit
     limits h = rw h
+
     places : (i k : ℕ) → k ≡ 5 + i → line_at (p1 ∷ p2 ∷ p3 ∷ p4 ∷ p5 ∷ rest) k ≡ piece_at (p5 ∷ rest) i
     places i k e = let less : k - 1 ≡ suc (suc (suc (suc i))) = omega arith in ap (piece_at (p1 ∷ p2 ∷ p3 ∷ p4 ∷ p5 ∷ rest)) less
 

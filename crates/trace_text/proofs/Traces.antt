@@ -31,6 +31,7 @@ use Rattle.trace_text.proofs.Heads.{version-told, version-known, order-told, ord
 use Rattle.trace_text.proofs.Wholes.{line_pieces, HaveNoEnds, pieces-lines, line_pieces-some, text-pieces, IsBody, body-told, body-known}
 use Rattle.trace_text.proofs.FaultBodies.{IsTold}
 use Rattle.trace_text.proofs.Readings.{HeadLine, head-ok, read-told}
+use Rattle.trace_text.proofs.Sizes.{trace-size}
 
 -- ---- what is read is spelled so
 
@@ -156,12 +157,19 @@ version-high version (inr two) = (high-by (codes "trace") refl, (decimal-high ve
 
 pub lines-no-end : (names : NameLists) (file : TraceFile) → AreNames names → IsRun names file → HaveNoEnds (head_lines names (head_of file.header) ++ step_lines names 1 file.events ++ verdict_line names file.verdict ∷ [])
 lines-no-end names file sound run =
-    let head = run.head in
-    (no-end (codes "trace" ∷ decimal file.header.version ∷ []) (version-high file.header.version head.version),
-    (no-end (codes "order" ∷ map (thread_name names) file.header.order) (order-line-high names file.header.order sound head.threads),
-    (no-end (codes "points" ∷ map decimal file.header.points) (points-line-high file.header.points head.points),
-    (no-end (codes "limit" ∷ decimal file.header.limit ∷ []) (limit-line-high file.header.limit head.limit),
-    steps-no-end names file.header.version 1 file.events file.verdict sound run.steps run.end (let few = run.few in let high = head.limit.1 in omega arith)))))
+    let head = run.head in (
+      no-end (codes "trace" ∷ decimal file.header.version ∷ []) (version-high file.header.version head.version),
+      (
+        no-end (codes "order" ∷ map (thread_name names) file.header.order) (order-line-high names file.header.order sound head.threads),
+        (
+          no-end (codes "points" ∷ map decimal file.header.points) (points-line-high file.header.points head.points),
+          (
+            no-end (codes "limit" ∷ decimal file.header.limit ∷ []) (limit-line-high file.header.limit head.limit),
+            steps-no-end names file.header.version 1 file.events file.verdict sound run.steps run.end (let few = run.few in let high = head.limit.1 in omega arith),
+          ),
+        ),
+      ),
+    )
 
 pub trace-read : (names : NameLists) (bytes : List ℕ) (file : TraceFile) → AreNames names → IsTrace bytes names file → read names bytes ≡ Ok file
 trace-read names bytes file sound trace =
@@ -176,7 +184,7 @@ trace-read names bytes file sound trace =
     let l = limit-known file.header.limit head.limit in
     let some = line_pieces-some (step_lines names 1 file.events ++ verdict_line names file.verdict ∷ []) in
     let body : body_of names file.header.version file.header.limit 1 (some.0 ∷ some.1) ≡ Ok (file.events, file.verdict) =
-        ap (body_of names file.header.version file.header.limit 1) (sym some.2) ∙ body-known names file.header.version file.header.limit 1 file.events file.verdict sound run.steps run.end (let few = run.few in omega arith) head.limit.1 in
+    ap (body_of names file.header.version file.header.limit 1) (sym some.2) ∙ body-known names file.header.version file.header.limit 1 file.events file.verdict sound run.steps run.end (let few = run.few in omega arith) head.limit.1 in
     ap (λ large. if large then Err (1, TooLong) else file_in names (pieces_of bytes)) small
     ∙ ap (file_in names) (pieces ∙ ap (λ rest. join_with_byte 32 (codes "trace" ∷ decimal file.header.version ∷ []) ∷ join_with_byte 32 (codes "order" ∷ map (thread_name names) file.header.order) ∷ join_with_byte 32 (codes "points" ∷ map decimal file.header.points) ∷ join_with_byte 32 (codes "limit" ∷ decimal file.header.limit ∷ []) ∷ rest) some.2)
     ∙ head-read names (join_with_byte 32 (codes "trace" ∷ decimal file.header.version ∷ [])) (join_with_byte 32 (codes "order" ∷ map (thread_name names) file.header.order)) (join_with_byte 32 (codes "points" ∷ map decimal file.header.points)) (join_with_byte 32 (codes "limit" ∷ decimal file.header.limit ∷ [])) some.0 some.1 file.header.version (map (thread_name names) file.header.order) file.header.order file.header.points file.header.limit (file.events, file.verdict) v o.0 o.1 p l body
@@ -248,6 +256,7 @@ one-fault size names pieces l m j k a b = lines (order-cases l m)
     kinds same (inl low) = absurd (true-false (is_faulty size names pieces m j) (ap (λ x. is_faulty size names pieces x j) (sym same) ∙ a.faulty) (b.first_kind j low))
     kinds same (inr (inl low)) = absurd (true-false (is_faulty size names pieces l k) (ap (λ x. is_faulty size names pieces x k) same ∙ b.faulty) (a.first_kind k low))
     kinds same (inr (inr e)) = sym (of_rank-rank j) ∙ ap of_rank e ∙ of_rank-rank k
+
     lines : (l < m) ⊎ ((m < l) ⊎ (l ≡ m)) → (l ≡ m) × (j ≡ k)
     lines (inl low) = absurd (true-false (is_faulty size names pieces l j) a.faulty (b.first_line l j low))
     lines (inr (inl low)) = absurd (true-false (is_faulty size names pieces m k) b.faulty (a.first_line m k low))
@@ -272,3 +281,19 @@ given-err (Err NoMemory) r line kind given h = inr refl
 
 pub fault-given : (names : NameLists) (bytes : List ℕ) (result : Result TraceFile TraceError) (line : ℕ) (kind : TraceFault) → Gives (λ (f : TraceFile). f) result (read names bytes) → IsTraceFault bytes names line kind → (result ≡ Err (Bad line kind)) ⊎ (result ≡ Err NoMemory)
 fault-given names bytes result line kind given fault = given-err result (read names bytes) line kind given (fault-read names bytes (read names bytes) line kind (read-told names bytes) fault)
+
+-- ---- what is written
+
+answered-by : (names : NameLists) (bytes : List ℕ) (file : TraceFile) (answer : Result TraceFile TraceError) → AreNames names → IsTrace bytes names file → Answers bytes names answer → (answer ≡ Ok file) ⊎ (answer ≡ Err NoMemory)
+answered-by names bytes file (Ok other) sound trace told =
+    let same = ok_is other file (sym (trace-read names bytes other sound told) ∙ trace-read names bytes file sound trace) in inl (ap (λ x. Ok x) same)
+answered-by names bytes file (Err (Bad line kind)) sound trace told =
+    let two : ◌≡◌ {A = Result TraceFile Fault} (Ok file) (Err (line, kind)) = sym (trace-read names bytes file sound trace) ∙ fault-read names bytes (read names bytes) line kind (read-told names bytes) told in absurd cc
+answered-by names bytes file (Err NoMemory) sound trace told = inr refl
+
+-- a text that was written is a trace, and whatever is answered of it is what was written
+pub written-trace : (names : NameLists) (bytes : List ℕ) (file : TraceFile) → AreNames names → IsRun names file → bytes ≡ trace_text (head_of file.header) names file.events file.verdict → IsTrace bytes names file
+written-trace names bytes file sound run is = record { run = run; small = rw is (trace-size names file sound run); text = is }
+
+pub written-answer : (names : NameLists) (bytes : List ℕ) (file : TraceFile) (answer : Result TraceFile TraceError) → AreNames names → IsTrace bytes names file → Answers bytes names answer → (answer ≡ Ok file) ⊎ (answer ≡ Err NoMemory)
+written-answer names bytes file answer sound trace told = answered-by names bytes file answer sound trace told

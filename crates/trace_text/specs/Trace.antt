@@ -2,12 +2,17 @@
 use Rattle.std.specs.Prelude.{◌≡◌, ℕ, ◌≤◌, List, length, All}
 use Rattle.pct_ask.specs.NameLists.{NameLists}
 use Rattle.pct_ask.specs.TraceText.{TraceHead, trace_text}
+use Rattle.pct_ask.specs.declared.event.Event.{Event}
+use Rattle.pct_ask.specs.declared.verdict.Verdict.{Verdict}
 use Rattle.trace_text.specs.Lawful.{IsHead, IsStep, IsEnd}
 use Rattle.trace_text.specs.declared.file.Header.{Header}
 use Rattle.trace_text.specs.declared.file.TraceFile.{TraceFile}
 
 abbrev pub head_of : Header → TraceHead
 head_of header = record { version = header.version; order = header.order; points = header.points; limit = header.limit }
+
+abbrev pub told : Header → List Event → Verdict → TraceFile
+told header events verdict = record { header = header; events = events; verdict = verdict }
 
 -- What may be written: the parts are lawful under the names, and there are at most `limit` steps.
 pub record IsRun (names : NameLists) (file : TraceFile) : Type 0 where

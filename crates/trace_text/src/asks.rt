@@ -215,12 +215,7 @@ fn plain_ask(word: &[u8], operand: &[u8]) -> Option<Option<Ask>>
 
 /// An ask of two words.
 #[tactic(auto, unfolding(crate::specs::Asks::ask_on_one))]
-pub fn ask_on_one(
-    names: &Names,
-    version: u32,
-    word: &[u8],
-    operand: &[u8],
-) -> Option<Option<Ask>>
+pub fn ask_on_one(names: &Names, version: u32, word: &[u8], operand: &[u8]) -> Option<Option<Ask>>
     ensures { result ≡ asks.ask_on_one names.now version word.now operand.now }
 {
     match kind_of(version, word) {

@@ -27,6 +27,15 @@ const POINTS: &[u8] = b"points";
 
 const LIMIT: &[u8] = b"limit";
 
+fn bad_header(line: u32) -> TraceError
+    ensures { result ≡ TraceError.Bad line TraceFault.BadHeader }
+{
+    TraceError::Bad {
+        line,
+        kind: TraceFault::BadHeader,
+    }
+}
+
 /// What a line of the head says, and what follows its LF.
 fn head_value<T: Drop>(
     line: u32,
@@ -36,17 +45,11 @@ fn head_value<T: Drop>(
     ensures { Gives (λ x. (x.0, pieces_of x.1.now)) result (cut_value line value after.entry) }
 {
     let Some(after) = after else {
-        return Err(TraceError::Bad {
-            line,
-            kind: TraceFault::BadHeader,
-        });
+        return Err(bad_header(line));
     };
     match value {
         Some(value) => Ok((value, after)),
-        None => Err(TraceError::Bad {
-            line,
-            kind: TraceFault::BadHeader,
-        }),
+        None => Err(bad_header(line)),
     }
 }
 

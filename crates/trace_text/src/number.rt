@@ -33,11 +33,7 @@ pub fn natural_of(word: &[u8]) -> Option<u64>
 fn as_natural(value: i64) -> Option<u64>
     ensures { result ≡ numbers.natural (Some value) }
 {
-    if value < 0 {
-        None
-    } else {
-        Some(value as u64)
-    }
+    if value < 0 { None } else { Some(value as u64) }
 }
 
 /// The number in a range that a canonical decimal spells.

@@ -249,9 +249,11 @@ pub fn judged(limit: u32, next: u32, row: Option<Row>) -> Result<Sound, TraceFau
         Some(Row::Step { number, .. }) if u64::from(limit) < number => Err(TraceFault::TooLong),
         Some(Row::Step { number, event }) => judged_event(next, number, event),
         Some(Row::End { verdict: None }) => Err(TraceFault::UnknownName),
-        Some(Row::End {
-            verdict: Some(verdict),
-        }) => Ok(Sound::Last(verdict)),
+        Some(
+            Row::End {
+                verdict: Some(verdict),
+            },
+        ) => Ok(Sound::Last(verdict)),
     }
 }
 

@@ -1,21 +1,25 @@
 //! A trace, written line by line.
 
-ghost use Rattle.std.specs.Prelude.{◌≡◌, ◌<◌, ◌≤◌, ◌⊎◌, ◌+◌, [], ◌∷◌, ◌++◌, false, All, OnOk, IfOk, length, map, codes, decimal};
+ghost use Rattle.std.specs.Prelude.{◌≡◌, ◌<◌, ◌≤◌, ◌⊎◌, ◌+◌, [], ◌∷◌, ◌++◌, false, All, Result, OnOk, IfOk, length, map, codes, decimal};
 ghost use Rattle.std.specs.Fmt.{signed_decimal};
 ghost use Rattle.std.specs.List.{slice_index_or, flat_map};
 ghost use Rattle.pct_ask.specs.NameLists.{list_of};
 ghost use Rattle.pct_ask.specs.VerdictText.{thread_name, fault_word, named, IsForm, HasNames, IsWhole};
 ghost use Rattle.pct_ask.specs.TraceText.{ask_words, event_words, step_lines, head_lines, verdict_line, line_text, trace_text, check_word};
-ghost use Rattle.trace_text.specs.Lawful.{IsAsk, IsStep, IsEnd, IsHead, is_of_second};
+ghost use Rattle.trace_text.specs.Answers.{Answers};
+ghost use Rattle.trace_text.specs.Lawful.{IsAsk, IsStep, IsHead, is_of_second};
 ghost use Rattle.trace_text.specs.Spaced.{spaced};
-ghost use Rattle.trace_text.specs.Trace.{head_of, IsRun};
+ghost use Rattle.trace_text.specs.Trace.{head_of, told, IsTrace};
+ghost use Rattle.trace_text.specs.declared.file.TraceFile.{TraceFile};
+ghost use Rattle.trace_text.specs.declared.fault.TraceError.{TraceError};
 
 use crate::asks::{
     ADD, ARRIVE, BEGIN, BROADCAST, CAS, CHECK, DOWN, FAILS, FAULT, HOLDS, JOIN, LEAVE, LOCK,
     OVERFLOW, RD_LOCK, READ, REGAIN, RELEASE, RW_UNLOCK, SIGNAL, SPIN, START, TRY_DOWN, TRY_LOCK,
     TRY_RD_LOCK, TRY_WR_LOCK, UNLOCK, UP, WR_LOCK, WRITE, YIELD, ZERO_DIVISOR,
 };
-use crate::file::Header;
+use crate::fault::TraceError;
+use crate::file::{Header, TraceFile};
 use pct_ask::{Ask, Event, FaultKind, NameKind, Names, Verdict, write_number, write_verdict};
 use std::alloc::{AllocError as NoMemory, Global};
 
@@ -118,13 +122,7 @@ fn fault_word(kind: FaultKind) -> &'static [u8]
     }
 }
 
-fn push_cas(
-    out: &mut Vec<u8>,
-    names: &Names,
-    var: u32,
-    old: i64,
-    new: i64,
-) -> Result<(), NoMemory>
+fn push_cas(out: &mut Vec<u8>, names: &Names, var: u32, old: i64, new: i64) -> Result<(), NoMemory>
     requires { var < length names.now.vars }
     ensures { OnOk result (out.new.items ≡ out.old.items ++ spaced (codes "cas" ∷ slice_index_or names.now.vars var [] ∷ signed_decimal old ∷ signed_decimal new ∷ [])) }
 {
@@ -268,7 +266,8 @@ fn push_head(out: &mut Vec<u8>, names: &Names, header: &Header) -> Result<(), No
 fn push_verdict(out: &mut Vec<u8>, names: &Names, verdict: &Verdict) -> Result<(), NoMemory>
     requires threads { HasNames names.now verdict.now }
     requires whole { IsWhole verdict.now }
-    ensures { OnOk result (out.new.items ≡ out.old.items ++ line_text (verdict_line names.now verdict.now)) }
+    ensures text { OnOk result (out.new.items ≡ out.old.items ++ line_text (verdict_line names.now verdict.now)) }
+    ensures form { OnOk result (IsForm names.now (named names.now verdict.now)) }
 {
     out.extend_from_slice(b"verdict ")?;
     write_verdict(verdict, names, out)?;
@@ -291,7 +290,13 @@ pub fn write_trace(
     requires whole { IsWhole verdict.now }
     requires version { (is_of_second verdict.now ≡ false) ⊎ (header.now.version ≡ 2) }
     ensures text { IfOk result (λ text. text.items ≡ trace_text (head_of header.now) names.now events.now verdict.now) }
+    ensures trace { IfOk result (λ text. IsTrace text.items names.now (told header.now events.now verdict.now)) }
+
+    // Whatever may be answered of the text, want of memory aside, is what was written.
+    ensures read_back { IfOk result (λ text. (answer : Result TraceFile TraceError) → Answers text.items names.now answer → (answer ≡ Ok (told header.now events.now verdict.now)) ⊎ (answer ≡ Err TraceError.NoMemory)) }
 {
+    // The names are lawful, and so what is written can be read.
+    let _ = names.count(NameKind::Thread);
     let mut text = Vec::new(alloc);
     push_head(&mut text, names, header)?;
     push_steps(&mut text, names, header.version, events)?;

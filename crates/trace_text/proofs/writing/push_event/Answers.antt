@@ -14,5 +14,5 @@ returns c =
     let names = c.args.names.now in
     on_ok_weaker c.push_answer.result
     (λ written. written ∙ rw (c.in_ok-push_ask.ensures, c.in_ok-push_count.ensures, c.in_ok-push_name.ensures, c.in_ok-push_step.ensures)
-        (event_line c.args.out.now.items (decimal c.args.step) (thread_name names e.thread) (decimal e.line) (ask_words names e.ask) (codes "=") (signed_decimal e.answer)))
+    (event_line c.args.out.now.items (decimal c.args.step) (thread_name names e.thread) (decimal e.line) (ask_words names e.ask) (codes "=") (signed_decimal e.answer)))
     c.push_answer.ensures
