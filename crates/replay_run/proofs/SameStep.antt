@@ -1,6 +1,6 @@
 -- `==` on steps is equality.
-use Rattle.std.specs.Bool.{Decides}
-use Rattle.std.specs.Cmp.{unsigned_Decides, signed_Decides}
+use Rattle.std.specs.Bool.{Decides, beq}
+use Rattle.std.specs.Cmp.{unsigned_Decides, signed_Decides, booleans_Decides}
 use Rattle.std.specs.Ordering.{int_eq}
 use Rattle.std.specs.Prelude.{◌==◌, ◌&&◌}
 use Rattle.std.proofs.Common.{◌≡◌, ℕ, ℤ, Bool, true, false, refl, ap}
@@ -45,7 +45,7 @@ ask-Decides (Arrive x) (Arrive u) = Decides-like (x == u) (λ e. ap (λ n. Arriv
 ask-Decides (Leave x) (Leave u) = Decides-like (x == u) (λ e. ap (λ n. Leave n) e) (λ e. cc) (unsigned_Decides x u)
 ask-Decides (Join x) (Join u) = Decides-like (x == u) (λ e. ap (λ n. Join n) e) (λ e. cc) (unsigned_Decides x u)
 ask-Decides Yield Yield = (λ h. refl, λ h. refl)
-ask-Decides (Check x) (Check u) = Decides-like (SAMEBOOL x u) (λ e. ap (λ n. Check n) e) (λ e. cc) (bool-Decides x u)
+ask-Decides (Check x) (Check u) = Decides-like (beq x u) (λ e. ap (λ n. Check n) e) (λ e. cc) (booleans_Decides x u)
 ask-Decides (Fault x) (Fault u) = Decides-like ((fault_eq.ghosts).eq x u) (λ e. ap (λ n. Fault n) e) (λ e. cc) (fault-Decides x u)
 ask-Decides (Start x) (Start u) = Decides-like (x == u) (λ e. ap (λ n. Start n) e) (λ e. cc) (unsigned_Decides x u)
 ask-Decides Begin Begin = (λ h. refl, λ h. refl)

@@ -32,23 +32,23 @@ bodies_of script = map (pending script) (threads_below (length script.threads))
 -- code and a deal that are those of a sound script
 pub record AreOf (script : ScriptText) (code : List (List Operation)) (deal : Deal) : Type 0 where
   pub sound : IsScript script
-  pub code : IsCodeOf script code
-  pub deal : IsDealOf script deal
+  pub is_code : IsCodeOf script code
+  pub is_deal : IsDealOf script deal
 
 -- The steps that were made and those that are told agree before this step, and there they are different.
 pub record DifferAt (step : ℕ) (made told : List Event) (e f : Event) : Type 0 where
   pub before : List Event
   pub more : List Event
   pub more_told : List Event
-  pub made : made ≡ before ++ e ∷ more
-  pub told : told ≡ before ++ f ∷ more_told
+  pub made_is : made ≡ before ++ e ∷ more
+  pub told_is : told ≡ before ++ f ∷ more_told
   pub number : step ≡ length before + 1
   pub apart : e ≢ f
 
 -- The steps that were made are all told, and this one is told after them.
 pub record EndsBefore (step : ℕ) (made told : List Event) (f : Event) : Type 0 where
   pub more_told : List Event
-  pub told : told ≡ made ++ f ∷ more_told
+  pub told_is : told ≡ made ++ f ∷ more_told
   pub number : step ≡ length made + 1
 
 -- The same steps were made and are told. The verdict is compared as the step after them.
