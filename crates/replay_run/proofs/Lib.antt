@@ -1,0 +1,6 @@
+pub mod SameStep
+pub mod ScriptBodies
+pub mod ListedRuns
+pub mod Compared
+pub mod Once
+pub mod Parts

@@ -1,0 +1,10 @@
+//! Replay of traces: a trace's list of threads is run again, and the run is compared with the trace.
+#![tactic(auto)]
+
+mod answer;
+mod compare;
+mod replaying;
+mod same;
+
+pub use answer::{Found, Replayed, Written};
+pub use replaying::{bodies_of, replay};
