@@ -6,6 +6,7 @@ pub mod ScriptParts
 pub mod ScriptSeen
 pub mod DealOf
 pub mod Values
+pub mod Machine
 pub mod Moves
 pub mod Posts
 pub mod Rows
@@ -16,3 +17,9 @@ pub mod Ranges
 pub mod Grammar
 pub mod Faults
 pub mod ExpressionRows
+pub mod Naming
+pub mod Layout
+pub mod Renumbering
+pub mod Printing
+pub mod LayoutRows
+pub mod EveryForm

@@ -1,9 +1,9 @@
 -- What a thread does by itself, and what it asks, by the first of its statements that remain (this project).
-use Rattle.std.specs.Prelude.{ℕ, ℤ, pos, not, Bool, true, false, if◌then◌else◌, List, [], ◌∷◌, ◌++◌, replicate, Result, Ok, Err, slice_set}
+use Rattle.std.specs.Prelude.{ℕ, ℤ, pos, not, Bool, true, false, if◌then◌else◌, List, [], ◌∷◌, ◌++◌, replicate, Ok, Err, slice_set}
 use Rattle.pct_ask.specs.declared.ask.Ask.{Ask}
 use Rattle.pct_ask.specs.declared.ask.Ask.TheVariants as asks
-use Rattle.pct_ask.specs.declared.ask.FaultKind.{FaultKind}
-use Rattle.script_tree.specs.Trees.{Statement, Statements, Read, Write, Add, Cas, Lock, TryLock, Unlock, Wait, Signal, Broadcast, Down, TryDown, Up, Arrive, Join, Yield, Assert, Set, If, IfElse, While, Start, RdLock, WrLock, TryRdLock, TryWrLock, RwUnlock, list}
+use Rattle.script_tree.specs.Trees.{Statement, Statements, Read, Write, Add, Cas, Lock, TryLock, Unlock, Wait, Signal, Broadcast, Down, TryDown, Up, Arrive, Join, Yield, Assert, Set, If, IfElse, While, Start, RdLock, WrLock, TryRdLock, TryWrLock, RwUnlock, list, line_of}
+use Rattle.script_tree.specs.Machine.{Act, Moves, Asks, Ends}
 use Rattle.script_tree.specs.Values.{Value, is_zero, value_of}
 
 -- a thread between two moves: the statements that remain, its sixteen numbers, and whether it has had the first answer
@@ -24,20 +24,13 @@ at_start body = before (list body) (replicate 16 (pos 0))
 abbrev pub ended : State
 ended = before [] []
 
--- what the statement at the head does
-pub data Act : Type 0 where
-  -- a local move, or its fault
-  Moves : (next : Result State FaultKind) → Act
-  -- an ask, and the state after each answer
-  Asks : (ask : Ask) (after : ℤ → State) → Act
-
 -- a local move by a value
-abbrev pub moves : Value → (ℤ → State) → Act
+abbrev pub moves : Value → (ℤ → State) → Act State
 moves (Ok n) next = Moves (Ok (next n))
 moves (Err kind) next = Moves (Err kind)
 
 -- an ask by a value. After a fault the thread has ended
-abbrev pub asks_by : Value → (ℤ → Act) → Act
+abbrev pub asks_by : Value → (ℤ → Act State) → Act State
 asks_by (Ok n) act = act n
 asks_by (Err kind) act = Asks (asks.Fault kind) (λ answer. ended)
 
@@ -51,10 +44,10 @@ module _ (rest : List Statement) (registers : List ℤ) where
   keeps reg n = before rest (slice_set registers reg n)
 
   -- an ask whose answer goes into a register, and one whose answer tells nothing
-  abbrev pub asks_into : ℕ → Ask → Act
+  abbrev pub asks_into : ℕ → Ask → Act State
   asks_into reg ask = Asks ask (keeps reg)
 
-  abbrev pub asks_only : Ask → Act
+  abbrev pub asks_only : Ask → Act State
   asks_only ask = Asks ask (λ answer. before rest registers)
 
   -- between the two asks of a statement
@@ -62,7 +55,7 @@ module _ (rest : List Statement) (registers : List ℤ) where
   between s = record { rest = s ∷ rest; registers = registers; halfway = true }
 
   -- what a statement does before the rest
-  abbrev pub act : Bool → Statement → Act
+  abbrev pub act : Bool → Statement → Act State
   act halfway (Read line reg var) = asks_into reg (asks.Read var)
   act halfway (Write line var value) = asks_by (value_of registers value) (λ n. asks_only (asks.Write var n))
   act halfway (Add line reg var value) = asks_by (value_of registers value) (λ n. asks_into reg (asks.Add var n))
@@ -95,3 +88,11 @@ module _ (rest : List Statement) (registers : List ℤ) where
   act halfway (TryRdLock line reg rwlock) = asks_into reg (asks.TryRdLock rwlock)
   act halfway (TryWrLock line reg rwlock) = asks_into reg (asks.TryWrLock rwlock)
   act halfway (RwUnlock line rwlock) = asks_only (asks.RwUnlock rwlock)
+
+-- the first of the statements that remain, on its line; at its end, on the line `end`, a thread asks nothing
+abbrev pub head : (end : ℕ) → State → ℕ × Act State
+head end state = head_of state.rest state.registers state.halfway
+  where
+    head_of : List Statement → List ℤ → Bool → ℕ × Act State
+    head_of [] registers halfway = (end, Ends)
+    head_of (s ∷ rest) registers halfway = (line_of s, act rest registers halfway s)

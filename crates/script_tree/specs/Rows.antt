@@ -8,7 +8,7 @@ use Rattle.script_tree.specs.Trees.{Number, Reg, Minus, Two, Closed, Then, Read,
 use Rattle.script_tree.specs.ScriptText.{Thread, ScriptText}
 use Rattle.script_tree.specs.Fitting.{thread_fits}
 use Rattle.script_tree.specs.Values.{value_of}
-use Rattle.script_tree.specs.Posts.{pending, pending_within}
+use Rattle.script_tree.specs.Posts.{pending, pending_within, most_moves}
 
 -- two threads add 1 to a variable, not in one step, and a third one joins them and asserts the sum
 abbrev pub adder : ℕ → Thread
@@ -38,19 +38,24 @@ adders_fit = refl
 
 -- the first adder's three posts: its read, its write of the sum, and its end
 pub first_post : pending two_adders 0 [] ≡ record { ask = Some (asks.Read 0); line = 4 }
+unfolding most_moves
 first_post = refl
 
 pub second_post : pending two_adders 0 (pos 0 ∷ []) ≡ record { ask = Some (asks.Write 0 (pos 1)); line = 5 }
+unfolding most_moves
 second_post = refl
 
 pub third_post : pending two_adders 0 (pos 0 ∷ pos 0 ∷ []) ≡ record { ask = None; line = 6 }
+unfolding most_moves
 third_post = refl
 
 -- the second adder reads what the first one wrote
 pub later_write : pending two_adders 1 (pos 1 ∷ []) ≡ record { ask = Some (asks.Write 0 (pos 2)); line = 9 }
+unfolding most_moves
 later_write = refl
 
 pub check_holds : pending two_adders 2 (pos 0 ∷ pos 0 ∷ pos 2 ∷ []) ≡ record { ask = Some (asks.Check true); line = 15 }
+unfolding most_moves
 check_holds = refl
 
 -- a loop without end and without an ask
@@ -70,6 +75,7 @@ spins_within zero = refl
 spins_within (suc limit) = spins_within limit
 
 pub spins : pending spinner 0 [] ≡ record { ask = Some (asks.Fault Spin); line = 3 }
+unfolding most_moves
 spins = spins_within 10000
 
 -- a thread that the first one starts asks first to begin
@@ -87,12 +93,15 @@ starter = record {
 }
 
 pub first_thread_ends : pending starter 0 [] ≡ record { ask = None; line = 6 }
+unfolding most_moves
 first_thread_ends = refl
 
 pub held_thread_begins : pending starter 1 [] ≡ record { ask = Some asks.Begin; line = 7 }
+unfolding most_moves
 held_thread_begins = refl
 
 pub held_thread_yields : pending starter 1 (pos 0 ∷ []) ≡ record { ask = Some asks.Yield; line = 8 }
+unfolding most_moves
 held_thread_yields = refl
 
 -- a quotient is truncated toward zero, and the remainder has the sign of the dividend

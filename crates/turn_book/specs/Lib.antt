@@ -4,4 +4,5 @@ pub mod Obeys
 pub mod Told
 pub mod Board
 pub mod Kept
+pub mod Rows
 pub mod Answers

@@ -1,0 +1,7 @@
+pub mod Combine
+pub mod Waiting
+pub mod Answering
+pub mod Spots
+pub mod Turns
+pub mod Asking
+pub mod BodyPosts

@@ -1,0 +1,8 @@
+pub mod Laid
+pub mod Alike
+pub mod Placing
+pub mod Whole
+pub mod Pieces
+pub mod EmitLemmas
+pub mod Listings
+pub mod Threads

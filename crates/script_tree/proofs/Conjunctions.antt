@@ -1,0 +1,32 @@
+-- Parts of conjunctions of tests that hold together.
+use Rattle.std.proofs.Common.{◌≡◌, ◌&&◌, Bool, true, false, refl}
+
+pub left_true : (a b : Bool) → (a && b) ≡ true → a ≡ true
+left_true true b h = refl
+left_true false b h = h
+
+pub right_true : (a b : Bool) → (a && b) ≡ true → b ≡ true
+right_true true b h = h
+right_true false b h = absurd (let e : false ≡ true = h in cc)
+
+-- the first of three, of four and of five
+pub first_of_3 : (a b c : Bool) → (a && b && c) ≡ true → a ≡ true
+first_of_3 a b c h = left_true a b (left_true (a && b) c h)
+
+pub first_of_4 : (a b c d : Bool) → (a && b && c && d) ≡ true → a ≡ true
+first_of_4 a b c d h = first_of_3 a b c (left_true (a && b && c) d h)
+
+pub first_of_5 : (a b c d e : Bool) → (a && b && c && d && e) ≡ true → a ≡ true
+first_of_5 a b c d e h = first_of_4 a b c d (left_true (a && b && c && d) e h)
+
+pub second_of_3 : (a b c : Bool) → (a && b && c) ≡ true → b ≡ true
+second_of_3 a b c h = right_true a b (left_true (a && b) c h)
+
+pub third_of_4 : (a b c d : Bool) → (a && b && c && d) ≡ true → c ≡ true
+third_of_4 a b c d h = right_true (a && b) c (left_true (a && b && c) d h)
+
+pub third_of_5 : (a b c d e : Bool) → (a && b && c && d && e) ≡ true → c ≡ true
+third_of_5 a b c d e h = third_of_4 a b c d (left_true (a && b && c && d) e h)
+
+pub fourth_of_5 : (a b c d e : Bool) → (a && b && c && d && e) ≡ true → d ≡ true
+fourth_of_5 a b c d e h = right_true (a && b && c) d (left_true (a && b && c && d) e h)

@@ -1,0 +1,66 @@
+-- The sample threads name only what there is, and their runs by two lists of change points.
+use Rattle.std.proofs.Common.{◌≡◌, ℕ, zero, suc, ◌+◌, ◌<◌, ◌≤◌, ℤ, pos, true, false, List, [], ◌∷◌, length, map, Some, refl, arith, lit≤}
+use Rattle.pct_ask.specs.declared.ask.Ask.{Ask}
+use Rattle.pct_ask.specs.declared.ask.Ask.TheVariants.{Read, Write, Join, Check}
+use Rattle.pct_ask.specs.declared.ask.Post.{Post}
+use Rattle.pct_ask.specs.declared.Deal.{Deal}
+use Rattle.pct_ask.specs.declared.event.Event.{Event}
+use Rattle.pct_ask.specs.declared.verdict.Verdict.TheVariants.{Passed, Failed, Cut}
+use Rattle.sync_store.specs.Store.{Sizes}
+use Rattle.rank_now.specs.Rank.{rank_by}
+use Rattle.turn_book.specs.Told.{PostIsInRange}
+use Rattle.worker_run.specs.Bodies.{Pending, pending_of, AreInRange}
+use Rattle.worker_run.specs.Run.{run}
+use Rattle.worker_run.specs.Samples.{sample_post, sample_pending}
+
+module _ (sizes : Sizes) (vars : 1 ≤ sizes.vars) (threads : 2 ≤ sizes.threads) where
+  post-within : (t steps : ℕ) (seen : ℤ) → PostIsInRange sizes (sample_post t steps seen).ask
+  post-within zero zero seen = omega arith
+  post-within zero (suc zero) seen = omega arith
+  post-within zero (suc (suc steps)) seen = tt
+  post-within (suc zero) zero seen = omega arith
+  post-within (suc zero) (suc zero) seen = omega arith
+  post-within (suc zero) (suc (suc steps)) seen = tt
+  post-within (suc (suc t)) zero seen = omega arith
+  post-within (suc (suc t)) (suc zero) seen = omega arith
+  post-within (suc (suc t)) (suc (suc zero)) seen = omega arith
+  post-within (suc (suc t)) (suc (suc (suc zero))) seen = tt
+  post-within (suc (suc t)) (suc (suc (suc (suc steps)))) seen = tt
+
+  sample-within : (t steps : ℕ) (seen : ℤ) (answers : List ℤ) → PostIsInRange sizes (sample_pending t steps seen answers).ask
+  sample-within t steps seen [] = post-within t steps seen
+  sample-within t steps seen (answer ∷ answers) = sample-within t (steps + 1) answer answers
+
+  -- so do bodies that each post as a sample thread does
+  pub samples-within : {X : Type 0} (thread steps : X → ℕ) (seen : X → ℤ) (items : List X) → AreInRange sizes (map (λ b. sample_pending (thread b) (steps b) (seen b)) items)
+  samples-within thread steps seen [] t answers = tt
+  samples-within thread steps seen (b ∷ items) zero answers = sample-within (thread b) (steps b) (seen b) answers
+  samples-within thread steps seen (b ∷ items) (suc t) answers = samples-within thread steps seen items t answers
+
+-- ---- the runs
+abbrev sample_deal : Deal
+sample_deal = record { threads = 3; vars = pos 0 ∷ []; mutexes = 0; conds = 0; sems = []; barriers = []; rwlocks = 0; some_thread = omega arith; few_threads = omega arith; few_vars = omega arith; few_mutexes = omega arith; few_conds = omega arith; few_sems = omega arith; few_barriers = omega arith; few_rwlocks = omega arith; sem_values = λ k d within. absurd (omega arith); barrier_counts = λ k d within. absurd (omega arith) }
+
+abbrev samples : List Pending
+samples = sample_pending 0 0 (pos 0) ∷ sample_pending 1 0 (pos 0) ∷ sample_pending 2 0 (pos 0) ∷ []
+
+abbrev event : ℕ → ℕ → Ask → ℤ → Event
+event thread line ask answer = record { thread = thread; line = line; ask = ask; answer = answer }
+
+-- in order, each counter adds its one
+in-order : run sample_deal samples (0 ∷ 1 ∷ 2 ∷ []) [] 9 ≡ Some (
+  event 0 4 (Read 0) (pos 0) ∷ event 0 5 (Write 0 (pos 1)) (pos 0) ∷ event 1 8 (Read 0) (pos 1) ∷ event 1 9 (Write 0 (pos 2)) (pos 0)
+      ∷ event 2 12 (Join 0) (pos 0) ∷ event 2 13 (Join 1) (pos 0) ∷ event 2 14 (Read 0) (pos 2) ∷ event 2 15 (Check true) (pos 0) ∷ [],
+  Passed,
+)
+unfolding rank_by
+in-order = refl
+
+-- a change point after the first step loses an update
+lost-update : run sample_deal samples (0 ∷ 1 ∷ 2 ∷ []) (1 ∷ []) 9 ≡ Some (
+  event 0 4 (Read 0) (pos 0) ∷ event 1 8 (Read 0) (pos 0) ∷ event 1 9 (Write 0 (pos 1)) (pos 0) ∷ event 0 5 (Write 0 (pos 1)) (pos 0)
+      ∷ event 2 12 (Join 0) (pos 0) ∷ event 2 13 (Join 1) (pos 0) ∷ event 2 14 (Read 0) (pos 1) ∷ event 2 15 (Check false) (pos 0) ∷ [],
+  Failed 2 15,
+)
+unfolding rank_by
+lost-update = refl

@@ -1,0 +1,26 @@
+-- Bodies, each seen as what its thread posts after a list of answers, and the posts of a run over them (this project).
+use Rattle.std.specs.Prelude.{ℕ, ℤ, List, Option, None, slice_index_or}
+use Rattle.pct_ask.specs.declared.ask.Post.{Post}
+use Rattle.sync_store.specs.Store.{Sizes}
+use Rattle.sync_store.specs.World.{Source, posts_of_bodies}
+use Rattle.turn_book.specs.Told.{PostIsInRange}
+
+-- what a thread posts after the answers that it has had
+abbrev pub Pending : Type 0
+Pending = List ℤ → Post
+
+-- a thread that there isn't has ended
+abbrev pub nobody : Pending
+nobody answers = record { ask = None; line = 0 }
+
+-- what the thread's body posts
+abbrev pub pending_of : List Pending → ℕ → Pending
+pending_of bodies t = slice_index_or bodies t nobody
+
+-- After some steps each thread's next post is what its body posts after the answers that the thread has had.
+abbrev pub source_of_bodies : List Pending → Source
+source_of_bodies bodies = posts_of_bodies (pending_of bodies)
+
+-- whatever they are answered, the bodies name only objects and threads that there are
+abbrev pub AreInRange : Sizes → List Pending → Type 0
+AreInRange sizes bodies = (t : ℕ) (answers : List ℤ) → PostIsInRange sizes (pending_of bodies t answers).ask

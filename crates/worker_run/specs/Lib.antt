@@ -1,0 +1,5 @@
+pub mod Bodies
+pub mod Run
+pub mod Played
+pub mod Served
+pub mod Samples

@@ -1,0 +1,41 @@
+-- The threads of a small test (this project): the first two each read a variable and write the next number into it, and
+-- the third waits for both and checks that it is 2. Tests and examples run them.
+use Rattle.std.specs.Prelude.{ℕ, zero, suc, ◌+◌, ℤ, pos, if◌then◌else◌, List, [], ◌∷◌, Option, Some, None}
+use Rattle.std.specs.Ordering.{int_eq}
+use Rattle.pct_ask.specs.declared.ask.Ask.{Ask}
+use Rattle.pct_ask.specs.declared.ask.Ask.TheVariants.{Read, Write, Join, Check}
+use Rattle.pct_ask.specs.declared.ask.Post.{Post}
+
+-- 1 after 0, and else 2
+abbrev pub next_number : ℤ → ℤ
+next_number seen = if int_eq seen (pos 0) then pos 1 else pos 2
+
+abbrev pub asks : Ask → ℕ → Post
+asks ask line = record { ask = Some ask; line = line }
+
+abbrev pub ends : ℕ → Post
+ends line = record { ask = None; line = line }
+
+-- a thread that reads and writes, from this line on, by how many answers it has had and the last of them
+abbrev pub counter_post : ℕ → ℕ → ℤ → Post
+counter_post line zero seen = asks (Read 0) line
+counter_post line (suc zero) seen = asks (Write 0 (next_number seen)) (line + 1)
+counter_post line (suc (suc steps)) seen = ends (line + 2)
+
+-- the thread that checks
+abbrev pub checker_post : ℕ → ℤ → Post
+checker_post zero seen = asks (Join 0) 12
+checker_post (suc zero) seen = asks (Join 1) 13
+checker_post (suc (suc zero)) seen = asks (Read 0) 14
+checker_post (suc (suc (suc zero))) seen = asks (Check (int_eq seen (pos 2))) 15
+checker_post (suc (suc (suc (suc steps)))) seen = ends 16
+
+abbrev pub sample_post : ℕ → ℕ → ℤ → Post
+sample_post zero steps seen = counter_post 4 steps seen
+sample_post (suc zero) steps seen = counter_post 8 steps seen
+sample_post (suc (suc t)) steps seen = checker_post steps seen
+
+-- what a thread of the test posts after further answers
+abbrev pub sample_pending : ℕ → ℕ → ℤ → List ℤ → Post
+sample_pending t steps seen [] = sample_post t steps seen
+sample_pending t steps seen (answer ∷ answers) = sample_pending t (steps + 1) answer answers
