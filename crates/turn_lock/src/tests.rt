@@ -6,11 +6,13 @@ ghost use Rattle.turn_lock.specs.Rule.{Serves};
 ghost use Rattle.turn_lock.specs.Calls.{made, WaitsForTurn};
 ghost use Rattle.turn_lock.specs.Views.{view, IsOf};
 
+mod rows;
 mod scripts;
 
 use crate::{Seat, Turn, TurnLock, WaitBoard};
 use pct_ask::{Ask, Deal, Outcome, Post, Sequence, Verdict};
 use policy_pick::Pct;
+use rows::{ENDS_EARLY, FAILS, ONE_MUTEX, Row, SUMS, WRITES};
 use scripts::{Script, post_of};
 use std::alloc::{AllocError, Global};
 use std::process::Abort;
@@ -18,9 +20,6 @@ use std::sync::Wait;
 use std::test::Fail;
 use std::thread::{Threads, join};
 use turn_book::{Because, TurnBook};
-
-/// A thread, a line of its test, what it asks there, and the answer.
-type Row = (u32, u32, Ask, i64);
 
 /// So many threads, a variable and a mutex.
 fn deal_of(alloc: Global, threads: u32) -> Result<Deal, AllocError>
@@ -291,71 +290,6 @@ fn expect_apart<R: Threads + Wait + Sync + Abort>(
     expect_closed(rt, lock, seat, &deal, rows, verdict);
     Ok(())
 }
-
-const READ: Ask = Ask::Read { var: 0 };
-
-const WRITE_1: Ask = Ask::Write { var: 0, value: 1 };
-
-const WRITE_2: Ask = Ask::Write { var: 0, value: 2 };
-
-const LOCK: Ask = Ask::Lock { mutex: 0 };
-
-const UNLOCK: Ask = Ask::Unlock { mutex: 0 };
-
-const JOIN_A: Ask = Ask::Join { thread: 0 };
-
-const JOIN_B: Ask = Ask::Join { thread: 1 };
-
-const SUMS: [Row; 8] = [
-    (0, 4, READ, 0),
-    (0, 5, WRITE_1, 0),
-    (1, 8, READ, 1),
-    (1, 9, WRITE_2, 0),
-    (2, 12, JOIN_A, 0),
-    (2, 13, JOIN_B, 0),
-    (2, 14, READ, 2),
-    (2, 15, Ask::Check { holds: true }, 0),
-];
-
-const WRITES: [Row; 4] = [
-    (0, 4, READ, 0),
-    (0, 5, WRITE_1, 0),
-    (1, 8, READ, 1),
-    (1, 9, Ask::Check { holds: false }, 0),
-];
-
-const ONE_MUTEX: [Row; 16] = [
-    (0, 10, LOCK, 0),
-    (0, 11, UNLOCK, 0),
-    (1, 10, LOCK, 0),
-    (1, 11, UNLOCK, 0),
-    (2, 10, LOCK, 0),
-    (2, 11, UNLOCK, 0),
-    (3, 10, LOCK, 0),
-    (3, 11, UNLOCK, 0),
-    (4, 10, LOCK, 0),
-    (4, 11, UNLOCK, 0),
-    (5, 10, LOCK, 0),
-    (5, 11, UNLOCK, 0),
-    (6, 10, LOCK, 0),
-    (6, 11, UNLOCK, 0),
-    (7, 10, LOCK, 0),
-    (7, 11, UNLOCK, 0),
-];
-
-const ENDS_EARLY: [Row; 4] = [
-    (1, 3, Ask::Yield, 0),
-    (0, 3, Ask::Yield, 0),
-    (2, 12, JOIN_A, 0),
-    (2, 13, JOIN_B, 0),
-];
-
-const FAILS: [Row; 4] = [
-    (0, 5, Ask::Yield, 0),
-    (0, 5, Ask::Yield, 0),
-    (0, 5, Ask::Yield, 0),
-    (0, 6, Ask::Check { holds: false }, 0),
-];
 
 /// Posts and asks for the turn, by a seat that nobody stands in the way of.
 fn turn(
