@@ -7,6 +7,8 @@ mod body;
 mod moving;
 mod settling;
 mod state;
+#[cfg(test)]
+mod tests;
 mod turn;
 mod value;
 

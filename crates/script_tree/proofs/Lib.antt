@@ -1,3 +1,13 @@
 pub mod SeenLemmas
-pub mod Tests
+pub mod Conjunctions
 pub mod NamingLemmas
+pub mod PrintLemmas
+pub mod DeclarationLemmas
+pub mod Cuts
+pub mod ExpressionCuts
+pub mod FormCuts
+pub mod PrintedLines
+pub mod InnerLines
+pub mod Renumbered
+pub mod NamesPrinted
+pub mod PrintLaw

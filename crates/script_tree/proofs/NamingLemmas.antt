@@ -19,7 +19,7 @@ use Rattle.script_tree.specs.Moves.{State, ended, moves, asks_by, act, head, at_
 use Rattle.script_tree.specs.Posts.{most_moves, body_pending, held_pending, is_held, thread_of, no_thread, pending}
 use Rattle.script_tree.specs.DealOf.{IsDealOf}
 use Rattle.script_tree.specs.Naming.{NamesOnly, AsksOnly, IsPostOf}
-use Rattle.script_tree.proofs.Tests.{left_true, right_true, first_of_3, first_of_4, first_of_5, second_of_3, third_of_4, third_of_5}
+use Rattle.script_tree.proofs.Conjunctions.{left_true, right_true, first_of_3, first_of_4, first_of_5, second_of_3, third_of_4, third_of_5}
 
 -- ---- lines
 

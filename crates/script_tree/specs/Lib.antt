@@ -18,3 +18,8 @@ pub mod Grammar
 pub mod Faults
 pub mod ExpressionRows
 pub mod Naming
+pub mod Layout
+pub mod Renumbering
+pub mod Printing
+pub mod LayoutRows
+pub mod EveryForm

@@ -3,10 +3,18 @@
 
 mod expr;
 mod fault;
+mod printing;
+mod printing_statements;
+mod printing_words;
+#[cfg(test)]
+mod samples;
 mod script;
 mod stmt;
+#[cfg(test)]
+mod tests;
 
 pub use expr::{Expr, Op};
 pub use fault::ScriptFault;
+pub use printing::print_script;
 pub use script::Script;
 pub use stmt::{Block, Stmt, ThreadText};

@@ -1,12 +1,12 @@
 -- The definitions at worked values.
-use Rattle.std.specs.Prelude.{◌≡◌, ℕ, pos, List, [], ◌∷◌, Option, Some, None, true, false, refl, slice_index_or}
-use Rattle.pct_ask.specs.declared.ask.Ask.TheVariants.{Read, Write, Join, Yield, Begin, Lock}
+use Rattle.std.specs.Prelude.{◌≡◌, ℕ, pos, List, [], ◌∷◌, Option, Some, None, true, refl, slice_index_or}
+use Rattle.pct_ask.specs.declared.ask.Ask.TheVariants.{Read, Join, Yield, Begin, Lock}
 use Rattle.pct_ask.specs.declared.ask.Post.{Post}
 use Rattle.pct_ask.specs.declared.event.Event.{Event}
 use Rattle.pct_ask.specs.declared.verdict.Verdict.TheVariants.{Passed, Stuck, Cut}
-use Rattle.pct_ask.specs.declared.verdict.Outcome.TheVariants.{Verdict as Ends, Departed}
+use Rattle.pct_ask.specs.declared.verdict.Outcome.TheVariants.{Verdict as Ends}
 use Rattle.policy_pick.specs.declared.chance.Chance.TheVariants.{Away, Ready, Blocked, Unknown, Ended}
-use Rattle.policy_pick.specs.declared.chance.Pick.TheVariants.{Thread, Waits, Nobody, Departs}
+use Rattle.policy_pick.specs.declared.chance.Pick.TheVariants.{Waits, Nobody, Departs}
 use Rattle.sync_store.specs.Store.{StoreState}
 use Rattle.turn_book.specs.Chances.{NextPosts, chances, rest_verdict}
 use Rattle.turn_book.specs.Posts.{source_of}

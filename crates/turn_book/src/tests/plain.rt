@@ -15,27 +15,34 @@ use sync_store::{Applied, Ready, Store};
 
 /// One of the asks that the cases are made of.
 fn ask_of(number: u32) -> Ask {
-    match number % 24 {
-        0 | 1 => Ask::Write { var: 0, value: 1 },
-        2 => Ask::Read { var: 0 },
-        3..=5 => Ask::Lock { mutex: 0 },
-        6 | 7 => Ask::Unlock { mutex: 0 },
-        8 => Ask::Lock { mutex: 1 },
-        9 => Ask::Release { cond: 0, mutex: 0 },
-        10 => Ask::Regain { cond: 0, mutex: 0 },
-        11 => Ask::Broadcast { cond: 0 },
-        12 => Ask::Down { sem: 0 },
-        13 => Ask::Up { sem: 0 },
-        14 => Ask::Arrive { barrier: 0 },
-        15 => Ask::Leave { barrier: 0 },
-        16 => Ask::Join { thread: 0 },
-        17 => Ask::Join { thread: 1 },
-        18 => Ask::Join { thread: 2 },
-        19 => Ask::Start { thread: 1 },
-        20 => Ask::Begin,
-        21 => Ask::RdLock { rwlock: 0 },
-        22 => Ask::WrLock { rwlock: 0 },
-        _ => Ask::RwUnlock { rwlock: 0 },
+    match number % 20 {
+        0 => Ask::Write { var: 0, value: 1 },
+        1 => Ask::Read { var: 0 },
+        2..=5 => Ask::Lock { mutex: 0 },
+        6 => Ask::Lock { mutex: 1 },
+        7 => Ask::Broadcast { cond: 0 },
+        8 => Ask::Down { sem: 0 },
+        9 => Ask::Up { sem: 0 },
+        10 | 11 => Ask::Arrive { barrier: 0 },
+        12 => Ask::Join { thread: 0 },
+        13 => Ask::Join { thread: 1 },
+        14 => Ask::Join { thread: 2 },
+        15 => Ask::Start { thread: 1 },
+        16 => Ask::Begin,
+        17 | 18 => Ask::RdLock { rwlock: 0 },
+        _ => Ask::WrLock { rwlock: 0 },
+    }
+}
+
+/// What mostly comes after an ask.
+fn ask_after(ask: Ask, number: u32) -> Ask {
+    match ask {
+        Ask::Lock { mutex: 1 } => Ask::Release { cond: 0, mutex: 1 },
+        Ask::Lock { mutex } => Ask::Unlock { mutex },
+        Ask::Release { cond, mutex } => Ask::Regain { cond, mutex },
+        Ask::Arrive { barrier } => Ask::Leave { barrier },
+        Ask::RdLock { rwlock } | Ask::WrLock { rwlock } => Ask::RwUnlock { rwlock },
+        _ => ask_of(number),
     }
 }
 
@@ -45,8 +52,13 @@ fn rows_of(case: u32) -> [Row; 9]
 {
     let mut rows = [(0, 0, Ask::Yield, 0); 9];
     for place in 0..9u32 {
-        let number = (case * 7919 + place * 104_729 + case / 24 * place * 31) % 65_521;
-        rows[place as usize] = (place % 3, 10 + place, ask_of(number), 0);
+        let number = (case * 7919 + place * 104_729 + case / 20 * place * 31) % 65_521;
+        let ask = if place >= 3 && number % 5 > 0 {
+            ask_after(rows[place as usize - 3].2, number)
+        } else {
+            ask_of(number)
+        };
+        rows[place as usize] = (place % 3, 10 + place, ask, 0);
     }
     rows
 }

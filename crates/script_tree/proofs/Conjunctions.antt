@@ -1,4 +1,4 @@
--- Parts of tests that hold together.
+-- Parts of conjunctions of tests that hold together.
 use Rattle.std.proofs.Common.{◌≡◌, ◌&&◌, Bool, true, false, refl}
 
 pub left_true : (a b : Bool) → (a && b) ≡ true → a ≡ true

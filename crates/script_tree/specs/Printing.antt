@@ -1,0 +1,33 @@
+-- What has been printed, and that its numbers are those of the code.
+use Rattle.std.specs.Prelude.{ℕ, pos, ◌^◌, ◌&&◌, Bool, true, int_lt, List, map}
+use Rattle.std.specs.List.{list_all}
+use Rattle.script_tree.specs.Trees.{Expression, Number, Reg, Not, Minus, Two}
+use Rattle.script_tree.specs.Forms.{Meant, Write, Add, Cas, Assert, Set, If, While}
+use Rattle.script_tree.specs.Grammar.{Line}
+use Rattle.script_tree.specs.Layout.{text_of_lines, form_text, meanings}
+
+-- the text of lines
+abbrev pub printed : List Line → List ℕ
+printed lines = text_of_lines (map form_text (meanings lines))
+
+-- the expression's numbers are below 2^63
+abbrev pub is_ranged : Expression → Bool
+is_ranged (Number n) = int_lt n (pos (2 ^ 63))
+is_ranged (Reg reg) = true
+is_ranged (Not a) = is_ranged a
+is_ranged (Minus a) = is_ranged a
+is_ranged (Two op a b) = is_ranged a && is_ranged b
+
+abbrev pub is_ranged_form : Meant → Bool
+is_ranged_form (Write var value) = is_ranged value
+is_ranged_form (Add register var value) = is_ranged value
+is_ranged_form (Cas register var old new) = is_ranged old && is_ranged new
+is_ranged_form (Assert test) = is_ranged test
+is_ranged_form (Set register value) = is_ranged value
+is_ranged_form (If test) = is_ranged test
+is_ranged_form (While test) = is_ranged test
+is_ranged_form form = true
+
+-- the numbers of these lines are
+abbrev pub are_ranged : List Line → Bool
+are_ranged lines = list_all is_ranged_form (meanings lines)

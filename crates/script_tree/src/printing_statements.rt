@@ -1,0 +1,198 @@
+//! The lines of a script's statements in its canonical layout.
+
+ghost use Rattle.std.specs.Prelude.{◌≡◌, ◌++◌, [], ◌∷◌, ◌&&◌, true, codes, OnOk};
+ghost use Rattle.std.specs.List.{flat_map};
+ghost use Rattle.pct_ask.specs.NameLists.{list_of};
+ghost use Rattle.script_tree.specs.Trees.{list};
+ghost use Rattle.script_tree.specs.Seen.{expression, statement, block};
+ghost use Rattle.script_tree.specs.Expressions.{register_word};
+ghost use Rattle.script_tree.specs.Grammar.{name_at, statement_lines};
+ghost use Rattle.script_tree.specs.Layout.{spaced, expression_text};
+ghost use Rattle.script_tree.specs.Printing.{printed, are_ranged, is_ranged};
+
+use crate::expr::Expr;
+use crate::printing_words::{name_at, push_expression, push_last, push_spaced, register_word};
+use crate::stmt::{Block, Stmt};
+use pct_ask::{NameKind, Names};
+use std::alloc::AllocError as NoMemory;
+
+#[cycle(printing)]
+pub(crate) fn push_statements(
+    body: &Block,
+    names: &Names,
+    out: &mut Vec<u8>,
+) -> Result<(), NoMemory>
+    ensures written { OnOk result (out.new.items ≡ out.old.items ++ printed (flat_map (statement_lines names.now) (list (block body.now)))) }
+    ensures ranged { OnOk result (are_ranged (flat_map (statement_lines names.now) (list (block body.now))) ≡ true) }
+{
+    for stmt in &body.stmts {
+        push_statement(stmt, names, out)?;
+    }
+    Ok(())
+}
+
+#[cycle(printing)]
+fn push_statement(stmt: &Stmt, names: &Names, out: &mut Vec<u8>) -> Result<(), NoMemory>
+    ensures written { OnOk result (out.new.items ≡ out.old.items ++ printed (statement_lines names.now (statement stmt.now))) }
+    ensures ranged { OnOk result (are_ranged (statement_lines names.now (statement stmt.now)) ≡ true) }
+{
+    match stmt {
+        Stmt::Read { reg, var, .. } => push_into(b"read", *reg, NameKind::Var, *var, names, out),
+        Stmt::Write { var, value, .. } => push_write(*var, value, names, out),
+        Stmt::Add {
+            reg,
+            var,
+            value,
+            ..
+        } => push_add(*reg, *var, value, names, out),
+        Stmt::Cas {
+            reg,
+            var,
+            old,
+            new,
+            ..
+        } => push_cas(*reg, *var, old, new, names, out),
+        Stmt::Lock { mutex, .. } => push_on(b"lock", NameKind::Mutex, *mutex, names, out),
+        Stmt::TryLock { reg, mutex, .. } => {
+            push_into(b"trylock", *reg, NameKind::Mutex, *mutex, names, out)
+        }
+        Stmt::Unlock { mutex, .. } => push_on(b"unlock", NameKind::Mutex, *mutex, names, out),
+        Stmt::Wait { cond, mutex, .. } => push_wait(*cond, *mutex, names, out),
+        Stmt::Signal { cond, .. } => push_on(b"signal", NameKind::Cond, *cond, names, out),
+        Stmt::Broadcast { cond, .. } => push_on(b"broadcast", NameKind::Cond, *cond, names, out),
+        Stmt::Down { sem, .. } => push_on(b"down", NameKind::Sem, *sem, names, out),
+        Stmt::TryDown { reg, sem, .. } => {
+            push_into(b"trydown", *reg, NameKind::Sem, *sem, names, out)
+        }
+        Stmt::Up { sem, .. } => push_on(b"up", NameKind::Sem, *sem, names, out),
+        Stmt::Arrive { reg, barrier, .. } => {
+            push_into(b"arrive", *reg, NameKind::Barrier, *barrier, names, out)
+        }
+        Stmt::Join { thread, .. } => push_on(b"join", NameKind::Thread, *thread, names, out),
+        Stmt::Yield { .. } => push_last(b"yield", out),
+        Stmt::Assert { test, .. } => push_test(b"assert", test, out),
+        Stmt::Set { reg, value, .. } => {
+            push_spaced(b"set", out)?;
+            push_test(register_word(*reg), value, out)
+        }
+        Stmt::If {
+            test,
+            then,
+            otherwise,
+            ..
+        } => {
+            push_test(b"if", test, out)?;
+            push_statements(then, names, out)?;
+            if let Some(otherwise) = otherwise {
+                push_last(b"else", out)?;
+                push_statements(otherwise, names, out)?;
+            }
+            push_last(b"end", out)
+        }
+        Stmt::While { test, body, .. } => {
+            push_test(b"while", test, out)?;
+            push_statements(body, names, out)?;
+            push_last(b"end", out)
+        }
+        Stmt::Start { thread, .. } => push_on(b"start", NameKind::Thread, *thread, names, out),
+        Stmt::RdLock { rwlock, .. } => push_on(b"rdlock", NameKind::RwLock, *rwlock, names, out),
+        Stmt::WrLock { rwlock, .. } => push_on(b"wrlock", NameKind::RwLock, *rwlock, names, out),
+        Stmt::TryRdLock { reg, rwlock, .. } => {
+            push_into(b"tryrdlock", *reg, NameKind::RwLock, *rwlock, names, out)
+        }
+        Stmt::TryWrLock { reg, rwlock, .. } => {
+            push_into(b"trywrlock", *reg, NameKind::RwLock, *rwlock, names, out)
+        }
+        Stmt::RwUnlock { rwlock, .. } => {
+            push_on(b"rwunlock", NameKind::RwLock, *rwlock, names, out)
+        }
+    }
+}
+
+// A statement on one object.
+fn push_on(
+    verb: &[u8],
+    kind: NameKind,
+    place: u32,
+    names: &Names,
+    out: &mut Vec<u8>,
+) -> Result<(), NoMemory>
+    ensures { OnOk result (out.new.items ≡ out.old.items ++ (spaced (verb.now ∷ name_at (list_of kind names.now) place ∷ []) ++ 10 ∷ [])) }
+{
+    push_spaced(verb, out)?;
+    push_last(name_at(names, kind, place), out)
+}
+
+// A statement whose answer goes from one object into a register.
+fn push_into(
+    verb: &[u8],
+    register: u32,
+    kind: NameKind,
+    place: u32,
+    names: &Names,
+    out: &mut Vec<u8>,
+) -> Result<(), NoMemory>
+    ensures { OnOk result (out.new.items ≡ out.old.items ++ (spaced (verb.now ∷ register_word register ∷ name_at (list_of kind names.now) place ∷ []) ++ 10 ∷ [])) }
+{
+    push_spaced(verb, out)?;
+    push_on(register_word(register), kind, place, names, out)
+}
+
+fn push_write(var: u32, value: &Expr, names: &Names, out: &mut Vec<u8>) -> Result<(), NoMemory>
+    ensures written { OnOk result (out.new.items ≡ out.old.items ++ (spaced (codes "write" ∷ name_at names.now.vars var ∷ expression_text (expression value.now) ∷ []) ++ 10 ∷ [])) }
+    ensures ranged { OnOk result (is_ranged (expression value.now) ≡ true) }
+{
+    push_spaced(b"write", out)?;
+    push_test(name_at(names, NameKind::Var, var), value, out)
+}
+
+fn push_add(
+    register: u32,
+    var: u32,
+    value: &Expr,
+    names: &Names,
+    out: &mut Vec<u8>,
+) -> Result<(), NoMemory>
+    ensures written { OnOk result (out.new.items ≡ out.old.items ++ (spaced (codes "add" ∷ register_word register ∷ name_at names.now.vars var ∷ expression_text (expression value.now) ∷ []) ++ 10 ∷ [])) }
+    ensures ranged { OnOk result (is_ranged (expression value.now) ≡ true) }
+{
+    push_spaced(b"add", out)?;
+    push_spaced(register_word(register), out)?;
+    push_test(name_at(names, NameKind::Var, var), value, out)
+}
+
+fn push_cas(
+    register: u32,
+    var: u32,
+    old: &Expr,
+    new: &Expr,
+    names: &Names,
+    out: &mut Vec<u8>,
+) -> Result<(), NoMemory>
+    ensures written { OnOk result (out.new.items ≡ out.old.items ++ (spaced (codes "cas" ∷ register_word register ∷ name_at names.now.vars var ∷ (expression_text (expression old.now) ++ codes ",") ∷ expression_text (expression new.now) ∷ []) ++ 10 ∷ [])) }
+    ensures ranged { OnOk result ((is_ranged (expression old.now) && is_ranged (expression new.now)) ≡ true) }
+{
+    push_spaced(b"cas", out)?;
+    push_spaced(register_word(register), out)?;
+    push_spaced(name_at(names, NameKind::Var, var), out)?;
+    push_expression(old, out)?;
+    push_test(b",", new, out)
+}
+
+fn push_wait(cond: u32, mutex: u32, names: &Names, out: &mut Vec<u8>) -> Result<(), NoMemory>
+    ensures { OnOk result (out.new.items ≡ out.old.items ++ (spaced (codes "wait" ∷ name_at names.now.conds cond ∷ name_at names.now.mutexes mutex ∷ []) ++ 10 ∷ [])) }
+{
+    push_spaced(b"wait", out)?;
+    push_spaced(name_at(names, NameKind::Cond, cond), out)?;
+    push_last(name_at(names, NameKind::Mutex, mutex), out)
+}
+
+// A word and the expression that ends its line.
+fn push_test(word: &[u8], expr: &Expr, out: &mut Vec<u8>) -> Result<(), NoMemory>
+    ensures written { OnOk result (out.new.items ≡ out.old.items ++ (spaced (word.now ∷ expression_text (expression expr.now) ∷ []) ++ 10 ∷ [])) }
+    ensures ranged { OnOk result (is_ranged (expression expr.now) ≡ true) }
+{
+    push_spaced(word, out)?;
+    push_expression(expr, out)?;
+    Ok(out.push(b'\n')?)
+}

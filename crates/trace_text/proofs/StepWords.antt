@@ -1,0 +1,158 @@
+-- A step and a verdict are read of their lines, and of nothing else.
+use Rattle.std.specs.Prelude.{codes, decimal, ◌==◌, ◌&&◌, nat_le, if◌then◌else◌}
+use Rattle.std.specs.List.{join_with_byte}
+use Rattle.std.specs.Str.{bytes_eq}
+use Rattle.std.proofs.Common.{◌≡◌, ◌⊎◌, ℕ, ◌+◌, ◌<◌, ◌≤◌, ◌^◌, Bool, true, false, List, [], ◌∷◌, ◌++◌, length, get_or, take, drop, ℤ, pos, negsuc, Option, Some, None, refl, sym, ap, ◌∙◌, inl, inr, arith}
+use Rattle.std.proofs.lemmas.Bool.Decides.{nat_tests}
+use Rattle.std.proofs.lemmas.Slice.Eq.{bytes_eq-Decides}
+use Rattle.pct_ask.specs.NameLists.{NameLists, list_of, AreNames}
+use Rattle.pct_ask.specs.Numbers.{number_text}
+use Rattle.pct_ask.specs.VerdictText.{thread_name, IsLine, verdict_text, named_text, named, verdict_words, NamedVerdict, NamedPassed, NamedFailed, NamedStuck, NamedMisuse, NamedFault, NamedCut}
+use Rattle.pct_ask.specs.VerdictRead.{ReadsAs}
+use Rattle.pct_ask.specs.VerdictWords.{words_of, verdict_of_words}
+use Rattle.pct_ask.specs.TraceText.{ask_words, event_words, verdict_line}
+use Rattle.pct_ask.specs.declared.names.NameKind.TheVariants.{Thread}
+use Rattle.pct_ask.specs.declared.ask.Ask.{Ask}
+use Rattle.pct_ask.specs.declared.event.Event.{Event}
+use Rattle.pct_ask.specs.declared.verdict.Verdict.{Verdict}
+use Rattle.pct_ask.specs.declared.verdict_text.VerdictRead.{VerdictRead}
+use Rattle.pct_ask.specs.declared.verdict_text.VerdictRead.TheVariants.{Is, NoForm, UnknownName}
+use Rattle.pct_ask.proofs.VerdictReadLemmas.{ReadsAs-words, ReadsAs-only}
+use Rattle.pct_ask.proofs.WordLemmas.{join-words_of}
+use Rattle.trace_text.specs.Lawful.{IsAsk, IsStep, IsEnd, is_of_second}
+use Rattle.trace_text.specs.Numbers.{value_of, natural, within, natural_of, count_of}
+use Rattle.trace_text.specs.Asks.{object, bare_ask, ask_on_one, ask_on_two, ask_on_three}
+use Rattle.trace_text.specs.StepLines.{event_of, step_of_parts, step_of, step_of_words, tells_reads, end_of, row_of}
+use Rattle.trace_text.specs.declared.row.Row.{Row}
+use Rattle.trace_text.specs.declared.row.Row.TheVariants.{Step, End}
+use Rattle.trace_text.proofs.Names.{object-known, known-object}
+use Rattle.trace_text.proofs.Values.{value_of-Some, Some-value_of, fits-natural}
+use Rattle.trace_text.proofs.AskWords.{IsTold, ask_in, ask-known, ask-told, HasFewWords, few-words}
+
+some_is : {A : Type 0} (x y : A) → Some x ≡ Some y → x ≡ y
+some_is x y e = cc
+
+-- ---- numbers from 0 on
+
+pub natural-inv : (value : Option ℤ) (n : ℕ) → natural value ≡ Some n → value ≡ Some (pos n)
+natural-inv None n h = absurd cc
+natural-inv (Some (pos m)) n h = ap (λ k. Some (pos k)) (some_is m n h)
+natural-inv (Some (negsuc m)) n h = absurd cc
+
+pub natural-decimal : (word : List ℕ) (n : ℕ) → natural_of word ≡ Some n → (word ≡ decimal n) × (n < 2 ^ 63)
+natural-decimal word n h =
+    let v = Some-value_of word (pos n) (natural-inv (value_of word) n h) in
+    (v.0, omega (arith, v.1.sfits))
+
+pub decimal-natural : (n : ℕ) → n < 2 ^ 63 → natural_of (decimal n) ≡ Some n
+decimal-natural n h = ap natural (value_of-Some (pos n) (fits-natural n h))
+
+within-inv : (low high : ℕ) (m : Option ℕ) (n : ℕ) → within low high m ≡ Some n → (m ≡ Some n) × (low ≤ n) × (n ≤ high)
+within-inv low high None n h = absurd cc
+within-inv low high (Some m) n h = by (nat_le low m) (nat_le m high) refl refl h
+  where
+    by : (a b : Bool) → nat_le low m ≡ a → nat_le m high ≡ b → (if a && b then Some m else None) ≡ Some n → (Some m ≡ Some n) × (low ≤ n) × (n ≤ high)
+    by true true p q e = let same = some_is m n e in (e, grind (arith, nat_tests), grind (arith, nat_tests))
+    by true false p q e = absurd cc
+    by false b p q e = absurd cc
+
+pub count-decimal : (low high : ℕ) (word : List ℕ) (n : ℕ) → count_of low high word ≡ Some n → (word ≡ decimal n) × (low ≤ n) × (n ≤ high)
+count-decimal low high word n h =
+    let i = within-inv low high (natural_of word) n h in
+    ((natural-decimal word n i.0).0, i.1, i.2)
+
+pub decimal-count : (low high n : ℕ) → low ≤ n → n ≤ high → high < 2 ^ 63 → count_of low high (decimal n) ≡ Some n
+decimal-count low high n above below small =
+    let a : nat_le low n ≡ true = grind (arith, nat_tests) in
+    let b : nat_le n high ≡ true = grind (arith, nat_tests) in
+    ap (within low high) (decimal-natural n (omega arith)) ∙ rw (a, b)
+
+-- ---- a step by its parts
+
+record Parts (number : Option ℕ) (thread : Option (Option ℕ)) (line : Option ℕ) (ask : Option (Option Ask)) (sign : Bool) (answer : Option ℤ) (n : ℕ) (event : Event) : Type 0 where
+  number_is : number ≡ Some n
+  thread_is : thread ≡ Some (Some event.thread)
+  line_is : line ≡ Some event.line
+  ask_is : ask ≡ Some (Some event.ask)
+  sign_is : sign ≡ true
+  answer_is : answer ≡ Some event.answer
+
+event-inv : (thread : Option ℕ) (line : ℕ) (ask : Option Ask) (answer : ℤ) (event : Event) → event_of thread line ask answer ≡ Some event → (thread ≡ Some event.thread) × (line ≡ event.line) × (ask ≡ Some event.ask) × (answer ≡ event.answer)
+event-inv None line ask answer event h = absurd cc
+event-inv (Some t) line None answer event h = absurd cc
+event-inv (Some t) line (Some a) answer event h =
+    let own : Event = record { thread = t; line = line; ask = a; answer = answer } in
+    let same : own ≡ event = some_is own event h in
+    (ap (λ e. Some e.thread) same, ap (λ e. e.line) same, ap (λ e. Some e.ask) same, ap (λ e. e.answer) same)
+
+row-inv : (m n : ℕ) (e : Option Event) (event : Event) → Some (Step m e) ≡ Some (Step n (Some event)) → (m ≡ n) × (e ≡ Some event)
+row-inv m n e event h = let same : Step m e ≡ Step n (Some event) = cc in (cc, cc)
+
+parts-inv : (number : Option ℕ) (thread : Option (Option ℕ)) (line : Option ℕ) (ask : Option (Option Ask)) (sign : Bool) (answer : Option ℤ) (n : ℕ) (event : Event) → step_of_parts number thread line ask sign answer ≡ Some (Step n (Some event)) → Parts number thread line ask sign answer n event
+parts-inv None thread line ask sign answer n event h = absurd cc
+parts-inv (Some m) None line ask sign answer n event h = absurd cc
+parts-inv (Some m) (Some t) None ask sign answer n event h = absurd cc
+parts-inv (Some m) (Some t) (Some l) None sign answer n event h = absurd cc
+parts-inv (Some m) (Some t) (Some l) (Some a) false answer n event h = absurd cc
+parts-inv (Some m) (Some t) (Some l) (Some a) true None n event h = absurd cc
+parts-inv (Some m) (Some t) (Some l) (Some a) true (Some v) n event h =
+    let r = row-inv m n (event_of t l a v) event h in
+    let e = event-inv t l a v event r.1 in
+    record { number_is = ap (λ k. Some k) r.0; thread_is = ap (λ k. Some k) e.0; line_is = ap (λ k. Some k) e.1; ask_is = ap (λ k. Some k) e.2; sign_is = refl; answer_is = ap (λ k. Some k) e.3 }
+
+-- the words of a step
+abbrev pub step_words : List ℕ → List ℕ → List ℕ → List (List ℕ) → List ℕ → List ℕ → List (List ℕ)
+step_words number thread line ask sign answer = number ∷ thread ∷ line ∷ (ask ++ sign ∷ answer ∷ [])
+
+-- how the words are read: its ask by itself
+read-words : (names : NameLists) (version : ℕ) (number thread line : List ℕ) (ask : List (List ℕ)) (sign answer : List ℕ) → HasFewWords ask → step_of_words names version (step_words number thread line ask sign answer) ≡ step_of names number thread line (ask_in names version ask) sign answer
+read-words names version number thread line [] sign answer few = absurd few
+read-words names version number thread line (a ∷ []) sign answer few = refl
+read-words names version number thread line (a ∷ b ∷ []) sign answer few = refl
+read-words names version number thread line (a ∷ b ∷ c ∷ []) sign answer few = refl
+read-words names version number thread line (a ∷ b ∷ c ∷ d ∷ []) sign answer few = refl
+read-words names version number thread line (a ∷ b ∷ c ∷ d ∷ e ∷ words) sign answer few = absurd few
+
+-- the line is the step's, and the step is one of the test
+pub record IsStepLine (names : NameLists) (version : ℕ) (words : List (List ℕ)) (n : ℕ) (event : Event) : Type 0 where
+  pub words_are : words ≡ event_words names n event
+  pub lawful : IsStep names version event
+
+told-parts : (names : NameLists) (version : ℕ) (number thread line : List ℕ) (ask : List (List ℕ)) (sign answer : List ℕ) (n : ℕ) (event : Event) → step_of names number thread line (ask_in names version ask) sign answer ≡ Some (Step n (Some event)) → IsStepLine names version (step_words number thread line ask sign answer) n event
+unfolding step_of
+told-parts names version number thread line ask sign answer n event h =
+    let p = parts-inv (natural_of number) (object names Thread thread) (count_of 1 4096 line) (ask_in names version ask) (bytes_eq sign (codes "=")) (value_of answer) n event h in
+    let number_is = (natural-decimal number n p.number_is).0 in
+    let thread_is = known-object names Thread thread event.thread p.thread_is in
+    let line_is = count-decimal 1 4096 line event.line p.line_is in
+    let ask_is = ask-told names version ask event.ask p.ask_is in
+    let sign_is = (bytes_eq-Decides sign (codes "=")).0 p.sign_is in
+    let answer_is = Some-value_of answer event.answer p.answer_is in
+    record {
+      words_are = rw (number_is, ← thread_is.1, line_is.0, ask_is.words_are, sign_is, answer_is.0);
+      lawful = record { thread = thread_is.0; line = (line_is.1, line_is.2); ask = ask_is.lawful; answer = answer_is.1 };
+    }
+
+none-step : (n : ℕ) (event : Event) → None ≡ Some (Step n (Some event)) → ⊥
+none-step n event h = cc
+
+-- what is read as a step is one
+pub words-told : (names : NameLists) (version : ℕ) (words : List (List ℕ)) (n : ℕ) (event : Event) → step_of_words names version words ≡ Some (Step n (Some event)) → IsStepLine names version words n event
+words-told names version [] n event h = absurd (none-step n event h)
+words-told names version (a ∷ []) n event h = absurd (none-step n event h)
+words-told names version (a ∷ b ∷ []) n event h = absurd (none-step n event h)
+words-told names version (a ∷ b ∷ c ∷ []) n event h = absurd (none-step n event h)
+words-told names version (a ∷ b ∷ c ∷ d ∷ []) n event h = absurd (none-step n event h)
+words-told names version (a ∷ b ∷ c ∷ d ∷ e ∷ []) n event h = absurd (none-step n event h)
+words-told names version (number ∷ thread ∷ line ∷ w ∷ sign ∷ answer ∷ []) n event h = told-parts names version number thread line (w ∷ []) sign answer n event h
+words-told names version (number ∷ thread ∷ line ∷ w ∷ x ∷ sign ∷ answer ∷ []) n event h = told-parts names version number thread line (w ∷ x ∷ []) sign answer n event h
+words-told names version (number ∷ thread ∷ line ∷ w ∷ x ∷ y ∷ sign ∷ answer ∷ []) n event h = told-parts names version number thread line (w ∷ x ∷ y ∷ []) sign answer n event h
+words-told names version (number ∷ thread ∷ line ∷ w ∷ x ∷ y ∷ z ∷ sign ∷ answer ∷ []) n event h = told-parts names version number thread line (w ∷ x ∷ y ∷ z ∷ []) sign answer n event h
+words-told names version (a ∷ b ∷ c ∷ d ∷ e ∷ f ∷ g ∷ i ∷ j ∷ k ∷ words) n event h = absurd (none-step n event h)
+
+-- and a step of the test is read of its words
+pub words-known : (names : NameLists) (version n : ℕ) (event : Event) → AreNames names → IsStep names version event → n < 2 ^ 63 → step_of_words names version (event_words names n event) ≡ Some (Step n (Some event))
+unfolding step_of
+words-known names version n event sound step small =
+    read-words names version (decimal n) (thread_name names event.thread) (decimal event.line) (ask_words names event.ask) (codes "=") (number_text event.answer) (few-words names event.ask)
+    ∙ rw (decimal-natural n small, object-known names Thread event.thread sound step.thread, decimal-count 1 4096 event.line step.line.0 step.line.1 (omega arith), ask-known names version event.ask sound step.ask, value_of-Some event.answer step.answer)

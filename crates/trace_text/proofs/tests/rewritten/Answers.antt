@@ -1,0 +1,21 @@
+-- What was read can be written.
+use Rattle.std.proofs.Common.{refl}
+use Rattle.pct_ask.specs.VerdictText.{verdict_text}
+use Rattle.pct_ask.specs.declared.verdict_text.VerdictRead.TheVariants.{Is}
+use Rattle.pct_ask.proofs.VerdictReadLemmas.{read-written}
+use Rattle.trace_text.proofs.Traces.{few-steps, all-steps}
+use Rattle.trace_text.proofs.tests.rewritten.Goals as goal
+
+pub write_trace-requires : goal.write_trace-requires
+write_trace-requires c =
+    let file = c.in_ok-file.file in
+    let names = c.args.names.now in
+    let run = c.in_ok-file.ensures.answer.run in
+    record {
+      head = run.head;
+      few = few-steps names file c.as_slice.result.now run c.as_slice.ensures;
+      steps = all-steps names file c.as_slice.result.now run c.as_slice.ensures;
+      threads = run.end.threads;
+      whole = (read-written names (verdict_text names file.verdict) (Is file.verdict) file.verdict (run.end.threads, run.end.form, refl) refl).1;
+      version = run.end.known;
+    }

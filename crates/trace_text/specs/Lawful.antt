@@ -1,0 +1,89 @@
+-- What the parts of a trace may be (this project).
+use Rattle.std.specs.Prelude.{◌≡◌, ◌≢◌, ℕ, ℤ, ◌≤◌, ◌<◌, ◌⊎◌, Bool, true, false, List, length, FitsSigned, All}
+use Rattle.std.specs.Int.{w64}
+use Rattle.std.specs.List.{AllPairs}
+use Rattle.pct_ask.specs.NameLists.{NameLists}
+use Rattle.pct_ask.specs.VerdictText.{named, IsForm, HasNames, IsLine}
+use Rattle.pct_ask.specs.declared.ask.Ask.{Ask}
+use Rattle.pct_ask.specs.declared.ask.Ask.TheVariants.{Read, Write, Add, Cas, Lock, TryLock, Unlock, Release, Regain, Signal, Broadcast, Down, TryDown, Up, Arrive, Leave, Join, Yield, Check, Fault, Start, Begin, RdLock, WrLock, TryRdLock, TryWrLock, RwUnlock}
+use Rattle.pct_ask.specs.declared.event.Event.{Event}
+use Rattle.pct_ask.specs.declared.verdict.MisuseKind.{MisuseKind}
+use Rattle.pct_ask.specs.declared.verdict.MisuseKind.TheVariants.{NotOwner, SemFull, AlreadyStarted, TooManyReads}
+use Rattle.pct_ask.specs.declared.verdict.Verdict.{Verdict}
+use Rattle.pct_ask.specs.declared.verdict.Verdict.TheVariants.{Passed, Failed, Stuck, Misuse, Fault as VerdictFault, Cut}
+use Rattle.pct_ask.specs.TraceText.{TraceHead}
+
+-- the numbers of an ask and of an answer are i64s
+abbrev pub IsValue : ℤ → Type 0
+IsValue z = FitsSigned w64 z
+
+-- An ask of a test in a trace of a version: its objects have names, its numbers are i64s, and in the first version it
+-- asks nothing of a read-write lock.
+abbrev pub IsAsk : NameLists → ℕ → Ask → Type 0
+IsAsk names version (Read x) = x < length names.vars
+IsAsk names version (Write x value) = (x < length names.vars) × IsValue value
+IsAsk names version (Add x value) = (x < length names.vars) × IsValue value
+IsAsk names version (Cas x old new) = (x < length names.vars) × IsValue old × IsValue new
+IsAsk names version (Lock m) = m < length names.mutexes
+IsAsk names version (TryLock m) = m < length names.mutexes
+IsAsk names version (Unlock m) = m < length names.mutexes
+IsAsk names version (Release c m) = (c < length names.conds) × (m < length names.mutexes)
+IsAsk names version (Regain c m) = (c < length names.conds) × (m < length names.mutexes)
+IsAsk names version (Signal c) = c < length names.conds
+IsAsk names version (Broadcast c) = c < length names.conds
+IsAsk names version (Down s) = s < length names.sems
+IsAsk names version (TryDown s) = s < length names.sems
+IsAsk names version (Up s) = s < length names.sems
+IsAsk names version (Arrive b) = b < length names.barriers
+IsAsk names version (Leave b) = b < length names.barriers
+IsAsk names version (Join t) = t < length names.threads
+IsAsk names version Yield = Unit {0}
+IsAsk names version (Check holds) = Unit {0}
+IsAsk names version (Fault kind) = Unit {0}
+IsAsk names version (Start t) = t < length names.threads
+IsAsk names version Begin = Unit {0}
+IsAsk names version (RdLock l) = (l < length names.rwlocks) × (version ≡ 2)
+IsAsk names version (WrLock l) = (l < length names.rwlocks) × (version ≡ 2)
+IsAsk names version (TryRdLock l) = (l < length names.rwlocks) × (version ≡ 2)
+IsAsk names version (TryWrLock l) = (l < length names.rwlocks) × (version ≡ 2)
+IsAsk names version (RwUnlock l) = (l < length names.rwlocks) × (version ≡ 2)
+
+-- a step of a test in a trace of a version
+pub record IsStep (names : NameLists) (version : ℕ) (event : Event) : Type 0 where
+  pub thread : event.thread < length names.threads
+  pub line : IsLine event.line
+  pub ask : IsAsk names version event.ask
+  pub answer : IsValue event.answer
+
+-- a verdict that comes from read-write locks alone
+abbrev pub is_of_second : Verdict → Bool
+is_of_second Passed = false
+is_of_second (Failed thread line) = false
+is_of_second (Stuck places) = false
+is_of_second (Misuse thread line NotOwner) = false
+is_of_second (Misuse thread line SemFull) = false
+is_of_second (Misuse thread line AlreadyStarted) = false
+is_of_second (Misuse thread line TooManyReads) = true
+is_of_second (VerdictFault thread line kind) = false
+is_of_second Cut = false
+
+-- A verdict of a test in a trace of a version: its threads have names, its lines are a test's, a list of blocked threads
+-- rises and isn't empty, and the first version has no misuse of a read-write lock.
+pub record IsEnd (names : NameLists) (version : ℕ) (verdict : Verdict) : Type 0 where
+  pub threads : HasNames names verdict
+  pub form : IsForm names (named names verdict)
+  pub known : (is_of_second verdict ≡ false) ⊎ (version ≡ 2)
+
+abbrev pub IsStepCount : ℕ → Type 0
+IsStepCount n = (1 ≤ n) × (n ≤ 100000)
+
+-- The head of a trace: its version is 1 or 2, its order names every thread once, it has at most 7 points, and each point
+-- and the limit is in 1..100000.
+pub record IsHead (names : NameLists) (head : TraceHead) : Type 0 where
+  pub version : (head.version ≡ 1) ⊎ (head.version ≡ 2)
+  pub threads : All (λ thread. thread < length names.threads) head.order
+  pub once : AllPairs ◌≢◌ head.order
+  pub every : length head.order ≡ length names.threads
+  pub few_points : length head.points ≤ 7
+  pub points : All IsStepCount head.points
+  pub limit : IsStepCount head.limit

@@ -1,0 +1,12 @@
+pub mod Lawful
+pub mod Trace
+pub mod Lines
+pub mod Numbers
+pub mod Asks
+pub mod StepLines
+pub mod Heads
+pub mod Faults
+pub mod Answers
+pub mod Reading
+pub mod Seen
+pub mod Spaced

@@ -1,0 +1,19 @@
+//! The trace of a run as a text: written, and read back.
+#![tactic(auto)]
+
+mod asks;
+mod fault;
+mod file;
+mod head;
+mod line;
+mod number;
+mod reading;
+mod row;
+#[cfg(test)]
+mod tests;
+mod writing;
+
+pub use fault::{TraceError, TraceFault};
+pub use file::{Header, TraceFile};
+pub use reading::read_trace;
+pub use writing::write_trace;

@@ -1,0 +1,49 @@
+//! The numbers of a trace.
+
+ghost use Rattle.std.specs.Prelude.{◌≡◌};
+ghost use Rattle.trace_text.specs.Numbers as numbers;
+
+use pct_ask::read_number;
+
+/// The i64 that a canonical decimal spells.
+pub fn value_of(word: &[u8]) -> Option<i64>
+    ensures { result ≡ numbers.value_of word.now }
+{
+    let number = read_number(word)?;
+    as_value(number)
+}
+
+fn as_value(number: i128) -> Option<i64>
+    ensures { result ≡ numbers.small number }
+{
+    if i128::from(i64::MIN) <= number && number <= i128::from(i64::MAX) {
+        Some(number as i64)
+    } else {
+        None
+    }
+}
+
+/// The number from 0 on that a canonical decimal spells.
+pub fn natural_of(word: &[u8]) -> Option<u64>
+    ensures { result ≡ numbers.natural_of word.now }
+{
+    as_natural(value_of(word)?)
+}
+
+fn as_natural(value: i64) -> Option<u64>
+    ensures { result ≡ numbers.natural (Some value) }
+{
+    if value < 0 { None } else { Some(value as u64) }
+}
+
+/// The number in a range that a canonical decimal spells.
+pub fn count_of(low: u32, high: u32, word: &[u8]) -> Option<u32>
+    ensures { result ≡ numbers.count_of low high word.now }
+{
+    let number = natural_of(word)?;
+    if u64::from(low) <= number && number <= u64::from(high) {
+        Some(number as u32)
+    } else {
+        None
+    }
+}

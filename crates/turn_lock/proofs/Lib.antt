@@ -1,0 +1,13 @@
+pub mod Orders
+pub mod Boards
+pub mod Keeps
+pub mod Cuts
+pub mod Standings
+pub mod Rows
+pub mod Sweeps
+pub mod Hands
+pub mod Seating
+pub mod FlagLists
+pub mod Joining
+pub mod Waiting
+pub mod Growth

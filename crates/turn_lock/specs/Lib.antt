@@ -1,0 +1,10 @@
+pub mod Seen
+pub mod Slots
+pub mod Rule
+pub mod Plays
+pub mod Turns
+pub mod Seats
+pub mod Hands
+pub mod Rounds
+pub mod Calls
+pub mod Views

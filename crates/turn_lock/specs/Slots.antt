@@ -1,0 +1,23 @@
+-- What lies in the slot of the lock's table: a book and a wait board (this project).
+use Rattle.std.specs.Prelude.{◌≡◌, ◌<◌, ℕ, List, Option, Some, None, replicate, slice_index_or}
+use Rattle.turn_book.specs.Told.{Told}
+
+-- for each thread, the word that was noted for it last
+abbrev pub Board : Type 0
+Board = List (Option ℕ)
+
+pub record Slot : Type 0 where
+  pub book : Told
+  pub board : Board
+
+-- the word that is noted for a thread
+abbrev pub word_noted : Board → ℕ → Option ℕ
+word_noted board t = slice_index_or board t None
+
+-- every word on the board is a thread's
+abbrev pub NotesBelow : ℕ → Board → Type 0
+NotesBelow threads board = (t word : ℕ) → word_noted board t ≡ Some word → word < threads
+
+-- a book, and nothing noted
+abbrev pub new_slot : Told → Slot
+new_slot book = record { book = book; board = replicate 64 None }

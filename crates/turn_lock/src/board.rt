@@ -1,0 +1,44 @@
+ghost use Rattle.std.specs.Prelude.{◌≡◌, ◌<◌, None, Some, replicate, slice_set, slice_index_or};
+
+use std::marker::Model;
+
+/// For each thread, the word that its seat waits on, where it was noted.
+#[derive(Clone, Copy, Debug)]
+pub struct WaitBoard {
+    words: [Option<u32>; 64],
+}
+
+impl Model for WaitBoard {
+    ghost use Rattle.std.specs.Prelude.{ℕ, List, Option};
+
+    ghost Value = { List (Option ℕ) };
+
+    ghost view = { λ b. b.words };
+
+    ghost inverse = { λ words. record { words = words } };
+}
+
+impl WaitBoard {
+    /// Nothing is noted.
+    pub fn new() -> WaitBoard
+        ensures { result ≡ replicate 64 None }
+    {
+        WaitBoard { words: [None; 64] }
+    }
+
+    /// Notes the word of a thread.
+    pub fn note(&mut self, thread: u32, word: u32)
+        requires { (thread < 64) × (word < 64) }
+        ensures { self.new ≡ slice_set self.old thread (Some word) }
+    {
+        self.words[thread as usize] = Some(word);
+    }
+
+    /// The word that was noted last for a thread.
+    pub fn word_of(&self, thread: u32) -> Option<u32>
+        requires { thread < 64 }
+        ensures { result ≡ slice_index_or self.now thread None }
+    {
+        self.words[thread as usize]
+    }
+}

@@ -1,0 +1,136 @@
+// The calls that wait for nobody.
+ghost use Rattle.std.specs.Prelude.{◌≡◌, ◌<◌, ℕ, [], IfOk};
+ghost use Rattle.turn_book.specs.Told.{standing_of, IsLawful, SameMaking, Within};
+ghost use Rattle.turn_lock.specs.Seen.{ObeysPlan, SameOf};
+ghost use Rattle.turn_lock.specs.Rule.{Serves, first_view};
+ghost use Rattle.turn_lock.specs.Turns.{GivenInRange, IsOwed, Gives};
+ghost use Rattle.turn_lock.specs.Calls.{made, ServesAll};
+ghost use Rattle.turn_lock.specs.Seats.{without, alone, joined};
+ghost use Rattle.turn_lock.specs.Views.{view, IsOf};
+ghost use Rattle.pct_ask.specs.declared.event.Standing.TheVariants as standings;
+
+use crate::flags::{chosen, either};
+use crate::held::TurnLock;
+use crate::rule::Both;
+use crate::seat::Seat;
+use crate::slot::Slot;
+use crate::turn::Turn;
+use atomic_table::{Refused, Table};
+use pct_ask::Post;
+use policy_pick::Policy;
+use std::alloc::{AllocError as NoMemory, Global};
+use std::marker::Brand;
+use std::snapshot::Snapshot;
+use turn_book::TurnBook;
+
+impl<P: Policy> TurnLock<P> {
+    /// A lock over a book in which nothing has happened, and the seat that serves all its threads.
+    pub fn new(alloc: Global, book: TurnBook<P>) -> Result<(TurnLock<P>, Seat<P>), NoMemory>
+        requires steps { book.trace ≡ [] }
+        requires away { (t : ℕ) → t < book.deal.threads → standing_of book t ≡ standings.Away }
+        ensures made { IfOk result (λ r. made r.0 ≡ book) }
+        ensures of { IfOk result (λ r. IsOf r.0 r.1) }
+        ensures view { IfOk result (λ r. view r.1 ≡ first_view book) }
+        ensures obeys { IfOk result (λ r. ObeysPlan (view r.1).seen) }
+    {
+        let threads = book.deal().threads;
+        let slot = Slot::new(book);
+        let about = Snapshot::of(&slot);
+        let words = vec![in alloc; 0u64; threads as usize + 1]?;
+        let mut slots = Vec::with_capacity(alloc, 1)?;
+        slots.push_reserved(slot);
+        match Table::new(alloc, words.as_slice(), slots, &about) {
+            Ok((table, seat)) => Ok((TurnLock { table }, Seat::first(seat, threads))),
+            Err(Refused { slots: _ }) => Err(NoMemory),
+        }
+    }
+
+    /// Takes a thread off the seat, into a new seat that serves it alone.
+    pub fn split(&self, seat: &mut Seat<P>, thread: u32) -> Seat<P>
+        requires of { IsOf self.now seat.old }
+        requires serves { Serves (view seat.old) thread }
+        ensures of { IsOf self.now seat.new × IsOf self.now result }
+        ensures left { view seat.new ≡ without (view seat.old) thread }
+        ensures right { view result ≡ alone (view seat.old) thread }
+    {
+        let other = self.split_as::<Brand>(&mut seat.seat, thread);
+        seat.serves[thread as usize] = false;
+        let mut serves = [false; 64];
+        serves[thread as usize] = true;
+        Seat {
+            seat: other,
+            serves,
+            owes: seat.owes,
+        }
+    }
+
+    /// The seat serves the other's threads too, and has seen what each of the two has seen.
+    pub fn join(&self, seat: &mut Seat<P>, other: Seat<P>)
+        requires of { IsOf self.now seat.old × IsOf self.now other }
+        ensures of { IsOf self.now seat.new }
+        ensures view { view seat.new ≡ joined (view seat.old) (view other) }
+        ensures seen { Within (view seat.old).seen (view seat.new).seen × Within (view other).seen (view seat.new).seen }
+        ensures own { (t : ℕ) → Serves (view seat.old) t → SameOf t (view seat.old).seen (view seat.new).seen }
+        ensures theirs { (t : ℕ) → Serves (view other) t → SameOf t (view other).seen (view seat.new).seen }
+        ensures obeys { ObeysPlan (view seat.new).seen }
+    {
+        let Seat {
+            seat: their_seat,
+            serves,
+            owes,
+        } = other;
+        let both = either(&seat.serves, &serves);
+        let owing = chosen(&serves, &owes, &seat.owes);
+        self.table
+            .shared
+            .join_seat::<Both>(&mut seat.seat, their_seat);
+        self.look(&mut seat.seat);
+        seat.serves = both;
+        seat.owes = owing;
+    }
+
+    /// Gives the book back. A seat that serves every thread has the lock for itself.
+    pub fn close(self, seat: Seat<P>) -> TurnBook<P>
+        requires of { IsOf self seat }
+        requires all { ServesAll (view seat) }
+        ensures making { SameMaking (made self) result }
+        ensures lawful { IsLawful result }
+        ensures seen { Within (view seat).seen result }
+        ensures own { (t : ℕ) → t < result.deal.threads → SameOf t (view seat).seen result }
+    {
+        let TurnLock { table } = self;
+        let Seat {
+            seat: table_seat,
+            serves: _,
+            owes: _,
+        } = seat;
+        let mut closed = table.close_with(table_seat);
+        let slot = closed.take(0);
+        closed.free();
+        slot.into_book()
+    }
+
+    /// Posts, where a post is owed, and asks for the thread's turn. It waits for nobody: where another seat holds the gate
+    /// it says so.
+    pub fn try_turn(&self, seat: &mut Seat<P>, thread: u32, post: Option<Post>) -> Turn
+        requires of { IsOf self.now seat.old }
+        requires serves { Serves (view seat.old) thread }
+        requires owed { IsOwed (view seat.old).seen thread post }
+        requires in_range { GivenInRange (made self.now) post }
+        ensures of { IsOf self.now seat.new }
+        ensures gives { Gives (view seat.old) thread post result (view seat.new) }
+        ensures obeys { ObeysPlan (view seat.new).seen }
+    {
+        let found = self.grab(&mut seat.seat, thread);
+        if found != 0 {
+            return Turn::Busy {
+                holder: (found - 1) as u32,
+            };
+        }
+        let work = self.work(&mut seat.seat, thread, post);
+        self.open_gate(&mut seat.seat);
+        self.wake(&mut seat.seat, &work.wakes);
+        seat.owes[thread as usize] = work.owes;
+        work.turn
+    }
+}

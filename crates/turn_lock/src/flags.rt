@@ -1,0 +1,54 @@
+// A flag for each of 64 threads.
+ghost use Rattle.std.specs.Prelude.{◌≡◌, ◌<◌, ◌≤◌, ℕ, false, if◌then◌else◌, length, slice_index_or};
+ghost use Rattle.turn_lock.specs.Rule.{Has, first_threads};
+ghost use Rattle.turn_lock.specs.Seats.{either_of};
+
+/// The first so many threads.
+pub fn first_threads(threads: u32) -> [bool; 64]
+    requires { threads ≤ 64 }
+    ensures first { result ≡ first_threads threads }
+    ensures flags { length result ≡ 64 }
+{
+    let mut first = [false; 64];
+    for thread in 0..threads {
+        first[thread as usize] = true;
+    }
+    first
+}
+
+/// The threads of both.
+pub fn either(one: &[bool; 64], other: &[bool; 64]) -> [bool; 64]
+    ensures { result ≡ either_of one.now other.now }
+{
+    let mut both = *one;
+    for i in 0..64 {
+        both[i] = both[i] | other[i];
+    }
+    both
+}
+
+/// Each flag is taken from the first list where that is wanted, and else from the second.
+pub fn chosen(wanted: &[bool; 64], one: &[bool; 64], other: &[bool; 64]) -> [bool; 64]
+    ensures flags { length result ≡ 64 }
+    ensures chosen { (t : ℕ) → t < 64 → slice_index_or result t false ≡ (if slice_index_or wanted.now t false then slice_index_or one.now t false else slice_index_or other.now t false) }
+{
+    let mut flags = *other;
+    for i in 0..64 {
+        flags[i] = if wanted[i] { one[i] } else { flags[i] };
+    }
+    flags
+}
+
+/// The lowest of the threads.
+pub fn lowest(threads: &[bool; 64]) -> u32
+    requires { (t : ℕ) × Has threads.now t }
+    ensures here { Has threads.now result }
+    ensures least { (t : ℕ) → Has threads.now t → result ≤ t }
+{
+    for thread in 0..64u32 {
+        if threads[thread as usize] {
+            return thread;
+        }
+    }
+    unreachable!()
+}

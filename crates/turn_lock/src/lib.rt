@@ -1,0 +1,25 @@
+//! One book of turns for many threads, by single atomic steps.
+#![tactic(auto)]
+
+mod board;
+mod calls;
+mod flags;
+mod held;
+mod round;
+mod rule;
+mod seat;
+mod seats;
+mod slot;
+mod steps;
+#[cfg(test)]
+mod tests;
+mod turn;
+mod turning;
+mod view;
+mod waits;
+mod work;
+
+pub use board::WaitBoard;
+pub use held::TurnLock;
+pub use seat::Seat;
+pub use turn::Turn;

@@ -1,0 +1,81 @@
+ghost use Rattle.turn_lock.specs.Rule.{Kept, first_view, spent_view};
+ghost use Rattle.turn_lock.specs.Plays.{Grabs, Opens, Marks, Looks};
+ghost use Rattle.turn_lock.specs.Seats.{without, alone, joined};
+
+use crate::slot::Slot;
+use crate::view::View;
+use atomic_table::{Join, Play, Split, TableRule};
+use policy_pick::Policy;
+use std::marker::{Brand, PhantomData};
+use std::snapshot::Snapshot;
+
+/// A seat as the table has it.
+pub type TableSeat<P> = atomic_table::Seat<Slot<P>, View>;
+
+/// What is true between any two steps.
+pub struct Law;
+
+impl<P: Policy> TableRule<Slot<P>, View, Snapshot<Slot<P>>> for Law {
+    ghost holds = { λ key. Kept key.value.book };
+
+    ghost first = { λ key. first_view key.value.book };
+}
+
+/// Compare and exchange on the gate word.
+pub struct Grab;
+
+impl<P: Policy> Play<Slot<P>, View> for Grab {
+    ghost then = { Grabs };
+}
+
+/// The store that opens the gate.
+pub struct Open;
+
+impl<P: Policy> Play<Slot<P>, View> for Open {
+    ghost then = { Opens };
+}
+
+/// A step on a turn word.
+pub struct Mark;
+
+impl<P: Policy> Play<Slot<P>, View> for Mark {
+    ghost then = { Marks };
+}
+
+/// The load after a join.
+pub struct Look;
+
+impl<P: Policy> Play<Slot<P>, View> for Look {
+    ghost then = { Looks };
+}
+
+/// Which thread is split off. Each call picks it.
+pub trait Which {
+    ghost use Rattle.std.specs.Prelude.{ℕ};
+
+    ghost thread: { ℕ };
+}
+
+impl Which for Brand {
+    ghost thread = { 0 };
+}
+
+/// A thread is split off.
+pub struct Part<W: Which> {
+    of: PhantomData<W>,
+}
+
+impl<W: Which> Split<View> for Part<W> {
+    ghost left = { λ v. without v W.thread };
+
+    ghost right = { λ v. alone v W.thread };
+}
+
+/// Two seats are made one.
+pub struct Both;
+
+impl Join<View> for Both {
+    ghost both = { joined };
+
+    ghost spent = { spent_view };
+}

@@ -1,0 +1,171 @@
+ghost use Rattle.std.specs.Prelude.{◌≡◌, ◌<◌, ◌≤◌, ◌↔◌, ℕ, true, false, None, IfSome};
+ghost use Rattle.turn_book.specs.Told.{IsLawful, standing_of};
+ghost use Rattle.turn_lock.specs.Seen.{owes_of};
+ghost use Rattle.turn_lock.specs.Slots.{NotesBelow, new_slot};
+ghost use Rattle.turn_lock.specs.Rule.{Has};
+ghost use Rattle.turn_lock.specs.Turns.{GivenInRange, IsOwed, TurnsTo};
+ghost use Rattle.turn_lock.specs.Hands.{AreBelow, IsWork, IsSwept};
+ghost use Rattle.pct_ask.specs.declared.event.Standing.TheVariants as standings;
+
+use crate::board::WaitBoard;
+use crate::turn::Turn;
+use crate::turning::{answer, ask, is_away, settles};
+use crate::work::Work;
+use pct_ask::{Post, Standing};
+use policy_pick::Policy;
+use std::marker::Model;
+use turn_book::TurnBook;
+
+/// What lies in the slot of the table.
+#[derive(Drop)]
+pub struct Slot<P: Policy> {
+    book: TurnBook<P>,
+    board: WaitBoard,
+}
+
+impl<P: Policy> Model for Slot<P> {
+    ghost use Rattle.turn_lock.specs.Slots.{Slot as SlotData};
+
+    ghost Value = { SlotData };
+
+    ghost view = { λ s. record { book = s.book; board = s.board } };
+}
+
+impl<P: Policy> Slot<P> {
+    pub fn new(book: TurnBook<P>) -> Slot<P>
+        ensures slot { result ≡ new_slot book }
+        ensures lawful { IsLawful book }
+    {
+        // Any look at a book tells that it is lawful.
+        let _outcome = book.outcome();
+        Slot {
+            book,
+            board: WaitBoard::new(),
+        }
+    }
+
+    pub fn into_book(self) -> TurnBook<P>
+        ensures { result ≡ self.book }
+    {
+        self.book
+    }
+
+    /// The post, where one is given, and the thread's turn.
+    fn turn(&mut self, thread: u32, post: Option<Post>) -> Turn
+        requires thread { thread < self.old.book.deal.threads }
+        requires lawful { IsLawful self.old.book }
+        requires owed { IsOwed self.old.book thread post }
+        requires in_range { GivenInRange self.old.book post }
+        ensures turn { TurnsTo self.old.book thread post result self.new.book }
+        ensures board { self.new.board ≡ self.old.board }
+    {
+        ask(&mut self.book, thread, post);
+        answer(&mut self.book, thread)
+    }
+
+    /// The word that was noted for the thread, if that is wanted.
+    fn noted(&self, thread: u32, wanted: bool) -> Option<u32>
+        requires thread { thread < 64 }
+        requires notes { NotesBelow self.now.book.deal.threads self.now.board }
+        ensures { IfSome result (λ word. word < self.now.book.deal.threads) }
+    {
+        if wanted {
+            self.board.word_of(thread)
+        } else {
+            None
+        }
+    }
+
+    /// The turn words to wake: that of the thread whose turn it is, and once an outcome stands every word that was noted.
+    fn wakes(&self) -> [bool; 64]
+        requires { NotesBelow self.now.book.deal.threads self.now.board }
+        ensures { AreBelow self.now.book.deal.threads result }
+    {
+        let over = self.book.outcome().is_some();
+        let granted = self.book.granted();
+        let mut words = [false; 64];
+        for thread in 0..64u32 {
+            let wanted = over || granted == Some(thread);
+            if let Some(word) = self.noted(thread, wanted) {
+                words[word as usize] = true;
+            }
+        }
+        words
+    }
+
+    /// A turn, with what is told of it.
+    pub fn work(&mut self, thread: u32, post: Option<Post>) -> Work
+        requires thread { thread < self.old.book.deal.threads }
+        requires lawful { IsLawful self.old.book }
+        requires notes { NotesBelow self.old.book.deal.threads self.old.board }
+        requires owed { IsOwed self.old.book thread post }
+        requires in_range { GivenInRange self.old.book post }
+        ensures { IsWork self.old thread post result self.new }
+    {
+        let turn = self.turn(thread, post);
+        Work {
+            turn,
+            owes: is_away(&self.book, thread),
+            wakes: self.wakes(),
+        }
+    }
+
+    /// Notes a word for each of these threads.
+    fn note(&mut self, serves: &[bool; 64], word: u32)
+        requires word { word < self.old.book.deal.threads }
+        requires notes { NotesBelow self.old.book.deal.threads self.old.board }
+        ensures book { self.new.book ≡ self.old.book }
+        ensures notes { NotesBelow self.old.book.deal.threads self.new.board }
+    {
+        for thread in 0..64u32 {
+            if serves[thread as usize] {
+                self.board.note(thread, word);
+            }
+        }
+    }
+
+    /// Each of these threads has ended.
+    fn all_ended(&self, serves: &[bool; 64]) -> bool
+        requires { (t : ℕ) → Has serves.now t → t < self.now.book.deal.threads }
+        ensures { result ≡ true → (t : ℕ) → Has serves.now t → standing_of self.now.book t ≡ standings.Ended }
+    {
+        for thread in 0..64u32 {
+            if serves[thread as usize] && self.book.standing(thread) != Standing::Ended {
+                return false;
+            }
+        }
+        true
+    }
+
+    /// The one of these threads whose turn it is, or else the lowest.
+    fn candidate(&self, serves: &[bool; 64], lowest: u32) -> u32
+        requires { Has serves.now lowest }
+        ensures { Has serves.now result }
+    {
+        match self.book.granted() {
+            Some(thread) if thread < 64 && serves[thread as usize] => thread,
+            _ => lowest,
+        }
+    }
+
+    /// A turn of one of these threads, if one is answered. Else the lowest one's word is noted for all.
+    pub fn sweep(&mut self, serves: &[bool; 64], lowest: u32) -> Option<(u32, Work)>
+        requires lowest { Has serves.now lowest × ((t : ℕ) → Has serves.now t → lowest ≤ t) }
+        requires threads { (t : ℕ) → Has serves.now t → t < self.old.book.deal.threads }
+        requires posted { (t : ℕ) → Has serves.now t → owes_of self.old.book t ≡ false }
+        requires lawful { IsLawful self.old.book }
+        requires notes { NotesBelow self.old.book.deal.threads self.old.board }
+        ensures { IsSwept serves.now self.old result self.new }
+    {
+        let thread = self.candidate(serves, lowest);
+        let work = self.work(thread, None);
+        if settles(&work.turn) {
+            return Some((thread, work));
+        }
+        if self.all_ended(serves) {
+            return Some((lowest, Work::ended()));
+        }
+        self.note(serves, lowest);
+        None
+    }
+}

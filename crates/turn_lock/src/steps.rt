@@ -1,0 +1,117 @@
+// The single steps on the table, each with what it tells.
+ghost use Rattle.std.specs.Prelude.{◌≡◌, ◌<◌, ◌+◌, [], ◌∷◌};
+ghost use Rattle.atomic_table.specs.Table.{step};
+ghost use Rattle.turn_lock.specs.Slots.{Slot};
+ghost use Rattle.turn_lock.specs.Rule.{Serves};
+ghost use Rattle.turn_lock.specs.Plays.{Grabs, Looks, with_book};
+ghost use Rattle.turn_lock.specs.Hands.{HasInHand, IsReady, IsReadyForAny, GoesOn, AreBelow, IsWork, IsSwept};
+ghost use Rattle.turn_lock.specs.Seats.{without, alone};
+ghost use Rattle.turn_lock.specs.Calls.{IsTableSeatOf, SameSeat, Idle, made};
+ghost use mathlib.Core.Option.{none};
+
+use crate::held::TurnLock;
+use crate::rule::{Grab, Look, Mark, Open, Part, TableSeat, Which};
+use crate::work::Work;
+use pct_ask::Post;
+use policy_pick::Policy;
+
+impl<P: Policy> TurnLock<P> {
+    /// Takes the slot to the seat, or answers the number of the thread that holds the gate.
+    pub(crate) fn grab(&self, seat: &mut TableSeat<P>, thread: u32) -> u64
+        requires of { IsTableSeatOf self.now seat.old }
+        requires idle { Idle seat.old }
+        requires serves { Serves seat.old.me.0 thread }
+        requires thread { thread < seat.old.me.0.seen.deal.threads }
+        ensures same { SameSeat seat.old seat.new }
+        ensures grabs { Grabs (step 1 0 0 (thread + 1) none) seat.old.me result seat.new.me }
+    {
+        self.table
+            .shared
+            .compare_exchange::<Grab>(seat, 0, 0, thread as u64 + 1)
+    }
+
+    /// The post and the turn, on the book in the seat's hand.
+    pub(crate) fn work(&self, seat: &mut TableSeat<P>, thread: u32, post: Option<Post>) -> Work
+        requires of { seat.old.table_id ≡ self.now.table.shared.table_id }
+        requires ready { IsReady seat.old.me thread post }
+        ensures same { SameSeat seat.old seat.new × (seat.new.me.0 ≡ seat.old.me.0) }
+        ensures work { (after : Slot) × HasInHand seat.new.me after × IsWork seat.old.me.0.base thread post result after }
+    {
+        let slot = seat.slot_mut(&self.table.shared, 0);
+        slot.work(thread, post)
+    }
+
+    /// The turn of one of these threads, on the book in the seat's hand.
+    pub(crate) fn sweep(
+        &self,
+        seat: &mut TableSeat<P>,
+        threads: &[bool; 64],
+        lowest: u32,
+    ) -> Option<(u32, Work)>
+        requires of { seat.old.table_id ≡ self.now.table.shared.table_id }
+        requires ready { IsReadyForAny seat.old.me threads.now lowest }
+        ensures same { SameSeat seat.old seat.new × (seat.new.me.0 ≡ seat.old.me.0) }
+        ensures swept { (after : Slot) × HasInHand seat.new.me after × IsSwept threads.now seat.old.me.0.base result after }
+    {
+        let slot = seat.slot_mut(&self.table.shared, 0);
+        slot.sweep(threads, lowest)
+    }
+
+    /// Gives the slot back, and opens the gate.
+    pub(crate) fn open_gate(&self, seat: &mut TableSeat<P>)
+        requires of { seat.old.table_id ≡ self.now.table.shared.table_id }
+        requires goes { (after : Slot) × HasInHand seat.old.me after × GoesOn seat.old.me.0 seat.old.me.0.base after }
+        ensures same { SameSeat seat.old seat.new }
+        ensures opened { (after : Slot) → HasInHand seat.old.me after → seat.new.me ≡ (with_book seat.old.me.0 after.book, []) }
+    {
+        self.table.shared.store::<Open>(seat, 0, 0);
+    }
+
+    /// Adds one to a turn word, and wakes its waiter.
+    fn mark(&self, seat: &mut TableSeat<P>, word: usize)
+        requires of { seat.old.table_id ≡ self.now.table.shared.table_id }
+        requires word { word < (made self.now).deal.threads }
+        ensures same { SameSeat seat.old seat.new }
+        ensures view { seat.new.me ≡ seat.old.me }
+    {
+        self.table.shared.fetch_add::<Mark>(seat, word + 1, 1);
+        self.table.shared.wake_one(word + 1);
+    }
+
+    /// Marks each of these turn words. A call does so after it opened the gate: a waiter that looked before the change
+    /// noted its word and read it while it held the book, so it doesn't sleep on the word as it was.
+    pub(crate) fn wake(&self, seat: &mut TableSeat<P>, words: &[bool; 64])
+        requires of { seat.old.table_id ≡ self.now.table.shared.table_id }
+        requires words { AreBelow (made self.now).deal.threads words.now }
+        ensures same { SameSeat seat.old seat.new }
+        ensures view { seat.new.me ≡ seat.old.me }
+    {
+        for word in 0..64usize {
+            if words[word] {
+                self.mark(seat, word);
+            }
+        }
+    }
+
+    pub(crate) fn split_as<W: Which>(&self, seat: &mut TableSeat<P>, thread: u32) -> TableSeat<P>
+        requires which { thread ≡ W.thread }
+        requires of { seat.old.table_id ≡ self.now.table.shared.table_id }
+        requires idle { Idle seat.old }
+        requires serves { Serves seat.old.me.0 thread }
+        ensures same { SameSeat seat.old seat.new × (result.table_id ≡ seat.old.table_id) }
+        ensures left { seat.new.me ≡ (without seat.old.me.0 thread, []) }
+        ensures right { result.me ≡ (alone seat.old.me.0 thread, []) }
+    {
+        self.table.shared.split_seat::<Part<W>>(seat)
+    }
+
+    /// A load of the gate word, which tells what the rule says of the seat's last join.
+    pub(crate) fn look(&self, seat: &mut TableSeat<P>)
+        requires of { seat.old.table_id ≡ self.now.table.shared.table_id }
+        requires idle { Idle seat.old }
+        ensures same { SameSeat seat.old seat.new }
+        ensures looks { Looks (step 1 0 0 0 none) seat.old.me 0 seat.new.me }
+    {
+        self.table.shared.load::<Look>(seat, 0);
+    }
+}

@@ -1,0 +1,95 @@
+// The calls that may wait.
+ghost use Rattle.std.specs.Prelude.{◌≡◌, ◌≤◌, ℕ, true, false, None, Some};
+ghost use Rattle.sync_store.specs.Store.{sizes_of_deal};
+ghost use Rattle.turn_book.specs.Told.{PostIsInRange};
+ghost use Rattle.turn_lock.specs.Seen.{ObeysPlan, owes_of};
+ghost use Rattle.turn_lock.specs.Rule.{Serves};
+ghost use Rattle.turn_lock.specs.Turns.{TookAtLast, TellsEnd};
+ghost use Rattle.turn_lock.specs.Rounds.{RoundTells};
+ghost use Rattle.turn_lock.specs.Calls.{made, WaitsForTurn};
+ghost use Rattle.turn_lock.specs.Views.{view, IsOf};
+
+use crate::flags::lowest;
+use crate::held::TurnLock;
+use crate::round::Round;
+use crate::seat::Seat;
+use crate::turn::Turn;
+use pct_ask::Post;
+use policy_pick::Policy;
+use std::sync::Wait;
+use std::thread::yield_now;
+
+impl<P: Policy> TurnLock<P> {
+    /// As `try_turn` with a post, and tries again while another seat holds the gate.
+    pub fn post_wait<R: Wait>(&self, rt: &R, seat: &mut Seat<P>, thread: u32, post: Post) -> Turn
+        requires of { IsOf self.now seat.old }
+        requires serves { Serves (view seat.old) thread }
+        requires owed { owes_of (view seat.old).seen thread ≡ true }
+        requires in_range { PostIsInRange (sizes_of_deal (made self.now).deal) post.ask }
+        ensures of { IsOf self.now seat.new }
+        ensures turn { TookAtLast (view seat.old) thread (Some post) result (view seat.new) }
+        ensures obeys { ObeysPlan (view seat.new).seen }
+    {
+        for _ in rt.forever() {
+            match self.try_turn(seat, thread, Some(post)) {
+                Turn::Busy { holder: _ } => yield_now(),
+                turn => return turn,
+            }
+        }
+        unreachable!()
+    }
+
+    /// Takes the book once, where the gate is free, and gives a thread of the seat its turn. Where none has it, the turn word
+    /// of the lowest is noted for all of them, and read before the gate is opened.
+    fn round(&self, seat: &mut Seat<P>, lowest: u32) -> Round
+        requires of { IsOf self.now seat.old }
+        requires here { Serves (view seat.old) lowest }
+        requires least { (t : ℕ) → Serves (view seat.old) t → lowest ≤ t }
+        requires posted { (t : ℕ) → Serves (view seat.old) t → owes_of (view seat.old).seen t ≡ false }
+        ensures of { IsOf self.now seat.new }
+        ensures round { RoundTells (view seat.old) result (view seat.new) }
+        ensures obeys { ObeysPlan (view seat.new).seen }
+    {
+        let found = self.grab(&mut seat.seat, lowest);
+        if found != 0 {
+            return Round::Busy;
+        }
+        let swept = self.sweep(&mut seat.seat, &seat.serves, lowest);
+        let word = self.table.shared.peek(lowest as usize + 1) % 4294967296;
+        self.open_gate(&mut seat.seat);
+        match swept {
+            Some((thread, work)) => {
+                self.wake(&mut seat.seat, &work.wakes);
+                seat.owes[thread as usize] = work.owes;
+                Round::Found {
+                    thread,
+                    turn: work.turn,
+                }
+            }
+            None => Round::Wait { word: word as u32 },
+        }
+    }
+
+    /// Waits until a thread of the seat has its turn, or the run is over, or all its threads have ended. It sleeps only after
+    /// a round in which it took the book, on its turn word as it was then, which whoever gives one of its threads the turn
+    /// changes afterwards.
+    pub fn turn_any<R: Wait>(&self, rt: &R, seat: &mut Seat<P>) -> (u32, Turn)
+        requires of { IsOf self.now seat.old }
+        requires waits { WaitsForTurn (view seat.old) }
+        ensures of { IsOf self.now seat.new }
+        ensures serves { Serves (view seat.old) result.0 }
+        ensures turn { TookAtLast (view seat.old) result.0 None result.1 (view seat.new) }
+        ensures tells { TellsEnd (view seat.old).serves result.0 result.1 (view seat.new).seen }
+        ensures obeys { ObeysPlan (view seat.new).seen }
+    {
+        let lowest = lowest(&seat.serves);
+        for _ in rt.forever() {
+            match self.round(seat, lowest) {
+                Round::Busy => yield_now(),
+                Round::Found { thread, turn } => return (thread, turn),
+                Round::Wait { word } => self.table.shared.park(rt, lowest as usize + 1, word),
+            }
+        }
+        unreachable!()
+    }
+}
