@@ -53,7 +53,7 @@ returns-clause-replay g c = λ script of.
       made = c.in_ok-played.played.events;
       outcome = c.in_ok-played.played.outcome;
       played = played_as (list_plan c.in_ok-policy.policy) (ByList (schedule_of c.args.file.now.events)) c.in_ok-own.own c.args.deal.now (map pending_of c.in_ok-bodies.bodies.items) (bodies_of script)
-      c.args.file.now.header.limit c.in_ok-played.played.events c.in_ok-played.played.outcome plan c.in_ok-own.ensures bodies c.in_ok-played.ensures.played;
+          c.args.file.now.header.limit c.in_ok-played.played.events c.in_ok-played.played.outcome plan c.in_ok-own.ensures bodies c.in_ok-played.ensures.played;
       tells = c.compare.ensures;
     }
 
