@@ -185,41 +185,41 @@ module _ (script : ScriptText) (is : IsScript script) (names : AreNames script.n
   barriers_printed : ArePrinted kinds.Barrier script.barriers
   barriers_printed = all_printed kinds.Barrier IsBarrierCount barrier_printed script.barriers is.barrier_counts
 
-  abbrev V1 : List Meant
-  V1 = valued_forms kinds.Var N.vars script.vars
+  abbrev var_forms : List Meant
+  var_forms = valued_forms kinds.Var N.vars script.vars
 
-  abbrev M1 : List Meant
-  M1 = plain_forms kinds.Mutex N.mutexes
+  abbrev mutex_forms : List Meant
+  mutex_forms = plain_forms kinds.Mutex N.mutexes
 
-  abbrev C1 : List Meant
-  C1 = plain_forms kinds.Cond N.conds
+  abbrev cond_forms : List Meant
+  cond_forms = plain_forms kinds.Cond N.conds
 
-  abbrev S1 : List Meant
-  S1 = valued_forms kinds.Sem N.sems script.sems
+  abbrev sem_forms : List Meant
+  sem_forms = valued_forms kinds.Sem N.sems script.sems
 
-  abbrev B1 : List Meant
-  B1 = valued_forms kinds.Barrier N.barriers script.barriers
+  abbrev barrier_forms : List Meant
+  barrier_forms = valued_forms kinds.Barrier N.barriers script.barriers
 
-  abbrev R1 : List Meant
-  R1 = plain_forms kinds.RwLock N.rwlocks
+  abbrev rwlock_forms : List Meant
+  rwlock_forms = plain_forms kinds.RwLock N.rwlocks
 
   declared_fit : AreFit script.version D
   declared_fit =
       let v = script.version in
-      AreFit-append v V1 (M1 ++ (C1 ++ (S1 ++ (B1 ++ R1)))) (valued_fit v kinds.Var N.vars script.vars refl (lawful_of kinds.Var) vars_printed)
-      (AreFit-append v M1 (C1 ++ (S1 ++ (B1 ++ R1))) (plain_fit v kinds.Mutex N.mutexes refl is.first_version (lawful_of kinds.Mutex))
-      (AreFit-append v C1 (S1 ++ (B1 ++ R1)) (plain_fit v kinds.Cond N.conds refl is.first_version (lawful_of kinds.Cond))
-      (AreFit-append v S1 (B1 ++ R1) (valued_fit v kinds.Sem N.sems script.sems refl (lawful_of kinds.Sem) sems_printed)
-      (AreFit-append v B1 R1 (valued_fit v kinds.Barrier N.barriers script.barriers refl (lawful_of kinds.Barrier) barriers_printed)
+      AreFit-append v var_forms (mutex_forms ++ (cond_forms ++ (sem_forms ++ (barrier_forms ++ rwlock_forms)))) (valued_fit v kinds.Var N.vars script.vars refl (lawful_of kinds.Var) vars_printed)
+      (AreFit-append v mutex_forms (cond_forms ++ (sem_forms ++ (barrier_forms ++ rwlock_forms))) (plain_fit v kinds.Mutex N.mutexes refl is.first_version (lawful_of kinds.Mutex))
+      (AreFit-append v cond_forms (sem_forms ++ (barrier_forms ++ rwlock_forms)) (plain_fit v kinds.Cond N.conds refl is.first_version (lawful_of kinds.Cond))
+      (AreFit-append v sem_forms (barrier_forms ++ rwlock_forms) (valued_fit v kinds.Sem N.sems script.sems refl (lawful_of kinds.Sem) sems_printed)
+      (AreFit-append v barrier_forms rwlock_forms (valued_fit v kinds.Barrier N.barriers script.barriers refl (lawful_of kinds.Barrier) barriers_printed)
       (rwlocks_are_fit v N.rwlocks is.known_rwlocks (lawful_of kinds.RwLock))))))
 
   declared_declare : list_all declares D ≡ true
   declared_declare =
-      declare-append V1 (M1 ++ (C1 ++ (S1 ++ (B1 ++ R1)))) (valued_declare kinds.Var N.vars script.vars)
-      (declare-append M1 (C1 ++ (S1 ++ (B1 ++ R1))) (plain_declare kinds.Mutex N.mutexes)
-      (declare-append C1 (S1 ++ (B1 ++ R1)) (plain_declare kinds.Cond N.conds)
-      (declare-append S1 (B1 ++ R1) (valued_declare kinds.Sem N.sems script.sems)
-      (declare-append B1 R1 (valued_declare kinds.Barrier N.barriers script.barriers) (plain_declare kinds.RwLock N.rwlocks)))))
+      declare-append var_forms (mutex_forms ++ (cond_forms ++ (sem_forms ++ (barrier_forms ++ rwlock_forms)))) (valued_declare kinds.Var N.vars script.vars)
+      (declare-append mutex_forms (cond_forms ++ (sem_forms ++ (barrier_forms ++ rwlock_forms))) (plain_declare kinds.Mutex N.mutexes)
+      (declare-append cond_forms (sem_forms ++ (barrier_forms ++ rwlock_forms)) (plain_declare kinds.Cond N.conds)
+      (declare-append sem_forms (barrier_forms ++ rwlock_forms) (valued_declare kinds.Sem N.sems script.sems)
+      (declare-append barrier_forms rwlock_forms (valued_declare kinds.Barrier N.barriers script.barriers) (plain_declare kinds.RwLock N.rwlocks)))))
 
   all_fit : AreFit script.version (forms_of script)
   all_fit = AreFit-append script.version D (meanings L) declared_fit (threads_fit script.version N is.first_version is.lawful_names N.threads script.threads (lawful_of kinds.Thread) is.threads_fit ranged)
