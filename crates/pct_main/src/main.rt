@@ -10,11 +10,13 @@ ghost use Rattle.pct_top.specs.Saying.{Says};
 mod own;
 
 use own::Own;
-use pct_outside::{HostShelf, HostSink, OpenGate, Sink};
+use pct_outside::{HostShelf, HostSink, OpenGate, Shelf, Sink};
 use pct_top::{Refusal, Status, pct, say};
 use std::env::{self, Env};
 use std::io::{self, ErrorKind};
 use std::process::ExitCode;
+use std::sync::Wait;
+use std::thread::Threads;
 
 /// The words after the program's own name.
 fn words_of(rt: &(impl Env + AllocGlobal)) -> io::Result<Vec<String>> {
@@ -52,30 +54,26 @@ fn put_answer<O: Sink, E: Sink>(out: &mut O, err: &mut E, text: &str) -> Status
     }
 }
 
-fn status_of(rt: &HostRuntime) -> Status {
-    let mut out = HostSink::output(rt.stdout());
-    let mut err = HostSink::errors(rt.stderr());
+/// A call of the program with the host's words.
+fn status_of<R: Env + AllocGlobal + Threads + Wait + Sync, H: Shelf, O: Sink, E: Sink>(
+    rt: &R,
+    shelf: &mut H,
+    out: &mut O,
+    err: &mut E,
+) -> Status {
     let words = match words_of(rt) {
         Ok(words) => words,
-        Err(error) => return refuse(&mut err, &refusal_of(&error)),
+        Err(error) => return refuse(err, &refusal_of(&error)),
     };
     match Own::of_words(words.as_slice()) {
-        Some(own) => put_answer(&mut out, &mut err, own.text()),
-        None => {
-            let mut shelf = HostShelf::new(rt);
-            let gate = OpenGate::new();
-            pct(
-                rt.alloc(),
-                words.as_slice(),
-                &mut shelf,
-                &mut out,
-                &mut err,
-                &gate,
-            )
-        }
+        Some(own) => put_answer(out, err, own.text()),
+        None => pct(rt, rt.alloc(), words.as_slice(), shelf, out, err, &OpenGate::new()),
     }
 }
 
 fn main(rt: HostRuntime) -> ExitCode {
-    ExitCode::from(status_of(&rt) as u8)
+    let mut out = HostSink::output(rt.stdout());
+    let mut err = HostSink::errors(rt.stderr());
+    let mut shelf = HostShelf::new(&rt);
+    ExitCode::from(status_of(&rt, &mut shelf, &mut out, &mut err) as u8)
 }

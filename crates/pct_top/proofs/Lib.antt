@@ -1,9 +1,12 @@
-pub mod Lines
-pub mod StraightLists
-pub mod StraightWorlds
-pub mod StraightMeaning
-pub mod StraightFits
-pub mod Orders
-pub mod Outcomes
-pub mod Calls
-pub mod OnePrinted
+mod Orders
+mod KnownRuns
+mod OptionNumbers
+mod OptionLists
+mod Draws
+mod Played
+mod Replies
+mod Traced
+mod Calls
+mod Deals
+mod OnePrinted
+mod Completes

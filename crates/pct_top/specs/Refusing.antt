@@ -4,14 +4,18 @@ use Rattle.pct_outside.specs.declared.shelves.ShelfError.{ShelfError}
 use Rattle.pct_outside.specs.declared.shelves.ShelfError.TheVariants as shelves
 use Rattle.pct_outside.specs.declared.sinks.SinkError.{SinkError}
 use Rattle.pct_outside.specs.declared.sinks.SinkError.TheVariants as sinks
-use Rattle.straight_script.specs.declared.fault.ScriptFault.{ScriptFault}
-use Rattle.straight_script.specs.declared.fault.ScriptFault.TheVariants.{BadStatement}
-use Rattle.straight_script.specs.declared.fault.ScriptError.{ScriptError}
-use Rattle.straight_script.specs.declared.fault.ScriptError.TheVariants as scripts
+use Rattle.script_tree.specs.declared.fault.ScriptFault.{ScriptFault}
+use Rattle.script_tree.specs.declared.fault.ScriptFault.TheVariants as script_faults
+use Rattle.script_parse.specs.declared.fault.ScriptError.{ScriptError}
+use Rattle.script_parse.specs.declared.fault.ScriptError.TheVariants as scripts
+use Rattle.trace_text.specs.declared.fault.TraceFault.{TraceFault}
+use Rattle.trace_text.specs.declared.fault.TraceFault.TheVariants as trace_faults
+use Rattle.trace_text.specs.declared.fault.TraceError.{TraceError}
+use Rattle.trace_text.specs.declared.fault.TraceError.TheVariants as traces
 use Rattle.pct_top.specs.declared.settings.WordsError.{WordsError}
 use Rattle.pct_top.specs.declared.settings.WordsError.TheVariants as words
 use Rattle.pct_top.specs.declared.refusal.Refusal.{Refusal}
-use Rattle.pct_top.specs.declared.refusal.Refusal.TheVariants.{Usage, Script, Read, Write, Memory}
+use Rattle.pct_top.specs.declared.refusal.Refusal.TheVariants.{Usage, Script, Trace, Read, Write, Memory}
 use Rattle.pct_top.specs.declared.status.Status.{Status}
 use Rattle.pct_top.specs.declared.status.Status.TheVariants as statuses
 
@@ -22,6 +26,10 @@ IsOfWords words.NoMemory refusal = refusal ≡ Memory
 abbrev pub IsOfScript : ScriptError → Refusal → Type 0
 IsOfScript (scripts.Bad line kind) refusal = refusal ≡ Script line kind
 IsOfScript scripts.NoMemory refusal = refusal ≡ Memory
+
+abbrev pub IsOfTrace : TraceError → Refusal → Type 0
+IsOfTrace (traces.Bad line kind) refusal = refusal ≡ Trace line kind
+IsOfTrace traces.NoMemory refusal = refusal ≡ Memory
 
 abbrev pub IsOfShelf : ShelfError → Refusal → Type 0
 IsOfShelf shelves.Failed refusal = refusal ≡ Read
@@ -34,17 +42,40 @@ IsOfSink sinks.NoMemory refusal = refusal ≡ Memory
 abbrev pub status_of_refusal : Refusal → Status
 status_of_refusal (Usage word) = statuses.Usage
 status_of_refusal (Script line kind) = statuses.BadScript
+status_of_refusal (Trace line kind) = statuses.BadTrace
 status_of_refusal Read = statuses.ReadFault
 status_of_refusal Write = statuses.WriteFault
 status_of_refusal Memory = statuses.NoMemory
 
-abbrev pub kind_name : ScriptFault → List ℕ
-kind_name BadStatement = codes "BadStatement"
+abbrev pub script_fault_name : ScriptFault → List ℕ
+script_fault_name script_faults.NotUtf8 = codes "NotUtf8"
+script_fault_name script_faults.LineTooLong = codes "LineTooLong"
+script_fault_name script_faults.TooManyLines = codes "TooManyLines"
+script_fault_name script_faults.BadHeader = codes "BadHeader"
+script_fault_name script_faults.BadToken = codes "BadToken"
+script_fault_name script_faults.BadStatement = codes "BadStatement"
+script_fault_name script_faults.UnknownName = codes "UnknownName"
+script_fault_name script_faults.TwiceNamed = codes "TwiceNamed"
+script_fault_name script_faults.NumberRange = codes "NumberRange"
+script_fault_name script_faults.NoEnd = codes "NoEnd"
+script_fault_name script_faults.StrayEnd = codes "StrayEnd"
+script_fault_name script_faults.NoThread = codes "NoThread"
+script_fault_name script_faults.TooMany = codes "TooMany"
+
+abbrev pub trace_fault_name : TraceFault → List ℕ
+trace_fault_name trace_faults.TooLong = codes "TooLong"
+trace_fault_name trace_faults.BadHeader = codes "BadHeader"
+trace_fault_name trace_faults.BadLine = codes "BadLine"
+trace_fault_name trace_faults.UnknownName = codes "UnknownName"
+trace_fault_name trace_faults.OutOfOrder = codes "OutOfOrder"
+trace_fault_name trace_faults.NoVerdict = codes "NoVerdict"
+trace_fault_name trace_faults.MoreAfterVerdict = codes "MoreAfterVerdict"
 
 -- the line on the error stream, with its LF (this project)
 abbrev pub refusal_line : Refusal → List ℕ
 refusal_line (Usage word) = codes "usage: word " ++ decimal word ++ 10 ∷ []
-refusal_line (Script line kind) = codes "script: line " ++ decimal line ++ 32 ∷ kind_name kind ++ 10 ∷ []
+refusal_line (Script line kind) = codes "script: line " ++ decimal line ++ 32 ∷ script_fault_name kind ++ 10 ∷ []
+refusal_line (Trace line kind) = codes "trace: line " ++ decimal line ++ 32 ∷ trace_fault_name kind ++ 10 ∷ []
 refusal_line Read = codes "read fault\n"
 refusal_line Write = codes "write fault\n"
 refusal_line Memory = codes "no memory\n"

@@ -1,6 +1,6 @@
 //! What is put on the output and the error stream.
 
-ghost use Rattle.std.specs.Prelude.{◌≡◌, ◌≤◌, ◌<◌, ◌+◌, ◌++◌, ◌⊎◌, length, decimal, Err, OnOk, OnErr};
+ghost use Rattle.std.specs.Prelude.{◌≡◌, ◌≤◌, ◌<◌, ◌+◌, [], ◌∷◌, ◌++◌, ◌⊎◌, length, codes, decimal, Err, OnOk, OnErr};
 ghost use Rattle.arrayvec.specs.ArrayString.{array_string_len};
 ghost use Rattle.pct_top.specs.Refusing as refusing;
 ghost use Rattle.pct_top.specs.Refusing.{refusal_line};
@@ -12,7 +12,8 @@ use crate::refusal::Refusal;
 use arrayvec::ArrayString;
 use itoa::Buffer;
 use pct_outside::{Sink, SinkError};
-use straight_script::ScriptFault;
+use script_parse::ScriptFault;
+use trace_text::TraceFault;
 
 /// How many bytes the first line of a text has, with its LF.
 fn line_length(text: &[u8]) -> usize
@@ -68,23 +69,54 @@ fn usage_line(word: u32) -> Line
     line
 }
 
-fn kind_name(kind: ScriptFault) -> &'static str
-    ensures name { result.now ≡ refusing.kind_name kind }
+fn script_fault_name(kind: ScriptFault) -> &'static str
+    ensures name { result.now ≡ refusing.script_fault_name kind }
     ensures short { length result.now ≤ 20 }
 {
     match kind {
+        ScriptFault::NotUtf8 => "NotUtf8",
+        ScriptFault::LineTooLong => "LineTooLong",
+        ScriptFault::TooManyLines => "TooManyLines",
+        ScriptFault::BadHeader => "BadHeader",
+        ScriptFault::BadToken => "BadToken",
         ScriptFault::BadStatement => "BadStatement",
+        ScriptFault::UnknownName => "UnknownName",
+        ScriptFault::TwiceNamed => "TwiceNamed",
+        ScriptFault::NumberRange => "NumberRange",
+        ScriptFault::NoEnd => "NoEnd",
+        ScriptFault::StrayEnd => "StrayEnd",
+        ScriptFault::NoThread => "NoThread",
+        ScriptFault::TooMany => "TooMany",
     }
 }
 
-fn script_line(number: u32, kind: ScriptFault) -> Line
-    ensures { result.bytes ≡ refusal_line (Refusal.Script number kind) }
+fn trace_fault_name(kind: TraceFault) -> &'static str
+    ensures name { result.now ≡ refusing.trace_fault_name kind }
+    ensures short { length result.now ≤ 20 }
+{
+    match kind {
+        TraceFault::TooLong => "TooLong",
+        TraceFault::BadHeader => "BadHeader",
+        TraceFault::BadLine => "BadLine",
+        TraceFault::UnknownName => "UnknownName",
+        TraceFault::OutOfOrder => "OutOfOrder",
+        TraceFault::NoVerdict => "NoVerdict",
+        TraceFault::MoreAfterVerdict => "MoreAfterVerdict",
+    }
+}
+
+/// Which line of a file is faulty, and how.
+fn fault_line(file: &str, number: u32, name: &str) -> Line
+    requires file { length file.now ≤ 20 }
+    requires name { length name.now ≤ 20 }
+    ensures { result.bytes ≡ file.now ++ (codes ": line " ++ decimal number ++ 32 ∷ name.now ++ 10 ∷ []) }
 {
     let mut line = Line::new();
-    line.push_str("script: line ");
+    line.push_str(file);
+    line.push_str(": line ");
     push_count(&mut line, number);
     line.push_str(" ");
-    line.push_str(kind_name(kind));
+    line.push_str(name);
     line.push_str("\n");
     line
 }
@@ -104,7 +136,8 @@ fn line_of(refusal: &Refusal) -> Line
 {
     match refusal {
         Refusal::Usage { word } => usage_line(*word),
-        Refusal::Script { line, kind } => script_line(*line, *kind),
+        Refusal::Script { line, kind } => fault_line("script", *line, script_fault_name(*kind)),
+        Refusal::Trace { line, kind } => fault_line("trace", *line, trace_fault_name(*kind)),
         Refusal::Read => plain_line("read fault\n"),
         Refusal::Write => plain_line("write fault\n"),
         Refusal::Memory => plain_line("no memory\n"),

@@ -1,14 +1,15 @@
 //! Why a call gives no output.
 
 ghost use Rattle.std.specs.Prelude.{◌≡◌};
-ghost use Rattle.pct_top.specs.Refusing.{IsOfScript, IsOfShelf, IsOfSink, IsOfWords};
+ghost use Rattle.pct_top.specs.Refusing.{IsOfScript, IsOfTrace, IsOfShelf, IsOfSink, IsOfWords};
 ghost use Rattle.pct_top.specs.declared.refusal.Refusal.TheVariants as refusals;
 
 use crate::settings::WordsError;
 use crate::status::Status;
 use pct_outside::{ShelfError, SinkError};
+use script_parse::{ScriptError, ScriptFault};
 use std::alloc::AllocError;
-use straight_script::{ScriptError, ScriptFault};
+use trace_text::{TraceError, TraceFault};
 
 /// Why a call gives no output, or not all of it.
 #[derive(Debug, Drop)]
@@ -17,6 +18,8 @@ pub enum Refusal {
     Usage { word: u32 },
     /// The first line of the script that is faulty, from 1, and its fault.
     Script { line: u32, kind: ScriptFault },
+    /// The first line of the trace that is faulty, from 1, and its fault.
+    Trace { line: u32, kind: TraceFault },
     Read,
     Write,
     Memory,
@@ -52,6 +55,17 @@ impl From<ScriptError> for Refusal {
     }
 }
 
+impl From<TraceError> for Refusal {
+    ghost from_gives = { IsOfTrace };
+
+    fn from(error: TraceError) -> Refusal {
+        match error {
+            TraceError::Bad { line, kind } => Refusal::Trace { line, kind },
+            TraceError::NoMemory => Refusal::Memory,
+        }
+    }
+}
+
 impl From<ShelfError> for Refusal {
     ghost from_gives = { IsOfShelf };
 
@@ -83,6 +97,7 @@ impl Refusal {
         match self {
             Refusal::Usage { .. } => Status::Usage,
             Refusal::Script { .. } => Status::BadScript,
+            Refusal::Trace { .. } => Status::BadTrace,
             Refusal::Read => Status::ReadFault,
             Refusal::Write => Status::WriteFault,
             Refusal::Memory => Status::NoMemory,

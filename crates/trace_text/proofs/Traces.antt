@@ -249,7 +249,7 @@ order-cases m n = by (nat_lt m n) (nat_lt n m) refl refl
     by false false p q = inr (inr (grind (arith, nat_tests)))
 
 -- a text has one first fault
-one-fault : (size : ℕ) (names : NameLists) (pieces : List (List ℕ)) (l m : ℕ) (j k : TraceFault) → IsFirstFault size names pieces l j → IsFirstFault size names pieces m k → (l ≡ m) × (j ≡ k)
+pub one-fault : (size : ℕ) (names : NameLists) (pieces : List (List ℕ)) (l m : ℕ) (j k : TraceFault) → IsFirstFault size names pieces l j → IsFirstFault size names pieces m k → (l ≡ m) × (j ≡ k)
 one-fault size names pieces l m j k a b = lines (order-cases l m)
   where
     kinds : l ≡ m → (rank j < rank k) ⊎ ((rank k < rank j) ⊎ (rank j ≡ rank k)) → j ≡ k

@@ -17,36 +17,48 @@ use Rattle.pct_ask.specs.TraceText.{TraceHead}
 abbrev pub IsValue : ℤ → Type 0
 IsValue z = FitsSigned w64 z
 
--- An ask of a test in a trace of a version: its objects have names, its numbers are i64s, and in the first version it
--- asks nothing of a read-write lock.
+-- The objects and threads that an ask names are there, and in the first version it asks nothing of a read-write lock.
+abbrev pub HasObjects : NameLists → ℕ → Ask → Type 0
+HasObjects names version (Read x) = x < length names.vars
+HasObjects names version (Write x value) = x < length names.vars
+HasObjects names version (Add x value) = x < length names.vars
+HasObjects names version (Cas x old new) = x < length names.vars
+HasObjects names version (Lock m) = m < length names.mutexes
+HasObjects names version (TryLock m) = m < length names.mutexes
+HasObjects names version (Unlock m) = m < length names.mutexes
+HasObjects names version (Release c m) = (c < length names.conds) × (m < length names.mutexes)
+HasObjects names version (Regain c m) = (c < length names.conds) × (m < length names.mutexes)
+HasObjects names version (Signal c) = c < length names.conds
+HasObjects names version (Broadcast c) = c < length names.conds
+HasObjects names version (Down s) = s < length names.sems
+HasObjects names version (TryDown s) = s < length names.sems
+HasObjects names version (Up s) = s < length names.sems
+HasObjects names version (Arrive b) = b < length names.barriers
+HasObjects names version (Leave b) = b < length names.barriers
+HasObjects names version (Join t) = t < length names.threads
+HasObjects names version Yield = Unit {0}
+HasObjects names version (Check holds) = Unit {0}
+HasObjects names version (Fault kind) = Unit {0}
+HasObjects names version (Start t) = t < length names.threads
+HasObjects names version Begin = Unit {0}
+HasObjects names version (RdLock l) = (l < length names.rwlocks) × (version ≡ 2)
+HasObjects names version (WrLock l) = (l < length names.rwlocks) × (version ≡ 2)
+HasObjects names version (TryRdLock l) = (l < length names.rwlocks) × (version ≡ 2)
+HasObjects names version (TryWrLock l) = (l < length names.rwlocks) × (version ≡ 2)
+HasObjects names version (RwUnlock l) = (l < length names.rwlocks) × (version ≡ 2)
+
+-- an ask of a test in a trace of a version: its numbers are i64s besides
 abbrev pub IsAsk : NameLists → ℕ → Ask → Type 0
-IsAsk names version (Read x) = x < length names.vars
 IsAsk names version (Write x value) = (x < length names.vars) × IsValue value
 IsAsk names version (Add x value) = (x < length names.vars) × IsValue value
 IsAsk names version (Cas x old new) = (x < length names.vars) × IsValue old × IsValue new
-IsAsk names version (Lock m) = m < length names.mutexes
-IsAsk names version (TryLock m) = m < length names.mutexes
-IsAsk names version (Unlock m) = m < length names.mutexes
-IsAsk names version (Release c m) = (c < length names.conds) × (m < length names.mutexes)
-IsAsk names version (Regain c m) = (c < length names.conds) × (m < length names.mutexes)
-IsAsk names version (Signal c) = c < length names.conds
-IsAsk names version (Broadcast c) = c < length names.conds
-IsAsk names version (Down s) = s < length names.sems
-IsAsk names version (TryDown s) = s < length names.sems
-IsAsk names version (Up s) = s < length names.sems
-IsAsk names version (Arrive b) = b < length names.barriers
-IsAsk names version (Leave b) = b < length names.barriers
-IsAsk names version (Join t) = t < length names.threads
-IsAsk names version Yield = Unit {0}
-IsAsk names version (Check holds) = Unit {0}
-IsAsk names version (Fault kind) = Unit {0}
-IsAsk names version (Start t) = t < length names.threads
-IsAsk names version Begin = Unit {0}
-IsAsk names version (RdLock l) = (l < length names.rwlocks) × (version ≡ 2)
-IsAsk names version (WrLock l) = (l < length names.rwlocks) × (version ≡ 2)
-IsAsk names version (TryRdLock l) = (l < length names.rwlocks) × (version ≡ 2)
-IsAsk names version (TryWrLock l) = (l < length names.rwlocks) × (version ≡ 2)
-IsAsk names version (RwUnlock l) = (l < length names.rwlocks) × (version ≡ 2)
+IsAsk names version ask = HasObjects names version ask
+
+-- what a step names is there, and its line is a test's
+pub record NamesKnown (names : NameLists) (version : ℕ) (event : Event) : Type 0 where
+  pub thread : event.thread < length names.threads
+  pub line : IsLine event.line
+  pub objects : HasObjects names version event.ask
 
 -- a step of a test in a trace of a version
 pub record IsStep (names : NameLists) (version : ℕ) (event : Event) : Type 0 where

@@ -18,4 +18,4 @@ mod writing;
 pub use fault::{TraceError, TraceFault};
 pub use file::{Header, TraceFile};
 pub use reading::read_trace;
-pub use writing::write_trace;
+pub use writing::{write_step, write_trace};

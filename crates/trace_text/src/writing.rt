@@ -7,7 +7,7 @@ ghost use Rattle.pct_ask.specs.NameLists.{list_of};
 ghost use Rattle.pct_ask.specs.VerdictText.{thread_name, fault_word, named, IsForm, HasNames, IsWhole};
 ghost use Rattle.pct_ask.specs.TraceText.{ask_words, event_words, step_lines, head_lines, verdict_line, line_text, trace_text, check_word};
 ghost use Rattle.trace_text.specs.Answers.{Answers};
-ghost use Rattle.trace_text.specs.Lawful.{IsAsk, IsStep, IsHead, is_of_second};
+ghost use Rattle.trace_text.specs.Lawful.{IsValue, HasObjects, IsAsk, NamesKnown, IsStep, IsHead, is_of_second};
 ghost use Rattle.trace_text.specs.Spaced.{spaced};
 ghost use Rattle.trace_text.specs.Trace.{head_of, told, IsTrace};
 ghost use Rattle.trace_text.specs.declared.file.TraceFile.{TraceFile};
@@ -131,8 +131,9 @@ fn push_cas(out: &mut Vec<u8>, names: &Names, var: u32, old: i64, new: i64) -> R
 }
 
 fn push_ask(out: &mut Vec<u8>, names: &Names, version: u32, ask: Ask) -> Result<(), NoMemory>
-    requires { IsAsk names.now version ask }
-    ensures { OnOk result (out.new.items ≡ out.old.items ++ spaced (ask_words names.now ask)) }
+    requires { HasObjects names.now version ask }
+    ensures lawful { OnOk result (IsAsk names.now version ask) }
+    ensures text { OnOk result (out.new.items ≡ out.old.items ++ spaced (ask_words names.now ask)) }
 {
     match ask {
         Ask::Read { var } => push_object(out, names, READ, NameKind::Var, var),
@@ -172,7 +173,8 @@ fn push_step(out: &mut Vec<u8>, step: usize) -> Result<(), NoMemory>
 }
 
 fn push_answer(out: &mut Vec<u8>, event: &Event) -> Result<(), NoMemory>
-    ensures { OnOk result (out.new.items ≡ out.old.items ++ (spaced (codes "=" ∷ signed_decimal event.now.answer ∷ []) ++ 10 ∷ [])) }
+    ensures value { OnOk result (IsValue event.now.answer) }
+    ensures text { OnOk result (out.new.items ≡ out.old.items ++ (spaced (codes "=" ∷ signed_decimal event.now.answer ∷ []) ++ 10 ∷ [])) }
 {
     push_word(out, b"=")?;
     push_value(out, event.answer)?;
@@ -187,8 +189,9 @@ fn push_event(
     step: usize,
     event: &Event,
 ) -> Result<(), NoMemory>
-    requires { IsStep names.now version event.now }
-    ensures { OnOk result (out.new.items ≡ out.old.items ++ line_text (event_words names.now step event.now)) }
+    requires { NamesKnown names.now version event.now }
+    ensures lawful { OnOk result (IsStep names.now version event.now) }
+    ensures text { OnOk result (out.new.items ≡ out.old.items ++ line_text (event_words names.now step event.now)) }
 {
     push_step(out, step)?;
     push_name(out, names, NameKind::Thread, event.thread)?;
@@ -197,14 +200,28 @@ fn push_event(
     push_answer(out, event)
 }
 
+/// Writes the line of a step, as it stands in a trace of the second version.
+pub fn write_step(
+    step: u32,
+    event: &Event,
+    names: &Names,
+    out: &mut Vec<u8>,
+) -> Result<(), NoMemory>
+    requires { NamesKnown names.now 2 event.now }
+    ensures { OnOk result (out.new.items ≡ out.old.items ++ line_text (event_words names.now step event.now)) }
+{
+    push_event(out, names, 2, step as usize, event)
+}
+
 fn push_steps(
     out: &mut Vec<u8>,
     names: &Names,
     version: u32,
     events: &[Event],
 ) -> Result<(), NoMemory>
-    requires { All (IsStep names.now version) events.now }
-    ensures { OnOk result (out.new.items ≡ out.old.items ++ flat_map line_text (step_lines names.now 1 events.now)) }
+    requires { All (NamesKnown names.now version) events.now }
+    ensures lawful { OnOk result (All (IsStep names.now version) events.now) }
+    ensures text { OnOk result (out.new.items ≡ out.old.items ++ flat_map line_text (step_lines names.now 1 events.now)) }
 {
     for (index, event) in events.iter().enumerate() {
         push_event(out, names, version, index + 1, event)?;
@@ -285,7 +302,7 @@ pub fn write_trace(
 ) -> Result<Vec<u8>, NoMemory>
     requires head { IsHead names.now (head_of header.now) }
     requires few { length events.now ≤ header.now.limit }
-    requires steps { All (IsStep names.now header.now.version) events.now }
+    requires steps { All (NamesKnown names.now header.now.version) events.now }
     requires threads { HasNames names.now verdict.now }
     requires whole { IsWhole verdict.now }
     requires version { (is_of_second verdict.now ≡ false) ⊎ (header.now.version ≡ 2) }

@@ -11,12 +11,12 @@ returns c =
     let names = c.args.names.now in
     let events = c.args.events.now in
     let verdict = c.args.verdict.now in
-    let text = rw (c.in_ok-push_steps.ensures, c.in_ok-push_head.ensures, c.new-text.ensures.items) at c.in_ok-push_verdict.ensures.text in
+    let text = rw (c.in_ok-push_steps.ensures.text, c.in_ok-push_head.ensures, c.new-text.ensures.items) at c.in_ok-push_verdict.ensures.text in
     let is = text ∙ whole_text (head_of header) names events verdict in
     let run : IsRun names (told header events verdict) = record {
       head = c.requires.head;
       few = c.requires.few;
-      steps = c.requires.steps;
+      steps = c.in_ok-push_steps.ensures.lawful;
       end = record { threads = c.requires.threads; form = c.in_ok-push_verdict.ensures.form; known = c.requires.version };
     } in
     let trace = written-trace names _ (told header events verdict) c.count.ensures.lawful run is in

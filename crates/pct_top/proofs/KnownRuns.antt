@@ -1,0 +1,316 @@
+-- A run of a script names only what the script has.
+use Rattle.std.proofs.Common.{◌≡◌, ℕ, ℤ, ◌<◌, ◌≤◌, Bool, true, false, cond, eqb, ◌||◌, nat_le, nat_lt, inl, inr, ◌⊎◌, List, [], ◌∷◌, ◌++◌, length, Option, Some, None, refl, sym, ap, subst, ◌∙◌, arith}
+use Rattle.std.specs.Prelude.{All, is_none}
+use Rattle.std.specs.List.{range_with_len, filter_map, cons_option}
+use Rattle.std.proofs.lemmas.Bool.{cases_lt, cases_Bool}
+use Rattle.std.proofs.lemmas.Bool.Decides.{nat_tests}
+use Rattle.std.proofs.lemmas.List.{get_or_past, length-map}
+use Rattle.std.proofs.lemmas.List.Elements.{All-append, All-cons, All-nil, All-map}
+use Rattle.std.proofs.lemmas.List.FromFn.{length-map-range_with_len, get_or-map-range_with_len}
+use Rattle.std.proofs.lemmas.Option.{option_and_then_some}
+use Rattle.pct_ask.specs.NameLists.{NameLists}
+use Rattle.pct_ask.specs.VerdictText.{HasNames, IsWhole, IsLine, threads_in}
+use Rattle.pct_ask.specs.declared.Deal.{Deal}
+use Rattle.pct_ask.specs.declared.ask.Ask.{Ask}
+use Rattle.pct_ask.specs.declared.ask.Ask.TheVariants.{Read, Write, Add, Cas, Lock, TryLock, Unlock, Release, Regain, Signal, Broadcast, Down, TryDown, Up, Arrive, Leave, Join, Yield, Check, Fault, Start, Begin, RdLock, WrLock, TryRdLock, TryWrLock, RwUnlock}
+use Rattle.pct_ask.specs.declared.ask.Post.{Post}
+use Rattle.pct_ask.specs.declared.event.Event.{Event}
+use Rattle.pct_ask.specs.declared.verdict.Outcome.{Outcome}
+use Rattle.pct_ask.specs.declared.verdict.Outcome.TheVariants.{Verdict as Ends, Departed}
+use Rattle.pct_ask.specs.declared.verdict.Verdict.{Verdict}
+use Rattle.pct_ask.specs.declared.verdict.Verdict.TheVariants.{Passed, Failed, Stuck, Misuse, Fault as Faulted, Cut}
+use Rattle.pct_ask.specs.declared.verdict.MisuseKind.TheVariants.{NotOwner, SemFull, AlreadyStarted, TooManyReads}
+use Rattle.sync_store.specs.Store.{StoreState, first, is_on, rwlock_of}
+use Rattle.sync_store.specs.Effect.{Effect, Goes, Stops, effect, unlocked, goes_or}
+use Rattle.sync_store.specs.World.{Source, World, start, with_effect, step_of, world_from, answers_of}
+use Rattle.script_tree.specs.ScriptText.{ScriptText}
+use Rattle.script_tree.specs.Fitting.{IsScript, rwlocks_fit}
+use Rattle.script_tree.specs.DealOf.{IsDealOf}
+use Rattle.script_tree.specs.Naming.{NamesOnly, AsksOnly, IsPostOf}
+use Rattle.script_tree.specs.Posts.{pending}
+use Rattle.script_tree.proofs.NamingLemmas.{pending_named}
+use Rattle.policy_pick.specs.Plan.{Plan}
+use Rattle.policy_pick.specs.declared.chance.Pick.{Pick}
+use Rattle.policy_pick.specs.declared.chance.Pick.TheVariants.{Thread, Waits, Nobody, Departs}
+use Rattle.turn_book.specs.Board.{answer_of, verdict_of}
+use Rattle.turn_book.specs.Chances.{NextPosts, threads_below, is_idle, blocked_by_ask, blocked_by_post, blocked_at, verdict_of_blocked, rest_verdict}
+use Rattle.turn_book.specs.Obeys.{next_in, choice_in, outcome_by, outcome_by_pick}
+use Rattle.turn_book.specs.Posts.{schedule_of}
+use Rattle.turn_book.proofs.More.{settled-at}
+use Rattle.turn_book.proofs.Worlds.{Steps, steps-from, event_of, effect-is, IsMade, made-from}
+use Rattle.worker_run.specs.Bodies.{Pending, nobody, pending_of, source_of_bodies}
+use Rattle.worker_run.specs.Played.{IsPlayed}
+use Rattle.replay_run.specs.Replay.{bodies_of}
+use Rattle.trace_text.specs.Lawful.{HasObjects, NamesKnown, is_of_second}
+use Rattle.pct_top.specs.Output.{trace_version}
+use Rattle.pct_top.specs.Known.{IsKnownVerdict, AreKnown}
+
+second : (script : ScriptText) (l : ℕ) → rwlocks_fit script.version (script.names).rwlocks ≡ true → l < length (script.names).rwlocks → trace_version script ≡ 2
+second script l fits within = elim (cases_Bool (nat_le 3 script.version)) [
+  | inl third ↦ rw third
+  | inr earlier ↦ absurd (grind (arith, nat_tests))
+]
+
+module _ (script : ScriptText) (deal : Deal) (sound : IsScript script) (of : IsDealOf script deal) where
+  abbrev names : NameLists
+  names = script.names
+
+  abbrev version : ℕ
+  version = trace_version script
+
+  below-rwlock : (l : ℕ) → l < deal.rwlocks → (l < length names.rwlocks) × (version ≡ 2)
+  below-rwlock l h =
+      let within : l < length names.rwlocks = omega (arith, h, of.rwlocks) in
+      (within, second script l sound.known_rwlocks within)
+
+  below-var : (x : ℕ) → x < length deal.vars → x < length names.vars
+  below-var x h = omega (arith, h, ap length of.vars, sound.same_vars)
+
+  below-sem : (s : ℕ) → s < length deal.sems → s < length names.sems
+  below-sem s h = omega (arith, h, ap length of.sems, sound.same_sems)
+
+  below-barrier : (b : ℕ) → b < length deal.barriers → b < length names.barriers
+  below-barrier b h = omega (arith, h, ap length of.barriers, sound.same_barriers)
+
+  below-mutex : (m : ℕ) → m < deal.mutexes → m < length names.mutexes
+  below-mutex m h = omega (arith, h, of.mutexes)
+
+  below-cond : (c : ℕ) → c < deal.conds → c < length names.conds
+  below-cond c h = omega (arith, h, of.conds)
+
+  below-thread : (t : ℕ) → t < deal.threads → t < length names.threads
+  below-thread t h = omega (arith, h, of.threads)
+
+  objects : (ask : Ask) → NamesOnly deal ask → HasObjects names version ask
+  objects (Read x) h = below-var x h
+  objects (Write x value) h = below-var x h
+  objects (Add x value) h = below-var x h
+  objects (Cas x old new) h = below-var x h
+  objects (Lock m) h = below-mutex m h
+  objects (TryLock m) h = below-mutex m h
+  objects (Unlock m) h = below-mutex m h
+  objects (Release c m) h = (below-cond c h.0, below-mutex m h.1)
+  objects (Regain c m) h = (below-cond c h.0, below-mutex m h.1)
+  objects (Signal c) h = below-cond c h
+  objects (Broadcast c) h = below-cond c h
+  objects (Down s) h = below-sem s h
+  objects (TryDown s) h = below-sem s h
+  objects (Up s) h = below-sem s h
+  objects (Arrive b) h = below-barrier b h
+  objects (Leave b) h = below-barrier b h
+  objects (Join t) h = below-thread t h
+  objects Yield h = tt
+  objects (Check holds) h = tt
+  objects (Fault kind) h = tt
+  objects (Start t) h = below-thread t h
+  objects Begin h = tt
+  objects (RdLock l) h = below-rwlock l h
+  objects (WrLock l) h = below-rwlock l h
+  objects (TryRdLock l) h = below-rwlock l h
+  objects (TryWrLock l) h = below-rwlock l h
+  objects (RwUnlock l) h = below-rwlock l h
+
+  abbrev bodies : List Pending
+  bodies = bodies_of script
+
+  abbrev source : Source
+  source = source_of_bodies bodies
+
+  -- ---- a step
+
+  -- where a step is, and what it asks
+  record IsAsked (t line : ℕ) (ask : Ask) : Type 0 where
+    at : t < length names.threads
+    on : IsLine line
+    has : HasObjects names version ask
+
+  asked-of : (t : ℕ) (post : Post) (ask : Ask) → t < length names.threads → IsPostOf deal post → post.ask ≡ Some ask → IsAsked t post.line ask
+  asked-of t post ask within is asks = record {
+    at = within;
+    on = (is.first_line, is.last_line);
+    has = objects ask (subst (AsksOnly deal) asks is.ask);
+  }
+
+  asked : (t : ℕ) (answers : List ℤ) (ask : Ask) → (pending_of bodies t answers).ask ≡ Some ask → IsAsked t (pending_of bodies t answers).line ask
+  asked t answers ask asks =
+      let n = length script.threads in
+      elim (cases_lt t n) [
+        | inl below ↦
+            let at = get_or-map-range_with_len (pending script) 0 n t t nobody below (omega arith) in
+            let P : Pending → Type 0 = λ posts. (posts answers).ask ≡ Some ask → IsAsked t (posts answers).line ask in
+            let known : P (pending script t) = asked-of t (pending script t answers) ask (omega (arith, below, sound.same_threads)) (pending_named script deal sound of t below answers) in
+            subst P (sym at) known asks
+        | inr past ↦
+            let long = length-map-range_with_len (pending script) 0 n in
+            let none = get_or_past bodies t nobody (omega (arith, long, past)) in
+            let P : Pending → Type 0 = λ posts. (posts answers).ask ≡ Some ask in
+            absurd (let no : P nobody = subst P none asks in cc)
+      ]
+
+  -- ---- the verdict of a step
+  abbrev Maybe : Option Verdict → Type 0
+  Maybe None = Unit {0}
+  Maybe (Some verdict) = IsKnownVerdict names version verdict
+
+  module _ (store : StoreState) (t line : ℕ) (at : t < length names.threads) (is_line : IsLine line) where
+    one : All (λ thread. thread < length names.threads) (t ∷ [])
+    one = All-cons (λ thread. thread < length names.threads) t [] at (All-nil (λ thread. thread < length names.threads))
+
+    by-test : (b : Bool) (after : StoreState) (answer : ℤ) (verdict : Verdict) → IsKnownVerdict names version verdict → Maybe (verdict_of (cond b (Goes after answer) (Stops verdict)))
+    by-test true after answer verdict known = tt
+    by-test false after answer verdict known = known
+
+    no-stop : (b : Bool) (after other : StoreState) (answer last : ℤ) → Maybe (verdict_of (cond b (Goes after answer) (Goes other last)))
+    no-stop true after other answer last = tt
+    no-stop false after other answer last = tt
+
+    misused : IsKnownVerdict names version (Misuse t line NotOwner)
+    misused = record { threads = one; whole = is_line; known = inl refl }
+
+    stop-known : (ask : Ask) → HasObjects names version ask → Maybe (verdict_of (effect store t line ask))
+    stop-known (Read x) h = tt
+    stop-known (Write x value) h = tt
+    stop-known (Add x value) h = by-test _ _ _ (Faulted t line _) (record { threads = one; whole = is_line; known = inl refl })
+    stop-known (Cas x old new) h = no-stop _ _ _ _ _
+    stop-known (Lock m) h = tt
+    stop-known (TryLock m) h = no-stop _ _ _ _ _
+    stop-known (Unlock m) h = by-test _ _ _ (Misuse t line NotOwner) misused
+    stop-known (Release c m) h = by-test _ _ _ (Misuse t line NotOwner) misused
+    stop-known (Regain c m) h = tt
+    stop-known (Signal c) h = tt
+    stop-known (Broadcast c) h = tt
+    stop-known (Down s) h = tt
+    stop-known (TryDown s) h = no-stop _ _ _ _ _
+    stop-known (Up s) h = by-test _ _ _ (Misuse t line SemFull) (record { threads = one; whole = is_line; known = inl refl })
+    stop-known (Arrive b) h = tt
+    stop-known (Leave b) h = tt
+    stop-known (Join u) h = tt
+    stop-known Yield h = tt
+    stop-known (Check holds) h = by-test holds _ _ (Failed t line) (record { threads = one; whole = is_line; known = inl refl })
+    stop-known (Fault kind) h = record { threads = one; whole = is_line; known = inl refl }
+    stop-known (Start u) h = elim (cases_Bool (is_on u store.started)) [
+      | inl on ↦ rw on (record { threads = one; whole = is_line; known = inl refl })
+      | inr off ↦ rw off tt
+    ]
+    stop-known Begin h = tt
+    stop-known (RdLock l) h = by-test _ _ _ (Misuse t line TooManyReads) (record { threads = one; whole = is_line; known = inr h.1 })
+    stop-known (WrLock l) h = tt
+    stop-known (TryRdLock l) h = no-stop _ _ _ _ _
+    stop-known (TryWrLock l) h = no-stop _ _ _ _ _
+    stop-known (RwUnlock l) h = by-lock (unlocked (rwlock_of store l) t)
+      where
+        by-lock : (o : Option _) → Maybe (verdict_of (goes_or store l o (Misuse t line NotOwner)))
+        by-lock None = misused
+        by-lock (Some rwlock) = tt
+
+  -- ---- the whole world
+  record IsKnownWorld (world : World) : Type 0 where
+    steps : All (NamesKnown names version) world.events
+    verdict : Maybe world.verdict
+
+  known-step : (world : World) (t : ℕ) (next : World) → IsKnownWorld world → Steps source world t next → IsKnownWorld next
+  known-step world t next known steps =
+      let P : Post → Type 0 = λ post. (ask : Ask) → post.ask ≡ Some ask → IsAsked t post.line ask in
+      let same : pending_of bodies t (answers_of t world.events) ≡ steps.post = let posted = steps.posted in cc in
+      let is = subst P same (asked t (answers_of t world.events)) steps.ask steps.asks in
+      let line = (steps.post).line in
+      let step = effect world.store t line steps.ask in
+      let grown = sym (effect-is world t line steps.ask step) ∙ steps.next_is in
+      let event = event_of t line steps.ask step in
+      subst IsKnownWorld grown (record {
+        steps = All-append (NamesKnown names version) world.events (event ∷ []) known.steps
+            (All-cons (NamesKnown names version) event [] (record { thread = is.at; line = is.on; objects = is.has }) (All-nil (NamesKnown names version)));
+        verdict = stop-known world.store t line is.at is.on steps.ask is.has;
+      })
+
+  known-from : (schedule : List ℕ) (world later : World) → IsKnownWorld world → world_from source world schedule ≡ Some later → IsKnownWorld later
+  known-from [] world later known e = let same : world ≡ later = cc in subst IsKnownWorld same known
+  known-from (t ∷ schedule) world later known e =
+      option_and_then_some (λ next. world_from source next schedule) (step_of source world t) later e (λ next first rest.
+      known-from schedule next later (known-step world t next known (steps-from source world t next first)) rest)
+
+  known-start : IsKnownWorld (start (first deal))
+  known-start = record { steps = All-nil (NamesKnown names version); verdict = tt }
+
+  -- ---- the verdict at rest
+  abbrev IsPlace : ℕ × ℕ → Type 0
+  IsPlace place = (place.0 < length names.threads) × IsLine place.1
+
+  module _ (world : World) where
+    abbrev IsPlaceOf : Option (ℕ × ℕ) → Type 0
+    IsPlaceOf None = Unit {0}
+    IsPlaceOf (Some place) = IsPlace place
+
+    place-by : (idle : Bool) (t line : ℕ) → IsPlace (t, line) → IsPlaceOf (cond idle None (Some (t, line)))
+    place-by true t line is = tt
+    place-by false t line is = is
+
+    place-of : (t : ℕ) (post : Post) (ask : Option Ask) → post.ask ≡ ask → pending_of bodies t (answers_of t world.events) ≡ post → IsPlaceOf (blocked_by_ask world.store t post.line ask)
+    place-of t post None asks posted = tt
+    place-of t post (Some ask) asks posted =
+        let P : Post → Type 0 = λ post. (ask : Ask) → post.ask ≡ Some ask → IsAsked t post.line ask in
+        let is = subst P posted (asked t (answers_of t world.events)) ask asks in
+        place-by (is_idle world.store t ask) t post.line (is.at, is.on)
+
+    place-at : (t : ℕ) → IsPlaceOf (blocked_at world.store (next_in source world) t)
+    place-at t = let post = pending_of bodies t (answers_of t world.events) in place-of t post post.ask refl refl
+
+    with-place : (place : Option (ℕ × ℕ)) (places : List (ℕ × ℕ)) → IsPlaceOf place → All IsPlace places → All IsPlace (cons_option place places)
+    with-place None places is all = all
+    with-place (Some place) places is all = All-cons IsPlace place places is all
+
+    places : (ts : List ℕ) → All IsPlace (filter_map (blocked_at world.store (next_in source world)) ts)
+    places [] = All-nil IsPlace
+    places (t ∷ ts) = with-place (blocked_at world.store (next_in source world) t) (filter_map (blocked_at world.store (next_in source world)) ts) (place-at t) (places ts)
+
+    blocked-known : (blocked : List (ℕ × ℕ)) → All IsPlace blocked → IsKnownVerdict names version (verdict_of_blocked blocked)
+    blocked-known [] all = record { threads = All-nil (λ thread. thread < length names.threads); whole = tt; known = inl refl }
+    blocked-known (place ∷ blocked) all = record {
+      threads = All-map (λ thread. thread < length names.threads) (λ (p : ℕ × ℕ). p.0) (place ∷ blocked) (λ k d within. (all k d within).0);
+      whole = (omega arith, λ k d within. (all k d within).1);
+      known = inl refl;
+    }
+
+    rest-known : IsKnownVerdict names version (rest_verdict deal.threads world.store (next_in source world))
+    rest-known = blocked-known (filter_map (blocked_at world.store (next_in source world)) (threads_below deal.threads)) (places (threads_below deal.threads))
+
+    cut-known : IsKnownVerdict names version Cut
+    cut-known = record { threads = All-nil (λ thread. thread < length names.threads); whole = tt; known = inl refl }
+
+    -- where a run ended by a verdict
+    abbrev EndsKnown : Option Outcome → Type 0
+    EndsKnown None = Unit {0}
+    EndsKnown (Some (Ends verdict)) = IsKnownVerdict names version verdict
+    EndsKnown (Some (Departed t)) = Unit {0}
+
+    by-pick : (full : Bool) (pick : Pick) → EndsKnown (outcome_by_pick (rest_verdict deal.threads world.store (next_in source world)) full pick)
+    by-pick full Nobody = rest-known
+    by-pick true (Thread t) = cut-known
+    by-pick false (Thread t) = tt
+    by-pick true (Departs t) = cut-known
+    by-pick false (Departs t) = tt
+    by-pick full (Waits t) = tt
+
+    by-verdict : (verdict : Option Verdict) (otherwise : Option Outcome) → Maybe verdict → EndsKnown otherwise → EndsKnown (outcome_by verdict otherwise)
+    by-verdict None otherwise known rest = rest
+    by-verdict (Some verdict) otherwise known rest = known
+
+  -- the steps, whatever became of the run
+  pub known-steps : (plan : Plan) (limit : ℕ) (events : List Event) (outcome : Outcome) → IsPlayed plan deal bodies limit events outcome → All (NamesKnown names version) events
+  known-steps plan limit events outcome played =
+      let w = made-from (first deal) source events (played.obeys).made in
+      subst (All (NamesKnown names version)) (w.1).trace (known-from (schedule_of events) (start (first deal)) w.0 known-start (w.1).at).steps
+
+  pub known-run : (plan : Plan) (limit : ℕ) (events : List Event) (verdict : Verdict) (outcome : Outcome) → outcome ≡ Ends verdict → IsPlayed plan deal bodies limit events outcome → AreKnown script limit events verdict
+  known-run plan limit events verdict outcome ends played =
+      let w = made-from (first deal) source events (played.obeys).made in
+      let world = w.0 in
+      let known = known-from (schedule_of events) (start (first deal)) world known-start (w.1).at in
+      let after = sym (settled-at plan deal source limit events world w.1) ∙ played.ends ∙ ap Some ends in
+      let by = by-verdict world world.verdict (outcome_by_pick (rest_verdict deal.threads world.store (next_in source world)) (eqb (length events) limit) (choice_in plan deal.threads source (schedule_of events) world)) known.verdict
+      (by-pick world (eqb (length events) limit) (choice_in plan deal.threads source (schedule_of events) world)) in
+      record {
+        few = (played.obeys).within;
+        steps = known-steps plan limit events outcome played;
+        end = subst (EndsKnown world) after by;
+      }

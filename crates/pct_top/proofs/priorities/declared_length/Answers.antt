@@ -1,0 +1,23 @@
+use Rattle.std.proofs.Common.{◌≡◌, [], Some, length, max, sym, subst, ap, ◌∙◌, arith}
+use Rattle.std.specs.List.{range_with_len}
+use Rattle.std.proofs.lemmas.List.FromFn.{length-range_with_len}
+use Rattle.rank_now.specs.Order.{IsOrder}
+use Rattle.script_tree.specs.ScriptSeen.{text}
+use Rattle.worker_run.specs.Run.{Run}
+use Rattle.pct_top.specs.Output.{run_of}
+use Rattle.pct_top.proofs.Draws.{declared_is}
+use Rattle.pct_top.proofs.priorities.declared_length.Goals as goal
+
+pub play-requires-clause-order : goal.play-requires-clause-order
+play-requires-clause-order g c κs within = subst IsOrder (sym (c.deref.ensures.value ∙ c.in_ok-order.ensures)) (declared_is c.args.test.now.deal.threads)
+
+pub play-requires-clause-whole : goal.play-requires-clause-whole
+play-requires-clause-whole g c κs within = ap length (c.deref.ensures.value ∙ c.in_ok-order.ensures) ∙ length-range_with_len 0 c.args.test.now.deal.threads
+
+pub returns-clause-draws : goal.returns-clause-draws
+returns-clause-draws g c =
+    let test = c.args.test.now in
+    let script = text test.script in
+    let ended : Run = (c.in_ok-run.run'.events, c.in_ok-run.run'.verdict) in
+    let order = c.deref.ensures.value ∙ c.in_ok-order.ensures ∙ ap (range_with_len 0) ((c.requires.ready).is_deal).threads in
+    (ended, subst (λ o. run_of script test.deal o [] c.args.limit ≡ Some ended) order c.in_ok-run.ensures.run, c.max.ensures ∙ ap (λ n. max n 1) c.len.ensures)

@@ -1,7 +1,0 @@
-use Rattle.std.proofs.Common.{◌≡◌, ◌++◌, take}
-use Rattle.std.specs.List.{flat_map}
-use Rattle.pct_ask.specs.TraceText.{step_lines, line_text}
-use Rattle.pct_top.proofs.trace.push_steps.Given as goal
-
-abbrev pub invariant-loop-index : goal.invariant-loop-index
-invariant-loop-index l = l.out.items ≡ l.fn.out.items ++ flat_map line_text (step_lines l.names 1 (take l.index l.events))

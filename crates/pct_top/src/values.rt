@@ -1,0 +1,104 @@
+//! The values of options.
+
+ghost use Rattle.std.specs.Prelude.{◌≡◌, ◌≤◌, IfOk, IfSome};
+ghost use Rattle.std.specs.List.{slice_split, list_all};
+ghost use Rattle.pct_ask.specs.Words.{is_name};
+ghost use Rattle.pct_top.specs.Values as values;
+
+use crate::text::{Text, TextList};
+use pct_ask::{PointList, is_lawful_name, read_number};
+use std::alloc::{AllocError as NoMemory, Global};
+
+/// The items of a value, which stand between commas.
+fn items_of(alloc: Global, value: &str) -> Result<TextList, NoMemory>
+    ensures { IfOk result (λ items. items ≡ values.items_of value.now) }
+{
+    let mut items = TextList::new(alloc);
+    for item in value.split(',') {
+        items.try_push(Text::copy_of(alloc, item)?)?;
+    }
+    Ok(items)
+}
+
+fn are_names(items: &[Text]) -> bool
+    ensures { result ≡ list_all (is_name 1) items.now }
+{
+    items
+        .iter()
+        .all(|item| is_lawful_name(1, item.as_str().as_bytes()))
+}
+
+/// The names that a value lists, where it lists one to 64 names that are lawful.
+pub fn order_in(alloc: Global, value: &str) -> Result<Option<TextList>, NoMemory>
+    ensures { IfOk result (λ names. names ≡ values.order_in value.now) }
+{
+    let items = items_of(alloc, value)?;
+    let lawful = items.len() <= 64 && are_names(items.as_slice());
+    Ok(lawful.then_some(items))
+}
+
+/// The number in a range of which the word is the canonical decimal.
+fn number_in(low: u64, high: u64, word: &str) -> Option<u64>
+    ensures number { result ≡ values.number_in low high word.now }
+    ensures most { IfSome result (λ number. number ≤ high) }
+{
+    let number = read_number(word.as_bytes())?;
+    in_range(low, high, number)
+}
+
+fn in_range(low: u64, high: u64, number: i128) -> Option<u64>
+    ensures number { result ≡ values.in_range low high number }
+    ensures most { IfSome result (λ found. found ≤ high) }
+{
+    if i128::from(low) <= number && number <= i128::from(high) {
+        Some(number as u64)
+    } else {
+        None
+    }
+}
+
+/// A number of steps.
+pub fn step_count(word: &str) -> Option<u32>
+    ensures { result ≡ values.step_count word.now }
+{
+    let count = number_in(1, 100_000, word)?;
+    Some(count as u32)
+}
+
+pub fn seed_in(word: &str) -> Option<u64>
+    ensures { result ≡ values.seed_in word.now }
+{
+    number_in(0, u64::MAX, word)
+}
+
+pub fn depth_in(word: &str) -> Option<u32>
+    ensures { result ≡ values.depth_in word.now }
+{
+    let depth = number_in(1, 8, word)?;
+    Some(depth as u32)
+}
+
+/// What each item is, where each is a number of steps.
+fn step_counts(alloc: Global, items: &[Text]) -> Result<Option<PointList>, NoMemory>
+    ensures { IfOk result (λ counts. counts ≡ values.step_counts items.now) }
+{
+    let mut counts = PointList::new(alloc);
+    for item in items {
+        match step_count(item.as_str()) {
+            Some(count) => counts.try_push(count)?,
+            None => return Ok(None),
+        }
+    }
+    Ok(Some(counts))
+}
+
+/// The numbers of steps that a value lists, where it lists one to seven.
+pub fn points_in(alloc: Global, value: &str) -> Result<Option<PointList>, NoMemory>
+    ensures { IfOk result (λ points. points ≡ values.points_in value.now) }
+{
+    let items = items_of(alloc, value)?;
+    if items.len() > 7 {
+        return Ok(None);
+    }
+    step_counts(alloc, items.as_slice())
+}
