@@ -36,6 +36,7 @@ pub mod Blanks
 pub mod SameReading
 pub mod Runs
 pub mod Rows
+pub mod ExpressionRows
 pub mod ThreadRuns
 pub mod FreeLines
 pub mod RunsRead
@@ -44,6 +45,7 @@ pub mod LineNames
 pub mod NewNames
 pub mod TopRuns
 pub mod WholeText
+pub mod Printed
 pub mod ReadAnswers
 pub mod Told
 pub mod BelowSteps

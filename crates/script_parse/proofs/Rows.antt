@@ -1,5 +1,5 @@
 -- Texts with the scripts that they spell, and one faulty text for each kind of fault.
-use Rattle.std.specs.Prelude.{◌≡◌, ℕ, pos, List, [], ◌∷◌, ◌++◌, Result, Ok, Err, codes, refl}
+use Rattle.std.specs.Prelude.{◌≡◌, ℕ, pos, List, [], ◌∷◌, ◌++◌, Result, Ok, Err, codes, replicate, refl}
 use Rattle.std.specs.Str.{is_utf8, chars}
 use lib.Utf8.{encode}
 use Rattle.script_tree.specs.declared.expr.Op.TheVariants as ops
@@ -14,7 +14,7 @@ use Rattle.script_parse.proofs.ExpressionWhole.{exact}
 use Rattle.script_parse.proofs.FaultLaws.{fault_found}
 use Rattle.script_parse.proofs.Spelled.{read_is_spelled}
 
--- script S
+-- two threads that add 1 to a variable, not in one step, and a third one that joins them and asserts the sum
 abbrev pub lost_update_text : List ℕ
 lost_update_text = codes "script 1\nvar x = 0\nthread A\n  read r0 x\n  write x r0 + 1\nend\nthread B\n  read r0 x\n  write x r0 + 1\nend\nthread C\n  join A\n  join B\n  read r0 x\n  assert r0 == 2\nend\n"
 
@@ -128,3 +128,14 @@ too_many_read = refl
 
 pub too_many : IsFault too_many_text 34 fault.TooMany
 too_many = fault_found too_many_text 34 fault.TooMany too_many_read
+
+-- 4,096 blank lines, and a header
+abbrev too_many_lines_text : List ℕ
+too_many_lines_text = replicate 4096 10 ++ codes "script 1\n"
+
+too_many_lines_read : read exact too_many_lines_text ≡ Err (4097, fault.TooManyLines)
+unfolding is_utf8 chars encode
+too_many_lines_read = refl
+
+pub too_many_lines : IsFault too_many_lines_text 4097 fault.TooManyLines
+too_many_lines = fault_found too_many_lines_text 4097 fault.TooManyLines too_many_lines_read

@@ -3,6 +3,7 @@
 
 mod ahead;
 mod blocks;
+mod declaration;
 mod expression;
 mod fault;
 mod form;
@@ -13,7 +14,8 @@ mod statement;
 #[cfg(test)]
 mod tests;
 mod token;
+mod verb;
 
 pub use fault::ScriptError;
-pub use parsing::{one_answer, parse};
+pub use parsing::{one_answer, parse, print_is_read};
 pub use script_tree::ScriptFault;

@@ -7,7 +7,7 @@ ghost use Rattle.script_tree.specs.Faults.{are_blank};
 ghost use Rattle.script_tree.specs.Grammar.{Spells};
 ghost use Rattle.script_tree.specs.ScriptSeen.{text};
 ghost use Rattle.script_tree.specs.ScriptText.{ScriptText};
-ghost use Rattle.script_parse.specs.Answers.{EachHasOneAnswer};
+ghost use Rattle.script_parse.specs.Answers.{EachHasOneAnswer, PrintIsRead};
 ghost use Rattle.script_parse.specs.Seen.{all_seen};
 ghost use Rattle.script_parse.specs.Ahead.{HasSeen, place_ahead};
 ghost use Rattle.script_parse.specs.SeenParts.{seen_reader};
@@ -199,4 +199,10 @@ pub fn parse(alloc: Global, bytes: &[u8]) -> Result<Script, ScriptError>
 /// A law of the language, and no work: each text spells one script or has one first fault, and never both.
 pub fn one_answer()
     ensures { EachHasOneAnswer }
+{}
+
+/// A law of the language, and no work: what is printed of a script, where it is no longer than a script may be, spells
+/// that script with the lines of the print, and nothing else. So it is parsed as that.
+pub fn print_is_read()
+    ensures { PrintIsRead }
 {}
