@@ -1,0 +1,143 @@
+-- What a line of any form adds to the first values and the threads.
+use Rattle.std.proofs.Common.{◌≡◌, ℕ, zero, suc, ◌+◌, Bool, true, false, cond, length, List, [], ◌∷◌, ◌++◌, map, Option, Some, None, refl, sym, ap, ◌∙◌, append_assoc, subst}
+use Rattle.std.specs.Prelude.{ℤ, pos, not, codes, unwrap_or, is_some}
+use Rattle.std.specs.List.{filter_map}
+use Rattle.std.specs.Str.{bytes_eq}
+use Rattle.std.proofs.lemmas.List.{append-nil}
+use Rattle.pct_ask.specs.Tokens.{Token, Word, Number, Symbol}
+use Rattle.pct_ask.specs.NameLists.{NameLists, with_name}
+use Rattle.pct_ask.specs.declared.names.NameKind.{NameKind}
+use Rattle.pct_ask.specs.declared.names.NameKind.TheVariants as kinds
+use Rattle.script_tree.specs.Trees.{Statement, Statements, closed_at}
+use Rattle.script_tree.specs.Forms as forms
+use Rattle.script_tree.specs.Expressions.{register_word}
+use Rattle.script_tree.specs.Forms.{OnVerb, IntoVerb, Cut, Meant, Plain, Valued, Thread, On, Into, Write, Add, Cas, Wait, Yield, Assert, Set, If, While, End, Else, on_word, into_word, kind_word, has_value, is_plain, value_in, tokens_of_form, IsOf, Means}
+use Rattle.script_tree.specs.Lines.{named, valued, values_of, just_thread}
+use Rattle.script_parse.specs.Part.{Open, Part}
+use Rattle.script_parse.specs.Part as parts
+use Rattle.script_parse.specs.Values.{first_of, fits}
+use Rattle.script_parse.specs.Words.{kind_in}
+use Rattle.script_parse.specs.Reading as reading
+use Rattle.script_parse.specs.Reading.{Finder, taken}
+use Rattle.script_parse.proofs.Meanings.{ForEach, by_meaning}
+use Rattle.script_parse.proofs.Standing.{on_quiet, into_quiet, no_kind}
+use Rattle.script_parse.proofs.DeclaredValues.{AreValues, no_value_more, values_push, valueless_at, threadless_at, var_value, sem_value_is, barrier_value_is}
+
+-- what stays the same but for the blocks
+record KeepsDeclared (part next : Part) : Type 0 where
+  vars : next.vars ≡ part.vars
+  sems : next.sems ≡ part.sems
+  barriers : next.barriers ≡ part.barriers
+  threads : next.names.threads ≡ part.names.threads
+
+same_declared : (part : Part) → KeepsDeclared part part
+same_declared part = record { vars = refl; sems = refl; barriers = refl; threads = refl }
+
+said_declared : (part : Part) (statement : Option Statement) → KeepsDeclared part (reading.said part statement)
+said_declared part None = record { vars = refl; sems = refl; barriers = refl; threads = refl }
+said_declared part (Some s) = record { vars = refl; sems = refl; barriers = refl; threads = refl }
+
+closed_declared : (part : Part) (blocks : List Open) (opening : parts.Opening) (body : Statements) → KeepsDeclared part (reading.closed_by (record part { open_blocks = blocks }) opening body)
+closed_declared part blocks (parts.Thread line) body = record { vars = refl; sems = refl; barriers = refl; threads = refl }
+closed_declared part blocks (parts.If line test) body = record { vars = refl; sems = refl; barriers = refl; threads = refl }
+closed_declared part blocks (parts.Else line test first) body = record { vars = refl; sems = refl; barriers = refl; threads = refl }
+closed_declared part blocks (parts.While line test) body = record { vars = refl; sems = refl; barriers = refl; threads = refl }
+
+ended_declared : (part : Part) (blocks : List Open) (n : ℕ) → KeepsDeclared part (reading.ended part blocks n)
+ended_declared part [] n = record { vars = refl; sems = refl; barriers = refl; threads = refl }
+ended_declared part (block ∷ blocks) n = closed_declared part blocks block.opening (closed_at n block.done)
+
+turned_by_declared : (part : Part) (block : Open) (blocks : List Open) (n : ℕ) (opening : parts.Opening) → KeepsDeclared part (reading.turned_by part block blocks n opening)
+turned_by_declared part block blocks n (parts.Thread line) = record { vars = refl; sems = refl; barriers = refl; threads = refl }
+turned_by_declared part block blocks n (parts.If line test) = record { vars = refl; sems = refl; barriers = refl; threads = refl }
+turned_by_declared part block blocks n (parts.Else line test first) = record { vars = refl; sems = refl; barriers = refl; threads = refl }
+turned_by_declared part block blocks n (parts.While line test) = record { vars = refl; sems = refl; barriers = refl; threads = refl }
+
+turned_declared : (part : Part) (blocks : List Open) (n : ℕ) → KeepsDeclared part (reading.turned part blocks n)
+turned_declared part [] n = record { vars = refl; sems = refl; barriers = refl; threads = refl }
+turned_declared part (block ∷ blocks) n = turned_by_declared part block blocks n block.opening
+
+-- what a line adds: first values, and a thread
+pub record Adds (part next : Part) (lines : List (List Token)) (line : List Token) : Type 0 where
+  pub values : AreValues next (lines ++ line ∷ [])
+  pub thread : part.names.threads ++ filter_map just_thread (line ∷ []) ≡ next.names.threads
+
+quiet_adds : (part next : Part) (lines : List (List Token)) (word : List ℕ) (rest : List Token) → kind_in word ≡ None → KeepsDeclared part next → AreValues part lines → Adds part next lines (Word word ∷ rest)
+quiet_adds part next lines word rest k d h = record {
+  values = no_value_more part next lines (Word word ∷ rest) (λ kind. valueless_at word rest kind (no_kind word k kind)) d.vars d.sems d.barriers h;
+  thread = rw (threadless_at word rest (no_kind word k kinds.Thread)) (append-nil part.names.threads ∙ sym d.threads);
+}
+
+pub on_none : (verb : OnVerb) → kind_in (on_word verb) ≡ None
+on_none forms.Lock = refl
+on_none forms.Unlock = refl
+on_none forms.Signal = refl
+on_none forms.Broadcast = refl
+on_none forms.Down = refl
+on_none forms.Up = refl
+on_none forms.Join = refl
+on_none forms.Start = refl
+on_none forms.RdLock = refl
+on_none forms.WrLock = refl
+on_none forms.RwUnlock = refl
+
+pub into_none : (verb : IntoVerb) → kind_in (into_word verb) ≡ None
+into_none forms.Read = refl
+into_none forms.TryLock = refl
+into_none forms.TryDown = refl
+into_none forms.Arrive = refl
+into_none forms.TryRdLock = refl
+into_none forms.TryWrLock = refl
+
+plain_adds : (part : Part) (lines : List (List Token)) (kind : NameKind) (name : List ℕ) → is_plain kind ≡ true → AreValues part lines → Adds part (reading.named part kind name) lines (Word (kind_word kind) ∷ Word name ∷ [])
+plain_adds part lines kinds.Mutex name p h = record { values = no_value_more part (reading.named part kinds.Mutex name) lines _ (λ kind. refl) refl refl refl h; thread = append-nil part.names.threads }
+plain_adds part lines kinds.Cond name p h = record { values = no_value_more part (reading.named part kinds.Cond name) lines _ (λ kind. refl) refl refl refl h; thread = append-nil part.names.threads }
+plain_adds part lines kinds.RwLock name p h = record { values = no_value_more part (reading.named part kinds.RwLock name) lines _ (λ kind. refl) refl refl refl h; thread = append-nil part.names.threads }
+plain_adds part lines kind name p h = absurd cc
+
+push_value : (kind : NameKind) (lines : List (List Token)) (line : List Token) (values : List ℤ) (value : ℤ) → values_of kind lines ≡ values → valued kind line ≡ Some value → values_of kind (lines ++ line ∷ []) ≡ values ++ value ∷ []
+push_value kind lines line values value h v = values_push kind lines line ∙ rw (h, v) refl
+
+same_value : (kind : NameKind) (lines : List (List Token)) (line : List Token) (values : List ℤ) → values_of kind lines ≡ values → valued kind line ≡ None → values_of kind (lines ++ line ∷ []) ≡ values
+same_value kind lines line values h v = values_push kind lines line ∙ rw v (append-nil (values_of kind lines) ∙ h)
+
+valued_adds : (part : Part) (lines : List (List Token)) (kind : NameKind) (name : List ℕ) (value : List Token) → has_value kind ≡ true → is_some (value_in kind value) ≡ true → fits kind value ≡ true → AreValues part lines
+    → Adds part (reading.with_value kind (unwrap_or (first_of value) (pos 0)) (reading.named part kind name)) lines (Word (kind_word kind) ∷ Word name ∷ Symbol (codes "=") ∷ value)
+valued_adds part lines kinds.Var name value p s f h = record {
+  values = record { vars = push_value kinds.Var lines _ part.vars _ h.vars (var_value value f s); sems = same_value kinds.Sem lines _ part.sems h.sems refl; barriers = same_value kinds.Barrier lines _ part.barriers h.barriers refl };
+  thread = append-nil part.names.threads;
+}
+valued_adds part lines kinds.Sem name value p s f h = record {
+  values = record { vars = same_value kinds.Var lines _ part.vars h.vars refl; sems = push_value kinds.Sem lines _ part.sems _ h.sems (sem_value_is value f); barriers = same_value kinds.Barrier lines _ part.barriers h.barriers refl };
+  thread = append-nil part.names.threads;
+}
+valued_adds part lines kinds.Barrier name value p s f h = record {
+  values = record { vars = same_value kinds.Var lines _ part.vars h.vars refl; sems = same_value kinds.Sem lines _ part.sems h.sems refl; barriers = push_value kinds.Barrier lines _ part.barriers _ h.barriers (barrier_value_is value f) };
+  thread = append-nil part.names.threads;
+}
+valued_adds part lines kind name value p s f h = absurd cc
+
+unflip : (b : Bool) → not b ≡ false → b ≡ true
+unflip true h = refl
+unflip false h = absurd cc
+
+-- what a line of any form adds
+pub form_adds : (version : ℕ) (part : Part) (find : Finder) (n : ℕ) (lines : List (List Token)) (tokens : List Token) → AreValues part lines → (cut : Cut) (meant : Meant) → Means cut meant → IsOf version cut → reading.is_out_of_range tokens meant ≡ false → Adds part (taken part find n meant) lines (tokens_of_form cut)
+form_adds version part find n lines tokens h = by_meaning (λ cut meant. IsOf version cut → reading.is_out_of_range tokens meant ≡ false → Adds part (taken part find n meant) lines (tokens_of_form cut)) (record {
+  plain = λ kind name of r. plain_adds part lines kind name of.0 h;
+  valued = λ kind name value of r. valued_adds part lines kind name value of.0 of.2 (unflip (fits kind value) r) h;
+  thread = λ name of r. record { values = no_value_more part (taken part find n (Thread name)) lines (tokens_of_form (Thread name)) (λ kind. refl) refl refl refl h; thread = refl };
+  on = λ verb object of r. quiet_adds part (taken part find n (On verb object)) lines (on_word verb) (Word object ∷ []) (on_none verb) (said_declared part (reading.statement_on part.names find n (On verb object))) h;
+  into = λ verb reg object of r. quiet_adds part (taken part find n (Into verb reg object)) lines (into_word verb) (Word (register_word reg) ∷ Word object ∷ []) (into_none verb) (said_declared part (reading.statement_on part.names find n (Into verb reg object))) h;
+  write = λ var value tree of r. quiet_adds part (taken part find n (Write var tree)) lines (codes "write") (Word var ∷ value) refl (said_declared part (reading.statement_on part.names find n (Write var tree))) h;
+  add = λ reg var value tree of r. quiet_adds part (taken part find n (Add reg var tree)) lines (codes "add") (Word (register_word reg) ∷ Word var ∷ value) refl (said_declared part (reading.statement_on part.names find n (Add reg var tree))) h;
+  cas = λ reg var old new a b of r. quiet_adds part (taken part find n (Cas reg var a b)) lines (codes "cas") (Word (register_word reg) ∷ Word var ∷ (old ++ Symbol (codes ",") ∷ new)) refl (said_declared part (reading.statement_on part.names find n (Cas reg var a b))) h;
+  wait = λ waiting mutex of r. quiet_adds part (taken part find n (Wait waiting mutex)) lines (codes "wait") (Word waiting ∷ Word mutex ∷ []) refl (said_declared part (reading.statement_on part.names find n (Wait waiting mutex))) h;
+  yield = λ of r. quiet_adds part (taken part find n Yield) lines (codes "yield") [] refl (said_declared part (reading.statement_on part.names find n Yield)) h;
+  assert = λ test tree of r. quiet_adds part (taken part find n (Assert tree)) lines (codes "assert") test refl (said_declared part (reading.statement_on part.names find n (Assert tree))) h;
+  set = λ reg value tree of r. quiet_adds part (taken part find n (Set reg tree)) lines (codes "set") (Word (register_word reg) ∷ value) refl (said_declared part (reading.statement_on part.names find n (Set reg tree))) h;
+  when = λ test tree of r. quiet_adds part (taken part find n (If tree)) lines (codes "if") test refl (record { vars = refl; sems = refl; barriers = refl; threads = refl }) h;
+  while = λ test tree of r. quiet_adds part (taken part find n (While tree)) lines (codes "while") test refl (record { vars = refl; sems = refl; barriers = refl; threads = refl }) h;
+  end = λ of r. quiet_adds part (taken part find n End) lines (codes "end") [] refl (ended_declared part part.open_blocks n) h;
+  otherwise = λ of r. quiet_adds part (taken part find n Else) lines (codes "else") [] refl (turned_declared part part.open_blocks n) h;
+})

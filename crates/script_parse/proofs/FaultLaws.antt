@@ -1,0 +1,178 @@
+-- Reading finds the one first fault of a text.
+use Rattle.std.proofs.Common.{◌≡◌, ℕ, zero, suc, ◌+◌, ◌-◌, ◌<◌, ◌≤◌, ◌⊎◌, inl, inr, Bool, true, false, cond, length, List, [], ◌∷◌, ◌++◌, map, Option, Some, None, Result, Ok, Err, refl, sym, ap, ◌∙◌, append_assoc, arith, rules, subst}
+use Rattle.std.specs.Prelude.{ℤ, nat_le, nat_lt, not, ◌&&◌, ◌==◌, unwrap_or, is_some}
+use Rattle.std.specs.Str.{is_utf8, chars}
+use lib.Utf8.{encode}
+use Rattle.std.proofs.lemmas.Bool.{cases_Bool, cases_lt, ltb-true, ltb-false, lt-ltb, le-ltb}
+use Rattle.pct_ask.specs.Lines.{lines_of, onto_first}
+use Rattle.pct_ask.specs.Tokens.{Token, tokens_of}
+use Rattle.script_tree.specs.ScriptText.{ScriptText}
+use Rattle.script_tree.specs.declared.fault.ScriptFault.{ScriptFault}
+use Rattle.script_tree.specs.declared.fault.ScriptFault.TheVariants as fault
+use Rattle.script_tree.specs.Forms.{Cut, Meant}
+use Rattle.script_tree.specs.Lines.{tokens_in, names_of, depth}
+use Rattle.pct_ask.specs.declared.names.NameKind.TheVariants as kinds
+use Rattle.script_tree.specs.Faults as faults
+use Rattle.script_tree.specs.Faults.{Place, earlier, are_blank, IsFaulty, rank, IsFirstKind, IsFirstLine, HasForm, judged_lines, IsFirstFault, IsFault}
+use Rattle.script_parse.specs.Reading as reading
+use Rattle.script_parse.specs.Reading.{is_empty, bytes_fault, blank_text_fault, read, read_from}
+use Rattle.script_parse.proofs.ExpressionWhole.{exact}
+use Rattle.script_parse.proofs.FirstKinds.{IsFirst, first_in, in_order, same_rank_kind}
+use Rattle.script_parse.proofs.LineSteps.{tests, first_told, clash, some_none, always, never, never_formed, tells_utf, tells_long, tells_lines, tells_end_any, tells_thread_any}
+use Rattle.script_parse.proofs.Headers.{AreQuiet, quiet_none, tells_token}
+use Rattle.script_parse.proofs.TextFaults.{Found, TellsFault, at_place, finder_of, StandsBefore, all_tell, no_end, none_at_first}
+
+-- ---- a text of blank lines alone
+
+abbrev some_fault : ScriptFault → Option ScriptFault
+some_fault kind = Some kind
+
+blank_chain : (u l : Bool) (k s un tw ra ne st nt tm : Bool) → some_fault (unwrap_or (cond u (Some fault.NotUtf8) (cond l (Some fault.LineTooLong) None)) fault.BadHeader) ≡ first_in (tests u l false true k s un tw ra ne st nt tm) in_order
+blank_chain true l k s un tw ra ne st nt tm = refl
+blank_chain false true k s un tw ra ne st nt tm = refl
+blank_chain false false k s un tw ra ne st nt tm = refl
+
+bytes_first : (line : List ℕ) → bytes_fault 1 line ≡ cond (not (is_utf8 line)) (Some fault.NotUtf8) (cond (nat_lt 256 (length line)) (Some fault.LineTooLong) None)
+bytes_first line = refl
+
+blank_first : (line : List ℕ) (rest : List (List ℕ)) → are_blank (line ∷ rest) ≡ true → IsFirstKind (at_place [] line rest) (unwrap_or (bytes_fault 1 line) fault.BadHeader)
+blank_first line rest b =
+    let place : Place = at_place [] line rest in
+    let no_form : (cut : Cut) (meant : Meant) → ¬ HasForm place cut meant = λ cut meant h. clash h.is_below.below in
+    let open_behind : Bool = is_empty rest && nat_le 1 (depth (earlier place ++ tokens_in line ∷ [])) in
+    let threadless : Bool = is_empty rest && is_empty (names_of kinds.Thread (earlier place ++ tokens_in line ∷ [])) in
+    first_told place _ _ false true _ false false false false open_behind false threadless false (record {
+      utf = tells_utf place;
+      long = tells_long place;
+      lines = tells_lines place;
+      header = always (inr (refl, b));
+      token = tells_token (tokens_of line);
+      statement = never (λ h. clash h.0.below);
+      unknown = never_formed place _ no_form;
+      twice = never_formed place _ no_form;
+      range = never_formed place _ no_form;
+      no_end = tells_end_any place;
+      stray = never_formed place _ no_form;
+      no_thread = tells_thread_any place;
+      many = never_formed place _ no_form;
+    }) (some_fault (unwrap_or (bytes_fault 1 line) fault.BadHeader)) (blank_chain (not (is_utf8 line)) (nat_lt 256 (length line)) (not (is_some (tokens_of line))) false false false false open_behind false threadless false)
+
+nothing_before : (line : List ℕ) (rest : List (List ℕ)) → IsFirstLine (at_place [] line rest)
+nothing_before line rest front back other kind e f = no_end front back other (sym e)
+
+blank_fault_is : (bytes : List ℕ) (line : List ℕ) (rest : List (List ℕ)) → judged_lines bytes ≡ line ∷ rest → are_blank (line ∷ rest) ≡ true → IsFirstFault bytes 1 (unwrap_or (bytes_fault 1 line) fault.BadHeader)
+blank_fault_is bytes line rest e b = record { place = at_place [] line rest; of = e; number_is = refl; first_line = nothing_before line rest; first_kind = blank_first line rest b }
+
+no_bytes_fault : bytes_fault 1 [] ≡ None
+unfolding is_utf8 chars encode
+no_bytes_fault = refl
+
+empty_text : IsFirstFault [] 1 fault.BadHeader
+empty_text = subst (λ (o : Option ScriptFault). IsFirstFault [] 1 (unwrap_or o fault.BadHeader)) no_bytes_fault (blank_fault_is [] [] [] refl refl)
+
+no_lines : (b : ℕ) (bs : List ℕ) {P : Type 0} → lines_of (b ∷ bs) ≡ [] → P
+no_lines b bs e = by_end (b == 10) (lines_of bs) e
+  where
+    by_end : (c : Bool) (ls : List (List ℕ)) {P : Type 0} → cond c ([] ∷ ls) (onto_first b ls) ≡ [] → P
+    by_end true ls e = absurd cc
+    by_end false [] e = absurd cc
+    by_end false (l ∷ ls) e = absurd cc
+
+blank_text : (b : ℕ) (bs : List ℕ) (lines : List (List ℕ)) → lines_of (b ∷ bs) ≡ lines → are_blank lines ≡ true → IsFirstFault (b ∷ bs) 1 (blank_text_fault lines)
+blank_text b bs [] e h = no_lines b bs e
+blank_text b bs (line ∷ rest) e h = blank_fault_is (b ∷ bs) line rest e h
+
+all_blank : (bytes : List ℕ) → are_blank (lines_of bytes) ≡ true → IsFirstFault bytes 1 (blank_text_fault (lines_of bytes))
+all_blank [] h = empty_text
+all_blank (b ∷ bs) h = blank_text b bs (lines_of (b ∷ bs)) refl h
+
+-- ---- any text
+
+judged_are : (bytes : List ℕ) → are_blank (lines_of bytes) ≡ false → judged_lines bytes ≡ lines_of bytes
+judged_are [] h = clash h
+judged_are (b ∷ bs) h = refl
+
+-- what is found of a text
+abbrev TextTells : Found → List ℕ → Type 0
+TextTells (Ok script) bytes = (n : ℕ) (kind : ScriptFault) → ¬ IsFault bytes n kind
+TextTells (Err found) bytes = IsFault bytes found.0 found.1
+
+ok_tells : (script : ScriptText) (bytes : List ℕ) → length bytes ≤ 1048576 → judged_lines bytes ≡ lines_of bytes → TellsFault (Ok script) (lines_of bytes) → (n : ℕ) (kind : ScriptFault) → ¬ IsFault bytes n kind
+ok_tells script bytes small j t n kind (inl h) = absurd (omega (arith, h.0, small))
+ok_tells script bytes small j t n kind (inr h) = t h.1.place.before h.1.place.after h.1.place.line (sym j ∙ h.1.of) kind h.1.first_kind.faulty
+
+lines_tell : (found : Found) (bytes : List ℕ) → length bytes ≤ 1048576 → judged_lines bytes ≡ lines_of bytes → TellsFault found (lines_of bytes) → TextTells found bytes
+lines_tell (Ok script) bytes small j t = ok_tells script bytes small j t
+lines_tell (Err found) bytes small j t = inr (small, record { place = t.0; of = j ∙ t.1; number_is = t.2; first_line = t.3; first_kind = t.4 })
+
+text_tells : (bytes : List ℕ) → TextTells (read exact bytes) bytes
+text_tells bytes = elim (cases_lt 1048576 (length bytes)) [
+  | inl large ↦ rw (lt-ltb 1048576 (length bytes) large) (inl (large, refl, refl))
+  | inr small ↦ rw (le-ltb 1048576 (length bytes) small) (by_blank (are_blank (lines_of bytes)) refl small)
+]
+  where
+    by_blank : (b : Bool) → are_blank (lines_of bytes) ≡ b → length bytes ≤ 1048576 → TextTells (cond b (Err (1, blank_text_fault (lines_of bytes))) (read_from exact (finder_of (lines_of bytes)) None 1 (lines_of bytes))) bytes
+    by_blank true h small = inr (small, all_blank bytes h)
+    by_blank false h small = lines_tell (read_from exact (finder_of (lines_of bytes)) None 1 (lines_of bytes)) bytes small (judged_are bytes h) (all_tell (lines_of bytes) (lines_of bytes) [] None 1 refl refl h (refl, quiet_none) (none_at_first (lines_of bytes)))
+
+-- a text whose reading finds a fault has it
+pub fault_found : (bytes : List ℕ) (n : ℕ) (kind : ScriptFault) → read exact bytes ≡ Err (n, kind) → IsFault bytes n kind
+fault_found bytes n kind e = subst (λ (f : Found). TextTells f bytes) e (text_tells bytes)
+
+-- a text that is read whole has none
+pub no_fault : (bytes : List ℕ) (script : ScriptText) → read exact bytes ≡ Ok script → (n : ℕ) (kind : ScriptFault) → ¬ IsFault bytes n kind
+no_fault bytes script e = subst (λ (f : Found). TextTells f bytes) e (text_tells bytes)
+
+-- ---- a text has one first fault
+
+-- two cuts of a list are at one place, or one of them is before the other
+compare : {A : Type 0} (us ms vs ns : List A) (a b : A) → us ++ a ∷ ms ≡ vs ++ b ∷ ns → ((us ≡ vs) × (a ≡ b) × (ms ≡ ns)) ⊎ (((mid : List A) × (vs ≡ us ++ a ∷ mid) × (ms ≡ mid ++ b ∷ ns)) ⊎ ((mid : List A) × (us ≡ vs ++ b ∷ mid) × (ns ≡ mid ++ a ∷ ms)))
+compare [] ms [] ns a b e = inl (refl, cc, cc)
+compare [] ms (v ∷ vs) ns a b e = let first : v ≡ a = cc in let rest : ms ≡ vs ++ b ∷ ns = cc in inr (inl (vs, ap (λ x. x ∷ vs) first, rest))
+compare (u ∷ us) ms [] ns a b e = let first : u ≡ b = cc in let rest : us ++ a ∷ ms ≡ ns = cc in inr (inr (us, ap (λ x. x ∷ us) first, sym rest))
+compare (u ∷ us) ms (v ∷ vs) ns a b e =
+    let first : u ≡ v = cc in
+    let rest : us ++ a ∷ ms ≡ vs ++ b ∷ ns = cc in
+    elim (compare us ms vs ns a b rest) [
+      | inl h ↦ inl (cons_same u v us vs first h.0, h.1, h.2)
+      | inr o ↦ elim o [
+        | inl h ↦ inr (inl (h.0, cons_same v u vs (us ++ a ∷ h.0) (sym first) h.1, h.2))
+        | inr h ↦ inr (inr (h.0, cons_same u v us (vs ++ b ∷ h.0) first h.1, h.2))
+      ]
+    ]
+  where
+    cons_same : {A : Type 0} (a b : A) (us vs : List A) → a ≡ b → us ≡ vs → ◌≡◌ {A = List A} (a ∷ us) (b ∷ vs)
+    cons_same a b us vs p q = cc
+
+one_kind : (p q : Place) (kind other : ScriptFault) → IsFirstKind p kind → IsFirstKind q other → p ≡ q → kind ≡ other
+one_kind p q kind other f g e = elim (cases_lt (rank kind) (rank other)) [
+  | inl low ↦ absurd (g.first kind low (subst (λ (x : Place). IsFaulty kind x) e f.faulty))
+  | inr high ↦ elim (cases_lt (rank other) (rank kind)) [
+    | inl low ↦ absurd (f.first other low (subst (λ (x : Place). IsFaulty other x) (sym e) g.faulty))
+    | inr low ↦ same_rank_kind kind other (omega arith)
+  ]
+]
+
+same_place : (before others : List (List ℕ)) (line other : List ℕ) (after more : List (List ℕ)) → before ≡ others → line ≡ other → after ≡ more → at_place before line after ≡ at_place others other more
+same_place before others line other after more p q r = cc
+
+earlier_not : (p q : Place) (kind other : ScriptFault) → IsFirstKind p kind → IsFirstLine q → (mid : List (List ℕ)) → q.before ≡ p.before ++ p.line ∷ mid → p.after ≡ mid ++ q.line ∷ q.after → ⊥
+earlier_not p q kind other f first mid e g = first p.before mid p.line kind e (subst (λ (a : List (List ℕ)). IsFaulty kind (at_place p.before p.line a)) g f.faulty)
+
+one_first : (bytes : List ℕ) (n m : ℕ) (kind other : ScriptFault) → IsFirstFault bytes n kind → IsFirstFault bytes m other → (n ≡ m) × (kind ≡ other)
+one_first bytes n m kind other f g =
+    let p = f.place in
+    let q = g.place in
+    elim (compare p.before p.after q.before q.after p.line q.line (sym f.of ∙ g.of)) [
+      | inl h ↦ (f.number_is ∙ ap (λ (b : List (List ℕ)). length b + 1) h.0 ∙ sym g.number_is, one_kind p q kind other f.first_kind g.first_kind (same_place p.before q.before p.line q.line p.after q.after h.0 h.1 h.2))
+      | inr o ↦ elim o [
+        | inl h ↦ absurd (earlier_not p q kind other f.first_kind g.first_line h.0 h.1 h.2)
+        | inr h ↦ absurd (earlier_not q p other kind g.first_kind f.first_line h.0 h.1 h.2)
+      ]
+    ]
+
+pub one_fault : (bytes : List ℕ) (n m : ℕ) (kind other : ScriptFault) → IsFault bytes n kind → IsFault bytes m other → (n ≡ m) × (kind ≡ other)
+one_fault bytes n m kind other (inl f) (inl g) = (f.1 ∙ sym g.1, f.2 ∙ sym g.2)
+one_fault bytes n m kind other (inl f) (inr g) = absurd (omega (arith, f.0, g.0))
+one_fault bytes n m kind other (inr f) (inl g) = absurd (omega (arith, f.0, g.0))
+one_fault bytes n m kind other (inr f) (inr g) = one_first bytes n m kind other f.1 g.1

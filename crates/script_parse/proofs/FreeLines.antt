@@ -1,0 +1,75 @@
+-- A line of a form without a fault is taken.
+use Rattle.std.proofs.Common.{◌≡◌, ℕ, ◌+◌, Bool, true, false, length, List, [], ◌∷◌, ◌++◌, Option, Some, None, Result, Ok, Err, refl, sym, ap, ◌∙◌, subst}
+use Rattle.std.specs.Prelude.{not, ◌&&◌, ◌==◌, nat_le}
+use Rattle.std.proofs.lemmas.Bool.{cases_Bool}
+use Rattle.std.specs.Prelude.{unwrap_or}
+use Rattle.pct_ask.specs.Tokens.{Token, tokens_of}
+use Rattle.pct_ask.specs.declared.names.NameKind.TheVariants as kinds
+use Rattle.script_tree.specs.declared.fault.ScriptFault.{ScriptFault}
+use Rattle.script_tree.specs.Forms.{Cut, Meant, tokens_of_form, IsOf, Means, IsForm}
+use Rattle.script_tree.specs.Ranges as ranges
+use Rattle.script_tree.specs.Lines.{depth, names_of, tokens_in}
+use Rattle.script_tree.specs.Grammar.{Says}
+use Rattle.script_parse.specs.Part.{Part}
+use Rattle.script_parse.specs.Reading as reading
+use Rattle.script_parse.specs.Reading.{Finder, is_empty, form_fault, taken, tokens_taken}
+use Rattle.script_parse.specs.Saying.{form_in}
+use Rattle.script_parse.proofs.ExpressionWhole.{exact}
+use Rattle.script_parse.proofs.FormWhole.{form_read}
+use Rattle.script_parse.proofs.NumberLaws.{line_numerals, range_same, are_numerals}
+use Rattle.script_parse.proofs.Standing.{Stands, depth_is}
+use Rattle.script_parse.proofs.Agreeing.{taken_stands, leaves_open_same, lacks_thread_same}
+use Rattle.script_parse.proofs.Runs.{IsFree}
+
+-- what was read is a whole script: no block is open, and there is a thread
+pub record IsWhole (part : Part) : Type 0 where
+  pub closed : length part.open_blocks ≡ 0
+  pub threads : is_empty part.names.threads ≡ false
+
+-- where the line is the last one, what is read with it is whole
+abbrev pub WholeAfter : Bool → Part → Type 0
+WholeAfter last next = last ≡ true → IsWhole next
+
+last_none : (last found : Bool) → (last ≡ true → found ≡ false) → (last && found) ≡ false
+last_none true found f = f refl
+last_none false found f = refl
+
+module _ (version : ℕ) (part : Part) (find : Finder) (n : ℕ) (last : Bool) (lines : List (List Token)) (s : Stands part lines) (cut : Cut) (meant : Meant) (means : Means cut meant) (of : IsOf version cut) (free : IsFree part find meant) (whole : WholeAfter last (taken part find n meant)) where
+  next_stands : Stands (taken part find n meant) (lines ++ tokens_of_form cut ∷ [])
+  next_stands = taken_stands version part find n lines s cut meant means of free.closes
+
+  none_open : last ≡ true → reading.leaves_open part meant ≡ false
+  none_open e = sym (leaves_open_same part lines s version cut meant means of) ∙ ap (nat_le 1) (depth_is (taken part find n meant) (lines ++ tokens_of_form cut ∷ []) next_stands ∙ (whole e).closed)
+
+  a_thread : last ≡ true → reading.lacks_thread part meant ≡ false
+  a_thread e = sym (lacks_thread_same part lines s version cut meant means of) ∙ ap is_empty (next_stands.names kinds.Thread) ∙ (whole e).threads
+
+  pub no_form_fault : (tokens : List Token) → reading.is_out_of_range tokens meant ≡ false → form_fault part find last tokens meant ≡ None
+  no_form_fault tokens range =
+      let closed = last_none last (reading.leaves_open part meant) none_open in
+      let some = last_none last (reading.lacks_thread part meant) a_thread in
+      rw (free.stands, free.known, free.fresh, range, closed, free.closes, some, free.few) refl
+
+module _ (part : Part) (find : Finder) (n : ℕ) (last : Bool) (lines : List (List Token)) (s : Stands part lines) (text : List ℕ) (meant : Meant) (says : Says part.version text meant) (free : IsFree part find meant) (whole : WholeAfter last (taken part find n meant)) where
+  formed : (tokens : List Token) → tokens_in text ≡ tokens → IsForm part.version tokens says.0 meant
+  formed tokens e = subst (λ (ts : List Token). IsForm part.version ts says.0 meant) e says.1
+
+  read_form : (tokens : List Token) → tokens_in text ≡ tokens → form_in exact part.version tokens ≡ Some meant
+  read_form tokens e = form_read part.version tokens says.0 meant (formed tokens e)
+
+  none_some : (m : Meant) → None ≡ Some m → ⊥
+  none_some m e = absurd cc
+
+  in_range : (tokens : List Token) → tokens_of text ≡ Some tokens → tokens_in text ≡ tokens → reading.is_out_of_range tokens meant ≡ false
+  in_range tokens e here =
+      let form = formed tokens here in
+      subst (λ (ts : List Token). reading.is_out_of_range ts meant ≡ false) (sym form.spelled)
+      (sym (range_same part.version says.0 meant form.means form.of (subst (λ (ts : List Token). are_numerals ts ≡ true) form.spelled (line_numerals text tokens e))) ∙ says.2)
+
+  pub said_taken : (tokens : Option (List Token)) → tokens_of text ≡ tokens → tokens_taken exact part find n last tokens ≡ Ok (taken part find n meant)
+  said_taken None e = absurd (none_some meant (read_form [] (ap (λ (ts : Option (List Token)). unwrap_or ts []) e)))
+  said_taken (Some []) e = absurd (none_some meant (read_form [] (ap (λ (ts : Option (List Token)). unwrap_or ts []) e)))
+  said_taken (Some (token ∷ tokens)) e =
+      let here : tokens_in text ≡ token ∷ tokens = ap (λ (ts : Option (List Token)). unwrap_or ts []) e in
+      let form = formed (token ∷ tokens) here in
+      rw (read_form (token ∷ tokens) here, no_form_fault part.version part find n last lines s says.0 meant form.means form.of free whole (token ∷ tokens) (in_range (token ∷ tokens) e here)) refl

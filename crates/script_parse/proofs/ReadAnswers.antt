@@ -1,0 +1,94 @@
+-- What a reading tells of the text, with great numbers as the code keeps them.
+use Rattle.std.proofs.Common.{◌≡◌, ℕ, ◌≤◌, Bool, true, false, length, List, [], ◌∷◌, Option, Some, None, Result, Ok, Err, refl, sym, ap, ◌∙◌, subst}
+use Rattle.std.specs.Prelude.{ℤ}
+use Rattle.std.specs.Option.{option_map}
+use Rattle.std.proofs.Math.Path.{fun_ext}
+use Rattle.std.proofs.lemmas.Bool.{le-ltb}
+use Rattle.pct_ask.specs.Lines.{lines_of}
+use Rattle.pct_ask.specs.Tokens.{Token}
+use Rattle.pct_ask.specs.Words.{is_name}
+use Rattle.pct_ask.specs.NameLists.{place_of}
+use Rattle.pct_ask.proofs.NameLemmas.{is_name-first}
+use Rattle.script_tree.specs.ScriptText.{ScriptText}
+use Rattle.script_tree.specs.declared.fault.ScriptFault.{ScriptFault}
+use Rattle.script_tree.specs.Fitting.{IsScript}
+use Rattle.script_tree.specs.Forms.{Cut, Meant, Plain, Valued, Thread, On, Into, Write, Add, Cas, Wait, Yield, Assert, Set, If, While, End, Else, IsOf, Means}
+use Rattle.script_tree.specs.Lines.{threads_in}
+use Rattle.script_tree.specs.Faults.{are_blank, IsFault}
+use Rattle.script_tree.specs.Grammar.{Spells}
+use Rattle.script_parse.specs.Numbers.{saturated}
+use Rattle.script_parse.specs.Lawful.{names_lawful}
+use Rattle.script_parse.specs.Part.{Part}
+use Rattle.script_parse.specs.Saying.{form_in}
+use Rattle.script_parse.specs.Reading.{Finder, read_from, read}
+use Rattle.script_parse.proofs.Choices.{some, some_is}
+use Rattle.script_parse.proofs.ExpressionWhole.{exact}
+use Rattle.script_parse.proofs.FormSound.{form_says}
+use Rattle.script_parse.proofs.Meanings.{ForEach, by_meaning}
+use Rattle.script_parse.proofs.SameReading.{blank_form, Alike, form_alike, read_same}
+use Rattle.script_parse.proofs.FaultLaws.{fault_found}
+use Rattle.script_parse.proofs.Spelled.{read_is_spelled}
+use Rattle.script_parse.proofs.WholeText.{spelled_is_read}
+
+-- ---- whole texts
+
+pub read_spells : (bytes : List ℕ) (script : ScriptText) → read saturated bytes ≡ Ok script → Spells bytes script
+read_spells bytes script e = read_is_spelled bytes script (sym (read_same bytes) ∙ e)
+
+pub read_fits : (bytes : List ℕ) (script : ScriptText) → read saturated bytes ≡ Ok script → IsScript script
+read_fits bytes script e = (read_spells bytes script e).fits
+
+pub read_fails : (bytes : List ℕ) (n : ℕ) (kind : ScriptFault) → read saturated bytes ≡ Err (n, kind) → IsFault bytes n kind
+read_fails bytes n kind e = fault_found bytes n kind (sym (read_same bytes) ∙ e)
+
+pub spelled_read : (bytes : List ℕ) (script : ScriptText) → Spells bytes script → read saturated bytes ≡ Ok script
+spelled_read bytes script s = read_same bytes ∙ spelled_is_read bytes script s
+
+-- a text is read by where its lines begin their threads
+pub read_by : (bytes : List ℕ) (find : Finder) (result : Result ScriptText (ℕ × ScriptFault)) → length bytes ≤ 1048576 → are_blank (lines_of bytes) ≡ false → ((name : List ℕ) → find name ≡ place_of name (threads_in (lines_of bytes)))
+    → read_from saturated find None 1 (lines_of bytes) ≡ result → read saturated bytes ≡ result
+read_by bytes find result small says same e =
+    let finders : find ≡ (λ name. place_of name (threads_in (lines_of bytes))) = fun_ext same in
+    rw (le-ltb 1048576 (length bytes) small, says) (subst (λ (f : Finder). read_from saturated f None 1 (lines_of bytes) ≡ result) finders e)
+
+-- ---- the names of a form that is read
+
+lawful_means : (version : ℕ) (cut : Cut) (meant : Meant) → Means cut meant → IsOf version cut → names_lawful meant ≡ true
+lawful_means version = by_meaning (λ cut meant. IsOf version cut → names_lawful meant ≡ true) (record {
+  plain = λ kind name of. is_name-first version name of.2;
+  valued = λ kind name value of. is_name-first version name of.1;
+  thread = λ name of. is_name-first version name of;
+  on = λ verb object of. refl;
+  into = λ verb reg object of. refl;
+  write = λ var value tree of. refl;
+  add = λ reg var value tree of. refl;
+  cas = λ reg var old new a b of. refl;
+  wait = λ waiting mutex of. refl;
+  yield = λ of. refl;
+  assert = λ test tree of. refl;
+  set = λ reg value tree of. refl;
+  when = λ test tree of. refl;
+  while = λ test tree of. refl;
+  end = λ of. refl;
+  otherwise = λ of. refl;
+})
+
+lawful_blank : (meant : Meant) → names_lawful (blank_form meant) ≡ names_lawful meant
+lawful_blank (Plain kind name) = refl
+lawful_blank (Valued kind name value) = refl
+lawful_blank (Thread name) = refl
+lawful_blank meant = refl
+
+-- the names that a line declares are lawful by the first version's keywords
+pub lawful_read : (version : ℕ) (tokens : List Token) (meant : Meant) → form_in saturated version tokens ≡ Some meant → names_lawful meant ≡ true
+lawful_read version tokens meant e = by (form_in exact version tokens) refl (sym (ap (option_map blank_form) e) ∙ form_alike version tokens)
+  where
+    by : (found : Option Meant) → form_in exact version tokens ≡ found → Some (blank_form meant) ≡ option_map blank_form (form_in exact version tokens) → names_lawful meant ≡ true
+    by None f a = absurd (no_form (a ∙ ap (option_map blank_form) f))
+      where
+        no_form : Some (blank_form meant) ≡ None → ⊥
+        no_form h = cc
+    by (Some other) f a =
+        let same : blank_form meant ≡ blank_form other = some_is (blank_form meant) (blank_form other) (a ∙ ap (option_map blank_form) f) in
+        let has = form_says version tokens other f in
+        sym (lawful_blank meant) ∙ ap names_lawful same ∙ lawful_blank other ∙ lawful_means version has.0 other has.1.means has.1.of

@@ -1,0 +1,35 @@
+-- Lines that can be taken one after another are read.
+use Rattle.std.proofs.Common.{◌≡◌, ℕ, ◌+◌, ◌≤◌, ◌<◌, ◌⊎◌, inl, inr, Bool, true, false, length, List, [], ◌∷◌, ◌++◌, Option, Some, None, Result, Ok, Err, refl, sym, ap, ◌∙◌, subst, arith, append_assoc}
+use Rattle.std.specs.Prelude.{not, ◌&&◌, nat_lt, All}
+use Rattle.std.proofs.lemmas.Bool.{le-ltb}
+use Rattle.std.proofs.lemmas.List.Elements.{All-head, All-tail}
+use Rattle.pct_ask.specs.Tokens.{Token, tokens_of}
+use Rattle.script_tree.specs.ScriptText.{ScriptText}
+use Rattle.script_tree.specs.declared.fault.ScriptFault.{ScriptFault}
+use Rattle.script_tree.specs.Forms.{Meant, tokens_of_form}
+use Rattle.script_tree.specs.Lines.{tokens_in, is_blank_line, version_of}
+use Rattle.script_tree.specs.Grammar.{Line, Says, AreLines, IsSound}
+use Rattle.script_parse.specs.Part.{Part}
+use Rattle.script_parse.specs.Reading as reading
+use Rattle.script_parse.specs.Reading.{Finder, is_empty, taken, tokens_taken, line_taken, bytes_fault, read_from, script_of}
+use Rattle.script_parse.proofs.ExpressionWhole.{exact}
+use Rattle.script_parse.proofs.Standing.{Stands, blank_stands}
+use Rattle.script_parse.proofs.Agreeing.{taken_stands}
+use Rattle.script_parse.proofs.Runs.{IsFree, Runs}
+use Rattle.script_parse.proofs.FreeLines.{IsWhole, WholeAfter, said_taken}
+
+pub plain_line : (n : ℕ) (text : List ℕ) → IsSound text → n ≤ 4096 → bytes_fault n text ≡ None
+plain_line n text sound few = rw (sound.text, le-ltb 256 (length text) sound.short, le-ltb 4096 n few) refl
+
+-- a line that says a form is read
+pub form_step : (part : Part) (find : Finder) (n : ℕ) (last : Bool) (lines : List (List Token)) → Stands part lines → (text : List ℕ) (meant : Meant) → Says part.version text meant → IsFree part find meant → WholeAfter last (taken part find n meant) → IsSound text → n ≤ 4096
+    → line_taken exact (Some part) find n last text ≡ Ok (Some (taken part find n meant))
+form_step part find n last lines s text meant says free whole sound few =
+    rw (plain_line n text sound few, said_taken part find n last lines s text meant says free whole (tokens_of text) refl) refl
+
+pub form_after : (part : Part) (find : Finder) (n : ℕ) (lines : List (List Token)) (text : List ℕ) (meant : Meant) → Stands part lines → Says part.version text meant → IsFree part find meant → Stands (taken part find n meant) (lines ++ tokens_in text ∷ [])
+form_after part find n lines text meant s says free =
+    subst (λ (ts : List Token). Stands (taken part find n meant) (lines ++ ts ∷ [])) (sym says.1.spelled) (taken_stands part.version part find n lines s says.0 meant says.1.means says.1.of free.closes)
+
+pub same_version : (part next : Part) (lines : List (List Token)) (line : List Token) → Stands part lines → Stands next (lines ++ line ∷ []) → part.version ≡ next.version
+same_version part next lines line s t = sym (s.version (line ∷ [])) ∙ sym (ap version_of (append_assoc lines (line ∷ []) [])) ∙ t.version []

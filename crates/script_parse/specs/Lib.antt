@@ -1,0 +1,17 @@
+pub mod Seen
+pub mod Cutting
+pub mod Registers
+pub mod Machine
+pub mod Numbers
+pub mod Frames
+pub mod Words
+pub mod Saying
+pub mod SeenForms
+pub mod Part
+pub mod Reading
+pub mod Values
+pub mod Lawful
+pub mod Ahead
+pub mod SeenParts
+pub mod States
+pub mod Answers

@@ -1,0 +1,289 @@
+-- Reading a script from its first line to its last.
+use Rattle.std.specs.Prelude.{ℕ, ℤ, pos, ◌+◌, ◌&&◌, nat_le, nat_lt, if◌then◌else◌, Bool, true, false, not, ◌==◌, List, [], ◌∷◌, ◌++◌, length, Option, Some, None, is_some, unwrap_or, Result, Ok, Err}
+use Rattle.std.specs.Option.{option_map, option_and_then}
+use Rattle.std.specs.Str.{is_utf8}
+use Rattle.pct_ask.specs.Lines.{lines_of}
+use Rattle.pct_ask.specs.Tokens.{Token, tokens_of}
+use Rattle.pct_ask.specs.Words.{is_among}
+use Rattle.pct_ask.specs.NameLists.{NameLists, no_names, list_of, with_name, all_names, place_of}
+use Rattle.pct_ask.specs.declared.names.NameKind.{NameKind}
+use Rattle.pct_ask.specs.declared.names.NameKind.TheVariants as kinds
+use Rattle.script_tree.specs.Trees.{Statement, Statements, closed_at}
+use Rattle.script_tree.specs.Trees as trees
+use Rattle.script_tree.specs.ScriptText.{ScriptText}
+use Rattle.script_tree.specs.declared.fault.ScriptFault.{ScriptFault}
+use Rattle.script_tree.specs.declared.fault.ScriptFault.TheVariants.{NotUtf8, LineTooLong, TooManyLines, BadHeader, BadToken, BadStatement, UnknownName, TwiceNamed, NumberRange, NoEnd, StrayEnd, NoThread, TooMany}
+use Rattle.script_tree.specs.Fitting.{most_threads}
+use Rattle.script_tree.specs.Forms.{Meant, OnVerb, IntoVerb, on_kind, into_kind}
+use Rattle.script_tree.specs.Forms as forms
+use Rattle.script_tree.specs.Lines.{is_blank_line, version_in, threads_in}
+use Rattle.script_tree.specs.Faults.{are_blank}
+use Rattle.script_parse.specs.Part.{Opening, Thread, If, Else, While, Open, Part}
+use Rattle.script_parse.specs.Saying.{form_in}
+use Rattle.script_parse.specs.Values.{first_of, fits, has_great}
+
+-- ---- what a form asks of what was read
+
+abbrev pub is_empty : {X : Type 0} → List X → Bool
+is_empty xs = length xs == 0
+
+abbrev pub may_stand : Part → Meant → Bool
+may_stand part (forms.Plain kind name) = is_empty part.names.threads
+may_stand part (forms.Valued kind name value) = is_empty part.names.threads
+may_stand part (forms.Thread name) = is_empty part.open_blocks
+may_stand part forms.End = true
+may_stand part forms.Else = true
+may_stand part form = not (is_empty part.open_blocks)
+
+-- where a thread stands among those of the whole file, by its name
+abbrev pub Finder : Type 0
+Finder = List ℕ → Option ℕ
+
+-- Where a name of this kind stands among those of its kind: a thread's among those of the whole file.
+abbrev pub place_in : NameLists → Finder → NameKind → List ℕ → Option ℕ
+place_in names find kinds.Thread name = find name
+place_in names find kind name = place_of name (list_of kind names)
+
+abbrev pub is_known : NameLists → Finder → NameKind → List ℕ → Bool
+is_known names find kind name = is_some (place_in names find kind name)
+
+abbrev pub uses_unknown : Part → Finder → Meant → Bool
+uses_unknown part find (forms.On verb object) = not (is_known part.names find (on_kind verb) object)
+uses_unknown part find (forms.Into verb register object) = not (is_known part.names find (into_kind verb) object)
+uses_unknown part find (forms.Write var value) = not (is_known part.names find kinds.Var var)
+uses_unknown part find (forms.Add register var value) = not (is_known part.names find kinds.Var var)
+uses_unknown part find (forms.Cas register var old new) = not (is_known part.names find kinds.Var var)
+uses_unknown part find (forms.Wait cond mutex) = not (is_known part.names find kinds.Cond cond && is_known part.names find kinds.Mutex mutex)
+uses_unknown part find form = false
+
+abbrev pub declares_again : Part → Meant → Bool
+declares_again part (forms.Plain kind name) = is_among name (all_names part.names)
+declares_again part (forms.Valued kind name value) = is_among name (all_names part.names)
+declares_again part (forms.Thread name) = is_among name (all_names part.names)
+declares_again part form = false
+
+abbrev pub is_out_of_range : List Token → Meant → Bool
+is_out_of_range tokens (forms.Valued kind name value) = not (fits kind value)
+is_out_of_range tokens form = has_great tokens
+
+-- blocks are open behind the line
+abbrev pub leaves_open : Part → Meant → Bool
+leaves_open part (forms.Thread name) = true
+leaves_open part (forms.If test) = true
+leaves_open part (forms.While test) = true
+leaves_open part forms.End = nat_le 2 (length part.open_blocks)
+leaves_open part form = not (is_empty part.open_blocks)
+
+abbrev pub is_if : Opening → Bool
+is_if (If line test) = true
+is_if opening = false
+
+abbrev pub is_in_if : List Open → Bool
+is_in_if [] = false
+is_in_if (block ∷ blocks) = is_if block.opening
+
+abbrev pub closes_nothing : Part → Meant → Bool
+closes_nothing part forms.End = is_empty part.open_blocks
+closes_nothing part forms.Else = not (is_in_if part.open_blocks)
+closes_nothing part form = false
+
+-- no thread began up to the line
+abbrev pub lacks_thread : Part → Meant → Bool
+lacks_thread part (forms.Thread name) = false
+lacks_thread part form = is_empty part.names.threads
+
+abbrev pub is_too_many : Part → Meant → Bool
+is_too_many part (forms.Thread name) = nat_le (most_threads part.version) (length part.names.threads)
+is_too_many part (forms.Plain kind name) = nat_le 64 (length (list_of kind part.names))
+is_too_many part (forms.Valued kind name value) = nat_le 64 (length (list_of kind part.names))
+is_too_many part (forms.If test) = nat_le 33 (length part.open_blocks)
+is_too_many part (forms.While test) = nat_le 33 (length part.open_blocks)
+is_too_many part form = false
+
+-- the first fault of a line of this form; `last` tells whether it is the last line
+abbrev pub form_fault : Part → Finder → Bool → List Token → Meant → Option ScriptFault
+form_fault part find last tokens form =
+    if not (may_stand part form) then Some BadStatement
+    else (if uses_unknown part find form then Some UnknownName
+    else (if declares_again part form then Some TwiceNamed
+    else (if is_out_of_range tokens form then Some NumberRange
+    else (if last && leaves_open part form then Some NoEnd
+    else (if closes_nothing part form then Some StrayEnd
+    else (if last && lacks_thread part form then Some NoThread
+    else (if is_too_many part form then Some TooMany
+    else None)))))))
+
+-- ---- one form more
+
+abbrev pub on_statement : OnVerb → ℕ → ℕ → Statement
+on_statement forms.Lock line place = trees.Lock line place
+on_statement forms.Unlock line place = trees.Unlock line place
+on_statement forms.Signal line place = trees.Signal line place
+on_statement forms.Broadcast line place = trees.Broadcast line place
+on_statement forms.Down line place = trees.Down line place
+on_statement forms.Up line place = trees.Up line place
+on_statement forms.Join line place = trees.Join line place
+on_statement forms.Start line place = trees.Start line place
+on_statement forms.RdLock line place = trees.RdLock line place
+on_statement forms.WrLock line place = trees.WrLock line place
+on_statement forms.RwUnlock line place = trees.RwUnlock line place
+
+abbrev pub into_statement : IntoVerb → ℕ → ℕ → ℕ → Statement
+into_statement forms.Read line reg place = trees.Read line reg place
+into_statement forms.TryLock line reg place = trees.TryLock line reg place
+into_statement forms.TryDown line reg place = trees.TryDown line reg place
+into_statement forms.Arrive line reg place = trees.Arrive line reg place
+into_statement forms.TryRdLock line reg place = trees.TryRdLock line reg place
+into_statement forms.TryWrLock line reg place = trees.TryWrLock line reg place
+
+-- the statement on a line, where the names that it uses are known and it opens and closes no block
+abbrev pub statement_on : NameLists → Finder → ℕ → Meant → Option Statement
+statement_on names find line (forms.On verb object) = option_map (on_statement verb line) (place_in names find (on_kind verb) object)
+statement_on names find line (forms.Into verb register object) = option_map (into_statement verb line register) (place_in names find (into_kind verb) object)
+statement_on names find line (forms.Write var value) = option_map (λ x. trees.Write line x value) (place_in names find kinds.Var var)
+statement_on names find line (forms.Add register var value) = option_map (λ x. trees.Add line register x value) (place_in names find kinds.Var var)
+statement_on names find line (forms.Cas register var old new) = option_map (λ x. trees.Cas line register x old new) (place_in names find kinds.Var var)
+statement_on names find line (forms.Wait cond mutex) = option_and_then (λ c. option_map (trees.Wait line c) (place_in names find kinds.Mutex mutex)) (place_in names find kinds.Cond cond)
+statement_on names find line forms.Yield = Some (trees.Yield line)
+statement_on names find line (forms.Assert test) = Some (trees.Assert line test)
+statement_on names find line (forms.Set register value) = Some (trees.Set line register value)
+statement_on names find line form = None
+
+-- the open blocks with one more statement in the innermost
+abbrev pub with_statement : Statement → List Open → List Open
+with_statement statement [] = []
+with_statement statement (block ∷ blocks) = record block { done = block.done ++ statement ∷ [] } ∷ blocks
+
+abbrev pub said : Part → Option Statement → Part
+said part None = part
+said part (Some statement) = record part { open_blocks = with_statement statement part.open_blocks }
+
+abbrev pub opened : Part → Opening → Part
+opened part opening = record part { open_blocks = record { opening = opening; done = [] } ∷ part.open_blocks }
+
+-- a block that began so is closed
+abbrev pub closed_by : Part → Opening → Statements → Part
+closed_by part (Thread line) block = record part { threads = part.threads ++ record { line = line; body = block } ∷ [] }
+closed_by part (If line test) block = said part (Some (trees.If line test block))
+closed_by part (Else line test first) block = said part (Some (trees.IfElse line test first block))
+closed_by part (While line test) block = said part (Some (trees.While line test block))
+
+abbrev pub ended : Part → List Open → ℕ → Part
+ended part [] line = part
+ended part (block ∷ blocks) line = closed_by (record part { open_blocks = blocks }) block.opening (closed_at line block.done)
+
+abbrev pub turned_by : Part → Open → List Open → ℕ → Opening → Part
+turned_by part block blocks end (If line test) = opened (record part { open_blocks = blocks }) (Else line test (closed_at end block.done))
+turned_by part block blocks end opening = part
+
+abbrev pub turned : Part → List Open → ℕ → Part
+turned part [] line = part
+turned part (block ∷ blocks) line = turned_by part block blocks line block.opening
+
+abbrev pub with_value : NameKind → ℤ → Part → Part
+with_value kinds.Var value part = record part { vars = part.vars ++ value ∷ [] }
+with_value kinds.Sem value part = record part { sems = part.sems ++ value ∷ [] }
+with_value kinds.Barrier value part = record part { barriers = part.barriers ++ value ∷ [] }
+with_value kind value part = part
+
+abbrev pub named : Part → NameKind → List ℕ → Part
+named part kind name = record part { names = with_name kind name part.names }
+
+-- what was read, with a line of this form that has no fault
+abbrev pub taken : Part → Finder → ℕ → Meant → Part
+taken part find line (forms.Plain kind name) = named part kind name
+taken part find line (forms.Valued kind name value) = with_value kind (unwrap_or (first_of value) (pos 0)) (named part kind name)
+taken part find line (forms.Thread name) = opened (named part kinds.Thread name) (Thread line)
+taken part find line (forms.If test) = opened part (If line test)
+taken part find line (forms.While test) = opened part (While line test)
+taken part find line forms.End = ended part part.open_blocks line
+taken part find line forms.Else = turned part part.open_blocks line
+taken part find line form = said part (statement_on part.names find line form)
+
+-- ---- lines
+
+-- what may be wrong with a line by its bytes and its number alone
+abbrev pub bytes_fault : ℕ → List ℕ → Option ScriptFault
+bytes_fault number line =
+    if not (is_utf8 line) then Some NotUtf8
+    else (if nat_lt 256 (length line) then Some LineTooLong
+    else (if nat_lt 4096 number then Some TooManyLines
+    else None))
+
+abbrev pub start : ℕ → Part
+start version = record { version = version; names = no_names; vars = []; sems = []; barriers = []; threads = []; open_blocks = [] }
+
+abbrev pub after_fault : Option ScriptFault → Part → Result Part ScriptFault
+after_fault None next = Ok next
+after_fault (Some kind) next = Err kind
+
+-- a blank line: it may be the last one
+abbrev pub blank_fault : Part → Bool → Option ScriptFault
+blank_fault part last =
+    if last && not (is_empty part.open_blocks) then Some NoEnd
+    else (if last && is_empty part.names.threads then Some NoThread else None)
+
+abbrev pub form_taken : Part → Finder → ℕ → Bool → List Token → Option Meant → Result Part ScriptFault
+form_taken part find number last tokens None = Err BadStatement
+form_taken part find number last tokens (Some form) = after_fault (form_fault part find last tokens form) (taken part find number form)
+
+-- a line below the header, by its tokens
+abbrev pub tokens_taken : (List ℕ → ℤ) → Part → Finder → ℕ → Bool → Option (List Token) → Result Part ScriptFault
+tokens_taken value part find number last None = Err BadToken
+tokens_taken value part find number last (Some []) = after_fault (blank_fault part last) part
+tokens_taken value part find number last (Some (token ∷ tokens)) = form_taken part find number last (token ∷ tokens) (form_in value part.version (token ∷ tokens))
+
+abbrev pub begun : Bool → Option ℕ → Result Part ScriptFault
+begun last None = Err BadHeader
+begun last (Some version) = if last then Err NoThread else Ok (start version)
+
+abbrev pub wrapped : Result Part ScriptFault → Result (Option Part) ScriptFault
+wrapped (Ok part) = Ok (Some part)
+wrapped (Err kind) = Err kind
+
+-- the header, or a blank line above it
+abbrev pub header_taken : Bool → Option (List Token) → Result (Option Part) ScriptFault
+header_taken last None = Err BadHeader
+header_taken last (Some []) = Ok None
+header_taken last (Some (token ∷ tokens)) = wrapped (begun last (version_in (token ∷ tokens)))
+
+abbrev pub line_said : (List ℕ → ℤ) → Option Part → Finder → ℕ → Bool → Option (List Token) → Result (Option Part) ScriptFault
+line_said value None find number last tokens = header_taken last tokens
+line_said value (Some part) find number last tokens = wrapped (tokens_taken value part find number last tokens)
+
+abbrev pub unless : Option ScriptFault → Result (Option Part) ScriptFault → Result (Option Part) ScriptFault
+unless None next = next
+unless (Some kind) next = Err kind
+
+-- one more line; what was read is none above the header
+abbrev pub line_taken : (List ℕ → ℤ) → Option Part → Finder → ℕ → Bool → List ℕ → Result (Option Part) ScriptFault
+line_taken value part find number last line = unless (bytes_fault number line) (line_said value part find number last (tokens_of line))
+
+abbrev pub script_of : Part → ScriptText
+script_of part = record { version = part.version; names = part.names; vars = part.vars; sems = part.sems; barriers = part.barriers; threads = part.threads }
+
+abbrev pub finished : Option Part → Result ScriptText (ℕ × ScriptFault)
+finished None = Err (1, BadHeader)
+finished (Some part) = Ok (script_of part)
+
+-- the script after these lines, of which the first has this number, or the first fault
+abbrev pub then_read : ℕ → Result (Option Part) ScriptFault → (Option Part → Result ScriptText (ℕ × ScriptFault)) → Result ScriptText (ℕ × ScriptFault)
+then_read number (Err kind) more = Err (number, kind)
+then_read number (Ok next) more = more next
+
+abbrev pub read_from : (List ℕ → ℤ) → Finder → Option Part → ℕ → List (List ℕ) → Result ScriptText (ℕ × ScriptFault)
+read_from value find part number [] = finished part
+read_from value find part number (line ∷ lines) =
+    then_read number (line_taken value part find number (is_empty lines) line) (λ next. read_from value find next (number + 1) lines)
+
+-- the fault of the first line, where all lines are blank
+abbrev pub blank_text_fault : List (List ℕ) → ScriptFault
+blank_text_fault [] = BadHeader
+blank_text_fault (line ∷ lines) = unwrap_or (bytes_fault 1 line) BadHeader
+
+-- what a text is read as, from its first line to its last
+abbrev pub read : (List ℕ → ℤ) → List ℕ → Result ScriptText (ℕ × ScriptFault)
+read value bytes =
+    if nat_lt 1048576 (length bytes) then Err (1, TooMany)
+    else (if are_blank (lines_of bytes) then Err (1, blank_text_fault (lines_of bytes))
+    else read_from value (λ name. place_of name (threads_in (lines_of bytes))) None 1 (lines_of bytes))

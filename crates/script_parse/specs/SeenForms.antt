@@ -1,0 +1,57 @@
+-- How the code's forms stand for those of the language.
+use Rattle.std.specs.Prelude.{ℕ, Bool, true, false, List, [], ◌∷◌, codes}
+use Rattle.pct_ask.specs.Tokens.{Token, Number, Symbol}
+use Rattle.script_tree.specs.Forms as language
+use Rattle.script_tree.specs.Forms.{Meant}
+use Rattle.script_tree.specs.Seen.{expression}
+use Rattle.script_parse.specs.declared.form.OnVerb.{OnVerb}
+use Rattle.script_parse.specs.declared.form.OnVerb.TheVariants as on
+use Rattle.script_parse.specs.declared.form.IntoVerb.{IntoVerb}
+use Rattle.script_parse.specs.declared.form.IntoVerb.TheVariants as into
+use Rattle.script_parse.specs.declared.form.Form.{Form}
+use Rattle.script_parse.specs.declared.form.Form.TheVariants as forms
+
+abbrev pub seen_on : OnVerb → language.OnVerb
+seen_on on.Lock = language.Lock
+seen_on on.Unlock = language.Unlock
+seen_on on.Signal = language.Signal
+seen_on on.Broadcast = language.Broadcast
+seen_on on.Down = language.Down
+seen_on on.Up = language.Up
+seen_on on.Join = language.Join
+seen_on on.Start = language.Start
+seen_on on.RdLock = language.RdLock
+seen_on on.WrLock = language.WrLock
+seen_on on.RwUnlock = language.RwUnlock
+
+abbrev pub seen_into : IntoVerb → language.IntoVerb
+seen_into into.Read = language.Read
+seen_into into.TryLock = language.TryLock
+seen_into into.TryDown = language.TryDown
+seen_into into.Arrive = language.Arrive
+seen_into into.TryRdLock = language.TryRdLock
+seen_into into.TryWrLock = language.TryWrLock
+
+-- the tokens of a first value
+abbrev pub value_tokens : Bool → List ℕ → List Token
+value_tokens false digits = Number digits ∷ []
+value_tokens true digits = Symbol (codes "-") ∷ Number digits ∷ []
+
+-- a form without where its names and expressions lie in memory
+abbrev pub seen_form : Form → Meant
+seen_form (forms.Plain kind name) = language.Plain kind name.now
+seen_form (forms.Valued kind name minus digits) = language.Valued kind name.now (value_tokens minus digits.now)
+seen_form (forms.Thread name) = language.Thread name.now
+seen_form (forms.On verb object) = language.On (seen_on verb) object.now
+seen_form (forms.Into verb reg object) = language.Into (seen_into verb) reg object.now
+seen_form (forms.Write var value) = language.Write var.now (expression value)
+seen_form (forms.Add reg var value) = language.Add reg var.now (expression value)
+seen_form (forms.Cas reg var old new) = language.Cas reg var.now (expression old) (expression new)
+seen_form (forms.Wait cond mutex) = language.Wait cond.now mutex.now
+seen_form forms.Yield = language.Yield
+seen_form (forms.Assert test) = language.Assert (expression test)
+seen_form (forms.Set reg value) = language.Set reg (expression value)
+seen_form (forms.If test) = language.If (expression test)
+seen_form (forms.While test) = language.While (expression test)
+seen_form forms.End = language.End
+seen_form forms.Else = language.Else

@@ -1,0 +1,332 @@
+//! Expressions, read token by token.
+
+ghost use Rattle.std.specs.Prelude.{◌≡◌, ◌∷◌, IfOk, OnOk, Some, None, position};
+ghost use Rattle.std.specs.Option.{option_map};
+ghost use Rattle.std.specs.Str.{bytes_eq};
+ghost use Rattle.script_tree.specs.Seen.{expression as tree};
+ghost use Rattle.script_tree.specs.Expressions as language;
+ghost use Rattle.script_parse.specs.Seen.{seen, all_seen};
+ghost use Rattle.script_parse.specs.Registers.{register_in};
+ghost use Rattle.script_parse.specs.Numbers.{number_in, saturated};
+ghost use Rattle.script_parse.specs.Machine.{operator_in, expression_in, pending};
+ghost use Rattle.script_parse.specs.Machine as machine;
+ghost use Rattle.script_parse.specs.Frames.{seen_frame, seen_frames, seen_pending};
+
+use crate::token::{Token, are_digits};
+use script_tree::{Expr, Op};
+use std::alloc::{AllocError as NoMemory, Global};
+
+const REGISTERS: [&[u8]; 16] = [
+    b"r0", b"r1", b"r2", b"r3", b"r4", b"r5", b"r6", b"r7", b"r8", b"r9", b"r10", b"r11", b"r12",
+    b"r13", b"r14", b"r15",
+];
+
+/// What waits for what follows: a parenthesis for its end, an operator for its part or its right part.
+#[derive(Drop)]
+pub enum Frame {
+    Paren,
+    Not,
+    Minus,
+    Two(Op, Expr),
+}
+
+/// What was read of an expression: what waits, the innermost last, and the value that was read last, if one was.
+#[derive(Drop)]
+pub struct Pending {
+    frames: Vec<Frame>,
+    value: Option<Expr>,
+}
+
+/// Whether a word or a symbol is this text.
+pub fn says(word: &[u8], text: &[u8]) -> bool
+    ensures { result ≡ bytes_eq word.now text.now }
+{
+    word == text
+}
+
+/// The number that digits stand for, where it is an i64.
+pub fn number_of(digits: &[u8]) -> Option<i64>
+    ensures { result ≡ number_in digits.now }
+{
+    if !are_digits(digits) {
+        return None;
+    }
+    let Ok(text) = str::from_utf8(digits) else {
+        return None;
+    };
+    text.parse::<i64>().ok()
+}
+
+/// The number that digits stand for, and the greatest i64 where it is greater.
+fn saturated(digits: &[u8]) -> i64
+    ensures { result ≡ saturated digits.now }
+{
+    number_of(digits).unwrap_or(i64::MAX)
+}
+
+/// The place of a register among r0 to r15.
+pub fn register_of(word: &[u8]) -> Option<u32>
+    ensures { result ≡ register_in word.now }
+{
+    let place = place_among(word, &REGISTERS)?;
+    Some(place as u32)
+}
+
+fn place_among(word: &[u8], words: &[&[u8]]) -> Option<usize>
+    ensures { result ≡ position (λ other. bytes_eq word.now other.now) words.now }
+{
+    words.iter().position(|other| word == *other)
+}
+
+/// The operator that signs stand for.
+fn operator_of(signs: &[u8]) -> Option<Op>
+    ensures { result ≡ operator_in signs.now }
+{
+    if says(signs, b"||") {
+        Some(Op::Or)
+    } else if says(signs, b"&&") {
+        Some(Op::And)
+    } else if says(signs, b"==") {
+        Some(Op::Eq)
+    } else if says(signs, b"!=") {
+        Some(Op::Ne)
+    } else if says(signs, b"<") {
+        Some(Op::Lt)
+    } else if says(signs, b"<=") {
+        Some(Op::Le)
+    } else if says(signs, b">") {
+        Some(Op::Gt)
+    } else if says(signs, b">=") {
+        Some(Op::Ge)
+    } else if says(signs, b"+") {
+        Some(Op::Plus)
+    } else if says(signs, b"-") {
+        Some(Op::Less)
+    } else if says(signs, b"*") {
+        Some(Op::Times)
+    } else if says(signs, b"/") {
+        Some(Op::Over)
+    } else if says(signs, b"%") {
+        Some(Op::Rest)
+    } else {
+        None
+    }
+}
+
+/// How strongly an operator binds.
+fn strength(op: Op) -> u32
+    ensures { result ≡ language.strength op }
+{
+    match op {
+        Op::Or => 0,
+        Op::And => 1,
+        Op::Eq | Op::Ne | Op::Lt | Op::Le | Op::Gt | Op::Ge => 2,
+        Op::Plus | Op::Less => 3,
+        Op::Times | Op::Over | Op::Rest => 4,
+    }
+}
+
+/// The level of an operator's left part: its own, so that it groups to the left, but no comparison for a comparison.
+fn left_level(op: Op) -> u32
+    ensures { result ≡ language.left_level op }
+{
+    let own = strength(op);
+    if own == 2 { 3 } else { own }
+}
+
+/// Whether what waits takes a part of this level.
+fn takes(frame: &Frame, level: u32) -> bool
+    ensures { result ≡ machine.takes level (seen_frame frame.now) }
+{
+    match frame {
+        Frame::Paren => false,
+        Frame::Not | Frame::Minus => true,
+        Frame::Two(op, _) => level <= strength(*op),
+    }
+}
+
+/// What waited, with its part.
+fn around(alloc: Global, frame: Frame, part: Expr) -> Result<Expr, NoMemory>
+    ensures { IfOk result (λ e. tree e ≡ machine.around (seen_frame frame) (tree part)) }
+{
+    match frame {
+        Frame::Paren => Ok(part),
+        Frame::Not => Ok(Expr::Not(Box::new(alloc, part)?)),
+        Frame::Minus => Ok(Expr::Minus(Box::new(alloc, part)?)),
+        Frame::Two(op, left) => {
+            let left = Box::new(alloc, left)?;
+            let right = Box::new(alloc, part)?;
+            Ok(Expr::Two(op, left, right))
+        }
+    }
+}
+
+fn is_taken(frames: &[Frame], level: u32) -> bool
+    ensures { result ≡ machine.is_taken level (seen_frames frames.now) }
+{
+    match frames.last() {
+        None => false,
+        Some(frame) => takes(frame, level),
+    }
+}
+
+/// The value with all that waits for it at this level or a stronger one.
+fn reduce(alloc: Global, level: u32, frames: &mut Vec<Frame>, value: Expr) -> Result<Expr, NoMemory>
+    ensures { OnOk result (IfOk result (λ e. machine.reduced level (seen_frames frames.old.items) (tree value) ≡ (seen_frames frames.new.items, tree e))) }
+{
+    let mut value = value;
+    'taking: while is_taken(frames, level) {
+        let Some(frame) = frames.pop() else {
+            break;
+        };
+        value = around(alloc, frame, value)?;
+    }
+    Ok(value)
+}
+
+/// Whether a comparison waits there for its right part, where another comparison begins.
+fn chains(op: Op, frames: &[Frame]) -> bool
+    ensures { result ≡ machine.chains op (seen_frames frames.now) }
+{
+    match frames.last() {
+        Some(Frame::Two(other, _)) => strength(*other) == strength(op),
+        _ => false,
+    }
+}
+
+fn waiting(mut frames: Vec<Frame>, frame: Frame) -> Result<Pending, NoMemory>
+    ensures { IfOk result (λ p. seen_pending p ≡ pending (seen_frame frame ∷ seen_frames frames.items) None) }
+{
+    frames.push(frame)?;
+    Ok(Pending {
+        frames,
+        value: None,
+    })
+}
+
+/// A token where a value may begin.
+fn begun(frames: Vec<Frame>, token: &Token<'_>) -> Result<Option<Pending>, NoMemory>
+    ensures { IfOk result (λ next. option_map seen_pending next ≡ machine.begun saturated (seen_frames frames.items) (seen token.now)) }
+{
+    match token {
+        Token::Number(digits) => Ok(Some(Pending {
+            frames,
+            value: Some(Expr::Number(saturated(digits))),
+        })),
+        Token::Word(word) => match register_of(word) {
+            None => Ok(None),
+            Some(reg) => Ok(Some(Pending {
+                frames,
+                value: Some(Expr::Reg(reg)),
+            })),
+        },
+        Token::Symbol(signs) => {
+            if says(signs, b"(") {
+                Ok(Some(waiting(frames, Frame::Paren)?))
+            } else if says(signs, b"-") {
+                Ok(Some(waiting(frames, Frame::Minus)?))
+            } else if says(signs, b"!") {
+                Ok(Some(waiting(frames, Frame::Not)?))
+            } else {
+                Ok(None)
+            }
+        }
+    }
+}
+
+/// An operator behind a value.
+fn joined(
+    alloc: Global,
+    mut frames: Vec<Frame>,
+    value: Expr,
+    op: Op,
+) -> Result<Option<Pending>, NoMemory>
+    ensures { IfOk result (λ next. option_map seen_pending next ≡ machine.joined_by (Some op) (seen_frames frames.items) (tree value)) }
+{
+    let left = reduce(alloc, left_level(op), &mut frames, value)?;
+    if chains(op, &frames) {
+        return Ok(None);
+    }
+    Ok(Some(waiting(frames, Frame::Two(op, left))?))
+}
+
+/// A `)` behind a value.
+fn closed(alloc: Global, mut frames: Vec<Frame>, value: Expr) -> Result<Option<Pending>, NoMemory>
+    ensures { IfOk result (λ next. option_map seen_pending next ≡ machine.closed_by (seen_frames frames.items) (tree value)) }
+{
+    let value = reduce(alloc, 0, &mut frames, value)?;
+    match frames.pop() {
+        Some(Frame::Paren) => Ok(Some(Pending {
+            frames,
+            value: Some(value),
+        })),
+        _ => Ok(None),
+    }
+}
+
+/// A token behind a value.
+fn behind(
+    alloc: Global,
+    frames: Vec<Frame>,
+    value: Expr,
+    token: &Token<'_>,
+) -> Result<Option<Pending>, NoMemory>
+    ensures { IfOk result (λ next. option_map seen_pending next ≡ machine.behind (seen_frames frames.items) (tree value) (seen token.now)) }
+{
+    let Token::Symbol(signs) = token else {
+        return Ok(None);
+    };
+    if says(signs, b")") {
+        return closed(alloc, frames, value);
+    }
+    match operator_of(signs) {
+        None => Ok(None),
+        Some(op) => joined(alloc, frames, value, op),
+    }
+}
+
+impl Pending {
+    /// Takes the next token. None where no expression goes on with it.
+    fn take(self, alloc: Global, token: &Token<'_>) -> Result<Option<Pending>, NoMemory>
+        ensures { IfOk result (λ next. option_map seen_pending next ≡ machine.step saturated (seen_pending self) (seen token.now)) }
+    {
+        let Pending { frames, value } = self;
+        match value {
+            None => begun(frames, token),
+            Some(value) => behind(alloc, frames, value, token),
+        }
+    }
+
+    /// The expression, where the last token was read.
+    fn finish(self, alloc: Global) -> Result<Option<Expr>, NoMemory>
+        ensures { IfOk result (λ found. option_map tree found ≡ machine.finished (seen_pending self)) }
+    {
+        let Pending { mut frames, value } = self;
+        let Some(value) = value else {
+            return Ok(None);
+        };
+        let value = reduce(alloc, 0, &mut frames, value)?;
+        if frames.is_empty() {
+            Ok(Some(value))
+        } else {
+            Ok(None)
+        }
+    }
+}
+
+/// The expression that tokens spell. A number above the greatest i64 is read as that.
+pub fn expression_of(alloc: Global, tokens: &[Token<'_>]) -> Result<Option<Expr>, NoMemory>
+    ensures { IfOk result (λ found. option_map tree found ≡ expression_in saturated (all_seen tokens.now)) }
+{
+    let mut pending = Pending {
+        frames: Vec::new(alloc),
+        value: None,
+    };
+    for token in tokens {
+        match pending.take(alloc, token)? {
+            None => return Ok(None),
+            Some(next) => pending = next,
+        }
+    }
+    pending.finish(alloc)
+}

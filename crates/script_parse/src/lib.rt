@@ -1,0 +1,21 @@
+//! Texts as scripts.
+#![tactic(auto)]
+
+mod ahead;
+mod blocks;
+mod declaration;
+mod expression;
+mod fault;
+mod form;
+mod parsing;
+mod range;
+mod reader;
+mod statement;
+#[cfg(test)]
+mod tests;
+mod token;
+mod verb;
+
+pub use fault::ScriptError;
+pub use parsing::{one_answer, parse, print_is_read};
+pub use script_tree::ScriptFault;

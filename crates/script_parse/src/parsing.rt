@@ -1,0 +1,208 @@
+//! A text as a script.
+
+ghost use Rattle.std.specs.Prelude.{◌≡◌, ◌≤◌, ◌==◌, false, length, Some, IfOk, IfErr};
+ghost use Rattle.pct_ask.specs.Lines.{lines_of};
+ghost use Rattle.script_tree.specs.Lines.{version_in};
+ghost use Rattle.script_tree.specs.Faults.{are_blank};
+ghost use Rattle.script_tree.specs.Grammar.{Spells};
+ghost use Rattle.script_tree.specs.ScriptSeen.{text};
+ghost use Rattle.script_tree.specs.ScriptText.{ScriptText};
+ghost use Rattle.script_parse.specs.Answers.{EachHasOneAnswer, PrintIsRead};
+ghost use Rattle.script_parse.specs.Seen.{all_seen};
+ghost use Rattle.script_parse.specs.Ahead.{HasSeen, place_ahead};
+ghost use Rattle.script_parse.specs.SeenParts.{seen_reader};
+ghost use Rattle.script_parse.specs.Numbers.{saturated};
+ghost use Rattle.script_parse.specs.States.{seen_state, seen_step, Gives, TellsFault};
+ghost use Rattle.script_parse.specs.Reading as reading;
+
+use crate::ahead::{Ahead, is_text, look_ahead};
+use crate::expression::says;
+use crate::fault::ScriptError;
+use crate::form::form_of;
+use crate::reader::Reader;
+use crate::token::{Token, tokens};
+use pct_ask::split_lines;
+use script_tree::{Script, ScriptFault};
+use std::alloc::{AllocError as NoMemory, Global};
+
+/// How far a text was read.
+#[derive(Drop)]
+enum State {
+    /// To no header yet.
+    Above,
+    Below(Reader),
+}
+
+/// What a line leads to.
+#[derive(Drop)]
+enum Step {
+    Next(State),
+    Bad(ScriptFault),
+}
+
+/// What may be wrong with a line by its bytes and its number alone.
+fn bytes_fault(number: u32, line: &[u8]) -> Option<ScriptFault>
+    ensures { result ≡ reading.bytes_fault number line.now }
+{
+    if !is_text(line) {
+        Some(ScriptFault::NotUtf8)
+    } else if line.len() > 256 {
+        Some(ScriptFault::LineTooLong)
+    } else if number > 4096 {
+        Some(ScriptFault::TooManyLines)
+    } else {
+        None
+    }
+}
+
+/// The version of the language that the tokens of a header tell.
+fn version_of(tokens: &[Token<'_>]) -> Option<u32>
+    ensures { result ≡ version_in (all_seen tokens.now) }
+{
+    let [Token::Word(word), Token::Number([digit @ b'1'..=b'3'])] = tokens else {
+        return None;
+    };
+    if says(word, b"script") {
+        Some(u32::from(*digit - b'0'))
+    } else {
+        None
+    }
+}
+
+/// The header, or a blank line above it.
+fn read_header(alloc: Global, last: bool, tokens: &[Token<'_>]) -> Step
+    ensures { seen_step result ≡ reading.header_taken last (Some (all_seen tokens.now)) }
+{
+    if tokens.is_empty() {
+        return Step::Next(State::Above);
+    }
+    match version_of(tokens) {
+        None => Step::Bad(ScriptFault::BadHeader),
+        Some(_) if last => Step::Bad(ScriptFault::NoThread),
+        Some(version) => Step::Next(State::Below(Reader::new(alloc, version))),
+    }
+}
+
+/// A line below the header.
+fn read_below(
+    alloc: Global,
+    reader: Reader,
+    ahead: &Ahead<'_>,
+    number: u32,
+    last: bool,
+    tokens: &[Token<'_>],
+) -> Result<Step, NoMemory>
+    ensures { IfOk result (λ step. seen_step step ≡ reading.wrapped (reading.tokens_taken saturated (seen_reader reader) (place_ahead ahead.now) number last (Some (all_seen tokens.now)))) }
+{
+    if tokens.is_empty() {
+        return match reader.blank_fault(last) {
+            Some(kind) => Ok(Step::Bad(kind)),
+            None => Ok(Step::Next(State::Below(reader))),
+        };
+    }
+    let Some(form) = form_of(alloc, reader.version(), tokens)? else {
+        return Ok(Step::Bad(ScriptFault::BadStatement));
+    };
+    match reader.fault_of(ahead, last, tokens, &form) {
+        Some(kind) => Ok(Step::Bad(kind)),
+        None => Ok(Step::Next(State::Below(reader.take(alloc, ahead, number, form)?))),
+    }
+}
+
+/// Takes the next line.
+fn read_line(
+    alloc: Global,
+    state: State,
+    ahead: &Ahead<'_>,
+    number: u32,
+    line: &[u8],
+) -> Result<Step, NoMemory>
+    ensures { IfOk result (λ step. seen_step step ≡ reading.line_taken saturated (seen_state state) (place_ahead ahead.now) number (number == ahead.now.lines) line.now) }
+{
+    if let Some(kind) = bytes_fault(number, line) {
+        return Ok(Step::Bad(kind));
+    }
+    let last = number == ahead.lines();
+    let tokens = tokens(alloc, line)?;
+    match (state, tokens) {
+        (State::Above, None) => Ok(Step::Bad(ScriptFault::BadHeader)),
+        (State::Below(_), None) => Ok(Step::Bad(ScriptFault::BadToken)),
+        (State::Above, Some(tokens)) => Ok(read_header(alloc, last, &tokens)),
+        (State::Below(reader), Some(tokens)) => {
+            read_below(alloc, reader, ahead, number, last, &tokens)
+        }
+    }
+}
+
+fn read_lines(alloc: Global, ahead: &Ahead<'_>, bytes: &[u8]) -> Result<Script, ScriptError>
+    requires seen { HasSeen ahead.now (lines_of bytes.now) }
+    requires small { length bytes.now ≤ 1048576 }
+    requires says { are_blank (lines_of bytes.now) ≡ false }
+    ensures { Gives result (reading.read saturated bytes.now) }
+{
+    let mut state = State::Above;
+    let mut number = 1;
+    for line in split_lines(bytes) {
+        match read_line(alloc, state, ahead, number, line)? {
+            Step::Bad(kind) => return Err(ScriptError::Bad { line: number, kind }),
+            Step::Next(next) => state = next,
+        }
+        number += 1;
+    }
+    match state {
+        State::Above => Err(ScriptError::Bad {
+            line: 1,
+            kind: ScriptFault::BadHeader,
+        }),
+        State::Below(reader) => Ok(reader.finish()),
+    }
+}
+
+/// The fault of the first line, where all lines are blank.
+fn blank_text_fault(bytes: &[u8]) -> ScriptFault
+    ensures { result ≡ reading.blank_text_fault (lines_of bytes.now) }
+{
+    match split_lines(bytes).next() {
+        None => ScriptFault::BadHeader,
+        Some(first) => bytes_fault(1, first).unwrap_or(ScriptFault::BadHeader),
+    }
+}
+
+fn read_text(alloc: Global, bytes: &[u8]) -> Result<Script, ScriptError>
+    ensures { Gives result (reading.read saturated bytes.now) }
+{
+    if bytes.len() > 1_048_576 {
+        return Err(ScriptError::Bad {
+            line: 1,
+            kind: ScriptFault::TooMany,
+        });
+    }
+    let ahead = look_ahead(alloc, bytes)?;
+    if ahead.is_blank() {
+        return Err(ScriptError::Bad {
+            line: 1,
+            kind: blank_text_fault(bytes),
+        });
+    }
+    read_lines(alloc, &ahead, bytes)
+}
+
+/// The script that a text spells, or its first fault.
+pub fn parse(alloc: Global, bytes: &[u8]) -> Result<Script, ScriptError>
+    ensures found { IfOk result (λ script. Spells bytes.now (text script)) }
+    ensures only { (script : ScriptText) → Spells bytes.now script → IfOk result (λ s. text s ≡ script) }
+    ensures fault { IfErr result (λ error. TellsFault error bytes.now) }
+{
+    read_text(alloc, bytes)
+}
+
+/// A law of the language, and no work: each text spells one script or has one first fault, and never both.
+pub fn one_answer()
+    ensures { EachHasOneAnswer }
+{}
+
+/// A law of the language, and no work: what is printed of a script, where it is no longer than a script may be, spells
+/// that script with the lines of the print, and nothing else. So it is parsed as that.
+pub fn print_is_read()
+    ensures { PrintIsRead }
+{}

@@ -1,0 +1,383 @@
+//! A script below its header, read line by line.
+
+ghost use Rattle.std.specs.Prelude.{◌≡◌, ◌<◌, not, false, true, length, Some, None, IfOk};
+ghost use Rattle.pct_ask.specs.Words.{is_name, is_among};
+ghost use Rattle.pct_ask.specs.NameLists.{list_of, all_names};
+ghost use Rattle.script_tree.specs.Fitting.{IsScript};
+ghost use Rattle.script_tree.specs.Fitting as fitting;
+ghost use Rattle.script_tree.specs.ScriptSeen.{text};
+ghost use Rattle.script_tree.specs.Seen.{statement, block as tree_of_block};
+ghost use Rattle.script_parse.specs.Ahead.{place_ahead};
+ghost use Rattle.script_parse.specs.Seen.{all_seen};
+ghost use Rattle.script_parse.specs.SeenForms.{seen_form};
+ghost use Rattle.script_parse.specs.SeenParts.{seen_opening, seen_reader};
+ghost use Rattle.script_parse.specs.Lawful.{names_lawful};
+ghost use Rattle.script_parse.specs.Reading as reading;
+
+use crate::ahead::Ahead;
+use crate::blocks::{OpenBlock, Opening, depth, is_closed, is_in_if, open_block, push_statement};
+use crate::form::Form;
+use crate::range::{is_out_of_range, value_in};
+use crate::statement::{into_kind, on_kind, place_in, statement_on};
+use crate::token::Token;
+use pct_ask::{NameKind, Names, NumberList};
+use script_tree::{Block, Script, ScriptFault, Stmt, ThreadText};
+use std::alloc::{AllocError as NoMemory, Global};
+
+/// What was read of a script.
+#[derive(Drop)]
+pub struct Reader {
+    version: u32,
+    names: Names,
+    vars: NumberList,
+    sems: NumberList,
+    barriers: NumberList,
+    threads: Vec<ThreadText>,
+    blocks: Vec<OpenBlock>,
+}
+
+impl Reader {
+    pub fn new(alloc: Global, version: u32) -> Self
+        ensures { seen_reader result ≡ reading.start version }
+    {
+        Reader {
+            version,
+            names: Names::new(alloc),
+            vars: NumberList::new(alloc),
+            sems: NumberList::new(alloc),
+            barriers: NumberList::new(alloc),
+            threads: Vec::new(alloc),
+            blocks: Vec::new(alloc),
+        }
+    }
+
+    pub fn version(&self) -> u32
+        ensures { result ≡ self.now.version }
+    {
+        self.version
+    }
+
+    fn has_thread(&self) -> bool
+        ensures { result ≡ not (reading.is_empty self.now.names.threads) }
+    {
+        self.names.count(NameKind::Thread) > 0
+    }
+
+    fn may_stand(&self, form: &Form<'_>) -> bool
+        ensures { result ≡ reading.may_stand (seen_reader self.now) (seen_form form.now) }
+    {
+        match form {
+            Form::Plain { .. } | Form::Valued { .. } => !self.has_thread(),
+            Form::Thread { .. } => is_closed(&self.blocks),
+            Form::End | Form::Else => true,
+            _ => !is_closed(&self.blocks),
+        }
+    }
+
+    fn is_known(&self, ahead: &Ahead<'_>, kind: NameKind, name: &[u8]) -> bool
+        ensures { result ≡ reading.is_known self.now.names (place_ahead ahead.now) kind name.now }
+    {
+        place_in(&self.names, ahead, kind, name).is_some()
+    }
+
+    fn uses_unknown(&self, ahead: &Ahead<'_>, form: &Form<'_>) -> bool
+        ensures { result ≡ reading.uses_unknown (seen_reader self.now) (place_ahead ahead.now) (seen_form form.now) }
+    {
+        match form {
+            Form::On { verb, object } => !self.is_known(ahead, on_kind(*verb), object),
+            Form::Into { verb, object, .. } => !self.is_known(ahead, into_kind(*verb), object),
+            Form::Write { var, .. } | Form::Add { var, .. } | Form::Cas { var, .. } => {
+                !self.is_known(ahead, NameKind::Var, var)
+            }
+            Form::Wait { cond, mutex } => {
+                !(self.is_known(ahead, NameKind::Cond, cond)
+                    && self.is_known(ahead, NameKind::Mutex, mutex))
+            }
+            _ => false,
+        }
+    }
+
+    fn declares_again(&self, form: &Form<'_>) -> bool
+        ensures { result ≡ reading.declares_again (seen_reader self.now) (seen_form form.now) }
+    {
+        match form {
+            Form::Plain { name, .. } | Form::Valued { name, .. } | Form::Thread { name } => {
+                self.names.contains(name)
+            }
+            _ => false,
+        }
+    }
+
+    /// Whether blocks are open behind a line of this form.
+    fn leaves_open(&self, form: &Form<'_>) -> bool
+        ensures { result ≡ reading.leaves_open (seen_reader self.now) (seen_form form.now) }
+    {
+        match form {
+            Form::Thread { .. } | Form::If { .. } | Form::While { .. } => true,
+            Form::End => depth(&self.blocks) >= 2,
+            _ => !is_closed(&self.blocks),
+        }
+    }
+
+    fn closes_nothing(&self, form: &Form<'_>) -> bool
+        ensures { result ≡ reading.closes_nothing (seen_reader self.now) (seen_form form.now) }
+    {
+        match form {
+            Form::End => is_closed(&self.blocks),
+            Form::Else => !is_in_if(&self.blocks),
+            _ => false,
+        }
+    }
+
+    fn lacks_thread(&self, form: &Form<'_>) -> bool
+        ensures { result ≡ reading.lacks_thread (seen_reader self.now) (seen_form form.now) }
+    {
+        match form {
+            Form::Thread { .. } => false,
+            _ => !self.has_thread(),
+        }
+    }
+
+    fn most_threads(&self) -> u32
+        ensures { result ≡ fitting.most_threads self.now.version }
+    {
+        if self.version >= 3 { 64 } else { 16 }
+    }
+
+    fn is_too_many(&self, form: &Form<'_>) -> bool
+        ensures { result ≡ reading.is_too_many (seen_reader self.now) (seen_form form.now) }
+    {
+        match form {
+            Form::Thread { .. } => self.names.count(NameKind::Thread) >= self.most_threads(),
+            Form::Plain { kind, .. } | Form::Valued { kind, .. } => self.names.count(*kind) >= 64,
+            Form::If { .. } | Form::While { .. } => depth(&self.blocks) >= 33,
+            _ => false,
+        }
+    }
+
+    /// The first fault of a line of this form; `last` tells whether it is the last line.
+    pub fn fault_of(
+        &self,
+        ahead: &Ahead<'_>,
+        last: bool,
+        tokens: &[Token<'_>],
+        form: &Form<'_>,
+    ) -> Option<ScriptFault>
+        ensures { result ≡ reading.form_fault (seen_reader self.now) (place_ahead ahead.now) last (all_seen tokens.now) (seen_form form.now) }
+    {
+        if !self.may_stand(form) {
+            Some(ScriptFault::BadStatement)
+        } else if self.uses_unknown(ahead, form) {
+            Some(ScriptFault::UnknownName)
+        } else if self.declares_again(form) {
+            Some(ScriptFault::TwiceNamed)
+        } else if is_out_of_range(tokens, form) {
+            Some(ScriptFault::NumberRange)
+        } else if last && self.leaves_open(form) {
+            Some(ScriptFault::NoEnd)
+        } else if self.closes_nothing(form) {
+            Some(ScriptFault::StrayEnd)
+        } else if last && self.lacks_thread(form) {
+            Some(ScriptFault::NoThread)
+        } else if self.is_too_many(form) {
+            Some(ScriptFault::TooMany)
+        } else {
+            None
+        }
+    }
+
+    /// The fault of a blank line; only the last one has any.
+    pub fn blank_fault(&self, last: bool) -> Option<ScriptFault>
+        ensures { result ≡ reading.blank_fault (seen_reader self.now) last }
+    {
+        if last && !is_closed(&self.blocks) {
+            Some(ScriptFault::NoEnd)
+        } else if last && !self.has_thread() {
+            Some(ScriptFault::NoThread)
+        } else {
+            None
+        }
+    }
+
+    /// Takes a line that has no fault.
+    pub fn take(
+        mut self,
+        alloc: Global,
+        ahead: &Ahead<'_>,
+        line: u32,
+        form: Form<'_>,
+    ) -> Result<Reader, NoMemory>
+        requires lawful { names_lawful (seen_form form) ≡ true }
+        requires fresh { reading.declares_again (seen_reader self) (seen_form form) ≡ false }
+        requires room { reading.is_too_many (seen_reader self) (seen_form form) ≡ false }
+        ensures { IfOk result (λ r. seen_reader r ≡ reading.taken (seen_reader self) (place_ahead ahead.now) line (seen_form form.entry)) }
+    {
+        match form {
+            Form::Plain { kind, name } => self.with_name(alloc, kind, name),
+            Form::Valued {
+                kind,
+                name,
+                minus,
+                digits,
+            } => {
+                let value = value_in(minus, digits).unwrap_or(0);
+                self.with_name(alloc, kind, name)?.with_value(kind, value)
+            }
+            Form::Thread { name } => self
+                .with_name(alloc, NameKind::Thread, name)?
+                .opened(alloc, Opening::Thread { line }),
+            Form::If { test } => self.opened(alloc, Opening::If { line, test }),
+            Form::While { test } => self.opened(alloc, Opening::While { line, test }),
+            Form::End => self.ended(line),
+            Form::Else => self.turned(alloc, line),
+            form => match statement_on(&self.names, ahead, line, form) {
+                None => Ok(self),
+                Some(stmt) => {
+                    push_statement(&mut self.blocks, stmt)?;
+                    Ok(self)
+                }
+            },
+        }
+    }
+
+    fn with_name(mut self, alloc: Global, kind: NameKind, name: &[u8]) -> Result<Reader, NoMemory>
+        requires lawful { is_name 1 name.now ≡ true }
+        requires fresh { is_among name.now (all_names self.names) ≡ false }
+        requires room { length (list_of kind self.names) < 64 }
+        ensures { IfOk result (λ r. seen_reader r ≡ reading.named (seen_reader self) kind name.now) }
+    {
+        self.names.add(alloc, kind, name)?;
+        Ok(self)
+    }
+
+    fn with_value(mut self, kind: NameKind, value: i64) -> Result<Reader, NoMemory>
+        ensures { IfOk result (λ r. seen_reader r ≡ reading.with_value kind value (seen_reader self)) }
+    {
+        match kind {
+            NameKind::Var => self.vars.try_push(value)?,
+            NameKind::Sem => self.sems.try_push(value)?,
+            NameKind::Barrier => self.barriers.try_push(value)?,
+            _ => {}
+        }
+        Ok(self)
+    }
+
+    fn opened(mut self, alloc: Global, opening: Opening) -> Result<Reader, NoMemory>
+        ensures { IfOk result (λ r. seen_reader r ≡ reading.opened (seen_reader self) (seen_opening opening)) }
+    {
+        open_block(alloc, &mut self.blocks, opening)?;
+        Ok(self)
+    }
+
+    /// Closes the innermost block.
+    #[tactic(auto, using(script_tree::proofs::SeenLemmas::seen_laws))]
+    fn ended(mut self, line: u32) -> Result<Reader, NoMemory>
+        ensures { IfOk result (λ r. seen_reader r ≡ reading.ended (seen_reader self) (seen_reader self).open_blocks line) }
+    {
+        let Some(block) = self.blocks.pop() else {
+            return Ok(self);
+        };
+        let OpenBlock { opening, stmts } = block;
+        self.ended_by(
+            opening,
+            Block {
+                stmts,
+                end_line: line,
+            },
+        )
+    }
+
+    #[tactic(auto, using(script_tree::proofs::SeenLemmas::seen_laws))]
+    fn ended_by(mut self, opening: Opening, block: Block) -> Result<Reader, NoMemory>
+        ensures { IfOk result (λ r. seen_reader r ≡ reading.closed_by (seen_reader self) (seen_opening opening) (tree_of_block block)) }
+    {
+        match opening {
+            Opening::Thread { line } => {
+                self.threads.push(ThreadText { line, body: block })?;
+                Ok(self)
+            }
+            Opening::If { line, test } => self.said(Stmt::If {
+                line,
+                test,
+                then: block,
+                otherwise: None,
+            }),
+            Opening::Else { line, test, first } => self.said(Stmt::If {
+                line,
+                test,
+                then: first,
+                otherwise: Some(block),
+            }),
+            Opening::While { line, test } => self.said(Stmt::While {
+                line,
+                test,
+                body: block,
+            }),
+        }
+    }
+
+    fn said(mut self, stmt: Stmt) -> Result<Reader, NoMemory>
+        ensures { IfOk result (λ r. seen_reader r ≡ reading.said (seen_reader self) (Some (statement stmt))) }
+    {
+        push_statement(&mut self.blocks, stmt)?;
+        Ok(self)
+    }
+
+    /// Closes the first block of an `if`, and begins its `else`.
+    #[tactic(auto, using(script_tree::proofs::SeenLemmas::seen_laws))]
+    fn turned(mut self, alloc: Global, line: u32) -> Result<Reader, NoMemory>
+        ensures { IfOk result (λ r. seen_reader r ≡ reading.turned (seen_reader self) (seen_reader self).open_blocks line) }
+    {
+        let Some(block) = self.blocks.pop() else {
+            return Ok(self);
+        };
+        let OpenBlock { opening, stmts } = block;
+        match opening {
+            Opening::If {
+                line: first_line,
+                test,
+            } => {
+                let first = Block {
+                    stmts,
+                    end_line: line,
+                };
+                self.opened(
+                    alloc,
+                    Opening::Else {
+                        line: first_line,
+                        test,
+                        first,
+                    },
+                )
+            }
+            opening => {
+                self.blocks.push(OpenBlock { opening, stmts })?;
+                Ok(self)
+            }
+        }
+    }
+
+    /// The script, where the last line was read.
+    pub fn finish(self) -> Script
+        requires { IsScript (reading.script_of (seen_reader self)) }
+        ensures { text result ≡ reading.script_of (seen_reader self) }
+    {
+        let Reader {
+            version,
+            names,
+            vars,
+            sems,
+            barriers,
+            threads,
+            ..
+        } = self;
+        Script {
+            version,
+            names,
+            vars,
+            sems,
+            barriers,
+            threads,
+        }
+    }
+}

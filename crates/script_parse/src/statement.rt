@@ -1,0 +1,171 @@
+//! The statements that open and close no block.
+
+ghost use Rattle.std.specs.Prelude.{◌≡◌};
+ghost use Rattle.std.specs.Option.{option_map};
+ghost use Rattle.script_tree.specs.Forms as language;
+ghost use Rattle.script_tree.specs.Seen.{statement};
+ghost use Rattle.script_parse.specs.SeenForms.{seen_on, seen_into, seen_form};
+ghost use Rattle.script_parse.specs.Ahead.{place_ahead};
+ghost use Rattle.script_parse.specs.Reading as reading;
+
+use crate::ahead::Ahead;
+use crate::form::{Form, IntoVerb, OnVerb};
+use pct_ask::{NameKind, Names};
+use script_tree::Stmt;
+
+/// The kind of the object that a statement is on.
+pub fn on_kind(verb: OnVerb) -> NameKind
+    ensures { result ≡ language.on_kind (seen_on verb) }
+{
+    match verb {
+        OnVerb::Lock | OnVerb::Unlock => NameKind::Mutex,
+        OnVerb::Signal | OnVerb::Broadcast => NameKind::Cond,
+        OnVerb::Down | OnVerb::Up => NameKind::Sem,
+        OnVerb::Join | OnVerb::Start => NameKind::Thread,
+        OnVerb::RdLock | OnVerb::WrLock | OnVerb::RwUnlock => NameKind::RwLock,
+    }
+}
+
+/// The kind of the object that a statement asks.
+pub fn into_kind(verb: IntoVerb) -> NameKind
+    ensures { result ≡ language.into_kind (seen_into verb) }
+{
+    match verb {
+        IntoVerb::Read => NameKind::Var,
+        IntoVerb::TryLock => NameKind::Mutex,
+        IntoVerb::TryDown => NameKind::Sem,
+        IntoVerb::Arrive => NameKind::Barrier,
+        IntoVerb::TryRdLock | IntoVerb::TryWrLock => NameKind::RwLock,
+    }
+}
+
+/// Where a name of a kind stands among those of its kind: a thread's among those of the whole text.
+pub fn place_in(names: &Names, ahead: &Ahead<'_>, kind: NameKind, name: &[u8]) -> Option<u32>
+    ensures { result ≡ reading.place_in names.now (place_ahead ahead.now) kind name.now }
+{
+    match kind {
+        NameKind::Thread => ahead.place(name),
+        _ => names.find(kind, name),
+    }
+}
+
+#[tactic(auto, using(script_tree::proofs::SeenLemmas::seen_laws))]
+fn on_statement(verb: OnVerb, line: u32, place: u32) -> Stmt
+    ensures { statement result ≡ reading.on_statement (seen_on verb) line place }
+{
+    match verb {
+        OnVerb::Lock => Stmt::Lock { line, mutex: place },
+        OnVerb::Unlock => Stmt::Unlock { line, mutex: place },
+        OnVerb::Signal => Stmt::Signal { line, cond: place },
+        OnVerb::Broadcast => Stmt::Broadcast { line, cond: place },
+        OnVerb::Down => Stmt::Down { line, sem: place },
+        OnVerb::Up => Stmt::Up { line, sem: place },
+        OnVerb::Join => Stmt::Join {
+            line,
+            thread: place,
+        },
+        OnVerb::Start => Stmt::Start {
+            line,
+            thread: place,
+        },
+        OnVerb::RdLock => Stmt::RdLock {
+            line,
+            rwlock: place,
+        },
+        OnVerb::WrLock => Stmt::WrLock {
+            line,
+            rwlock: place,
+        },
+        OnVerb::RwUnlock => Stmt::RwUnlock {
+            line,
+            rwlock: place,
+        },
+    }
+}
+
+#[tactic(auto, using(script_tree::proofs::SeenLemmas::seen_laws))]
+fn into_statement(verb: IntoVerb, line: u32, reg: u32, place: u32) -> Stmt
+    ensures { statement result ≡ reading.into_statement (seen_into verb) line reg place }
+{
+    match verb {
+        IntoVerb::Read => Stmt::Read {
+            line,
+            reg,
+            var: place,
+        },
+        IntoVerb::TryLock => Stmt::TryLock {
+            line,
+            reg,
+            mutex: place,
+        },
+        IntoVerb::TryDown => Stmt::TryDown {
+            line,
+            reg,
+            sem: place,
+        },
+        IntoVerb::Arrive => Stmt::Arrive {
+            line,
+            reg,
+            barrier: place,
+        },
+        IntoVerb::TryRdLock => Stmt::TryRdLock {
+            line,
+            reg,
+            rwlock: place,
+        },
+        IntoVerb::TryWrLock => Stmt::TryWrLock {
+            line,
+            reg,
+            rwlock: place,
+        },
+    }
+}
+
+/// The statement on a line, where the names that it uses are known and it opens and closes no block.
+#[tactic(auto, using(script_tree::proofs::SeenLemmas::seen_laws))]
+pub fn statement_on(names: &Names, ahead: &Ahead<'_>, line: u32, form: Form<'_>) -> Option<Stmt>
+    ensures { option_map statement result ≡ reading.statement_on names.now (place_ahead ahead.now) line (seen_form form.entry) }
+{
+    match form {
+        Form::On { verb, object } => {
+            let place = place_in(names, ahead, on_kind(verb), object)?;
+            Some(on_statement(verb, line, place))
+        }
+        Form::Into { verb, reg, object } => {
+            let place = place_in(names, ahead, into_kind(verb), object)?;
+            Some(into_statement(verb, line, reg, place))
+        }
+        Form::Write { var, value } => {
+            let var = place_in(names, ahead, NameKind::Var, var)?;
+            Some(Stmt::Write { line, var, value })
+        }
+        Form::Add { reg, var, value } => {
+            let var = place_in(names, ahead, NameKind::Var, var)?;
+            Some(Stmt::Add {
+                line,
+                reg,
+                var,
+                value,
+            })
+        }
+        Form::Cas { reg, var, old, new } => {
+            let var = place_in(names, ahead, NameKind::Var, var)?;
+            Some(Stmt::Cas {
+                line,
+                reg,
+                var,
+                old,
+                new,
+            })
+        }
+        Form::Wait { cond, mutex } => {
+            let cond = place_in(names, ahead, NameKind::Cond, cond)?;
+            let mutex = place_in(names, ahead, NameKind::Mutex, mutex)?;
+            Some(Stmt::Wait { line, cond, mutex })
+        }
+        Form::Yield => Some(Stmt::Yield { line }),
+        Form::Assert { test } => Some(Stmt::Assert { line, test }),
+        Form::Set { reg, value } => Some(Stmt::Set { line, reg, value }),
+        _ => None,
+    }
+}
