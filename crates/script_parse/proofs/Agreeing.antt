@@ -1,22 +1,19 @@
 -- What a form asks of the lines before it is what it asks of what was read of them.
-use Rattle.std.proofs.Common.{◌≡◌, ℕ, zero, suc, ◌+◌, ◌-◌, ◌<◌, ◌≤◌, Bool, true, false, cond, length, List, [], ◌∷◌, ◌++◌, map, reverse, Option, Some, None, refl, sym, ap, ◌∙◌, append_assoc, arith, rules, subst}
-use Rattle.std.specs.Prelude.{ℤ, nat_le, nat_lt, not, ◌&&◌, ◌||◌, ◌==◌, codes, is_some, count_by, unwrap_or, pos}
-use Rattle.std.specs.List.{list_any, position, prefix_len}
+use Rattle.std.proofs.Common.{◌≡◌, ℕ, suc, ◌+◌, ◌-◌, ◌<◌, Bool, true, false, cond, length, List, [], ◌∷◌, ◌++◌, reverse, Some, None, refl, sym, ap, ◌∙◌, arith}
+use Rattle.std.specs.Prelude.{nat_le, nat_lt, not, ◌||◌, ◌==◌, codes, is_some, count_by, unwrap_or, pos}
+use Rattle.std.specs.List.{prefix_len}
 use Rattle.std.specs.Str.{bytes_eq}
 use Rattle.std.proofs.lemmas.List.{append-nil, length_push}
-use Rattle.std.proofs.lemmas.List.Folds.{list_any-append}
 use Rattle.std.proofs.lemmas.Bool.Decides.{nat_tests}
-use Rattle.pct_ask.specs.Tokens.{Token, Word, Number, Symbol, tokens_of}
+use Rattle.pct_ask.specs.Tokens.{Token, Word, Symbol}
 use Rattle.pct_ask.specs.Words.{is_among}
-use Rattle.pct_ask.specs.NameLists.{NameLists, list_of, with_name, all_names, place_of}
+use Rattle.pct_ask.specs.NameLists.{all_names, place_of}
 use Rattle.pct_ask.specs.declared.names.NameKind.{NameKind}
 use Rattle.pct_ask.specs.declared.names.NameKind.TheVariants as kinds
-use Rattle.script_tree.specs.Trees.{Expression}
-use Rattle.script_tree.specs.Fitting.{most_threads}
 use Rattle.script_tree.specs.Expressions.{register_word}
 use Rattle.std.proofs.lemmas.Bool.{le-leb, lt-ltb}
-use Rattle.script_tree.specs.Forms.{OnVerb, IntoVerb, Cut, Meant, Plain, Valued, Thread, On, Into, Write, Add, Cas, Wait, Yield, Assert, Set, If, While, End, Else, on_word, into_word, kind_word, on_kind, into_kind, has_value, is_plain, tokens_of_form, IsForm, IsOf, Means}
-use Rattle.script_tree.specs.Lines.{tokens_in, version_of, begins, named, names_of, opens, depth, opener, threads_in}
+use Rattle.script_tree.specs.Forms.{Cut, Meant, Thread, Yield, Assert, Set, If, While, kind_word, on_kind, into_kind, has_value, is_plain, tokens_of_form, IsOf, Means}
+use Rattle.script_tree.specs.Lines.{version_of, begins, named, names_of, opens, depth, opener, threads_in}
 use Rattle.script_tree.specs.Faults as faults
 use Rattle.script_tree.specs.Faults.{Place, earlier, is_declared}
 use Rattle.script_parse.specs.Part.{Open, Part}
@@ -24,8 +21,8 @@ use Rattle.script_parse.specs.Part as parts
 use Rattle.script_parse.specs.Values.{first_of}
 use Rattle.script_parse.specs.Reading as reading
 use Rattle.script_parse.specs.Reading.{Finder, is_empty, is_if, is_in_if, taken}
-use Rattle.script_parse.proofs.Meanings.{ForEach, by_meaning}
-use Rattle.script_parse.proofs.Standing.{Lines, Stands, depth_is, is_if_at, IsQuiet, quiet_at, on_quiet, into_quiet, said_stands, plain_stands, valued_stands, opens_stands, quiet_names, declared_names, end_stands_at, else_stands_at, count_push, names_push, nameless_at, plain_opens_none, kind_ends_none}
+use Rattle.script_parse.proofs.Meanings.{by_meaning}
+use Rattle.script_parse.proofs.Standing.{Lines, Stands, depth_is, is_if_at, quiet_at, on_quiet, into_quiet, said_stands, plain_stands, valued_stands, opens_stands, quiet_names, declared_names, end_stands_at, else_stands_at, count_push, names_push, nameless_at, plain_opens_none, kind_ends_none}
 
 open_opening : parts.Opening → Open
 open_opening opening = record { opening = opening; done = [] }

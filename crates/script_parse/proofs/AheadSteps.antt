@@ -9,7 +9,7 @@ use Rattle.std.proofs.lemmas.List.Elements.{filter_map-append}
 use Rattle.std.proofs.lemmas.List.Folds.{list_all-append}
 use Rattle.pct_ask.specs.Lines.{lines_of, onto_first}
 use Rattle.pct_ask.specs.Tokens.{Token, tokens_of}
-use Rattle.script_tree.specs.Lines.{is_blank_line, is_nothing, just_thread, thread_in, threads_in}
+use Rattle.script_tree.specs.Lines.{is_blank_line, just_thread, thread_in, threads_in}
 use Rattle.script_tree.specs.Faults.{are_blank}
 use Rattle.script_parse.specs.declared.ahead.Ahead.{Ahead}
 use Rattle.script_parse.specs.Ahead.{HasPlaces, HasSeen}

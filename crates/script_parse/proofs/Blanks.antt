@@ -1,11 +1,9 @@
 -- The shape of what is read doesn't depend on its numbers.
-use Rattle.std.proofs.Common.{◌≡◌, ℕ, zero, suc, ◌+◌, ◌-◌, ◌^◌, Bool, true, false, cond, length, List, [], ◌∷◌, ◌++◌, map, take, drop, Option, Some, None, refl, sym, ap, ◌∙◌, subst}
-use Rattle.std.specs.Prelude.{ℤ, pos, nat_le, nat_lt, not, ◌&&◌, ◌||◌, ◌==◌, codes, is_none, unwrap_or}
-use Rattle.std.specs.List.{position, list_any}
+use Rattle.std.proofs.Common.{◌≡◌, ℕ, Bool, true, false, cond, List, [], ◌∷◌, Option, Some, None, refl, ap}
+use Rattle.std.specs.Prelude.{ℤ, pos, nat_le, codes, is_none, unwrap_or}
 use Rattle.std.specs.Option.{option_map, option_and_then}
 use Rattle.std.specs.Str.{bytes_eq}
 use Rattle.std.specs.Str.Parse.{digits_value}
-use Rattle.pct_ask.specs.Words.{is_name}
 use Rattle.pct_ask.specs.Tokens.{Token, Word, Number, Symbol}
 use Rattle.script_tree.specs.declared.expr.Op.{Op}
 use Rattle.script_tree.specs.Trees.{Expression}
@@ -14,7 +12,7 @@ use Rattle.script_tree.specs.Expressions.{strength, left_level}
 use Rattle.script_parse.specs.Numbers.{number_in, saturated}
 use Rattle.script_parse.specs.Values.{is_great, has_great}
 use Rattle.script_parse.specs.Registers.{register_in}
-use Rattle.script_parse.specs.Machine.{Frame, Paren, Not, Minus, Two, Pending, pending, operator_in, reduced, chains, joined, closed, closed_by, begun, joined_by, behind, step, step_at, whole, finished, finished_at, read_from, expression_in}
+use Rattle.script_parse.specs.Machine.{Frame, Paren, Not, Minus, Two, Pending, pending, operator_in, reduced, chains, joined, closed, closed_by, begun, joined_by, behind, step, step_at, whole, finished_at, read_from, expression_in}
 use Rattle.script_parse.proofs.Choices.{or_parts}
 use Rattle.script_parse.proofs.ExpressionWhole.{exact}
 

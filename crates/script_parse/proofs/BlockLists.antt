@@ -1,5 +1,5 @@
 -- The innermost block is the last.
-use Rattle.std.proofs.Common.{◌≡◌, List, [], ◌∷◌, ◌++◌, map, reverse, refl, sym, ap, ◌∙◌}
+use Rattle.std.proofs.Common.{◌≡◌, List, [], ◌∷◌, ◌++◌, map, reverse, ap, ◌∙◌}
 use Rattle.std.proofs.lemmas.List.{map_push, reverse-append}
 use Rattle.script_parse.specs.declared.blocks.OpenBlock.{OpenBlock}
 use Rattle.script_parse.specs.Part.{Open}

@@ -1,5 +1,5 @@
 -- The first comma of the code's tokens is that of the language's.
-use Rattle.std.proofs.Common.{◌≡◌, ℕ, zero, suc, ◌+◌, Bool, true, false, cond, not, List, [], ◌∷◌, length, map, take, drop, Option, Some, None, refl, sym, ap, ◌∙◌, add-one, arith}
+use Rattle.std.proofs.Common.{◌≡◌, ℕ, zero, suc, ◌+◌, cond, not, List, [], ◌∷◌, take, drop, Some, refl, sym, ap, ◌∙◌, add-one}
 use Rattle.std.specs.List.{position, prefix_len}
 use Rattle.std.proofs.Math.Seq.{drop-nil}
 use Rattle.std.proofs.lemmas.List.{take-map, drop-map, length-map}

@@ -1,26 +1,24 @@
 -- What a line of any form adds to the first values and the threads.
-use Rattle.std.proofs.Common.{◌≡◌, ℕ, zero, suc, ◌+◌, Bool, true, false, cond, length, List, [], ◌∷◌, ◌++◌, map, Option, Some, None, refl, sym, ap, ◌∙◌, append_assoc, subst}
+use Rattle.std.proofs.Common.{◌≡◌, ℕ, Bool, true, false, List, [], ◌∷◌, ◌++◌, Option, Some, None, refl, sym, ◌∙◌}
 use Rattle.std.specs.Prelude.{ℤ, pos, not, codes, unwrap_or, is_some}
 use Rattle.std.specs.List.{filter_map}
-use Rattle.std.specs.Str.{bytes_eq}
 use Rattle.std.proofs.lemmas.List.{append-nil}
-use Rattle.pct_ask.specs.Tokens.{Token, Word, Number, Symbol}
-use Rattle.pct_ask.specs.NameLists.{NameLists, with_name}
+use Rattle.pct_ask.specs.Tokens.{Token, Word, Symbol}
 use Rattle.pct_ask.specs.declared.names.NameKind.{NameKind}
 use Rattle.pct_ask.specs.declared.names.NameKind.TheVariants as kinds
 use Rattle.script_tree.specs.Trees.{Statement, Statements, closed_at}
 use Rattle.script_tree.specs.Forms as forms
 use Rattle.script_tree.specs.Expressions.{register_word}
 use Rattle.script_tree.specs.Forms.{OnVerb, IntoVerb, Cut, Meant, Plain, Valued, Thread, On, Into, Write, Add, Cas, Wait, Yield, Assert, Set, If, While, End, Else, on_word, into_word, kind_word, has_value, is_plain, value_in, tokens_of_form, IsOf, Means}
-use Rattle.script_tree.specs.Lines.{named, valued, values_of, just_thread}
+use Rattle.script_tree.specs.Lines.{valued, values_of, just_thread}
 use Rattle.script_parse.specs.Part.{Open, Part}
 use Rattle.script_parse.specs.Part as parts
 use Rattle.script_parse.specs.Values.{first_of, fits}
 use Rattle.script_parse.specs.Words.{kind_in}
 use Rattle.script_parse.specs.Reading as reading
 use Rattle.script_parse.specs.Reading.{Finder, taken}
-use Rattle.script_parse.proofs.Meanings.{ForEach, by_meaning}
-use Rattle.script_parse.proofs.Standing.{on_quiet, into_quiet, no_kind}
+use Rattle.script_parse.proofs.Meanings.{by_meaning}
+use Rattle.script_parse.proofs.Standing.{no_kind}
 use Rattle.script_parse.proofs.DeclaredValues.{AreValues, no_value_more, values_push, valueless_at, threadless_at, var_value, sem_value_is, barrier_value_is}
 
 -- what stays the same but for the blocks

@@ -1,8 +1,7 @@
 -- First values and threads that lines declare.
-use Rattle.std.proofs.Common.{◌≡◌, ℕ, zero, suc, ◌+◌, ◌-◌, ◌^◌, ◌<◌, ◌≤◌, ◌⊎◌, inl, inr, Bool, true, false, cond, length, List, [], ◌∷◌, ◌++◌, map, Option, Some, None, refl, sym, ap, ◌∙◌, append_assoc, arith, rules, subst}
-use Rattle.std.specs.Prelude.{ℤ, pos, negsuc, neg_ℤ, nat_le, nat_lt, not, ◌&&◌, ◌==◌, codes, unwrap_or, is_some}
-use Rattle.std.specs.List.{filter_map}
-use Rattle.std.specs.Str.{bytes_eq, is_utf8}
+use Rattle.std.proofs.Common.{◌≡◌, ℕ, ◌-◌, ◌^◌, Bool, true, false, cond, List, [], ◌∷◌, ◌++◌, Option, Some, None, refl, sym, ap, ◌∙◌, arith}
+use Rattle.std.specs.Prelude.{ℤ, pos, negsuc, neg_ℤ, ◌==◌, codes, unwrap_or, is_some}
+use Rattle.std.specs.Str.{bytes_eq}
 use Rattle.std.specs.Str.Parse.{digits_value}
 use Rattle.std.proofs.lemmas.List.{append-nil}
 use Rattle.std.proofs.lemmas.List.Elements.{filter_map-append}
@@ -10,17 +9,12 @@ use Rattle.std.proofs.lemmas.Bool.Decides.{nat_tests}
 use Rattle.pct_ask.specs.Tokens.{Token, Word, Number, Symbol}
 use Rattle.pct_ask.specs.declared.names.NameKind.{NameKind}
 use Rattle.pct_ask.specs.declared.names.NameKind.TheVariants as kinds
-use Rattle.script_tree.specs.Forms.{OnVerb, IntoVerb, Cut, Meant, Plain, Valued, Thread, On, Into, Write, Add, Cas, Wait, Yield, Assert, Set, If, While, End, Else, kind_word, has_value, is_plain, value_in, tokens_of_form, IsOf, Means}
-use Rattle.script_tree.specs.Lines.{named, valued, values_of, just_thread}
+use Rattle.script_tree.specs.Forms.{kind_word, value_in}
+use Rattle.script_tree.specs.Lines.{valued, values_of, just_thread}
 use Rattle.script_parse.specs.Part.{Part}
 use Rattle.script_parse.specs.Numbers.{number_in}
-use Rattle.script_parse.specs.Values.{first_of, fits, fits_at, first_value, negative, is_two_to_63, unsigned_in, is_least}
-use Rattle.script_parse.specs.Words.{kind_in}
-use Rattle.script_parse.specs.Reading as reading
-use Rattle.script_parse.specs.Reading.{Finder, taken}
-use Rattle.script_parse.proofs.Choices.{some, passed}
-use Rattle.script_parse.proofs.Meanings.{ForEach, by_meaning}
-use Rattle.script_parse.proofs.Standing.{on_quiet, into_quiet, no_kind, nameless_at}
+use Rattle.script_parse.specs.Values.{first_of, fits, fits_at, first_value, negative, is_two_to_63, is_least}
+use Rattle.script_parse.proofs.Choices.{some}
 
 -- ---- the value that is read is that of the tokens
 

@@ -1,5 +1,5 @@
 -- Expressions that only strength and grouping tell apart.
-use Rattle.std.proofs.Common.{◌≡◌, ℕ, List, [], ◌∷◌, Option, Some, None, refl, sym, ◌∙◌}
+use Rattle.std.proofs.Common.{◌≡◌, ℕ, List, [], ◌∷◌, Some, None, refl, sym, ◌∙◌}
 use Rattle.std.specs.Prelude.{codes}
 use Rattle.pct_ask.specs.Tokens.{Token, Word, Symbol}
 use Rattle.script_tree.specs.declared.expr.Op.TheVariants as ops

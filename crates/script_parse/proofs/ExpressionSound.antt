@@ -1,7 +1,6 @@
 -- What tokens are read as they spell.
-use Rattle.std.proofs.Common.{◌≡◌, ℕ, zero, suc, ◌+◌, ◌<◌, ◌≤◌, ◌⊎◌, inl, inr, Bool, true, false, cond, List, [], ◌∷◌, ◌++◌, Option, Some, None, refl, sym, ap, ◌∙◌, append_assoc, arith, rules, subst}
-use Rattle.std.specs.Prelude.{ℤ, pos, ◌-◌, ◌==◌, nat_le, codes, slice_index_or}
-use Rattle.std.specs.Option.{option_map, option_and_then}
+use Rattle.std.proofs.Common.{◌≡◌, ℕ, zero, suc, ◌+◌, ◌<◌, ◌≤◌, inl, inr, false, cond, List, [], ◌∷◌, ◌++◌, Option, Some, None, refl, sym, ap, ◌∙◌, append_assoc, arith, subst}
+use Rattle.std.specs.Prelude.{ℤ, ◌-◌, nat_le, codes, slice_index_or}
 use Rattle.std.specs.Str.{bytes_eq}
 use Rattle.std.proofs.lemmas.List.{append-nil}
 use Rattle.std.proofs.lemmas.List.Quantifiers.{position-Some}
@@ -16,9 +15,9 @@ use Rattle.script_tree.specs.Trees.{Expression}
 use Rattle.script_tree.specs.Trees as trees
 use Rattle.script_tree.specs.Expressions.{IsSpelled, number, register, enclosed, minus, not, two, stronger, signs_of, strength, left_level, register_word}
 use Rattle.script_parse.specs.Registers.{register_in}
-use Rattle.script_parse.specs.Machine.{Frame, Paren, Not, Minus, Two, Pending, pending, operator_in, reduced, chains, joined, closed, begun, joined_by, behind, step, step_at, whole, finished, finished_at, read_from, expression_in}
+use Rattle.script_parse.specs.Machine.{Frame, Paren, Not, Minus, Two, Pending, pending, operator_in, reduced, chains, joined, closed, begun, joined_by, behind, step, step_at, whole, finished_at, read_from, expression_in}
 use Rattle.script_parse.proofs.Choices.{some, some_is, chosen, passed, unfailed, mapped_some, bind_some, same_bytes}
-use Rattle.script_parse.proofs.Operators.{strength_few, left_above, left_few}
+use Rattle.script_parse.proofs.Operators.{strength_few, left_few}
 use Rattle.script_parse.proofs.ExpressionWhole.{exact, Accepts, accepts_more}
 
 down_by : (k low : ℕ) (tokens : List Token) (tree : Expression) → IsSpelled (low + k) tokens tree → IsSpelled low tokens tree

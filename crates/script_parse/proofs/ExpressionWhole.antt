@@ -1,7 +1,6 @@
 -- Tokens that spell an expression are read as it.
-use Rattle.std.proofs.Common.{◌≡◌, ℕ, ◌+◌, ◌<◌, ◌≤◌, ◌⊎◌, inl, inr, true, false, List, [], ◌∷◌, ◌++◌, Option, Some, None, refl, sym, ap, ◌∙◌, append_assoc, arith, rules, subst}
-use Rattle.std.specs.Prelude.{ℤ, pos, ◌==◌, nat_le, codes}
-use Rattle.std.specs.Str.{bytes_eq}
+use Rattle.std.proofs.Common.{◌≡◌, ℕ, ◌+◌, ◌<◌, ◌≤◌, ◌⊎◌, inl, inr, false, List, [], ◌∷◌, ◌++◌, Option, Some, None, refl, sym, ap, ◌∙◌, append_assoc, arith, rules}
+use Rattle.std.specs.Prelude.{ℤ, pos, codes}
 use Rattle.std.specs.Str.Parse.{digits_value}
 use Rattle.std.proofs.lemmas.List.{append-nil}
 use Rattle.std.proofs.lemmas.Bool.{le-leb, lt-leb}
@@ -12,7 +11,7 @@ use Rattle.script_tree.specs.declared.expr.Op.{Op}
 use Rattle.script_tree.specs.Trees.{Expression}
 use Rattle.script_tree.specs.Trees as trees
 use Rattle.script_tree.specs.Expressions.{IsSpelled, number, register, enclosed, minus, not, two, stronger, signs_of, strength, left_level, register_word}
-use Rattle.script_parse.specs.Machine.{Frame, Paren, Not, Minus, Two, Pending, pending, reduced, chains, step, finished, read_from, expression_in}
+use Rattle.script_parse.specs.Machine.{Frame, Paren, Not, Minus, Two, pending, reduced, chains, read_from, expression_in}
 use Rattle.pct_ask.specs.NameLists.{AreDistinct}
 use Rattle.script_parse.specs.Registers.{register_in}
 use Rattle.script_parse.proofs.Fresh.{place_at}

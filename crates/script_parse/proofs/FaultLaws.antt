@@ -1,26 +1,24 @@
 -- Reading finds the one first fault of a text.
-use Rattle.std.proofs.Common.{◌≡◌, ℕ, zero, suc, ◌+◌, ◌-◌, ◌<◌, ◌≤◌, ◌⊎◌, inl, inr, Bool, true, false, cond, length, List, [], ◌∷◌, ◌++◌, map, Option, Some, None, Result, Ok, Err, refl, sym, ap, ◌∙◌, append_assoc, arith, rules, subst}
-use Rattle.std.specs.Prelude.{ℤ, nat_le, nat_lt, not, ◌&&◌, ◌==◌, unwrap_or, is_some}
+use Rattle.std.proofs.Common.{◌≡◌, ℕ, ◌+◌, ◌≤◌, ◌⊎◌, inl, inr, Bool, true, false, cond, length, List, [], ◌∷◌, ◌++◌, Option, Some, None, Ok, Err, refl, sym, ap, ◌∙◌, arith, subst}
+use Rattle.std.specs.Prelude.{nat_le, nat_lt, not, ◌&&◌, ◌==◌, unwrap_or, is_some}
 use Rattle.std.specs.Str.{is_utf8, chars}
 use lib.Utf8.{encode}
-use Rattle.std.proofs.lemmas.Bool.{cases_Bool, cases_lt, ltb-true, ltb-false, lt-ltb, le-ltb}
+use Rattle.std.proofs.lemmas.Bool.{cases_lt, lt-ltb, le-ltb}
 use Rattle.pct_ask.specs.Lines.{lines_of, onto_first}
-use Rattle.pct_ask.specs.Tokens.{Token, tokens_of}
+use Rattle.pct_ask.specs.Tokens.{tokens_of}
 use Rattle.script_tree.specs.ScriptText.{ScriptText}
 use Rattle.script_tree.specs.declared.fault.ScriptFault.{ScriptFault}
 use Rattle.script_tree.specs.declared.fault.ScriptFault.TheVariants as fault
 use Rattle.script_tree.specs.Forms.{Cut, Meant}
 use Rattle.script_tree.specs.Lines.{tokens_in, names_of, depth}
 use Rattle.pct_ask.specs.declared.names.NameKind.TheVariants as kinds
-use Rattle.script_tree.specs.Faults as faults
 use Rattle.script_tree.specs.Faults.{Place, earlier, are_blank, IsFaulty, rank, IsFirstKind, IsFirstLine, HasForm, judged_lines, IsFirstFault, IsFault}
-use Rattle.script_parse.specs.Reading as reading
 use Rattle.script_parse.specs.Reading.{is_empty, bytes_fault, blank_text_fault, read, read_from}
 use Rattle.script_parse.proofs.ExpressionWhole.{exact}
-use Rattle.script_parse.proofs.FirstKinds.{IsFirst, first_in, in_order, same_rank_kind}
-use Rattle.script_parse.proofs.LineSteps.{tests, first_told, clash, some_none, always, never, never_formed, tells_utf, tells_long, tells_lines, tells_end_any, tells_thread_any}
-use Rattle.script_parse.proofs.Headers.{AreQuiet, quiet_none, tells_token}
-use Rattle.script_parse.proofs.TextFaults.{Found, TellsFault, at_place, finder_of, StandsBefore, all_tell, no_end, none_at_first}
+use Rattle.script_parse.proofs.FirstKinds.{first_in, in_order, same_rank_kind}
+use Rattle.script_parse.proofs.LineSteps.{tests, first_told, clash, always, never, never_formed, tells_utf, tells_long, tells_lines, tells_end_any, tells_thread_any}
+use Rattle.script_parse.proofs.Headers.{quiet_none, tells_token}
+use Rattle.script_parse.proofs.TextFaults.{Found, TellsFault, at_place, finder_of, all_tell, no_end, none_at_first}
 
 -- ---- a text of blank lines alone
 

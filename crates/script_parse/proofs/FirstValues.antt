@@ -1,9 +1,9 @@
 -- First values with a `-` before them.
-use Rattle.std.proofs.Common.{◌≡◌, ℕ, Bool, true, false, cond, List, [], ◌∷◌, Option, Some, None, refl, sym, ap, ◌∙◌}
+use Rattle.std.proofs.Common.{◌≡◌, ℕ, Bool, true, false, cond, List, [], ◌∷◌, Some, None, refl, sym, ap}
 use Rattle.std.specs.Prelude.{ℤ, pos, neg_ℤ, codes, is_some}
 use Rattle.std.specs.Str.Parse.{digits_value}
 use Rattle.std.specs.Str.{bytes_eq}
-use Rattle.pct_ask.specs.Tokens.{Token, Word, Number, Symbol}
+use Rattle.pct_ask.specs.Tokens.{Token, Number, Symbol}
 use Rattle.script_tree.specs.Forms.{value_in}
 use Rattle.pct_ask.specs.declared.names.NameKind.{NameKind}
 use Rattle.pct_ask.specs.declared.names.NameKind.TheVariants as kinds

@@ -1,6 +1,6 @@
 -- What tokens are read as is a form of theirs.
-use Rattle.std.proofs.Common.{◌≡◌, ℕ, zero, suc, ◌+◌, ◌<◌, ◌≤◌, ◌⊎◌, inl, inr, true, false, cond, get_or, length, List, [], ◌∷◌, ◌++◌, Option, Some, None, refl, sym, ap, ◌∙◌, append_assoc, arith, take, drop, drop-cons, add-one, subst}
-use Rattle.std.specs.Prelude.{nat_le, ◌&&◌, codes, is_some}
+use Rattle.std.proofs.Common.{◌≡◌, ℕ, suc, ◌+◌, inl, inr, true, cond, get_or, List, [], ◌∷◌, ◌++◌, Option, Some, None, refl, sym, ap, ◌∙◌, take, drop, drop-cons, add-one, subst}
+use Rattle.std.specs.Prelude.{nat_le, ◌&&◌, codes}
 use Rattle.std.specs.List.{position}
 use Rattle.std.specs.Option.{option_map, option_and_then}
 use Rattle.std.specs.Str.{bytes_eq}
@@ -12,12 +12,12 @@ use Rattle.pct_ask.specs.Tokens.{Token, Word, Number, Symbol}
 use Rattle.pct_ask.specs.declared.names.NameKind.{NameKind}
 use Rattle.pct_ask.specs.declared.names.NameKind.TheVariants as kinds
 use Rattle.script_tree.specs.Trees.{Expression}
-use Rattle.script_tree.specs.Expressions.{IsSpelled, register_word}
-use Rattle.script_tree.specs.Forms.{OnVerb, Lock, Unlock, Signal, Broadcast, Down, Up, Join, Start, RdLock, WrLock, RwUnlock, IntoVerb, Read, TryLock, TryDown, Arrive, TryRdLock, TryWrLock, Cut, Meant, Plain, Valued, Thread, On, Into, Write, Add, Cas, Wait, Yield, Assert, Set, If, While, End, Else, on_word, into_word, kind_word, on_since, into_since, is_plain, has_value, kind_since, value_in, tokens_of_form, IsForm, IsOf, Means}
+use Rattle.script_tree.specs.Expressions.{register_word}
+use Rattle.script_tree.specs.Forms.{OnVerb, Lock, Unlock, Signal, Broadcast, Down, Up, Join, Start, RdLock, WrLock, RwUnlock, IntoVerb, Read, TryLock, TryDown, Arrive, TryRdLock, TryWrLock, Cut, Meant, Plain, Valued, Thread, On, Into, Write, Add, Cas, Wait, Yield, Assert, Set, If, While, End, Else, on_word, into_word, kind_word, on_since, into_since, is_plain, has_value, kind_since, IsForm}
 use Rattle.script_parse.specs.Registers.{register_in}
 use Rattle.script_parse.specs.Words.{on_verb_in, into_verb_in, kind_in}
 use Rattle.script_parse.specs.Machine.{expression_in}
-use Rattle.script_parse.specs.Saying.{lone_word, is_comma, parts_at, is_minus, plain_form, lone_form, value_parts, minus_value, valued_form, declared_form, on_form, into_object, into_form, wait_mutex, wait_form, bare_form, quiet_form, write_form, add_form, cas_pair, cas_parts, cas_form, set_form, other_form, by_on, by_into, by_kind, form_at, form_in}
+use Rattle.script_parse.specs.Saying.{lone_word, is_comma, parts_at, plain_form, lone_form, value_parts, valued_form, declared_form, on_form, into_object, into_form, wait_mutex, wait_form, bare_form, quiet_form, write_form, add_form, cas_pair, cas_parts, cas_form, set_form, other_form, by_on, by_into, by_kind, form_in}
 use Rattle.script_parse.proofs.Choices.{some, some_is, chosen, passed, mapped_some, bind_some, same_bytes, one_choice}
 use Rattle.script_parse.proofs.FirstValues.{value_says}
 use Rattle.script_parse.proofs.ExpressionWhole.{exact}

@@ -1,23 +1,22 @@
 -- Tokens of a form are read as it.
-use Rattle.std.proofs.Common.{◌≡◌, ℕ, zero, suc, ◌+◌, ◌<◌, ◌≤◌, true, false, cond, length, List, [], ◌∷◌, ◌++◌, Option, Some, None, refl, sym, ap, ◌∙◌, append_assoc, arith, take, drop}
-use Rattle.std.specs.Prelude.{nat_le, not as flip, ◌&&◌, ◌||◌, codes, is_some}
+use Rattle.std.proofs.Common.{◌≡◌, ℕ, suc, ◌+◌, ◌<◌, ◌≤◌, true, false, length, List, [], ◌∷◌, ◌++◌, Some, None, refl, sym, ap, ◌∙◌, arith, drop}
+use Rattle.std.specs.Prelude.{not as flip, codes}
 use Rattle.std.specs.List.{position, list_any}
-use Rattle.std.specs.Option.{option_map, option_and_then}
+use Rattle.std.specs.Option.{option_map}
 use Rattle.std.specs.Str.{bytes_eq}
 use Rattle.std.proofs.lemmas.Bool.{le-leb, lt-ltb}
 use Rattle.std.proofs.lemmas.List.Folds.{list_any-append}
 use Rattle.std.proofs.Math.Numerals.{one-add}
 use Rattle.pct_ask.specs.Words.{is_name}
-use Rattle.pct_ask.specs.Tokens.{Token, Word, Number, Symbol}
+use Rattle.pct_ask.specs.Tokens.{Token, Symbol}
 use Rattle.pct_ask.specs.declared.names.NameKind.{NameKind}
 use Rattle.pct_ask.specs.declared.names.NameKind.TheVariants as kinds
 use Rattle.script_tree.specs.declared.expr.Op.{Op}
 use Rattle.script_tree.specs.declared.expr.Op.TheVariants as ops
 use Rattle.script_tree.specs.Trees.{Expression}
-use Rattle.script_tree.specs.Expressions.{IsSpelled, number, register, enclosed, minus, not, two, stronger, signs_of, register_word}
-use Rattle.script_tree.specs.Forms.{OnVerb, Lock, Unlock, Signal, Broadcast, Down, Up, Join, Start, RdLock, WrLock, RwUnlock, IntoVerb, Read, TryLock, TryDown, Arrive, TryRdLock, TryWrLock, Cut, Meant, Plain, Valued, Thread, On, Into, Write, Add, Cas, Wait, Yield, Assert, Set, If, While, End, Else, on_word, into_word, kind_word, on_since, into_since, is_plain, has_value, kind_since, value_in, tokens_of_form, IsForm, IsOf, Means}
+use Rattle.script_tree.specs.Expressions.{IsSpelled, number, register, enclosed, minus, not, two, stronger, signs_of}
+use Rattle.script_tree.specs.Forms.{OnVerb, Lock, Unlock, Signal, Broadcast, Down, Up, Join, Start, RdLock, WrLock, RwUnlock, IntoVerb, Read, TryLock, TryDown, Arrive, TryRdLock, TryWrLock, Cut, Meant, Plain, Valued, Thread, On, Into, Write, Add, Cas, Wait, Yield, Assert, Set, If, While, End, Else, on_word, into_word, kind_word, on_since, into_since, is_plain, kind_since, tokens_of_form, IsForm, IsOf, Means}
 use Rattle.script_parse.specs.Words.{on_verb_in, into_verb_in, kind_in}
-use Rattle.script_parse.specs.Machine.{expression_in}
 use Rattle.script_parse.specs.Saying.{is_comma, parts_at, lone_form, form_in}
 use Rattle.std.specs.List.{prefix_len}
 use Rattle.std.proofs.Math.Seq.{take-append_seam, drop-append-add}

@@ -1,14 +1,11 @@
 -- A line of a form without a fault is taken.
-use Rattle.std.proofs.Common.{◌≡◌, ℕ, ◌+◌, Bool, true, false, length, List, [], ◌∷◌, ◌++◌, Option, Some, None, Result, Ok, Err, refl, sym, ap, ◌∙◌, subst}
-use Rattle.std.specs.Prelude.{not, ◌&&◌, ◌==◌, nat_le}
-use Rattle.std.proofs.lemmas.Bool.{cases_Bool}
+use Rattle.std.proofs.Common.{◌≡◌, ℕ, Bool, true, false, length, List, [], ◌∷◌, ◌++◌, Option, Some, None, Ok, refl, sym, ap, ◌∙◌, subst}
+use Rattle.std.specs.Prelude.{◌&&◌, nat_le}
 use Rattle.std.specs.Prelude.{unwrap_or}
 use Rattle.pct_ask.specs.Tokens.{Token, tokens_of}
 use Rattle.pct_ask.specs.declared.names.NameKind.TheVariants as kinds
-use Rattle.script_tree.specs.declared.fault.ScriptFault.{ScriptFault}
 use Rattle.script_tree.specs.Forms.{Cut, Meant, tokens_of_form, IsOf, Means, IsForm}
-use Rattle.script_tree.specs.Ranges as ranges
-use Rattle.script_tree.specs.Lines.{depth, names_of, tokens_in}
+use Rattle.script_tree.specs.Lines.{tokens_in}
 use Rattle.script_tree.specs.Grammar.{Says}
 use Rattle.script_parse.specs.Part.{Part}
 use Rattle.script_parse.specs.Reading as reading

@@ -1,5 +1,5 @@
 -- Numbers out of range among the code's tokens.
-use Rattle.std.proofs.Common.{◌≡◌, ℕ, Bor, List, [], ◌∷◌, refl, sym, ap}
+use Rattle.std.proofs.Common.{◌≡◌, ℕ, Bor, List, [], ◌∷◌, refl, ap}
 use Rattle.std.specs.Prelude.{◌||◌, Bool}
 use Rattle.std.specs.List.{list_any}
 use Rattle.script_parse.specs.declared.token.Token.{Token}

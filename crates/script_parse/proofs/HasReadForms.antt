@@ -1,35 +1,30 @@
 -- A line of any form keeps what holds of what was read.
-use Rattle.std.proofs.Common.{◌≡◌, ℕ, zero, suc, ◌+◌, ◌-◌, ◌^◌, ◌<◌, ◌≤◌, ◌⊎◌, inl, inr, Bool, true, false, cond, length, List, [], ◌∷◌, ◌++◌, map, Option, Some, None, refl, sym, ap, ◌∙◌, append_assoc, arith, rules, subst}
-use Rattle.std.specs.Prelude.{ℤ, pos, ◌≤ℤ◌, nat_le, nat_lt, not, ◌&&◌, ◌||◌, ◌==◌, All, unwrap_or, int_le, is_some}
-use Rattle.std.specs.List.{list_all}
+use Rattle.std.proofs.Common.{◌≡◌, ℕ, ◌+◌, ◌-◌, ◌<◌, ◌≤◌, Bool, true, false, cond, length, List, [], ◌∷◌, ◌++◌, Option, Some, None, refl, sym, ap, ◌∙◌, arith, subst}
+use Rattle.std.specs.Prelude.{ℤ, pos, nat_le, not, ◌&&◌, unwrap_or, is_some}
 use Rattle.std.specs.Option.{option_map, option_and_then}
 use Rattle.std.specs.Str.Parse.{digits_value}
 use Rattle.std.proofs.lemmas.Int.{ints}
-use Rattle.std.proofs.lemmas.Bool.{le-leb, lt-ltb, and_parts, leb-false, leb-true}
-use Rattle.std.proofs.lemmas.Bool.Decides.{nat_tests}
+use Rattle.std.proofs.lemmas.Bool.{and_parts, leb-false, leb-true}
 use Rattle.pct_ask.specs.Ranges.{IsSemValue, IsBarrierCount}
-use Rattle.pct_ask.specs.Tokens.{Token, Word, Number, Symbol}
-use Rattle.pct_ask.specs.NameLists.{NameLists, list_of, with_name}
+use Rattle.pct_ask.specs.Tokens.{Token, Number, Symbol}
+use Rattle.pct_ask.specs.NameLists.{with_name}
 use Rattle.pct_ask.specs.declared.names.NameKind.{NameKind}
 use Rattle.pct_ask.specs.declared.names.NameKind.TheVariants as kinds
-use Rattle.script_tree.specs.declared.fault.ScriptFault.{ScriptFault}
 use Rattle.script_tree.specs.Trees.{Expression, Statement, closed_at}
 use Rattle.script_tree.specs.Trees as trees
 use Rattle.script_tree.specs.Forms.{Cut, Meant, Plain, Valued, Thread, On, Into, Write, Add, Cas, Wait, Yield, Assert, Set, If, While, End, Else, is_plain, has_value, kind_since, on_kind, into_kind, IsOf, Means}
-use Rattle.script_tree.specs.Fitting.{line_fits, most_threads, expression_fits}
-use Rattle.script_tree.specs.Grammar.{Line, declares}
+use Rattle.script_tree.specs.Fitting.{line_fits, most_threads}
+use Rattle.script_tree.specs.Grammar.{Line}
 use Rattle.script_parse.specs.Part.{Open, Part}
 use Rattle.script_parse.specs.Part as parts
-use Rattle.script_parse.specs.Numbers.{number_in}
 use Rattle.script_parse.specs.Values.{first_of, fits, fits_at, first_value}
 use Rattle.script_parse.specs.Reading as reading
 use Rattle.script_parse.specs.Reading.{Finder, is_empty, is_in_if, form_fault, taken, with_value, named, with_statement, place_in, on_statement, into_statement, statement_on}
-use Rattle.script_parse.proofs.Choices.{some, some_is}
 use Rattle.script_parse.proofs.Meanings.{ForEach, by_meaning}
 use Rattle.script_parse.proofs.LineFaults.{empty_is}
-use Rattle.script_parse.proofs.StatementFits.{with_threads, finder, meant_fits, means_fits, IsSaid, IsStatement, said_each}
+use Rattle.script_parse.proofs.StatementFits.{with_threads, finder, meant_fits, IsSaid, IsStatement, said_each}
 use Rattle.script_parse.proofs.OpenBlocks.{IsOpen, AreNested, say, open_more, close_if, close_while, close_else, turn}
-use Rattle.script_parse.proofs.HasRead.{HaveNames, HaveValues, HasRead, names_more, plain_values, thread_values, valued_values}
+use Rattle.script_parse.proofs.HasRead.{HaveNames, HasRead, names_more, plain_values, valued_values}
 use Rattle.script_parse.proofs.HasReadSteps.{declared_has, thread_has, inner_has, closed_has}
 
 -- a line of this form has no fault

@@ -1,33 +1,22 @@
 -- One line more keeps what holds of what was read.
-use Rattle.std.proofs.Common.{◌≡◌, ℕ, zero, suc, ◌+◌, ◌-◌, ◌<◌, ◌≤◌, ◌⊎◌, inl, inr, Bool, true, false, cond, length, List, [], ◌∷◌, ◌++◌, map, Option, Some, None, refl, sym, ap, ◌∙◌, append_assoc, arith, rules, subst}
-use Rattle.std.specs.Prelude.{ℤ, pos, ◌≤ℤ◌, nat_le, nat_lt, not, ◌&&◌, ◌||◌, ◌==◌, All, unwrap_or, int_le}
-use Rattle.std.specs.List.{list_all}
+use Rattle.std.proofs.Common.{◌≡◌, ℕ, ◌+◌, ◌≤◌, true, length, List, [], ◌∷◌, ◌++◌, refl, sym, ap, ◌∙◌, append_assoc, arith, subst}
 use Rattle.std.proofs.lemmas.List.{append-nil, length_push}
-use Rattle.std.proofs.lemmas.List.Elements.{All-nil, All-push}
+use Rattle.std.proofs.lemmas.List.Elements.{All-push}
 use Rattle.std.proofs.lemmas.List.Folds.{list_all-append}
-use Rattle.std.proofs.lemmas.Bool.{le-leb, lt-ltb, and_parts, leb-false, leb-true}
-use Rattle.std.proofs.lemmas.Bool.Decides.{nat_tests}
-use Rattle.pct_ask.specs.Ranges.{IsSemValue, IsBarrierCount}
-use Rattle.pct_ask.specs.Tokens.{Token}
-use Rattle.pct_ask.specs.Words.{is_name, is_among}
-use Rattle.pct_ask.specs.NameLists.{NameLists, AreNames, list_of, with_name, all_names}
-use Rattle.pct_ask.specs.declared.names.NameKind.{NameKind}
+use Rattle.pct_ask.specs.NameLists.{NameLists}
 use Rattle.pct_ask.specs.declared.names.NameKind.TheVariants as kinds
-use Rattle.script_tree.specs.Trees.{Expression, Statement, Statements, closed_at}
-use Rattle.script_tree.specs.Trees as trees
+use Rattle.script_tree.specs.Trees.{Statement, closed_at}
 use Rattle.script_tree.specs.ScriptText.{Thread as ThreadTree}
-use Rattle.script_tree.specs.Forms.{Cut, Meant, Plain, Valued, Thread, On, Into, Write, Add, Cas, Wait, Yield, Assert, Set, If, While, End, Else, is_plain, has_value, kind_since, IsOf, Means}
-use Rattle.script_tree.specs.Fitting.{line_fits, most_threads, rwlocks_fit, thread_fits, expression_fits}
+use Rattle.script_tree.specs.Forms.{Thread, End}
+use Rattle.script_tree.specs.Fitting.{line_fits, thread_fits}
 use Rattle.script_tree.specs.Grammar.{Line, declares, thread_lines, all_thread_lines}
 use Rattle.script_parse.specs.Part.{Open, Part}
 use Rattle.script_parse.specs.Part as parts
-use Rattle.script_parse.specs.Values.{first_of, fits}
 use Rattle.script_parse.specs.Reading as reading
 use Rattle.script_parse.specs.Reading.{Finder, is_empty, form_fault, taken, with_value, named, with_statement}
-use Rattle.script_parse.proofs.LineFaults.{empty_is}
-use Rattle.script_parse.proofs.StatementFits.{with_threads, finder, meant_fits, IsSaid}
-use Rattle.script_parse.proofs.OpenBlocks.{IsOpen, AreNested, open_lines, open_weight, say, open_more, close_if, close_while, close_else, turn, close_thread, is_thread}
-use Rattle.script_parse.proofs.HasRead.{open_names, HaveNames, HaveValues, HasRead, names_more, plain_values, thread_values, valued_values}
+use Rattle.script_parse.proofs.StatementFits.{with_threads}
+use Rattle.script_parse.proofs.OpenBlocks.{IsOpen, open_lines, open_more, close_thread}
+use Rattle.script_parse.proofs.HasRead.{open_names, HaveNames, HaveValues, HasRead, thread_values}
 
 nothing_open : (closed : List (List ℕ)) (blocks : List Open) (current : List ℕ) → [] ≡ closed ++ open_names blocks current → (closed ≡ []) × (blocks ≡ [])
 nothing_open [] [] current e = (refl, refl)

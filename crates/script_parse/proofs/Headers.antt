@@ -1,31 +1,26 @@
 -- The lines down to the header.
-use Rattle.std.proofs.Common.{◌≡◌, ℕ, zero, suc, ◌+◌, ◌-◌, ◌<◌, ◌≤◌, ◌⊎◌, inl, inr, Bool, true, false, cond, length, List, [], ◌∷◌, ◌++◌, map, reverse, Option, Some, None, Result, Ok, Err, refl, sym, ap, ◌∙◌, append_assoc, arith, rules, subst}
-use Rattle.std.specs.Prelude.{ℤ, nat_le, nat_lt, not, ◌&&◌, ◌||◌, ◌==◌, codes, count_by, is_some}
-use Rattle.std.specs.List.{list_all, list_any, filter_map}
-use Rattle.std.specs.Str.{is_utf8, bytes_eq}
-use Rattle.std.proofs.lemmas.List.{append-nil, map_push}
+use Rattle.std.proofs.Common.{◌≡◌, ℕ, ◌+◌, ◌-◌, inl, inr, Bool, true, false, cond, length, List, [], ◌∷◌, ◌++◌, reverse, Option, Some, None, Ok, Err, refl, sym, ap, ◌∙◌, append_assoc, arith, subst}
+use Rattle.std.specs.Prelude.{nat_le, not, ◌&&◌, codes, count_by, is_some}
+use Rattle.std.specs.Str.{bytes_eq}
+use Rattle.std.proofs.lemmas.List.{append-nil}
 use Rattle.std.proofs.lemmas.List.Folds.{list_all-append}
-use Rattle.std.proofs.lemmas.Bool.Decides.{nat_tests}
-use Rattle.std.proofs.lemmas.Bool.{and_parts, le-leb}
-use Rattle.pct_ask.specs.Tokens.{Token, Word, Number, Symbol, tokens_of}
+use Rattle.std.proofs.lemmas.Bool.{and_parts}
+use Rattle.pct_ask.specs.Tokens.{Token, Word, Number, tokens_of}
 use Rattle.pct_ask.specs.NameLists.{list_of, no_names}
 use Rattle.pct_ask.specs.declared.names.NameKind.{NameKind}
 use Rattle.pct_ask.specs.declared.names.NameKind.TheVariants as kinds
-use Rattle.script_tree.specs.declared.fault.ScriptFault.{ScriptFault}
 use Rattle.script_tree.specs.declared.fault.ScriptFault.TheVariants as fault
 use Rattle.script_tree.specs.Forms.{Cut, Meant}
-use Rattle.script_tree.specs.Lines.{tokens_in, is_blank_line, is_nothing, version_in, version_of, begins, named, names_of, opens, depth, opener}
+use Rattle.script_tree.specs.Lines.{tokens_in, is_blank_line, version_in, version_of, begins, names_of, opens, depth, opener}
 use Rattle.script_tree.specs.Faults as faults
 use Rattle.script_tree.specs.Faults.{Place, earlier, are_blank, IsBelow, HasForm, HasFormWith, IsFaulty}
-use Rattle.script_parse.specs.Part.{Open, Part}
-use Rattle.script_parse.specs.Reading as reading
-use Rattle.script_parse.specs.Reading.{Finder, is_empty, bytes_fault, unless, header_taken, begun, start, line_taken, wrapped}
-use Rattle.script_parse.proofs.Choices.{some, some_is, passed, same_bytes}
+use Rattle.script_parse.specs.Part.{Part}
+use Rattle.script_parse.specs.Reading.{Finder, is_empty, unless, header_taken, start, line_taken, wrapped}
+use Rattle.script_parse.proofs.Choices.{some, passed, same_bytes}
 use Rattle.script_parse.proofs.ExpressionWhole.{exact}
 use Rattle.script_parse.proofs.FirstKinds.{Tells, first_in, in_order, IsFirst}
-use Rattle.script_parse.proofs.Standing.{Lines, Stands, depth_is, is_if_at, count_push, names_push, reverse_push}
-use Rattle.script_parse.proofs.LineFaults.{empty_is}
-use Rattle.script_parse.proofs.LineSteps.{Step, fault_of, tests, AllTell, first_told, clash, never, always, tells_utf, tells_long, tells_lines, bytes_at, bad_chain, tells_end_any, tells_thread_any, never_formed, some_none, cut_tokens, says_something}
+use Rattle.script_parse.proofs.Standing.{Lines, Stands, depth_is, count_push, names_push, reverse_push}
+use Rattle.script_parse.proofs.LineSteps.{Step, fault_of, tests, first_told, clash, never, always, tells_utf, tells_long, tells_lines, bytes_at, bad_chain, tells_end_any, tells_thread_any, never_formed, some_none, cut_tokens, says_something}
 
 -- lines that say nothing
 pub record AreQuiet (lines : Lines) : Type 0 where

@@ -1,33 +1,25 @@
 -- A line's own fault is what is found as it is read.
-use Rattle.std.proofs.Common.{◌≡◌, ℕ, zero, suc, ◌+◌, ◌-◌, ◌<◌, ◌≤◌, ◌⊎◌, inl, inr, Bool, true, false, cond, length, List, [], ◌∷◌, ◌++◌, map, reverse, Option, Some, None, Result, Ok, Err, refl, sym, ap, ◌∙◌, append_assoc, arith, rules, subst}
-use Rattle.std.specs.Prelude.{ℤ, nat_le, nat_lt, not, ◌&&◌, ◌||◌, ◌==◌, codes, is_some}
-use Rattle.std.specs.List.{list_all, list_any}
-use Rattle.std.specs.Str.{is_utf8}
+use Rattle.std.proofs.Common.{◌≡◌, ℕ, suc, Bool, true, false, length, List, [], ◌∷◌, ◌++◌, refl, sym, ap, ◌∙◌, arith, subst}
+use Rattle.std.specs.Prelude.{nat_le, not, ◌&&◌, ◌==◌}
 use Rattle.std.proofs.lemmas.List.{append-nil}
 use Rattle.std.proofs.lemmas.Bool.Decides.{nat_tests}
-use Rattle.std.proofs.lemmas.Bool.{and_parts, leb-true, leb-false, le-leb, ltb-true, ltb-false, lt-ltb}
-use Rattle.pct_ask.specs.Tokens.{Token, Word, Number, Symbol, tokens_of}
-use Rattle.pct_ask.specs.NameLists.{place_of}
+use Rattle.std.proofs.lemmas.Bool.{and_parts, leb-true, le-leb}
+use Rattle.pct_ask.specs.Tokens.{Token}
 use Rattle.pct_ask.specs.declared.names.NameKind.TheVariants as kinds
-use Rattle.script_tree.specs.declared.fault.ScriptFault.{ScriptFault}
-use Rattle.script_tree.specs.declared.fault.ScriptFault.TheVariants as kind
 use Rattle.script_tree.specs.Forms.{Cut, Meant, tokens_of_form, IsForm, IsOf, Means}
 use Rattle.script_tree.specs.Ranges as ranges
-use Rattle.script_tree.specs.Lines.{tokens_in, is_blank_line, version_in, version_of, names_of, depth, threads_in}
+use Rattle.script_tree.specs.Lines.{tokens_in, version_of, names_of, depth}
 use Rattle.script_tree.specs.Faults as faults
 use Rattle.script_tree.specs.Faults.{Place, earlier, are_blank, IsBelow, HasForm, HasFormWith, IsFaulty, rank, IsFirstKind}
-use Rattle.script_parse.specs.Part.{Open, Part}
-use Rattle.script_parse.specs.Saying.{form_in}
+use Rattle.script_parse.specs.Part.{Part}
 use Rattle.script_parse.specs.Reading as reading
 use Rattle.script_parse.specs.Reading.{Finder, is_empty, form_fault, taken, bytes_fault}
-use Rattle.script_parse.proofs.Choices.{some, some_is, chosen}
-use Rattle.script_parse.proofs.ExpressionWhole.{exact}
+use Rattle.script_parse.proofs.Choices.{some_is}
 use Rattle.script_parse.proofs.FormWhole.{form_read}
-use Rattle.script_parse.proofs.FormSound.{HasCut, form_says}
-use Rattle.script_parse.proofs.FirstKinds.{Tells, first_in, in_order, IsFirst, is_first}
-use Rattle.script_parse.proofs.Standing.{Lines, Stands, depth_is}
-use Rattle.script_parse.proofs.Agreeing.{taken_stands, may_stand_same, too_many_same, closes_nothing_same, found, uses_unknown_same, declares_again_same, leaves_open_same, lacks_thread_same}
-use Rattle.script_parse.proofs.NumberLaws.{are_numerals, line_numerals, range_same}
+use Rattle.script_parse.proofs.FirstKinds.{Tells}
+use Rattle.script_parse.proofs.Standing.{Lines, Stands}
+use Rattle.script_parse.proofs.Agreeing.{may_stand_same, too_many_same, closes_nothing_same, found, uses_unknown_same, declares_again_same, leaves_open_same, lacks_thread_same}
+use Rattle.script_parse.proofs.NumberLaws.{are_numerals, range_same}
 
 and_left : (a b : Bool) → a ≡ true → (a && b) ≡ false → b ≡ false
 and_left true b h e = e

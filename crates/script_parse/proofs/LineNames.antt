@@ -1,12 +1,12 @@
 -- The names and first values that lines declare.
-use Rattle.std.proofs.Common.{◌≡◌, ℕ, ◌+◌, ◌⊎◌, inl, inr, Bool, true, false, cond, length, List, [], ◌∷◌, ◌++◌, map, Option, Some, None, refl, sym, ap, ◌∙◌, subst}
-use Rattle.std.specs.Prelude.{ℤ, not, ◌&&◌, codes, All}
-use Rattle.std.specs.List.{list_all, filter_map, cons_option}
-use Rattle.std.specs.Str.{bytes_eq, is_utf8}
+use Rattle.std.proofs.Common.{◌≡◌, ℕ, ◌+◌, inl, inr, Bool, true, false, cond, List, [], ◌∷◌, ◌++◌, map, Option, Some, None, refl, sym, ap, ◌∙◌, subst}
+use Rattle.std.specs.Prelude.{ℤ, not, codes, All}
+use Rattle.std.specs.List.{list_all, cons_option}
+use Rattle.std.specs.Str.{bytes_eq}
 use Rattle.std.proofs.lemmas.Bool.{and_parts}
 use Rattle.std.proofs.lemmas.List.Elements.{All-head, All-tail}
 use Rattle.std.proofs.lemmas.List.Folds.{list_all-append}
-use Rattle.pct_ask.specs.Tokens.{Token, Word, Number, Symbol, tokens_of}
+use Rattle.pct_ask.specs.Tokens.{Token, Word, Number, Symbol}
 use Rattle.pct_ask.specs.NameLists.{NameLists}
 use Rattle.pct_ask.specs.declared.names.NameKind.{NameKind}
 use Rattle.pct_ask.specs.declared.names.NameKind.TheVariants as kinds
@@ -16,9 +16,8 @@ use Rattle.script_tree.specs.ScriptText.{Thread as ThreadTree}
 use Rattle.script_tree.specs.Expressions.{register_word}
 use Rattle.script_tree.specs.Forms as forms
 use Rattle.script_tree.specs.Forms.{OnVerb, IntoVerb, Cut, Meant, Plain, Valued, Thread, On, Into, Write, Add, Cas, Wait, Yield, Assert, Set, If, While, End, Else, on_word, into_word, kind_word, has_value, is_plain, value_in, tokens_of_form, IsOf, Means}
-use Rattle.script_tree.specs.Lines.{tokens_in, is_blank_line, named, names_of, valued, values_of, just_thread, thread_in, threads_in}
-use Rattle.script_tree.specs.Grammar.{Line, declares, Says, AreLines, IsSound, statement_lines, block_lines, thread_lines, all_thread_lines}
-use Rattle.script_parse.specs.Words.{kind_in}
+use Rattle.script_tree.specs.Lines.{tokens_in, named, names_of, valued, values_of, just_thread, thread_in, threads_in}
+use Rattle.script_tree.specs.Grammar.{Line, declares, AreLines, IsSound, statement_lines, block_lines, thread_lines, all_thread_lines}
 use Rattle.script_parse.proofs.LineSteps.{clash}
 use Rattle.script_parse.proofs.Standing.{on_quiet, into_quiet, no_kind, nameless_at}
 use Rattle.script_parse.proofs.DeclaredValues.{threadless_at}

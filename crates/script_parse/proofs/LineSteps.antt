@@ -1,33 +1,29 @@
 -- Each line's step finds its first fault, or stands for the line.
-use Rattle.std.proofs.Common.{◌≡◌, ℕ, zero, suc, ◌+◌, ◌-◌, ◌<◌, ◌≤◌, ◌⊎◌, inl, inr, Bool, true, false, cond, length, List, [], ◌∷◌, ◌++◌, map, Option, Some, None, Result, Ok, Err, refl, sym, ap, ◌∙◌, append_assoc, arith, rules, subst}
-use Rattle.std.specs.Prelude.{ℤ, nat_le, nat_lt, not, ◌&&◌, ◌||◌, ◌==◌, codes, count_by, is_some}
-use Rattle.std.specs.List.{list_all, list_any}
+use Rattle.std.proofs.Common.{◌≡◌, ℕ, ◌+◌, inl, inr, Bool, true, false, cond, length, List, [], ◌∷◌, ◌++◌, Option, Some, None, Result, Ok, Err, refl, sym, ap, ◌∙◌, arith, subst}
+use Rattle.std.specs.Prelude.{nat_le, nat_lt, not, ◌&&◌, ◌==◌}
 use Rattle.std.specs.Str.{is_utf8}
-use Rattle.std.proofs.lemmas.List.{append-nil, map_push}
-use Rattle.std.proofs.lemmas.List.Folds.{list_all-append}
+use Rattle.std.proofs.lemmas.List.{append-nil}
 use Rattle.std.proofs.lemmas.Bool.Decides.{nat_tests}
-use Rattle.std.proofs.lemmas.Bool.{and_parts, leb-true, leb-false, le-leb, ltb-true, ltb-false, lt-ltb}
-use Rattle.pct_ask.specs.Tokens.{Token, Word, Number, Symbol, tokens_of}
-use Rattle.pct_ask.specs.NameLists.{list_of, no_names}
-use Rattle.pct_ask.specs.declared.names.NameKind.{NameKind}
+use Rattle.std.proofs.lemmas.Bool.{and_parts, leb-true, le-leb, ltb-true, lt-ltb}
+use Rattle.pct_ask.specs.Tokens.{Token, tokens_of}
 use Rattle.pct_ask.specs.declared.names.NameKind.TheVariants as kinds
 use Rattle.script_tree.specs.declared.fault.ScriptFault.{ScriptFault}
 use Rattle.script_tree.specs.declared.fault.ScriptFault.TheVariants as fault
-use Rattle.script_tree.specs.Forms.{Cut, Meant, tokens_of_form, IsForm, IsOf, Means}
-use Rattle.script_tree.specs.Lines.{tokens_in, is_blank_line, is_nothing, version_in, version_of, names_of, depth, threads_in}
+use Rattle.script_tree.specs.Forms.{Cut, Meant, IsForm}
+use Rattle.script_tree.specs.Lines.{tokens_in, is_blank_line, version_of, names_of, depth}
 use Rattle.script_tree.specs.Faults as faults
 use Rattle.script_tree.specs.Faults.{Place, earlier, are_blank, IsBelow, HasForm, HasFormWith, IsFaulty, IsFirstKind}
-use Rattle.script_parse.specs.Part.{Open, Part}
+use Rattle.script_parse.specs.Part.{Part}
 use Rattle.script_parse.specs.Saying.{form_in}
 use Rattle.script_parse.specs.Reading as reading
 use Rattle.script_parse.specs.Reading.{Finder, is_empty, form_fault, taken, bytes_fault, unless, wrapped, after_fault, blank_fault, line_taken}
-use Rattle.script_parse.proofs.Choices.{some, some_is}
+use Rattle.script_parse.proofs.Choices.{some}
 use Rattle.script_parse.proofs.ExpressionWhole.{exact}
 use Rattle.script_parse.proofs.FormWhole.{form_read}
-use Rattle.script_parse.proofs.FormSound.{HasCut, form_says}
+use Rattle.script_parse.proofs.FormSound.{form_says}
 use Rattle.script_parse.proofs.FirstKinds.{Tells, first_in, in_order, IsFirst, is_first}
 use Rattle.script_parse.proofs.Standing.{Lines, Stands, depth_is, blank_stands}
-use Rattle.script_parse.proofs.Agreeing.{taken_stands, found}
+use Rattle.script_parse.proofs.Agreeing.{found}
 use Rattle.script_parse.proofs.NumberLaws.{are_numerals, line_numerals}
 use Rattle.script_parse.proofs.LineFaults.{tells_statement, tells_unknown, tells_twice, tells_range, tells_stray, tells_many, tells_end, tells_thread, empty_is, is_empty_of, both_hold}
 

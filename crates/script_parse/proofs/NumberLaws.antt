@@ -1,9 +1,7 @@
 -- The numbers of a line that are out of range, by its tokens.
-use Rattle.std.proofs.Common.{◌≡◌, ℕ, zero, suc, ◌+◌, ◌-◌, ◌^◌, ◌<◌, ◌≤◌, ◌⊎◌, inl, inr, Bool, true, false, cond, List, [], ◌∷◌, ◌++◌, Option, Some, None, refl, sym, ap, ◌∙◌, arith, rules, subst}
-use Rattle.std.specs.Prelude.{ℤ, pos, negsuc, nat_le, nat_lt, not, ◌&&◌, ◌||◌, ◌==◌, codes, is_none, int_le}
-use Rattle.std.specs.List.{list_all, list_any}
-use Rattle.std.specs.Option.{option_map}
-use Rattle.std.specs.Str.{bytes_eq}
+use Rattle.std.proofs.Common.{◌≡◌, ℕ, ◌-◌, ◌^◌, ◌≤◌, inl, inr, Bool, true, false, cond, List, [], ◌∷◌, Option, Some, None, refl, sym, ap, ◌∙◌, arith, subst}
+use Rattle.std.specs.Prelude.{ℤ, pos, negsuc, nat_le, nat_lt, not, ◌&&◌, ◌==◌, codes, is_none}
+use Rattle.std.specs.List.{list_all}
 use Rattle.std.specs.Str.Parse.{digits_value}
 use Rattle.std.proofs.lemmas.Bool.{and_parts, cases_lt, lt-ltb, le-ltb, le-leb, lt-leb}
 use Rattle.std.proofs.lemmas.Bool.Decides.{nat_tests}
@@ -13,14 +11,13 @@ use Rattle.pct_ask.specs.Tokens.{Token, Word, Number, Symbol, token_of, token_be
 use Rattle.pct_ask.specs.declared.names.NameKind.{NameKind}
 use Rattle.pct_ask.specs.declared.names.NameKind.TheVariants as kinds
 use Rattle.script_tree.specs.Ranges as ranges
-use Rattle.script_tree.specs.Trees.{Expression}
-use Rattle.script_tree.specs.Forms.{OnVerb, IntoVerb, Cut, Meant, Plain, Valued, Thread, On, Into, Write, Add, Cas, Wait, Yield, Assert, Set, If, While, End, Else, tokens_of_form, kind_word, value_in, has_value, IsOf, Means}
+use Rattle.script_tree.specs.Forms.{Cut, Meant, Plain, Thread, On, Into, Add, Cas, Wait, Yield, Set, End, Else, tokens_of_form, kind_word, has_value, IsOf, Means}
 use Rattle.script_parse.specs.Numbers.{number_in}
 use Rattle.script_parse.specs.Values as values
 use Rattle.script_parse.specs.Values.{unsigned_in, is_least, negative, first_value, fits_at, fits}
 use Rattle.script_parse.specs.Reading as reading
 use Rattle.script_parse.proofs.Choices.{some, some_is, passed, mapped_some}
-use Rattle.script_parse.proofs.Meanings.{ForEach, by_meaning}
+use Rattle.script_parse.proofs.Meanings.{by_meaning}
 
 -- a number is one or more digits
 abbrev pub is_numeral : Token → Bool

@@ -1,6 +1,6 @@
 -- The open blocks hold the lines that were read since their thread began.
-use Rattle.std.proofs.Common.{◌≡◌, ℕ, zero, suc, ◌+◌, ◌-◌, ◌<◌, ◌≤◌, Bool, true, false, cond, length, List, [], ◌∷◌, ◌++◌, refl, sym, ap, ◌∙◌, append_assoc, arith, rules, subst}
-use Rattle.std.specs.Prelude.{nat_le, nat_lt, not, ◌&&◌}
+use Rattle.std.proofs.Common.{◌≡◌, ℕ, ◌+◌, ◌-◌, ◌<◌, ◌≤◌, Bool, true, false, length, List, [], ◌∷◌, ◌++◌, refl, sym, ap, ◌∙◌, append_assoc, arith, subst}
+use Rattle.std.specs.Prelude.{◌&&◌}
 use Rattle.std.specs.List.{list_all}
 use Rattle.std.proofs.lemmas.List.{append-nil}
 use Rattle.std.proofs.lemmas.List.Folds.{list_all-append}
@@ -8,14 +8,12 @@ use Rattle.std.proofs.lemmas.Bool.{le-leb, lt-ltb, and_parts}
 use Rattle.pct_ask.specs.NameLists.{NameLists}
 use Rattle.script_tree.specs.Trees.{Expression, Statement, Statements, Closed, Then, closed_at}
 use Rattle.script_tree.specs.Trees as trees
-use Rattle.script_tree.specs.ScriptText.{Thread as ThreadTree}
 use Rattle.script_tree.specs.Forms.{Meant}
 use Rattle.script_tree.specs.Forms as forms
 use Rattle.script_tree.specs.Fitting.{line_fits, expression_fits, count_of, counts_of, statement_fits, statements_fit, thread_fits}
 use Rattle.script_tree.specs.Grammar.{Line, statement_lines, block_lines, thread_lines}
 use Rattle.script_parse.specs.Part.{Opening, Thread, If, Else, While, Open}
 use Rattle.script_parse.specs.Reading.{with_statement}
-use Rattle.script_parse.proofs.StatementFits.{IsSaid}
 
 abbrev pub weight : List Statement → ℕ
 weight [] = 0

@@ -1,6 +1,6 @@
 -- Operators by their signs, and the levels that they ask for.
-use Rattle.std.proofs.Common.{◌≡◌, ℕ, ◌+◌, ◌<◌, ◌≤◌, true, false, List, Some, refl, arith}
-use Rattle.std.specs.Prelude.{◌==◌, codes}
+use Rattle.std.proofs.Common.{◌≡◌, ◌+◌, ◌<◌, ◌≤◌, false, Some, refl, arith}
+use Rattle.std.specs.Prelude.{codes}
 use Rattle.std.specs.Str.{bytes_eq}
 use Rattle.script_tree.specs.declared.expr.Op.{Op}
 use Rattle.script_tree.specs.declared.expr.Op.TheVariants as ops

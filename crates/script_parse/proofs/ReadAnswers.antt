@@ -1,31 +1,28 @@
 -- What a reading tells of the text, with great numbers as the code keeps them.
-use Rattle.std.proofs.Common.{◌≡◌, ℕ, ◌≤◌, Bool, true, false, length, List, [], ◌∷◌, Option, Some, None, Result, Ok, Err, refl, sym, ap, ◌∙◌, subst}
-use Rattle.std.specs.Prelude.{ℤ}
+use Rattle.std.proofs.Common.{◌≡◌, ℕ, ◌≤◌, true, false, length, List, Option, Some, None, Result, Ok, Err, refl, sym, ap, ◌∙◌, subst}
 use Rattle.std.specs.Option.{option_map}
 use Rattle.std.proofs.Math.Path.{fun_ext}
 use Rattle.std.proofs.lemmas.Bool.{le-ltb}
 use Rattle.pct_ask.specs.Lines.{lines_of}
 use Rattle.pct_ask.specs.Tokens.{Token}
-use Rattle.pct_ask.specs.Words.{is_name}
 use Rattle.pct_ask.specs.NameLists.{place_of}
 use Rattle.pct_ask.proofs.NameLemmas.{is_name-first}
 use Rattle.script_tree.specs.ScriptText.{ScriptText}
 use Rattle.script_tree.specs.declared.fault.ScriptFault.{ScriptFault}
 use Rattle.script_tree.specs.Fitting.{IsScript}
-use Rattle.script_tree.specs.Forms.{Cut, Meant, Plain, Valued, Thread, On, Into, Write, Add, Cas, Wait, Yield, Assert, Set, If, While, End, Else, IsOf, Means}
+use Rattle.script_tree.specs.Forms.{Cut, Meant, Plain, Valued, Thread, IsOf, Means}
 use Rattle.script_tree.specs.Lines.{threads_in}
 use Rattle.script_tree.specs.Faults.{are_blank, IsFault}
 use Rattle.script_tree.specs.Grammar.{Spells}
 use Rattle.script_parse.specs.Numbers.{saturated}
 use Rattle.script_parse.specs.Lawful.{names_lawful}
-use Rattle.script_parse.specs.Part.{Part}
 use Rattle.script_parse.specs.Saying.{form_in}
 use Rattle.script_parse.specs.Reading.{Finder, read_from, read}
-use Rattle.script_parse.proofs.Choices.{some, some_is}
+use Rattle.script_parse.proofs.Choices.{some_is}
 use Rattle.script_parse.proofs.ExpressionWhole.{exact}
 use Rattle.script_parse.proofs.FormSound.{form_says}
-use Rattle.script_parse.proofs.Meanings.{ForEach, by_meaning}
-use Rattle.script_parse.proofs.SameReading.{blank_form, Alike, form_alike, read_same}
+use Rattle.script_parse.proofs.Meanings.{by_meaning}
+use Rattle.script_parse.proofs.SameReading.{blank_form, form_alike, read_same}
 use Rattle.script_parse.proofs.FaultLaws.{fault_found}
 use Rattle.script_parse.proofs.Spelled.{read_is_spelled}
 use Rattle.script_parse.proofs.WholeText.{spelled_is_read}

@@ -1,20 +1,18 @@
 -- The lines of a script are read one after another.
-use Rattle.std.proofs.Common.{◌≡◌, ℕ, ◌+◌, ◌≤◌, ◌<◌, ◌⊎◌, inl, inr, Bool, true, false, length, List, [], ◌∷◌, ◌++◌, map, Option, Some, None, Result, Ok, Err, refl, sym, ap, ◌∙◌, subst, arith, append_assoc}
-use Rattle.std.specs.Prelude.{not, ◌&&◌, ◌==◌, All}
+use Rattle.std.proofs.Common.{◌≡◌, ℕ, ◌+◌, ◌≤◌, ◌<◌, inl, inr, Bool, true, false, length, List, [], ◌∷◌, ◌++◌, Option, Some, None, Ok, refl, sym, ap, ◌∙◌, subst, arith}
+use Rattle.std.specs.Prelude.{All}
 use Rattle.std.proofs.lemmas.Bool.Decides.{nat_tests}
 use Rattle.std.proofs.lemmas.List.Elements.{All-head, All-tail}
 use Rattle.pct_ask.specs.Tokens.{Token, tokens_of}
-use Rattle.script_tree.specs.declared.fault.ScriptFault.{ScriptFault}
 use Rattle.script_tree.specs.Forms.{Meant}
 use Rattle.script_tree.specs.Lines.{tokens_in, is_blank_line, is_nothing}
-use Rattle.script_tree.specs.Grammar.{Line, Says, AreLines, IsSound}
+use Rattle.script_tree.specs.Grammar.{Line, AreLines, IsSound}
 use Rattle.script_parse.specs.Part.{Part}
-use Rattle.script_parse.specs.Reading as reading
 use Rattle.script_parse.specs.Reading.{Finder, is_empty, taken, blank_fault, line_taken, read_from, script_of}
 use Rattle.script_parse.proofs.ExpressionWhole.{exact}
 use Rattle.script_parse.proofs.LineSteps.{clash}
 use Rattle.script_parse.proofs.Standing.{Stands, blank_stands}
-use Rattle.script_parse.proofs.Runs.{IsFree, Runs}
+use Rattle.script_parse.proofs.Runs.{Runs}
 use Rattle.script_parse.proofs.FreeLines.{IsWhole, WholeAfter}
 use Rattle.script_parse.proofs.RunsRead.{plain_line, form_step, form_after, same_version}
 

@@ -1,12 +1,7 @@
 -- Taking what waits, one after another.
-use Rattle.std.proofs.Common.{◌≡◌, ℕ, ◌+◌, Bool, true, false, List, [], ◌∷◌, ◌++◌, map, reverse, refl, sym, ap, ◌∙◌, arith}
-use Rattle.std.specs.Prelude.{nat_le}
+use Rattle.std.proofs.Common.{◌≡◌, ℕ, true, false, List, [], ◌∷◌, refl}
 use Rattle.script_tree.specs.Trees.{Expression}
-use Rattle.script_tree.specs.Seen.{expression as tree}
-use Rattle.std.proofs.lemmas.List.{map_push}
-use Rattle.script_parse.specs.declared.expression.Frame.{Frame as Kept}
 use Rattle.script_parse.specs.Machine.{Frame, Paren, Not, Minus, Two, takes, is_taken, around, reduced}
-use Rattle.script_parse.specs.Frames.{seen_frame, seen_frames}
 
 pub taken_step : (level : ℕ) (frame : Frame) (frames : List Frame) (value : Expression) → takes level frame ≡ true → reduced level (frame ∷ frames) value ≡ reduced level frames (around frame value)
 taken_step level Paren frames value h = absurd cc

@@ -1,11 +1,10 @@
 -- The lines of a script's statements are taken one after another.
-use Rattle.std.proofs.Common.{◌≡◌, ℕ, zero, suc, ◌+◌, ◌-◌, ◌<◌, ◌≤◌, Bool, true, false, cond, get_or, length, List, [], ◌∷◌, ◌++◌, Option, Some, None, refl, sym, ap, ◌∙◌, append_assoc, arith, rules, subst}
-use Rattle.std.specs.Prelude.{ℤ, nat_le, nat_lt, not, ◌&&◌, ◌==◌, is_some}
-use Rattle.std.specs.Option.{option_map, option_and_then}
+use Rattle.std.proofs.Common.{◌≡◌, ℕ, ◌-◌, ◌<◌, true, false, length, List, [], ◌∷◌, ◌++◌, Some, refl, sym, ap, ◌∙◌, append_assoc, arith, subst}
+use Rattle.std.specs.Prelude.{nat_le, nat_lt, not, ◌&&◌, is_some}
 use Rattle.std.proofs.lemmas.List.{append-nil}
 use Rattle.std.proofs.lemmas.Bool.{and_parts, ltb-true, lt-leb}
 use Rattle.std.proofs.lemmas.Bool.Decides.{nat_tests}
-use Rattle.pct_ask.specs.NameLists.{NameLists, AreDistinct, list_of, place_of}
+use Rattle.pct_ask.specs.NameLists.{NameLists, list_of}
 use Rattle.pct_ask.specs.declared.names.NameKind.{NameKind}
 use Rattle.pct_ask.specs.declared.names.NameKind.TheVariants as kinds
 use Rattle.script_tree.specs.Trees.{Expression, Statement, Statements, Closed, Then, list, end_line, closed_at}
@@ -14,10 +13,9 @@ use Rattle.script_tree.specs.Forms.{Meant}
 use Rattle.script_tree.specs.Forms as forms
 use Rattle.script_tree.specs.Fitting.{line_fits, reg_fits, place_fits, expression_fits, statement_fits, statements_fit}
 use Rattle.script_tree.specs.Grammar.{Line, name_at, statement_lines, block_lines}
-use Rattle.script_parse.specs.Part.{Opening, Thread, If, Else, While, Open, Part}
+use Rattle.script_parse.specs.Part.{Opening, If, Else, While, Open, Part}
 use Rattle.script_parse.specs.Reading as reading
 use Rattle.script_parse.specs.Reading.{Finder, is_empty, taken, place_in, on_statement, into_statement, with_statement}
-use Rattle.script_parse.proofs.Fresh.{place_at}
 
 -- a line of this form has no fault, its numbers and its being the last line aside
 pub record IsFree (part : Part) (find : Finder) (meant : Meant) : Type 0 where

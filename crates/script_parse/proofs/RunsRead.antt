@@ -1,22 +1,17 @@
 -- Lines that can be taken one after another are read.
-use Rattle.std.proofs.Common.{◌≡◌, ℕ, ◌+◌, ◌≤◌, ◌<◌, ◌⊎◌, inl, inr, Bool, true, false, length, List, [], ◌∷◌, ◌++◌, Option, Some, None, Result, Ok, Err, refl, sym, ap, ◌∙◌, subst, arith, append_assoc}
-use Rattle.std.specs.Prelude.{not, ◌&&◌, nat_lt, All}
+use Rattle.std.proofs.Common.{◌≡◌, ℕ, ◌≤◌, Bool, length, List, [], ◌∷◌, ◌++◌, Some, None, Ok, refl, sym, ap, ◌∙◌, subst, append_assoc}
 use Rattle.std.proofs.lemmas.Bool.{le-ltb}
-use Rattle.std.proofs.lemmas.List.Elements.{All-head, All-tail}
 use Rattle.pct_ask.specs.Tokens.{Token, tokens_of}
-use Rattle.script_tree.specs.ScriptText.{ScriptText}
-use Rattle.script_tree.specs.declared.fault.ScriptFault.{ScriptFault}
-use Rattle.script_tree.specs.Forms.{Meant, tokens_of_form}
-use Rattle.script_tree.specs.Lines.{tokens_in, is_blank_line, version_of}
-use Rattle.script_tree.specs.Grammar.{Line, Says, AreLines, IsSound}
+use Rattle.script_tree.specs.Forms.{Meant}
+use Rattle.script_tree.specs.Lines.{tokens_in, version_of}
+use Rattle.script_tree.specs.Grammar.{Says, IsSound}
 use Rattle.script_parse.specs.Part.{Part}
-use Rattle.script_parse.specs.Reading as reading
-use Rattle.script_parse.specs.Reading.{Finder, is_empty, taken, tokens_taken, line_taken, bytes_fault, read_from, script_of}
+use Rattle.script_parse.specs.Reading.{Finder, taken, line_taken, bytes_fault}
 use Rattle.script_parse.proofs.ExpressionWhole.{exact}
-use Rattle.script_parse.proofs.Standing.{Stands, blank_stands}
+use Rattle.script_parse.proofs.Standing.{Stands}
 use Rattle.script_parse.proofs.Agreeing.{taken_stands}
-use Rattle.script_parse.proofs.Runs.{IsFree, Runs}
-use Rattle.script_parse.proofs.FreeLines.{IsWhole, WholeAfter, said_taken}
+use Rattle.script_parse.proofs.Runs.{IsFree}
+use Rattle.script_parse.proofs.FreeLines.{WholeAfter, said_taken}
 
 pub plain_line : (n : ℕ) (text : List ℕ) → IsSound text → n ≤ 4096 → bytes_fault n text ≡ None
 plain_line n text sound few = rw (sound.text, le-ltb 256 (length text) sound.short, le-ltb 4096 n few) refl

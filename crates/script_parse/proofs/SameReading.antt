@@ -1,25 +1,25 @@
 -- Reading numbers only as far as an i64 goes finds the same script and the same fault.
-use Rattle.std.proofs.Common.{◌≡◌, ℕ, zero, suc, ◌+◌, Bool, true, false, cond, length, List, [], ◌∷◌, ◌++◌, map, take, drop, Option, Some, None, Result, Ok, Err, refl, sym, ap, ◌∙◌, subst}
-use Rattle.std.specs.Prelude.{ℤ, nat_le, nat_lt, not, ◌&&◌, ◌||◌, ◌==◌, codes, is_none}
-use Rattle.std.specs.List.{position, list_any}
+use Rattle.std.proofs.Common.{◌≡◌, ℕ, ◌+◌, Bool, true, false, cond, List, [], ◌∷◌, take, drop, Option, Some, None, Result, Ok, Err, refl, sym, ap, ◌∙◌}
+use Rattle.std.specs.Prelude.{not, codes}
+use Rattle.std.specs.List.{position}
 use Rattle.std.specs.Option.{option_map, option_and_then}
 use Rattle.std.specs.Str.{bytes_eq}
 use Rattle.std.proofs.lemmas.List.{take-append-drop}
 use Rattle.std.proofs.lemmas.List.Folds.{list_any-append}
 use Rattle.pct_ask.specs.Lines.{lines_of}
 use Rattle.pct_ask.specs.Words.{is_name}
-use Rattle.pct_ask.specs.Tokens.{Token, Word, Number, Symbol, tokens_of}
+use Rattle.pct_ask.specs.Tokens.{Token, Word, tokens_of}
 use Rattle.pct_ask.specs.declared.names.NameKind.{NameKind}
 use Rattle.script_tree.specs.declared.fault.ScriptFault.{ScriptFault}
 use Rattle.script_tree.specs.ScriptText.{ScriptText}
 use Rattle.script_tree.specs.Trees.{Expression}
 use Rattle.script_tree.specs.Forms.{OnVerb, IntoVerb, Meant, Plain, Valued, Thread, On, Into, Write, Add, Cas, Wait, Yield, Assert, Set, If, While, End, Else}
 use Rattle.script_parse.specs.Numbers.{saturated}
-use Rattle.script_parse.specs.Values.{has_great, is_great, fits}
+use Rattle.script_parse.specs.Values.{has_great, is_great}
 use Rattle.script_parse.specs.Registers.{register_in}
 use Rattle.script_parse.specs.Machine.{expression_in}
 use Rattle.script_parse.specs.Words.{on_verb_in, into_verb_in, kind_in}
-use Rattle.script_parse.specs.Saying.{is_comma, parts_at, lone_word, plain_form, lone_form, value_parts, valued_form, declared_form, on_form, into_object, into_form, wait_mutex, wait_form, bare_form, quiet_form, write_form, add_form, cas_pair, cas_parts, cas_form, set_form, other_form, by_on, by_into, by_kind, form_at, form_in}
+use Rattle.script_parse.specs.Saying.{is_comma, parts_at, write_form, add_form, cas_parts, cas_form, set_form, other_form, by_on, by_into, by_kind, form_in}
 use Rattle.script_parse.specs.Part.{Part}
 use Rattle.script_parse.specs.Reading as reading
 use Rattle.script_parse.specs.Reading.{Finder, form_fault, taken, after_fault, form_taken, tokens_taken, line_said, line_taken, then_read, read_from, read, wrapped, unless, bytes_fault, is_empty}

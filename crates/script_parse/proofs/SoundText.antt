@@ -1,48 +1,43 @@
 -- A text that is read as a script spells it.
-use Rattle.std.proofs.Common.{◌≡◌, ℕ, zero, suc, ◌+◌, ◌-◌, ◌<◌, ◌≤◌, ◌⊎◌, inl, inr, Bool, true, false, cond, length, List, [], ◌∷◌, ◌++◌, map, Option, Some, None, Result, Ok, Err, refl, sym, ap, ◌∙◌, append_assoc, arith, rules, subst, length-append}
-use Rattle.std.specs.Prelude.{ℤ, nat_le, nat_lt, not, ◌&&◌, ◌||◌, ◌==◌, codes, All}
+use Rattle.std.proofs.Common.{◌≡◌, ℕ, ◌+◌, ◌-◌, ◌≤◌, Bool, true, false, cond, length, List, [], ◌∷◌, ◌++◌, map, Option, Some, None, Ok, refl, sym, ap, ◌∙◌, append_assoc, arith, subst, length-append}
+use Rattle.std.specs.Prelude.{nat_le, nat_lt, not, ◌&&◌, ◌||◌, codes, All}
 use Rattle.std.specs.List.{list_all, filter_map}
 use Rattle.std.specs.Str.{is_utf8, bytes_eq}
 use Rattle.std.proofs.lemmas.List.{append-nil, map_push, length_push}
 use Rattle.std.proofs.lemmas.List.Elements.{All-nil, All-push, filter_map-append}
 use Rattle.std.proofs.lemmas.List.Folds.{list_all-append}
-use Rattle.std.proofs.lemmas.Bool.{and_parts, le-leb, leb-true, ltb-false, ltb-true, lt-ltb}
-use Rattle.std.proofs.lemmas.Bool.Decides.{nat_tests}
-use Rattle.pct_ask.specs.Lines.{lines_of}
-use Rattle.pct_ask.specs.Tokens.{Token, Word, Number, Symbol, tokens_of}
+use Rattle.std.proofs.lemmas.Bool.{and_parts, le-leb, leb-true, ltb-false}
+use Rattle.pct_ask.specs.Tokens.{Token, Word, Number, tokens_of}
 use Rattle.pct_ask.specs.Words.{is_name}
-use Rattle.pct_ask.specs.NameLists.{NameLists, AreNames, no_names, list_of, all_names}
+use Rattle.pct_ask.specs.NameLists.{AreNames, no_names, list_of}
 use Rattle.pct_ask.specs.declared.names.NameKind.{NameKind}
 use Rattle.pct_ask.specs.declared.names.NameKind.TheVariants as kinds
-use Rattle.script_tree.specs.ScriptText.{ScriptText}
-use Rattle.script_tree.specs.declared.fault.ScriptFault.{ScriptFault}
 use Rattle.script_tree.specs.declared.fault.ScriptFault.TheVariants as fault
 use Rattle.script_tree.specs.Trees.{Statement, Statements, closed_at}
 use Rattle.script_tree.specs.Forms as forms
 use Rattle.script_parse.specs.Part as parts
 use Rattle.script_tree.specs.Forms.{Cut, Meant, tokens_of_form, IsForm}
-use Rattle.script_tree.specs.Fitting.{IsScript, line_fits, most_threads, rwlocks_fit}
+use Rattle.script_tree.specs.Fitting.{line_fits, rwlocks_fit}
 use Rattle.script_tree.specs.Ranges as ranges
-use Rattle.script_tree.specs.Lines.{tokens_in, is_blank_line, version_in, names_of, named, just_thread, thread_in, threads_in}
+use Rattle.script_tree.specs.Lines.{tokens_in, is_blank_line, version_in, just_thread, thread_in, threads_in}
 use Rattle.script_tree.specs.Faults.{are_blank}
-use Rattle.script_tree.specs.Grammar.{Line, declares, Says, AreLines, IsSound, Spells, all_thread_lines}
+use Rattle.script_tree.specs.Grammar.{Line, AreLines, IsSound}
 use Rattle.script_parse.specs.Part.{Open, Part}
 use Rattle.script_parse.specs.Saying.{form_in}
 use Rattle.script_parse.specs.Reading as reading
 use Rattle.script_parse.specs.Reading.{Finder, is_empty, form_fault, taken, bytes_fault, unless, wrapped, after_fault, blank_fault, header_taken, begun, start, line_taken, tokens_taken, form_taken}
-use Rattle.script_parse.proofs.Choices.{some, some_is, passed, same_bytes}
+use Rattle.script_parse.proofs.Choices.{some, some_is, passed}
 use Rattle.script_parse.proofs.ExpressionWhole.{exact}
-use Rattle.script_parse.proofs.FormSound.{HasCut, form_says}
+use Rattle.script_parse.proofs.FormSound.{form_says}
 use Rattle.script_parse.proofs.NumberLaws.{line_numerals, range_same, are_numerals}
-use Rattle.script_parse.proofs.LineSteps.{Step, clash, some_none, cut_tokens, says_something}
+use Rattle.script_parse.proofs.LineSteps.{Step, cut_tokens}
 use Rattle.script_parse.proofs.TextFaults.{ok_is, err_ok, unless_ok, wrapped_ok, behind_tokens}
 use Rattle.script_parse.proofs.TextLines.{blank_more, says_more}
-use Rattle.script_parse.proofs.StatementFits.{finder, with_threads, means_fits}
-use Rattle.script_parse.proofs.OpenBlocks.{IsOpen}
-use Rattle.script_parse.proofs.HasRead.{HaveNames, HaveValues, HasRead}
-use Rattle.script_parse.proofs.HasReadForms.{NoFault, no_fault_parts, form_keeps}
+use Rattle.script_parse.proofs.StatementFits.{finder, means_fits}
+use Rattle.script_parse.proofs.HasRead.{HasRead}
+use Rattle.script_parse.proofs.HasReadForms.{no_fault_parts, form_keeps}
 use Rattle.script_parse.proofs.DeclaredValues.{AreValues, blank_values}
-use Rattle.script_parse.proofs.DeclaredForms.{Adds, form_adds}
+use Rattle.script_parse.proofs.DeclaredForms.{form_adds}
 
 -- what holds of a text's lines and of what was read of them
 pub record Reads (threads : List (List ℕ)) (part : Part) (before : List (List ℕ)) : Type 0 where

@@ -1,40 +1,36 @@
 -- A text that is read as a script spells it.
-use Rattle.std.proofs.Common.{◌≡◌, ℕ, zero, suc, ◌+◌, ◌-◌, ◌<◌, ◌≤◌, ◌⊎◌, inl, inr, Bool, true, false, cond, length, List, [], ◌∷◌, ◌++◌, map, Option, Some, None, Result, Ok, Err, refl, sym, ap, ◌∙◌, append_assoc, arith, rules, subst}
-use Rattle.std.specs.Prelude.{ℤ, nat_le, nat_lt, not, ◌&&◌, ◌==◌, All, unwrap_or}
-use Rattle.std.specs.List.{list_all, filter_map}
-use Rattle.std.specs.Option.{option_map}
+use Rattle.std.proofs.Common.{◌≡◌, ℕ, ◌+◌, ◌≤◌, Bool, true, false, cond, length, List, [], ◌∷◌, ◌++◌, map, Option, Some, None, Result, Ok, Err, refl, sym, ap, ◌∙◌, append_assoc, arith, subst}
+use Rattle.std.specs.Prelude.{nat_lt, unwrap_or}
+use Rattle.std.specs.List.{list_all}
 use Rattle.std.proofs.lemmas.List.{append-nil, map_push, map-append, length_push}
 use Rattle.std.proofs.lemmas.List.Sums.{AllPass-from_list_all}
 use Rattle.std.proofs.lemmas.List.Elements.{All-nil, filter_map-append}
 use Rattle.std.proofs.lemmas.List.Folds.{list_all-append}
-use Rattle.std.proofs.lemmas.Bool.{and_parts, cases_lt, lt-ltb, le-ltb, ltb-false}
+use Rattle.std.proofs.lemmas.Bool.{and_parts, ltb-false}
 use Rattle.pct_ask.specs.Lines.{lines_of}
-use Rattle.pct_ask.specs.Tokens.{Token, Word, Number, Symbol, tokens_of}
+use Rattle.pct_ask.specs.Tokens.{Token, Word, Number, tokens_of}
 use Rattle.pct_ask.specs.Words.{is_name}
 use Rattle.pct_ask.specs.NameLists.{NameLists, list_of, all_names}
 use Rattle.pct_ask.specs.declared.names.NameKind.{NameKind}
 use Rattle.pct_ask.specs.declared.names.NameKind.TheVariants as kinds
-use Rattle.script_tree.specs.ScriptText.{ScriptText, Thread as ThreadTree}
-use Rattle.script_tree.specs.declared.fault.ScriptFault.{ScriptFault}
+use Rattle.script_tree.specs.ScriptText.{ScriptText}
 use Rattle.script_tree.specs.declared.fault.ScriptFault.TheVariants as fault
-use Rattle.script_tree.specs.Fitting.{IsScript, thread_fits}
+use Rattle.script_tree.specs.Fitting.{thread_fits}
 use Rattle.script_tree.specs.Lines.{tokens_in, is_blank_line, is_nothing, version_in, names_of, named, depth, threads_in}
 use Rattle.script_tree.specs.Faults as faults
 use Rattle.script_tree.specs.Faults.{are_blank}
-use Rattle.script_tree.specs.Grammar.{Line, AreLines, IsSound, Spells, all_thread_lines}
+use Rattle.script_tree.specs.Grammar.{AreLines, Spells, all_thread_lines}
 use Rattle.script_parse.specs.Part.{Open, Part}
-use Rattle.script_parse.specs.Reading as reading
-use Rattle.script_parse.specs.Reading.{is_empty, line_taken, then_read, read_from, finished, read, script_of, blank_text_fault}
-use Rattle.script_parse.proofs.Choices.{some}
+use Rattle.script_parse.specs.Reading.{is_empty, line_taken, then_read, read_from, read, script_of, blank_text_fault}
 use Rattle.script_parse.proofs.ExpressionWhole.{exact}
 use Rattle.script_parse.proofs.Standing.{Lines, Stands, depth_is}
-use Rattle.script_parse.proofs.LineSteps.{Step, clash}
+use Rattle.script_parse.proofs.LineSteps.{Step}
 use Rattle.script_parse.proofs.Headers.{quiet_none}
 use Rattle.script_parse.proofs.TextFaults.{Found, TellsFault, StandsBefore, ok_is, err_ok, line_next, all_tell, finder_of, at_place, none_at_first}
 use Rattle.script_parse.proofs.StatementFits.{finder, with_threads}
 use Rattle.script_parse.proofs.OpenBlocks.{open_lines}
-use Rattle.script_parse.proofs.HasRead.{HaveNames, HasRead, open_names}
-use Rattle.script_parse.proofs.SoundText.{Reads, ReadsNone, ReadsBefore, line_reads}
+use Rattle.script_parse.proofs.HasRead.{open_names}
+use Rattle.script_parse.proofs.SoundText.{Reads, ReadsBefore, line_reads}
 
 -- what was read of all lines
 record IsReached (lines : List (List ℕ)) (script : ScriptText) : Type 0 where

@@ -1,30 +1,25 @@
 -- What was read agrees with the lines that were read.
-use Rattle.std.proofs.Common.{◌≡◌, ℕ, zero, suc, ◌+◌, ◌-◌, ◌<◌, ◌≤◌, Bool, true, false, cond, length, List, [], ◌∷◌, ◌++◌, map, reverse, Option, Some, None, refl, sym, ap, ◌∙◌, append_assoc, add-one, arith, rules, subst}
-use Rattle.std.specs.Prelude.{ℤ, nat_le, not, ◌&&◌, ◌||◌, ◌==◌, codes, is_some, count_by, unwrap_or}
-use Rattle.std.specs.List.{filter_map, list_any, list_all, fold}
+use Rattle.std.proofs.Common.{◌≡◌, ℕ, zero, suc, ◌+◌, ◌-◌, Bool, true, false, cond, length, List, [], ◌∷◌, ◌++◌, reverse, Option, Some, None, refl, sym, ap, ◌∙◌, append_assoc, add-one, arith}
+use Rattle.std.specs.Prelude.{ℤ, ◌==◌, codes, count_by}
+use Rattle.std.specs.List.{fold}
 use Rattle.std.specs.Str.{bytes_eq}
-use Rattle.std.proofs.lemmas.List.{append-nil, reverse-append, map_push, length_push}
+use Rattle.std.proofs.lemmas.List.{append-nil, reverse-append}
 use Rattle.std.proofs.lemmas.List.Elements.{filter_map-append}
-use Rattle.std.proofs.lemmas.List.Folds.{list_all-append}
 use Rattle.std.proofs.lemmas.Bool.Decides.{nat_tests}
-use Rattle.pct_ask.specs.Tokens.{Token, Word, Number, Symbol, tokens_of}
-use Rattle.pct_ask.specs.Words.{is_among}
-use Rattle.pct_ask.specs.NameLists.{NameLists, list_of, with_name, all_names, place_of}
+use Rattle.pct_ask.specs.Tokens.{Token, Word, Number, Symbol}
+use Rattle.pct_ask.specs.NameLists.{NameLists, list_of, with_name}
 use Rattle.pct_ask.specs.declared.names.NameKind.{NameKind}
 use Rattle.pct_ask.specs.declared.names.NameKind.TheVariants as kinds
 use Rattle.script_tree.specs.Trees.{Expression, Statement}
 use Rattle.script_tree.specs.Trees as trees
 use Rattle.script_tree.specs.Forms as forms
 use Rattle.script_tree.specs.Forms.{OnVerb, IntoVerb, Cut, Meant, Plain, Valued, Thread, On, Into, Write, Add, Cas, Wait, Yield, Assert, Set, If, While, End, Else, on_word, into_word, kind_word, has_value, is_plain, tokens_of_form, IsForm, IsOf, Means}
-use Rattle.script_tree.specs.Lines.{tokens_in, is_blank_line, is_nothing, version_in, version_of, begins, named, names_of, opens, depth, opener, threads_in}
-use Rattle.script_tree.specs.Faults as faults
-use Rattle.script_tree.specs.Faults.{Place, earlier, are_blank}
+use Rattle.script_tree.specs.Lines.{version_of, begins, named, names_of, opens, depth, opener}
 use Rattle.script_parse.specs.Part.{Open, Part}
 use Rattle.script_parse.specs.Part as parts
-use Rattle.script_parse.specs.Words.{on_verb_in, into_verb_in, kind_in}
+use Rattle.script_parse.specs.Words.{kind_in}
 use Rattle.script_parse.specs.Reading as reading
 use Rattle.script_parse.specs.Reading.{is_empty, is_if, is_in_if}
-use Rattle.script_parse.proofs.Meanings.{ForEach, by_meaning}
 
 abbrev pub Lines : Type 0
 Lines = List (List Token)

@@ -1,25 +1,23 @@
 -- Statements that are read belong to their script.
-use Rattle.std.proofs.Common.{◌≡◌, ℕ, zero, suc, ◌+◌, ◌-◌, ◌<◌, ◌≤◌, ◌⊎◌, inl, inr, Bool, true, false, cond, get_or, length, List, [], ◌∷◌, ◌++◌, map, Option, Some, None, refl, sym, ap, ◌∙◌, append_assoc, arith, rules, subst}
-use Rattle.std.specs.Prelude.{ℤ, pos, nat_le, nat_lt, not, ◌&&◌, codes, is_some, int_le}
-use Rattle.std.specs.Option.{option_map, option_and_then}
+use Rattle.std.proofs.Common.{◌≡◌, ℕ, ◌<◌, ◌≤◌, Bool, true, get_or, length, List, [], ◌∷◌, Some, refl, ap, ◌∙◌, arith, subst}
+use Rattle.std.specs.Prelude.{◌&&◌}
+use Rattle.std.specs.Option.{option_map}
 use Rattle.std.proofs.lemmas.Bool.{le-leb, lt-ltb, and_parts}
-use Rattle.std.proofs.lemmas.Bool.Decides.{nat_tests}
 use Rattle.std.specs.Str.Parse.{digits_value}
-use Rattle.pct_ask.specs.Tokens.{Token, Word, Number, Symbol}
+use Rattle.pct_ask.specs.Tokens.{Token}
 use Rattle.pct_ask.specs.NameLists.{NameLists, list_of, place_of}
 use Rattle.pct_ask.specs.declared.names.NameKind.{NameKind}
 use Rattle.pct_ask.specs.declared.names.NameKind.TheVariants as kinds
 use Rattle.pct_ask.proofs.NameLemmas.{place_of-Some}
-use Rattle.script_tree.specs.declared.expr.Op.{Op}
 use Rattle.script_tree.specs.Trees.{Expression, Statement}
 use Rattle.script_tree.specs.Trees as trees
-use Rattle.script_tree.specs.Fitting.{line_fits, reg_fits, place_fits, expression_fits, statement_fits, count_of}
-use Rattle.script_tree.specs.Grammar.{Line, name_at, statement_lines}
+use Rattle.script_tree.specs.Fitting.{line_fits, place_fits, expression_fits, statement_fits, count_of}
+use Rattle.script_tree.specs.Grammar.{name_at, statement_lines}
 use Rattle.script_tree.specs.Expressions.{IsSpelled, number, register, enclosed, minus, not as negated, two, stronger}
 use Rattle.script_tree.specs.Forms.{OnVerb, Lock, Unlock, Signal, Broadcast, Down, Up, Join, Start, RdLock, WrLock, RwUnlock, IntoVerb, Read, TryLock, TryDown, Arrive, TryRdLock, TryWrLock, Cut, Meant, Plain, Valued, Thread, On, Into, Write, Add, Cas, Wait, Yield, Assert, Set, If, While, End, Else, on_kind, into_kind, on_since, into_since, IsOf, Means}
 use Rattle.script_parse.specs.Reading.{Finder, place_in, on_statement, into_statement, statement_on}
-use Rattle.script_parse.proofs.Choices.{some, some_is, mapped_some, bind_some}
-use Rattle.script_parse.proofs.Meanings.{ForEach, by_meaning}
+use Rattle.script_parse.proofs.Choices.{some_is, mapped_some, bind_some}
+use Rattle.script_parse.proofs.Meanings.{ForEach}
 
 -- an expression that tokens spell has numbers without a sign, and registers that there are
 pub spelled_fits : (level : ℕ) (tokens : List Token) (tree : Expression) → IsSpelled level tokens tree → expression_fits tree ≡ true

@@ -1,33 +1,26 @@
 -- The first fault of a text is what is found as it is read.
-use Rattle.std.proofs.Common.{◌≡◌, ℕ, zero, suc, ◌+◌, ◌-◌, ◌<◌, ◌≤◌, ◌⊎◌, inl, inr, Bool, true, false, cond, length, List, [], ◌∷◌, ◌++◌, map, Option, Some, None, Result, Ok, Err, refl, sym, ap, ◌∙◌, append_assoc, arith, rules, subst}
-use Rattle.std.specs.Prelude.{ℤ, nat_le, nat_lt, not, ◌&&◌, ◌||◌, ◌==◌, codes, unwrap_or}
-use Rattle.std.specs.List.{list_all}
-use Rattle.std.specs.Str.{is_utf8}
+use Rattle.std.proofs.Common.{◌≡◌, ℕ, ◌+◌, ◌⊎◌, inl, inr, Bool, true, false, cond, length, List, [], ◌∷◌, ◌++◌, map, Option, Some, None, Result, Ok, Err, refl, sym, ap, ◌∙◌, append_assoc, arith, subst}
+use Rattle.std.specs.Prelude.{not, ◌&&◌}
 use Rattle.std.proofs.lemmas.List.{append-nil, map_push, length_push}
 use Rattle.std.proofs.lemmas.List.Folds.{list_all-append}
-use Rattle.std.proofs.lemmas.Bool.{and_parts, le-leb, ltb-true, ltb-false, lt-ltb}
-use Rattle.pct_ask.specs.Lines.{lines_of}
 use Rattle.pct_ask.specs.Tokens.{Token, tokens_of}
 use Rattle.pct_ask.specs.NameLists.{place_of}
 use Rattle.script_tree.specs.ScriptText.{ScriptText}
 use Rattle.script_tree.specs.declared.fault.ScriptFault.{ScriptFault}
-use Rattle.script_tree.specs.declared.fault.ScriptFault.TheVariants as fault
-use Rattle.script_tree.specs.Forms.{Cut, Meant, tokens_of_form, IsForm}
+use Rattle.script_tree.specs.Forms.{Meant, tokens_of_form}
 use Rattle.script_tree.specs.Lines.{tokens_in, is_blank_line, version_in, threads_in}
-use Rattle.script_tree.specs.Faults as faults
-use Rattle.script_tree.specs.Faults.{Place, earlier, are_blank, IsFaulty, rank, IsFirstKind, IsFirstLine, judged_lines, IsFirstFault, IsFault}
+use Rattle.script_tree.specs.Faults.{Place, are_blank, IsFaulty, IsFirstKind, IsFirstLine}
 use Rattle.script_parse.specs.Part.{Part}
 use Rattle.script_parse.specs.Saying.{form_in}
 use Rattle.script_parse.specs.Reading as reading
 use Rattle.script_parse.specs.Reading.{Finder, is_empty, form_fault, taken, bytes_fault, unless, wrapped, after_fault, blank_fault, header_taken, begun, start, line_said, line_taken, tokens_taken, form_taken, then_read, read_from, finished, read}
-use Rattle.script_parse.proofs.Choices.{some, some_is, unfailed}
 use Rattle.script_parse.proofs.ExpressionWhole.{exact}
 use Rattle.script_parse.proofs.FormSound.{form_says}
 use Rattle.script_parse.proofs.FirstKinds.{IsFirst}
-use Rattle.script_parse.proofs.Standing.{Lines, Stands, blank_stands}
+use Rattle.script_parse.proofs.Standing.{Stands, blank_stands}
 use Rattle.script_parse.proofs.Agreeing.{taken_stands}
 use Rattle.script_parse.proofs.LineSteps.{Step, fault_of, clash, some_none, cut_tokens, says_something, below_step}
-use Rattle.script_parse.proofs.Headers.{AreQuiet, quiet_none, quiet_blank, begun_stands, above_step}
+use Rattle.script_parse.proofs.Headers.{AreQuiet, quiet_blank, begun_stands, above_step}
 
 -- what was read of the lines before a line
 abbrev pub StandsBefore : Option Part → List (List ℕ) → Type 0

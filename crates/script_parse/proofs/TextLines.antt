@@ -1,5 +1,5 @@
 -- Lines of a text, one more at the end.
-use Rattle.std.proofs.Common.{◌≡◌, ℕ, zero, suc, ◌+◌, ◌-◌, ◌<◌, ◌≤◌, ◌⊎◌, inl, inr, Bool, true, false, cond, length, List, [], ◌∷◌, ◌++◌, map, Option, Some, None, refl, sym, ap, ◌∙◌, append_assoc, arith, rules, subst}
+use Rattle.std.proofs.Common.{◌≡◌, ℕ, ◌+◌, inl, inr, true, length, List, [], ◌∷◌, ◌++◌, refl, ap, arith}
 use Rattle.script_tree.specs.Forms.{Meant}
 use Rattle.script_tree.specs.Lines.{is_blank_line}
 use Rattle.script_tree.specs.Grammar.{Line, Says, AreLines}

@@ -1,6 +1,6 @@
 -- The lines of a script's threads are taken one after another.
-use Rattle.std.proofs.Common.{◌≡◌, ℕ, zero, suc, ◌+◌, ◌-◌, ◌<◌, ◌≤◌, Bool, true, false, cond, get_or, length, List, [], ◌∷◌, ◌++◌, Option, Some, None, refl, sym, ap, ◌∙◌, append_assoc, arith, rules, subst}
-use Rattle.std.specs.Prelude.{nat_le, nat_lt, ◌&&◌}
+use Rattle.std.proofs.Common.{◌≡◌, ℕ, suc, ◌+◌, ◌≤◌, true, false, length, List, [], ◌∷◌, ◌++◌, Some, refl, sym, ap, ◌∙◌, append_assoc, arith, subst}
+use Rattle.std.specs.Prelude.{nat_le, ◌&&◌}
 use Rattle.std.specs.List.{list_all}
 use Rattle.std.proofs.lemmas.List.{append-nil, length-append}
 use Rattle.std.proofs.lemmas.Bool.{and_parts, ltb-true, lt-leb}
@@ -8,15 +8,15 @@ use Rattle.pct_ask.specs.Words.{is_among}
 use Rattle.pct_ask.specs.NameLists.{NameLists, AreDistinct, list_of, place_of, all_names}
 use Rattle.pct_ask.specs.declared.names.NameKind.{NameKind}
 use Rattle.pct_ask.specs.declared.names.NameKind.TheVariants as kinds
-use Rattle.script_tree.specs.Trees.{Statements, list, end_line, closed_at}
+use Rattle.script_tree.specs.Trees.{Statements}
 use Rattle.script_tree.specs.ScriptText.{Thread as ThreadTree}
 use Rattle.script_tree.specs.Forms as forms
 use Rattle.script_tree.specs.Fitting.{line_fits, place_fits, statements_fit, thread_fits, most_threads, counts_of}
-use Rattle.script_tree.specs.Grammar.{Line, name_at, block_lines, all_thread_lines}
-use Rattle.script_parse.specs.Part.{Opening, Thread, Open, Part}
+use Rattle.script_tree.specs.Grammar.{name_at, all_thread_lines}
+use Rattle.script_parse.specs.Part.{Thread, Open, Part}
 use Rattle.script_parse.specs.Reading.{Finder, place_in}
 use Rattle.script_parse.proofs.Fresh.{place_at, apart, among_parts, among-append, distinct_back}
-use Rattle.script_parse.proofs.Runs.{IsFree, Runs, body_runs, closed_again}
+use Rattle.script_parse.proofs.Runs.{Runs, body_runs, closed_again}
 
 pub distinct_front : (xs ys : List (List ℕ)) → AreDistinct (xs ++ ys) → AreDistinct xs
 distinct_front [] ys h = tt

@@ -1,19 +1,17 @@
 -- The declarations of a script are taken one after another.
-use Rattle.std.proofs.Common.{◌≡◌, ℕ, suc, ◌+◌, ◌≤◌, ◌<◌, ◌⊎◌, inl, inr, Bool, true, false, length, List, [], ◌∷◌, ◌++◌, map, Option, Some, None, refl, sym, ap, ◌∙◌, subst, arith, append_assoc}
-use Rattle.std.specs.Prelude.{ℤ, nat_le, not, ◌&&◌, codes, All}
+use Rattle.std.proofs.Common.{◌≡◌, ℕ, suc, ◌+◌, inl, inr, true, false, length, List, [], ◌∷◌, ◌++◌, map, Option, Some, None, refl, sym, ap, ◌∙◌, subst, arith, append_assoc}
+use Rattle.std.specs.Prelude.{ℤ, nat_le, codes, All}
 use Rattle.std.specs.List.{list_all}
 use Rattle.std.proofs.lemmas.Bool.{lt-leb}
 use Rattle.std.proofs.lemmas.List.{append-nil, length-append}
 use Rattle.std.proofs.lemmas.List.Elements.{All-head, All-tail, filter_map-append}
-use Rattle.pct_ask.specs.Tokens.{Token, Word, Number, Symbol, tokens_of}
+use Rattle.pct_ask.specs.Tokens.{Token, Word, Symbol, tokens_of}
 use Rattle.pct_ask.specs.Words.{is_among}
 use Rattle.pct_ask.specs.NameLists.{NameLists, AreNames, list_of, all_names}
 use Rattle.pct_ask.specs.declared.names.NameKind.{NameKind}
 use Rattle.pct_ask.specs.declared.names.NameKind.TheVariants as kinds
 use Rattle.script_tree.specs.ScriptText.{ScriptText, Thread as ThreadTree}
-use Rattle.script_tree.specs.Forms as forms
 use Rattle.script_tree.specs.Forms.{Cut, Meant, Plain, Valued, Thread, On, Into, Write, Add, Cas, Wait, Yield, Assert, Set, If, While, End, Else, kind_word, has_value, is_plain, tokens_of_form, IsOf, Means}
-use Rattle.script_tree.specs.Ranges as ranges
 use Rattle.script_tree.specs.Lines.{tokens_in, named, names_of, valued, values_of}
 use Rattle.script_tree.specs.Grammar.{Line, declares, Says, AreLines}
 use Rattle.script_parse.specs.Part.{Open, Part}
@@ -23,7 +21,7 @@ use Rattle.script_parse.proofs.LineSteps.{clash, cut_tokens}
 use Rattle.script_parse.proofs.NumberLaws.{line_numerals, range_same, are_numerals}
 use Rattle.script_parse.proofs.Standing.{Stands, blank_stands}
 use Rattle.script_parse.proofs.DeclaredValues.{AreValues, blank_values}
-use Rattle.script_parse.proofs.DeclaredForms.{Adds, form_adds}
+use Rattle.script_parse.proofs.DeclaredForms.{form_adds}
 use Rattle.script_parse.proofs.Runs.{IsFree, Runs}
 use Rattle.script_parse.proofs.RunsRead.{form_after, same_version}
 use Rattle.script_parse.proofs.ReadLines.{blank_in}

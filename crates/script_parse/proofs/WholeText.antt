@@ -1,14 +1,13 @@
 -- A text that spells a script is read as it, so that each text spells one script or has one first fault.
-use Rattle.std.proofs.Common.{◌≡◌, ℕ, suc, ◌+◌, ◌≤◌, ◌<◌, ◌⊎◌, inl, inr, Bool, true, false, length, List, [], ◌∷◌, ◌++◌, map, Option, Some, None, Result, Ok, Err, refl, sym, ap, ◌∙◌, subst, arith, append_assoc, length-append}
-use Rattle.std.specs.Prelude.{not, ◌&&◌, codes, All}
-use Rattle.std.specs.List.{list_all, filter_map}
+use Rattle.std.proofs.Common.{◌≡◌, ℕ, suc, ◌+◌, ◌≤◌, ◌⊎◌, inl, inr, Bool, true, false, length, List, [], ◌∷◌, ◌++◌, map, Option, Some, None, Result, Ok, Err, refl, sym, ap, ◌∙◌, subst, arith, append_assoc, length-append}
+use Rattle.std.specs.Prelude.{◌&&◌, All}
 use Rattle.std.proofs.lemmas.Bool.{le-ltb}
 use Rattle.std.proofs.lemmas.List.{append-nil}
 use Rattle.std.proofs.lemmas.List.Elements.{All-head, All-tail, filter_map-append}
 use Rattle.std.proofs.lemmas.List.Folds.{list_all-append}
 use Rattle.pct_ask.specs.Lines.{lines_of}
-use Rattle.pct_ask.specs.Tokens.{Token, Word, Number, tokens_of}
-use Rattle.pct_ask.specs.NameLists.{NameLists, list_of, no_names, place_of}
+use Rattle.pct_ask.specs.Tokens.{Token, tokens_of}
+use Rattle.pct_ask.specs.NameLists.{list_of, no_names, place_of}
 use Rattle.pct_ask.specs.declared.names.NameKind.{NameKind}
 use Rattle.pct_ask.specs.declared.names.NameKind.TheVariants as kinds
 use Rattle.script_tree.specs.ScriptText.{ScriptText}
@@ -16,10 +15,9 @@ use Rattle.script_tree.specs.declared.fault.ScriptFault.{ScriptFault}
 use Rattle.script_tree.specs.Fitting.{most_threads}
 use Rattle.script_tree.specs.Lines.{tokens_in, is_blank_line, version_in, named, names_of, just_thread, thread_in, threads_in}
 use Rattle.script_tree.specs.Faults.{are_blank, IsFault}
-use Rattle.script_tree.specs.Grammar.{Line, AreLines, IsSound, Spells, all_thread_lines}
+use Rattle.script_tree.specs.Grammar.{IsSound, Spells, all_thread_lines}
 use Rattle.script_parse.specs.Part.{Part}
-use Rattle.script_parse.specs.Answers.{IsOnlyScript, IsOnlyFault, SpellsOne, FailsOnce, EachHasOneAnswer}
-use Rattle.script_parse.specs.Reading as reading
+use Rattle.script_parse.specs.Answers.{SpellsOne, FailsOnce, EachHasOneAnswer}
 use Rattle.script_parse.specs.Reading.{Finder, is_empty, start, line_taken, read_from, script_of, read}
 use Rattle.script_parse.proofs.ExpressionWhole.{exact}
 use Rattle.script_parse.proofs.Fresh.{all_front, all_back}
@@ -35,7 +33,7 @@ use Rattle.script_parse.proofs.FreeLines.{IsWhole}
 use Rattle.script_parse.proofs.RunsRead.{plain_line}
 use Rattle.script_parse.proofs.ReadLines.{blank_tokens, blank_in, some_there, lines_read}
 use Rattle.script_parse.proofs.LineNames.{threads_quiet, thread_at, threads_same}
-use Rattle.script_parse.proofs.TopRuns.{IsTop, top_part, IsAbove, tops_run}
+use Rattle.script_parse.proofs.TopRuns.{top_part, IsAbove, tops_run}
 
 abbrev IsBlank : List ℕ → Type 0
 IsBlank line = is_blank_line line ≡ true

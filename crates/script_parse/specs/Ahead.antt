@@ -4,7 +4,6 @@ use denote.Ref.{Bor}
 use Rattle.std.specs.BTreeMap.{BTreeMap, get_by}
 use Rattle.std.specs.Cmp.Lexicographic.{slice_cmp}
 use Rattle.std.specs.Ordering.{nat_cmp}
-use Rattle.pct_ask.specs.Lines.{lines_of}
 use Rattle.pct_ask.specs.NameLists.{place_of}
 use Rattle.script_tree.specs.Lines.{threads_in}
 use Rattle.script_tree.specs.Faults.{are_blank}

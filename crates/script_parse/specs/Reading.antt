@@ -16,7 +16,7 @@ use Rattle.script_tree.specs.declared.fault.ScriptFault.TheVariants.{NotUtf8, Li
 use Rattle.script_tree.specs.Fitting.{most_threads}
 use Rattle.script_tree.specs.Forms.{Meant, OnVerb, IntoVerb, on_kind, into_kind}
 use Rattle.script_tree.specs.Forms as forms
-use Rattle.script_tree.specs.Lines.{is_blank_line, version_in, threads_in}
+use Rattle.script_tree.specs.Lines.{version_in, threads_in}
 use Rattle.script_tree.specs.Faults.{are_blank}
 use Rattle.script_parse.specs.Part.{Opening, Thread, If, Else, While, Open, Part}
 use Rattle.script_parse.specs.Saying.{form_in}

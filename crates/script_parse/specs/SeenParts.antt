@@ -1,5 +1,5 @@
 -- How what the code keeps of a script stands for what was read of it.
-use Rattle.std.specs.Prelude.{ℕ, List, map, reverse}
+use Rattle.std.specs.Prelude.{List, map, reverse}
 use Rattle.script_tree.specs.Seen.{expression, block, statements}
 use Rattle.script_tree.specs.ScriptParts.{thread}
 use Rattle.script_parse.specs.Part as parts
@@ -29,5 +29,5 @@ seen_reader r = record {
   sems = r.sems;
   barriers = r.barriers;
   threads = map thread r.threads.items;
-  open_blocks = seen_blocks r.blocks.items;
+  open_blocks = seen_blocks r.open_blocks.items;
 }

@@ -10,6 +10,8 @@ mod form;
 mod parsing;
 mod range;
 mod reader;
+#[cfg(test)]
+mod samples;
 mod statement;
 #[cfg(test)]
 mod tests;

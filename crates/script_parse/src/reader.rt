@@ -33,7 +33,7 @@ pub struct Reader {
     sems: NumberList,
     barriers: NumberList,
     threads: Vec<ThreadText>,
-    blocks: Vec<OpenBlock>,
+    open_blocks: Vec<OpenBlock>,
 }
 
 impl Reader {
@@ -47,7 +47,7 @@ impl Reader {
             sems: NumberList::new(alloc),
             barriers: NumberList::new(alloc),
             threads: Vec::new(alloc),
-            blocks: Vec::new(alloc),
+            open_blocks: Vec::new(alloc),
         }
     }
 
@@ -68,9 +68,9 @@ impl Reader {
     {
         match form {
             Form::Plain { .. } | Form::Valued { .. } => !self.has_thread(),
-            Form::Thread { .. } => is_closed(&self.blocks),
+            Form::Thread { .. } => is_closed(&self.open_blocks),
             Form::End | Form::Else => true,
-            _ => !is_closed(&self.blocks),
+            _ => !is_closed(&self.open_blocks),
         }
     }
 
@@ -114,8 +114,8 @@ impl Reader {
     {
         match form {
             Form::Thread { .. } | Form::If { .. } | Form::While { .. } => true,
-            Form::End => depth(&self.blocks) >= 2,
-            _ => !is_closed(&self.blocks),
+            Form::End => depth(&self.open_blocks) >= 2,
+            _ => !is_closed(&self.open_blocks),
         }
     }
 
@@ -123,8 +123,8 @@ impl Reader {
         ensures { result ≡ reading.closes_nothing (seen_reader self.now) (seen_form form.now) }
     {
         match form {
-            Form::End => is_closed(&self.blocks),
-            Form::Else => !is_in_if(&self.blocks),
+            Form::End => is_closed(&self.open_blocks),
+            Form::Else => !is_in_if(&self.open_blocks),
             _ => false,
         }
     }
@@ -150,7 +150,7 @@ impl Reader {
         match form {
             Form::Thread { .. } => self.names.count(NameKind::Thread) >= self.most_threads(),
             Form::Plain { kind, .. } | Form::Valued { kind, .. } => self.names.count(*kind) >= 64,
-            Form::If { .. } | Form::While { .. } => depth(&self.blocks) >= 33,
+            Form::If { .. } | Form::While { .. } => depth(&self.open_blocks) >= 33,
             _ => false,
         }
     }
@@ -190,7 +190,7 @@ impl Reader {
     pub fn blank_fault(&self, last: bool) -> Option<ScriptFault>
         ensures { result ≡ reading.blank_fault (seen_reader self.now) last }
     {
-        if last && !is_closed(&self.blocks) {
+        if last && !is_closed(&self.open_blocks) {
             Some(ScriptFault::NoEnd)
         } else if last && !self.has_thread() {
             Some(ScriptFault::NoThread)
@@ -233,7 +233,7 @@ impl Reader {
             form => match statement_on(&self.names, ahead, line, form) {
                 None => Ok(self),
                 Some(stmt) => {
-                    push_statement(&mut self.blocks, stmt)?;
+                    push_statement(&mut self.open_blocks, stmt)?;
                     Ok(self)
                 }
             },
@@ -265,7 +265,7 @@ impl Reader {
     fn opened(mut self, alloc: Global, opening: Opening) -> Result<Reader, NoMemory>
         ensures { IfOk result (λ r. seen_reader r ≡ reading.opened (seen_reader self) (seen_opening opening)) }
     {
-        open_block(alloc, &mut self.blocks, opening)?;
+        open_block(alloc, &mut self.open_blocks, opening)?;
         Ok(self)
     }
 
@@ -274,7 +274,7 @@ impl Reader {
     fn ended(mut self, line: u32) -> Result<Reader, NoMemory>
         ensures { IfOk result (λ r. seen_reader r ≡ reading.ended (seen_reader self) (seen_reader self).open_blocks line) }
     {
-        let Some(block) = self.blocks.pop() else {
+        let Some(block) = self.open_blocks.pop() else {
             return Ok(self);
         };
         let OpenBlock { opening, stmts } = block;
@@ -319,7 +319,7 @@ impl Reader {
     fn said(mut self, stmt: Stmt) -> Result<Reader, NoMemory>
         ensures { IfOk result (λ r. seen_reader r ≡ reading.said (seen_reader self) (Some (statement stmt))) }
     {
-        push_statement(&mut self.blocks, stmt)?;
+        push_statement(&mut self.open_blocks, stmt)?;
         Ok(self)
     }
 
@@ -328,7 +328,7 @@ impl Reader {
     fn turned(mut self, alloc: Global, line: u32) -> Result<Reader, NoMemory>
         ensures { IfOk result (λ r. seen_reader r ≡ reading.turned (seen_reader self) (seen_reader self).open_blocks line) }
     {
-        let Some(block) = self.blocks.pop() else {
+        let Some(block) = self.open_blocks.pop() else {
             return Ok(self);
         };
         let OpenBlock { opening, stmts } = block;
@@ -351,7 +351,7 @@ impl Reader {
                 )
             }
             opening => {
-                self.blocks.push(OpenBlock { opening, stmts })?;
+                self.open_blocks.push(OpenBlock { opening, stmts })?;
                 Ok(self)
             }
         }

@@ -1,341 +1,331 @@
-use crate::{ScriptError, ScriptFault, parse};
-use script_tree::ScriptFault::{
-    BadHeader, BadStatement, BadToken, LineTooLong, NoEnd, NoThread, NotUtf8, NumberRange,
-    StrayEnd, TooMany, TooManyLines, TwiceNamed, UnknownName,
-};
+use crate::samples::{EXPRESSIONS, LONG_TEXTS, NO_TEXTS, Parts, TEXTS, THREADS, VARIABLES, Want};
+use crate::{ScriptError, one_answer, parse, print_is_read};
+use script_tree::print_script;
 use std::alloc::{AllocError as NoMemory, Global};
+use std::fmt::Write;
 use std::process::Abort;
 use std::test::Fail;
 
-/// What a text leads to: a script, or its first fault.
-type Want = Option<(u32, ScriptFault)>;
-
-/// A text parses, or has this first fault.
-fn expect(rt: &impl Abort, alloc: Global, text: &[u8], want: Want, what: &str) {
+/// A text is a script, or has this first fault.
+fn expect(rt: &impl Abort, alloc: Global, text: &[u8], want: Want, place: usize) {
     match parse(alloc, text) {
-        Ok(_) => assert_eq!(rt; None, want, "{what}"),
+        Ok(_) => assert_eq!(rt; None, want, "text {place}"),
         Err(ScriptError::Bad { line, kind }) => {
-            assert_eq!(rt; Some((line, kind)), want, "{what}")
+            assert_eq!(rt; Some((line, kind)), want, "text {place}")
         }
-        Err(ScriptError::NoMemory) => panic!(rt; "{what}"),
+        Err(ScriptError::NoMemory) => panic!(rt; "text {place}: no memory"),
     }
 }
 
-/// Texts without a declaration or a block too many.
-const TEXTS: [(&str, Want); 77] = [
-    ("script 1\nthread A\nend\n", None),
-    ("script 1\r\nthread A\r\nend", None),
-    ("# a\n\nscript 1 # b\nthread A\nend", None),
-    ("script 01\nthread A\nend\n", Some((1, BadHeader))),
-    ("script 4\nthread A\nend\n", Some((1, BadHeader))),
-    ("thread A\nend\n", Some((1, BadHeader))),
-    ("\u{feff}script 1\nthread A\nend\n", Some((1, BadHeader))),
-    ("", Some((1, BadHeader))),
-    ("\n\n # \n", Some((1, BadHeader))),
-    ("script 1\n", Some((1, NoThread))),
-    ("script 1", Some((1, NoThread))),
-    ("script 1\n\n", Some((2, NoThread))),
-    ("script 1\nthread A\nset r0 1a\nend\n", Some((3, BadToken))),
-    ("script 1\nthread A\nset r0 1_\nend\n", Some((3, BadToken))),
-    ("script 1\nthread A\nset r0 1#c\nset r0 (1)\nend\n", None),
-    ("script 1\nvar r0x = 1\nthread A\nwrite r0x 1\nend\n", None),
-    ("script 1\nthread A\nset r0 1;\nend\n", Some((3, BadToken))),
-    (
-        "script 1\nthread A\nset r0 1 & 1\nend\n",
-        Some((3, BadToken)),
-    ),
-    (
-        "script 1\nthread A\nset r0 1 | 1\nend\n",
-        Some((3, BadToken)),
-    ),
-    ("script 1\nthread A\n\u{c}\nend\n", Some((3, BadToken))),
-    ("script 1\nthread \u{e9}\nend\n", Some((2, BadToken))),
-    ("script 1\nthread A # \u{e9}\nend\n", None),
-    (
-        "script 1\nthread A\njoin B\nthread B\nend\n",
-        Some((4, BadStatement)),
-    ),
-    (
-        "script 1\nthread A\njoin B\nend\nthread B x\n",
-        Some((3, UnknownName)),
-    ),
-    (
-        "script 1\nthread A\njoin B\nend\nthread B @\n",
-        Some((3, UnknownName)),
-    ),
-    ("script 1\nthread A\njoin B\nend\nthread B # c\nend\n", None),
-    (
-        "script 1\nvar B = 0\nthread A\njoin B\nend\n",
-        Some((4, UnknownName)),
-    ),
-    (
-        "script 1\nvar B = 0\nthread A\njoin B\nend\nthread B\nend\n",
-        Some((6, TwiceNamed)),
-    ),
-    (
-        "script 1\nmutex B\nvar B = 0\nthread A\nend\n",
-        Some((3, TwiceNamed)),
-    ),
-    (
-        "script 1\nthread A\nend\nthread A\nend\n",
-        Some((4, TwiceNamed)),
-    ),
-    ("script 1\nthread A\nif 1\nend\n", Some((4, NoEnd))),
-    ("script 1\nthread A\nelse\n", Some((3, NoEnd))),
-    ("script 1\nend\n", Some((2, StrayEnd))),
-    ("script 1\nelse\n", Some((2, StrayEnd))),
-    (
-        "script 1\nthread A\nend\nend\nthread B\nend\n",
-        Some((4, StrayEnd)),
-    ),
-    ("script 1\nthread A\nelse\nend\n", Some((3, StrayEnd))),
-    (
-        "script 1\nthread A\nif 1\nelse\nelse\nend\nend\n",
-        Some((5, StrayEnd)),
-    ),
-    (
-        "script 1\nthread A\nwhile 0\nelse\nend\nend\n",
-        Some((4, StrayEnd)),
-    ),
-    (
-        "script 1\nthread A\nif 1\nwhile 0\nend\nelse\nend\nend\n",
-        None,
-    ),
-    ("script 1\nthread A\nwhile 1\nend\n", Some((4, NoEnd))),
-    ("script 1\nthread A\nend x\n", Some((3, BadStatement))),
-    ("script 1\nthread A\nread r0 x\n", Some((3, UnknownName))),
-    (
-        "script 1\nvar x = 0\nvar x = 9223372036854775808\n",
-        Some((3, TwiceNamed)),
-    ),
-    (
-        "script 1\nvar x = 9223372036854775808\n",
-        Some((2, NumberRange)),
-    ),
-    ("script 1\nthread if\nend\n", Some((2, BadStatement))),
-    (
-        "script 1\nmutex m\nthread A\nlock r1\nend\n",
-        Some((4, BadStatement)),
-    ),
-    (
-        "script 1\nvar x = 0\nthread A\nread r16 x\nend\n",
-        Some((4, BadStatement)),
-    ),
-    (
-        "script 1\nvar r16 = 0\nvar r00 = 0\nthread A\nwrite r16 r15\nread r15 r00\nend\n",
-        None,
-    ),
-    (
-        "script 1\nvar release = 0\nvar regain = 0\nvar leave = 0\nvar check = 0\nvar fault = 0\nvar begin = 0\nthread A\nend\n",
-        None,
-    ),
-    (
-        "script 1\nthread A\nvar x = 0\nend\n",
-        Some((3, BadStatement)),
-    ),
-    (
-        "script 1\nthread A\nthread B\nend\nend\n",
-        Some((3, BadStatement)),
-    ),
-    (
-        "script 1\nthread A\nend\nvar x = 0\nthread B\nend\n",
-        Some((4, BadStatement)),
-    ),
-    (
-        "script 1\nscript 1\nthread A\nend\n",
-        Some((2, BadStatement)),
-    ),
-    (
-        "script 1\nsem s = - 1\nthread A\nend\n",
-        Some((2, BadStatement)),
-    ),
-    ("script 1\nsem s = 2147483647\nthread A\nup s\nend\n", None),
-    (
-        "script 1\nsem s = 2147483648\nthread A\nend\n",
-        Some((2, NumberRange)),
-    ),
-    (
-        "script 1\nbarrier b = 0\nthread A\nend\n",
-        Some((2, NumberRange)),
-    ),
-    ("script 1\nbarrier b = 1000\nthread A\nend\n", None),
-    (
-        "script 1\nbarrier b = 1001\nthread A\nend\n",
-        Some((2, NumberRange)),
-    ),
-    (
-        "script 1\nthread A\nassert 1 < 2 < 3\nend\n",
-        Some((3, BadStatement)),
-    ),
-    ("script 1\nthread A\nassert (1 < 2) < 3\nend\n", None),
-    (
-        "script 1\nthread A\nassert --1 + !!r0 * -!1 - 1--1\nend\n",
-        None,
-    ),
-    (
-        "script 1\nthread A\nassert (1\nend\n",
-        Some((3, BadStatement)),
-    ),
-    (
-        "script 1\nthread A\nassert 1)\nend\n",
-        Some((3, BadStatement)),
-    ),
-    ("script 1\nthread A\nassert\nend\n", Some((3, BadStatement))),
-    (
-        "script 1\nthread A\nset r0 9223372036854775807 + 1\nend\n",
-        None,
-    ),
-    (
-        "script 1\nthread A\nset r0 -9223372036854775808\nend\n",
-        Some((3, NumberRange)),
-    ),
-    (
-        "script 1\nthread A\nset r0 9223372036854775808 +\nend\n",
-        Some((3, BadStatement)),
-    ),
-    (
-        "script 1\nvar x = - 9223372036854775808\nthread A\nend\n",
-        None,
-    ),
-    (
-        "script 1\nvar x = - 9223372036854775809\nthread A\nend\n",
-        Some((2, NumberRange)),
-    ),
-    (
-        "script 1\nvar x = 0\nthread A\nadd r0 x 3\ncas r1 x 8, 9\nend\n",
-        None,
-    ),
-    (
-        "script 1\nvar x = 0\nthread A\ncas r1 x 8 9\nend\n",
-        Some((4, BadStatement)),
-    ),
-    (
-        "script 1\nthread A\nstart B\nend\nthread B\nend\n",
-        Some((3, BadStatement)),
-    ),
-    ("script 2\nthread A\nstart B\nend\nthread B\nend\n", None),
-    (
-        "script 1\nvar start = 0\nmutex rdlock\nthread rwlock\nlock rdlock\nwrite start 1\nend\n",
-        None,
-    ),
-    (
-        "script 2\nvar start = 0\nthread A\nend\n",
-        Some((2, BadStatement)),
-    ),
-    (
-        "script 3\nrwlock l\nthread A\nrdlock l\ntrywrlock r0 l\nwrlock l\ntryrdlock r1 l\nrwunlock l\nend\n",
-        None,
-    ),
-];
+fn expect_texts(rt: &impl Abort, alloc: Global, texts: &[(&str, Want)]) {
+    for (place, (text, want)) in texts.iter().enumerate() {
+        expect(rt, alloc, text.as_bytes(), *want, place);
+    }
+}
 
 #[test]
 fn texts_have_their_answers(rt: HostRuntime) {
-    for (text, want) in TEXTS {
-        expect(&rt, rt.alloc(), text.as_bytes(), want, text);
+    expect_texts(&rt, rt.alloc(), &TEXTS);
+}
+
+fn expect_bytes(rt: &impl Abort, alloc: Global, texts: &[(&[u8], Want)]) {
+    for (place, (text, want)) in texts.iter().enumerate() {
+        expect(rt, alloc, text, *want, place);
     }
 }
 
-/// A text with a piece that stands in it several times.
-fn repeated(
-    alloc: Global,
-    front: &str,
-    piece: &str,
-    count: usize,
-    back: &str,
-) -> Result<Vec<u8>, NoMemory> {
-    let mut text = Vec::from_slice(alloc, front.as_bytes())?;
+#[test]
+fn bytes_that_are_no_text_have_their_answers(rt: HostRuntime) {
+    expect_bytes(&rt, rt.alloc(), &NO_TEXTS);
+}
+
+fn push_repeated(out: &mut Vec<u8>, piece: &str, count: usize) -> Result<(), NoMemory> {
     for _ in 0..count {
-        text.extend_from_slice(piece.as_bytes())?;
+        out.extend_from_slice(piece.as_bytes())?;
     }
-    text.extend_from_slice(back.as_bytes())?;
+    Ok(())
+}
+
+fn text_of(alloc: Global, parts: Parts) -> Result<Vec<u8>, NoMemory> {
+    let mut text = Vec::new(alloc);
+    for (piece, count) in parts {
+        push_repeated(&mut text, piece, *count)?;
+    }
     Ok(text)
+}
+
+fn expect_parts(rt: &impl Abort, alloc: Global, texts: &[(Parts, Want)]) -> Result<(), NoMemory> {
+    for (place, (parts, want)) in texts.iter().enumerate() {
+        expect(rt, alloc, &text_of(alloc, parts)?, *want, place);
+    }
+    Ok(())
+}
+
+#[test]
+fn long_texts_have_their_answers(rt: HostRuntime) -> Result<(), Fail> {
+    expect_parts(&rt, rt.alloc(), &LONG_TEXTS)?;
+    Ok(())
 }
 
 /// A script of so many threads.
-fn threads(alloc: Global, version: u32, count: u32) -> Result<Vec<u8>, Fail> {
-    let mut text = Vec::new(alloc);
-    text.extend_from_slice(format!(in alloc; "script {version}\n")?.as_bytes())?;
+fn threads(alloc: Global, version: u32, count: u32) -> Result<String, NoMemory> {
+    let mut text = String::new(alloc);
+    write!(text, "script {version}\n")?;
     for thread in 0..count {
-        text.extend_from_slice(format!(in alloc; "thread T{thread}\nend\n")?.as_bytes())?;
+        write!(text, "thread T{thread}\nend\n")?;
     }
     Ok(text)
 }
 
-#[test]
-fn threads_are_counted(rt: HostRuntime) -> Result<(), Fail> {
-    for (version, count, want) in [
-        (1, 16, None),
-        (1, 17, Some((34, TooMany))),
-        (2, 17, Some((34, TooMany))),
-        (3, 64, None),
-        (3, 65, Some((130, TooMany))),
-    ] {
-        let text = threads(rt.alloc(), version, count)?;
-        expect(&rt, rt.alloc(), &text, want, "threads");
+fn expect_threads(
+    rt: &impl Abort,
+    alloc: Global,
+    counts: &[(u32, u32, Want)],
+) -> Result<(), NoMemory> {
+    for (place, (version, count, want)) in counts.iter().enumerate() {
+        let text = threads(alloc, *version, *count)?;
+        expect(rt, alloc, text.as_bytes(), *want, place);
+    }
+    Ok(())
+}
+
+/// A text of so many variables.
+fn variables(alloc: Global, count: u32, back: &str) -> Result<String, NoMemory> {
+    let mut text = String::from_str(alloc, "script 1\n")?;
+    for var in 0..count {
+        write!(text, "var v{var} = 0\n")?;
+    }
+    text.push_str(back)?;
+    Ok(text)
+}
+
+fn expect_variables(
+    rt: &impl Abort,
+    alloc: Global,
+    counts: &[(u32, &str, Want)],
+) -> Result<(), NoMemory> {
+    for (place, (count, back, want)) in counts.iter().enumerate() {
+        let text = variables(alloc, *count, back)?;
+        expect(rt, alloc, text.as_bytes(), *want, place);
     }
     Ok(())
 }
 
 #[test]
-fn lines_and_blocks_are_counted(rt: HostRuntime) -> Result<(), Fail> {
-    let alloc = rt.alloc();
-    let blocks = "script 1\nthread A\n";
-    let many =
-        "script 1\nthread A\nif 1\nif 1\nif 1\nif 1\nif 1\nif 1\nif 1\nif 1\nif 1\nif 1\nif 1\nif 1\nif 1\nif 1\nif 1\nif 1\nif 1\nif 1\nif 1\nif 1\nif 1\nif 1\nif 1\nif 1\nif 1\nif 1\nif 1\nif 1\nif 1\nif 1\nif 1\nif 1\n";
-    expect(
-        &rt,
-        alloc,
-        &repeated(alloc, many, "end\n", 33, "")?,
-        None,
-        "32 blocks",
-    );
-    expect(
-        &rt,
-        alloc,
-        &repeated(alloc, blocks, "if 1\n", 33, "end\n")?,
-        Some((35, TooMany)),
-        "33 blocks",
-    );
-    expect(
-        &rt,
-        alloc,
-        &repeated(alloc, blocks, "if 1\n", 33, "")?,
-        Some((35, NoEnd)),
-        "33 blocks at the end",
-    );
-    expect(
-        &rt,
-        alloc,
-        &repeated(alloc, "", "\n", 4096, "script 1\n")?,
-        Some((4097, TooManyLines)),
-        "lines",
-    );
-    let front =
-        "script 1\nthread A\nassert ((((((((((((((((((((((((((((((((((((((((((((((((((((((((((((((((((((((((((((((((((((((((((((((((((((((((((((((((((((((((((((1";
-    expect(
-        &rt,
-        alloc,
-        &repeated(alloc, front, ")", 124, "\nend\n")?,
-        None,
-        "124 parentheses",
-    );
-    expect(
-        &rt,
-        alloc,
-        &repeated(alloc, front, ")", 124, " \nend\n")?,
-        Some((3, LineTooLong)),
-        "a line of 257 bytes",
-    );
-    let text = repeated(alloc, "", "#\n", 524288, "")?;
-    expect(&rt, alloc, &text, Some((1, BadHeader)), "1048576 bytes");
-    let text = repeated(alloc, "\n", "#\n", 524288, "")?;
-    expect(&rt, alloc, &text, Some((1, TooMany)), "1048577 bytes");
-    expect(
-        &rt,
-        alloc,
-        b"script 1\nthread A\nend # \xff\n",
-        Some((3, NotUtf8)),
-        "not text",
-    );
+fn threads_and_objects_are_counted(rt: HostRuntime) -> Result<(), Fail> {
+    expect_threads(&rt, rt.alloc(), &THREADS)?;
+    expect_variables(&rt, rt.alloc(), &VARIABLES)?;
     Ok(())
+}
+
+/// Two producers, and one consumer, of a buffer of one place.
+const BUFFER: &[u8] = b"\
+script 1
+var full = 0
+mutex m
+cond room
+cond item
+thread P1
+  set r1 0
+  while r1 < 2
+    lock m
+    read r0 full
+    if r0 == 1
+      wait room m
+    end
+    read r0 full
+    assert r0 == 0
+    write full 1
+    signal item
+    unlock m
+    set r1 r1 + 1
+  end
+end
+thread P2
+  set r1 0
+  while r1 < 2
+    lock m
+    read r0 full
+    if r0 == 1
+      wait room m
+    end
+    read r0 full
+    assert r0 == 0
+    write full 1
+    signal item
+    unlock m
+    set r1 r1 + 1
+  end
+end
+thread Q
+  set r1 0
+  while r1 < 4
+    lock m
+    read r0 full
+    while r0 == 0
+      wait item m
+      read r0 full
+    end
+    write full 0
+    signal room
+    unlock m
+    set r1 r1 + 1
+  end
+end
+";
+
+/// The same as it is printed.
+const BUFFER_PRINTED: &[u8] = b"\
+script 1
+var full = 0
+mutex m
+cond room
+cond item
+thread P1
+set r1 0
+while (r1 < 2)
+lock m
+read r0 full
+if (r0 == 1)
+wait room m
+end
+read r0 full
+assert (r0 == 0)
+write full 1
+signal item
+unlock m
+set r1 (r1 + 1)
+end
+end
+thread P2
+set r1 0
+while (r1 < 2)
+lock m
+read r0 full
+if (r0 == 1)
+wait room m
+end
+read r0 full
+assert (r0 == 0)
+write full 1
+signal item
+unlock m
+set r1 (r1 + 1)
+end
+end
+thread Q
+set r1 0
+while (r1 < 4)
+lock m
+read r0 full
+while (r0 == 0)
+wait item m
+read r0 full
+end
+write full 0
+signal room
+unlock m
+set r1 (r1 + 1)
+end
+end
+";
+
+/// A text is parsed as a script that prints as `printed`, which is parsed as the same script. Its lines are those of
+/// its print.
+fn expect_print(rt: &impl Abort, alloc: Global, text: &[u8], printed: &[u8]) -> Result<(), Fail> {
+    let script = parse(alloc, text)?;
+    let print = print_script(alloc, &script)?;
+    assert_eq!(rt; print.as_slice(), printed);
+    let again = parse(alloc, &print)?;
+    let first = format!(in alloc; "{script:?}")?;
+    let second = format!(in alloc; "{again:?}")?;
+    assert_eq!(rt; first.as_str(), second.as_str());
+    Ok(())
+}
+
+fn expect_expressions(
+    rt: &impl Abort,
+    alloc: Global,
+    expressions: &[(&str, &str)],
+) -> Result<(), Fail> {
+    for (source, printed) in expressions {
+        let text = format!(in alloc; "script 1\nthread A\nassert {source}\nend\n")?;
+        let print = format!(in alloc; "script 1\nthread A\nassert {printed}\nend\n")?;
+        expect_print(rt, alloc, text.as_bytes(), print.as_bytes())?;
+    }
+    Ok(())
+}
+
+#[test]
+fn expressions_group_by_strength(rt: HostRuntime) -> Result<(), Fail> {
+    expect_expressions(&rt, rt.alloc(), &EXPRESSIONS)
+}
+
+#[test]
+fn prints_are_parsed_as_the_same(rt: HostRuntime) -> Result<(), Fail> {
+    expect_print(&rt, rt.alloc(), BUFFER, BUFFER_PRINTED)?;
+    for pieces in [1, 100] {
+        let text = large_script(rt.alloc(), pieces)?;
+        expect_print(&rt, rt.alloc(), text.as_bytes(), text.as_bytes())?;
+    }
+    one_answer();
+    print_is_read();
+    Ok(())
+}
+
+/// One piece of a thread: a variable is raised, in every fourth piece under no mutex.
+fn push_piece(out: &mut String, thread: u8, piece: u8) -> Result<(), NoMemory> {
+    let object = (u32::from(thread) + u32::from(piece)) % 8;
+    if piece % 4 == 0 {
+        write!(
+            out,
+            "yield\nread r0 v{object}\nwrite v{object} (r0 + 1)\nyield\n"
+        )
+    } else {
+        write!(
+            out,
+            "lock m{object}\nread r0 v{object}\nwrite v{object} (r0 + 1)\nunlock m{object}\n"
+        )
+    }
+}
+
+fn push_thread(out: &mut String, thread: u8, pieces: u8) -> Result<(), NoMemory> {
+    write!(out, "thread T{thread}\n")?;
+    for piece in 0..pieces {
+        push_piece(out, thread, piece)?;
+    }
+    out.push_str("end\n")
+}
+
+fn push_objects(out: &mut String) -> Result<(), NoMemory> {
+    for var in 0..8 {
+        write!(out, "var v{var} = 0\n")?;
+    }
+    for mutex in 0..8 {
+        write!(out, "mutex m{mutex}\n")?;
+    }
+    Ok(())
+}
+
+/// The thread that joins the others, and sums the variables up.
+fn push_sum(out: &mut String, sum: u32) -> Result<(), NoMemory> {
+    out.push_str("thread Z\n")?;
+    for thread in 0..8 {
+        write!(out, "join T{thread}\n")?;
+    }
+    for var in 0..8 {
+        write!(out, "read r0 v{var}\nset r1 (r1 + r0)\n")?;
+    }
+    write!(out, "assert (r1 == {sum})\nend\n")
+}
+
+/// A script of eight threads of so many pieces, in its canonical layout, and of one that checks what they did.
+fn large_script(alloc: Global, pieces: u8) -> Result<String, NoMemory> {
+    let mut text = String::from_str(alloc, "script 1\n")?;
+    push_objects(&mut text)?;
+    for thread in 0..8 {
+        push_thread(&mut text, thread, pieces)?;
+    }
+    push_sum(&mut text, 8 * u32::from(pieces))?;
+    Ok(text)
 }

@@ -1,4 +1,4 @@
-use Rattle.std.proofs.Common.{◌≡◌, ◌<◌, ◌++◌, ◌∷◌, [], sym, ap, ◌∙◌, arith, append_assoc}
+use Rattle.std.proofs.Common.{◌++◌, ◌∷◌, [], sym, ap, ◌∙◌, arith, append_assoc}
 use Rattle.pct_ask.specs.Lines.{lines_of}
 use Rattle.script_parse.proofs.AheadSteps.{front_few, threads_few}
 use Rattle.script_parse.proofs.ahead.look_ahead.Goals as goal

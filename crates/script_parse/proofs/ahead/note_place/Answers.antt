@@ -1,4 +1,4 @@
-use Rattle.std.proofs.Common.{◌≡◌, sym, ◌∙◌}
+use Rattle.std.proofs.Common.{sym, ◌∙◌}
 use Rattle.script_parse.proofs.Places.{places_same, places_more}
 use Rattle.script_parse.proofs.ahead.note_place.Goals as goal
 

@@ -1,6 +1,4 @@
-use Rattle.std.proofs.Common.{◌≡◌, ℕ, true, List, [], ◌∷◌, Some, refl, sym, ap, ◌∙◌}
-use Rattle.std.specs.Prelude.{codes}
-use Rattle.pct_ask.specs.Tokens.{Token, Number, Symbol}
+use Rattle.std.proofs.Common.{sym, ◌∙◌}
 use Rattle.script_parse.proofs.FirstValues.{minus_is}
 use Rattle.script_parse.proofs.declaration.minus_value.Goals as goal
 

@@ -1,7 +1,5 @@
-use Rattle.std.proofs.Common.{◌≡◌, ℕ, Option, Some, None, sym, ap, ◌∙◌, rules, refl}
-use Rattle.script_tree.specs.Forms.{Meant}
-use Rattle.script_parse.specs.Numbers.{saturated}
-use Rattle.script_parse.specs.Saying.{cas_parts, parts_at, is_comma}
+use Rattle.std.proofs.Common.{◌≡◌, None, ◌∙◌, rules, refl}
+use Rattle.script_parse.specs.Saying.{is_comma}
 use Rattle.std.specs.List.{position}
 use Rattle.script_parse.specs.Seen.{all_seen}
 use Rattle.script_parse.proofs.Commas.{position_seen, parts_seen}

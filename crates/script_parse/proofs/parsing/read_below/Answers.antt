@@ -1,4 +1,4 @@
-use Rattle.std.proofs.Common.{◌≡◌, sym, ◌∙◌}
+use Rattle.std.proofs.Common.{sym, ◌∙◌}
 use Rattle.script_parse.specs.Ahead.{place_ahead}
 use Rattle.script_parse.specs.Seen.{all_seen}
 use Rattle.script_parse.specs.SeenForms.{seen_form}

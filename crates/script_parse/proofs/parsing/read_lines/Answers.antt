@@ -1,4 +1,4 @@
-use Rattle.std.proofs.Common.{◌≡◌, ℕ, ◌+◌, length, None, Ok, Err, sym, ap, ◌∙◌, arith}
+use Rattle.std.proofs.Common.{length, sym, ap, ◌∙◌, arith}
 use Rattle.pct_ask.specs.Lines.{lines_of}
 use Rattle.script_parse.specs.Ahead.{place_ahead}
 use Rattle.script_parse.specs.SeenParts.{seen_reader}

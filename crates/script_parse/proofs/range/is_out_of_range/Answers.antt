@@ -1,4 +1,4 @@
-use Rattle.std.proofs.Common.{◌≡◌, sym, ◌∙◌, refl}
+use Rattle.std.proofs.Common.{◌∙◌}
 use Rattle.script_parse.specs.Seen.{all_seen}
 use Rattle.script_parse.proofs.Great.{great_seen, great_other}
 use Rattle.script_parse.proofs.range.is_out_of_range.Goals as goal

@@ -1,4 +1,3 @@
-use Rattle.std.proofs.Common.{◌≡◌}
 use Rattle.script_tree.proofs.SeenLemmas.{statement-IfElse}
 use Rattle.script_parse.proofs.reader.Reader.ended_by.Goals as goal
 
