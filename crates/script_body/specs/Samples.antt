@@ -1,21 +1,20 @@
 -- The scripts of the tests: two threads over an object of each of five kinds.
-use Rattle.std.specs.Prelude.{◌≡◌, ℕ, pos, ◌&&◌, Bool, true, nat_le, List, [], ◌∷◌, codes}
+use Rattle.std.specs.Prelude.{◌≡◌, ℕ, ◌+◌, pos, ◌&&◌, Bool, true, nat_le, List, [], ◌∷◌, codes}
 use Rattle.pct_ask.specs.NameLists.{NameLists}
 use Rattle.script_tree.specs.declared.expr.Op.TheVariants as ops
 use Rattle.script_tree.specs.Trees.{Expression, Number, Reg, Minus, Two, Statement, Statements, Closed, Then, Add, Cas, Lock, TryLock, Wait, Unlock, Signal, TryDown, Up, Start, Arrive, Assert, Set, While, Yield, closed_at}
 use Rattle.script_tree.specs.ScriptText.{ScriptText}
 use Rattle.script_tree.specs.Fitting.{statements_fit, counts_of}
 
+abbrev pub thread_names : NameLists
+thread_names = record { threads = codes "A" ∷ codes "B" ∷ []; vars = []; mutexes = []; conds = []; sems = []; barriers = []; rwlocks = [] }
+
+-- with what the threads change and wait for
+abbrev pub lock_names : NameLists
+lock_names = record thread_names { vars = codes "x" ∷ []; mutexes = codes "m" ∷ []; conds = codes "c" ∷ [] }
+
 abbrev pub sample_names : NameLists
-sample_names = record {
-  threads = codes "A" ∷ codes "B" ∷ [];
-  vars = codes "x" ∷ [];
-  mutexes = codes "m" ∷ [];
-  conds = codes "c" ∷ [];
-  sems = codes "s" ∷ [];
-  barriers = codes "b" ∷ [];
-  rwlocks = [];
-}
+sample_names = record lock_names { sems = codes "s" ∷ []; barriers = codes "b" ∷ [] }
 
 -- statements that a thread of them may have
 abbrev pub may_stand : Statements → Bool
@@ -73,3 +72,25 @@ overflowing =
 -- it meets another thread twice
 abbrev pub meeting : List Statement
 meeting = Arrive 31 0 0 ∷ Arrive 32 1 0 ∷ Assert 33 (Two ops.Lt (Reg 0) (Reg 1)) ∷ []
+
+-- it starts the second thread
+abbrev pub starting : List Statement
+starting = Start 8 1 ∷ []
+
+-- a local move
+abbrev pub moving : ℕ → Statement
+moving line = Set line 1 (Number (pos 1))
+
+-- 4,999 rounds of two moves, and the test that ends them
+abbrev pub rounds : ℕ → Statement
+rounds line =
+    While line (Two ops.Lt (Reg 0) (Number (pos 4999)))
+    (Then (Set (line + 1) 0 (Two ops.Plus (Reg 0) (Number (pos 1)))) (Closed (line + 2)))
+
+-- 10,000 moves, and then an ask
+abbrev pub counting : ℕ → List Statement
+counting line = moving line ∷ rounds (line + 1) ∷ Yield (line + 4) ∷ []
+
+-- a statement may stand alone in a thread
+abbrev pub MayStandAlone : Statement → Type 0
+MayStandAlone s = MayStand (Then s (Closed 9))

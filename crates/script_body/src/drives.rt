@@ -1,9 +1,14 @@
 //! Bodies that are driven by hand.
 
 use crate::ScriptBody;
-use crate::samples::{dividing, meeting, sample, trying, waiting};
+use crate::samples::{
+    Place, counting, counting_more, dividing, faulting, idle, meeting, sample, started, starting,
+    trying, waiting,
+};
 use pct_ask::{Ask, Body, FaultKind, Post};
 use script_code::{Code, compile};
+use script_tree::Op;
+use std::alloc::{AllocError as NoMemory, Global};
 use std::process::Abort;
 use std::test::Fail;
 
@@ -107,5 +112,66 @@ fn quotients_are_truncated(rt: HostRuntime) -> Result<(), Fail> {
     let code = compile(alloc, &script)?;
     expect_posts(&rt, &code, 0, &DIVIDES, 13);
     expect_posts(&rt, &code, 1, &MEETS, 34);
+    Ok(())
+}
+
+const STARTS: [(Ask, u32, i64); 1] = [(Ask::Start { thread: 1 }, 8, 0)];
+
+/// The answer to the first ask of a thread that another one starts is told to nobody.
+const BEGINS: [(Ask, u32, i64); 2] = [(Ask::Begin, 30, 7), (HOLDS, 31, 0)];
+
+#[test]
+fn a_started_thread_begins_first(rt: HostRuntime) -> Result<(), Fail> {
+    let alloc = rt.alloc();
+    let script = sample(alloc, starting(alloc)?, started(alloc)?)?;
+    let code = compile(alloc, &script)?;
+    expect_posts(&rt, &code, 0, &STARTS, 9);
+    expect_posts(&rt, &code, 1, &BEGINS, 32);
+    Ok(())
+}
+
+#[test]
+fn a_thread_spins_after_ten_thousand_moves(rt: HostRuntime) -> Result<(), Fail> {
+    let alloc = rt.alloc();
+    let script = sample(alloc, counting(alloc)?, counting_more(alloc)?)?;
+    let code = compile(alloc, &script)?;
+    expect_posts(&rt, &code, 0, &[(Ask::Yield, 12, 0)], 13);
+    expect_posts(&rt, &code, 1, &[(SPIN, 33, 0)], 37);
+    Ok(())
+}
+
+const PLACES: [Place; 8] = [
+    Place::Set,
+    Place::Write,
+    Place::Add,
+    Place::CasOld,
+    Place::CasNew,
+    Place::If,
+    Place::While,
+    Place::Assert,
+];
+
+/// At each place the greatest number and another one fault.
+fn expect_fault(
+    rt: &impl Abort,
+    alloc: Global,
+    places: &[Place],
+    op: Op,
+    right: u32,
+    kind: FaultKind,
+) -> Result<(), NoMemory> {
+    for place in places {
+        let script = sample(alloc, faulting(alloc, *place, op, right)?, idle(alloc))?;
+        let code = compile(alloc, &script)?;
+        expect_posts(rt, &code, 0, &[(Ask::Fault { kind }, 8, 0)], 9);
+    }
+    Ok(())
+}
+
+#[test]
+fn each_place_has_its_fault(rt: HostRuntime) -> Result<(), Fail> {
+    let alloc = rt.alloc();
+    expect_fault(&rt, alloc, &PLACES, Op::Plus, 1, FaultKind::Overflow)?;
+    expect_fault(&rt, alloc, &PLACES, Op::Over, 0, FaultKind::ZeroDivisor)?;
     Ok(())
 }

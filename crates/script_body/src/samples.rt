@@ -1,11 +1,12 @@
 //! The scripts of the tests: two threads over an object of each of five kinds.
 
-ghost use Rattle.std.specs.Prelude.{◌≡◌, ℕ, pos, ◌++◌, [], ◌∷◌, true, IfOk, OnOk};
+ghost use Rattle.std.specs.Prelude.{◌≡◌, ◌<◌, ◌++◌, [], ◌∷◌, true, IfOk, OnOk};
+ghost use Rattle.pct_ask.specs.NameLists.{no_names};
 ghost use Rattle.script_tree.specs.Fitting.{expression_fits};
 ghost use Rattle.script_tree.specs.Seen.{expression, statement, statements, block};
 ghost use Rattle.script_tree.specs.Trees as trees;
-ghost use Rattle.script_tree.specs.Trees.{Then, Closed, closed_at};
-ghost use Rattle.script_body.specs.Samples.{sample_names, MayStand, equals, minus, trying, tried, waiting, dividing, overflowing, meeting};
+ghost use Rattle.script_tree.specs.Trees.{closed_at};
+ghost use Rattle.script_body.specs.Samples.{thread_names, lock_names, sample_names, MayStand, MayStandAlone, equals, minus, trying, tried, waiting, dividing, overflowing, meeting, moving, rounds, counting};
 
 use pct_ask::{NameKind, Names, NumberList};
 use script_tree::{Block, Expr, Op, Script, Stmt, ThreadText};
@@ -242,17 +243,195 @@ pub(crate) fn meeting(alloc: Global) -> Result<Block, NoMemory>
     Ok(closed(stmts, 34))
 }
 
+/// It starts the second thread.
+pub(crate) fn starting(alloc: Global) -> Result<Block, NoMemory>
+    ensures { IfOk result (λ b. MayStand (block b)) }
+{
+    alone(alloc, Stmt::Start { line: 8, thread: 1 })
+}
+
+/// It asserts that a register is 0.
+pub(crate) fn started(alloc: Global) -> Result<Block, NoMemory>
+    ensures { IfOk result (λ b. MayStand (block b)) }
+{
+    let mut stmts = Vec::new(alloc);
+    push(
+        assert(alloc, 31, Op::Eq, register(0), number(0))?,
+        &mut stmts,
+    )?;
+    Ok(closed(stmts, 32))
+}
+
+#[tactic(auto, using(script_tree::proofs::SeenLemmas::seen_laws))]
+fn moving(line: u32) -> Stmt
+    ensures { statement result ≡ moving line }
+{
+    Stmt::Set {
+        line,
+        reg: 1,
+        value: number(1),
+    }
+}
+
+#[tactic(auto, using(script_tree::proofs::SeenLemmas::seen_laws))]
+fn rounds(alloc: Global, line: u32) -> Result<Stmt, NoMemory>
+    requires { line < 1000 }
+    ensures { IfOk result (λ s. statement s ≡ rounds line) }
+{
+    let more = set(alloc, line + 1, 0, Op::Plus, register(0), number(1))?;
+    let test = two(alloc, Op::Lt, register(0), number(4999))?;
+    let mut stmts = Vec::new(alloc);
+    push(more, &mut stmts)?;
+    let body = closed(stmts, line + 2);
+    Ok(Stmt::While { line, test, body })
+}
+
+#[tactic(auto, using(script_tree::proofs::SeenLemmas::seen_laws))]
+fn push_counting(alloc: Global, line: u32, stmts: &mut Vec<Stmt>) -> Result<(), NoMemory>
+    requires { line < 900 }
+    ensures { OnOk result (statements stmts.new.items ≡ statements stmts.old.items ++ counting line) }
+{
+    push(moving(line), stmts)?;
+    push(rounds(alloc, line + 1)?, stmts)?;
+    push(Stmt::Yield { line: line + 4 }, stmts)
+}
+
+/// 10,000 local moves, and then an ask.
+pub(crate) fn counting(alloc: Global) -> Result<Block, NoMemory>
+    ensures { IfOk result (λ b. MayStand (block b)) }
+{
+    let mut stmts = Vec::new(alloc);
+    push_counting(alloc, 8, &mut stmts)?;
+    Ok(closed(stmts, 13))
+}
+
+/// One move more.
+pub(crate) fn counting_more(alloc: Global) -> Result<Block, NoMemory>
+    ensures { IfOk result (λ b. MayStand (block b)) }
+{
+    let mut stmts = Vec::new(alloc);
+    push(moving(31), &mut stmts)?;
+    push_counting(alloc, 32, &mut stmts)?;
+    Ok(closed(stmts, 37))
+}
+
+/// Where an expression stands.
+#[derive(Clone, Copy, Debug)]
+pub(crate) enum Place {
+    Set,
+    Write,
+    Add,
+    CasOld,
+    CasNew,
+    If,
+    While,
+    Assert,
+}
+
+// A statement that has this value at a place.
+#[tactic(auto, using(script_tree::proofs::SeenLemmas::seen_laws))]
+fn statement_with(alloc: Global, place: Place, value: Expr) -> Stmt
+    requires { expression_fits (expression value) ≡ true }
+    ensures { MayStandAlone (statement result) }
+{
+    let (line, reg, var) = (8, 0, 0);
+    match place {
+        Place::Set => Stmt::Set { line, reg, value },
+        Place::Write => Stmt::Write { line, var, value },
+        Place::Add => Stmt::Add {
+            line,
+            reg,
+            var,
+            value,
+        },
+        Place::CasOld => Stmt::Cas {
+            line,
+            reg,
+            var,
+            old: value,
+            new: number(1),
+        },
+        Place::CasNew => Stmt::Cas {
+            line,
+            reg,
+            var,
+            old: number(1),
+            new: value,
+        },
+        Place::If => Stmt::If {
+            line,
+            test: value,
+            then: closed(Vec::new(alloc), line),
+            otherwise: None,
+        },
+        Place::While => Stmt::While {
+            line,
+            test: value,
+            body: closed(Vec::new(alloc), line),
+        },
+        Place::Assert => Stmt::Assert { line, test: value },
+    }
+}
+
+fn alone(alloc: Global, stmt: Stmt) -> Result<Block, NoMemory>
+    requires { MayStandAlone (statement stmt) }
+    ensures { IfOk result (λ b. MayStand (block b)) }
+{
+    let mut stmts = Vec::new(alloc);
+    push(stmt, &mut stmts)?;
+    Ok(closed(stmts, 9))
+}
+
+/// The most that a number is and another one, at a place of the only statement.
+pub(crate) fn faulting(alloc: Global, place: Place, op: Op, right: u32) -> Result<Block, NoMemory>
+    ensures { IfOk result (λ b. MayStand (block b)) }
+{
+    let value = two(alloc, op, number(i64::MAX), number(i64::from(right)))?;
+    alone(alloc, statement_with(alloc, place, value))
+}
+
+/// No statements.
+pub(crate) fn idle(alloc: Global) -> Block
+    ensures { MayStand (block result) }
+{
+    closed(Vec::new(alloc), 31)
+}
+
+fn add_threads(alloc: Global, names: &mut Names) -> Result<(), NoMemory>
+    requires { names.old ≡ no_names }
+    ensures { OnOk result (names.new ≡ thread_names) }
+{
+    names.add(alloc, NameKind::Thread, b"A")?;
+    names.add(alloc, NameKind::Thread, b"B")?;
+    Ok(())
+}
+
+fn add_locks(alloc: Global, names: &mut Names) -> Result<(), NoMemory>
+    requires { names.old ≡ thread_names }
+    ensures { OnOk result (names.new ≡ lock_names) }
+{
+    names.add(alloc, NameKind::Var, b"x")?;
+    names.add(alloc, NameKind::Mutex, b"m")?;
+    names.add(alloc, NameKind::Cond, b"c")?;
+    Ok(())
+}
+
+fn add_counters(alloc: Global, names: &mut Names) -> Result<(), NoMemory>
+    requires { names.old ≡ lock_names }
+    ensures { OnOk result (names.new ≡ sample_names) }
+{
+    names.add(alloc, NameKind::Sem, b"s")?;
+    names.add(alloc, NameKind::Barrier, b"b")?;
+    Ok(())
+}
+
 fn names(alloc: Global) -> Result<Names, NoMemory>
     ensures { IfOk result (λ names. names ≡ sample_names) }
 {
     let mut names = Names::new(alloc);
-    names.add(alloc, NameKind::Thread, b"A")?;
-    names.add(alloc, NameKind::Thread, b"B")?;
-    names.add(alloc, NameKind::Var, b"x")?;
-    names.add(alloc, NameKind::Mutex, b"m")?;
-    names.add(alloc, NameKind::Cond, b"c")?;
-    names.add(alloc, NameKind::Sem, b"s")?;
-    names.add(alloc, NameKind::Barrier, b"b")?;
+    add_threads(alloc, &mut names)?;
+    add_locks(alloc, &mut names)?;
+    add_counters(alloc, &mut names)?;
     Ok(names)
 }
 
