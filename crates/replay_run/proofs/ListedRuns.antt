@@ -1,5 +1,5 @@
 -- The list of a run's own threads makes that run again, and no run by a list is longer than the list.
-use Rattle.std.proofs.Common.{◌≡◌, ℕ, zero, suc, ◌<◌, ◌≤◌, Bool, true, false, eqb, Option, Some, None, List, [], ◌∷◌, ◌++◌, length, map, refl, sym, ap, subst, ◌∙◌, arith, inl, inr}
+use Rattle.std.proofs.Common.{◌≡◌, ℕ, zero, suc, ◌<◌, ◌≤◌, Bool, true, false, eqb, Option, Some, None, List, [], ◌∷◌, ◌++◌, length, refl, sym, ap, subst, ◌∙◌, arith, inl, inr}
 use Rattle.std.specs.Prelude.{slice_get}
 use Rattle.std.specs.Option.{option_map}
 use Rattle.std.proofs.lemmas.Bool.{cases_lt}
@@ -17,14 +17,14 @@ use Rattle.policy_pick.specs.declared.chance.Chance.TheVariants.{Away, Ready, Bl
 use Rattle.policy_pick.specs.declared.chance.Pick.{Pick}
 use Rattle.policy_pick.specs.declared.chance.Pick.TheVariants.{Thread, Waits, Nobody, Departs}
 use Rattle.policy_pick.specs.Plan.{Plan, ByList, SpeaksOf}
-use Rattle.policy_pick.specs.Choice.{choice, choice_by_list, choice_by_number, chance_of, is_open, pick_at, IsWaits, MayDepart}
+use Rattle.policy_pick.specs.Choice.{choice_by_list, choice_by_number, chance_of, is_open, pick_at, IsWaits, MayDepart}
 use Rattle.policy_pick.specs.Laws.Chances.{open-ready}
 use Rattle.policy_pick.specs.Laws.Finds.{find-none, found-or-none}
 use Rattle.policy_pick.specs.Laws.Walks.{number-stops, number-ends}
 use Rattle.turn_book.specs.Chances.{chance, chances, rest_verdict}
 use Rattle.turn_book.specs.Posts.{schedule_of}
 use Rattle.turn_book.specs.Obeys.{next_in, choice_in, choice_after, Obeys, outcome_by_pick, outcome_by, settled}
-use Rattle.turn_book.proofs.Worlds.{map-some, IsMade, made-from}
+use Rattle.turn_book.proofs.Worlds.{map-some, made-from}
 use Rattle.turn_book.proofs.More.{nobody-closed, chosen-ready, departs-may, settled-at}
 use Rattle.worker_run.specs.Bodies.{Pending, source_of_bodies}
 use Rattle.worker_run.specs.Played.{IsPlayed}

@@ -1,6 +1,5 @@
 -- The bodies of a script's code are those of the script, and name only what its deal has.
-use Rattle.std.proofs.Common.{◌≡◌, ℕ, ℤ, suc, ◌+◌, ◌<◌, ◌≤◌, List, [], ◌∷◌, ◌++◌, length, get_or, map, take, Some, None, Option, sym, ap, subst, ◌∙◌, arith, inl, inr}
-use Rattle.std.specs.List.{range_with_len}
+use Rattle.std.proofs.Common.{◌≡◌, ℕ, ℤ, suc, ◌+◌, ◌<◌, List, [], ◌∷◌, ◌++◌, length, get_or, map, take, Some, None, Option, sym, ap, subst, ◌∙◌, arith, inl, inr}
 use Rattle.std.proofs.lemmas.Bool.{cases_lt}
 use Rattle.std.proofs.lemmas.List.{ext_get_or, get_or_past, length-map, map-append}
 use Rattle.std.proofs.Math.ListN.{get_or-map}
@@ -22,7 +21,7 @@ use Rattle.script_code.specs.CodeOf.{IsCodeOf}
 use Rattle.script_body.specs.BodyPosts.{pending_of as body_pending}
 use Rattle.script_body.specs.declared.body.ScriptBody.{ScriptBody}
 use Rattle.turn_book.specs.Told.{PostIsInRange}
-use Rattle.worker_run.specs.Bodies.{Pending, nobody, pending_of, AreInRange}
+use Rattle.worker_run.specs.Bodies.{Pending, nobody, AreInRange}
 use Rattle.replay_run.specs.Replay.{bodies_of, AreOf}
 
 same_posts : (f g : Pending) → ((answers : List ℤ) → f answers ≡ g answers) → f ≡ g

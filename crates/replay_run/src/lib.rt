@@ -5,6 +5,10 @@ mod answer;
 mod compare;
 mod replaying;
 mod same;
+#[cfg(test)]
+mod samples;
+#[cfg(test)]
+mod tests;
 
 pub use answer::{Found, Replayed, Written};
 pub use replaying::{bodies_of, replay};

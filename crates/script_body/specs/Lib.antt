@@ -5,3 +5,4 @@ pub mod Spots
 pub mod Turns
 pub mod Asking
 pub mod BodyPosts
+pub mod Samples

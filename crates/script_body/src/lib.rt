@@ -4,7 +4,11 @@
 mod answer;
 mod ask;
 mod body;
+#[cfg(test)]
+mod drives;
 mod moving;
+#[cfg(test)]
+mod samples;
 mod settling;
 mod state;
 #[cfg(test)]

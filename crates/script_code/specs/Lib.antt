@@ -5,3 +5,4 @@ pub mod Rest
 pub mod Layout
 pub mod CodeOf
 pub mod Listing
+pub mod Samples

@@ -1,7 +1,7 @@
 -- Where a text is cut into lines.
 use Rattle.std.specs.Prelude.{◌==◌, position}
 use Rattle.std.specs.List.{position_or_len, onto_first}
-use Rattle.std.proofs.Common.{◌≡◌, ℕ, ◌+◌, ◌<◌, ◌≤◌, true, false, List, [], ◌∷◌, length, get_or, take, drop, zero, suc, Some, None, refl, ap, ◌∙◌, arith, add-one}
+use Rattle.std.proofs.Common.{◌≡◌, ℕ, ◌+◌, ◌<◌, ◌≤◌, true, false, List, [], ◌∷◌, length, get_or, take, drop, zero, suc, Some, None, refl, ap, arith, add-one}
 use Rattle.std.proofs.lemmas.List.Quantifiers.{position-Some}
 use Rattle.pct_ask.proofs.LineLemmas.{not-here, none-left}
 use Rattle.trace_text.specs.Lines.{pieces_of}

@@ -1,6 +1,6 @@
 -- The faults of the lines after a head.
-use Rattle.std.specs.Prelude.{◌==◌, ◌&&◌, ◌||◌, not, nat_le, is_some, is_none, if◌then◌else◌}
-use Rattle.std.proofs.Common.{◌≡◌, ◌⊎◌, ℕ, ◌+◌, ◌-◌, ◌<◌, ◌≤◌, Bool, true, false, nat_lt, List, [], ◌∷◌, length, zero, suc, Option, Some, None, Result, Ok, Err, refl, sym, ap, ◌∙◌, inl, inr, arith}
+use Rattle.std.specs.Prelude.{◌==◌, ◌&&◌, ◌||◌, not, nat_le, is_some, if◌then◌else◌}
+use Rattle.std.proofs.Common.{◌≡◌, ℕ, ◌+◌, ◌-◌, ◌<◌, ◌≤◌, Bool, true, false, nat_lt, List, [], ◌∷◌, zero, suc, Some, Result, Ok, Err, refl, sym, ap, ◌∙◌, arith}
 use Rattle.std.proofs.lemmas.Bool.Decides.{nat_tests}
 use Rattle.pct_ask.specs.NameLists.{NameLists}
 use Rattle.pct_ask.specs.declared.event.Event.{Event}
@@ -10,7 +10,6 @@ use Rattle.trace_text.specs.StepLines.{row_of}
 use Rattle.trace_text.specs.Faults.{version_of, limit_of, row_at, is_there, is_verdict, has_verdict, is_in_body, number_in, number_before, is_past, has_unknown, is_other_number, is_head_line, has_unknown_thread, is_faulty, rank, IsFirstFault}
 use Rattle.trace_text.specs.Heads.{order_in}
 use Rattle.trace_text.specs.Reading.{Fault, Body, unended_fault, judged, with_event, closed, after_line, body_of}
-use Rattle.trace_text.specs.declared.row.Row.{Row}
 use Rattle.trace_text.specs.declared.row.Row.TheVariants.{Step, End}
 use Rattle.trace_text.specs.declared.row.Sound.{Sound}
 use Rattle.trace_text.specs.declared.row.Sound.TheVariants as sound

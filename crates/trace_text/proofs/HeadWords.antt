@@ -1,18 +1,17 @@
 -- How the lines of a head are read.
-use Rattle.std.specs.Prelude.{◌==◌, ◌&&◌, not, nat_le, if◌then◌else◌, codes, map}
-use Rattle.std.specs.List.{list_all, list_any, slice_split, onto_first}
+use Rattle.std.specs.Prelude.{◌==◌, ◌&&◌, not, nat_le, if◌then◌else◌, codes}
+use Rattle.std.specs.List.{list_all, list_any, onto_first}
 use Rattle.std.specs.Option.{option_map}
 use Rattle.std.specs.Str.{bytes_eq}
-use Rattle.std.proofs.Common.{◌≡◌, ◌≢◌, ℕ, ◌+◌, ◌<◌, ◌≤◌, Bool, true, false, cond, List, [], ◌∷◌, ◌++◌, length, take, zero, suc, Option, Some, None, Result, Ok, Err, Bor, refl, sym, ◌∙◌, ap, arith, append_assoc, append-nil}
+use Rattle.std.proofs.Common.{◌≡◌, ◌≢◌, ℕ, ◌+◌, ◌≤◌, Bool, true, false, cond, List, [], ◌∷◌, ◌++◌, length, take, suc, Option, Some, None, Result, Ok, Err, Bor, refl, sym, ◌∙◌, ap, arith, append_assoc}
 use Rattle.std.proofs.lemmas.Bool.Decides.{nat_tests}
 use Rattle.std.proofs.lemmas.List.{take_all, length-take-le, length-map}
 use Rattle.pct_ask.specs.VerdictWords.{words_of}
-use Rattle.trace_text.specs.declared.fault.TraceFault.{TraceFault}
 use Rattle.trace_text.specs.declared.fault.TraceFault.TheVariants.{BadHeader}
 use Rattle.pct_ask.specs.Words.{is_name, is_among}
 use Rattle.pct_ask.specs.NameLists.{NameLists}
 use Rattle.trace_text.specs.Lines.{pieces_of}
-use Rattle.trace_text.specs.Heads.{are_different, are_order_names, order_words, order_in, threads_of, step_counts, onto, all_of, point_words, limit_words}
+use Rattle.trace_text.specs.Heads.{are_different, are_order_names, order_words, order_in, threads_of, step_counts, onto, point_words, limit_words}
 use Rattle.trace_text.specs.Reading.{Fault, ◌>>=◌, head_value, head_line, known, order_line}
 use Rattle.trace_text.specs.Seen.{seen, pieces_after, cut_value}
 

@@ -1,10 +1,9 @@
 -- The lines of a head are read as they are written, and nothing else is.
 use Rattle.std.specs.Prelude.{codes, decimal, ◌==◌, ◌&&◌, ◌||◌, not, nat_le, if◌then◌else◌, map}
 use Rattle.std.specs.List.{All, AllPairs, list_all, join_with_byte}
-use Rattle.std.specs.Option.{option_map}
 use Rattle.std.specs.Str.{bytes_eq}
 use Rattle.std.specs.Fmt.{digits}
-use Rattle.std.proofs.Common.{◌≡◌, ◌≢◌, ◌⊎◌, ℕ, ◌+◌, ◌<◌, ◌≤◌, ◌^◌, Bool, true, false, List, [], ◌∷◌, ◌++◌, length, get_or, zero, suc, Option, Some, None, refl, sym, ap, ◌∙◌, inl, inr, arith}
+use Rattle.std.proofs.Common.{◌≡◌, ◌≢◌, ◌⊎◌, ℕ, ◌<◌, ◌≤◌, Bool, true, false, List, [], ◌∷◌, length, get_or, zero, suc, Option, Some, None, refl, sym, ap, ◌∙◌, inl, inr, arith}
 use Rattle.std.proofs.lemmas.Bool.Decides.{nat_tests}
 use Rattle.std.proofs.lemmas.List.{length-map}
 use Rattle.std.proofs.lemmas.List.Elements.{All-nil, All-cons, All-head, All-tail}
@@ -22,7 +21,7 @@ use Rattle.trace_text.specs.Numbers.{count_of}
 use Rattle.trace_text.specs.Heads.{version_in, are_different, are_order_names, order_words, order_in, onto, all_of, threads_of, step_counts, point_words, points_in, limit_words, limit_in}
 use Rattle.trace_text.proofs.Names.{place_of-kind, name-lawful}
 use Rattle.trace_text.proofs.StepWords.{count-decimal, decimal-count}
-use Rattle.trace_text.proofs.Bytes.{IsHigh, AreHigh, high-by, name-high, decimal-high, are-solid}
+use Rattle.trace_text.proofs.Bytes.{AreHigh, high-by, name-high, decimal-high, are-solid}
 
 same-word : (word other : List ℕ) → bytes_eq word other ≡ true → word ≡ other
 same-word word other e = (bytes_eq-Decides word other).0 e

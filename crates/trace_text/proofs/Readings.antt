@@ -1,26 +1,15 @@
 -- What a text is read as: its trace or its first fault.
-use Rattle.std.specs.Prelude.{codes, decimal, ◌==◌, ◌&&◌, ◌||◌, not, nat_le, is_some, map, if◌then◌else◌}
-use Rattle.std.specs.List.{All, AllPairs, flat_map, join_with_byte}
-use Rattle.std.proofs.Common.{◌≡◌, ◌≢◌, ◌⊎◌, ℕ, ◌+◌, ◌-◌, ◌<◌, ◌≤◌, Bool, true, false, nat_lt, List, [], ◌∷◌, ◌++◌, length, zero, suc, Option, Some, None, Result, Ok, Err, refl, sym, ap, ◌∙◌, inl, inr, arith, append_assoc, append-nil}
+use Rattle.std.specs.Prelude.{◌&&◌, ◌||◌, not, is_some, if◌then◌else◌}
+use Rattle.std.proofs.Common.{◌≡◌, ℕ, ◌+◌, ◌-◌, ◌<◌, Bool, true, false, nat_lt, List, [], ◌∷◌, length, zero, suc, Option, Some, None, Result, Ok, Err, refl, sym, ap, ◌∙◌, arith}
 use Rattle.std.proofs.lemmas.Bool.Decides.{nat_tests}
-use Rattle.std.proofs.lemmas.List.Elements.{All-head, All-tail}
-use Rattle.pct_ask.specs.NameLists.{NameLists, AreNames}
-use Rattle.pct_ask.specs.VerdictText.{thread_name}
-use Rattle.pct_ask.specs.TraceText.{TraceHead, event_words, step_lines, head_lines, verdict_line, line_text, trace_text}
-use Rattle.pct_ask.specs.declared.event.Event.{Event}
-use Rattle.pct_ask.specs.declared.verdict.Verdict.{Verdict}
-use Rattle.trace_text.specs.Lawful.{IsStep, IsEnd, IsHead, IsStepCount}
+use Rattle.pct_ask.specs.NameLists.{NameLists}
 use Rattle.trace_text.specs.Lines.{pieces_of, is_empty, piece_at, line_at, text_in, is_whole}
-use Rattle.trace_text.specs.Trace.{head_of, IsRun, IsTrace}
 use Rattle.trace_text.specs.Heads.{version_in, order_in, threads_of, points_in, limit_in}
 use Rattle.trace_text.specs.Faults.{is_head_line, has_unknown_thread, is_faulty, rank, IsFirstFault, IsTraceFault}
 use Rattle.trace_text.specs.Reading.{Fault, Body, ◌>>=◌, head_value, head_line, known, order_line, body_of, file_of, file_in, read}
 use Rattle.trace_text.specs.declared.file.TraceFile.{TraceFile}
 use Rattle.trace_text.specs.declared.fault.TraceFault.{TraceFault}
 use Rattle.trace_text.specs.declared.fault.TraceFault.TheVariants.{TooLong, BadHeader, BadLine, UnknownName, OutOfOrder, NoVerdict, MoreAfterVerdict}
-use Rattle.trace_text.proofs.Bytes.{HasNoEnd, AreHigh, no-end, no-end-append, high-by, decimal-high, step-high}
-use Rattle.trace_text.proofs.Heads.{version-told, version-known, order-told, order-known, order-line-high, points-told, points-known, points-line-high, limit-told, limit-known, limit-line-high}
-use Rattle.trace_text.proofs.Wholes.{line_pieces, HaveNoEnds, pieces-lines, line_pieces-some, text-pieces, IsBody, body-told, body-known}
 use Rattle.trace_text.proofs.FaultLines.{IsFirstKind, first_bad_header, first_unknown_line}
 use Rattle.trace_text.proofs.FaultBodies.{IsTold, body-faults}
 

@@ -2,7 +2,7 @@
 use Rattle.std.specs.Prelude.{codes, decimal, ◌==◌, ◌&&◌, if◌then◌else◌}
 use Rattle.std.specs.List.{join_with_byte}
 use Rattle.std.specs.Str.{bytes_eq}
-use Rattle.std.proofs.Common.{◌≡◌, ◌⊎◌, ℕ, ◌+◌, ◌<◌, ◌≤◌, ◌^◌, Bool, true, false, List, [], ◌∷◌, ◌++◌, length, get_or, take, drop, ℤ, Option, Some, None, refl, sym, ap, ◌∙◌, inl, inr, arith}
+use Rattle.std.proofs.Common.{◌≡◌, ◌⊎◌, ℕ, ◌<◌, ◌^◌, Bool, true, false, List, [], ◌∷◌, ◌++◌, length, take, drop, ℤ, Option, Some, None, refl, sym, ap, ◌∙◌, inl, inr, arith}
 use Rattle.std.proofs.lemmas.Bool.Decides.{nat_tests}
 use Rattle.std.proofs.lemmas.Fmt.{decimal_is_IsNumeral_wide}
 use Rattle.std.proofs.lemmas.List.{take-append-drop}
@@ -22,8 +22,7 @@ use Rattle.pct_ask.specs.declared.verdict_text.VerdictRead.TheVariants.{Is, NoFo
 use Rattle.pct_ask.proofs.VerdictReadLemmas.{ReadsAs-words, ReadsAs-only}
 use Rattle.pct_ask.proofs.WordLemmas.{join-words_of, words_of-join}
 use Rattle.trace_text.specs.Lawful.{IsStep, IsEnd, is_of_second}
-use Rattle.trace_text.specs.StepLines.{event_of, step_of_parts, step_of, step_of_words, tells_reads, end_of, row_of}
-use Rattle.trace_text.specs.declared.row.Row.{Row}
+use Rattle.trace_text.specs.StepLines.{step_of_parts, step_of, step_of_words, tells_reads, end_of, row_of}
 use Rattle.trace_text.specs.declared.row.Row.TheVariants.{Step, End}
 use Rattle.trace_text.proofs.StepWords.{IsStepLine, words-told, words-known}
 use Rattle.trace_text.proofs.Bytes.{are-solid, step-high}

@@ -1,19 +1,19 @@
 -- How many bytes a trace has.
 use Rattle.std.specs.Prelude.{codes, decimal, nat_le, not, ◌&&◌, map}
 use Rattle.std.specs.Fmt.{signed_decimal}
-use Rattle.std.specs.List.{All, flat_map, filter_map, list_all, join_with_byte}
-use Rattle.std.proofs.Common.{◌≡◌, ◌⊎◌, ℕ, ◌+◌, ◌*◌, ◌<◌, ◌≤◌, ◌^◌, Bool, true, false, List, [], ◌∷◌, ◌++◌, length, get_or, ℤ, pos, negsuc, zero, suc, Option, Some, None, refl, sym, ap, ◌∙◌, inl, inr, arith, length-append}
+use Rattle.std.specs.List.{All, flat_map, list_all, join_with_byte}
+use Rattle.std.proofs.Common.{◌≡◌, ◌⊎◌, ℕ, ◌+◌, ◌*◌, ◌<◌, ◌≤◌, Bool, true, false, List, [], ◌∷◌, ◌++◌, length, get_or, ℤ, pos, negsuc, refl, inl, inr, arith, length-append}
 use Rattle.std.proofs.lemmas.Bool.Decides.{nat_tests}
 use Rattle.std.proofs.lemmas.Fmt.{length-decimal-le, length_signed_le}
 use Rattle.std.proofs.lemmas.List.{length-map}
 use Rattle.std.proofs.lemmas.List.Elements.{All-head, All-tail}
 use Rattle.pct_ask.specs.Characters.{is_letter, is_word_byte}
 use Rattle.pct_ask.specs.Words.{is_name, is_among, keywords, registers}
-use Rattle.pct_ask.specs.NameLists.{NameLists, list_of, place_of, AreNames}
+use Rattle.pct_ask.specs.NameLists.{NameLists, list_of, AreNames}
 use Rattle.pct_ask.specs.Numbers.{number_text}
 use Rattle.pct_ask.specs.VerdictText.{thread_name, fault_word, misuse_word, place_words, verdict_words, named, known_threads, IsLine, IsForm, IsPlace, HasNames}
 use Rattle.pct_ask.specs.VerdictPieces.{HasName}
-use Rattle.pct_ask.specs.TraceText.{TraceHead, ask_words, check_word, event_words, step_lines, head_lines, verdict_line, line_text, trace_text}
+use Rattle.pct_ask.specs.TraceText.{ask_words, check_word, event_words, step_lines, verdict_line, line_text, trace_text}
 use Rattle.pct_ask.specs.declared.names.NameKind.{NameKind}
 use Rattle.pct_ask.specs.declared.names.NameKind.TheVariants.{Thread, Var, Mutex, Cond, Sem, Barrier, RwLock}
 use Rattle.pct_ask.specs.declared.ask.FaultKind.{FaultKind}
@@ -27,7 +27,7 @@ use Rattle.pct_ask.specs.declared.verdict.Verdict.{Verdict}
 use Rattle.pct_ask.specs.declared.verdict.Verdict.TheVariants.{Passed, Failed, Stuck, Misuse, Fault as VerdictFault, Cut}
 use Rattle.pct_ask.proofs.NameLemmas.{place_of-thread}
 use Rattle.pct_ask.proofs.StuckLemmas.{named_place, RiseFrom, RiseFrom-increasing}
-use Rattle.trace_text.specs.Lawful.{IsAsk, IsStep, IsEnd, IsHead, IsStepCount, IsValue}
+use Rattle.trace_text.specs.Lawful.{IsAsk, IsStep, IsStepCount, IsValue}
 use Rattle.trace_text.specs.Trace.{head_of, IsRun}
 use Rattle.trace_text.specs.declared.file.TraceFile.{TraceFile}
 use Rattle.trace_text.proofs.Names.{name-lawful}

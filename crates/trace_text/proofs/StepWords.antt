@@ -1,33 +1,24 @@
 -- A step and a verdict are read of their lines, and of nothing else.
-use Rattle.std.specs.Prelude.{codes, decimal, ◌==◌, ◌&&◌, nat_le, if◌then◌else◌}
-use Rattle.std.specs.List.{join_with_byte}
+use Rattle.std.specs.Prelude.{codes, decimal, ◌&&◌, nat_le, if◌then◌else◌}
 use Rattle.std.specs.Str.{bytes_eq}
-use Rattle.std.proofs.Common.{◌≡◌, ◌⊎◌, ℕ, ◌+◌, ◌<◌, ◌≤◌, ◌^◌, Bool, true, false, List, [], ◌∷◌, ◌++◌, length, get_or, take, drop, ℤ, pos, negsuc, Option, Some, None, refl, sym, ap, ◌∙◌, inl, inr, arith}
+use Rattle.std.proofs.Common.{◌≡◌, ℕ, ◌<◌, ◌≤◌, ◌^◌, Bool, true, false, List, [], ◌∷◌, ◌++◌, ℤ, pos, negsuc, Option, Some, None, refl, ap, ◌∙◌, arith}
 use Rattle.std.proofs.lemmas.Bool.Decides.{nat_tests}
 use Rattle.std.proofs.lemmas.Slice.Eq.{bytes_eq-Decides}
-use Rattle.pct_ask.specs.NameLists.{NameLists, list_of, AreNames}
+use Rattle.pct_ask.specs.NameLists.{NameLists, AreNames}
 use Rattle.pct_ask.specs.Numbers.{number_text}
-use Rattle.pct_ask.specs.VerdictText.{thread_name, IsLine, verdict_text, named_text, named, verdict_words, NamedVerdict, NamedPassed, NamedFailed, NamedStuck, NamedMisuse, NamedFault, NamedCut}
-use Rattle.pct_ask.specs.VerdictRead.{ReadsAs}
-use Rattle.pct_ask.specs.VerdictWords.{words_of, verdict_of_words}
-use Rattle.pct_ask.specs.TraceText.{ask_words, event_words, verdict_line}
+use Rattle.pct_ask.specs.VerdictText.{thread_name}
+use Rattle.pct_ask.specs.TraceText.{ask_words, event_words}
 use Rattle.pct_ask.specs.declared.names.NameKind.TheVariants.{Thread}
 use Rattle.pct_ask.specs.declared.ask.Ask.{Ask}
 use Rattle.pct_ask.specs.declared.event.Event.{Event}
-use Rattle.pct_ask.specs.declared.verdict.Verdict.{Verdict}
-use Rattle.pct_ask.specs.declared.verdict_text.VerdictRead.{VerdictRead}
-use Rattle.pct_ask.specs.declared.verdict_text.VerdictRead.TheVariants.{Is, NoForm, UnknownName}
-use Rattle.pct_ask.proofs.VerdictReadLemmas.{ReadsAs-words, ReadsAs-only}
-use Rattle.pct_ask.proofs.WordLemmas.{join-words_of}
-use Rattle.trace_text.specs.Lawful.{IsAsk, IsStep, IsEnd, is_of_second}
+use Rattle.trace_text.specs.Lawful.{IsStep}
 use Rattle.trace_text.specs.Numbers.{value_of, natural, within, natural_of, count_of}
-use Rattle.trace_text.specs.Asks.{object, bare_ask, ask_on_one, ask_on_two, ask_on_three}
-use Rattle.trace_text.specs.StepLines.{event_of, step_of_parts, step_of, step_of_words, tells_reads, end_of, row_of}
-use Rattle.trace_text.specs.declared.row.Row.{Row}
-use Rattle.trace_text.specs.declared.row.Row.TheVariants.{Step, End}
+use Rattle.trace_text.specs.Asks.{object}
+use Rattle.trace_text.specs.StepLines.{event_of, step_of_parts, step_of, step_of_words}
+use Rattle.trace_text.specs.declared.row.Row.TheVariants.{Step}
 use Rattle.trace_text.proofs.Names.{object-known, known-object}
 use Rattle.trace_text.proofs.Values.{value_of-Some, Some-value_of, fits-natural}
-use Rattle.trace_text.proofs.AskWords.{IsTold, ask_in, ask-known, ask-told, HasFewWords, few-words}
+use Rattle.trace_text.proofs.AskWords.{ask_in, ask-known, ask-told, HasFewWords, few-words}
 
 some_is : {A : Type 0} (x y : A) → Some x ≡ Some y → x ≡ y
 some_is x y e = cc

@@ -1,12 +1,12 @@
 -- A text is read as a file exactly where it is the file's trace.
-use Rattle.std.specs.Prelude.{codes, decimal, ◌==◌, nat_lt, map, if◌then◌else◌}
-use Rattle.std.specs.List.{All, AllPairs, flat_map, join_with_byte}
-use Rattle.std.proofs.Common.{◌≡◌, ◌≢◌, ◌⊎◌, ℕ, ◌+◌, ◌<◌, ◌≤◌, ◌^◌, Bool, true, false, List, [], ◌∷◌, ◌++◌, length, zero, suc, Option, Some, None, Result, Ok, Err, refl, sym, ap, ◌∙◌, inl, inr, arith, append_assoc, append-nil}
+use Rattle.std.specs.Prelude.{codes, decimal, nat_lt, map, if◌then◌else◌}
+use Rattle.std.specs.List.{All, flat_map, join_with_byte}
+use Rattle.std.proofs.Common.{◌≡◌, ◌⊎◌, ℕ, ◌+◌, ◌<◌, ◌≤◌, ◌^◌, Bool, true, false, List, [], ◌∷◌, ◌++◌, length, zero, suc, Option, Some, None, Result, Ok, Err, refl, sym, ap, ◌∙◌, inl, inr, arith}
 use Rattle.std.proofs.lemmas.Bool.Decides.{nat_tests}
 use Rattle.std.proofs.lemmas.List.Elements.{All-head, All-tail}
 use Rattle.pct_ask.specs.NameLists.{NameLists, AreNames}
 use Rattle.pct_ask.specs.VerdictText.{NamedVerdict, NamedPassed, NamedFailed, NamedStuck, NamedMisuse, NamedFault, NamedCut, misuse_word, fault_word, place_words, verdict_words, named, thread_name, IsPlace, IsForm}
-use Rattle.pct_ask.specs.TraceText.{TraceHead, event_words, step_lines, head_lines, verdict_line, line_text, trace_text}
+use Rattle.pct_ask.specs.TraceText.{TraceHead, event_words, step_lines, head_lines, verdict_line, trace_text}
 use Rattle.pct_ask.specs.declared.ask.FaultKind.{FaultKind}
 use Rattle.pct_ask.specs.declared.ask.FaultKind.TheVariants.{Overflow, ZeroDivisor, Spin}
 use Rattle.pct_ask.specs.declared.verdict.MisuseKind.{MisuseKind}
@@ -14,21 +14,21 @@ use Rattle.pct_ask.specs.declared.verdict.MisuseKind.TheVariants.{NotOwner, SemF
 use Rattle.pct_ask.specs.declared.event.Event.{Event}
 use Rattle.pct_ask.specs.declared.verdict.Verdict.{Verdict}
 use Rattle.trace_text.specs.Answers.{Answers}
-use Rattle.trace_text.specs.Lawful.{IsStep, IsEnd, IsHead, IsStepCount}
+use Rattle.trace_text.specs.Lawful.{IsStep, IsEnd}
 use Rattle.trace_text.specs.Lines.{pieces_of}
 use Rattle.trace_text.specs.Trace.{head_of, IsRun, IsTrace}
 use Rattle.trace_text.specs.Heads.{version_in, order_in, threads_of, points_in, limit_in}
 use Rattle.trace_text.specs.Faults.{is_faulty, rank, IsFirstFault, IsTraceFault}
-use Rattle.trace_text.specs.Reading.{Fault, Body, ◌>>=◌, head_value, head_line, known, order_line, body_of, file_of, file_in, read}
+use Rattle.trace_text.specs.Reading.{Fault, Body, ◌>>=◌, head_line, known, order_line, body_of, file_of, file_in, read}
 use Rattle.trace_text.specs.Seen.{Gives}
 use Rattle.trace_text.specs.declared.file.TraceFile.{TraceFile}
 use Rattle.trace_text.specs.declared.fault.TraceFault.{TraceFault}
 use Rattle.trace_text.specs.declared.fault.TraceFault.TheVariants.{TooLong, BadHeader, BadLine, UnknownName, OutOfOrder, NoVerdict, MoreAfterVerdict}
 use Rattle.trace_text.specs.declared.fault.TraceError.{TraceError}
 use Rattle.trace_text.specs.declared.fault.TraceError.TheVariants.{Bad, NoMemory}
-use Rattle.trace_text.proofs.Bytes.{HasNoEnd, AreHigh, no-end, high-by, high-append, name-high, decimal-high, step-high}
+use Rattle.trace_text.proofs.Bytes.{AreHigh, no-end, high-by, name-high, decimal-high, step-high}
 use Rattle.trace_text.proofs.Heads.{version-told, version-known, order-told, order-known, order-line-high, points-told, points-known, points-line-high, limit-told, limit-known, limit-line-high}
-use Rattle.trace_text.proofs.Wholes.{line_pieces, HaveNoEnds, pieces-lines, line_pieces-some, text-pieces, IsBody, body-told, body-known}
+use Rattle.trace_text.proofs.Wholes.{line_pieces, HaveNoEnds, pieces-lines, line_pieces-some, text-pieces, body-told, body-known}
 use Rattle.trace_text.proofs.FaultBodies.{IsTold}
 use Rattle.trace_text.proofs.Readings.{HeadLine, head-ok, read-told}
 use Rattle.trace_text.proofs.Sizes.{trace-size}

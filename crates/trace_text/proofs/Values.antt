@@ -1,16 +1,16 @@
 -- A number's canonical decimal is read as the number, and nothing else is.
-use Rattle.std.specs.Prelude.{◌&&◌, nat_le, nat_lt, ◌==◌, decimal, FitsSigned, if◌then◌else◌}
+use Rattle.std.specs.Prelude.{◌==◌, decimal, FitsSigned, if◌then◌else◌}
 use Rattle.std.specs.Int.{w64, w128}
 use Rattle.std.specs.Str.{bytes_eq}
 use Rattle.std.specs.Str.Parse.{digits_value, AllDigits}
-use Rattle.std.proofs.Common.{◌≡◌, ℕ, ◌+◌, ◌<◌, ◌≤◌, ◌^◌, Bool, true, false, List, [], ◌∷◌, length, ℤ, pos, negsuc, zero, suc, Option, Some, None, refl, sym, ◌∙◌, ap, arith}
+use Rattle.std.proofs.Common.{◌≡◌, ℕ, ◌<◌, ◌^◌, Bool, true, false, List, [], ◌∷◌, length, ℤ, pos, negsuc, suc, Option, Some, None, refl, sym, ◌∙◌, ap, arith}
 use Rattle.std.proofs.lemmas.Int.{fits_signed_from_abs}
 use Rattle.std.proofs.lemmas.Fmt.{decimal_is_IsNumeral_wide}
 use Rattle.std.proofs.lemmas.Str.Parse.{digit_from_value}
 use Rattle.std.proofs.lemmas.Bool.Decides.{nat_tests}
 use Rattle.std.proofs.lemmas.Slice.Eq.{bytes_eq-Decides}
 use Rattle.pct_ask.specs.Numbers.{number_text}
-use Rattle.trace_text.specs.Numbers.{minus, guess, is_small, small, value_of, natural, within, natural_of, count_of}
+use Rattle.trace_text.specs.Numbers.{minus, guess, is_small, small, value_of}
 
 guess-digits : (ds : List ℕ) → 0 < length ds → AllDigits 10 ds → guess ds ≡ pos (digits_value 10 ds)
 guess-digits [] some digits = absurd (omega arith)

@@ -1,25 +1,24 @@
 -- A text is read as the trace that it is, and as nothing else.
-use Rattle.std.specs.Prelude.{codes, decimal, ◌==◌, map, nat_lt, if◌then◌else◌}
-use Rattle.std.specs.List.{All, flat_map, join_with_byte, slice_split}
-use Rattle.std.proofs.Common.{◌≡◌, ◌⊎◌, ℕ, ◌+◌, ◌<◌, ◌≤◌, ◌^◌, Bool, true, false, List, [], ◌∷◌, ◌++◌, length, zero, suc, Option, Some, None, Result, Ok, Err, refl, sym, ap, ◌∙◌, inl, inr, arith, append_assoc, append-nil}
+use Rattle.std.specs.Prelude.{◌==◌, nat_lt, if◌then◌else◌}
+use Rattle.std.specs.List.{All, flat_map, join_with_byte}
+use Rattle.std.proofs.Common.{◌≡◌, ◌⊎◌, ℕ, ◌+◌, ◌≤◌, Bool, true, false, List, [], ◌∷◌, ◌++◌, length, Option, Some, None, Result, Ok, Err, refl, sym, ap, ◌∙◌, arith, append_assoc}
 use Rattle.std.proofs.lemmas.Bool.Decides.{nat_tests}
 use Rattle.std.proofs.lemmas.List.Elements.{All-nil, All-cons, All-head, All-tail}
 use Rattle.std.proofs.lemmas.List.Splits.{slice_split_at, join_with_byte-slice_split}
 use Rattle.pct_ask.specs.NameLists.{NameLists, AreNames}
-use Rattle.pct_ask.specs.VerdictText.{thread_name}
-use Rattle.pct_ask.specs.TraceText.{TraceHead, event_words, step_lines, head_lines, verdict_line, line_text, trace_text}
+use Rattle.pct_ask.specs.TraceText.{event_words, step_lines, verdict_line, line_text}
 use Rattle.pct_ask.specs.declared.event.Event.{Event}
 use Rattle.pct_ask.specs.declared.verdict.Verdict.{Verdict}
-use Rattle.trace_text.specs.Lawful.{IsStep, IsEnd, IsHead, IsStepCount}
+use Rattle.trace_text.specs.Lawful.{IsStep, IsEnd}
 use Rattle.trace_text.specs.Lines.{pieces_of}
 use Rattle.trace_text.specs.StepLines.{row_of}
-use Rattle.trace_text.specs.Reading.{Fault, Body, judged_event, judged, with_event, closed, after_line, body_of}
+use Rattle.trace_text.specs.Reading.{Fault, Body, judged, with_event, closed, after_line, body_of}
 use Rattle.trace_text.specs.declared.row.Row.{Row}
 use Rattle.trace_text.specs.declared.row.Row.TheVariants.{Step, End}
 use Rattle.trace_text.specs.declared.row.Sound.{Sound}
 use Rattle.trace_text.specs.declared.row.Sound.TheVariants as sound
 use Rattle.trace_text.specs.declared.fault.TraceFault.{TraceFault}
-use Rattle.trace_text.specs.declared.fault.TraceFault.TheVariants.{TooLong, UnknownName, OutOfOrder, MoreAfterVerdict}
+use Rattle.trace_text.specs.declared.fault.TraceFault.TheVariants.{TooLong, UnknownName, OutOfOrder}
 use Rattle.trace_text.proofs.Bytes.{HasNoEnd}
 use Rattle.trace_text.proofs.Rows.{step-told, step-known, end-told, end-known}
 

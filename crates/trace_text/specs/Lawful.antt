@@ -1,5 +1,5 @@
 -- What the parts of a trace may be (this project).
-use Rattle.std.specs.Prelude.{◌≡◌, ◌≢◌, ℕ, ℤ, ◌≤◌, ◌<◌, ◌⊎◌, Bool, true, false, List, length, FitsSigned, All}
+use Rattle.std.specs.Prelude.{◌≡◌, ◌≢◌, ℕ, ℤ, ◌≤◌, ◌<◌, ◌⊎◌, Bool, true, false, length, FitsSigned, All}
 use Rattle.std.specs.Int.{w64}
 use Rattle.std.specs.List.{AllPairs}
 use Rattle.pct_ask.specs.NameLists.{NameLists}
@@ -7,7 +7,6 @@ use Rattle.pct_ask.specs.VerdictText.{named, IsForm, HasNames, IsLine}
 use Rattle.pct_ask.specs.declared.ask.Ask.{Ask}
 use Rattle.pct_ask.specs.declared.ask.Ask.TheVariants.{Read, Write, Add, Cas, Lock, TryLock, Unlock, Release, Regain, Signal, Broadcast, Down, TryDown, Up, Arrive, Leave, Join, Yield, Check, Fault, Start, Begin, RdLock, WrLock, TryRdLock, TryWrLock, RwUnlock}
 use Rattle.pct_ask.specs.declared.event.Event.{Event}
-use Rattle.pct_ask.specs.declared.verdict.MisuseKind.{MisuseKind}
 use Rattle.pct_ask.specs.declared.verdict.MisuseKind.TheVariants.{NotOwner, SemFull, AlreadyStarted, TooManyReads}
 use Rattle.pct_ask.specs.declared.verdict.Verdict.{Verdict}
 use Rattle.pct_ask.specs.declared.verdict.Verdict.TheVariants.{Passed, Failed, Stuck, Misuse, Fault as VerdictFault, Cut}

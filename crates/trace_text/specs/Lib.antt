@@ -10,3 +10,4 @@ pub mod Answers
 pub mod Reading
 pub mod Seen
 pub mod Spaced
+pub mod Rows

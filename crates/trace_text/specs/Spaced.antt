@@ -1,5 +1,5 @@
 -- The words of a line behind its first.
-use Rattle.std.specs.Prelude.{ℕ, List, [], ◌∷◌, ◌++◌}
+use Rattle.std.specs.Prelude.{ℕ, List, ◌∷◌}
 use Rattle.std.specs.List.{flat_map}
 
 -- each word behind a space

@@ -1,7 +1,5 @@
-use Rattle.std.proofs.Common.{◌≡◌, ◌<◌, length, map, take, arith, sym, ap, ◌∙◌}
-use Rattle.std.proofs.lemmas.List.{take_all}
+use Rattle.std.proofs.Common.{◌<◌, length, arith}
 use Rattle.script_code.specs.Listing.{listing}
-use Rattle.script_code.specs.FlatPosts.{flat_pending}
 use Rattle.replay_run.proofs.ScriptBodies.{one_more}
 use Rattle.replay_run.proofs.replaying.bodies_of.Goals as goal
 

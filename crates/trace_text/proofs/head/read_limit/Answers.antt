@@ -1,5 +1,5 @@
 -- The fourth line is the first piece of what is left.
-use Rattle.std.proofs.Common.{ap, sym, ◌∙◌}
+use Rattle.std.proofs.Common.{ap, ◌∙◌}
 use Rattle.trace_text.specs.Heads.{limit_in, limit_words}
 use Rattle.pct_ask.specs.VerdictWords.{words_of}
 use Rattle.trace_text.specs.Seen.{seen}

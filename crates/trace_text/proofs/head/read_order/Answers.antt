@@ -1,10 +1,8 @@
 -- The second line is the first piece of what is left.
 use Rattle.std.proofs.Common.{ap, sym, ◌∙◌, Ok}
-use Rattle.trace_text.specs.Heads.{order_words}
 use Rattle.trace_text.specs.Lines.{pieces_of}
 use Rattle.trace_text.specs.Reading.{◌>>=◌, known}
-use Rattle.trace_text.specs.Seen.{seen}
-use Rattle.trace_text.proofs.HeadWords.{order_line-found, order_line-lost}
+use Rattle.trace_text.proofs.HeadWords.{order_line-found}
 use Rattle.trace_text.proofs.head.read_order.Goals as goal
 
 pub returns-in-Some : goal.returns-in-Some

@@ -1,6 +1,5 @@
 -- Each line gives what is left to read, or the answer.
 use Rattle.std.proofs.Common.{sym, ◌∙◌, ap, arith, Ok, Err, ◌+◌}
-use Rattle.std.proofs.lemmas.Bool.Decides.{nat_tests}
 use Rattle.trace_text.specs.Lines.{pieces_of}
 use Rattle.trace_text.specs.Reading.{body_of}
 use Rattle.trace_text.specs.declared.fault.TraceFault.TheVariants.{MoreAfterVerdict}
