@@ -80,4 +80,5 @@ def main():
         print("seed", seed, "threads", threads, "steps", steps, "order", order, "points", points)
 
 
-main()
+if __name__ == "__main__":
+    main()

@@ -1,0 +1,1 @@
+autocmd BufNewFile,BufRead *.pct set filetype=pct

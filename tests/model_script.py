@@ -1,0 +1,316 @@
+"""Scripts for the model: a text is read line by line, and its first fault is raised."""
+
+import re
+from dataclasses import dataclass, field
+
+LEAST, GREATEST = -(2**63), 2**63 - 1
+WORDS_OF_1 = """script var mutex cond sem barrier thread end read write add cas lock trylock unlock wait signal broadcast
+    down trydown up arrive join yield assert set if else while""".split()
+WORDS_OF_3 = "rwlock rdlock wrlock tryrdlock trywrlock rwunlock".split()
+KEYWORDS = {1: {*WORDS_OF_1}, 2: {*WORDS_OF_1, "start"}, 3: {*WORDS_OF_1, "start", *WORDS_OF_3}}
+REGISTERS = [f"r{number}" for number in range(16)]
+OBJECTS = ["var", "mutex", "cond", "sem", "barrier", "rwlock"]
+MOST_THREADS = {1: 16, 2: 16, 3: 64}
+
+# What follows the first word of a line. A small word is a name of that kind which was declared before.
+DECLARATIONS = {
+    "var": "NAME = INTEGER", "mutex": "NAME", "cond": "NAME", "sem": "NAME = NUMBER", "barrier": "NAME = NUMBER",
+    "rwlock": "NAME",
+}
+STATEMENTS = {
+    "read": "REG var", "write": "var EXPR", "add": "REG var EXPR", "cas": "REG var EXPR , EXPR",
+    "lock": "mutex", "trylock": "REG mutex", "unlock": "mutex",
+    "wait": "cond mutex", "signal": "cond", "broadcast": "cond",
+    "down": "sem", "trydown": "REG sem", "up": "sem", "arrive": "REG barrier",
+    "join": "thread", "start": "thread", "yield": "",
+    "assert": "EXPR", "set": "REG EXPR", "if": "EXPR", "while": "EXPR",
+    "rdlock": "rwlock", "wrlock": "rwlock", "tryrdlock": "REG rwlock", "trywrlock": "REG rwlock", "rwunlock": "rwlock",
+}
+BLOCKS = ("if", "while")
+# The operators between two parts, by rising strength.
+LEVELS = [["||"], ["&&"], ["==", "!=", "<", "<=", ">", ">="], ["+", "-"], ["*", "/", "%"]]
+COMPARISONS = LEVELS[2]
+TOKEN = re.compile(r"[A-Za-z_][A-Za-z0-9_]*|[0-9]+|\|\||&&|[=!<>]=|[-<>+*/%!(),=]")
+
+
+class Faulty(Exception):
+    """A text is refused: its first faulty line, and that line's first fault."""
+
+    def __init__(self, line, kind):
+        super().__init__(line, kind)
+        self.line, self.kind = line, kind
+
+
+class NoForm(Exception):
+    """The tokens of a line are no form of its place."""
+
+
+@dataclass
+class Statement:
+    word: str
+    line: int
+    register: str = None
+    names: list = field(default_factory=list)  # pairs of kind and name
+    values: list = field(default_factory=list)  # expressions
+    declared: str = None
+    number: int = 0  # of a declaration
+    block: list = field(default_factory=list)
+    otherwise: list = None
+
+
+@dataclass
+class Thread:
+    line: int
+    block: list
+    end_line: int = 0
+
+
+@dataclass
+class Script:
+    version: int
+    objects: dict  # by kind: names with what they are at first
+    threads: dict  # by name
+    held: set  # the threads that begin only after a start
+
+    def declares(self, kind, name):
+        return name in (self.threads if kind == "thread" else self.objects[kind])
+
+
+def cut_lines(data):
+    lines = data.split(b"\n")
+    return lines if lines[-1] else lines[:-1]
+
+
+def is_blank(line):
+    return not line.split(b"#")[0].strip(b" \t\r")
+
+
+def is_name(word, version=1):
+    form = re.fullmatch(r"[A-Za-z_][A-Za-z0-9_]{0,31}", word)
+    return bool(form) and word not in KEYWORDS[version] and word not in REGISTERS
+
+
+def cut_tokens(text):
+    """The tokens of a line, or None where it can't be cut into tokens."""
+    found, at = [], 0
+    while at < len(text) and text[at] != "#":
+        if text[at] in " \t\r":
+            at += 1
+            continue
+        match = TOKEN.match(text, at)
+        if not match:
+            return None
+        token, at = match.group(), match.end()
+        runs_on = token[0].isdigit() and re.match("[A-Za-z_]", text[at:])
+        if runs_on or (re.match("[A-Za-z_]", token) and len(token) > 32):
+            return None
+        found.append(token)
+    return found
+
+
+class Tokens:
+    """The tokens of one line after its first word. A number in an expression is an int, a register its name."""
+
+    def __init__(self, tokens):
+        self.tokens, self.at, self.numbers = tokens, 0, []
+
+    def next(self):
+        return self.tokens[self.at] if self.at < len(self.tokens) else ""
+
+    def take(self, is_taken):
+        token = self.next()
+        if not token or not is_taken(token):
+            raise NoForm
+        self.at += 1
+        return token
+
+    def number(self):
+        return int(self.take(lambda token: token[0].isdigit()))
+
+    def expression(self, level=0):
+        if level == len(LEVELS):
+            return self.part()
+        left = self.expression(level + 1)
+        while self.next() in LEVELS[level]:
+            operator = self.take(bool)
+            left = (operator, left, self.expression(level + 1))
+            if operator in COMPARISONS:
+                break
+        return left
+
+    def part(self):
+        token = self.next()
+        if token in ("-", "!"):
+            self.take(bool)
+            return (token, self.part())
+        if token == "(":
+            self.take(bool)
+            inner = self.expression()
+            self.take(lambda token: token == ")")
+            return inner
+        if token in REGISTERS:
+            return self.take(bool)
+        self.numbers.append(self.number())
+        return self.numbers[-1]
+
+
+def read_form(statement, form, tokens, version):
+    """Puts the tokens into the statement by its form."""
+    name_of = lambda token: is_name(token, version)
+    for item in form.split():
+        if item == "REG":
+            statement.register = tokens.take(REGISTERS.__contains__)
+        elif item == "NAME":
+            statement.declared = tokens.take(name_of)
+        elif item == "EXPR":
+            statement.values.append(tokens.expression())
+        elif item == "NUMBER":
+            statement.number = tokens.number()
+        elif item == "INTEGER":
+            is_negative = tokens.next() == "-" and tokens.take(bool)
+            statement.number = -tokens.number() if is_negative else tokens.number()
+        elif item in OBJECTS or item == "thread":
+            statement.names.append((item, tokens.take(name_of)))
+        else:
+            tokens.take(lambda token: token == item)
+    if tokens.next():
+        raise NoForm
+
+
+class Parser:
+    def __init__(self, data):
+        self.lines = cut_lines(data)
+        self.script = Script(0, {kind: {} for kind in OBJECTS}, {}, set())
+        self.open = []  # the innermost last: the thread, and each if and while in it
+        self.future_threads = {name for line in self.lines for name in self.thread_named(line)}
+
+    @staticmethod
+    def thread_named(line):
+        try:
+            tokens = cut_tokens(line.decode()) or []
+        except UnicodeDecodeError:
+            return []
+        return tokens[1:] if tokens[:1] == ["thread"] and len(tokens) == 2 else []
+
+    def read(self):
+        is_nothing = all(map(is_blank, self.lines))
+        for number, line in enumerate(self.lines, 1):
+            fault = self.fault_of_bytes(number, line) or ("BadHeader" if is_nothing else self.take_line(number, line))
+            if fault:
+                raise Faulty(number, fault)
+        if is_nothing:
+            raise Faulty(1, "BadHeader")
+        return self.script
+
+    @staticmethod
+    def fault_of_bytes(number, line):
+        try:
+            line.decode()
+        except UnicodeDecodeError:
+            return "NotUtf8"
+        if len(line) > 256:
+            return "LineTooLong"
+        return "TooManyLines" if number > 4096 else None
+
+    def take_line(self, number, line):
+        """Takes the line into the script, or answers its fault."""
+        statement = None
+        tokens = cut_tokens(line.decode())
+        if is_blank(line):
+            pass
+        elif not self.script.version:
+            if tokens not in (["script", "1"], ["script", "2"], ["script", "3"]):
+                return "BadHeader"
+            self.script.version = int(tokens[1])
+        elif tokens is None:
+            return "BadToken"
+        else:
+            statement, parts = Statement(tokens[0], number), Tokens(tokens[1:])
+            try:
+                read_form(statement, self.form_at_place(tokens[0]), parts, self.script.version)
+            except NoForm:
+                return "BadStatement"
+            fault = self.fault_of_names(statement) or self.fault_of_numbers(statement, parts.numbers)
+            if fault:
+                return fault
+        fault = self.fault_of_blocks(statement, number == len(self.lines))
+        if not fault and statement:
+            self.keep(statement)
+        return fault
+
+    def form_at_place(self, word):
+        if word not in KEYWORDS[self.script.version]:
+            raise NoForm
+        if word in ("end", "else"):
+            return ""
+        forms = {"thread": "NAME"}
+        if self.open:
+            forms = STATEMENTS
+        elif not self.script.threads:
+            forms = {**DECLARATIONS, **forms}
+        if word not in forms:
+            raise NoForm
+        return forms[word]
+
+    def fault_of_names(self, statement):
+        for kind, name in statement.names:
+            is_known = name in self.future_threads if kind == "thread" else self.script.declares(kind, name)
+            if not is_known:
+                return "UnknownName"
+        if any(self.script.declares(kind, statement.declared) for kind in [*OBJECTS, "thread"]):
+            return "TwiceNamed"
+        return None
+
+    @staticmethod
+    def fault_of_numbers(statement, numbers):
+        ranges = {"var": (LEAST, GREATEST), "sem": (0, 2**31 - 1), "barrier": (1, 1000)}
+        least, greatest = ranges.get(statement.word, (0, 0))
+        is_well = all(number <= GREATEST for number in numbers) and least <= statement.number <= greatest
+        return None if is_well else "NumberRange"
+
+    def fault_of_blocks(self, statement, is_last):
+        word = statement.word if statement else ""
+        opens = word == "thread" or word in BLOCKS
+        if is_last and (opens or len(self.open) > (word == "end")):
+            return "NoEnd"
+        innermost = self.open[-1] if self.open else None
+        takes_else = isinstance(innermost, Statement) and innermost.word == "if" and innermost.otherwise is None
+        if (word == "end" and not self.open) or (word == "else" and not takes_else):
+            return "StrayEnd"
+        if is_last and not self.script.threads:
+            return "NoThread"
+        is_full = word == "thread" and len(self.script.threads) == MOST_THREADS[self.script.version]
+        is_full |= word in OBJECTS and len(self.script.objects[word]) == 64
+        is_full |= word in BLOCKS and len(self.open) == 33  # the thread, and 32 blocks
+        return "TooMany" if is_full else None
+
+    def keep(self, statement):
+        word = statement.word
+        if word == "thread":
+            self.open.append(Thread(statement.line, []))
+            self.script.threads[statement.declared] = self.open[-1]
+        elif word in OBJECTS:
+            self.script.objects[word][statement.declared] = statement.number
+        elif word == "end":
+            closed = self.open.pop()
+            if isinstance(closed, Thread):
+                closed.end_line = statement.line
+        elif word == "else":
+            self.open[-1].otherwise = []
+        else:
+            self.innermost_block().append(statement)
+            if word in BLOCKS:
+                self.open.append(statement)
+            if word == "start":
+                self.script.held.add(statement.names[0][1])
+
+    def innermost_block(self):
+        innermost = self.open[-1]
+        has_else = isinstance(innermost, Statement) and innermost.otherwise is not None
+        return innermost.otherwise if has_else else innermost.block
+
+
+def parse(data):
+    if len(data) > 1048576:
+        raise Faulty(1, "TooMany")
+    return Parser(data).read()
