@@ -67,7 +67,15 @@ fn status_of<R: Env + AllocGlobal + Threads + Wait + Sync, H: Shelf, O: Sink, E:
     };
     match Own::of_words(words.as_slice()) {
         Some(own) => put_answer(out, err, own.text()),
-        None => pct(rt, rt.alloc(), words.as_slice(), shelf, out, err, &OpenGate::new()),
+        None => pct(
+            rt,
+            rt.alloc(),
+            words.as_slice(),
+            shelf,
+            out,
+            err,
+            &OpenGate::new(),
+        ),
     }
 }
 
