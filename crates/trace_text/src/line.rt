@@ -28,5 +28,9 @@ fn first_end(text: &[u8]) -> Option<usize>
 pub fn first_words(alloc: Global, line: &[u8], most: usize) -> Result<Vec<&[u8]>, NoMemory>
     ensures { IfOk result (λ words. seen words.items ≡ take most (words_of line.now)) }
 {
-    line.split(|b| *b == b' ').take(most).collect(alloc)
+    let mut words = Vec::new(alloc);
+    for word in line.split(|b| *b == b' ').take(most) {
+        words.push(word)?;
+    }
+    Ok(words)
 }
