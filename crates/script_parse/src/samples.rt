@@ -8,7 +8,15 @@ use script_tree::ScriptFault::{
 pub type Want = Option<(u32, ScriptFault)>;
 
 /// Short texts.
-pub const TEXTS: [(&str, Want); 97] = [
+pub const TEXTS: [(&str, Want); 99] = [
+    (
+        "script 1\nvar x = 0\nthread A\nstart B\nread r0 x\nend\nthread B\nwrite x 1\nend\n",
+        Some((4, BadStatement)),
+    ),
+    (
+        "script 2\nvar x = 0\nthread A\nstart B\nread r0 x\nend\nthread B\nwrite x 1\nend\n",
+        None,
+    ),
     ("script 1\nthread A\nend\n", None),
     ("script 1\r\nthread A\r\nend", None),
     ("# a\n\nscript 1 # b\nthread A\nend", None),
@@ -385,14 +393,15 @@ pub const LONG_TEXTS: [(Parts, Want); 16] = [
     (&[("\n", 1), ("#\n", 524_288)], Some((1, TooMany))),
 ];
 
-/// How many threads a script of a version has.
-pub const THREADS: [(u32, u32, Want); 6] = [
-    (1, 16, None),
-    (1, 17, Some((34, TooMany))),
-    (2, 16, None),
-    (2, 17, Some((34, TooMany))),
-    (3, 64, None),
-    (3, 65, Some((130, TooMany))),
+/// How many threads a script of a version has, with what follows them.
+pub const THREADS: [(u32, u32, &str, Want); 7] = [
+    (1, 16, "", None),
+    (1, 17, "", Some((34, TooMany))),
+    (2, 16, "", None),
+    (2, 17, "", Some((34, TooMany))),
+    (3, 64, "", None),
+    (3, 65, "", Some((130, TooMany))),
+    (1, 16, "thread B\n", Some((34, NoEnd))),
 ];
 
 /// How many variables a script has, with what follows them.

@@ -67,23 +67,24 @@ fn long_texts_have_their_answers(rt: HostRuntime) -> Result<(), Fail> {
     Ok(())
 }
 
-/// A script of so many threads.
-fn threads(alloc: Global, version: u32, count: u32) -> Result<String, NoMemory> {
+/// A text of so many threads.
+fn threads(alloc: Global, version: u32, count: u32, back: &str) -> Result<String, NoMemory> {
     let mut text = String::new(alloc);
     write!(text, "script {version}\n")?;
     for thread in 0..count {
         write!(text, "thread T{thread}\nend\n")?;
     }
+    text.push_str(back)?;
     Ok(text)
 }
 
 fn expect_threads(
     rt: &impl Abort,
     alloc: Global,
-    counts: &[(u32, u32, Want)],
+    counts: &[(u32, u32, &str, Want)],
 ) -> Result<(), NoMemory> {
-    for (place, (version, count, want)) in counts.iter().enumerate() {
-        let text = threads(alloc, *version, *count)?;
+    for (place, (version, count, back, want)) in counts.iter().enumerate() {
+        let text = threads(alloc, *version, *count, back)?;
         expect(rt, alloc, text.as_bytes(), *want, place);
     }
     Ok(())
