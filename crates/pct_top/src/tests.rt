@@ -76,14 +76,14 @@ fn words_of(alloc: Global, line: &str) -> Result<Vec<String>, NoMemory> {
 fn expect_call<R: Abort + Threads + Wait + Sync>(
     rt: &R,
     alloc: Global,
-    trace: &str,
+    trace: &[u8],
     fails: Fails,
     line: &str,
     want: Given<'_>,
 ) -> Result<(), Fail> {
     let mut shelf = MemoryShelf::new(alloc, vec![in alloc; fails.read]?);
     shelf.add("s.pct", ADDERS.as_bytes())?;
-    shelf.add("t.txt", trace.as_bytes())?;
+    shelf.add("t.txt", trace)?;
     let mut out = MemorySink::new(alloc, vec![in alloc; fails.out]?);
     let mut err = MemorySink::new(alloc, vec![in alloc; fails.err]?);
     let words = words_of(alloc, line)?;
@@ -111,7 +111,7 @@ fn output_fails_at_each_line(rt: HostRuntime) -> Result<(), Fail> {
             out: put.as_str(),
             err: "write fault\n",
         };
-        expect_call(&rt, alloc, SUM, fails, IN_ORDER, want)?;
+        expect_call(&rt, alloc, SUM.as_bytes(), fails, IN_ORDER, want)?;
         put.push_str(line)?;
     }
     assert_eq!(rt; put.as_str(), SUM);
@@ -120,7 +120,14 @@ fn output_fails_at_each_line(rt: HostRuntime) -> Result<(), Fail> {
         out: SUM,
         err: "",
     };
-    expect_call(&rt, alloc, SUM, Fails { out: 14, ..SOUND }, IN_ORDER, want)
+    expect_call(
+        &rt,
+        alloc,
+        SUM.as_bytes(),
+        Fails { out: 14, ..SOUND },
+        IN_ORDER,
+        want,
+    )
 }
 
 #[test]
@@ -131,7 +138,7 @@ fn lost_update_is_found(rt: HostRuntime) -> Result<(), Fail> {
         err: "",
     };
     let line = "run s.pct --order A,B,C --points 1";
-    expect_call(&rt, rt.alloc(), SUM, SOUND, line, want)
+    expect_call(&rt, rt.alloc(), SUM.as_bytes(), SOUND, line, want)
 }
 
 #[test]
@@ -146,7 +153,7 @@ fn traces_are_replayed(rt: HostRuntime) -> Result<(), Fail> {
             out,
             err: "",
         };
-        expect_call(&rt, alloc, trace, SOUND, REPLAY, want)?;
+        expect_call(&rt, alloc, trace.as_bytes(), SOUND, REPLAY, want)?;
     }
     Ok(())
 }
@@ -161,9 +168,16 @@ fn faults_are_told(rt: HostRuntime) -> Result<(), Fail> {
     };
     for (read, line) in [(1, IN_ORDER), (1, REPLAY), (2, REPLAY)] {
         let fails = Fails { read, ..SOUND };
-        expect_call(&rt, alloc, LOST, fails, line, unread)?;
+        expect_call(&rt, alloc, LOST.as_bytes(), fails, line, unread)?;
     }
-    expect_call(&rt, alloc, LOST, SOUND, "run v.pct --order A,B,C", unread)?;
+    expect_call(
+        &rt,
+        alloc,
+        LOST.as_bytes(),
+        SOUND,
+        "run v.pct --order A,B,C",
+        unread,
+    )?;
     let unsaid = Given {
         status: Status::WriteFault,
         out: "trace 1\n",
@@ -174,7 +188,7 @@ fn faults_are_told(rt: HostRuntime) -> Result<(), Fail> {
         out: 2,
         err: 1,
     };
-    expect_call(&rt, alloc, LOST, fails, IN_ORDER, unsaid)
+    expect_call(&rt, alloc, LOST.as_bytes(), fails, IN_ORDER, unsaid)
 }
 
 /// The word that isn't taken of each line.
@@ -223,7 +237,7 @@ fn untaken_words_are_said(rt: HostRuntime) -> Result<(), Fail> {
             out: "",
             err,
         };
-        expect_call(&rt, alloc, LOST, SOUND, line, want)?;
+        expect_call(&rt, alloc, LOST.as_bytes(), SOUND, line, want)?;
     }
     Ok(())
 }
@@ -266,9 +280,21 @@ fn cut_traces_are_said(rt: HostRuntime) -> Result<(), Fail> {
             out: "",
             err: cut_fault(bytes),
         };
-        expect_call(&rt, alloc, trace, SOUND, REPLAY, want)?;
+        expect_call(&rt, alloc, trace.as_bytes(), SOUND, REPLAY, want)?;
     }
     Ok(())
+}
+
+#[test]
+fn long_trace_is_said(rt: HostRuntime) -> Result<(), Fail> {
+    let alloc = rt.alloc();
+    let trace = vec![in alloc; b'1'; 16_777_217]?;
+    let want = Given {
+        status: Status::BadTrace,
+        out: "",
+        err: "trace: line 1 TooLong\n",
+    };
+    expect_call(&rt, alloc, trace.as_slice(), SOUND, REPLAY, want)
 }
 
 #[test]
