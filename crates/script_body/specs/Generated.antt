@@ -1,5 +1,5 @@
 -- The generated statements of the tests.
-use Rattle.std.specs.Prelude.{◌≡◌, ℕ, ◌≤◌, true}
+use Rattle.std.specs.Prelude.{◌≡◌, ◌≤◌, true}
 use Rattle.script_tree.specs.Trees.{Statement, Statements}
 use Rattle.script_tree.specs.Fitting.{count_of, counts_of, statement_fits, statements_fit}
 use Rattle.script_body.specs.Samples.{sample_names}

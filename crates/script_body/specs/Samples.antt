@@ -2,7 +2,7 @@
 use Rattle.std.specs.Prelude.{◌≡◌, ℕ, ◌+◌, pos, ◌&&◌, Bool, true, nat_le, List, [], ◌∷◌, codes}
 use Rattle.pct_ask.specs.NameLists.{NameLists}
 use Rattle.script_tree.specs.declared.expr.Op.TheVariants as ops
-use Rattle.script_tree.specs.Trees.{Expression, Number, Reg, Minus, Two, Statement, Statements, Closed, Then, Add, Cas, Lock, TryLock, Wait, Unlock, Signal, TryDown, Up, Start, Arrive, Assert, Set, While, Yield, closed_at}
+use Rattle.script_tree.specs.Trees.{Expression, Number, Reg, Minus, Two, Statement, Statements, Closed, Then, Add, Cas, Lock, TryLock, Wait, Unlock, Signal, TryDown, Up, Start, Arrive, Assert, Set, While, Yield}
 use Rattle.script_tree.specs.ScriptText.{ScriptText}
 use Rattle.script_tree.specs.Fitting.{statements_fit, counts_of}
 
