@@ -139,6 +139,21 @@ impl Plain<'_> {
         }
     }
 
+    fn exchanges(
+        &mut self,
+        line: u32,
+        reg: u32,
+        var: u32,
+        old: Result<i64, FaultKind>,
+        new: Result<i64, FaultKind>,
+    ) -> Result<bool, NoMemory> {
+        match (old, new) {
+            (Err(kind), _) => self.fault(line, kind),
+            (Ok(_), Err(kind)) => self.fault(line, kind),
+            (Ok(old), Ok(new)) => self.asks_into(line, reg, Ask::Cas { var, old, new }),
+        }
+    }
+
     /// What a statement asks for. Those that aren't generated end the thread.
     fn asks_for(&mut self, stmt: &Stmt) -> Result<bool, NoMemory> {
         match stmt {
@@ -154,13 +169,9 @@ impl Plain<'_> {
                 old,
                 new,
             } => {
-                let var = *var;
                 let old = value_of(old, &self.registers);
-                match (old, value_of(new, &self.registers)) {
-                    (Err(kind), _) => self.fault(*line, kind),
-                    (Ok(_), Err(kind)) => self.fault(*line, kind),
-                    (Ok(old), Ok(new)) => self.asks_into(*line, *reg, Ask::Cas { var, old, new }),
-                }
+                let new = value_of(new, &self.registers);
+                self.exchanges(*line, *reg, *var, old, new)
             }
             Stmt::Wait { line, cond, mutex } => {
                 let (cond, mutex) = (*cond, *mutex);
