@@ -1,9 +1,8 @@
 -- The scripts of the tests: two threads over an object of each of five kinds.
-use Rattle.std.specs.Prelude.{◌≡◌, ℕ, ◌+◌, pos, ◌&&◌, Bool, true, nat_le, List, [], ◌∷◌, codes}
+use Rattle.std.specs.Prelude.{◌≡◌, ℕ, ◌+◌, pos, ◌&&◌, true, nat_le, List, [], ◌∷◌, codes}
 use Rattle.pct_ask.specs.NameLists.{NameLists}
 use Rattle.script_tree.specs.declared.expr.Op.TheVariants as ops
-use Rattle.script_tree.specs.Trees.{Expression, Number, Reg, Minus, Two, Statement, Statements, Closed, Then, Add, Cas, Lock, TryLock, Wait, Unlock, Signal, TryDown, Up, Start, Arrive, Assert, Set, While, Yield, closed_at}
-use Rattle.script_tree.specs.ScriptText.{ScriptText}
+use Rattle.script_tree.specs.Trees.{Expression, Number, Reg, Minus, Two, Statement, Statements, Closed, Then, Add, Cas, Lock, TryLock, Wait, Unlock, Signal, TryDown, Up, Start, Arrive, Assert, Set, While, Yield}
 use Rattle.script_tree.specs.Fitting.{statements_fit, counts_of}
 
 abbrev pub thread_names : NameLists
@@ -17,25 +16,11 @@ abbrev pub sample_names : NameLists
 sample_names = record lock_names { sems = codes "s" ∷ []; barriers = codes "b" ∷ [] }
 
 -- statements that a thread of them may have
-abbrev pub may_stand : Statements → Bool
-may_stand body = statements_fit 2 sample_names 32 body && nat_le (counts_of body) 4096
-
-abbrev pub sample : Statements → Statements → ScriptText
-sample first second = record {
-  version = 2;
-  names = sample_names;
-  vars = pos 5 ∷ [];
-  sems = pos 1 ∷ [];
-  barriers = pos 2 ∷ [];
-  threads = record { line = 7; body = first } ∷ record { line = 30; body = second } ∷ [];
-}
+abbrev pub MayStand : Statements → Type 0
+MayStand body = (statements_fit 2 sample_names 32 body && nat_le (counts_of body) 4096) ≡ true
 
 abbrev pub equals : ℕ → Expression → Expression
 equals reg value = Two ops.Eq (Reg reg) value
-
--- statements that may stand in the first thread, from line 8 on, and in the second one, from line 31 on
-abbrev pub MayStand : Statements → Type 0
-MayStand body = may_stand body ≡ true
 
 -- a variable is added to and exchanged, and a mutex and a semaphore are tried for
 abbrev pub trying : List Statement

@@ -1,6 +1,8 @@
 //! Bodies that are driven by hand.
 
 use crate::ScriptBody;
+use crate::generated::{Draws, any_body};
+use crate::plain::posts_of;
 use crate::samples::{
     Place, counting, counting_more, dividing, faulting, idle, meeting, sample, started, starting,
     trying, waiting,
@@ -130,6 +132,8 @@ fn a_started_thread_begins_first(rt: HostRuntime) -> Result<(), Fail> {
     Ok(())
 }
 
+// The first thread makes a move, 4,999 rounds of two moves and the test that ends them: 10,000 moves before its ask. The
+// second one makes one more before.
 #[test]
 fn a_thread_spins_after_ten_thousand_moves(rt: HostRuntime) -> Result<(), Fail> {
     let alloc = rt.alloc();
@@ -173,5 +177,45 @@ fn each_place_has_its_fault(rt: HostRuntime) -> Result<(), Fail> {
     let alloc = rt.alloc();
     expect_fault(&rt, alloc, &PLACES, Op::Plus, 1, FaultKind::Overflow)?;
     expect_fault(&rt, alloc, &PLACES, Op::Over, 0, FaultKind::ZeroDivisor)?;
+    Ok(())
+}
+
+/// A body posts what the plain interpreter does.
+fn expect_plain(rt: &impl Abort, body: &mut ScriptBody<'_>, plain: &[Post], answers: &[i64]) {
+    for (place, wanted) in plain.iter().enumerate() {
+        let post = body.post();
+        assert_eq!(rt; post, *wanted);
+        if post.ask.is_some() {
+            if let Some(answer) = answers.get(place) {
+                body.answer(*answer);
+            }
+        }
+    }
+}
+
+/// The statements and the answers of a number.
+fn compare_plain(rt: &impl Abort, alloc: Global, seed: u32) -> Result<(), NoMemory> {
+    let mut draws = Draws::new(seed);
+    let script = sample(alloc, any_body(alloc, &mut draws)?, idle(alloc))?;
+    let mut answers = Vec::new(alloc);
+    for _ in 0..12 {
+        answers.push(i64::from(draws.below(3)))?;
+    }
+    let Some(text) = script.threads.first() else {
+        panic!(rt; "no thread");
+    };
+    let plain = posts_of(alloc, &text.body, answers.as_slice())?;
+    let code = compile(alloc, &script)?;
+    assert_eq!(rt; code.threads(), 2);
+    let mut body = ScriptBody::new(&code, 0);
+    expect_plain(rt, &mut body, plain.as_slice(), answers.as_slice());
+    Ok(())
+}
+
+#[test]
+fn bodies_post_as_a_plain_interpreter_does(rt: HostRuntime) -> Result<(), Fail> {
+    for seed in 0..500 {
+        compare_plain(&rt, rt.alloc(), seed)?;
+    }
     Ok(())
 }

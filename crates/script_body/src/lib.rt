@@ -6,7 +6,11 @@ mod ask;
 mod body;
 #[cfg(test)]
 mod drives;
+#[cfg(test)]
+mod generated;
 mod moving;
+#[cfg(test)]
+mod plain;
 #[cfg(test)]
 mod samples;
 mod settling;

@@ -20,7 +20,7 @@ pub(crate) fn number(value: i64) -> Expr
 }
 
 #[tactic(auto, using(script_tree::proofs::SeenLemmas::seen_laws))]
-fn register(reg: u32) -> Expr
+pub(crate) fn register(reg: u32) -> Expr
     ensures { expression result ≡ trees.Reg reg }
 {
     Expr::Reg(reg)
@@ -70,14 +70,14 @@ fn assert(alloc: Global, line: u32, op: Op, left: Expr, right: Expr) -> Result<S
     Ok(Stmt::Assert { line, test })
 }
 
-fn push(stmt: Stmt, stmts: &mut Vec<Stmt>) -> Result<(), NoMemory>
+pub(crate) fn push(stmt: Stmt, stmts: &mut Vec<Stmt>) -> Result<(), NoMemory>
     ensures { OnOk result (statements stmts.new.items ≡ statements stmts.old.items ++ statement stmt ∷ []) }
 {
     Ok(stmts.push(stmt)?)
 }
 
 #[tactic(auto, using(script_tree::proofs::SeenLemmas::seen_laws))]
-fn closed(stmts: Vec<Stmt>, end_line: u32) -> Block
+pub(crate) fn closed(stmts: Vec<Stmt>, end_line: u32) -> Block
     ensures { block result ≡ closed_at end_line (statements stmts.items) }
 {
     Block { stmts, end_line }

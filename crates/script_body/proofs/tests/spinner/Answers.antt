@@ -1,8 +1,7 @@
-use Rattle.std.proofs.Common.{◌≡◌, [], ◌∷◌, codes, map, sym, ap, ◌∙◌, subst}
+use Rattle.std.proofs.Common.{◌≡◌, [], codes, map, sym, ap, ◌∙◌, subst}
 use Rattle.pct_ask.specs.NameLists.{with_name}
 use Rattle.pct_ask.specs.declared.names.NameKind.TheVariants.{Thread}
 use Rattle.script_tree.specs.Fitting.{IsScript}
-use Rattle.script_tree.specs.ScriptText.{ScriptText}
 use Rattle.script_tree.specs.ScriptParts.{thread}
 use Rattle.script_tree.specs.Rows.{spinner}
 use Rattle.script_tree.proofs.SeenLemmas.{block-parts, statement-While, expression-Number}
