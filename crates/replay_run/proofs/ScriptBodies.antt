@@ -18,8 +18,6 @@ use Rattle.script_code.specs.Operations.{Operation}
 use Rattle.script_code.specs.Placed.{listing_of}
 use Rattle.script_code.specs.FlatPosts.{flat_pending}
 use Rattle.script_code.specs.CodeOf.{IsCodeOf}
-use Rattle.script_body.specs.BodyPosts.{pending_of as body_pending}
-use Rattle.script_body.specs.declared.body.ScriptBody.{ScriptBody}
 use Rattle.turn_book.specs.Told.{PostIsInRange}
 use Rattle.worker_run.specs.Bodies.{Pending, nobody, AreInRange}
 use Rattle.replay_run.specs.Replay.{bodies_of, AreOf}
@@ -27,13 +25,13 @@ use Rattle.replay_run.specs.Replay.{bodies_of, AreOf}
 same_posts : (f g : Pending) → ((answers : List ℤ) → f answers ≡ g answers) → f ≡ g
 same_posts f g same = λ j answers. same answers j
 
--- one more body
-pub one_more : (code : List (List Operation)) (bodies new : List ScriptBody) (body : ScriptBody) (t : ℕ) → t < length code → map body_pending bodies ≡ map flat_pending (take t code) → new ≡ bodies ++ body ∷ []
-    → ((answers : List ℤ) → body_pending body answers ≡ flat_pending (listing_of code t) answers) → map body_pending new ≡ map flat_pending (take (t + 1) code)
-one_more code bodies new body t within before is posts =
+-- one more body, where each posts what `posts` tells of it
+pub one_more : {X : Type 0} (posts : X → Pending) (code : List (List Operation)) (bodies new : List X) (body : X) (t : ℕ) → t < length code → map posts bodies ≡ map flat_pending (take t code) → new ≡ bodies ++ body ∷ []
+    → ((answers : List ℤ) → posts body answers ≡ flat_pending (listing_of code t) answers) → map posts new ≡ map flat_pending (take (t + 1) code)
+one_more posts code bodies new body t within before is same =
     let step : t + 1 ≡ suc t = omega arith in
-    ap (map body_pending) is ∙ map-append body_pending bodies (body ∷ []) ∙ ap (λ l. l ++ body_pending body ∷ []) before
-    ∙ ap (λ p. map flat_pending (take t code) ++ p ∷ []) (same_posts (body_pending body) (flat_pending (listing_of code t)) posts)
+    ap (map posts) is ∙ map-append posts bodies (body ∷ []) ∙ ap (λ l. l ++ posts body ∷ []) before
+    ∙ ap (λ p. map flat_pending (take t code) ++ p ∷ []) (same_posts (posts body) (flat_pending (listing_of code t)) same)
     ∙ sym (map-append flat_pending (take t code) (listing_of code t ∷ []))
     ∙ ap (map flat_pending) (sym (take-suc code t [] within) ∙ ap (λ n. take n code) (sym step))
 
