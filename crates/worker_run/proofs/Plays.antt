@@ -82,11 +82,8 @@ get-replicate zero k x = refl
 get-replicate (suc n) zero x = refl
 get-replicate (suc n) (suc k) x = get-replicate n k x
 
-pub new-unposted : (book : Told) (deal : Deal) (limit : ℕ) (plan : Plan) → book ≡ new_book deal limit plan → IsUnposted book
-new-unposted book deal limit plan is = record {
-  steps = ap (λ (b : Told). b.trace) is;
-  posts = λ t. let none : List Post = [] in ap (λ (b : Told). posted_by b t) is ∙ get-replicate deal.threads t none;
-}
+new-unposted : (deal : Deal) (limit : ℕ) (plan : Plan) → IsUnposted (new_book deal limit plan)
+new-unposted deal limit plan = record { steps = refl; posts = λ t. let none : List Post = [] in get-replicate deal.threads t none }
 
 -- a thread's answers so far are the first of all that it has had
 answers-front : (t : ℕ) (trace before after : List Event) → trace ≡ before ++ after → take (length (events_of t before)) (answers_of t trace) ≡ answers_of t before
@@ -168,32 +165,26 @@ module _ (made seen book : Told) (bodies : List Pending) (played : HasPlayed mad
       subst E (sym (are ∙ closed-trace)) (subst O (sym same) played.played)
 
 -- ---- on the first seat of a new lock
-module _ {B : Type 0} (pending : B → Pending) (bodies : List B) (deal : Deal) (limit : ℕ) (plan : Plan) (made book : Told) (v : View)
-    (is_made : made ≡ book) (book_is : book ≡ new_book deal limit plan) (view_is : v ≡ first_view book) (count : length bodies ≡ deal.threads) where
-  new_made : made ≡ new_book deal limit plan
-  new_made = is_made ∙ book_is
-
-  same-threads : book.deal.threads ≡ deal.threads
-  same-threads = ap (λ (b : Told). b.deal.threads) book_is
-
+module _ {B : Type 0} (pending : B → Pending) (bodies : List B) (deal : Deal) (limit : ℕ) (plan : Plan) (made : Told) (v : View)
+    (made_is : made ≡ new_book deal limit plan) (view_is : v ≡ first_view (new_book deal limit plan)) (count : length bodies ≡ deal.threads) where
   pub here-range : AreInRange (sizes_of_deal deal) (map pending bodies) → AreInRange (sizes_of_deal made.deal) (map pending bodies)
-  here-range in_range = subst (λ (b : Told). AreInRange (sizes_of_deal b.deal) (map pending bodies)) (sym new_made) in_range
+  here-range in_range = subst (λ (b : Told). AreInRange (sizes_of_deal b.deal) (map pending bodies)) (sym made_is) in_range
 
   pub here-unposted : IsUnposted v.seen
-  here-unposted = subst (λ (x : View). IsUnposted x.seen) (sym view_is) (new-unposted book deal limit plan book_is)
+  here-unposted = subst (λ (x : View). IsUnposted x.seen) (sym view_is) (new-unposted deal limit plan)
 
   pub here-serves : (t : ℕ) → t < length bodies → Serves v t
-  here-serves t within = subst (λ (x : View). Serves x t) (sym view_is) (first-has book.deal.threads t (omega (arith, same-threads)))
+  here-serves t within = subst (λ (x : View). Serves x t) (sym view_is) (first-has deal.threads t (omega arith))
 
   here-within : (t : ℕ) → Serves v t → t < length bodies
-  here-within t here = let below = first-below book.deal.threads t (subst (λ (x : View). Serves x t) view_is here) in omega (arith, same-threads)
+  here-within t here = let below = first-below deal.threads t (subst (λ (x : View). Serves x t) view_is here) in omega arith
 
   pub here-all : (t : ℕ) → t < made.deal.threads → Serves v t
-  here-all t within = here-serves t (omega (arith, ap (λ (b : Told). b.deal.threads) new_made))
+  here-all t within = here-serves t (omega (arith, ap (λ (b : Told). b.deal.threads) made_is))
 
   pub here-crew : (runners : List (Option (Runner B))) → runners ≡ first_runners bodies → IsCrew pending (pending_of (map pending bodies)) 0 runners v
   here-crew runners are = first-crew pending bodies runners are v here-unposted here-serves here-within
 
   -- what was played by the lock is by what it was made with
   pub here-played : (starts : List Pending) (events : List Event) (outcome : Outcome) → IsPlayed made.plan made.deal starts made.limit events outcome → IsPlayed plan deal starts limit events outcome
-  here-played starts events outcome is = subst (λ (b : Told). IsPlayed b.plan b.deal starts b.limit events outcome) new_made is
+  here-played starts events outcome is = subst (λ (b : Told). IsPlayed b.plan b.deal starts b.limit events outcome) made_is is

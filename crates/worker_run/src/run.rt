@@ -2,6 +2,8 @@ ghost use Rattle.std.specs.Prelude.{◌≡◌, ◌≤◌, [], List, length, map,
 ghost use Rattle.sync_store.specs.Store.{sizes_of_deal};
 ghost use Rattle.rank_now.specs.declared.moment.Moment.{Moment};
 ghost use Rattle.policy_pick.specs.Plan.{SpeaksOf, ByPoints, ByEvents};
+ghost use Rattle.turn_book.specs.Told.{new_book};
+ghost use Rattle.turn_lock.specs.Rule.{first_view};
 ghost use Rattle.turn_lock.specs.Calls.{made, ServesAll};
 ghost use Rattle.turn_lock.specs.Views.{view, IsOf};
 ghost use Rattle.worker_run.specs.Bodies.{Pending, AreInRange};
@@ -19,6 +21,25 @@ use std::sync::Wait;
 use std::thread::Threads;
 use turn_book::TurnBook;
 use turn_lock::{Seat, TurnLock};
+
+/// A lock for a run, and its first seat.
+fn new_lock<P: Policy>(
+    alloc: Global,
+    deal: Deal,
+    policy: P,
+    limit: u32,
+) -> Result<(TurnLock<P>, Seat<P>), NoMemory>
+    requires some_steps { 1 ≤ limit }
+    requires few_steps { limit ≤ 100000 }
+    requires stands { P.stands policy [] }
+    requires speaks { SpeaksOf (P.plan policy) deal.threads }
+    ensures made { IfOk result (λ r. made r.0 ≡ new_book deal limit (P.plan policy)) }
+    ensures of { IfOk result (λ r. IsOf r.0 r.1) }
+    ensures view { IfOk result (λ r. view r.1 ≡ first_view (new_book deal limit (P.plan policy))) }
+{
+    let book = TurnBook::new(alloc, deal, policy, limit)?;
+    TurnLock::new(alloc, book)
+}
 
 /// The run of the lock's book, which is over.
 fn finish<P: Policy>(lock: TurnLock<P>, seat: Seat<P>) -> Played
@@ -56,8 +77,7 @@ pub fn run_here<R: Wait, P: Policy, B: Body, G: Gate>(
     ensures directed { (order : List ℕ) (events : List Moment) → P.plan policy ≡ ByEvents order events → IfOk result (λ played. IsRun (directed deal (map B.pending bodies.items) order events limit) played.events played.outcome) }
 {
     let mut runners = runners_of(alloc, bodies)?;
-    let book = TurnBook::new(alloc, deal, policy, limit)?;
-    let (lock, mut seat) = TurnLock::new(alloc, book)?;
+    let (lock, mut seat) = new_lock(alloc, deal, policy, limit)?;
     serve_all(rt, &lock, &mut seat, runners.as_mut_slice(), gate);
     Ok(finish(lock, seat))
 }
@@ -82,8 +102,7 @@ pub fn run_threads<R: Threads + Wait + Sync, P: Policy, B: Body, G: Gate>(
     ensures run { (order points : List ℕ) → P.plan policy ≡ ByPoints order points → IfOk result (λ played. IsRun (run deal (map B.pending bodies.items) order points limit) played.events played.outcome) }
     ensures directed { (order : List ℕ) (events : List Moment) → P.plan policy ≡ ByEvents order events → IfOk result (λ played. IsRun (directed deal (map B.pending bodies.items) order events limit) played.events played.outcome) }
 {
-    let book = TurnBook::new(alloc, deal, policy, limit)?;
-    let (lock, mut seat) = TurnLock::new(alloc, book)?;
+    let (lock, mut seat) = new_lock(alloc, deal, policy, limit)?;
     run_on(rt, alloc, &lock, &mut seat, bodies, gate)?;
     Ok(finish(lock, seat))
 }

@@ -228,9 +228,9 @@ fn go_without<R: Threads + Wait + Sync, P: Policy, B: Body, G: Gate>(
             runners[given.thread as usize] = Some(runner);
             start_all(rt, lock, seat, runners, given.thread, gate)
         }
-        Done::Ran(own) => {
+        Done::Ran(served) => {
             let mut all = start_all(rt, lock, seat, runners, given.thread, gate);
-            lock.join(&mut all, own);
+            lock.join(&mut all, served);
             all
         }
     }

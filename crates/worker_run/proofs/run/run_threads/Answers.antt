@@ -13,7 +13,7 @@ returns-clause-played g c =
     let plan = g.P.Policy.plan c.args.policy in
     let lock = made c.in_ok-lock.lock in
     let v = view c.in_ok-lock.seat in
-    here-played g.B.Body.pending c.args.bodies.items c.args.deal c.args.limit plan lock c.in_ok-book.book v c.in_ok-lock.ensures.made c.in_ok-book.ensures.made c.in_ok-lock.ensures.view c.requires.bodies start c.finish.result.events c.finish.result.outcome (c.finish.ensures start c.in_ok-run_on.ensures.played)
+    here-played g.B.Body.pending c.args.bodies.items c.args.deal c.args.limit plan lock v c.in_ok-lock.ensures.made c.in_ok-lock.ensures.view c.requires.bodies start c.finish.result.events c.finish.result.outcome (c.finish.ensures start c.in_ok-run_on.ensures.played)
 
 pub returns-clause-run : goal.returns-clause-run
 returns-clause-run g c = λ order points is.

@@ -73,7 +73,7 @@ go_without-returns-clause-served g t c =
     let f = g.B.Body.pending in
     let done = subst (λ (d : Done g.row.P.Denot g.row.B.Denot g.P.Policy). IsDone f c.args.given.thread c.args.given.runner.value c.args.given.seat.value d) c.in-Ran.is c.requires.done in
     λ start crew one.
-    both-served start (view c.args.seat) (view c.args.given.seat.value) (view c.start_all-all.result) (view c.in-Ran.own) (view c.join-in-Ran.new.seat) c.requires.parts.seen (c.start_all-all.ensures.served start crew) (done.served start one)
+    both-served start (view c.args.seat) (view c.args.given.seat.value) (view c.start_all-all.result) (view c.in-Ran.served) (view c.join-in-Ran.new.seat) c.requires.parts.seen (c.start_all-all.ensures.served start crew) (done.served start one)
     (record { is = c.join-in-Ran.ensures.view; seen = c.join-in-Ran.ensures.seen; own = c.join-in-Ran.ensures.own; theirs = c.join-in-Ran.ensures.theirs; obeys = c.join-in-Ran.ensures.obeys })
 
 pub start_all-split-mine-requires-clause-serves : goal.start_all-split-mine-requires-clause-serves
