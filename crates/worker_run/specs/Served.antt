@@ -3,6 +3,7 @@ use Rattle.std.specs.Prelude.{◌≡◌, ◌≢◌, ◌<◌, ◌≤◌, ◌+◌,
 use Rattle.pct_ask.specs.declared.ask.Post.{Post}
 use Rattle.pct_ask.specs.declared.event.Standing.TheVariants.{Ended}
 use Rattle.pct_ask.specs.declared.verdict.Outcome.{Outcome}
+use Rattle.sync_store.specs.Store.{Sizes}
 use Rattle.sync_store.specs.World.{answers_of}
 use Rattle.policy_pick.specs.Plan.{SpeaksOf}
 use Rattle.turn_book.specs.Posts.{source_of}
@@ -13,7 +14,7 @@ use Rattle.turn_lock.specs.Rule.{Serves}
 use Rattle.turn_lock.specs.declared.turn.Turn.{Turn}
 use Rattle.turn_lock.specs.declared.turn.Turn.TheVariants.{Over}
 use Rattle.turn_lock.specs.declared.view.View.{View}
-use Rattle.worker_run.specs.Bodies.{Pending}
+use Rattle.worker_run.specs.Bodies.{Pending, IsInRangeBody}
 use Rattle.worker_run.specs.declared.runner.Runner.{Runner}
 
 -- nothing was posted, and no step was taken
@@ -43,6 +44,10 @@ runner_at runners place = slice_index_or runners place None
 pub record IsCrew {B : Type 0} (pending : B → Pending) (start : ℕ → Pending) (base : ℕ) (runners : List (Option (Runner B))) (v : View) : Type 0 where
   pub place : (t : ℕ) → Serves v t → (place : ℕ) × (runner : Runner B) × (t ≡ base + place) × (runner_at runners place ≡ Some runner)
   pub running : (t place : ℕ) (runner : Runner B) → t ≡ base + place → runner_at runners place ≡ Some runner → Serves v t × IsRunning (start t) (pending runner.body) runner.answered t v.seen
+
+-- the same of bodies that name only what there is
+abbrev pub HasCrew : {B : Type 0} → Sizes → (B → Pending) → ℕ → List (Option (Runner B)) → View → Type 0
+HasCrew sizes pending base runners v = (start : ℕ → Pending) × ((t : ℕ) → IsInRangeBody sizes (start t)) × IsCrew pending start base runners v
 
 abbrev pub AllOwe : View → Type 0
 AllOwe v = (t : ℕ) → Serves v t → owes_of v.seen t ≡ true

@@ -6,7 +6,7 @@ ghost use Rattle.turn_lock.specs.Rule.{Serves};
 ghost use Rattle.turn_lock.specs.Calls.{made};
 ghost use Rattle.turn_lock.specs.Views.{view, IsOf};
 ghost use Rattle.worker_run.specs.Bodies.{Pending, IsInRangeBody};
-ghost use Rattle.worker_run.specs.Served.{IsCrew, AllOwe, NoneOwes, GoesOn, IsOver, IsServed, runner_at};
+ghost use Rattle.worker_run.specs.Served.{IsCrew, HasCrew, AllOwe, NoneOwes, GoesOn, IsOver, IsServed, runner_at};
 ghost use Rattle.worker_run.specs.declared.runner.Runner.{Runner};
 
 use crate::runner::Runner;
@@ -21,8 +21,8 @@ fn has_runner<B: Body>(runners: &[Option<Runner<B>>]) -> bool
     ensures some { result ≡ true → (place : ℕ) × (runner : Runner B) × (runner_at runners.now place ≡ Some runner) }
     ensures none { result ≡ false → (place : ℕ) → runner_at runners.now place ≡ None }
 {
-    for place in 0..runners.len() {
-        if runners[place].is_some() {
+    for at in 0..runners.len() {
+        if runners[at].is_some() {
             return true;
         }
     }
@@ -38,7 +38,7 @@ fn begin<R: Wait, P: Policy, B: Body, G: Gate>(
     gate: &G,
 ) -> bool
     requires of { IsOf lock.now seat.old }
-    requires crew { (start : ℕ → Pending) × ((t : ℕ) → IsInRangeBody (sizes_of_deal (made lock.now).deal) (start t)) × IsCrew B.pending start 0 runners.old (view seat.old) }
+    requires crew { HasCrew (sizes_of_deal (made lock.now).deal) B.pending 0 runners.old (view seat.old) }
     requires owe { AllOwe (view seat.old) }
     requires few { length runners.old ≤ 64 }
     ensures of { IsOf lock.now seat.new }
@@ -68,7 +68,7 @@ fn take_turns<R: Wait, P: Policy, B: Body, G: Gate>(
     gate: &G,
 )
     requires of { IsOf lock.now seat.old }
-    requires crew { (start : ℕ → Pending) × ((t : ℕ) → IsInRangeBody (sizes_of_deal (made lock.now).deal) (start t)) × IsCrew B.pending start 0 runners.old (view seat.old) }
+    requires crew { HasCrew (sizes_of_deal (made lock.now).deal) B.pending 0 runners.old (view seat.old) }
     requires some { (t : ℕ) × Serves (view seat.old) t }
     requires posted { NoneOwes (view seat.old) }
     requires few { length runners.old ≤ 64 }
@@ -102,7 +102,7 @@ pub fn serve_all<R: Wait, P: Policy, B: Body, G: Gate>(
     gate: &G,
 )
     requires of { IsOf lock.now seat.old }
-    requires crew { (start : ℕ → Pending) × ((t : ℕ) → IsInRangeBody (sizes_of_deal (made lock.now).deal) (start t)) × IsCrew B.pending start 0 runners.old (view seat.old) }
+    requires crew { HasCrew (sizes_of_deal (made lock.now).deal) B.pending 0 runners.old (view seat.old) }
     requires owe { AllOwe (view seat.old) }
     requires few { length runners.old ≤ 64 }
     ensures of { IsOf lock.now seat.new }

@@ -5,7 +5,7 @@ ghost use Rattle.sync_store.specs.Store.{sizes_of_deal};
 ghost use Rattle.turn_lock.specs.Calls.{made};
 ghost use Rattle.turn_lock.specs.Views.{view, IsOf};
 ghost use Rattle.worker_run.specs.Bodies.{Pending, IsInRangeBody};
-ghost use Rattle.worker_run.specs.Served.{IsCrew, AllOwe, IsServed, runner_at};
+ghost use Rattle.worker_run.specs.Served.{IsCrew, HasCrew, AllOwe, IsServed, runner_at};
 ghost use Rattle.worker_run.specs.Handed.{IsDone, WasServed, ArePaired, BothServed};
 
 use crate::crew::serve_all;
@@ -59,7 +59,7 @@ fn serve<R: Wait, P: Policy, B: Body, G: Gate>(
     gate: &G,
 ) -> Seat<P>
     requires of { IsOf lock.now seat }
-    requires crew { (start : ℕ → Pending) × ((t : ℕ) → IsInRangeBody (sizes_of_deal (made lock.now).deal) (start t)) × IsCrew B.pending start thread (Some runner ∷ []) (view seat) }
+    requires crew { HasCrew (sizes_of_deal (made lock.now).deal) B.pending thread (Some runner ∷ []) (view seat) }
     requires owe { AllOwe (view seat) }
     ensures of { IsOf lock.now result }
     ensures served { WasServed B.pending thread runner seat result }
@@ -91,7 +91,7 @@ fn serve_if<R: Wait, P: Policy, B: Body, G: Gate>(
     gate: &G,
 ) -> Done<P, B>
     requires of { IsOf lock.now seat }
-    requires crew { (start : ℕ → Pending) × ((t : ℕ) → IsInRangeBody (sizes_of_deal (made lock.now).deal) (start t)) × IsCrew B.pending start thread (Some runner ∷ []) (view seat) }
+    requires crew { HasCrew (sizes_of_deal (made lock.now).deal) B.pending thread (Some runner ∷ []) (view seat) }
     requires owe { AllOwe (view seat) }
     ensures { IsDone B.pending thread runner seat result }
 {
@@ -110,7 +110,7 @@ fn served_seat<R: Wait, P: Policy, B: Body, G: Gate>(
     gate: &G,
 ) -> Seat<P>
     requires of { IsOf lock.now given.seat.value }
-    requires crew { (start : ℕ → Pending) × ((t : ℕ) → IsInRangeBody (sizes_of_deal (made lock.now).deal) (start t)) × IsCrew B.pending start given.thread (Some given.runner.value ∷ []) (view given.seat.value) }
+    requires crew { HasCrew (sizes_of_deal (made lock.now).deal) B.pending given.thread (Some given.runner.value ∷ []) (view given.seat.value) }
     requires owe { AllOwe (view given.seat.value) }
     requires done { IsDone B.pending given.thread given.runner.value given.seat.value done }
     ensures of { IsOf lock.now result }
@@ -134,7 +134,7 @@ pub fn start_all<R: Threads + Wait + Sync, P: Policy, B: Body, G: Gate>(
     gate: &G,
 ) -> Seat<P>
     requires of { IsOf lock.now seat }
-    requires crew { (start : ℕ → Pending) × ((t : ℕ) → IsInRangeBody (sizes_of_deal (made lock.now).deal) (start t)) × IsCrew B.pending start 0 runners.items (view seat) }
+    requires crew { HasCrew (sizes_of_deal (made lock.now).deal) B.pending 0 runners.items (view seat) }
     requires owe { AllOwe (view seat) }
     requires few { length runners.items ≤ 64 }
     requires untried { untried ≤ length runners.items }
@@ -185,7 +185,7 @@ fn start_one<R: Threads + Wait + Sync, P: Policy, B: Body, G: Gate>(
             let given = Given::of(&mine, &runner, thread);
             let promise = Given::of(&mine, &runner, thread);
             let work = move || -> Done<P, B>
-                requires { IsOf lock.now mine × ((start : ℕ → Pending) × ((t : ℕ) → IsInRangeBody (sizes_of_deal (made lock.now).deal) (start t)) × IsCrew B.pending start thread (Some runner ∷ []) (view mine)) × AllOwe (view mine) }
+                requires { IsOf lock.now mine × HasCrew (sizes_of_deal (made lock.now).deal) B.pending thread (Some runner ∷ []) (view mine) × AllOwe (view mine) }
                 ensures { IsDone B.pending thread runner mine result }
             { serve_if(rt, lock, goes, mine, thread, runner, gate) };
             match scope.spawn_with(promise, work) {

@@ -1,4 +1,4 @@
-use Rattle.std.proofs.Common.{◌≡◌, ◌+◌, ℕ, ℤ, List, true, [], ◌∷◌, ◌++◌, Some, length, sym, ap, subst, ◌∙◌, arith, rules, w64}
+use Rattle.std.proofs.Common.{◌≡◌, ◌+◌, ℕ, ℤ, List, true, [], ◌∷◌, ◌++◌, Some, length, sym, ap, subst, ◌∙◌, arith, rules, w64, to_z, of_z}
 use Rattle.std.proofs.lemmas.Int.{to_z-of_z}
 use Rattle.pct_ask.specs.declared.ask.Post.{Post}
 use Rattle.sync_store.specs.Store.{sizes_of_deal}
@@ -59,7 +59,7 @@ loop-preserved g c =
     let mine = serves-on (view c.args.seat.now) v c.args.thread c.loop.invariant.moves.on c.requires.serves in
     let took = subst (λ (x : Turn). TookTurn v c.args.thread (Some post) x w) c.in-Answer.is c.post_wait.ensures.turn.took in
     let owed : (q : Post) → Some post ≡ Some q → (owes_of v.seen c.args.thread ≡ true) × (q ≡ now []) = λ q is. (c.loop.invariant.owes, (let same : post ≡ q = cc in sym same ∙ c.post-post.ensures)) in
-    let next : (answers : List ℤ) → then answers ≡ now (c.in-Answer.value ∷ answers) = λ answers. c.hear.ensures.body answers ∙ ap (λ a. now (a ∷ answers)) (to_z-of_z w64 c.in-Answer.value (search rules)) in
+    let next : (answers : List ℤ) → then answers ≡ now (c.in-Answer.value ∷ answers) = λ answers. ◌∙◌ {b = now (to_z w64 (of_z w64 c.in-Answer.value) ∷ answers)} (c.hear.ensures.body answers) (ap (λ a. now (a ∷ answers)) (to_z-of_z w64 c.in-Answer.value (search rules))) in
     record {
       of = c.post_wait.ensures.of;
       runs = λ start r.
