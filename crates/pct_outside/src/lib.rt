@@ -12,7 +12,7 @@ pub mod memory_sinks;
 pub mod shelves;
 pub mod sinks;
 
-pub use gates::{Gate, OpenGate};
+pub use gates::{Gate, OpenGate, PairGate};
 pub use host_shelves::HostShelf;
 pub use host_sinks::HostSink;
 pub use memory_shelves::{MemoryShelf, SureShelf};

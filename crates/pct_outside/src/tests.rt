@@ -1,4 +1,4 @@
-use crate::gates::{Gate, OpenGate};
+use crate::gates::{Gate, OpenGate, PairGate};
 use crate::host_shelves::HostShelf;
 use crate::host_sinks::HostSink;
 use crate::memory_shelves::{MemoryShelf, SureShelf};
@@ -7,6 +7,7 @@ use crate::shelves::{Shelf, ShelfError};
 use crate::sinks::{Sink, SinkError};
 use std::process::Abort;
 use std::test::Fail;
+use std::thread::join;
 use std::{env, fs, process};
 
 /// Reads through the trait, and compares what came.
@@ -107,4 +108,24 @@ fn host_sink_takes(rt: HostRuntime) {
     expect_put(&rt, &mut HostSink::output(rt.stdout()), "", Ok(()));
     expect_put(&rt, &mut HostSink::errors(rt.stderr()), "", Ok(()));
     OpenGate::new().arrive(0, 0);
+}
+
+// The first to come looks ten times and goes on unmet; the second sees that it came.
+#[test]
+fn one_thread_at_a_pair_gate(rt: HostRuntime) {
+    let gate = PairGate::new(0, 1, 10);
+    gate.arrive(0, 0);
+    gate.arrive(1, 0);
+    assert_eq!(rt; gate.met(), false);
+}
+
+// Each of two threads waits for the other; a later arrival and another thread's aren't held.
+#[test]
+fn two_threads_at_a_pair_gate(rt: HostRuntime) {
+    let gate = PairGate::new(3, 1, 1_000_000_000);
+    gate.arrive(3, 1);
+    gate.arrive(0, 0);
+    assert_eq!(rt; gate.met(), false);
+    join(&rt, || gate.arrive(1, 0), || gate.arrive(3, 0));
+    assert_eq!(rt; gate.met(), true);
 }

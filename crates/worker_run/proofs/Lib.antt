@@ -2,7 +2,11 @@ pub mod Known
 pub mod Follows
 pub mod Only
 pub mod Whole
-pub mod Services
+pub mod Running
+pub mod Over
+pub mod Crews
+pub mod Parting
+pub mod Plays
 pub mod Samples
 pub mod Ranges
 pub mod Again

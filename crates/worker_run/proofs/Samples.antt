@@ -1,5 +1,5 @@
 -- The sample threads name only what there is, and their runs by two lists of change points.
-use Rattle.std.proofs.Common.{◌≡◌, ℕ, zero, suc, ◌+◌, ◌≤◌, ℤ, pos, true, false, List, [], ◌∷◌, map, Some, refl, arith}
+use Rattle.std.proofs.Common.{◌≡◌, ℕ, zero, suc, ◌+◌, ◌≤◌, ℤ, pos, Bool, true, false, List, [], ◌∷◌, map, Some, refl, arith}
 use Rattle.pct_ask.specs.declared.ask.Ask.{Ask}
 use Rattle.pct_ask.specs.declared.ask.Ask.TheVariants.{Read, Write, Join, Check}
 use Rattle.pct_ask.specs.declared.Deal.{Deal}
@@ -10,7 +10,7 @@ use Rattle.rank_now.specs.Rank.{rank_by}
 use Rattle.turn_book.specs.Told.{PostIsInRange}
 use Rattle.worker_run.specs.Bodies.{Pending, AreInRange}
 use Rattle.worker_run.specs.Run.{run}
-use Rattle.worker_run.specs.Samples.{sample_post, sample_pending}
+use Rattle.worker_run.specs.Samples.{sample_post, sample_pending, adding_pending}
 
 module _ (sizes : Sizes) (vars : 1 ≤ sizes.vars) (threads : 2 ≤ sizes.threads) where
   post-within : (t steps : ℕ) (seen : ℤ) → PostIsInRange sizes (sample_post t steps seen).ask
@@ -35,6 +35,17 @@ module _ (sizes : Sizes) (vars : 1 ≤ sizes.vars) (threads : 2 ≤ sizes.thread
   samples-within thread steps seen [] t answers = tt
   samples-within thread steps seen (b ∷ items) zero answers = sample-within (thread b) (steps b) (seen b) answers
   samples-within thread steps seen (b ∷ items) (suc t) answers = samples-within thread steps seen items t answers
+
+-- threads that add
+adding-within : (sizes : Sizes) → 1 ≤ sizes.vars → (line : ℕ) (added : Bool) (answers : List ℤ) → PostIsInRange sizes (adding_pending line added answers).ask
+adding-within sizes vars line true answers = tt
+adding-within sizes vars line false [] = omega arith
+adding-within sizes vars line false (answer ∷ answers) = tt
+
+pub adders-within : {X : Type 0} (sizes : Sizes) → 1 ≤ sizes.vars → (line : X → ℕ) (added : X → Bool) (items : List X) → AreInRange sizes (map (λ b. adding_pending (line b) (added b)) items)
+adders-within sizes vars line added [] t answers = tt
+adders-within sizes vars line added (b ∷ items) zero answers = adding-within sizes vars (line b) (added b) answers
+adders-within sizes vars line added (b ∷ items) (suc t) answers = adders-within sizes vars line added items t answers
 
 -- ---- the runs
 abbrev sample_deal : Deal

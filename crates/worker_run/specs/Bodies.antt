@@ -21,6 +21,10 @@ pending_of bodies t = slice_index_or bodies t nobody
 abbrev pub source_of_bodies : List Pending → Source
 source_of_bodies bodies = posts_of_bodies (pending_of bodies)
 
--- whatever they are answered, the bodies name only objects and threads that there are
+-- whatever it is answered, the body names only objects and threads that there are
+abbrev pub IsInRangeBody : Sizes → Pending → Type 0
+IsInRangeBody sizes pending = (answers : List ℤ) → PostIsInRange sizes (pending answers).ask
+
+-- so does each of the bodies
 abbrev pub AreInRange : Sizes → List Pending → Type 0
-AreInRange sizes bodies = (t : ℕ) (answers : List ℤ) → PostIsInRange sizes (pending_of bodies t answers).ask
+AreInRange sizes bodies = (t : ℕ) → IsInRangeBody sizes (pending_of bodies t)

@@ -3,3 +3,4 @@ pub mod Run
 pub mod Played
 pub mod Served
 pub mod Samples
+pub mod Handed

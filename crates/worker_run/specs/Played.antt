@@ -6,7 +6,9 @@ use Rattle.pct_ask.specs.declared.verdict.Verdict.{Verdict}
 use Rattle.pct_ask.specs.declared.verdict.Outcome.{Outcome}
 use Rattle.pct_ask.specs.declared.verdict.Outcome.TheVariants.{Verdict as Ends}
 use Rattle.policy_pick.specs.Plan.{Plan}
+use Rattle.turn_book.specs.Posts.{source_of}
 use Rattle.turn_book.specs.Obeys.{Obeys, settled}
+use Rattle.turn_book.specs.Told.{Told}
 use Rattle.worker_run.specs.Bodies.{Pending, source_of_bodies}
 use Rattle.worker_run.specs.Run.{Run}
 
@@ -20,3 +22,12 @@ pub record IsRun (run : Option Run) (events : List Event) (outcome : Outcome) : 
   pub verdict : Verdict
   pub ends : outcome ≡ Ends verdict
   pub steps : run ≡ Some (events, verdict)
+
+-- What a seat has seen of a lock is a run over the bodies, by what the lock was made with: an outcome stands, by what was
+-- posted, and it is what became of that run.
+pub record HasPlayed (made : Told) (bodies : List Pending) (seen : Told) : Type 0 where
+  pub outcome : Outcome
+  pub stands : seen.outcome ≡ Some outcome
+  pub obeys : Obeys made.plan made.deal (source_of seen.posts) made.limit seen.trace
+  pub ends : settled made.plan made.deal (source_of seen.posts) made.limit seen.trace ≡ Some outcome
+  pub played : IsPlayed made.plan made.deal bodies made.limit seen.trace outcome

@@ -1,9 +1,9 @@
 -- The threads of a small test (this project): the first two each read a variable and write the next number into it, and
 -- the third waits for both and checks that it is 2. Tests and examples run them.
-use Rattle.std.specs.Prelude.{ℕ, zero, suc, ◌+◌, ℤ, pos, if◌then◌else◌, List, [], ◌∷◌, Some, None}
+use Rattle.std.specs.Prelude.{ℕ, zero, suc, ◌+◌, ℤ, pos, Bool, true, false, if◌then◌else◌, List, [], ◌∷◌, Some, None}
 use Rattle.std.specs.Ordering.{int_eq}
 use Rattle.pct_ask.specs.declared.ask.Ask.{Ask}
-use Rattle.pct_ask.specs.declared.ask.Ask.TheVariants.{Read, Write, Join, Check}
+use Rattle.pct_ask.specs.declared.ask.Ask.TheVariants.{Read, Write, Add, Join, Check}
 use Rattle.pct_ask.specs.declared.ask.Post.{Post}
 
 -- 1 after 0, and else 2
@@ -39,3 +39,9 @@ sample_post (suc (suc t)) steps seen = checker_post steps seen
 abbrev pub sample_pending : ℕ → ℕ → ℤ → List ℤ → Post
 sample_pending t steps seen [] = sample_post t steps seen
 sample_pending t steps seen (answer ∷ answers) = sample_pending t (steps + 1) answer answers
+
+-- ---- As many threads as there may be: each adds one to a variable, and ends.
+abbrev pub adding_pending : ℕ → Bool → List ℤ → Post
+adding_pending line true answers = ends line
+adding_pending line false [] = asks (Add 0 (pos 1)) line
+adding_pending line false (answer ∷ answers) = ends line

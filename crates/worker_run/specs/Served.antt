@@ -1,23 +1,102 @@
--- Bodies that are served by turns over a book. Nothing here is needed to read a public contract.
-use Rattle.std.specs.Prelude.{◌≡◌, ◌≢◌, ◌<◌, ℕ, ℤ, List, ◌++◌, length, None, slice_index}
-use Rattle.pct_ask.specs.declared.event.Standing.TheVariants.{Away}
-use Rattle.sync_store.specs.Store.{sizes_of_deal}
+-- Bodies that are served over a lock, by what their seats have seen (this project).
+use Rattle.std.specs.Prelude.{◌≡◌, ◌≢◌, ◌<◌, ◌≤◌, ◌+◌, ◌⊎◌, ℕ, ℤ, Bool, true, false, List, [], ◌++◌, length, map, take, Option, Some, None, slice_get, slice_index_or}
+use Rattle.pct_ask.specs.declared.ask.Post.{Post}
+use Rattle.pct_ask.specs.declared.event.Standing.TheVariants.{Ended}
+use Rattle.pct_ask.specs.declared.verdict.Outcome.{Outcome}
+use Rattle.sync_store.specs.Store.{Sizes}
 use Rattle.sync_store.specs.World.{answers_of}
-use Rattle.turn_book.specs.Posts.{source_of, KeepsPosts}
-use Rattle.turn_book.specs.Told.{Told, standing_of, IsLawful}
-use Rattle.worker_run.specs.Bodies.{Pending, pending_of, source_of_bodies, AreInRange}
+use Rattle.policy_pick.specs.Plan.{SpeaksOf}
+use Rattle.turn_book.specs.Posts.{source_of}
+use Rattle.turn_book.specs.Obeys.{settled}
+use Rattle.turn_book.specs.Told.{Told, Within, standing_of}
+use Rattle.turn_lock.specs.Seen.{SameOf, ObeysPlan, pairs_of, posted_by, owes_of}
+use Rattle.turn_lock.specs.Rule.{Serves}
+use Rattle.turn_lock.specs.declared.turn.Turn.{Turn}
+use Rattle.turn_lock.specs.declared.turn.Turn.TheVariants.{Over}
+use Rattle.turn_lock.specs.declared.view.View.{View}
+use Rattle.worker_run.specs.Bodies.{Pending, IsInRangeBody}
+use Rattle.worker_run.specs.declared.runner.Runner.{Runner}
 
--- Between two calls each body posts, after further answers, what it would at the start after all answers of its thread
--- and these; each post in the book is the body's; and the answers of each thread are counted.
-pub record IsServed (start now : List Pending) (answered : List ℕ) (book : Told) : Type 0 where
-  pub lawful : IsLawful book
-  pub bodies : length now ≡ book.deal.threads
-  pub counts : length answered ≡ book.deal.threads
-  pub pending : (t : ℕ) (answers : List ℤ) → pending_of now t answers ≡ pending_of start t (answers_of t book.trace ++ answers)
-  pub counted : (t : ℕ) → t < book.deal.threads → slice_index answered t ≡ length (answers_of t book.trace)
-  pub keeps : KeepsPosts book.trace (source_of book.posts) (source_of_bodies start)
-  pub in_range : AreInRange (sizes_of_deal book.deal) start
+-- nothing was posted, and no step was taken
+pub record IsUnposted (seen : Told) : Type 0 where
+  pub steps : seen.trace ≡ []
+  pub posts : (t : ℕ) → posted_by seen t ≡ []
 
--- unless the run is over, the thread's next post is in the book
-abbrev pub HasPosted : Told → ℕ → Type 0
-HasPosted book t = book.outcome ≡ None → standing_of book t ≢ Away
+-- ---- What follows is for this crate's own use.
+
+-- each post of the thread is what its body posts after the answers before it
+abbrev pub Follows : Pending → ℕ → Told → Type 0
+Follows start t seen = (n : ℕ) (post : Post) → slice_get (posted_by seen t) n ≡ Some post → post ≡ start (take n (answers_of t seen.trace))
+
+-- A body that was `start` at first runs as the thread: the thread's posts were its own, and it has been told the thread's
+-- answers.
+pub record IsRunning (start now : Pending) (answered t : ℕ) (seen : Told) : Type 0 where
+  pub follows : Follows start t seen
+  pub next : (answers : List ℤ) → now answers ≡ start (answers_of t seen.trace ++ answers)
+  pub counted : answered ≡ length (answers_of t seen.trace)
+  pub few : length (posted_by seen t) ≤ length (pairs_of seen t) + 1
+
+-- the runner of a place, if there is one
+abbrev pub runner_at : {B : Type 0} → List (Option (Runner B)) → ℕ → Option (Runner B)
+runner_at runners place = slice_index_or runners place None
+
+-- The threads of the seat are those that have a runner. The first place is that of the thread `base`.
+pub record IsCrew {B : Type 0} (pending : B → Pending) (start : ℕ → Pending) (base : ℕ) (runners : List (Option (Runner B))) (v : View) : Type 0 where
+  pub place : (t : ℕ) → Serves v t → (place : ℕ) × (runner : Runner B) × (t ≡ base + place) × (runner_at runners place ≡ Some runner)
+  pub running : (t place : ℕ) (runner : Runner B) → t ≡ base + place → runner_at runners place ≡ Some runner → Serves v t × IsRunning (start t) (pending runner.body) runner.answered t v.seen
+
+-- the same of bodies that name only what there is
+abbrev pub HasCrew : {B : Type 0} → Sizes → (B → Pending) → ℕ → List (Option (Runner B)) → View → Type 0
+HasCrew sizes pending base runners v = (start : ℕ → Pending) × ((t : ℕ) → IsInRangeBody sizes (start t)) × IsCrew pending start base runners v
+
+abbrev pub AllOwe : View → Type 0
+AllOwe v = (t : ℕ) → Serves v t → owes_of v.seen t ≡ true
+
+abbrev pub NoneOwes : View → Type 0
+NoneOwes v = (t : ℕ) → Serves v t → owes_of v.seen t ≡ false
+
+-- the run is over, by what was posted
+pub record IsOver (seen : Told) : Type 0 where
+  pub speaks : SpeaksOf seen.plan seen.deal.threads
+  pub obeys : ObeysPlan seen
+  pub outcome : Outcome
+  pub ends : settled seen.plan seen.deal (source_of seen.posts) seen.limit seen.trace ≡ Some outcome
+
+-- an answer that says so
+abbrev pub is_over : Turn → Bool
+is_over (Over outcome) = true
+is_over turn = false
+
+-- the seat went on
+pub record GoesOn (v w : View) : Type 0 where
+  pub within : Within v.seen w.seen
+  pub serves : w.serves ≡ v.serves
+
+-- by its thread alone
+pub record Moves (t : ℕ) (v w : View) : Type 0 where
+  pub on : GoesOn v w
+  pub others : (u : ℕ) → Serves v u → u ≢ t → SameOf u v.seen w.seen
+
+-- What stands of a thread that there isn't: it still has no posts.
+abbrev pub StaysOutside : Told → Told → Type 0
+StaysOutside earlier later = (t : ℕ) → later.deal.threads ≤ t → posted_by earlier t ≡ [] → posted_by later t ≡ []
+
+-- The threads of the seat were served by their bodies until the run was over or all of them had ended.
+pub record IsServed (start : ℕ → Pending) (v w : View) : Type 0 where
+  pub within : Within v.seen w.seen
+  pub serves : (t : ℕ) → Serves v t → Serves w t
+  pub follows : (t : ℕ) → Serves v t → Follows (start t) t w.seen
+  pub speaks : (t : ℕ) → Serves v t → SpeaksOf w.seen.plan w.seen.deal.threads
+  pub outside : StaysOutside v.seen w.seen
+  pub done : IsOver w.seen ⊎ ((t : ℕ) → Serves v t → standing_of w.seen t ≡ Ended)
+
+-- a runner that has had no answers for each body
+abbrev pub first_runners : {B : Type 0} → List B → List (Option (Runner B))
+first_runners bodies = map (λ body. Some (record { body = body; answered = 0 })) bodies
+
+-- A seat that serves the first so many threads, and has seen no more than that nothing was posted.
+pub record IsWhole (threads : ℕ) (seen : Told) (v : View) : Type 0 where
+  pub serves : (t : ℕ) → t < threads → Serves v t
+  pub within : (t : ℕ) → Serves v t → t < threads
+  pub unposted : IsUnposted v.seen
+  pub later : Within seen v.seen

@@ -1,10 +1,15 @@
-//! Runs of the bodies of a test under a policy.
+//! Runs of the bodies of a test under a policy, each body in a thread of its own.
 #![tactic(auto)]
 
+mod crew;
+mod done;
+mod lent;
 mod played;
 mod run;
-mod service;
+mod runner;
+mod team;
 
+pub use lent::run_on;
 pub use played::Played;
 pub use run::{run_here, run_threads};
 

@@ -2,12 +2,17 @@ ghost use Rattle.std.specs.Prelude.{◌≡◌, ◌≤◌, [], List, length, map,
 ghost use Rattle.sync_store.specs.Store.{sizes_of_deal};
 ghost use Rattle.rank_now.specs.declared.moment.Moment.{Moment};
 ghost use Rattle.policy_pick.specs.Plan.{SpeaksOf, ByPoints, ByEvents};
-ghost use Rattle.worker_run.specs.Bodies.{AreInRange};
+ghost use Rattle.turn_book.specs.Told.{new_book};
+ghost use Rattle.turn_lock.specs.Rule.{first_view};
+ghost use Rattle.turn_lock.specs.Calls.{made, ServesAll};
+ghost use Rattle.turn_lock.specs.Views.{view, IsOf};
+ghost use Rattle.worker_run.specs.Bodies.{Pending, AreInRange};
 ghost use Rattle.worker_run.specs.Run.{run, directed};
-ghost use Rattle.worker_run.specs.Played.{IsPlayed, IsRun};
+ghost use Rattle.worker_run.specs.Played.{IsPlayed, IsRun, HasPlayed};
 
+use crate::crew::serve_all;
+use crate::lent::{run_on, runners_of};
 use crate::played::Played;
-use crate::service::Service;
 use pct_ask::{Body, Deal};
 use pct_outside::Gate;
 use policy_pick::Policy;
@@ -15,11 +20,45 @@ use std::alloc::{AllocError as NoMemory, Global};
 use std::sync::Wait;
 use std::thread::Threads;
 use turn_book::TurnBook;
+use turn_lock::{Seat, TurnLock};
+
+/// A lock for a run, and its first seat.
+fn new_lock<P: Policy>(
+    alloc: Global,
+    deal: Deal,
+    policy: P,
+    limit: u32,
+) -> Result<(TurnLock<P>, Seat<P>), NoMemory>
+    requires some_steps { 1 ≤ limit }
+    requires few_steps { limit ≤ 100000 }
+    requires stands { P.stands policy [] }
+    requires speaks { SpeaksOf (P.plan policy) deal.threads }
+    ensures made { IfOk result (λ r. made r.0 ≡ new_book deal limit (P.plan policy)) }
+    ensures of { IfOk result (λ r. IsOf r.0 r.1) }
+    ensures view { IfOk result (λ r. view r.1 ≡ first_view (new_book deal limit (P.plan policy))) }
+{
+    let book = TurnBook::new(alloc, deal, policy, limit)?;
+    TurnLock::new(alloc, book)
+}
+
+/// The run of the lock's book, which is over.
+fn finish<P: Policy>(lock: TurnLock<P>, seat: Seat<P>) -> Played
+    requires of { IsOf lock seat }
+    requires all { ServesAll (view seat) }
+    requires played { (bodies : List Pending) × HasPlayed (made lock) bodies (view seat).seen }
+    ensures { (bodies : List Pending) → HasPlayed (made lock) bodies (view seat).seen → IsPlayed (made lock).plan (made lock).deal bodies (made lock).limit result.events result.outcome }
+{
+    let (events, outcome) = lock.close(seat).into_parts();
+    match outcome {
+        Some(outcome) => Played { events, outcome },
+        None => unreachable!(),
+    }
+}
 
 /// Runs the bodies of a test, one for each thread, under a policy, and stops after `limit` steps. The calling thread serves
 /// every body. The gate is passed before each post.
 pub fn run_here<R: Wait, P: Policy, B: Body, G: Gate>(
-    _rt: &R,
+    rt: &R,
     alloc: Global,
     deal: Deal,
     policy: P,
@@ -37,19 +76,13 @@ pub fn run_here<R: Wait, P: Policy, B: Body, G: Gate>(
     ensures run { (order points : List ℕ) → P.plan policy ≡ ByPoints order points → IfOk result (λ played. IsRun (run deal (map B.pending bodies.items) order points limit) played.events played.outcome) }
     ensures directed { (order : List ℕ) (events : List Moment) → P.plan policy ≡ ByEvents order events → IfOk result (λ played. IsRun (directed deal (map B.pending bodies.items) order events limit) played.events played.outcome) }
 {
-    let answered = vec![in alloc; 0; bodies.len()]?;
-    let book = TurnBook::new(alloc, deal, policy, limit)?;
-    let mut service = Service {
-        book,
-        bodies,
-        answered,
-    };
-    service.begin(gate);
-    service.go_on(gate);
-    Ok(service.finish())
+    let mut runners = runners_of(alloc, bodies)?;
+    let (lock, mut seat) = new_lock(alloc, deal, policy, limit)?;
+    serve_all(rt, &lock, &mut seat, runners.as_mut_slice(), gate);
+    Ok(finish(lock, seat))
 }
 
-/// The same run, with a thread for each body. As yet the calling thread serves every body here too.
+/// The same run, each body in a thread of its own.
 pub fn run_threads<R: Threads + Wait + Sync, P: Policy, B: Body, G: Gate>(
     rt: &R,
     alloc: Global,
@@ -69,5 +102,7 @@ pub fn run_threads<R: Threads + Wait + Sync, P: Policy, B: Body, G: Gate>(
     ensures run { (order points : List ℕ) → P.plan policy ≡ ByPoints order points → IfOk result (λ played. IsRun (run deal (map B.pending bodies.items) order points limit) played.events played.outcome) }
     ensures directed { (order : List ℕ) (events : List Moment) → P.plan policy ≡ ByEvents order events → IfOk result (λ played. IsRun (directed deal (map B.pending bodies.items) order events limit) played.events played.outcome) }
 {
-    run_here(rt, alloc, deal, policy, limit, bodies, gate)
+    let (lock, mut seat) = new_lock(alloc, deal, policy, limit)?;
+    run_on(rt, alloc, &lock, &mut seat, bodies, gate)?;
+    Ok(finish(lock, seat))
 }

@@ -1,7 +1,10 @@
 ghost use Rattle.std.specs.Prelude.{◌≡◌, ◌≤◌, [], length, IfOk};
 ghost use Rattle.policy_pick.specs.Plan.{SpeaksOf};
 
-use crate::{Played, run_here, run_threads};
+mod many;
+mod meetings;
+
+use crate::{Played, run_here, run_on, run_threads};
 use pct_ask::{Ask, Body, Deal, Event, Outcome, Post, Sequence, Verdict};
 use pct_outside::{Gate, OpenGate};
 use policy_pick::{DirectedPolicy, Listed, Moment, Pct, Policy};
@@ -11,6 +14,8 @@ use std::sync::Wait;
 use std::sync::atomic::{AtomicU64, Ordering};
 use std::test::Fail;
 use std::thread::Threads;
+use turn_book::TurnBook;
+use turn_lock::TurnLock;
 
 macro_rules! step {
     ($thread:literal, $line:literal, $ask:expr, $answer:literal) => {
@@ -201,6 +206,24 @@ fn served_here(rt: HostRuntime) -> Result<(), Fail> {
     let bodies = samples(rt.alloc())?;
     let played = run_here(&rt, rt.alloc(), deal, pct, 10_000, bodies, &OpenGate::new())?;
     expect(&rt, &played, &IN_ORDER, Outcome::Verdict(Verdict::Passed));
+    Ok(())
+}
+
+/// On a lock that is lent: afterwards its book has the run.
+#[test]
+fn runs_on_a_lent_lock(rt: HostRuntime) -> Result<(), Fail> {
+    let pct = Pct::new(rt.alloc(), &[0, 1, 2], &[])?;
+    let deal = sample_deal(rt.alloc())?;
+    let book = TurnBook::new(rt.alloc(), deal, pct, 10_000)?;
+    let (lock, mut seat) = TurnLock::new(rt.alloc(), book)?;
+    let bodies = samples(rt.alloc())?;
+    run_on(&rt, rt.alloc(), &lock, &mut seat, bodies, &OpenGate::new())?;
+    for thread in 0..3 {
+        assert!(rt; seat.serves(thread));
+    }
+    let (events, outcome) = lock.close(seat).into_parts();
+    assert_eq!(rt; events.as_slice(), IN_ORDER.as_slice());
+    assert_eq!(rt; outcome, Some(Outcome::Verdict(Verdict::Passed)));
     Ok(())
 }
 

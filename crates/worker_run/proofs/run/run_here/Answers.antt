@@ -1,48 +1,73 @@
-use Rattle.std.proofs.Common.{map, replicate, ap, subst, ◌∙◌}
-use Rattle.std.proofs.lemmas.List.{length-map}
+use Rattle.std.proofs.Common.{◌<◌, ℕ, map, ap, subst, ◌∙◌, arith}
+use Rattle.pct_ask.specs.declared.Deal.{Deal}
 use Rattle.policy_pick.specs.Plan.{Plan, SpeaksOf}
-use Rattle.turn_book.specs.Told.{Told, SameMaking}
+use Rattle.turn_lock.specs.Calls.{made}
+use Rattle.turn_lock.specs.Views.{view}
+use Rattle.worker_run.specs.Bodies.{pending_of}
 use Rattle.worker_run.specs.Played.{IsPlayed}
 use Rattle.worker_run.proofs.Follows.{points-run, events-run}
-use Rattle.worker_run.proofs.Services.{making-trans, served-new, played-over}
+use Rattle.worker_run.proofs.Plays.{here-range, here-unposted, here-all, here-crew, here-played, first-owe, has-played}
 use Rattle.worker_run.proofs.run.run_here.Goals as goal
 
-pub begin-requires-clause-served : goal.begin-requires-clause-served
-begin-requires-clause-served g c = λ κs p.
+pub serve_all-requires-clause-crew : goal.serve_all-requires-clause-crew
+serve_all-requires-clause-crew g c = λ κs lives.
     let start = map g.B.Body.pending c.args.bodies.items in
-    let zeros = c.in_ok-answered.ensures.items_if_clones_equal (λ y e. e) ∙ ap (λ n. replicate n 0) (c.len.ensures ∙ c.args.bodies.ok.0 ∙ c.requires.bodies) in
-    let as_many = length-map c.args.bodies.items g.B.Body.pending ∙ c.requires.bodies in
-    let first = served-new c.args.deal c.args.limit (g.P.Policy.plan c.args.policy) start as_many c.requires.in_range c.in_ok-book.book c.in_ok-answered.answered.items c.in_ok-book.ensures.made zeros c.in_ok-book.ensures.lawful in
-    (start, first)
+    let plan = g.P.Policy.plan c.args.policy in
+    let lock = made c.in_ok-lock.lock in
+    let v = view c.in_ok-lock.seat in
+    let crew = here-crew g.B.Body.pending c.args.bodies.items c.args.deal c.args.limit plan lock v c.in_ok-lock.ensures.made c.in_ok-lock.ensures.view c.requires.bodies c.as_mut_slice.result.now (c.as_mut_slice.ensures.value ∙ c.in_ok-runners.ensures) in
+    (pending_of start, here-range g.B.Body.pending c.args.bodies.items c.args.deal c.args.limit plan lock v c.in_ok-lock.ensures.made c.in_ok-lock.ensures.view c.requires.bodies c.requires.in_range, crew)
 
-pub go_on-requires-clause-served : goal.go_on-requires-clause-served
-go_on-requires-clause-served g c = λ κs p.
+pub serve_all-requires-clause-owe : goal.serve_all-requires-clause-owe
+serve_all-requires-clause-owe g c = λ κs lives.
     let start = map g.B.Body.pending c.args.bodies.items in
-    let zeros = c.in_ok-answered.ensures.items_if_clones_equal (λ y e. e) ∙ ap (λ n. replicate n 0) (c.len.ensures ∙ c.args.bodies.ok.0 ∙ c.requires.bodies) in
-    let as_many = length-map c.args.bodies.items g.B.Body.pending ∙ c.requires.bodies in
-    let first = served-new c.args.deal c.args.limit (g.P.Policy.plan c.args.policy) start as_many c.requires.in_range c.in_ok-book.book c.in_ok-answered.answered.items c.in_ok-book.ensures.made zeros c.in_ok-book.ensures.lawful in
-    (start, c.begin.ensures.served start first)
+    let plan = g.P.Policy.plan c.args.policy in
+    let lock = made c.in_ok-lock.lock in
+    let v = view c.in_ok-lock.seat in
+    first-owe v (here-unposted g.B.Body.pending c.args.bodies.items c.args.deal c.args.limit plan lock v c.in_ok-lock.ensures.made c.in_ok-lock.ensures.view c.requires.bodies)
 
-pub finish-requires-clause-served : goal.finish-requires-clause-served
-finish-requires-clause-served g c = λ κs p.
+pub finish-requires-clause-all : goal.finish-requires-clause-all
+finish-requires-clause-all g c = λ κs lives t within.
     let start = map g.B.Body.pending c.args.bodies.items in
-    let zeros = c.in_ok-answered.ensures.items_if_clones_equal (λ y e. e) ∙ ap (λ n. replicate n 0) (c.len.ensures ∙ c.args.bodies.ok.0 ∙ c.requires.bodies) in
-    let as_many = length-map c.args.bodies.items g.B.Body.pending ∙ c.requires.bodies in
-    let first = served-new c.args.deal c.args.limit (g.P.Policy.plan c.args.policy) start as_many c.requires.in_range c.in_ok-book.book c.in_ok-answered.answered.items c.in_ok-book.ensures.made zeros c.in_ok-book.ensures.lawful in
-    (start, c.go_on.ensures.served start (c.begin.ensures.served start first))
+    let plan = g.P.Policy.plan c.args.policy in
+    let lock = made c.in_ok-lock.lock in
+    let v = view c.in_ok-lock.seat in
+    let crew = here-crew g.B.Body.pending c.args.bodies.items c.args.deal c.args.limit plan lock v c.in_ok-lock.ensures.made c.in_ok-lock.ensures.view c.requires.bodies c.as_mut_slice.result.now (c.as_mut_slice.ensures.value ∙ c.in_ok-runners.ensures) in
+    let w = view c.serve_all.new.seat in
+    let served = c.serve_all.ensures.served (pending_of start) crew in
+    let some = lock.deal.some_thread in
+    let lawful = c.serve_all.ensures.lawful 0 (here-all g.B.Body.pending c.args.bodies.items c.args.deal c.args.limit plan lock v c.in_ok-lock.ensures.made c.in_ok-lock.ensures.view c.requires.bodies 0 (omega arith)) in
+    let hp = has-played lock start v w c.serve_all.ensures.of.1 lawful.obeys (here-unposted g.B.Body.pending c.args.bodies.items c.args.deal c.args.limit plan lock v c.in_ok-lock.ensures.made c.in_ok-lock.ensures.view c.requires.bodies) (here-all g.B.Body.pending c.args.bodies.items c.args.deal c.args.limit plan lock v c.in_ok-lock.ensures.made c.in_ok-lock.ensures.view c.requires.bodies) served lawful.outcome in
+    let threads = ap (λ (d : Deal). d.threads) c.serve_all.ensures.of.1.deal in
+    served.serves t (here-all g.B.Body.pending c.args.bodies.items c.args.deal c.args.limit plan lock v c.in_ok-lock.ensures.made c.in_ok-lock.ensures.view c.requires.bodies t (omega (arith, threads)))
+
+pub finish-requires-clause-played : goal.finish-requires-clause-played
+finish-requires-clause-played g c = λ κs lives.
+    let start = map g.B.Body.pending c.args.bodies.items in
+    let plan = g.P.Policy.plan c.args.policy in
+    let lock = made c.in_ok-lock.lock in
+    let v = view c.in_ok-lock.seat in
+    let crew = here-crew g.B.Body.pending c.args.bodies.items c.args.deal c.args.limit plan lock v c.in_ok-lock.ensures.made c.in_ok-lock.ensures.view c.requires.bodies c.as_mut_slice.result.now (c.as_mut_slice.ensures.value ∙ c.in_ok-runners.ensures) in
+    let w = view c.serve_all.new.seat in
+    let served = c.serve_all.ensures.served (pending_of start) crew in
+    let some = lock.deal.some_thread in
+    let lawful = c.serve_all.ensures.lawful 0 (here-all g.B.Body.pending c.args.bodies.items c.args.deal c.args.limit plan lock v c.in_ok-lock.ensures.made c.in_ok-lock.ensures.view c.requires.bodies 0 (omega arith)) in
+    let hp = has-played lock start v w c.serve_all.ensures.of.1 lawful.obeys (here-unposted g.B.Body.pending c.args.bodies.items c.args.deal c.args.limit plan lock v c.in_ok-lock.ensures.made c.in_ok-lock.ensures.view c.requires.bodies) (here-all g.B.Body.pending c.args.bodies.items c.args.deal c.args.limit plan lock v c.in_ok-lock.ensures.made c.in_ok-lock.ensures.view c.requires.bodies) served lawful.outcome in
+    (start, hp)
 
 pub returns-clause-played : goal.returns-clause-played
 returns-clause-played g c =
     let start = map g.B.Body.pending c.args.bodies.items in
     let plan = g.P.Policy.plan c.args.policy in
-    let zeros = c.in_ok-answered.ensures.items_if_clones_equal (λ y e. e) ∙ ap (λ n. replicate n 0) (c.len.ensures ∙ c.args.bodies.ok.0 ∙ c.requires.bodies) in
-    let as_many = length-map c.args.bodies.items g.B.Body.pending ∙ c.requires.bodies in
-    let first = served-new c.args.deal c.args.limit plan start as_many c.requires.in_range c.in_ok-book.book c.in_ok-answered.answered.items c.in_ok-book.ensures.made zeros c.in_ok-book.ensures.lawful in
-    let last = c.go_on.ensures.served start (c.begin.ensures.served start first) in
-    let book = c.go_on.new.self.book in
-    let P : Told → Type 0 = λ b. SameMaking b book in
-    let making = subst P c.in_ok-book.ensures.made (making-trans c.in_ok-book.book c.begin.new.self.book book c.begin.ensures.making c.go_on.ensures.making) in
-    played-over c.args.deal c.args.limit plan start as_many c.requires.in_range book c.finish.result.events c.finish.result.outcome making (c.finish.ensures start last)
+    let lock = made c.in_ok-lock.lock in
+    let v = view c.in_ok-lock.seat in
+    let crew = here-crew g.B.Body.pending c.args.bodies.items c.args.deal c.args.limit plan lock v c.in_ok-lock.ensures.made c.in_ok-lock.ensures.view c.requires.bodies c.as_mut_slice.result.now (c.as_mut_slice.ensures.value ∙ c.in_ok-runners.ensures) in
+    let w = view c.serve_all.new.seat in
+    let served = c.serve_all.ensures.served (pending_of start) crew in
+    let some = lock.deal.some_thread in
+    let lawful = c.serve_all.ensures.lawful 0 (here-all g.B.Body.pending c.args.bodies.items c.args.deal c.args.limit plan lock v c.in_ok-lock.ensures.made c.in_ok-lock.ensures.view c.requires.bodies 0 (omega arith)) in
+    let hp = has-played lock start v w c.serve_all.ensures.of.1 lawful.obeys (here-unposted g.B.Body.pending c.args.bodies.items c.args.deal c.args.limit plan lock v c.in_ok-lock.ensures.made c.in_ok-lock.ensures.view c.requires.bodies) (here-all g.B.Body.pending c.args.bodies.items c.args.deal c.args.limit plan lock v c.in_ok-lock.ensures.made c.in_ok-lock.ensures.view c.requires.bodies) served lawful.outcome in
+    here-played g.B.Body.pending c.args.bodies.items c.args.deal c.args.limit plan lock v c.in_ok-lock.ensures.made c.in_ok-lock.ensures.view c.requires.bodies start c.finish.result.events c.finish.result.outcome (c.finish.ensures start hp)
 
 pub returns-clause-run : goal.returns-clause-run
 returns-clause-run g c = λ order points is.

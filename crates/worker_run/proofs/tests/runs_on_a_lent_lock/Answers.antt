@@ -1,0 +1,16 @@
+use Rattle.std.proofs.Common.{map, ap, sym, subst, ◌∙◌, arith}
+use Rattle.pct_ask.specs.declared.Deal.{Deal}
+use Rattle.sync_store.specs.Store.{sizes_of_deal}
+use Rattle.turn_book.specs.Told.{Told}
+use Rattle.worker_run.specs.Bodies.{AreInRange}
+use Rattle.worker_run.specs.Samples.{sample_pending}
+use Rattle.worker_run.specs.declared.tests.Sample.{Sample}
+use Rattle.worker_run.proofs.Samples.{samples-within}
+use Rattle.worker_run.proofs.tests.runs_on_a_lent_lock.Goals as goal
+
+pub run_on-requires-clause-in_range : goal.run_on-requires-clause-in_range
+run_on-requires-clause-in_range g c = λ κs.
+    let deal = c.in_ok-deal.deal in
+    let same = ap (λ (b : Told). b.deal) (c.in_ok-lock.ensures.made ∙ c.in_ok-book.ensures.made) in
+    let D : Deal → Type 0 = λ d. AreInRange (sizes_of_deal d) (map (λ (s : Sample). sample_pending s.thread s.steps s.seen) c.in_ok-bodies.bodies.items) in
+    subst D (sym same) (samples-within (sizes_of_deal deal) (omega (arith, c.in_ok-deal.ensures.vars)) (omega (arith, c.in_ok-deal.ensures.threads)) (λ (s : Sample). s.thread) (λ (s : Sample). s.steps) (λ (s : Sample). s.seen) c.in_ok-bodies.bodies.items)

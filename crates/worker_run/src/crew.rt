@@ -1,0 +1,116 @@
+// The caller's loop: one thread serves some bodies by one seat.
+ghost use Rattle.std.specs.Prelude.{◌≡◌, ◌≤◌, ℕ, true, false, None, Some, length};
+ghost use Rattle.sync_store.specs.Store.{sizes_of_deal};
+ghost use Rattle.turn_book.specs.Told.{IsLawful};
+ghost use Rattle.turn_lock.specs.Rule.{Serves};
+ghost use Rattle.turn_lock.specs.Calls.{made};
+ghost use Rattle.turn_lock.specs.Views.{view, IsOf};
+ghost use Rattle.worker_run.specs.Bodies.{Pending, IsInRangeBody};
+ghost use Rattle.worker_run.specs.Served.{IsCrew, HasCrew, AllOwe, NoneOwes, GoesOn, IsOver, IsServed, runner_at};
+ghost use Rattle.worker_run.specs.declared.runner.Runner.{Runner};
+
+use crate::runner::Runner;
+use pct_ask::Body;
+use pct_outside::Gate;
+use policy_pick::Policy;
+use std::sync::Wait;
+use turn_lock::{Seat, Turn, TurnLock};
+
+/// Whether there is a runner.
+fn has_runner<B: Body>(runners: &[Option<Runner<B>>]) -> bool
+    ensures some { result ≡ true → (place : ℕ) × (runner : Runner B) × (runner_at runners.now place ≡ Some runner) }
+    ensures none { result ≡ false → (place : ℕ) → runner_at runners.now place ≡ None }
+{
+    for at in 0..runners.len() {
+        if runners[at].is_some() {
+            return true;
+        }
+    }
+    false
+}
+
+/// Each body posts, and goes on for as long as it is its turn. It is true where the run is over.
+fn begin<R: Wait, P: Policy, B: Body, G: Gate>(
+    rt: &R,
+    lock: &TurnLock<P>,
+    seat: &mut Seat<P>,
+    runners: &mut [Option<Runner<B>>],
+    gate: &G,
+) -> bool
+    requires of { IsOf lock.now seat.old }
+    requires crew { HasCrew (sizes_of_deal (made lock.now).deal) B.pending 0 runners.old (view seat.old) }
+    requires owe { AllOwe (view seat.old) }
+    requires few { length runners.old ≤ 64 }
+    ensures of { IsOf lock.now seat.new }
+    ensures crew { (start : ℕ → Pending) → IsCrew B.pending start 0 runners.old (view seat.old) → IsCrew B.pending start 0 runners.new (view seat.new) }
+    ensures on { GoesOn (view seat.old) (view seat.new) }
+    ensures runners { length runners.new ≡ length runners.old }
+    ensures lawful { (t : ℕ) → Serves (view seat.old) t → IsLawful (view seat.new).seen }
+    ensures over { result ≡ true → IsOver (view seat.new).seen }
+    ensures posted { result ≡ false → NoneOwes (view seat.new) }
+{
+    for place in 0..runners.len() {
+        if let Some(runner) = &mut runners[place] {
+            if runner.speak(rt, lock, seat, place as u32, gate) {
+                return true;
+            }
+        }
+    }
+    false
+}
+
+/// The threads of the seat take their turns, as the lock gives them, until the run is over or all of them have ended.
+fn take_turns<R: Wait, P: Policy, B: Body, G: Gate>(
+    rt: &R,
+    lock: &TurnLock<P>,
+    seat: &mut Seat<P>,
+    runners: &mut [Option<Runner<B>>],
+    gate: &G,
+)
+    requires of { IsOf lock.now seat.old }
+    requires crew { HasCrew (sizes_of_deal (made lock.now).deal) B.pending 0 runners.old (view seat.old) }
+    requires some { (t : ℕ) × Serves (view seat.old) t }
+    requires posted { NoneOwes (view seat.old) }
+    requires few { length runners.old ≤ 64 }
+    ensures of { IsOf lock.now seat.new }
+    ensures served { (start : ℕ → Pending) → IsCrew B.pending start 0 runners.old (view seat.old) → IsServed start (view seat.old) (view seat.new) }
+    ensures lawful { IsLawful (view seat.new).seen }
+{
+    for _ in rt.forever() {
+        let (thread, turn) = lock.turn_any(rt, seat);
+        let Turn::Answer(value) = turn else {
+            return;
+        };
+        let Some(runner) = &mut runners[thread as usize] else {
+            unreachable!()
+        };
+        runner.hear(value);
+        if runner.speak(rt, lock, seat, thread, gate) {
+            return;
+        }
+    }
+    unreachable!()
+}
+
+/// Serves the bodies until the run is over or all of them have ended. The seat's threads are those of the places that
+/// have a runner.
+pub fn serve_all<R: Wait, P: Policy, B: Body, G: Gate>(
+    rt: &R,
+    lock: &TurnLock<P>,
+    seat: &mut Seat<P>,
+    runners: &mut [Option<Runner<B>>],
+    gate: &G,
+)
+    requires of { IsOf lock.now seat.old }
+    requires crew { HasCrew (sizes_of_deal (made lock.now).deal) B.pending 0 runners.old (view seat.old) }
+    requires owe { AllOwe (view seat.old) }
+    requires few { length runners.old ≤ 64 }
+    ensures of { IsOf lock.now seat.new }
+    ensures served { (start : ℕ → Pending) → IsCrew B.pending start 0 runners.old (view seat.old) → IsServed start (view seat.old) (view seat.new) }
+    ensures lawful { (t : ℕ) → Serves (view seat.old) t → IsLawful (view seat.new).seen }
+{
+    if !has_runner(runners) || begin(rt, lock, seat, runners, gate) {
+        return;
+    }
+    take_turns(rt, lock, seat, runners, gate);
+}
