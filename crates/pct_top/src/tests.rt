@@ -1,5 +1,7 @@
+mod meetings;
+
 use crate::{RunForm, Settings, Status, WordsError, pct, read_words};
-use pct_outside::{MemoryShelf, MemorySink, OpenGate};
+use pct_outside::{Gate, MemoryShelf, MemorySink, OpenGate};
 use std::alloc::{AllocError as NoMemory, Global};
 use std::process::Abort;
 use std::sync::Wait;
@@ -81,15 +83,27 @@ fn expect_call<R: Abort + Threads + Wait + Sync>(
     line: &str,
     want: Given<'_>,
 ) -> Result<(), Fail> {
+    expect_gated(rt, alloc, trace, fails, line, want, &OpenGate::new())
+}
+
+/// The same call at a gate.
+fn expect_gated<R: Abort + Threads + Wait + Sync, G: Gate>(
+    rt: &R,
+    alloc: Global,
+    trace: &[u8],
+    fails: Fails,
+    line: &str,
+    want: Given<'_>,
+    gate: &G,
+) -> Result<(), Fail> {
     let mut shelf = MemoryShelf::new(alloc, vec![in alloc; fails.read]?);
     shelf.add("s.pct", ADDERS.as_bytes())?;
     shelf.add("t.txt", trace)?;
     let mut out = MemorySink::new(alloc, vec![in alloc; fails.out]?);
     let mut err = MemorySink::new(alloc, vec![in alloc; fails.err]?);
     let words = words_of(alloc, line)?;
-    let gate = OpenGate::new();
     let words = words.as_slice();
-    let status = pct(rt, alloc, words, &mut shelf, &mut out, &mut err, &gate);
+    let status = pct(rt, alloc, words, &mut shelf, &mut out, &mut err, gate);
     assert_eq!(rt; status, want.status, "{line}");
     assert_eq!(rt; out.bytes(), want.out.as_bytes(), "{line}");
     assert_eq!(rt; err.bytes(), want.err.as_bytes(), "{line}");
