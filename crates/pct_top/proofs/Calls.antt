@@ -1,6 +1,5 @@
 -- What a call does, from what the calls below did.
-use Rattle.std.proofs.Common.{◌≡◌, ℕ, List, [], ◌∷◌, ◌++◌, inl, inr, ◌⊎◌, Option, Some, None, Result, Ok, Err, refl, sym, subst, ap, take, ◌∙◌, arith}
-use Rattle.std.specs.List.{Contains}
+use Rattle.std.proofs.Common.{◌≡◌, ℕ, List, [], ◌∷◌, inl, inr, Option, Some, None, Result, Ok, Err, refl, sym, subst, ap, take, ◌∙◌, arith}
 use Rattle.std.proofs.lemmas.List.{append_assoc, append-nil}
 use Rattle.pct_ask.specs.declared.Deal.{Deal}
 use Rattle.pct_ask.specs.declared.verdict.Verdict.{Verdict}
@@ -13,14 +12,12 @@ use Rattle.script_tree.specs.Grammar.{Spells}
 use Rattle.replay_run.specs.declared.answer.Replayed.{Replayed}
 use Rattle.replay_run.specs.declared.answer.Replayed.TheVariants.{Confirmed, Departs}
 use Rattle.trace_text.specs.declared.file.TraceFile.{TraceFile}
-use Rattle.trace_text.specs.Trace.{IsTrace}
 use Rattle.pct_top.specs.declared.refusal.Refusal.{Refusal}
 use Rattle.pct_top.specs.declared.refusal.Refusal.TheVariants.{Usage, Script, Trace, Read, Write, Memory}
 use Rattle.pct_top.specs.declared.settings.RunForm.{RunForm}
 use Rattle.pct_top.specs.declared.settings.RunForm.TheVariants.{Ordered, Seeded}
 use Rattle.pct_top.specs.declared.settings.Settings.{Settings}
 use Rattle.pct_top.specs.declared.settings.Settings.TheVariants as commands
-use Rattle.pct_top.specs.declared.settings.WordsError.{WordsError}
 use Rattle.pct_top.specs.declared.outcome.Outcome.{Outcome}
 use Rattle.pct_top.specs.declared.test.Test.{Test}
 use Rattle.pct_top.specs.declared.status.Status.{Status}
@@ -31,8 +28,8 @@ use Rattle.pct_top.specs.Ready.{IsReady}
 use Rattle.pct_top.specs.Saying.{Says}
 use Rattle.pct_top.specs.Output.{Printed, status_of, reply_status, refused, PrintsRun, OfRun as MayRun, OfReplay, OfScript, OfTaken, script_bytes, trace_bytes}
 use Rattle.pct_top.specs.Outcome.{printed_of, IsOutcomeOf, PrintsReply}
-use Rattle.pct_top.specs.Files.{HasBytes, KeepsNames, GivesTest, HasTrace, GivesReply}
-use Rattle.pct_top.specs.Call.{Gained, ReadsScript, IsReached, ReadFailed, OfRun, Shows, Comes, PutsOutcome, RefusedFirst, Answers, RefusedWords, Refuses, Ends}
+use Rattle.pct_top.specs.Files.{HasBytes, KeepsNames, GivesTest, GivesReply}
+use Rattle.pct_top.specs.Call.{Gained, ReadsScript, OfRun, Shows, Comes, PutsOutcome, RefusedFirst, Answers, RefusedWords, Refuses, Ends}
 
 -- ---- only a run or a replay has nothing to say
 

@@ -1,8 +1,7 @@
 -- Files in their grammars and an order that fits give a run or a replay.
-use Rattle.std.proofs.Common.{◌≡◌, ℕ, inl, inr, ◌⊎◌, List, Option, Some, Ok, Err, refl, sym, subst, ap, take, ◌∙◌}
+use Rattle.std.proofs.Common.{◌≡◌, ℕ, inl, inr, List, Option, Ok, Err, refl, sym, subst, take}
 use Rattle.pct_ask.specs.declared.Deal.{Deal}
 use Rattle.script_tree.specs.ScriptText.{ScriptText}
-use Rattle.script_tree.specs.Grammar.{Spells}
 use Rattle.script_parse.proofs.WholeText.{one_script, spelled_no_fault}
 use Rattle.trace_text.specs.Trace.{IsTrace}
 use Rattle.pct_top.specs.declared.settings.RunForm.{RunForm}
@@ -11,7 +10,7 @@ use Rattle.pct_top.specs.declared.settings.Settings.TheVariants as commands
 use Rattle.pct_top.specs.declared.status.Status.{Status}
 use Rattle.pct_top.specs.declared.status.Status.TheVariants as statuses
 use Rattle.pct_top.specs.Settings.{Taken}
-use Rattle.pct_top.specs.Output.{Printed, RefusesOrder, OfRun as MayRun, OfReplay, OfTaken, script_bytes, trace_bytes}
+use Rattle.pct_top.specs.Output.{Printed, RefusesOrder, OfRun as MayRun, OfTaken, script_bytes, trace_bytes}
 use Rattle.pct_top.specs.Call.{OfRun, OrderFits, CanRun, Completes, Ends}
 use Rattle.pct_top.proofs.Calls.{run_ran, reply_ran}
 use Rattle.pct_top.proofs.OnePrinted.{traced_no_fault}

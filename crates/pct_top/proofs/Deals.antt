@@ -1,5 +1,5 @@
 -- A script has one deal.
-use Rattle.std.proofs.Common.{◌≡◌, ℕ, ℤ, ◌≤◌, List, length, All, refl, sym, ap, subst, ◌∙◌}
+use Rattle.std.proofs.Common.{◌≡◌, ℕ, ℤ, ◌≤◌, List, length, All, sym, ap, subst, ◌∙◌}
 use Rattle.std.proofs.Props.{props}
 use Rattle.pct_ask.specs.Ranges.{IsSemValue, IsBarrierCount}
 use Rattle.pct_ask.specs.declared.Deal.{Deal}

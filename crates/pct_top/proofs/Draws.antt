@@ -1,7 +1,7 @@
 -- The orders that are declared and drawn are orders of the threads.
-use Rattle.std.proofs.Common.{◌≡◌, ℕ, zero, ◌+◌, ◌<◌, List, length, sym, subst, ◌∙◌, arith, inl, inr}
+use Rattle.std.proofs.Common.{◌≡◌, ℕ, ◌<◌, List, ◌∙◌, arith}
 use Rattle.std.specs.Prelude.{All, slice_index}
-use Rattle.std.specs.List.{range_with_len, Contains}
+use Rattle.std.specs.List.{range_with_len}
 use Rattle.std.proofs.lemmas.List.FromFn.{length-range_with_len, get_or-range_with_len}
 use Rattle.rank_now.specs.Order.{IsOrder}
 use Rattle.priority_draw.specs.Orders.{IsOrder as IsOrderOf}

@@ -1,15 +1,15 @@
 -- A run of a script names only what the script has.
-use Rattle.std.proofs.Common.{◌≡◌, ℕ, ℤ, ◌<◌, ◌≤◌, Bool, true, false, cond, eqb, ◌||◌, nat_le, nat_lt, inl, inr, ◌⊎◌, List, [], ◌∷◌, ◌++◌, length, Option, Some, None, refl, sym, ap, subst, ◌∙◌, arith}
-use Rattle.std.specs.Prelude.{All, is_none}
-use Rattle.std.specs.List.{range_with_len, filter_map, cons_option}
+use Rattle.std.proofs.Common.{◌≡◌, ℕ, ℤ, ◌<◌, Bool, true, false, cond, eqb, nat_le, inl, inr, List, [], ◌∷◌, length, Option, Some, None, refl, sym, ap, subst, ◌∙◌, arith}
+use Rattle.std.specs.Prelude.{All}
+use Rattle.std.specs.List.{filter_map, cons_option}
 use Rattle.std.proofs.lemmas.Bool.{cases_lt, cases_Bool}
 use Rattle.std.proofs.lemmas.Bool.Decides.{nat_tests}
-use Rattle.std.proofs.lemmas.List.{get_or_past, length-map}
+use Rattle.std.proofs.lemmas.List.{get_or_past}
 use Rattle.std.proofs.lemmas.List.Elements.{All-append, All-cons, All-nil, All-map}
 use Rattle.std.proofs.lemmas.List.FromFn.{length-map-range_with_len, get_or-map-range_with_len}
 use Rattle.std.proofs.lemmas.Option.{option_and_then_some}
 use Rattle.pct_ask.specs.NameLists.{NameLists}
-use Rattle.pct_ask.specs.VerdictText.{HasNames, IsWhole, IsLine, threads_in}
+use Rattle.pct_ask.specs.VerdictText.{IsLine}
 use Rattle.pct_ask.specs.declared.Deal.{Deal}
 use Rattle.pct_ask.specs.declared.ask.Ask.{Ask}
 use Rattle.pct_ask.specs.declared.ask.Ask.TheVariants.{Read, Write, Add, Cas, Lock, TryLock, Unlock, Release, Regain, Signal, Broadcast, Down, TryDown, Up, Arrive, Leave, Join, Yield, Check, Fault, Start, Begin, RdLock, WrLock, TryRdLock, TryWrLock, RwUnlock}
@@ -18,11 +18,11 @@ use Rattle.pct_ask.specs.declared.event.Event.{Event}
 use Rattle.pct_ask.specs.declared.verdict.Outcome.{Outcome}
 use Rattle.pct_ask.specs.declared.verdict.Outcome.TheVariants.{Verdict as Ends, Departed}
 use Rattle.pct_ask.specs.declared.verdict.Verdict.{Verdict}
-use Rattle.pct_ask.specs.declared.verdict.Verdict.TheVariants.{Passed, Failed, Stuck, Misuse, Fault as Faulted, Cut}
-use Rattle.pct_ask.specs.declared.verdict.MisuseKind.TheVariants.{NotOwner, SemFull, AlreadyStarted, TooManyReads}
+use Rattle.pct_ask.specs.declared.verdict.Verdict.TheVariants.{Failed, Misuse, Fault as Faulted, Cut}
+use Rattle.pct_ask.specs.declared.verdict.MisuseKind.TheVariants.{NotOwner, SemFull, TooManyReads}
 use Rattle.sync_store.specs.Store.{StoreState, first, is_on, rwlock_of}
-use Rattle.sync_store.specs.Effect.{Effect, Goes, Stops, effect, unlocked, goes_or}
-use Rattle.sync_store.specs.World.{Source, World, start, with_effect, step_of, world_from, answers_of}
+use Rattle.sync_store.specs.Effect.{Goes, Stops, effect, unlocked, goes_or}
+use Rattle.sync_store.specs.World.{Source, World, start, step_of, world_from, answers_of}
 use Rattle.script_tree.specs.ScriptText.{ScriptText}
 use Rattle.script_tree.specs.Fitting.{IsScript, rwlocks_fit}
 use Rattle.script_tree.specs.DealOf.{IsDealOf}
@@ -32,16 +32,16 @@ use Rattle.script_tree.proofs.NamingLemmas.{pending_named}
 use Rattle.policy_pick.specs.Plan.{Plan}
 use Rattle.policy_pick.specs.declared.chance.Pick.{Pick}
 use Rattle.policy_pick.specs.declared.chance.Pick.TheVariants.{Thread, Waits, Nobody, Departs}
-use Rattle.turn_book.specs.Board.{answer_of, verdict_of}
-use Rattle.turn_book.specs.Chances.{NextPosts, threads_below, is_idle, blocked_by_ask, blocked_by_post, blocked_at, verdict_of_blocked, rest_verdict}
+use Rattle.turn_book.specs.Board.{verdict_of}
+use Rattle.turn_book.specs.Chances.{threads_below, is_idle, blocked_by_ask, blocked_at, verdict_of_blocked, rest_verdict}
 use Rattle.turn_book.specs.Obeys.{next_in, choice_in, outcome_by, outcome_by_pick}
 use Rattle.turn_book.specs.Posts.{schedule_of}
 use Rattle.turn_book.proofs.More.{settled-at}
-use Rattle.turn_book.proofs.Worlds.{Steps, steps-from, event_of, effect-is, IsMade, made-from}
+use Rattle.turn_book.proofs.Worlds.{Steps, steps-from, event_of, effect-is, made-from}
 use Rattle.worker_run.specs.Bodies.{Pending, nobody, pending_of, source_of_bodies}
 use Rattle.worker_run.specs.Played.{IsPlayed}
 use Rattle.replay_run.specs.Replay.{bodies_of}
-use Rattle.trace_text.specs.Lawful.{HasObjects, NamesKnown, is_of_second}
+use Rattle.trace_text.specs.Lawful.{HasObjects, NamesKnown}
 use Rattle.pct_top.specs.Output.{trace_version}
 use Rattle.pct_top.specs.Known.{IsKnownVerdict, AreKnown}
 

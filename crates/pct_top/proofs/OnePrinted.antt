@@ -1,34 +1,31 @@
 -- For words and files there is one thing to print.
-use Rattle.std.proofs.Common.{◌≡◌, ℕ, inl, inr, List, [], length, max, Option, Some, None, Ok, Err, sym, subst, ap, take, ◌∙◌}
+use Rattle.std.proofs.Common.{◌≡◌, ℕ, inl, inr, List, length, max, Option, Some, None, Ok, Err, sym, subst, ap, take, ◌∙◌}
 use Rattle.pct_ask.specs.declared.Deal.{Deal}
 use Rattle.pct_ask.specs.NameLists.{NameLists, AreNames}
 use Rattle.script_tree.specs.declared.fault.ScriptFault.{ScriptFault}
 use Rattle.script_tree.specs.ScriptText.{ScriptText}
 use Rattle.script_tree.specs.DealOf.{IsDealOf}
-use Rattle.script_tree.specs.Grammar.{Spells}
-use Rattle.script_tree.specs.Faults.{IsFault}
 use Rattle.script_parse.proofs.WholeText.{one_script, spelled_no_fault}
 use Rattle.script_parse.proofs.FaultLaws.{one_fault}
 use Rattle.priority_draw.specs.Drawing.{drawn}
 use Rattle.trace_text.specs.declared.file.TraceFile.{TraceFile}
 use Rattle.trace_text.specs.declared.fault.TraceFault.{TraceFault}
-use Rattle.trace_text.specs.declared.fault.TraceError.TheVariants.{Bad, NoMemory}
+use Rattle.trace_text.specs.declared.fault.TraceError.TheVariants.{Bad}
 use Rattle.trace_text.specs.Trace.{IsTrace}
 use Rattle.trace_text.specs.Faults.{IsTraceFault}
 use Rattle.trace_text.proofs.Traces.{written-answer, one-fault}
 use Rattle.trace_text.specs.Lines.{pieces_of}
 use Rattle.worker_run.specs.Run.{Run}
-use Rattle.replay_run.specs.declared.answer.Replayed.{Replayed}
 use Rattle.replay_run.specs.Replay.{bodies_of, IsReplay}
 use Rattle.replay_run.proofs.Once.{one_replay}
-use Rattle.pct_top.specs.declared.refusal.Refusal.TheVariants.{Usage, Script, Trace}
+use Rattle.pct_top.specs.declared.refusal.Refusal.TheVariants.{Script, Trace}
 use Rattle.pct_top.specs.declared.settings.RunForm.{RunForm}
 use Rattle.pct_top.specs.declared.settings.RunForm.TheVariants.{Ordered, Seeded}
 use Rattle.pct_top.specs.declared.settings.Settings.TheVariants as commands
 use Rattle.pct_top.specs.declared.status.Status.{Status}
 use Rattle.pct_top.specs.declared.status.Status.TheVariants as statuses
 use Rattle.pct_top.specs.Settings.{Taken}
-use Rattle.pct_top.specs.Output.{Printed, refused, run_of, declared, DrawsFrom, GivesPriorities, RefusesOrder, traced, IsTraced, PrintsRun, OfRun, replied, OfReplay, OfScript, OfTaken, script_bytes, trace_bytes}
+use Rattle.pct_top.specs.Output.{Printed, refused, DrawsFrom, GivesPriorities, RefusesOrder, traced, IsTraced, PrintsRun, OfRun, replied, OfReplay, OfScript, OfTaken, script_bytes, trace_bytes}
 use Rattle.pct_top.specs.Call.{Agrees, Ends}
 use Rattle.pct_top.proofs.Deals.{one_deal}
 

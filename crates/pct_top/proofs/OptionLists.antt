@@ -1,7 +1,7 @@
 -- The options of a list of words, two by two, and the ranges that they keep to.
-use Rattle.std.proofs.Common.{◌≡◌, ℕ, suc, ◌+◌, ◌*◌, ◌≤◌, Bool, true, false, cond, ◌&&◌, List, [], ◌∷◌, length, Option, Some, None, Result, Ok, Err, refl, sym, ap, subst, ◌∙◌, arith}
+use Rattle.std.proofs.Common.{◌≡◌, ℕ, suc, ◌+◌, ◌≤◌, Bool, true, false, cond, ◌&&◌, List, [], ◌∷◌, length, Option, Some, None, Result, Ok, Err, refl, sym, ap, subst, ◌∙◌, arith}
 use Rattle.std.specs.Prelude.{All, IfSome, is_some, is_none, IfOk, nat_le, decimal}
-use Rattle.std.specs.Option.{option_map, option_and_then, unwrap_or}
+use Rattle.std.specs.Option.{option_map, unwrap_or}
 use Rattle.std.specs.Str.{bytes_eq}
 use Rattle.std.specs.Str.Parse.{digits_value}
 use Rattle.std.proofs.lemmas.Bool.{and_parts}
@@ -16,11 +16,10 @@ use Rattle.pct_top.specs.declared.settings.NamedOrder.{NamedOrder}
 use Rattle.pct_top.specs.declared.settings.RunForm.{RunForm}
 use Rattle.pct_top.specs.declared.settings.RunForm.TheVariants.{Ordered, Seeded}
 use Rattle.pct_top.specs.declared.settings.Settings.{Settings}
-use Rattle.pct_top.specs.declared.settings.Settings.TheVariants.{Run, Replay}
+use Rattle.pct_top.specs.declared.settings.Settings.TheVariants.{Run}
 use Rattle.pct_top.specs.declared.settings.WordsError.{WordsError}
-use Rattle.pct_top.specs.declared.settings.WordsError.TheVariants.{Word, NoMemory}
 use Rattle.pct_top.specs.Values.{items_of, order_in, within, number_in, step_count, step_counts, points_in, seed_in, depth_in}
-use Rattle.pct_top.specs.Options.{none, is_seeded, is_ordered, may_take, with_value, next_option, option_named, Given, lawful_or, with_option, without_value, and_then, options_from, one_if, count}
+use Rattle.pct_top.specs.Options.{none, may_take, with_value, next_option, option_named, Given, lawful_or, with_option, without_value, and_then, options_from, one_if, count}
 use Rattle.pct_top.specs.Settings.{default_limit, form_by, form_of, run_by, run_with, run_settings, ReadsAs, IsForm, AreLawful}
 
 -- ---- one option

@@ -1,9 +1,9 @@
 -- A number's canonical decimal is read as the number where it is in range, and nothing else is.
-use Rattle.std.specs.Prelude.{◌&&◌, nat_le, ◌==◌, decimal, FitsSigned}
+use Rattle.std.specs.Prelude.{◌&&◌, nat_le, decimal, FitsSigned}
 use Rattle.std.specs.Int.{w128}
 use Rattle.std.specs.Str.{bytes_eq}
 use Rattle.std.specs.Str.Parse.{digits_value, AllDigits}
-use Rattle.std.proofs.Common.{◌≡◌, ℕ, ◌<◌, ◌≤◌, ◌^◌, inl, inr, Bool, true, false, cond, List, ◌∷◌, length, get_or, ℤ, pos, negsuc, suc, Option, Some, None, refl, sym, ◌∙◌, ap, subst, arith}
+use Rattle.std.proofs.Common.{◌≡◌, ℕ, ◌<◌, ◌≤◌, ◌^◌, inl, inr, true, List, ◌∷◌, ℤ, pos, negsuc, suc, Option, Some, None, sym, ◌∙◌, ap, subst, arith}
 use Rattle.std.proofs.lemmas.Bool.{cases_Bool, and_parts}
 use Rattle.std.proofs.lemmas.Int.{fits_signed_from_abs}
 use Rattle.std.proofs.lemmas.Fmt.{decimal_is_IsNumeral_wide}

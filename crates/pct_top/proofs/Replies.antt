@@ -1,10 +1,10 @@
 -- A reply to a trace of a script names only what the script has.
-use Rattle.std.proofs.Common.{◌≡◌, ℕ, ◌<◌, List, [], ◌∷◌, ◌++◌, length, map, get_or, refl, sym, ap, subst, ◌∙◌, arith}
+use Rattle.std.proofs.Common.{◌≡◌, ℕ, List, [], ◌∷◌, ◌++◌, length, get_or, refl, subst, arith}
 use Rattle.std.specs.Prelude.{All}
 use Rattle.std.proofs.lemmas.List.{length-map, length-append}
 use Rattle.std.proofs.Math.ListN.{get_or-map}
 use Rattle.pct_ask.specs.NameLists.{NameLists}
-use Rattle.pct_ask.specs.VerdictText.{thread_name, named, HasNames, IsWhole, IsForm, IsPlace, IsLine}
+use Rattle.pct_ask.specs.VerdictText.{thread_name, named, HasNames, IsWhole, IsForm, IsPlace}
 use Rattle.pct_ask.specs.declared.Deal.{Deal}
 use Rattle.pct_ask.specs.declared.ask.Ask.{Ask}
 use Rattle.pct_ask.specs.declared.ask.Ask.TheVariants.{Read, Write, Add, Cas, Lock, TryLock, Unlock, Release, Regain, Signal, Broadcast, Down, TryDown, Up, Arrive, Leave, Join, Yield, Check, Fault, Start, Begin, RdLock, WrLock, TryRdLock, TryWrLock, RwUnlock}
@@ -15,15 +15,15 @@ use Rattle.script_tree.specs.ScriptText.{ScriptText}
 use Rattle.script_tree.specs.Fitting.{IsScript}
 use Rattle.script_tree.specs.DealOf.{IsDealOf}
 use Rattle.trace_text.specs.declared.file.TraceFile.{TraceFile}
-use Rattle.trace_text.specs.Lawful.{HasObjects, IsAsk, NamesKnown, IsStep, IsEnd}
-use Rattle.trace_text.specs.Trace.{IsTrace, IsRun}
+use Rattle.trace_text.specs.Lawful.{HasObjects, IsAsk, NamesKnown, IsStep}
+use Rattle.trace_text.specs.Trace.{IsTrace}
 use Rattle.replay_run.specs.declared.answer.Written.TheVariants as written
 use Rattle.replay_run.specs.declared.answer.Found.TheVariants as found
 use Rattle.replay_run.specs.declared.answer.Replayed.{Replayed}
 use Rattle.replay_run.specs.declared.answer.Replayed.TheVariants.{Confirmed, Departs}
 use Rattle.replay_run.specs.Replay.{bodies_of, IsReplay}
 use Rattle.pct_top.specs.Output.{trace_version}
-use Rattle.pct_top.specs.Known.{IsKnownVerdict, IsKnownStep, IsKnownReply}
+use Rattle.pct_top.specs.Known.{IsKnownStep, IsKnownReply}
 use Rattle.pct_top.proofs.KnownRuns.{known-steps, known-run}
 
 -- what is known in a version is known in the second

@@ -1,5 +1,5 @@
 -- The trace of a run, and the reply to a trace, as they are written.
-use Rattle.std.proofs.Common.{◌≡◌, ℕ, List, Option, Some, Result, Ok, Err, sym, ap, subst, ◌∙◌}
+use Rattle.std.proofs.Common.{◌≡◌, ℕ, List, Some, Result, Ok, Err, ap, ◌∙◌}
 use Rattle.std.specs.Prelude.{IfOk}
 use Rattle.pct_ask.specs.declared.Deal.{Deal}
 use Rattle.script_tree.specs.ScriptText.{ScriptText}
@@ -10,7 +10,7 @@ use Rattle.worker_run.specs.Run.{Run}
 use Rattle.pct_top.specs.declared.outcome.Outcome.{Outcome}
 use Rattle.pct_top.specs.declared.status.Status.{Status}
 use Rattle.pct_top.specs.Reply.{reply_text}
-use Rattle.pct_top.specs.Output.{Printed, told, run_of, traced, IsTraced, replied, reply_status}
+use Rattle.pct_top.specs.Output.{told, run_of, traced, IsTraced, reply_status}
 use Rattle.pct_top.specs.Outcome.{printed_of, PrintsReply}
 
 pub is_traced : {E : Type 0} (script : ScriptText) (deal : Deal) (order points : List ℕ) (limit : ℕ) (ended : Run) (r : Result Outcome E) → run_of script deal order points limit ≡ Some ended

@@ -1,7 +1,6 @@
 -- What comes of a script.
-use Rattle.std.specs.Prelude.{◌≡◌, ℕ, List, [], Option, Some, Result, Ok, Err}
+use Rattle.std.specs.Prelude.{◌≡◌, Result, Ok, Err}
 use Rattle.pct_ask.specs.declared.Deal.{Deal}
-use Rattle.pct_outside.specs.Reading.{with_name}
 use Rattle.script_tree.specs.ScriptText.{ScriptText}
 use Rattle.trace_text.specs.declared.file.TraceFile.{TraceFile}
 use Rattle.replay_run.specs.declared.answer.Replayed.{Replayed}

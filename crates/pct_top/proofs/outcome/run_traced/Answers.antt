@@ -1,4 +1,4 @@
-use Rattle.std.proofs.Common.{◌≡◌, ℕ, List, Some, sym, ap, subst, ◌∙◌}
+use Rattle.std.proofs.Common.{◌≡◌, ℕ, List, Some, subst}
 use Rattle.script_tree.specs.ScriptSeen.{text}
 use Rattle.worker_run.specs.Run.{Run}
 use Rattle.pct_top.specs.Output.{run_of}

@@ -1,14 +1,11 @@
-use Rattle.std.proofs.Common.{◌≡◌, ℕ, List, map, refl, sym, ap, subst, ◌∙◌}
+use Rattle.std.proofs.Common.{List, map, refl, sym, subst, ◌∙◌}
 use Rattle.pct_ask.specs.declared.Deal.{Deal}
-use Rattle.pct_ask.specs.declared.verdict.Outcome.TheVariants.{Verdict as Ends}
 use Rattle.sync_store.specs.Store.{sizes_of_deal}
 use Rattle.script_code.specs.Listing.{listing}
 use Rattle.script_tree.specs.ScriptSeen.{text}
 use Rattle.script_body.specs.BodyPosts.{pending_of}
-use Rattle.policy_pick.specs.Plan.{ByPoints}
 use Rattle.policy_pick.specs.Kept.{points_plan}
 use Rattle.worker_run.specs.Bodies.{Pending, AreInRange}
-use Rattle.worker_run.specs.Run.{run}
 use Rattle.replay_run.specs.Replay.{bodies_of}
 use Rattle.replay_run.proofs.ScriptBodies.{code_bodies, bodies_in_range}
 use Rattle.replay_run.proofs.Compared.{played_as}

@@ -1,4 +1,3 @@
-use Rattle.std.proofs.Common.{Ok}
 use Rattle.pct_top.proofs.Calls.{no_run, comes_run}
 use Rattle.pct_top.proofs.top.run_file.Goals as goal
 

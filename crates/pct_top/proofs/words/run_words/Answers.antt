@@ -1,4 +1,4 @@
-use Rattle.std.proofs.Common.{◌≡◌, ◌∷◌, sym, ◌∙◌, rules}
+use Rattle.std.proofs.Common.{◌≡◌, ◌∷◌, sym, rules}
 use Rattle.std.specs.Prelude.{string_bytes}
 use Rattle.pct_outside.specs.Reading.{texts_of}
 use Rattle.pct_top.proofs.OptionLists.{run_taken}

@@ -1,4 +1,4 @@
-use Rattle.std.proofs.Common.{◌≡◌, ◌+◌, ◌∷◌, sym, ◌∙◌, rules}
+use Rattle.std.proofs.Common.{◌≡◌, ◌+◌, ◌∷◌, sym, rules}
 use Rattle.pct_outside.specs.Reading.{texts_of}
 use Rattle.pct_top.proofs.OptionLists.{goes_on, counted}
 use Rattle.pct_top.proofs.options.Options.take_next.Goals as goal
