@@ -1,38 +1,42 @@
 // An allocator to be preloaded, which refuses one request for memory: the one whose number is in the
-// environment's FAIL_AT, counted from 1. Where COUNT_IN names a file, it writes the number of requests there.
+// environment's FAIL_AT, counted from 1. Where COUNT_IN names a file, it keeps the number of requests there, as a
+// 64-bit number of the machine.
 //
 //   cc -shared -fPIC -o fail_alloc.so fail_alloc.c -ldl
 //   FAIL_AT=3 LD_PRELOAD=./fail_alloc.so bin/pct run examples/stale_read.pct --order A,B
 #define _GNU_SOURCE
 #include <dlfcn.h>
 #include <errno.h>
+#include <fcntl.h>
 #include <stdatomic.h>
-#include <stdio.h>
 #include <stdlib.h>
+#include <sys/mman.h>
+#include <unistd.h>
 
-static atomic_long requests;
+static atomic_long own_count;
+static atomic_long *requests = &own_count;
 static long refused;
+
+// A program with threads may end without its exit handlers, so the number lies in the file from the start.
+static atomic_long *count_in(const char *name) {
+    int file = open(name, O_RDWR | O_CREAT | O_TRUNC, 0600);
+    if (file < 0 || ftruncate(file, sizeof(atomic_long)) != 0) return &own_count;
+    void *shared = mmap(NULL, sizeof(atomic_long), PROT_READ | PROT_WRITE, MAP_SHARED, file, 0);
+    close(file);
+    return shared == MAP_FAILED ? &own_count : shared;
+}
 
 __attribute__((constructor)) static void begin(void) {
     const char *number = getenv("FAIL_AT");
-    refused = number ? atol(number) : 0;
-    // The requests before the program's own code, as of the C library's start, don't count.
-    atomic_store(&requests, 0);
-}
-
-__attribute__((destructor)) static void end(void) {
-    // Read first: opening the file asks for memory too.
-    long counted = atomic_load(&requests);
     const char *name = getenv("COUNT_IN");
-    FILE *file = name ? fopen(name, "w") : NULL;
-    if (file) {
-        fprintf(file, "%ld\n", counted);
-        fclose(file);
-    }
+    if (name) requests = count_in(name);
+    // The requests before the program's own code, as of the C library's start, don't count.
+    atomic_store(requests, 0);
+    refused = number ? atol(number) : 0;
 }
 
 static int is_refused(void) {
-    if (atomic_fetch_add(&requests, 1) + 1 != refused) return 0;
+    if (atomic_fetch_add(requests, 1) + 1 != refused) return 0;
     errno = ENOMEM;
     return 1;
 }
