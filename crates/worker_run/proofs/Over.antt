@@ -12,7 +12,7 @@ use Rattle.pct_ask.specs.declared.verdict.Outcome.{Outcome}
 use Rattle.sync_store.specs.Store.{first}
 use Rattle.sync_store.specs.World.{Source, World}
 use Rattle.policy_pick.specs.declared.chance.Chance.{Chance}
-use Rattle.policy_pick.specs.declared.chance.Chance.TheVariants.{Ready, Ended}
+use Rattle.policy_pick.specs.declared.chance.Chance.TheVariants.{Ended}
 use Rattle.policy_pick.specs.declared.chance.Pick.{Pick}
 use Rattle.policy_pick.specs.declared.chance.Pick.TheVariants.{Thread, Waits, Nobody, Departs}
 use Rattle.policy_pick.specs.Plan.{Plan, SpeaksOf}

@@ -1,14 +1,14 @@
 -- A thread is split off from a seat that serves runners, and its seat is joined again.
-use Rattle.std.proofs.Common.{◌≡◌, ◌≢◌, ℕ, zero, suc, ◌+◌, ◌<◌, ◌≤◌, Bool, true, false, Option, Some, None, List, [], ◌∷◌, ◌++◌, length, get_or, set, replicate, refl, sym, ap, subst, ◌∙◌, arith, ◌⊎◌, inl, inr, ⊎_elim}
+use Rattle.std.proofs.Common.{◌≡◌, ◌≢◌, ℕ, zero, suc, ◌+◌, ◌<◌, true, false, Option, Some, None, List, [], ◌∷◌, get_or, set, replicate, refl, sym, ap, subst, ◌∙◌, arith, ◌⊎◌, inl, inr}
 use Rattle.std.proofs.lemmas.Bool.{cases_eq}
 use Rattle.std.proofs.lemmas.List.{length-set, length-replicate, get_or-set_same, get_or-set_other}
 use Rattle.pct_ask.specs.declared.Deal.{Deal}
 use Rattle.pct_ask.specs.declared.ask.Post.{Post}
 use Rattle.sync_store.specs.Store.{Sizes}
 use Rattle.turn_book.specs.Told.{Told, Within}
-use Rattle.turn_lock.specs.Seen.{SameOf, ObeysPlan, pairs_of, posted_by, owes_of}
-use Rattle.turn_lock.specs.Rule.{Has, Serves}
-use Rattle.turn_lock.specs.Seats.{without, alone, joined, seen_together, longer, longer_posts}
+use Rattle.turn_lock.specs.Seen.{SameOf, ObeysPlan, posted_by}
+use Rattle.turn_lock.specs.Rule.{Serves}
+use Rattle.turn_lock.specs.Seats.{without, alone, joined, longer, longer_posts}
 use Rattle.turn_lock.specs.declared.view.View.{View}
 use Rattle.turn_lock.proofs.Cuts.{alone-one, without-not, without-had, either-serves, serves-left, serves-right}
 use Rattle.turn_lock.proofs.Standings.{same-owes}
@@ -16,7 +16,7 @@ use Rattle.turn_lock.proofs.Orders.{within-self, within-along}
 use Rattle.worker_run.specs.Bodies.{Pending, IsInRangeBody}
 use Rattle.worker_run.specs.declared.runner.Runner.{Runner}
 use Rattle.worker_run.specs.Served.{IsUnposted, IsWhole, IsRunning, runner_at, IsCrew, AllOwe, StaysOutside, IsServed}
-use Rattle.worker_run.specs.Handed.{ArePaired, BothServed}
+use Rattle.worker_run.specs.Handed.{ArePaired}
 use Rattle.worker_run.proofs.Running.{running-same}
 use Rattle.worker_run.proofs.Crews.{runner-within, served-wider, served-later, own-thread}
 

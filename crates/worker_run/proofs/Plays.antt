@@ -1,10 +1,9 @@
 -- What was served by the end is the run over the bodies, and so is the book of the closed lock.
-use Rattle.std.proofs.Common.{◌≡◌, ℕ, zero, suc, ◌+◌, ◌<◌, ◌≤◌, ℤ, Bool, true, false, eqb, Option, Some, None, List, [], ◌∷◌, ◌++◌, length, get_or, map, take, filter, replicate, refl, sym, ap, subst, ◌∙◌, arith, ◌⊎◌, inl, inr}
+use Rattle.std.proofs.Common.{◌≡◌, ℕ, zero, suc, ◌<◌, ◌≤◌, eqb, Option, Some, List, [], ◌∷◌, ◌++◌, length, get_or, map, take, replicate, refl, sym, ap, subst, ◌∙◌, arith, ◌⊎◌, inl, inr}
 use Rattle.std.specs.Prelude.{slice_get}
 use Rattle.std.proofs.lemmas.Bool.{cases_lt}
-use Rattle.std.proofs.lemmas.List.{append-nil, map-append, length-map}
+use Rattle.std.proofs.lemmas.List.{map-append, length-map}
 use Rattle.std.proofs.lemmas.List.Elements.{filter-append}
-use Rattle.std.proofs.lemmas.Option.{slice_get_within}
 use Rattle.std.proofs.Math.Seq.{take-append_seam}
 use Rattle.pct_ask.specs.declared.Deal.{Deal}
 use Rattle.pct_ask.specs.declared.ask.Post.{Post}
@@ -13,19 +12,19 @@ use Rattle.pct_ask.specs.declared.verdict.Outcome.{Outcome}
 use Rattle.sync_store.specs.Store.{sizes_of_deal}
 use Rattle.sync_store.specs.World.{answers_of}
 use Rattle.policy_pick.specs.Plan.{Plan, SpeaksOf}
-use Rattle.turn_book.specs.Posts.{events_of, posts_of, source_of, KeepsPosts}
+use Rattle.turn_book.specs.Posts.{events_of, source_of, KeepsPosts}
 use Rattle.turn_book.specs.Obeys.{Obeys, settled}
 use Rattle.turn_book.specs.Told.{Told, SameMaking, IsLawful, Within, new_book}
 use Rattle.turn_book.proofs.More.{obeys-more, settled-more}
-use Rattle.turn_lock.specs.Seen.{ObeysPlan, pairs_of, posted_by, owes_of}
+use Rattle.turn_lock.specs.Seen.{ObeysPlan}
 use Rattle.turn_lock.specs.Rule.{Serves, first_view}
 use Rattle.turn_lock.specs.Seats.{joined}
 use Rattle.turn_lock.specs.declared.view.View.{View}
 use Rattle.turn_lock.proofs.FlagLists.{first-has, first-below}
-use Rattle.worker_run.specs.Bodies.{Pending, nobody, pending_of, source_of_bodies, AreInRange}
+use Rattle.worker_run.specs.Bodies.{Pending, pending_of, source_of_bodies, AreInRange}
 use Rattle.worker_run.specs.declared.runner.Runner.{Runner}
 use Rattle.worker_run.specs.Played.{IsPlayed, HasPlayed}
-use Rattle.worker_run.specs.Served.{IsUnposted, Follows, IsRunning, runner_at, IsCrew, AllOwe, IsOver, IsServed, first_runners}
+use Rattle.worker_run.specs.Served.{IsUnposted, IsRunning, runner_at, IsCrew, AllOwe, IsOver, IsServed, first_runners}
 use Rattle.worker_run.proofs.Over.{ended-over, same-trace, later-ends}
 
 -- ---- before the first post

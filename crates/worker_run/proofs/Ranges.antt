@@ -1,5 +1,5 @@
 -- Bodies that each name only what there is, as a list of bodies.
-use Rattle.std.proofs.Common.{zero, suc, ℤ, List, [], ◌∷◌, map}
+use Rattle.std.proofs.Common.{zero, suc, List, [], ◌∷◌, map}
 use Rattle.std.specs.List.{All}
 use Rattle.std.proofs.lemmas.List.Elements.{All-head, All-tail}
 use Rattle.sync_store.specs.Store.{Sizes}

@@ -1,5 +1,5 @@
 -- A thread's body, by what a seat has seen: what stays, and what a call of the lock makes of it.
-use Rattle.std.proofs.Common.{◌≡◌, ◌≢◌, ℕ, zero, suc, ◌+◌, ◌<◌, ◌≤◌, ℤ, Bool, true, false, cond, eqb, Option, Some, None, option_to_list, List, [], ◌∷◌, ◌++◌, length, map, take, refl, sym, ap, subst, ◌∙◌, arith, ◌⊎◌, inl, inr, eq-eqb}
+use Rattle.std.proofs.Common.{◌≡◌, ℕ, zero, suc, ◌+◌, ◌≤◌, ℤ, Bool, true, false, cond, eqb, Option, Some, None, option_to_list, List, [], ◌∷◌, ◌++◌, length, map, take, refl, sym, ap, ◌∙◌, arith, ◌⊎◌, inl, inr, eq-eqb}
 use Rattle.std.specs.Prelude.{slice_get, is_some, IsSome}
 use Rattle.std.proofs.lemmas.List.{append-nil, append_assoc, map-append, length-map, length-append, take-append-le}
 use Rattle.std.proofs.lemmas.Bool.{false≢true}
@@ -8,14 +8,13 @@ use Rattle.std.proofs.Math.Seq.{take-append_seam}
 use Rattle.pct_ask.specs.declared.ask.Post.{Post}
 use Rattle.pct_ask.specs.declared.event.Event.{Event}
 use Rattle.pct_ask.specs.declared.verdict.Outcome.{Outcome}
-use Rattle.pct_ask.specs.declared.event.Standing.TheVariants.{Away, Asks, Ended as HasEnded}
+use Rattle.pct_ask.specs.declared.event.Standing.TheVariants.{Ended as HasEnded}
 use Rattle.sync_store.specs.World.{answers_of}
-use Rattle.policy_pick.specs.Plan.{SpeaksOf}
 use Rattle.turn_book.specs.Posts.{events_of, posts_of}
-use Rattle.turn_book.specs.Told.{Told, IsLawful, IsAnswered, IsPosted, Within, next_post, standing_of, post_of_event}
+use Rattle.turn_book.specs.Told.{Told, IsLawful, IsAnswered, standing_of, post_of_event}
 use Rattle.turn_lock.specs.Seen.{SameOf, pairs_of, posted_by, owes_of}
 use Rattle.turn_lock.specs.Rule.{Has, Serves}
-use Rattle.turn_lock.specs.Turns.{IsAsked, Row, GainsPair, TookTurn, TellsEnd}
+use Rattle.turn_lock.specs.Turns.{IsAsked, GainsPair, TookTurn, TellsEnd}
 use Rattle.turn_lock.specs.declared.turn.Turn.{Turn}
 use Rattle.turn_lock.specs.declared.turn.Turn.TheVariants.{Answer, Ended, NotYet, Busy, Over}
 use Rattle.turn_lock.specs.declared.view.View.{View}

@@ -1,7 +1,6 @@
-use Rattle.std.proofs.Common.{◌≡◌, ◌<◌, ◌+◌, Option, List, length, sym, subst, ◌∙◌, arith}
+use Rattle.std.proofs.Common.{◌<◌, ◌+◌, Option, List, length, sym, subst, ◌∙◌, arith}
 use Rattle.turn_lock.specs.Views.{view, IsOf}
 use Rattle.turn_lock.specs.declared.seat.Seat.{Seat}
-use Rattle.turn_lock.specs.declared.view.View.{View}
 use Rattle.worker_run.specs.declared.runner.Runner.{Runner}
 use Rattle.worker_run.proofs.Crews.{IsBegun, begun-first, begun-none, begun-more, begun-crew, begun-all, on-along, serves-on, runner-read, none-read, set-read}
 use Rattle.worker_run.proofs.crew.begin.Goals as goal

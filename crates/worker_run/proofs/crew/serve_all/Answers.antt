@@ -1,4 +1,4 @@
-use Rattle.std.proofs.Common.{◌+◌, sym, subst, arith, inl}
+use Rattle.std.proofs.Common.{sym, subst, arith, inl}
 use Rattle.turn_lock.specs.Views.{view}
 use Rattle.turn_lock.specs.declared.seat.Seat.{Seat}
 use Rattle.turn_book.specs.Told.{IsLawful}

@@ -1,4 +1,4 @@
-use Rattle.std.proofs.Common.{◌≡◌, ◌<◌, ◌+◌, ℕ, ℤ, List, None, Some, [], ◌∷◌, length, set, refl, sym, ap, subst, ◌∙◌, arith, rules, w64, inl, inr}
+use Rattle.std.proofs.Common.{◌≡◌, ◌+◌, ℕ, ℤ, List, None, Some, ◌∷◌, length, set, refl, sym, ap, subst, ◌∙◌, arith, rules, w64, inl, inr}
 use borrow.Author.Rules.{scaled_Fits}
 use Rattle.std.proofs.lemmas.Bool.{cases_eq}
 use Rattle.std.proofs.lemmas.Int.{to_z-of_z}

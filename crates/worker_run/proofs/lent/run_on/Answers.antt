@@ -1,4 +1,4 @@
-use Rattle.std.proofs.Common.{◌≡◌, ◌<◌, ℕ, map, length, ap, sym, subst, ◌∙◌, arith}
+use Rattle.std.proofs.Common.{map, ap, ◌∙◌, arith}
 use Rattle.pct_ask.specs.declared.Deal.{Deal}
 use Rattle.turn_lock.specs.Seen.{posted_by}
 use Rattle.turn_lock.specs.Calls.{made}

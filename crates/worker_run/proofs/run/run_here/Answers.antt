@@ -1,4 +1,4 @@
-use Rattle.std.proofs.Common.{◌<◌, ℕ, map, ap, subst, ◌∙◌, arith}
+use Rattle.std.proofs.Common.{map, ap, subst, ◌∙◌, arith}
 use Rattle.pct_ask.specs.declared.Deal.{Deal}
 use Rattle.policy_pick.specs.Plan.{Plan, SpeaksOf}
 use Rattle.turn_lock.specs.Calls.{made}

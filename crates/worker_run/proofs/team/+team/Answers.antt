@@ -1,12 +1,11 @@
-use Rattle.std.proofs.Common.{◌≡◌, ◌<◌, ◌-◌, ◌+◌, ℕ, Option, List, None, Some, [], ◌∷◌, length, set, sym, subst, ◌∙◌, arith}
+use Rattle.std.proofs.Common.{◌<◌, ◌-◌, ℕ, Option, None, length, set, sym, subst, ◌∙◌, arith}
 use Rattle.std.proofs.lemmas.List.{get_or_default}
 use Rattle.sync_store.specs.Store.{sizes_of_deal}
 use Rattle.turn_lock.specs.Calls.{made}
 use Rattle.turn_lock.specs.Views.{view}
 use Rattle.turn_lock.specs.declared.seat.Seat.{Seat}
 use Rattle.turn_lock.specs.declared.view.View.{View}
-use Rattle.worker_run.specs.Bodies.{Pending}
-use Rattle.worker_run.specs.Served.{IsCrew, IsServed}
+use Rattle.worker_run.specs.Served.{IsCrew}
 use Rattle.worker_run.specs.Handed.{IsDone, WasServed, ArePaired, BothServed}
 use Rattle.worker_run.specs.declared.done.Done.{Done}
 use Rattle.worker_run.specs.declared.runner.Runner.{Runner}

@@ -1,4 +1,4 @@
-use Rattle.std.proofs.Common.{◌≡◌, ◌+◌, ℕ, ℤ, List, None, Some, [], ◌∷◌, sym, ap, subst, ◌∙◌, arith, rules, w64, inl, inr}
+use Rattle.std.proofs.Common.{◌≡◌, ◌+◌, ℕ, ℤ, List, None, ◌∷◌, sym, ap, subst, ◌∙◌, arith, rules, w64, inl, inr}
 use Rattle.std.proofs.lemmas.Int.{to_z-of_z}
 use Rattle.turn_lock.specs.Seen.{owes_of}
 use Rattle.turn_lock.specs.Turns.{TookTurn}

@@ -1,4 +1,4 @@
-use Rattle.std.proofs.Common.{◌≡◌, ◌+◌, ℕ, ℤ, List, true, [], ◌∷◌, ◌++◌, Some, length, sym, ap, subst, ◌∙◌, arith, rules, w64, to_z, of_z}
+use Rattle.std.proofs.Common.{◌≡◌, ◌+◌, ℕ, ℤ, List, true, [], ◌∷◌, ◌++◌, Some, sym, ap, subst, ◌∙◌, arith, rules, w64, to_z, of_z}
 use Rattle.std.proofs.lemmas.Int.{to_z-of_z}
 use Rattle.pct_ask.specs.declared.ask.Post.{Post}
 use Rattle.sync_store.specs.Store.{sizes_of_deal}
@@ -9,7 +9,6 @@ use Rattle.turn_lock.specs.Calls.{made}
 use Rattle.turn_lock.specs.Turns.{TookTurn}
 use Rattle.turn_lock.specs.Views.{view}
 use Rattle.turn_lock.specs.declared.turn.Turn.{Turn}
-use Rattle.worker_run.specs.Bodies.{Pending}
 use Rattle.worker_run.specs.Served.{IsRunning}
 use Rattle.worker_run.proofs.Running.{answer-asks, answer-counts, answer-running, answer-owes, other-running, moves-is, over-told, posted-told, answers-few}
 use Rattle.worker_run.proofs.Crews.{serves-on, moves-self, moves-along}
