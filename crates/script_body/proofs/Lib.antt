@@ -2,3 +2,4 @@ pub mod Ends
 pub mod Steps
 pub mod TestScripts
 pub mod SmallStatements
+pub mod PlainStates

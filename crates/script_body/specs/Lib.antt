@@ -7,3 +7,4 @@ pub mod Asking
 pub mod BodyPosts
 pub mod Samples
 pub mod Generated
+pub mod Plain

@@ -2,14 +2,14 @@
 
 use crate::ScriptBody;
 use crate::generated::{Draws, any_body};
-use crate::plain::posts_of;
+use crate::plain::post_after;
 use crate::samples::{
     Place, counting, counting_more, dividing, faulting, idle, meeting, sample, started, starting,
     trying, waiting,
 };
 use pct_ask::{Ask, Body, FaultKind, Post};
 use script_code::{Code, compile};
-use script_tree::Op;
+use script_tree::{Block, Op};
 use std::alloc::{AllocError as NoMemory, Global};
 use std::process::Abort;
 use std::test::Fail;
@@ -180,17 +180,24 @@ fn each_place_has_its_fault(rt: HostRuntime) -> Result<(), Fail> {
     Ok(())
 }
 
-/// A body posts what the plain interpreter does.
-fn expect_plain(rt: &impl Abort, body: &mut ScriptBody<'_>, plain: &[Post], answers: &[i64]) {
-    for (place, wanted) in plain.iter().enumerate() {
+/// A body posts what the plain interpreter does, after each number of the answers.
+fn expect_plain(
+    rt: &impl Abort,
+    alloc: Global,
+    body: &mut ScriptBody<'_>,
+    stmts: &Block,
+    answers: &[i64],
+) -> Result<(), NoMemory> {
+    for (count, answer) in answers.iter().enumerate() {
         let post = body.post();
-        assert_eq!(rt; post, *wanted);
-        if post.ask.is_some() {
-            if let Some(answer) = answers.get(place) {
-                body.answer(*answer);
-            }
+        assert_eq!(rt; post, post_after(alloc, stmts, &answers[..count])?);
+        if post.ask.is_none() {
+            return Ok(());
         }
+        body.answer(*answer);
     }
+    assert_eq!(rt; body.post(), post_after(alloc, stmts, answers)?);
+    Ok(())
 }
 
 /// The statements and the answers of a number.
@@ -204,12 +211,10 @@ fn compare_plain(rt: &impl Abort, alloc: Global, seed: u32) -> Result<(), NoMemo
     let Some(text) = script.threads.first() else {
         panic!(rt; "no thread");
     };
-    let plain = posts_of(alloc, &text.body, answers.as_slice())?;
     let code = compile(alloc, &script)?;
     assert_eq!(rt; code.threads(), 2);
     let mut body = ScriptBody::new(&code, 0);
-    expect_plain(rt, &mut body, plain.as_slice(), answers.as_slice());
-    Ok(())
+    expect_plain(rt, alloc, &mut body, &text.body, answers.as_slice())
 }
 
 #[test]

@@ -12,6 +12,8 @@ mod moving;
 #[cfg(test)]
 mod plain;
 #[cfg(test)]
+mod plain_value;
+#[cfg(test)]
 mod samples;
 mod settling;
 mod state;
