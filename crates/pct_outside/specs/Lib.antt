@@ -1,3 +1,5 @@
+pub mod GateState
+pub mod Meeting
 pub mod Counter
 pub mod Piece
 pub mod Reading

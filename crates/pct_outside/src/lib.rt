@@ -7,8 +7,10 @@ mod calls;
 pub mod gates;
 pub mod host_shelves;
 pub mod host_sinks;
+mod meeting;
 pub mod memory_shelves;
 pub mod memory_sinks;
+mod moment;
 pub mod shelves;
 pub mod sinks;
 

@@ -1,0 +1,9 @@
+/// What happens at a meeting. Contracts alone speak of moments: the code makes none.
+pub enum Moment {
+    /// It is opened, for guests who look so many times.
+    Opened(u64),
+    /// A guest comes: 0 is the one, and 1 the other.
+    Came(u64),
+    /// This guest has seen the other.
+    Saw(u64),
+}
