@@ -1,4 +1,4 @@
-// Two guests who look for each other, each in a thread of its own.
+//! Two guests who look for each other, each in a thread of its own.
 ghost use Rattle.std.specs.Prelude.{◌≡◌, ◌+◌, ◌-◌, ◌<◌, ◌∷◌, [], length, IfSome, IsTrue};
 ghost use Rattle.pct_outside.specs.Meeting.{Has, MaySee, SawOther, IsPlace, looks_of, place_of};
 ghost use Rattle.pct_outside.specs.declared.moment.Moment.TheVariants.{Opened, Came};

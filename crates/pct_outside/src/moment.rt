@@ -1,3 +1,5 @@
+//! The moments of a meeting.
+
 /// What happens at a meeting. Contracts alone speak of moments: the code makes none.
 pub enum Moment {
     /// It is opened, for guests who look so many times.
