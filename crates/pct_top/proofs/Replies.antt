@@ -15,7 +15,8 @@ use Rattle.script_tree.specs.ScriptText.{ScriptText}
 use Rattle.script_tree.specs.Fitting.{IsScript}
 use Rattle.script_tree.specs.DealOf.{IsDealOf}
 use Rattle.trace_text.specs.declared.file.TraceFile.{TraceFile}
-use Rattle.trace_text.specs.Lawful.{HasObjects, IsAsk, NamesKnown, IsStep}
+use Rattle.trace_text.specs.Lawful.{HasObjects, NamesKnown, IsStep}
+use Rattle.trace_text.proofs.StepObjects.{has_objects}
 use Rattle.trace_text.specs.Trace.{IsTrace}
 use Rattle.replay_run.specs.declared.answer.Written.TheVariants as written
 use Rattle.replay_run.specs.declared.answer.Found.TheVariants as found
@@ -55,36 +56,6 @@ to_second names version (WrLock l) h = (h.0, refl)
 to_second names version (TryRdLock l) h = (h.0, refl)
 to_second names version (TryWrLock l) h = (h.0, refl)
 to_second names version (RwUnlock l) h = (h.0, refl)
-
--- an ask of a trace has its objects
-has_objects : (names : NameLists) (version : ℕ) (ask : Ask) → IsAsk names version ask → HasObjects names version ask
-has_objects names version (Read x) h = h
-has_objects names version (Write x value) h = h.0
-has_objects names version (Add x value) h = h.0
-has_objects names version (Cas x old new) h = h.0
-has_objects names version (Lock m) h = h
-has_objects names version (TryLock m) h = h
-has_objects names version (Unlock m) h = h
-has_objects names version (Release c m) h = h
-has_objects names version (Regain c m) h = h
-has_objects names version (Signal c) h = h
-has_objects names version (Broadcast c) h = h
-has_objects names version (Down s) h = h
-has_objects names version (TryDown s) h = h
-has_objects names version (Up s) h = h
-has_objects names version (Arrive b) h = h
-has_objects names version (Leave b) h = h
-has_objects names version (Join t) h = h
-has_objects names version Yield h = tt
-has_objects names version (Check holds) h = tt
-has_objects names version (Fault kind) h = tt
-has_objects names version (Start t) h = h
-has_objects names version Begin h = tt
-has_objects names version (RdLock l) h = h
-has_objects names version (WrLock l) h = h
-has_objects names version (TryRdLock l) h = h
-has_objects names version (TryWrLock l) h = h
-has_objects names version (RwUnlock l) h = h
 
 made_known : (names : NameLists) (version : ℕ) (event : Event) → NamesKnown names version event → IsKnownStep names event
 made_known names version event is = record { thread = is.thread; line = is.line; objects = to_second names version event.ask is.objects }

@@ -16,3 +16,4 @@ pub mod FaultBodies
 pub mod Readings
 pub mod Sizes
 pub mod Traces
+pub mod StepObjects

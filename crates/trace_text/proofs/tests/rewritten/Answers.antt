@@ -1,44 +1,11 @@
 -- What was read can be written.
-use Rattle.std.proofs.Common.{ℕ, refl}
-use Rattle.pct_ask.specs.NameLists.{NameLists}
-use Rattle.pct_ask.specs.declared.ask.Ask.{Ask}
-use Rattle.pct_ask.specs.declared.ask.Ask.TheVariants.{Read, Write, Add, Cas, Lock, TryLock, Unlock, Release, Regain, Signal, Broadcast, Down, TryDown, Up, Arrive, Leave, Join, Yield, Check, Fault, Start, Begin, RdLock, WrLock, TryRdLock, TryWrLock, RwUnlock}
-use Rattle.trace_text.specs.Lawful.{HasObjects, IsAsk}
+use Rattle.std.proofs.Common.{refl}
 use Rattle.pct_ask.specs.VerdictText.{verdict_text}
 use Rattle.pct_ask.specs.declared.verdict_text.VerdictRead.TheVariants.{Is}
 use Rattle.pct_ask.proofs.VerdictReadLemmas.{read-written}
 use Rattle.trace_text.proofs.Traces.{few-steps, all-steps}
+use Rattle.trace_text.proofs.StepObjects.{has_objects}
 use Rattle.trace_text.proofs.tests.rewritten.Goals as goal
-
--- an ask of a trace has its objects
-has_objects : (names : NameLists) (version : ℕ) (ask : Ask) → IsAsk names version ask → HasObjects names version ask
-has_objects names version (Read x) h = h
-has_objects names version (Write x value) h = h.0
-has_objects names version (Add x value) h = h.0
-has_objects names version (Cas x old new) h = h.0
-has_objects names version (Lock m) h = h
-has_objects names version (TryLock m) h = h
-has_objects names version (Unlock m) h = h
-has_objects names version (Release c m) h = h
-has_objects names version (Regain c m) h = h
-has_objects names version (Signal c) h = h
-has_objects names version (Broadcast c) h = h
-has_objects names version (Down s) h = h
-has_objects names version (TryDown s) h = h
-has_objects names version (Up s) h = h
-has_objects names version (Arrive b) h = h
-has_objects names version (Leave b) h = h
-has_objects names version (Join t) h = h
-has_objects names version Yield h = tt
-has_objects names version (Check holds) h = tt
-has_objects names version (Fault kind) h = tt
-has_objects names version (Start t) h = h
-has_objects names version Begin h = tt
-has_objects names version (RdLock l) h = h
-has_objects names version (WrLock l) h = h
-has_objects names version (TryRdLock l) h = h
-has_objects names version (TryWrLock l) h = h
-has_objects names version (RwUnlock l) h = h
 
 pub write_trace-requires : goal.write_trace-requires
 write_trace-requires c =
