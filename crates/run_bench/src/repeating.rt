@@ -1,0 +1,107 @@
+//! Runs of one script, one after another.
+
+ghost use Rattle.std.specs.Prelude.{◌≡◌, length, IfOk};
+ghost use Rattle.std.specs.List.{range_with_len};
+ghost use Rattle.script_code.specs.Listing.{listing};
+ghost use Rattle.script_tree.specs.ScriptText.{ScriptText};
+ghost use Rattle.replay_run.specs.Replay.{AreOf};
+
+use pct_ask::Deal;
+use pct_outside::OpenGate;
+use policy_pick::Pct;
+use replay_run::bodies_of;
+use script_code::{Code, compile};
+use script_parse::parse;
+use std::alloc::{AllocError as NoMemory, Global};
+use std::sync::Wait;
+use std::thread::Threads;
+use worker_run::{run_here, run_threads};
+
+const LIMIT: u32 = 100_000;
+
+/// Who serves the bodies.
+#[derive(Clone, Copy, Debug, PartialEq, Eq)]
+pub enum Mode {
+    /// The caller serves all.
+    Here,
+    /// Each has a thread of its own.
+    Threads,
+}
+
+impl Mode {
+    pub fn of_word(word: &str) -> Option<Mode> {
+        match word {
+            "here" => Some(Mode::Here),
+            "threads" => Some(Mode::Threads),
+            _ => None,
+        }
+    }
+}
+
+/// The threads as they are declared.
+fn declared_order(alloc: Global, threads: u32) -> Result<Vec<u32>, NoMemory>
+    ensures { IfOk result (λ order. order.items ≡ range_with_len 0 threads) }
+{
+    (0..threads).collect(alloc)
+}
+
+/// How many steps one run has.
+fn run_once<R: Threads + Wait + Sync>(
+    rt: &R,
+    alloc: Global,
+    code: &Code,
+    deal: &Deal,
+    order: &[u32],
+    mode: Mode,
+) -> Result<usize, NoMemory>
+    requires script { (script : ScriptText) × AreOf script (listing code.now) deal.now }
+    requires order { length order.now ≡ deal.now.threads }
+{
+    let Ok(policy) = Pct::new(alloc, order, &[]) else {
+        return Err(NoMemory);
+    };
+    let bodies = bodies_of(alloc, code)?;
+    let own = deal.copy(alloc)?;
+    let gate = OpenGate::new();
+    let played = match mode {
+        Mode::Here => run_here(rt, alloc, own, policy, LIMIT, bodies, &gate)?,
+        Mode::Threads => run_threads(rt, alloc, own, policy, LIMIT, bodies, &gate)?,
+    };
+    Ok(played.events.len())
+}
+
+/// How many steps so many runs have in all.
+fn run_all<R: Threads + Wait + Sync>(
+    rt: &R,
+    alloc: Global,
+    code: &Code,
+    deal: &Deal,
+    mode: Mode,
+    times: u32,
+) -> Result<u64, NoMemory>
+    requires { (script : ScriptText) × AreOf script (listing code.now) deal.now }
+{
+    let order = declared_order(alloc, deal.threads)?;
+    let mut steps = 0u64;
+    for _ in 0..times {
+        let more = run_once(rt, alloc, code, deal, &order, mode)?;
+        steps = steps.saturating_add(more as u64);
+    }
+    Ok(steps)
+}
+
+/// How many steps so many runs of a script have in all. Nothing where the bytes are no script.
+pub fn steps_of<R: Threads + Wait + Sync>(
+    rt: &R,
+    alloc: Global,
+    bytes: &[u8],
+    mode: Mode,
+    times: u32,
+) -> Result<Option<u64>, NoMemory> {
+    let Ok(script) = parse(alloc, bytes) else {
+        return Ok(None);
+    };
+    let code = compile(alloc, &script)?;
+    let deal = script.deal(alloc)?;
+    Ok(Some(run_all(rt, alloc, &code, &deal, mode, times)?))
+}
