@@ -39,8 +39,8 @@ pub(crate) fn value_of(expr: &Expr, registers: &Registers) -> Result<i64, FaultK
     }
 }
 
-// What the left number decides without the right one.
-fn decided(op: Op, x: i64) -> Option<i64>
+/// What the left number decides without the right one.
+pub(crate) fn decided(op: Op, x: i64) -> Option<i64>
     ensures { result ≡ decided op x }
 {
     match op {
@@ -50,7 +50,8 @@ fn decided(op: Op, x: i64) -> Option<i64>
     }
 }
 
-fn combined(op: Op, x: i64, y: i64) -> Result<i64, FaultKind>
+/// What both numbers make, where the left one alone decides nothing.
+pub(crate) fn combined(op: Op, x: i64, y: i64) -> Result<i64, FaultKind>
     ensures { result ≡ combined op x y }
 {
     match op {
@@ -69,13 +70,15 @@ fn combined(op: Op, x: i64, y: i64) -> Result<i64, FaultKind>
     }
 }
 
-fn truth(holds: bool) -> Result<i64, FaultKind>
+/// 1 or 0.
+pub(crate) fn truth(holds: bool) -> Result<i64, FaultKind>
     ensures { result ≡ truth holds }
 {
     Ok(if holds { 1 } else { 0 })
 }
 
-fn minus(x: i64) -> Result<i64, FaultKind>
+/// The number with the other sign.
+pub(crate) fn minus(x: i64) -> Result<i64, FaultKind>
     ensures { result ≡ in_range (neg_ℤ x) }
 {
     x.checked_neg().ok_or(FaultKind::Overflow)
