@@ -8,7 +8,7 @@ ghost use Rattle.script_tree.specs.Trees.{closed_at};
 ghost use Rattle.script_tree.specs.Seen.{expression, statement, statements, block};
 ghost use Rattle.script_tree.specs.ScriptSeen.{text};
 ghost use Rattle.script_tree.specs.LayoutRows.{adder, checker, lost_update_names, lost_update};
-ghost use Rattle.script_tree.specs.EveryForm.{every_name, operations, accesses, waits, meetings, shares, one_block, two_blocks, inner_block, nested_blocks, blocks, every_statement, every_form};
+ghost use Rattle.script_tree.specs.EveryForm.{first_names, every_name, operations, accesses, waits, meetings, shares, one_block, two_blocks, inner_block, nested_blocks, blocks, every_statement, every_form};
 
 use crate::{Block, Expr, Op, Script, Stmt, ThreadText};
 use pct_ask::{NameKind, Names, NumberList};
@@ -345,14 +345,21 @@ fn every_body(alloc: Global) -> Result<Block, NoMemory>
     Ok(closed(stmts, 41))
 }
 
-fn every_name(alloc: Global) -> Result<Names, NoMemory>
-    ensures { IfOk result (λ names. names ≡ every_name) }
+fn first_names(alloc: Global) -> Result<Names, NoMemory>
+    ensures { IfOk result (λ names. names ≡ first_names) }
 {
     let mut names = Names::new(alloc);
     names.add(alloc, NameKind::Thread, b"A")?;
     names.add(alloc, NameKind::Thread, b"B")?;
     names.add(alloc, NameKind::Var, b"low")?;
     names.add(alloc, NameKind::Var, b"high")?;
+    Ok(names)
+}
+
+fn every_name(alloc: Global) -> Result<Names, NoMemory>
+    ensures { IfOk result (λ names. names ≡ every_name) }
+{
+    let mut names = first_names(alloc)?;
     names.add(alloc, NameKind::Mutex, b"m")?;
     names.add(alloc, NameKind::Cond, b"c")?;
     names.add(alloc, NameKind::Sem, b"s")?;
