@@ -1,7 +1,6 @@
 //! The priorities of a run.
 
 ghost use Rattle.std.specs.Prelude.{◌≡◌, ◌≤◌, ℕ, length, All, None, IfOk, IfSome};
-ghost use Rattle.std.specs.List.{range_with_len};
 ghost use Rattle.script_tree.specs.ScriptSeen.{text};
 ghost use Rattle.priority_draw.specs.Drawing.{drawn};
 ghost use Rattle.trace_text.specs.Lawful.{IsStepCount};
@@ -17,7 +16,7 @@ use crate::settings::{NamedOrder, RunForm};
 use crate::test::Test;
 use pct_ask::{NameKind, OrderList, PointList};
 use pct_outside::Gate;
-use priority_draw::Words;
+use priority_draw::{Words, declared_order};
 use std::alloc::{AllocError as NoMemory, Global};
 use std::sync::Wait;
 use std::thread::Threads;
@@ -49,13 +48,6 @@ fn given(
             points: points.copy(alloc)?,
         }),
     }
-}
-
-/// The threads as they are declared.
-fn declared_order(alloc: Global, threads: u32) -> Result<Vec<u32>, NoMemory>
-    ensures { IfOk result (λ order. order.items ≡ range_with_len 0 threads) }
-{
-    (0..threads).collect(alloc)
 }
 
 /// How many steps the run in declared order has, without points, and at least one.

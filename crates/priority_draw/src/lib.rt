@@ -5,4 +5,4 @@
 mod tests;
 mod words;
 
-pub use words::{Words, scale};
+pub use words::{Words, declared_order, scale};

@@ -1,7 +1,7 @@
 ghost use Rattle.std.specs.Prelude.{◌≡◌, ◌+◌, ◌≤◌, IfOk};
 ghost use Rattle.priority_draw.specs.Drawing.{drawn};
 
-use crate::{Words, scale};
+use crate::{Words, declared_order, scale};
 use pct_ask::{OrderList, PointList};
 use std::alloc::{AllocError as NoMemory, Global};
 use std::process::Abort;
@@ -36,6 +36,13 @@ fn scaled(rt: HostRuntime) {
     assert_eq!(rt; scale(18446744073709551615, 16), 15);
     assert_eq!(rt; scale(0, 5), 0);
     assert_eq!(rt; scale(18446744073709551615, 1), 0);
+}
+
+#[test]
+fn declared(rt: HostRuntime) -> Result<(), Fail> {
+    let order = declared_order(rt.alloc(), 3)?;
+    assert_eq!(rt; order.as_slice(), [0, 1, 2].as_slice());
+    Ok(())
 }
 
 // These words, orders and points are those of tests/chacha.py.

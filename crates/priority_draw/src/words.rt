@@ -126,8 +126,8 @@ impl Words {
     }
 }
 
-/// The threads as they are declared.
-fn declared_order(alloc: Global, threads: u32) -> Result<Vec<u32>, NoMemory>
+/// The order of the threads as they are declared, the first with the highest priority.
+pub fn declared_order(alloc: Global, threads: u32) -> Result<Vec<u32>, NoMemory>
     ensures { IfOk result (λ order. order.items ≡ declared_order threads) }
 {
     (0..threads).collect(alloc)
