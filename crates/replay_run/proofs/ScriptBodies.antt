@@ -80,7 +80,7 @@ post_in_range : (deal : Deal) (ask : Option Ask) → AsksOnly deal ask → PostI
 post_in_range deal None h = tt
 post_in_range deal (Some ask) h = ask_in_range deal ask h
 
-pub bodies_in_range : (script : ScriptText) (code : List (List Operation)) (deal : Deal) → AreOf script code deal → AreInRange (sizes_of_deal deal) (bodies_of script)
+bodies_in_range : (script : ScriptText) (code : List (List Operation)) (deal : Deal) → AreOf script code deal → AreInRange (sizes_of_deal deal) (bodies_of script)
 bodies_in_range script code deal of t answers =
     let n = length script.threads in
     let P : Pending → Type 0 = λ posts. PostIsInRange (sizes_of_deal deal) (posts answers).ask in
@@ -92,3 +92,15 @@ bodies_in_range script code deal of t answers =
           let long = length-map-range_with_len (pending script) 0 n in
           subst P (sym (get_or_past (bodies_of script) t nobody (omega (arith, long, past)))) tt
     ]
+
+-- bodies that post what the code does are one for each thread of a deal like the script's
+pub one_each : {X : Type 0} (bodies : List X) (posts : X → Pending) (script : ScriptText) (code : List (List Operation)) (deal own : Deal) → AreOf script code deal → own ≡ deal → map posts bodies ≡ map flat_pending code → length bodies ≡ own.threads
+one_each bodies posts script code deal own of same are =
+    sym (length-map bodies posts) ∙ ap length are ∙ length-map code flat_pending ∙ (of.is_code).threads ∙ (of.sound).same_threads ∙ sym (of.is_deal).threads ∙ ap (λ (d : Deal). d.threads) (sym same)
+
+-- and they name only what it has
+pub all_in_range : {X : Type 0} (bodies : List X) (posts : X → Pending) (script : ScriptText) (code : List (List Operation)) (deal own : Deal) → AreOf script code deal → own ≡ deal → map posts bodies ≡ map flat_pending code → AreInRange (sizes_of_deal own) (map posts bodies)
+all_in_range bodies posts script code deal own of same are =
+    let B : List Pending → Type 0 = λ bs. AreInRange (sizes_of_deal own) bs in
+    let D : Deal → Type 0 = λ d. AreInRange (sizes_of_deal d) (bodies_of script) in
+    subst B (sym (are ∙ code_bodies script code of.is_code)) (subst D (sym same) (bodies_in_range script code deal of))

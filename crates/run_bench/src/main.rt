@@ -5,44 +5,46 @@ mod repeating;
 
 use pct_outside::{HostShelf, Shelf};
 use repeating::{Mode, steps_of};
-use std::env::{self, Env};
-use std::io;
 use std::process::ExitCode;
 use std::sync::Wait;
 use std::thread::Threads;
+use std::{env, io};
 
 /// One byte more than a script may have.
 const SCRIPT_BYTES: u64 = 1_048_577;
-
-/// The words after the program's own name.
-fn words_of(rt: &(impl Env + AllocGlobal)) -> io::Result<Vec<String>> {
-    let mut words = Vec::new(rt.alloc());
-    for word in env::args(rt)?.skip(1) {
-        words.push(word)?;
-    }
-    Ok(words)
-}
 
 /// How many steps so many runs of the file's script have in all. Nothing where one can't be made.
 fn counted<R: AllocGlobal + Threads + Wait + Sync, H: Shelf>(
     rt: &R,
     shelf: &mut H,
-    words: &[String],
+    mode: &str,
+    file: &str,
+    times: &str,
 ) -> Option<u64> {
-    let [mode, file, times] = words else {
-        return None;
-    };
-    let mode = Mode::of_word(mode.as_str())?;
-    let times = times.as_str().parse::<u32>().ok()?;
-    let bytes = shelf.read_up_to(file.as_str(), SCRIPT_BYTES).ok()?;
+    let mode = Mode::of_word(mode)?;
+    let times = times.parse::<u32>().ok()?;
+    let bytes = shelf.read_up_to(file, SCRIPT_BYTES).ok()?;
     steps_of(rt, rt.alloc(), &bytes, mode, times).ok()?
 }
 
 /// `here FILE TIMES` or `threads FILE TIMES`.
 fn main(rt: HostRuntime) -> io::Result<ExitCode> {
-    let words = words_of(&rt)?;
+    // the first word is the program's own name
+    let mut words = env::args(&rt)?.skip(1);
     let mut shelf = HostShelf::new(&rt);
-    match counted(&rt, &mut shelf, words.as_slice()) {
+    let steps = match (words.next(), words.next(), words.next(), words.next()) {
+        (Some(mode), Some(file), Some(times), None) => {
+            counted(
+                &rt,
+                &mut shelf,
+                mode.as_str(),
+                file.as_str(),
+                times.as_str(),
+            )
+        }
+        _ => None,
+    };
+    match steps {
         Some(steps) => {
             println!(rt; "{steps}")?;
             Ok(ExitCode::from(0))

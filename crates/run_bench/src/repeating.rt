@@ -1,7 +1,6 @@
 //! Runs of one script, one after another.
 
-ghost use Rattle.std.specs.Prelude.{◌≡◌, length, IfOk};
-ghost use Rattle.std.specs.List.{range_with_len};
+ghost use Rattle.std.specs.Prelude.{◌≡◌, length};
 ghost use Rattle.script_code.specs.Listing.{listing};
 ghost use Rattle.script_tree.specs.ScriptText.{ScriptText};
 ghost use Rattle.replay_run.specs.Replay.{AreOf};
@@ -9,6 +8,7 @@ ghost use Rattle.replay_run.specs.Replay.{AreOf};
 use pct_ask::Deal;
 use pct_outside::OpenGate;
 use policy_pick::Pct;
+use priority_draw::declared_order;
 use replay_run::bodies_of;
 use script_code::{Code, compile};
 use script_parse::parse;
@@ -38,13 +38,6 @@ impl Mode {
     }
 }
 
-/// The threads as they are declared.
-fn declared_order(alloc: Global, threads: u32) -> Result<Vec<u32>, NoMemory>
-    ensures { IfOk result (λ order. order.items ≡ range_with_len 0 threads) }
-{
-    (0..threads).collect(alloc)
-}
-
 /// How many steps one run has.
 fn run_once<R: Threads + Wait + Sync>(
     rt: &R,
@@ -70,7 +63,7 @@ fn run_once<R: Threads + Wait + Sync>(
     Ok(played.events.len())
 }
 
-/// How many steps so many runs have in all.
+/// How many steps so many runs in declared order have in all.
 fn run_all<R: Threads + Wait + Sync>(
     rt: &R,
     alloc: Global,

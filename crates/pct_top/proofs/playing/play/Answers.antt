@@ -1,13 +1,10 @@
-use Rattle.std.proofs.Common.{List, map, refl, sym, subst, ◌∙◌}
-use Rattle.pct_ask.specs.declared.Deal.{Deal}
-use Rattle.sync_store.specs.Store.{sizes_of_deal}
+use Rattle.std.proofs.Common.{map, refl, ◌∙◌}
 use Rattle.script_code.specs.Listing.{listing}
 use Rattle.script_tree.specs.ScriptSeen.{text}
 use Rattle.script_body.specs.BodyPosts.{pending_of}
 use Rattle.policy_pick.specs.Kept.{points_plan}
-use Rattle.worker_run.specs.Bodies.{Pending, AreInRange}
 use Rattle.replay_run.specs.Replay.{bodies_of}
-use Rattle.replay_run.proofs.ScriptBodies.{code_bodies, bodies_in_range}
+use Rattle.replay_run.proofs.ScriptBodies.{code_bodies, all_in_range}
 use Rattle.replay_run.proofs.Compared.{played_as}
 use Rattle.pct_top.proofs.KnownRuns.{known-run}
 use Rattle.pct_top.proofs.Played.{run_as}
@@ -16,13 +13,7 @@ use Rattle.pct_top.proofs.playing.play.Goals as goal
 pub run_threads-requires-clause-in_range : goal.run_threads-requires-clause-in_range
 run_threads-requires-clause-in_range g c κs within =
     let test = c.args.test.now in
-    let code = listing test.code in
-    let script = text test.script in
-    let of = c.requires.ready in
-    let bodies = c.in_ok-bodies.ensures ∙ code_bodies script code of.is_code in
-    let B : List Pending → Type 0 = λ bs. AreInRange (sizes_of_deal c.in_ok-deal.deal) bs in
-    let D : Deal → Type 0 = λ d. AreInRange (sizes_of_deal d) (bodies_of script) in
-    subst B (sym bodies) (subst D (sym c.in_ok-deal.ensures) (bodies_in_range script code test.deal of))
+    all_in_range c.in_ok-bodies.bodies.items pending_of (text test.script) (listing test.code) test.deal c.in_ok-deal.deal c.requires.ready c.in_ok-deal.ensures c.in_ok-bodies.ensures
 
 pub verdict_of-verdict-requires : goal.verdict_of-verdict-requires
 verdict_of-verdict-requires g c = let is = c.in_ok-played.ensures.run c.args.order.now c.args.points.now c.in_ok-policy.ensures.plan in (is.verdict, is.ends)

@@ -1,17 +1,16 @@
-use Rattle.std.proofs.Common.{◌<◌, List, map, arith, refl, sym, ap, subst, ◌∙◌}
+use Rattle.std.proofs.Common.{◌<◌, map, arith, refl, sym, ap, subst, ◌∙◌}
 use Rattle.std.proofs.lemmas.List.{length-map}
 use Rattle.std.proofs.lemmas.List.Elements.{All-map}
 use Rattle.pct_ask.specs.declared.Deal.{Deal}
 use Rattle.pct_ask.specs.declared.event.Event.{Event}
-use Rattle.sync_store.specs.Store.{sizes_of_deal}
 use Rattle.script_code.specs.Listing.{listing}
 use Rattle.script_body.specs.BodyPosts.{pending_of}
 use Rattle.policy_pick.specs.Plan.{Plan, ByList, SpeaksOf}
 use Rattle.policy_pick.specs.Kept.{list_plan}
 use Rattle.turn_book.specs.Posts.{schedule_of}
-use Rattle.worker_run.specs.Bodies.{Pending, AreInRange, source_of_bodies}
+use Rattle.worker_run.specs.Bodies.{source_of_bodies}
 use Rattle.replay_run.specs.Replay.{bodies_of}
-use Rattle.replay_run.proofs.ScriptBodies.{code_bodies, bodies_in_range}
+use Rattle.replay_run.proofs.ScriptBodies.{code_bodies, all_in_range}
 use Rattle.replay_run.proofs.ListedRuns.{listed_short}
 use Rattle.replay_run.proofs.Compared.{played_as, run_confirmed}
 use Rattle.replay_run.proofs.replaying.replay.Goals as goal
@@ -26,14 +25,7 @@ run_threads-requires-clause-speaks g c κs within =
     subst D (sym c.in_ok-own.ensures) (subst S (sym plan) (deal.few_threads, listed))
 
 pub run_threads-requires-clause-in_range : goal.run_threads-requires-clause-in_range
-run_threads-requires-clause-in_range g c κs within =
-    let code = listing c.args.code.now in
-    let script = c.requires.script.0 in
-    let of = c.requires.script.1 in
-    let bodies = c.in_ok-bodies.ensures ∙ code_bodies script code of.is_code in
-    let B : List Pending → Type 0 = λ bs. AreInRange (sizes_of_deal c.in_ok-own.own) bs in
-    let D : Deal → Type 0 = λ d. AreInRange (sizes_of_deal d) (bodies_of script) in
-    subst B (sym bodies) (subst D (sym c.in_ok-own.ensures) (bodies_in_range script code c.args.deal.now of))
+run_threads-requires-clause-in_range g c κs within = all_in_range c.in_ok-bodies.bodies.items pending_of c.requires.script.0 (listing c.args.code.now) c.args.deal.now c.in_ok-own.own c.requires.script.1 c.in_ok-own.ensures c.in_ok-bodies.ensures
 
 pub compare-requires-clause-no_longer : goal.compare-requires-clause-no_longer
 compare-requires-clause-no_longer g c =
