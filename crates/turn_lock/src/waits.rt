@@ -20,8 +20,8 @@ use std::sync::Wait;
 use std::thread::yield_now;
 
 /// How often a waiting thread looks at its turn word, and yields, before it sleeps. Measured with four quiet processors on
-/// two threads that hand the turn to each other by semaphores: 640,000 steps a second, and 270,000 where they sleep at once;
-/// pinned to one processor 730,000, and 670,000.
+/// two threads that hand the turn to each other by semaphores: 740,000 steps a second, and 330,000 where they sleep at once;
+/// pinned to one processor 750,000, and 700,000.
 const LOOKS: u32 = 50;
 
 impl<P: Policy> TurnLock<P> {
