@@ -1,13 +1,15 @@
-ghost use Rattle.std.specs.Prelude.{◌≡◌, ◌<◌, ◌≤◌, length, replicate, Some, None, slice_set, IfOk};
+ghost use Rattle.std.specs.Prelude.{◌≡◌, ◌<◌, ◌≤◌, length, replicate, Option, Some, None, slice_set, IfOk};
+ghost use Rattle.pct_ask.specs.declared.verdict.Verdict.{Verdict};
 ghost use Rattle.sync_store.specs.Store.{first, sizes_of, sizes_of_deal};
 ghost use Rattle.policy_pick.specs.declared.chance.Chance.{Chance};
 ghost use Rattle.policy_pick.specs.Choice.{TargetsAreAway};
 ghost use Rattle.turn_book.specs.Chances.{chance, chances, rest_verdict};
+ghost use Rattle.turn_book.specs.Obeys.{outcome_by};
 ghost use Rattle.turn_book.specs.Told.{PostIsInRange, standing_by};
 ghost use Rattle.turn_book.specs.Board.{TakesStep, listed};
 
 use crate::known::{asked, blocked_line, look_again, standing_of, step_of};
-use pct_ask::{Blocked, Deal, Event, Post, Standing, Verdict};
+use pct_ask::{Blocked, Deal, Event, Outcome, Post, Standing, Verdict};
 use policy_pick::Chance;
 use std::alloc::{AllocError as NoMemory, Global};
 use std::marker::Model;
@@ -80,11 +82,11 @@ impl Board {
         );
     }
 
-    /// A thread takes the step that it asks. Its next post isn't known then.
-    pub fn step(&mut self, thread: u32) -> (Event, Option<Verdict>)
+    /// A thread takes the step that it asks. Its next post isn't known then. Where the step ends the run, its verdict is noted.
+    pub fn step(&mut self, thread: u32, outcome: &mut Option<Outcome>) -> Event
         requires thread { thread < length self.old.posts }
         requires ready { chance self.old.store (listed self.old.posts) thread ≡ Chance.Ready }
-        ensures step { TakesStep self.old thread result.0 result.1 self.new }
+        ensures step { (ends : Option Verdict) × TakesStep self.old thread result ends self.new × (outcome.new ≡ outcome_by ends outcome.old) }
         ensures sizes { sizes_of self.new.store ≡ sizes_of self.old.store }
     {
         let place = thread as usize;
@@ -101,7 +103,7 @@ impl Board {
                     Store::touched(&ask),
                     self.chances.as_mut_slice(),
                 );
-                step_of(thread, line, ask, applied)
+                step_of(thread, line, ask, &applied, outcome)
             }
             None => unreachable!(),
         }

@@ -80,9 +80,7 @@ impl<P: Policy> TurnBook<P> {
         if self.outcome.is_none() {
             self.board.post(thread, post);
             let full = self.trace.len() == self.limit as usize;
-            let (next, outcome) = settle(&self.policy, &self.board, None, full);
-            self.next = next;
-            self.outcome = outcome;
+            self.next = settle(&self.policy, &self.board, full, &mut self.outcome);
         }
     }
 
@@ -119,13 +117,11 @@ impl<P: Policy> TurnBook<P> {
         ensures answered { IsAnswered self.old thread result self.new }
         ensures lawful { IsLawful self.new }
     {
-        let (event, verdict) = self.board.step(thread);
+        let event = self.board.step(thread, &mut self.outcome);
         self.trace.push_reserved(event);
         self.policy.took(thread);
         let full = self.trace.len() == self.limit as usize;
-        let (next, outcome) = settle(&self.policy, &self.board, verdict, full);
-        self.next = next;
-        self.outcome = outcome;
+        self.next = settle(&self.policy, &self.board, full, &mut self.outcome);
         event.answer
     }
 

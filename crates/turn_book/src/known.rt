@@ -6,11 +6,12 @@ ghost use Rattle.sync_store.specs.Effect.{Effect, applied_of};
 ghost use Rattle.sync_store.specs.Ready.{away_by, ended_by};
 ghost use Rattle.policy_pick.specs.Choice.{chance_of};
 ghost use Rattle.turn_book.specs.Chances.{chance, chance_by, chance_of_post, chances, is_ended, is_unknown, blocked_by_post};
+ghost use Rattle.turn_book.specs.Obeys.{outcome_by};
 ghost use Rattle.turn_book.specs.Told.{PostIsInRange, standing_by};
 ghost use Rattle.turn_book.specs.Board.{AreInRange, ask_of_post, answer_of, verdict_of, concerns, listed};
 
 use crate::objects::{is_object, joins, named};
-use pct_ask::{Ask, Event, Post, Standing, Verdict};
+use pct_ask::{Ask, Event, Outcome, Post, Standing};
 use policy_pick::Chance;
 use sync_store::{Applied, Ready, Store, Touched};
 
@@ -40,25 +41,33 @@ pub fn asked(post: Option<Post>) -> Option<(u32, Ask)>
     }
 }
 
-/// A step as the trace has it, and how it ends the run.
-pub fn step_of(thread: u32, line: u32, ask: Ask, applied: Applied) -> (Event, Option<Verdict>)
-    ensures thread { result.0.thread ≡ thread }
-    ensures line { result.0.line ≡ line }
-    ensures ask { result.0.ask ≡ ask }
-    ensures answer { (step : Effect) → applied ≡ applied_of step → result.0.answer ≡ answer_of step }
-    ensures verdict { (step : Effect) → applied ≡ applied_of step → result.1 ≡ verdict_of step }
+/// A step as the trace has it. Where it ends the run, its verdict is noted.
+pub fn step_of(
+    thread: u32,
+    line: u32,
+    ask: Ask,
+    applied: &Applied,
+    outcome: &mut Option<Outcome>,
+) -> Event
+    ensures thread { result.thread ≡ thread }
+    ensures line { result.line ≡ line }
+    ensures ask { result.ask ≡ ask }
+    ensures answer { (step : Effect) → applied.now ≡ applied_of step → result.answer ≡ answer_of step }
+    ensures outcome { (step : Effect) → applied.now ≡ applied_of step → outcome.new ≡ outcome_by (verdict_of step) outcome.old }
 {
-    let (answer, verdict) = match applied {
-        Applied::Answer(answer) => (answer, None),
-        Applied::Ends(verdict) => (0, Some(verdict)),
+    let answer = match applied {
+        Applied::Answer(answer) => *answer,
+        Applied::Ends(verdict) => {
+            *outcome = Some(Outcome::Verdict(*verdict));
+            0
+        }
     };
-    let event = Event {
+    Event {
         thread,
         line,
         ask,
         answer,
-    };
-    (event, verdict)
+    }
 }
 
 /// The line of a thread that is blocked where nobody may go on.

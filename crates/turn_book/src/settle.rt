@@ -1,4 +1,5 @@
-ghost use Rattle.std.specs.Prelude.{◌≡◌, ℕ, List};
+ghost use Rattle.std.specs.Prelude.{◌≡◌, ℕ, List, Option, None};
+ghost use Rattle.pct_ask.specs.declared.verdict.Verdict.{Verdict};
 ghost use Rattle.policy_pick.specs.Plan.{SpeaksOf};
 ghost use Rattle.policy_pick.specs.Choice.{choice};
 ghost use Rattle.turn_book.specs.Chances.{chances, rest_verdict};
@@ -9,44 +10,45 @@ use crate::board::Board;
 use pct_ask::{Outcome, Verdict};
 use policy_pick::{Pick, Policy};
 
-/// Who goes next, and what became of the run, where its last step gave a verdict or none. `full` says whether it has as
-/// many steps as it may have.
+/// Who goes next. Where the last step gave no verdict, what became of the run by who goes next is noted, if that settles it;
+/// `full` says whether the run has as many steps as it may have. An outcome has room for 64 threads, so it is written only
+/// where there is one.
 pub fn settle<P: Policy>(
     policy: &P,
     board: &Board,
-    verdict: Option<Verdict>,
     full: bool,
-) -> (Pick, Option<Outcome>)
+    outcome: &mut Option<Outcome>,
+) -> Pick
     requires { SpeaksOf (P.plan policy.now) board.now.store.threads }
-    ensures pick { (schedule : List ℕ) → P.stands policy.now schedule → result.0 ≡ choice (P.plan policy.now) schedule (chances board.now.store.threads board.now.store (listed board.now.posts)) }
-    ensures outcome { result.1 ≡ outcome_by verdict (outcome_by_pick (rest_verdict board.now.store.threads board.now.store (listed board.now.posts)) full result.0) }
+    ensures pick { (schedule : List ℕ) → P.stands policy.now schedule → result ≡ choice (P.plan policy.now) schedule (chances board.now.store.threads board.now.store (listed board.now.posts)) }
+    ensures outcome { (verdict : Option Verdict) → outcome.old ≡ outcome_by verdict None → outcome.new ≡ outcome_by verdict (outcome_by_pick (rest_verdict board.now.store.threads board.now.store (listed board.now.posts)) full result) }
 {
     let next = policy.pick(board.chances());
-    let outcome = match verdict {
-        Some(verdict) => Some(Outcome::Verdict(verdict)),
-        None => outcome_by_pick(next, board, full),
-    };
-    (next, outcome)
+    if outcome.is_none() {
+        note_end(next, board, full, outcome);
+    }
+    next
 }
 
-/// What became of the run by who goes next.
-fn outcome_by_pick(next: Pick, board: &Board, full: bool) -> Option<Outcome>
-    ensures { result ≡ outcome_by_pick (rest_verdict board.now.store.threads board.now.store (listed board.now.posts)) full next }
+/// Notes what became of the run by who goes next, where it doesn't go on.
+fn note_end(next: Pick, board: &Board, full: bool, outcome: &mut Option<Outcome>)
+    requires { outcome.old ≡ None }
+    ensures { outcome.new ≡ outcome_by_pick (rest_verdict board.now.store.threads board.now.store (listed board.now.posts)) full next }
 {
     match next {
-        Pick::Nobody => Some(Outcome::Verdict(board.rest_verdict())),
-        Pick::Waits(_) => None,
+        Pick::Nobody => *outcome = Some(Outcome::Verdict(board.rest_verdict())),
+        Pick::Waits(_) => {}
         Pick::Thread(_) => {
             if full {
-                Some(Outcome::Verdict(Verdict::Cut))
-            } else {
-                None
+                *outcome = Some(Outcome::Verdict(Verdict::Cut));
             }
         }
-        Pick::Departs(thread) => Some(if full {
-            Outcome::Verdict(Verdict::Cut)
-        } else {
-            Outcome::Departed { thread }
-        }),
+        Pick::Departs(thread) => {
+            *outcome = Some(if full {
+                Outcome::Verdict(Verdict::Cut)
+            } else {
+                Outcome::Departed { thread }
+            });
+        }
     }
 }
