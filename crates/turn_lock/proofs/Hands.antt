@@ -11,7 +11,8 @@ use Rattle.turn_lock.specs.Slots.{Slot, NotesBelow}
 use Rattle.turn_lock.specs.Rule.{Has, Serves}
 use Rattle.turn_lock.specs.Plays.{Seated, with_gate, with_book, IsTaken}
 use Rattle.turn_lock.specs.Turns.{GivenInRange, IsOwed, TookOnce, Gives}
-use Rattle.turn_lock.specs.Hands.{HasInHand, IsReady, IsReadyForAny, GoesOn, AreBelow, Stays, IsWork, IsPassed, IsSwept}
+use Rattle.turn_lock.specs.Hands.{HasInHand, IsReady, IsReadyForAny, GoesOn, Stays, IsWork, IsPassed, IsSwept}
+use Rattle.turn_lock.specs.Wakes.{WakesBelow}
 use Rattle.turn_lock.specs.declared.turn.Turn.{Turn}
 use Rattle.turn_lock.specs.declared.turn.Turn.TheVariants.{Answer, Ended, NotYet, Busy, Over}
 use Rattle.turn_lock.specs.declared.view.View.{View}
@@ -86,8 +87,8 @@ module _ (m n k : Seated) (slot : Slot) (is : n ≡ hand_of m slot) (same : k.0 
     pub work-goes : GoesOn k.0 k.0.base after
     work-goes = goes-at after (goes (with_gate m.0 slot) t slot post done.turn after serves (long slot m.0 t taken inside) work-at.turn work-at.notes)
 
-    pub wakes-below : (made : Told) → SameMaking made m.0.seen → AreBelow made.deal.threads done.wakes
-    wakes-below made making = subst (λ (d : Deal). AreBelow d.threads done.wakes) (taken.ties.within.making.deal ∙ making.deal) work-at.wakes
+    pub wakes-below : (made : Told) → SameMaking made m.0.seen → WakesBelow made.deal.threads done.wakes
+    wakes-below made making = subst (λ (d : Deal). WakesBelow d.threads done.wakes) (taken.ties.within.making.deal ∙ making.deal) work-at.wakes
 
     pub turned : (l : Seated) → l ≡ (with_book k.0 after.book, []) → TookOnce m.0 t post done.turn l.0
     turned l opened =

@@ -11,3 +11,4 @@ pub mod FlagLists
 pub mod Joining
 pub mod Waiting
 pub mod Growth
+pub mod Waking

@@ -13,7 +13,7 @@ use Rattle.turn_book.specs.declared.taken.Taken.{Taken}
 use Rattle.turn_book.specs.declared.taken.Taken.TheVariants.{Answer, NotYet, Over}
 use Rattle.turn_lock.specs.Turns.{Row, as_turn}
 use Rattle.turn_lock.specs.Rule.{Has}
-use Rattle.turn_lock.specs.Hands.{AreBelow}
+use Rattle.turn_lock.specs.Wakes.{AreBelow}
 
 module _ (b : Told) (t : ℕ) (c : Told) (asks : b.outcome ≡ None → standing_of b t ≡ standings.Asks) where
   pub row-of : (taken : Taken)

@@ -1,5 +1,5 @@
 -- What a call made of the slot, by its answer.
-use Rattle.std.proofs.Common.{◌≡◌, ◌↔◌, ℕ, ◌<◌, ◌≤◌, Bool, true, false, List, Option, Some, None, IfSome, replicate, sym, refl, ap, ◌∙◌, subst}
+use Rattle.std.proofs.Common.{◌≡◌, ◌↔◌, ℕ, ◌<◌, ◌≤◌, Bool, true, false, List, Option, Some, None, IfSome, sym, refl, ap, ◌∙◌, subst}
 use Rattle.std.proofs.lemmas.Bool.{false≢true}
 use Rattle.pct_ask.specs.declared.Deal.{Deal}
 use Rattle.pct_ask.specs.declared.ask.Post.{Post}
@@ -9,17 +9,18 @@ use Rattle.turn_lock.specs.Seen.{owes_of}
 use Rattle.turn_lock.specs.Slots.{Slot, Board, NotesBelow, word_noted}
 use Rattle.turn_lock.specs.Rule.{Has}
 use Rattle.turn_lock.specs.Turns.{Row, TurnsTo, TellsEnd, settles}
-use Rattle.turn_lock.specs.Hands.{AreBelow, IsWork, IsPassed, IsFound}
+use Rattle.turn_lock.specs.Hands.{IsWork, IsPassed, IsFound}
+use Rattle.turn_lock.specs.Wakes.{WakesBelow}
 use Rattle.turn_lock.specs.declared.turn.Turn.{Turn}
 use Rattle.turn_lock.specs.declared.turn.Turn.TheVariants.{Answer, Ended, NotYet, Busy, Over}
+use Rattle.turn_lock.specs.declared.work.Wakes.TheVariants.{Nobody}
 use Rattle.turn_lock.specs.declared.work.Work.{Work}
 use Rattle.turn_lock.proofs.Growth.{grew-turn}
-use Rattle.turn_lock.proofs.Rows.{none-below}
 use Rattle.turn_lock.proofs.Standings.{away, away-owes}
 
-pub noted-below : (threads : ℕ) (board : Board) (t : ℕ) (noted : Option ℕ) → noted ≡ word_noted board t → NotesBelow threads board → IfSome noted (λ word. word < threads)
-noted-below threads board t None is notes = tt
-noted-below threads board t (Some word) is notes = notes t word (sym is)
+pub noted-is : (threads : ℕ) (board : Board) (t : ℕ) (noted : Option ℕ) → noted ≡ word_noted board t → NotesBelow threads board → IfSome noted (λ word. (word_noted board t ≡ Some word) × (word < threads))
+noted-is threads board t None is notes = tt
+noted-is threads board t (Some word) is notes = (sym is, notes t word (sym is))
 
 -- whether the next post is owed, by whether the thread is away
 pub owes-told : (book : Told) (t : ℕ) (told : Bool) → IsLawful book → ((told ≡ true) ↔ (standing_of book t ≡ standings.Away)) → told ≡ owes_of book t
@@ -27,14 +28,14 @@ owes-told book t true lawful iff = sym (away-owes book t lawful (iff.0 refl))
 owes-told book t false lawful iff = elim (owes_of book t) as (λ b. (b ≡ true → standing_of book t ≡ standings.Away) → false ≡ b) [ true ↦ λ f. absurd (false≢true (iff.1 (f refl))) | false ↦ λ f. refl ] (away book t)
 
 pub is-work : (slot : Slot) (t : ℕ) (post : Option Post) (done : Work) (after : Slot) → t < slot.book.deal.threads → IsLawful slot.book → NotesBelow slot.book.deal.threads slot.board → after.board ≡ slot.board
-    → TurnsTo slot.book t post done.turn after.book → ((done.owes ≡ true) ↔ (standing_of after.book t ≡ standings.Away)) → AreBelow after.book.deal.threads done.wakes → IsWork slot t post done after
+    → TurnsTo slot.book t post done.turn after.book → ((done.owes ≡ true) ↔ (standing_of after.book t ≡ standings.Away)) → WakesBelow after.book.deal.threads done.wakes → IsWork slot t post done after
 is-work slot t post done after inside lawful notes board turn owes wakes =
     let long = lawful.threads in
     let grew = grew-turn t slot.book post done.turn after.book (subst (λ (n : ℕ). t < n) (sym long) inside) turn in
     record {
       turn = turn;
       owes = owes-told after.book t done.owes turn.lawful owes;
-      wakes = subst (λ (d : Deal). AreBelow d.threads done.wakes) grew.within.making.deal wakes;
+      wakes = subst (λ (d : Deal). WakesBelow d.threads done.wakes) grew.within.making.deal wakes;
       notes = subst (NotesBelow slot.book.deal.threads) (sym board) notes;
     }
 
@@ -56,7 +57,7 @@ unanswered book t turn after not k = let u = unanswered-by k.asked t turn after 
 -- every thread has ended
 pub all-ended : (threads : List Bool) (slot : Slot) (t lowest : ℕ) (done ended : Work) (after : Slot) → Has threads lowest → ((u : ℕ) → Has threads u → lowest ≤ u) → ((u : ℕ) → Has threads u → owes_of slot.book u ≡ false)
     → IsWork slot t None done after → settles done.turn ≡ false → ((u : ℕ) → Has threads u → standing_of after.book u ≡ standings.Ended)
-    → ended.turn ≡ Ended → ended.owes ≡ false → ended.wakes ≡ replicate 64 false → IsFound threads slot lowest ended after
+    → ended.turn ≡ Ended → ended.owes ≡ false → ended.wakes ≡ Nobody → IsFound threads slot lowest ended after
 all-ended threads slot t lowest done ended after here least posted work not all turn owes wakes =
     let u = unanswered slot.book t done.turn after.book not work.turn in
     let stands : standing_of slot.book lowest ≡ standings.Ended = ap (λ (b : Told). standing_of b lowest) (sym u.same) ∙ all lowest here in
@@ -65,7 +66,7 @@ all-ended threads slot t lowest done ended after here least posted work not all 
       work = record {
         turn = subst (λ (x : Turn). TurnsTo slot.book lowest None x after.book) (sym turn) record { asked = slot.book; posted = refl; row = (u.none, stands, u.same); lawful = work.turn.lawful };
         owes = owes ∙ sym (ap (λ (b : Told). owes_of b lowest) u.same ∙ posted lowest here);
-        wakes = subst (AreBelow slot.book.deal.threads) (sym wakes) (none-below slot.book.deal.threads 64);
+        wakes = subst (WakesBelow slot.book.deal.threads) (sym wakes) tt;
         notes = work.notes;
       };
       tells = subst (λ (x : Turn). TellsEnd threads lowest x after.book) (sym turn) (all, least);

@@ -7,6 +7,7 @@ use Rattle.turn_lock.specs.Slots.{Slot, NotesBelow}
 use Rattle.turn_lock.specs.Rule.{Has, Serves}
 use Rattle.turn_lock.specs.Plays.{Seated}
 use Rattle.turn_lock.specs.Turns.{GivenInRange, IsOwed, TurnsTo, TellsEnd}
+use Rattle.turn_lock.specs.Wakes.{WakesBelow}
 use Rattle.turn_lock.specs.declared.view.View.{View}
 use Rattle.turn_lock.specs.declared.work.Work.{Work}
 
@@ -42,10 +43,6 @@ pub record GoesOn (v : View) (slot after : Slot) : Type 0 where
   pub notes : NotesBelow slot.book.deal.threads after.board
   pub others : (t : ℕ) → (Serves v t → ⊥) → SameOf t slot.book after.book
 
--- each of these words is a thread's
-abbrev pub AreBelow : ℕ → List Bool → Type 0
-AreBelow threads words = (word : ℕ) → Has words word → word < threads
-
 -- no thread of the seat posted or took a step
 pub record Stays (v w : View) : Type 0 where
   pub seen : Within v.seen w.seen
@@ -58,7 +55,7 @@ pub record Stays (v w : View) : Type 0 where
 pub record IsWork (slot : Slot) (t : ℕ) (post : Option Post) (work : Work) (after : Slot) : Type 0 where
   pub turn : TurnsTo slot.book t post work.turn after.book
   pub owes : work.owes ≡ owes_of after.book t
-  pub wakes : AreBelow slot.book.deal.threads work.wakes
+  pub wakes : WakesBelow slot.book.deal.threads work.wakes
   pub notes : NotesBelow slot.book.deal.threads after.board
 
 -- none of the threads has its turn, and the board may have changed

@@ -8,3 +8,4 @@ pub mod Hands
 pub mod Rounds
 pub mod Calls
 pub mod Views
+pub mod Wakes

@@ -1,16 +1,17 @@
-ghost use Rattle.std.specs.Prelude.{◌≡◌, ◌<◌, ◌≤◌, ◌↔◌, ℕ, true, false, None, IfSome};
+ghost use Rattle.std.specs.Prelude.{◌≡◌, ◌<◌, ◌≤◌, ◌↔◌, ℕ, true, false, Some, None, IfSome};
 ghost use Rattle.turn_book.specs.Told.{IsLawful, standing_of};
 ghost use Rattle.turn_lock.specs.Seen.{owes_of};
-ghost use Rattle.turn_lock.specs.Slots.{NotesBelow, new_slot};
+ghost use Rattle.turn_lock.specs.Slots.{NotesBelow, new_slot, word_noted};
 ghost use Rattle.turn_lock.specs.Rule.{Has};
 ghost use Rattle.turn_lock.specs.Turns.{GivenInRange, IsOwed, TurnsTo};
-ghost use Rattle.turn_lock.specs.Hands.{AreBelow, IsWork, IsSwept};
+ghost use Rattle.turn_lock.specs.Hands.{IsWork, IsSwept};
+ghost use Rattle.turn_lock.specs.Wakes.{AreBelow, WakesBelow, AreDue};
 ghost use Rattle.pct_ask.specs.declared.event.Standing.TheVariants as standings;
 
 use crate::board::WaitBoard;
 use crate::turn::Turn;
 use crate::turning::{answer, ask, is_away, settles};
-use crate::work::Work;
+use crate::work::{Wakes, Work};
 use pct_ask::{Post, Standing};
 use policy_pick::Policy;
 use std::marker::Model;
@@ -64,34 +65,52 @@ impl<P: Policy> Slot<P> {
         answer(&mut self.book, thread)
     }
 
-    /// The word that was noted for the thread, if that is wanted.
-    fn noted(&self, thread: u32, wanted: bool) -> Option<u32>
-        requires thread { thread < 64 }
-        requires notes { NotesBelow self.now.book.deal.threads self.now.board }
-        ensures { IfSome result (λ word. word < self.now.book.deal.threads) }
+    /// The word that was noted for the thread.
+    fn noted(&self, thread: u32) -> Option<u32>
+        requires { NotesBelow self.now.book.deal.threads self.now.board }
+        ensures some { IfSome result (λ word. (word_noted self.now.board thread ≡ Some word) × (word < self.now.book.deal.threads)) }
+        ensures none { result ≡ None → thread < 64 → word_noted self.now.board thread ≡ None }
     {
-        if wanted {
+        if thread < 64 {
             self.board.word_of(thread)
         } else {
             None
         }
     }
 
-    /// The turn words to wake: that of the thread whose turn it is, and once an outcome stands every word that was noted.
-    fn wakes(&self) -> [bool; 64]
+    /// Every word that was noted.
+    fn all_noted(&self) -> [bool; 64]
         requires { NotesBelow self.now.book.deal.threads self.now.board }
-        ensures { AreBelow self.now.book.deal.threads result }
+        ensures all { (u word : ℕ) → u < 64 → word_noted self.now.board u ≡ Some word → Has result word }
+        ensures below { AreBelow self.now.book.deal.threads result }
     {
-        let over = self.book.outcome().is_some();
-        let granted = self.book.granted();
         let mut words = [false; 64];
         for thread in 0..64u32 {
-            let wanted = over || granted == Some(thread);
-            if let Some(word) = self.noted(thread, wanted) {
+            if let Some(word) = self.noted(thread) {
                 words[word as usize] = true;
             }
         }
         words
+    }
+
+    /// Whom a call wakes: whoever has its turn, and once an outcome stands everybody.
+    fn wakes(&self) -> Wakes
+        requires { NotesBelow self.now.book.deal.threads self.now.board }
+        ensures due { AreDue self.now result }
+        ensures below { WakesBelow self.now.book.deal.threads result }
+    {
+        if self.book.outcome().is_some() {
+            return Wakes::All {
+                words: self.all_noted(),
+            };
+        }
+        let Some(thread) = self.book.granted() else {
+            return Wakes::Nobody;
+        };
+        match self.noted(thread) {
+            Some(word) => Wakes::One { word },
+            None => Wakes::Nobody,
+        }
     }
 
     /// A turn, with what is told of it.
@@ -101,7 +120,8 @@ impl<P: Policy> Slot<P> {
         requires notes { NotesBelow self.old.book.deal.threads self.old.board }
         requires owed { IsOwed self.old.book thread post }
         requires in_range { GivenInRange self.old.book post }
-        ensures { IsWork self.old thread post result self.new }
+        ensures work { IsWork self.old thread post result self.new }
+        ensures due { AreDue self.new result.wakes }
     {
         let turn = self.turn(thread, post);
         Work {

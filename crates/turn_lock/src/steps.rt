@@ -4,14 +4,15 @@ ghost use Rattle.atomic_table.specs.Table.{step};
 ghost use Rattle.turn_lock.specs.Slots.{Slot};
 ghost use Rattle.turn_lock.specs.Rule.{Serves};
 ghost use Rattle.turn_lock.specs.Plays.{Grabs, Looks, with_book};
-ghost use Rattle.turn_lock.specs.Hands.{HasInHand, IsReady, IsReadyForAny, GoesOn, AreBelow, IsWork, IsSwept};
+ghost use Rattle.turn_lock.specs.Hands.{HasInHand, IsReady, IsReadyForAny, GoesOn, IsWork, IsSwept};
+ghost use Rattle.turn_lock.specs.Wakes.{AreBelow, WakesBelow};
 ghost use Rattle.turn_lock.specs.Seats.{without, alone};
 ghost use Rattle.turn_lock.specs.Calls.{IsTableSeatOf, SameSeat, Idle, made};
 ghost use mathlib.Core.Option.{none};
 
 use crate::held::TurnLock;
 use crate::rule::{Grab, Look, Mark, Open, Part, TableSeat, Which};
-use crate::work::Work;
+use crate::work::{Wakes, Work};
 use pct_ask::Post;
 use policy_pick::Policy;
 
@@ -68,28 +69,43 @@ impl<P: Policy> TurnLock<P> {
     }
 
     /// Adds one to a turn word, and wakes its waiter.
-    fn mark(&self, seat: &mut TableSeat<P>, word: usize)
+    fn mark(&self, seat: &mut TableSeat<P>, word: u32)
         requires of { seat.old.table_id ≡ self.now.table.shared.table_id }
         requires word { word < (made self.now).deal.threads }
         ensures same { SameSeat seat.old seat.new }
         ensures view { seat.new.me ≡ seat.old.me }
     {
-        self.table.shared.fetch_add::<Mark>(seat, word + 1, 1);
-        self.table.shared.wake_one(word + 1);
+        let word = word as usize + 1;
+        self.table.shared.fetch_add::<Mark>(seat, word, 1);
+        self.table.shared.wake_one(word);
     }
 
-    /// Marks each of these turn words. A call does so after it opened the gate: a waiter that looked before the change
-    /// noted its word and read it while it held the book, so it doesn't sleep on the word as it was.
-    pub(crate) fn wake(&self, seat: &mut TableSeat<P>, words: &[bool; 64])
+    /// Marks each of these turn words.
+    fn mark_all(&self, seat: &mut TableSeat<P>, words: &[bool; 64])
         requires of { seat.old.table_id ≡ self.now.table.shared.table_id }
         requires words { AreBelow (made self.now).deal.threads words.now }
         ensures same { SameSeat seat.old seat.new }
         ensures view { seat.new.me ≡ seat.old.me }
     {
-        for word in 0..64usize {
-            if words[word] {
+        for word in 0..64u32 {
+            if words[word as usize] {
                 self.mark(seat, word);
             }
+        }
+    }
+
+    /// Marks the turn words of those who may go on. A call does so after it opened the gate: a waiter that looked before the
+    /// change noted its word and read it while it held the book, so it doesn't sleep on the word as it was.
+    pub(crate) fn wake(&self, seat: &mut TableSeat<P>, wakes: &Wakes)
+        requires of { seat.old.table_id ≡ self.now.table.shared.table_id }
+        requires words { WakesBelow (made self.now).deal.threads wakes.now }
+        ensures same { SameSeat seat.old seat.new }
+        ensures view { seat.new.me ≡ seat.old.me }
+    {
+        match wakes {
+            Wakes::Nobody => {}
+            Wakes::One { word } => self.mark(seat, *word),
+            Wakes::All { words } => self.mark_all(seat, words),
         }
     }
 

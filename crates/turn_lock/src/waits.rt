@@ -19,10 +19,12 @@ use policy_pick::Policy;
 use std::sync::Wait;
 use std::thread::yield_now;
 
-/// How often a waiting thread looks at its turn word, and yields, before it sleeps. Measured with four quiet processors on
-/// two threads that hand the turn to each other by semaphores: 740,000 steps a second, and 330,000 where they sleep at once;
-/// pinned to one processor 750,000, and 700,000.
-const LOOKS: u32 = 50;
+/// How often a waiting thread looks at its turn word, and yields, before it sleeps. Measured with four quiet processors: two
+/// threads that hand the turn to each other by semaphores make a little over 1,000,000 steps a second with 10 looks as with
+/// 1,000, and 360,000 where they sleep at once; a bounded buffer of three threads makes 650,000 with 200 or 1,000 looks,
+/// 620,000 with 50, and 480,000 with 10 or none. Pinned to one processor, 10 looks do as well as 1,000, and none up to a tenth
+/// less.
+const LOOKS: u32 = 200;
 
 impl<P: Policy> TurnLock<P> {
     /// As `try_turn` with a post, and tries again while another seat holds the gate.

@@ -1,6 +1,17 @@
-ghost use Rattle.std.specs.Prelude.{◌≡◌, false, replicate};
+ghost use Rattle.std.specs.Prelude.{◌≡◌, false};
 
 use crate::turn::Turn;
+
+/// The turn words that a call changes after it opened the gate, and whose waiters it wakes.
+#[derive(Clone, Copy, Debug)]
+pub enum Wakes {
+    /// It is nobody's turn, or no word was noted for the thread whose turn it is.
+    Nobody,
+    /// The word of the thread whose turn it is.
+    One { word: u32 },
+    /// The run is over: every word that was noted.
+    All { words: [bool; 64] },
+}
 
 /// What a call made of the book while it had it.
 #[derive(Clone, Copy, Debug)]
@@ -8,8 +19,7 @@ pub struct Work {
     pub turn: Turn,
     /// The thread's next post is owed afterwards.
     pub owes: bool,
-    /// The turn words of those that may go on.
-    pub wakes: [bool; 64],
+    pub wakes: Wakes,
 }
 
 impl Work {
@@ -17,12 +27,12 @@ impl Work {
     pub fn ended() -> Work
         ensures turn { result.turn ≡ Turn.Ended }
         ensures owes { result.owes ≡ false }
-        ensures wakes { result.wakes ≡ replicate 64 false }
+        ensures wakes { result.wakes ≡ Wakes.Nobody }
     {
         Work {
             turn: Turn::Ended,
             owes: false,
-            wakes: [false; 64],
+            wakes: Wakes::Nobody,
         }
     }
 }

@@ -1,5 +1,5 @@
-use Rattle.turn_lock.proofs.Rows.{none-below}
-use Rattle.turn_lock.proofs.slot.Slot.wakes.Goals as goal
+use Rattle.turn_lock.proofs.Waking.{noted-first}
+use Rattle.turn_lock.proofs.slot.Slot.all_noted.Goals as goal
 
 pub loop-thread-init : goal.loop-thread-init
-loop-thread-init g c = λ w h. none-below _ 64 w h
+loop-thread-init g c = noted-first _ _

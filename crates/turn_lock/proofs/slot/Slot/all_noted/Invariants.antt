@@ -1,5 +1,5 @@
-use Rattle.turn_lock.specs.Hands.{AreBelow}
-use Rattle.turn_lock.proofs.slot.Slot.wakes.Given as goal
+use Rattle.turn_lock.proofs.Waking.{HasNoted}
+use Rattle.turn_lock.proofs.slot.Slot.all_noted.Given as goal
 
 abbrev pub invariant-loop-thread : goal.invariant-loop-thread
-invariant-loop-thread g l = AreBelow l.self.book.deal.threads l.words
+invariant-loop-thread g l = HasNoted l.self.board l.self.book.deal.threads l.thread l.words
