@@ -1,6 +1,6 @@
 #!/usr/bin/env python3
-"""A plain model of `pct run` and `pct replay`, written from the description of the language and the files and not from
-the crates. It is a second opinion: the cases under tests/cases are typed by hand or come from it, never from the program.
+"""A plain model of pct, written from the description of the language and the files and not from the crates. It is a
+second opinion: the cases under tests/cases are typed by hand or come from it, never from the program.
 
     python3 tests/model.py run FILE --order A,B,C
 
@@ -13,14 +13,17 @@ sys.dont_write_bytecode = True
 sys.setrecursionlimit(10000)  # an expression has parts within parts
 sys.set_int_max_str_digits(0)
 
-from chacha import draws
+from model_campaign import Frame, big_script, drawn, groups_of, json_line, rows_of, steps_in_declared_order, text_lines
+from model_directive import Directive, certify, directed_run, directive_lines, points_of, read_directive
+from model_find import moments_of, reduced
+from model_locks import Nesting, is_good, lock_order, nestings_of
+from model_races import races_of
 from model_run import Event, replay, run
-from model_script import Faulty, is_name, parse
-from model_trace import Trace, number_of, read_trace, step_line, trace_lines
+from model_script import Faulty, parse
+from model_trace import Trace, read_trace, step_line, trace_lines
+from model_words import NotTaken, read_words
 
-BY_ORDER, BY_SEED = {"--order": True, "--points": False}, {"--seed": True, "--depth": True, "--steps": False}
-RANGES = {"--limit": (1, 100000), "--steps": (1, 100000), "--depth": (1, 8), "--seed": (0, 2**64 - 1)}
-DONE, FOUND, USAGE, BAD_SCRIPT, BAD_TRACE, READ_FAULT, WRITE_FAULT = 0, 1, 2, 3, 4, 6, 7
+DONE, FOUND, USAGE, BAD_SCRIPT, BAD_TRACE, BAD_DIRECTIVE, READ_FAULT, WRITE_FAULT = range(8)
 
 
 class Refused(Exception):
@@ -29,36 +32,6 @@ class Refused(Exception):
 
 def usage(number):
     return Refused(USAGE, f"usage: word {number}")
-
-
-def value_of(option, word):
-    """What the word gives to the option, or None where it isn't lawful."""
-    if option == "--order":
-        names = word.split(",")
-        return names if len(names) <= 64 and all(map(is_name, names)) else None
-    if option == "--points":
-        points = [number_of(item, 1, 100000) for item in word.split(",")]
-        return points if len(points) <= 7 and None not in points else None
-    return number_of(word, *RANGES[option])
-
-
-def read_options(words):
-    """The options of a run by name, with the number of the order's value. The words begin with the run's third."""
-    values, places = {}, {}
-    for at in range(0, len(words), 2):
-        option, number = words[at], at + 3
-        forms = [form for form in (BY_ORDER, BY_SEED) if option in form]
-        others = BY_SEED if forms == [BY_ORDER] else BY_ORDER if forms else {}
-        if (not forms and option != "--limit") or option in values or values.keys() & others.keys():
-            raise usage(number)
-        values[option] = value_of(option, words[at + 1]) if at + 1 < len(words) else None
-        places[option] = number + 1
-        if values[option] is None:
-            raise usage(number + 1)
-    is_whole = lambda form: all(name in values for name, is_needed in form.items() if is_needed)
-    if not is_whole(BY_ORDER) and not is_whole(BY_SEED):
-        raise usage(len(words) + 3)
-    return values, places
 
 
 def read_file(name, most):
@@ -77,36 +50,57 @@ def read_script(name):
         raise Refused(BAD_SCRIPT, f"script: line {fault.line} {fault.kind}")
 
 
-def drawn(script, options, limit):
-    """The order and the points of a seed."""
-    names, count = list(script.threads), options["--depth"] - 1
-    steps = options.get("--steps") or max(1, len(run(script, names, [], limit)[0]))
-    _, order, points = draws(options["--seed"], len(names), steps, count)
-    return [names[place] for place in order], points
+def steps_to_draw_from(script, settings, limit):
+    return settings.options.get("--steps") or steps_in_declared_order(script, limit)
 
 
-def run_command(words):
-    if len(words) < 2:
-        raise usage(2)
-    options, places = read_options(words[2:])
-    script = read_script(words[1])
+def refuse_other_order(script, settings):
+    """An order that is given names every thread once."""
+    if sorted(settings.options["--order"]) != sorted(script.threads):
+        raise usage(settings.places["--order"])
+
+
+def scheduled(settings):
+    """The script, and the order, the points and the limit of its run."""
+    script, options = read_script(settings.before[0]), settings.options
     limit = options.get("--limit", 10000)
     if "--order" in options:
-        order, points = options["--order"], options.get("--points", [])
-        if sorted(order) != sorted(script.threads):
-            raise usage(places["--order"])
-    else:
-        order, points = drawn(script, options, limit)
-    events, verdict = run(script, order, points, limit)
-    trace = Trace(2 if script.version == 3 else 1, order, points, limit, events, verdict)
-    return trace_lines(trace), DONE if verdict == "passed" else FOUND
+        refuse_other_order(script, settings)
+        return script, options["--order"], options.get("--points", []), limit
+    steps = steps_to_draw_from(script, settings, limit)
+    return script, *drawn(script, options["--seed"], options["--depth"], steps), limit
 
 
-def replay_command(words):
-    if len(words) != 3:
-        raise usage(min(len(words) + 1, 4))
-    script = read_script(words[1])
-    data = read_file(words[2], 16777217)
+def trace_of(script, order, points, limit, events, verdict):
+    return trace_lines(Trace(2 if script.version == 3 else 1, order, points, limit, events, verdict))
+
+
+def run_command(settings):
+    scheduled_run = scheduled(settings)
+    events, verdict = run(*scheduled_run)
+    return trace_of(*scheduled_run, events, verdict), DONE if verdict == "passed" else FOUND
+
+
+def races_command(settings):
+    script, *schedule = scheduled(settings)
+    races = races_of(script, run(script, *schedule)[0])
+    lines = [f"race {race.var} {race.first} {race.second}" for race in races]
+    return [*lines, f"races {len(races)}"], FOUND if races else DONE
+
+
+def locks_command(settings):
+    script, *schedule = scheduled(settings)
+    nestings = nestings_of(script, run(script, *schedule)[0])
+    report = lock_order(script, nestings)
+    assert is_good(script, nestings, report)
+    if not report or not isinstance(report[0], Nesting):
+        return [" ".join(["order", *report])], DONE
+    return [*(" ".join(map(str, ("nest", *nest))) for nest in report), f"cycle {len(report)}"], FOUND
+
+
+def replay_command(settings):
+    script = read_script(settings.before[0])
+    data = read_file(settings.before[1], 16777217)
     try:
         trace = read_trace(data, script)
     except Faulty as fault:
@@ -121,12 +115,80 @@ def replay_command(words):
     return [f"departs {step}", f"written {written}", f"found {found}"], FOUND
 
 
+def campaign_command(settings):
+    script, options = read_script(settings.before[0]), settings.options
+    limit, depth = options.get("--limit", 10000), options["--depth"]
+    steps = steps_to_draw_from(script, settings, limit)
+    rows = rows_of(script, options["--from"], options["--count"], depth, steps, limit)
+    frame, groups = Frame(len(script.threads), steps, depth, limit), groups_of(rows)
+    report = [json_line(frame, rows, groups)] if options.get("--form") == "json" else text_lines(frame, rows, groups)
+    return report, FOUND if groups else DONE
+
+
+def big_command(settings):
+    text, limit = big_script(int(settings.before[0])), 10000
+    script = parse(text.encode())
+    steps = steps_in_declared_order(script, limit)
+    rows = rows_of(script, 1, 20, 3, steps, limit)
+    failures = [row for row in rows if row.verdict != "passed"]
+    values = {"lines": len(text.splitlines()), "steps": steps, "runs": len(rows), "failures": len(failures)}
+    values["groups"] = len(groups_of(rows))
+    return [f"{name} {value}" for name, value in values.items()], FOUND if failures else DONE
+
+
+def directive_of(settings, script):
+    data = read_file(settings.before[1], 65537)
+    try:
+        return read_directive(data, script)
+    except Faulty as fault:
+        raise Refused(BAD_DIRECTIVE, f"directive: line {fault.line} {fault.kind}")
+
+
+def expose_command(settings):
+    script, options = read_script(settings.before[0]), settings.options
+    refuse_other_order(script, settings)
+    directive = directive_of(settings, script)
+    order, steps, limit = options["--order"], options["--steps"], options.get("--limit", 10000)
+    directed = directed_run(script, order, directive.events, limit)
+    if len(directed[0]) > steps:
+        return [f"toolong {len(directed[0])}"], FOUND
+    points = points_of(directed[0], directive.events, steps)
+    events, verdict = run(script, order, points, limit)
+    assert (events, verdict) == directed
+    return trace_of(script, order, points, limit, events, verdict), DONE if verdict == directive.verdict else FOUND
+
+
+def certify_command(settings):
+    script, options = read_script(settings.before[0]), settings.options
+    directive = directive_of(settings, script)
+    lines, is_certified = certify(script, directive, options["--steps"], options.get("--limit", 10000))
+    return lines, DONE if is_certified else FOUND
+
+
+def find_command(settings):
+    script, order, points, limit = scheduled(settings)
+    events, verdict = run(script, order, points, limit)
+    if verdict == "passed":
+        return [f"passes {len(events)}"], DONE
+    moments = moments_of(events, points)
+    assert directed_run(script, order, moments, limit) == (events, verdict)
+    return directive_lines(Directive(order[-1], reduced(script, order, moments, verdict, limit), verdict)), FOUND
+
+
+COMMANDS = {
+    "run": run_command, "replay": replay_command, "campaign": campaign_command, "big": big_command, "races": races_command,
+    "locks": locks_command, "expose": expose_command, "certify": certify_command,
+    "find": find_command,
+}
+
+
 def answer(words):
     """The lines of the output and the status."""
-    commands = {"run": run_command, "replay": replay_command}
-    if not words or words[0] not in commands:
-        raise usage(1)
-    return commands[words[0]](words)
+    try:
+        settings = read_words(words)
+    except NotTaken as refusal:
+        raise usage(refusal.args[0])
+    return COMMANDS[settings.command](settings)
 
 
 def say(line):

@@ -316,10 +316,11 @@ class World:
         body.answer(answer)
 
 
-def run(script, order, points, limit):
-    """The events and the verdict of the run: each step is by the enabled thread of the greatest value."""
-    world, depth = World(script), len(points) + 1
-    values = {name: depth + len(order) - 1 - place for place, name in enumerate(order)}
+def ranked_run(script, order, many, limit, is_given):
+    """The events and the verdict of the run: each step is by the enabled thread of the greatest value. Right after a step its
+    thread has the value i, in 1..many, where `is_given(i, events, thread)`."""
+    world = World(script)
+    values = {name: many + len(order) - place for place, name in enumerate(order)}
     while not world.verdict:
         ready = world.ready()
         if not ready:
@@ -329,10 +330,15 @@ def run(script, order, points, limit):
         else:
             chosen = max(ready, key=values.get)
             world.step(chosen)
-            for index, point in enumerate(points, 1):
-                if point == len(world.events):
+            for index in range(1, many + 1):
+                if is_given(index, world.events, chosen):
                     values[chosen] = index
     return world.events, world.verdict
+
+
+def run(script, order, points, limit):
+    """The run of an order and change points: the i-th point gives its value to the thread of the step of its number."""
+    return ranked_run(script, order, len(points), limit, lambda index, events, _: points[index - 1] == len(events))
 
 
 def replay(script, trace):

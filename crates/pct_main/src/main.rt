@@ -1,11 +1,10 @@
 //! The program `pct`: a tester for threaded code that shows the orderings that ordinary runs seldom meet.
 #![tactic(auto)]
 
-ghost use Rattle.std.specs.Prelude.{◌≡◌, ◌⊎◌};
-ghost use Rattle.pct_outside.specs.Counter.{Rose};
-ghost use Rattle.pct_outside.specs.Piece.{Appended};
+ghost use Rattle.std.specs.Prelude.{◌≡◌};
 ghost use Rattle.pct_top.specs.Refusing.{status_of_refusal, refusal_line};
 ghost use Rattle.pct_top.specs.Saying.{Says};
+ghost use Rattle.pct_main.specs.Own.{IsPut};
 
 mod own;
 
@@ -38,15 +37,46 @@ fn refusal_of(error: &io::Error) -> Refusal {
 /// Says why a call gives no output.
 fn refuse<E: Sink>(err: &mut E, refusal: &Refusal) -> Status
     ensures status { result ≡ status_of_refusal refusal.now }
-    ensures said { Says (refusal_line refusal.now) (E.written err.old) (E.written err.new) (Rose (E.faults err.old) (E.faults err.new) ⊎ Rose (E.shorts err.old) (E.shorts err.new)) }
+    ensures said { Says (refusal_line refusal.now)
+        (record {
+          written = E.written err.old;
+          faults = E.faults err.old;
+          shorts = E.shorts err.old;
+        })
+        (record {
+          written = E.written err.new;
+          faults = E.faults err.new;
+          shorts = E.shorts err.new;
+        }) }
 {
     say(err, refusal);
     refusal.status()
 }
 
-/// The program's own answer, put on the output.
+/// The program's own answer, put on the output, or the line that says why not on the error stream.
 fn put_answer<O: Sink, E: Sink>(out: &mut O, err: &mut E, text: &str) -> Status
-    ensures done { result ≡ Status.Done → Appended text.now (O.written out.old) (O.written out.new) }
+    ensures { IsPut text.now
+        (record {
+          written = O.written out.old;
+          faults = O.faults out.old;
+          shorts = O.shorts out.old;
+        })
+        (record {
+          written = O.written out.new;
+          faults = O.faults out.new;
+          shorts = O.shorts out.new;
+        })
+        (record {
+          written = E.written err.old;
+          faults = E.faults err.old;
+          shorts = E.shorts err.old;
+        })
+        (record {
+          written = E.written err.new;
+          faults = E.faults err.new;
+          shorts = E.shorts err.new;
+        })
+        result }
 {
     match out.put(text.as_bytes()) {
         Ok(()) => Status::Done,

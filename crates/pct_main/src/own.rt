@@ -6,22 +6,28 @@ ghost use Rattle.pct_main.specs.Own as own;
 
 /// What `pct --help` answers.
 const HELP: &str = "\
-pct runs a test script of threads under one order of their priorities, and prints the run's trace;
-or it replays such a trace.
+pct runs a test script of threads under one order of their priorities, and prints the run's trace,
+its data races, its lock order or a directive for its failure; or it runs a script under the
+priorities of many seeds and ranks the failures; or it replays a trace.
 
 usage: pct run FILE --order NAMES [--points STEPS] [--limit STEPS]
        pct run FILE --seed NUMBER --depth DEPTH [--steps STEPS] [--limit STEPS]
+       pct races FILE ..   pct locks FILE ..   pct find FILE ..   (the options of run)
+       pct campaign FILE --from NUMBER --count RUNS --depth DEPTH [--steps STEPS] [--limit STEPS]
+           [--form text|json]
        pct replay FILE TRACE
+       pct big PIECES
        pct --help
        pct --version
 
 FILE is the script. NAMES are all its threads, joined by commas, the highest priority first, and
 the points are the numbers of the steps after which the thread that took the step is lowered. A
 seed draws the order and the points, one less of them than the depth. A run has at most so many
-steps as its limit says, 10000 where it says nothing.
-The status is 0 where the run passes or the trace is confirmed, 1 where not, 2 for a word that
-isn't taken, 3 and 4 for files that are no script and no trace, 6 and 7 for files and output that
-can't be read or written, and 8 where there is no memory.
+steps as its limit says, 10000 where it says nothing. A campaign runs so many seeds from the first
+one on; big does so with a large script of its own.
+The status is 0 where each run passes, there are no races, there is a lock order or the trace is
+confirmed, 1 where not, 2 for a word that isn't taken, 3 and 4 for files that are no script and no
+trace, 6 and 7 for files and output that can't be read or written, and 8 where there is no memory.
 ";
 
 /// What `pct --version` answers.

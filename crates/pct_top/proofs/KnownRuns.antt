@@ -40,9 +40,9 @@ use Rattle.turn_book.proofs.More.{settled-at}
 use Rattle.turn_book.proofs.Worlds.{Steps, steps-from, event_of, effect-is, made-from}
 use Rattle.worker_run.specs.Bodies.{Pending, nobody, pending_of, source_of_bodies}
 use Rattle.worker_run.specs.Played.{IsPlayed}
-use Rattle.replay_run.specs.Replay.{bodies_of}
+use Rattle.script_body.specs.Bodies.{bodies_of}
 use Rattle.trace_text.specs.Lawful.{HasObjects, NamesKnown}
-use Rattle.pct_top.specs.Output.{trace_version}
+use Rattle.pct_top.specs.Runs.{trace_version}
 use Rattle.pct_top.specs.Known.{IsKnownVerdict, AreKnown}
 
 second : (script : ScriptText) (l : ℕ) → rwlocks_fit script.version (script.names).rwlocks ≡ true → l < length (script.names).rwlocks → trace_version script ≡ 2

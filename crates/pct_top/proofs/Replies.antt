@@ -22,9 +22,10 @@ use Rattle.replay_run.specs.declared.answer.Written.TheVariants as written
 use Rattle.replay_run.specs.declared.answer.Found.TheVariants as found
 use Rattle.replay_run.specs.declared.answer.Replayed.{Replayed}
 use Rattle.replay_run.specs.declared.answer.Replayed.TheVariants.{Confirmed, Departs}
-use Rattle.replay_run.specs.Replay.{bodies_of, IsReplay}
-use Rattle.pct_top.specs.Output.{trace_version}
-use Rattle.pct_top.specs.Known.{IsKnownStep, IsKnownReply}
+use Rattle.script_body.specs.Bodies.{bodies_of}
+use Rattle.replay_run.specs.Replay.{IsReplay}
+use Rattle.pct_top.specs.Runs.{trace_version}
+use Rattle.pct_top.specs.commands.KnownReply.{IsKnownStep, IsKnownReply}
 use Rattle.pct_top.proofs.KnownRuns.{known-steps, known-run}
 
 -- what is known in a version is known in the second

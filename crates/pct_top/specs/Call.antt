@@ -1,134 +1,149 @@
--- What a call of the program does to the shelf, the output and the error stream, by its answer.
-use Rattle.std.specs.Prelude.{◌≡◌, ℕ, ◌⊎◌, List, [], ◌++◌, take, Option, Some, Result, Ok, Err}
+-- What a call of the program does to what is outside of it, by its status. No clause here knows a command.
+use Rattle.std.specs.Prelude.{◌≡◌, ℕ, ◌⊎◌, List, [], ◌++◌, Option, Some, Result, Ok, Err}
 use Rattle.std.specs.List.{Contains}
+use Rattle.pct_outside.specs.Counter.{Rose}
 use Rattle.pct_outside.specs.Piece.{Appended, AppendedPart}
 use Rattle.script_tree.specs.ScriptText.{ScriptText}
 use Rattle.script_tree.specs.Grammar.{Spells}
-use Rattle.trace_text.specs.declared.file.TraceFile.{TraceFile}
-use Rattle.trace_text.specs.Trace.{IsTrace}
 use Rattle.pct_top.specs.declared.refusal.Refusal.{Refusal}
 use Rattle.pct_top.specs.declared.refusal.Refusal.TheVariants.{Usage, Script, Trace, Read, Write, Memory}
-use Rattle.pct_top.specs.declared.settings.RunForm.{RunForm}
-use Rattle.pct_top.specs.declared.settings.RunForm.TheVariants.{Ordered, Seeded}
-use Rattle.pct_top.specs.declared.settings.Settings.TheVariants.{Run, Replay}
+use Rattle.pct_top.specs.declared.settings.Settings.{Settings}
 use Rattle.pct_top.specs.declared.status.Status.{Status}
 use Rattle.pct_top.specs.declared.status.Status.TheVariants as statuses
-use Rattle.pct_top.specs.declared.outcome.Outcome.{Outcome}
-use Rattle.pct_top.specs.Settings.{Taken}
+use Rattle.pct_top.specs.Settings.{Taken, settings}
 use Rattle.pct_top.specs.Refusing.{refusal_line}
-use Rattle.pct_top.specs.Ordered.{NamesAll}
-use Rattle.pct_top.specs.Output.{Printed, refused, script_bytes, trace_bytes, OfTaken}
-use Rattle.pct_top.specs.Outcome.{printed_of}
+use Rattle.pct_top.specs.Ordered.{OrderFits}
+use Rattle.pct_top.specs.Printed.{Files, Printed, refused}
+use Rattle.pct_top.specs.Output.{script_file, script_text, order_given, second_file, SecondFits, OfTaken, Output}
+use Rattle.pct_top.specs.Outcome.{Shows}
+use Rattle.pct_top.specs.Files.{Misses}
+use Rattle.pct_top.specs.Outside.{ShelfTold, StreamTold, Outside}
 use Rattle.pct_top.specs.Saying.{Says}
-
--- where the files are told, what is printed has this
-abbrev pub IsPrinted : Taken → Option (List ℕ → List ℕ) → (Printed → Type 0) → Type 0
-IsPrinted taken told has = (files : List ℕ → List ℕ) → told ≡ Some files → (printed : Printed) × OfTaken taken files printed × has printed
 
 -- ---- reads that failed
 
 -- Names were added to those of the failed reads, and this is one of them.
 abbrev pub Gained : List ℕ → List (List ℕ) → List (List ℕ) → Type 0
-Gained name failed failed' = (more : List (List ℕ)) × (failed' ≡ failed ++ more) × Contains more name
+Gained name failed failed' =
+    (more : List (List ℕ)) × (failed' ≡ failed ++ more) × Contains more name
 
--- the script's file
+-- The words are taken, and this is the file of the script.
 abbrev pub ReadsScript : Taken → List ℕ → Type 0
-ReadsScript (Ok (Run file form limit)) name = name ≡ file
-ReadsScript (Ok (Replay file trace)) name = name ≡ file
+ReadsScript (Ok settings) name = script_file settings ≡ Some name
 ReadsScript (Err number) name = ⊥
 
--- the second file
-abbrev pub ReadsTrace : Taken → List ℕ → Type 0
-ReadsTrace (Ok (Replay file trace)) name = name ≡ trace
-ReadsTrace taken name = ⊥
+-- and this is the second file
+abbrev pub ReadsSecond : Taken → List ℕ → Type 0
+ReadsSecond (Ok settings) name = second_file settings ≡ Some name
+ReadsSecond (Err number) name = ⊥
 
--- The second file is read where the first one spells a script. This is said where the files are told.
-abbrev pub IsReached : Taken → Option (List ℕ → List ℕ) → Type 0
-IsReached taken told =
-    (files : List ℕ → List ℕ) → told ≡ Some files → (file : List ℕ) → ReadsScript taken file → (script : ScriptText) × Spells (take script_bytes (files file)) script
+-- the text spells a script, and the order that the words give, if any, fits
+abbrev pub ComesToSecond : Settings → Files → Type 0
+ComesToSecond settings files =
+    (script : ScriptText) × Spells (script_text settings files) script
+    × OrderFits script.names (order_given settings)
+
+-- The order of work comes to the second file. This is said where the files are told.
+abbrev pub IsReached : Taken → Option Files → Type 0
+IsReached (Ok settings) told = (files : Files) → told ≡ Some files → ComesToSecond settings files
+IsReached (Err number) told = ⊥
 
 -- the name of a file that the call reads was added to those of the failed reads
-abbrev pub ReadFailed : Taken → Option (List ℕ → List ℕ) → List (List ℕ) → List (List ℕ) → Type 0
-ReadFailed taken told failed failed' =
-    (name : List ℕ) × Gained name failed failed' × (ReadsScript taken name ⊎ (ReadsTrace taken name × IsReached taken told))
+abbrev pub ReadFailed : Taken → ShelfTold → ShelfTold → Type 0
+ReadFailed taken before after =
+    (name : List ℕ) × Gained name before.failed after.failed
+    × (ReadsScript taken name ⊎ (ReadsSecond taken name × IsReached taken before.files))
 
--- ---- the answer, before anything is put or said
-
--- a run or a replay was made
-abbrev pub OfRun : Status → Type 0
-OfRun statuses.Done = Unit {0}
-OfRun statuses.Found = Unit {0}
-OfRun status = ⊥
-
--- this is what is to be printed, where the files are told
-abbrev pub Shows : Taken → Option (List ℕ → List ℕ) → Printed → Type 0
-Shows taken told printed = (files : List ℕ → List ℕ) → told ≡ Some files → OfTaken taken files printed
-
--- What comes of the settings: a text with a status, or why there is none.
-abbrev pub Comes : Taken → Option (List ℕ → List ℕ) → List (List ℕ) → List (List ℕ) → Result Outcome Refusal → Type 0
-Comes taken told failed failed' (Ok outcome) = OfRun outcome.status × Shows taken told (printed_of outcome)
-Comes taken told failed failed' (Err (Usage n)) = Shows taken told (refused (Usage n))
-Comes taken told failed failed' (Err (Script line kind)) = Shows taken told (refused (Script line kind))
-Comes taken told failed failed' (Err (Trace line kind)) = Shows taken told (refused (Trace line kind))
-Comes taken told failed failed' (Err Read) = ReadFailed taken told failed failed'
-Comes taken told failed failed' (Err Write) = ⊥
-Comes taken told failed failed' (Err Memory) = Unit {0}
+-- of a command over its script, the same: its second file is reached, and the read failed
+abbrev pub MissesSecond : Settings → ScriptText → List (List ℕ) → List (List ℕ) → Type 0
+MissesSecond settings script failed failed' =
+    Misses (second_file settings) failed failed' × OrderFits script.names (order_given settings)
 
 -- ---- the answer, before anything is said on the error stream
 
--- the whole output was put, and nothing is to be said on the error stream
-abbrev pub PutsAll : Option (List ℕ) → Option (List ℕ) → Status → Printed → Type 0
-PutsAll before after status printed = Appended printed.out before after × (status ≡ printed.status) × (printed.err ≡ [])
+-- a command was carried out
+abbrev pub IsAnswer : Status → Type 0
+IsAnswer statuses.Done = Unit {0}
+IsAnswer statuses.Found = Unit {0}
+IsAnswer status = ⊥
+
+-- where the files are told, what is printed for the words has this
+abbrev pub PrintsOne : Taken → Option Files → (Printed → Type 0) → Type 0
+PrintsOne taken told has =
+    (files : Files) → told ≡ Some files
+    → (printed : Printed) × OfTaken taken files printed × has printed
+
+-- the output was put whole, and nothing is to be said on the error stream
+abbrev pub PutsAll : StreamTold → StreamTold → Status → Printed → Type 0
+PutsAll before after status printed =
+    Appended printed.out before.written after.written
+    × (status ≡ printed.status) × (printed.err ≡ [])
 
 -- a part of the output was put, and nothing was to be said on the error stream
-abbrev pub PutsPart : Option (List ℕ) → Option (List ℕ) → Printed → Type 0
-PutsPart before after printed = (printed.err ≡ []) × AppendedPart printed.out before after
+abbrev pub PutsPart : StreamTold → StreamTold → Printed → Type 0
+PutsPart before after printed =
+    (printed.err ≡ []) × AppendedPart printed.out before.written after.written
+
+-- the output's fault shows
+abbrev pub IsRefusing : StreamTold → StreamTold → Type 0
+IsRefusing before after = Rose before.faults after.faults
 
 -- This is put, or a part of it where the output's fault shows or there is no memory.
-abbrev pub PutsOutcome : Printed → Option (List ℕ) → Option (List ℕ) → Type 0 → Result Status Refusal → Type 0
-PutsOutcome printed written written' fault (Ok status) = PutsAll written written' status printed
-PutsOutcome printed written written' fault (Err Write) = fault × AppendedPart printed.out written written'
-PutsOutcome printed written written' fault (Err Memory) = AppendedPart printed.out written written'
-PutsOutcome printed written written' fault (Err refusal) = ⊥
+abbrev pub PutsOutcome : Printed → StreamTold → StreamTold → Result Status Refusal → Type 0
+PutsOutcome printed before after (Ok status) = PutsAll before after status printed
+PutsOutcome printed before after (Err Write) =
+    IsRefusing before after × AppendedPart printed.out before.written after.written
+PutsOutcome printed before after (Err Memory) =
+    AppendedPart printed.out before.written after.written
+PutsOutcome printed before after (Err refusal) = ⊥
 
--- Where the words aren't taken, the answer says which, want of memory aside.
+-- where the words aren't taken, the answer says which, want of memory aside
 abbrev pub RefusedFirst : Taken → Result Status Refusal → Type 0
 RefusedFirst (Ok settings) answer = Unit {0}
 RefusedFirst (Err number) (Err (Usage word)) = word ≡ number
 RefusedFirst (Err number) (Err Memory) = Unit {0}
 RefusedFirst (Err number) answer = ⊥
 
--- The answer of a call. `written` is told before and after it, `failed` are the names of failed reads, and `fault` says
--- that the output's count of faults rose.
-abbrev pub Answers : Taken → Option (List ℕ → List ℕ) → List (List ℕ) → List (List ℕ) → Option (List ℕ) → Option (List ℕ) → Type 0 → Result Status Refusal → Type 0
-Answers taken files failed failed' written written' fault (Ok status) = OfRun status × IsPrinted taken files (PutsAll written written' status)
-Answers taken files failed failed' written written' fault (Err (Usage n)) = (written' ≡ written) × Shows taken files (refused (Usage n))
-Answers taken files failed failed' written written' fault (Err (Script line kind)) = (written' ≡ written) × Shows taken files (refused (Script line kind))
-Answers taken files failed failed' written written' fault (Err (Trace line kind)) = (written' ≡ written) × Shows taken files (refused (Trace line kind))
-Answers taken files failed failed' written written' fault (Err Read) = (written' ≡ written) × ReadFailed taken files failed failed'
-Answers taken files failed failed' written written' fault (Err Write) = fault × IsPrinted taken files (PutsPart written written')
-Answers taken files failed failed' written written' fault (Err Memory) = (written' ≡ written) ⊎ IsPrinted taken files (λ printed. AppendedPart printed.out written written')
+-- nothing is put, and this refusal may be printed
+abbrev pub ShowsRefusal : Taken → Option Files → StreamTold → StreamTold → Refusal → Type 0
+ShowsRefusal taken told before after refusal =
+    (after ≡ before) × Shows (OfTaken taken) told (refused refusal)
+
+-- The answer of a call: what it does to the shelf, and to the output.
+abbrev pub Answers :
+    Taken → ShelfTold → ShelfTold → StreamTold → StreamTold → Result Status Refusal → Type 0
+Answers taken shelf shelf' before after (Ok status) =
+    IsAnswer status × PrintsOne taken shelf.files (PutsAll before after status)
+Answers taken shelf shelf' before after (Err (Usage n)) =
+    ShowsRefusal taken shelf.files before after (Usage n)
+Answers taken shelf shelf' before after (Err (Script line kind)) =
+    ShowsRefusal taken shelf.files before after (Script line kind)
+Answers taken shelf shelf' before after (Err (Trace line kind)) =
+    ShowsRefusal taken shelf.files before after (Trace line kind)
+Answers taken shelf shelf' before after (Err Read) =
+    (after ≡ before) × ReadFailed taken shelf shelf'
+Answers taken shelf shelf' before after (Err Write) =
+    IsRefusing before after × PrintsOne taken shelf.files (PutsPart before after)
+Answers taken shelf shelf' before after (Err Memory) =
+    (after ≡ before) ⊎ PrintsOne taken shelf.files (PutsPart before after)
 
 -- ---- the whole call, by its status
 
--- the order that the form gives names every thread once; a seed has none
-abbrev pub OrderFits : ScriptText → RunForm → Type 0
-OrderFits script (Ordered order points) = (threads : List ℕ) × NamesAll script.names order.items threads
-OrderFits script (Seeded seed depth steps) = Unit {0}
-
 -- the files are in their grammars, and an order fits
-abbrev pub CanRun : Taken → (List ℕ → List ℕ) → Type 0
-CanRun (Ok (Run file form limit)) files = (script : ScriptText) × Spells (take script_bytes (files file)) script × OrderFits script form
-CanRun (Ok (Replay file trace)) files =
-    (script : ScriptText) × Spells (take script_bytes (files file)) script × ((told : TraceFile) × IsTrace (take trace_bytes (files trace)) script.names told)
+abbrev pub CanRun : Taken → Files → Type 0
+CanRun (Ok settings) files =
+    (script : ScriptText) × Spells (script_text settings files) script
+    × OrderFits script.names (order_given settings) × SecondFits settings files script
 CanRun (Err number) files = ⊥
 
 -- Words that are taken, files in their grammars, an order that fits, no failed read of these files and no fault of the
--- output give a run or a replay, want of memory aside.
-abbrev pub Completes : Taken → Option (List ℕ → List ℕ) → List (List ℕ) → List (List ℕ) → Type 0 → Status → Type 0
-Completes taken told failed failed' fault status =
-    (files : List ℕ → List ℕ) → told ≡ Some files → CanRun taken files
-    → ((name : List ℕ) → ReadsScript taken name ⊎ ReadsTrace taken name → ¬ Gained name failed failed') → ¬ fault → OfRun status ⊎ (status ≡ statuses.NoMemory)
+-- output give a whole answer, want of memory aside.
+abbrev pub Completes : List (List ℕ) → Outside → Outside → Status → Type 0
+Completes words found left status =
+    (files : Files) → found.shelf.files ≡ Some files → CanRun (settings words) files
+    → ((name : List ℕ) → ReadsScript (settings words) name ⊎ ReadsSecond (settings words) name
+    → ¬ Gained name found.shelf.failed left.shelf.failed)
+    → ¬ IsRefusing found.output left.output → IsAnswer status ⊎ (status ≡ statuses.NoMemory)
 
 -- Where the words aren't taken, the status says so, want of memory aside. This holds where no files are told.
 abbrev pub RefusedWords : Taken → Status → Type 0
@@ -137,39 +152,63 @@ RefusedWords (Err number) statuses.Usage = Unit {0}
 RefusedWords (Err number) statuses.NoMemory = Unit {0}
 RefusedWords (Err number) status = ⊥
 
--- no status of what is printed: a read or a write was at fault, or there was no memory
-abbrev pub IsFault : Status → Type 0
-IsFault statuses.ReadFault = Unit {0}
-IsFault statuses.WriteFault = Unit {0}
-IsFault statuses.NoMemory = Unit {0}
-IsFault status = ⊥
+-- what is printed is on both streams
+abbrev pub PrintsAll : Outside → Outside → Status → Printed → Type 0
+PrintsAll found left status printed =
+    (status ≡ printed.status) × Appended printed.out found.output.written left.output.written
+    × Says printed.err found.errors left.errors
 
--- The status is that of all that may be printed for the words and the files, faults aside.
-abbrev pub Agrees : Taken → Option (List ℕ → List ℕ) → Status → Type 0
-Agrees taken told status =
-    (files : List ℕ → List ℕ) → told ≡ Some files → (printed : Printed) → OfTaken taken files printed → (status ≡ printed.status) ⊎ IsFault status
+-- By the status, how much of what may be printed is on the streams: all, nothing after a read that failed, or a part of
+-- the output after a write that failed and where there was no memory.
+abbrev pub Prints : Outside → Outside → Status → Printed → Type 0
+Prints found left statuses.ReadFault printed = left.output ≡ found.output
+Prints found left statuses.WriteFault printed =
+    AppendedPart printed.out found.output.written left.output.written
+Prints found left statuses.NoMemory printed =
+    AppendedPart printed.out found.output.written left.output.written
+Prints found left status printed = PrintsAll found left status printed
 
--- what is printed for the words is on both streams
-abbrev pub PrintsAll : Option (List ℕ) → Option (List ℕ) → Option (List ℕ) → Option (List ℕ) → Type 0 → Status → Printed → Type 0
-PrintsAll written written' said said' unsaid status printed =
-    Appended printed.out written written' × (status ≡ printed.status) × Says printed.err said said' unsaid
+-- Whatever *Output* may print for the words and the files, the call has printed it so.
+abbrev pub IsExact : List (List ℕ) → Outside → Outside → Status → Type 0
+IsExact words found left status =
+    (files : Files) → found.shelf.files ≡ Some files
+    → (printed : Printed) → Output words files printed → Prints found left status printed
+
+-- there is something that *Output* may print for the words and the files, and it is put and said whole
+abbrev pub PrintsWhole : List (List ℕ) → Outside → Outside → Status → Type 0
+PrintsWhole words found left status =
+    (files : Files) → found.shelf.files ≡ Some files
+    → (printed : Printed) × Output words files printed × PrintsAll found left status printed
 
 -- the words or a file are refused: nothing is put, and a line says why
-abbrev pub Refuses : Taken → Option (List ℕ → List ℕ) → Option (List ℕ) → Option (List ℕ) → Option (List ℕ) → Option (List ℕ) → Type 0 → Status → Type 0
-Refuses taken files written written' said said' unsaid status = (written' ≡ written) × IsPrinted taken files (PrintsAll written written' said said' unsaid status)
+abbrev pub Refuses : List (List ℕ) → Outside → Outside → Status → Type 0
+Refuses words found left status = (left.output ≡ found.output) × PrintsWhole words found left status
 
--- A call of the program, by its status. `said` is what the error stream tells before and after it, and `unsaid` says that
--- one of its counts rose.
-abbrev pub Ends : Taken → Option (List ℕ → List ℕ) → List (List ℕ) → List (List ℕ) → Option (List ℕ) → Option (List ℕ) → Type 0 → Option (List ℕ) → Option (List ℕ) → Type 0 → Status → Type 0
-Ends taken files failed failed' written written' fault said said' unsaid statuses.Done = (said' ≡ said) × IsPrinted taken files (PutsAll written written' statuses.Done)
-Ends taken files failed failed' written written' fault said said' unsaid statuses.Found = (said' ≡ said) × IsPrinted taken files (PutsAll written written' statuses.Found)
-Ends taken files failed failed' written written' fault said said' unsaid statuses.Usage = Refuses taken files written written' said said' unsaid statuses.Usage
-Ends taken files failed failed' written written' fault said said' unsaid statuses.BadScript = Refuses taken files written written' said said' unsaid statuses.BadScript
-Ends taken files failed failed' written written' fault said said' unsaid statuses.BadTrace = Refuses taken files written written' said said' unsaid statuses.BadTrace
-Ends taken files failed failed' written written' fault said said' unsaid statuses.BadDirective = ⊥
-Ends taken files failed failed' written written' fault said said' unsaid statuses.ReadFault =
-    (written' ≡ written) × ReadFailed taken files failed failed' × Says (refusal_line Read) said said' unsaid
-Ends taken files failed failed' written written' fault said said' unsaid statuses.WriteFault =
-    fault × IsPrinted taken files (PutsPart written written') × Says (refusal_line Write) said said' unsaid
-Ends taken files failed failed' written written' fault said said' unsaid statuses.NoMemory =
-    ((written' ≡ written) ⊎ IsPrinted taken files (λ printed. AppendedPart printed.out written written')) × Says (refusal_line Memory) said said' unsaid
+-- A call of the program, by its status.
+abbrev pub Ends : List (List ℕ) → Outside → Outside → Status → Type 0
+Ends words found left statuses.Done =
+    (left.errors ≡ found.errors) × PrintsWhole words found left statuses.Done
+Ends words found left statuses.Found =
+    (left.errors ≡ found.errors) × PrintsWhole words found left statuses.Found
+Ends words found left statuses.Usage = Refuses words found left statuses.Usage
+Ends words found left statuses.BadScript = Refuses words found left statuses.BadScript
+Ends words found left statuses.BadTrace = Refuses words found left statuses.BadTrace
+Ends words found left statuses.BadDirective = ⊥
+Ends words found left statuses.ReadFault =
+    (left.output ≡ found.output) × ReadFailed (settings words) found.shelf left.shelf
+    × Says (refusal_line Read) found.errors left.errors
+Ends words found left statuses.WriteFault =
+    IsRefusing found.output left.output
+    × PrintsOne (settings words) found.shelf.files (PutsPart found.output left.output)
+    × Says (refusal_line Write) found.errors left.errors
+Ends words found left statuses.NoMemory =
+    ((left.output ≡ found.output)
+    ⊎ PrintsOne (settings words) found.shelf.files (PutsPart found.output left.output))
+    × Says (refusal_line Memory) found.errors left.errors
+
+-- What is promised of a call, whatever the command is.
+pub record IsCall (words : List (List ℕ)) (found left : Outside) (status : Status) : Type 0 where
+  pub ends : Ends words found left status
+  pub refused : RefusedWords (settings words) status
+  pub complete : Completes words found left status
+  pub exact : IsExact words found left status

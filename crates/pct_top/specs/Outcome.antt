@@ -1,26 +1,35 @@
--- What comes of a script.
-use Rattle.std.specs.Prelude.{◌≡◌, Result, Ok, Err}
-use Rattle.pct_ask.specs.declared.Deal.{Deal}
-use Rattle.script_tree.specs.ScriptText.{ScriptText}
-use Rattle.trace_text.specs.declared.file.TraceFile.{TraceFile}
-use Rattle.replay_run.specs.declared.answer.Replayed.{Replayed}
-use Rattle.replay_run.specs.Replay.{bodies_of, IsReplay}
+-- What comes of a command, before anything is put.
+use Rattle.std.specs.Prelude.{◌≡◌, ℕ, List, Option, Some, Result, Ok, Err}
 use Rattle.pct_top.specs.declared.refusal.Refusal.{Refusal}
-use Rattle.pct_top.specs.declared.refusal.Refusal.TheVariants.{Usage, Memory}
+use Rattle.pct_top.specs.declared.refusal.Refusal.TheVariants.{Usage, Script, Trace, Read, Write, Memory}
 use Rattle.pct_top.specs.declared.outcome.Outcome.{Outcome}
-use Rattle.pct_top.specs.Output.{Printed, told, refused, replied}
+use Rattle.pct_top.specs.Printed.{Files, Printed, refused, told}
 
 -- what is printed for an outcome
 abbrev pub printed_of : Outcome → Printed
-printed_of outcome = told outcome.text.items outcome.status
+printed_of outcome = told outcome.text.items outcome.done
 
--- The outcome is one of those that may be printed, and so is a refused word. Nothing else is at fault but want of memory.
-abbrev pub IsOutcomeOf : (Printed → Type 0) → Result Outcome Refusal → Type 0
-IsOutcomeOf printed (Ok outcome) = printed (printed_of outcome)
-IsOutcomeOf printed (Err (Usage n)) = printed (refused (Usage n))
-IsOutcomeOf printed (Err Memory) = Unit {0}
-IsOutcomeOf printed (Err refusal) = ⊥
+-- The outcome may be printed, and so may a refusal. Nothing else is at fault but want of memory.
+abbrev pub Gives : (Printed → Type 0) → Result Outcome Refusal → Type 0
+Gives of (Ok outcome) = of (printed_of outcome)
+Gives of (Err (Usage word)) = of (refused (Usage word))
+Gives of (Err (Script line kind)) = of (refused (Script line kind))
+Gives of (Err (Trace line kind)) = of (refused (Trace line kind))
+Gives of (Err Read) = ⊥
+Gives of (Err Write) = ⊥
+Gives of (Err Memory) = Unit {0}
 
--- the reply to the trace is printed
-abbrev pub PrintsReply : ScriptText → Deal → TraceFile → Printed → Type 0
-PrintsReply script deal file printed = (reply : Replayed) × IsReplay deal (bodies_of script) file reply × (printed ≡ replied script reply)
+-- this may be printed, where the files are told
+abbrev pub Shows : (Files → Printed → Type 0) → Option Files → Printed → Type 0
+Shows of told printed = (files : Files) → told ≡ Some files → of files printed
+
+-- The same where files are read, and a read that fails has this for a cause.
+abbrev pub Comes :
+    (Files → Printed → Type 0) → Option Files → Type 0 → Result Outcome Refusal → Type 0
+Comes of told missed (Ok outcome) = Shows of told (printed_of outcome)
+Comes of told missed (Err (Usage word)) = Shows of told (refused (Usage word))
+Comes of told missed (Err (Script line kind)) = Shows of told (refused (Script line kind))
+Comes of told missed (Err (Trace line kind)) = Shows of told (refused (Trace line kind))
+Comes of told missed (Err Read) = missed
+Comes of told missed (Err Write) = ⊥
+Comes of told missed (Err Memory) = Unit {0}

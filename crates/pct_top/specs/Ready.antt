@@ -1,7 +1,7 @@
 -- A test that is ready to be run.
 use Rattle.script_tree.specs.ScriptSeen.{text}
 use Rattle.script_code.specs.Listing.{listing}
-use Rattle.replay_run.specs.Replay.{AreOf}
+use Rattle.script_body.specs.Bodies.{AreOf}
 use Rattle.pct_top.specs.declared.test.Test.{Test}
 
 -- the code and the deal are those of the script, which is sound

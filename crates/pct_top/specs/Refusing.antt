@@ -74,8 +74,10 @@ trace_fault_name trace_faults.MoreAfterVerdict = codes "MoreAfterVerdict"
 -- the line on the error stream, with its LF (this project)
 abbrev pub refusal_line : Refusal → List ℕ
 refusal_line (Usage word) = codes "usage: word " ++ decimal word ++ 10 ∷ []
-refusal_line (Script line kind) = codes "script: line " ++ decimal line ++ 32 ∷ script_fault_name kind ++ 10 ∷ []
-refusal_line (Trace line kind) = codes "trace: line " ++ decimal line ++ 32 ∷ trace_fault_name kind ++ 10 ∷ []
+refusal_line (Script line kind) =
+    codes "script: line " ++ decimal line ++ 32 ∷ script_fault_name kind ++ 10 ∷ []
+refusal_line (Trace line kind) =
+    codes "trace: line " ++ decimal line ++ 32 ∷ trace_fault_name kind ++ 10 ∷ []
 refusal_line Read = codes "read fault\n"
 refusal_line Write = codes "write fault\n"
 refusal_line Memory = codes "no memory\n"

@@ -1,17 +1,19 @@
 -- What the words of the command line ask for, by cases on their list (this project).
-use Rattle.std.specs.Prelude.{◌≡◌, ℕ, ◌+◌, ◌≤◌, if◌then◌else◌, List, [], ◌∷◌, length, All, Option, Some, None, IfSome, Result, Ok, Err, codes}
+use Rattle.std.specs.Prelude.{◌≡◌, ℕ, false, ◌+◌, ◌≤◌, List, [], ◌∷◌, length, All, Option, Some, None, IfSome, Result, Ok, Err}
 use Rattle.std.specs.Option.{option_map, option_and_then, unwrap_or}
-use Rattle.std.specs.Str.{bytes_eq}
 use Rattle.trace_text.specs.Lawful.{IsStepCount}
+use Rattle.pct_top.specs.declared.command.Command.{Command}
+use Rattle.pct_top.specs.declared.command.Command.TheVariants as commands
 use Rattle.pct_top.specs.declared.options.Options.{Options}
-use Rattle.pct_top.specs.declared.settings.NamedOrder.{NamedOrder}
-use Rattle.pct_top.specs.declared.settings.RunForm.{RunForm}
-use Rattle.pct_top.specs.declared.settings.RunForm.TheVariants.{Ordered, Seeded}
+use Rattle.pct_top.specs.declared.options.NamedOrder.{NamedOrder}
+use Rattle.pct_top.specs.declared.settings.Report.{Report}
 use Rattle.pct_top.specs.declared.settings.Settings.{Settings}
-use Rattle.pct_top.specs.declared.settings.Settings.TheVariants.{Run, Replay}
+use Rattle.pct_top.specs.declared.settings.Settings.TheVariants.{RunOrder, RunSeed, Campaign, Big, Replay}
 use Rattle.pct_top.specs.declared.settings.WordsError.{WordsError}
 use Rattle.pct_top.specs.declared.settings.WordsError.TheVariants.{Word, NoMemory}
-use Rattle.pct_top.specs.Options.{none, options_from}
+use Rattle.pct_top.specs.Table.{command_named}
+use Rattle.pct_top.specs.Values.{pieces_in}
+use Rattle.pct_top.specs.Options.{Given, none, options_from}
 
 -- how many steps a run may have where nothing else is said
 unfoldable pub default_limit : ℕ
@@ -21,44 +23,105 @@ default_limit = 10000
 abbrev pub Taken : Type 0
 Taken = Result Settings ℕ
 
-abbrev pub seeded_form : Options → Option RunForm
-seeded_form o = option_and_then (λ seed. option_map (λ depth. Seeded seed depth o.steps) o.depth) o.seed
+abbrev pub taken_or : ℕ → Option Settings → Taken
+taken_or next None = Err next
+taken_or next (Some settings) = Ok settings
 
-abbrev pub form_by : Option NamedOrder → Options → Option RunForm
-form_by (Some order) o = Some (Ordered order (unwrap_or o.points []))
-form_by None o = seeded_form o
+-- What options make, after which a word would have this number: it is missing where they make nothing.
+abbrev pub made_of : (Options → Option Settings) → ℕ → Given → Taken
+made_of make next (Err number) = Err number
+made_of make next (Ok o) = taken_or next (make o)
 
--- the form of the run; none where neither an order is given nor a seed and a depth
-abbrev pub form_of : Options → Option RunForm
-form_of o = form_by o.order o
+-- ---- a run, whatever is reported of it
 
--- the settings of a run with these options; the word of this number is missing where they give no form
-abbrev pub run_by : List ℕ → ℕ → Options → Option RunForm → Taken
-run_by file next o None = Err next
-run_by file next o (Some form) = Ok (Run file form (unwrap_or o.limit default_limit))
+abbrev pub limit_of : Options → ℕ
+limit_of o = unwrap_or o.limit default_limit
 
-abbrev pub run_with : List ℕ → ℕ → Result Options ℕ → Taken
-run_with file next (Err number) = Err number
-run_with file next (Ok o) = run_by file next o (form_of o)
+abbrev pub ordered : Report → List ℕ → Options → NamedOrder → Settings
+ordered report file o order =
+    RunOrder file order.items order.word (unwrap_or o.points []) (limit_of o) report
 
--- after `run`
-abbrev pub run_settings : List (List ℕ) → Taken
-run_settings [] = Err 2
-run_settings (file ∷ words) = run_with file (length words + 3) (options_from none 3 words)
+-- a seed asks for a depth too
+abbrev pub seeded : Report → List ℕ → Options → Option Settings
+seeded report file o =
+    option_and_then
+    (λ seed. option_map (λ depth. RunSeed file seed depth o.steps (limit_of o) report) o.depth)
+    o.seed
 
--- after `replay`
+abbrev pub run_by : Report → List ℕ → Options → Option NamedOrder → Option Settings
+run_by report file o (Some order) = Some (ordered report file o order)
+run_by report file o None = seeded report file o
+
+-- the run that options ask for; none where neither an order is given nor a seed and a depth
+abbrev pub run_with : Report → List ℕ → Options → Option Settings
+run_with report file o = run_by report file o o.order
+
+abbrev pub run_settings : Report → List (List ℕ) → Taken
+run_settings report [] = Err 2
+run_settings report (file ∷ words) =
+    made_of (run_with report file) (length words + 3)
+    (options_from (commands.Run report) none 3 words)
+
+-- ---- a campaign
+
+-- its first seed, how many seeds and a depth are asked for
+abbrev pub campaign_by : List ℕ → Options → ℕ → ℕ → ℕ → Settings
+campaign_by file o first count depth =
+    Campaign file first count depth o.steps (limit_of o) (unwrap_or o.json false)
+
+abbrev pub campaign_with : List ℕ → Options → Option Settings
+campaign_with file o =
+    option_and_then
+    (λ first. option_and_then (λ count. option_map (campaign_by file o first count) o.depth) o.count)
+    o.from
+
+abbrev pub campaign_settings : List (List ℕ) → Taken
+campaign_settings [] = Err 2
+campaign_settings (file ∷ words) =
+    made_of (campaign_with file) (length words + 3) (options_from commands.Campaign none 3 words)
+
+-- ---- the large script
+
+abbrev pub big_with : ℕ → Options → Option Settings
+big_with pieces o = Some (Big pieces)
+
+abbrev pub big_by : Option ℕ → List (List ℕ) → Taken
+big_by None words = Err 2
+big_by (Some pieces) words =
+    made_of (big_with pieces) (length words + 3) (options_from commands.Big none 3 words)
+
+abbrev pub big_settings : List (List ℕ) → Taken
+big_settings [] = Err 2
+big_settings (word ∷ words) = big_by (pieces_in word) words
+
+-- ---- a replay
+
+abbrev pub replay_with : List ℕ → List ℕ → Options → Option Settings
+replay_with file trace o = Some (Replay file trace)
+
 abbrev pub replay_settings : List (List ℕ) → Taken
 replay_settings [] = Err 2
 replay_settings (file ∷ []) = Err 3
-replay_settings (file ∷ trace ∷ []) = Ok (Replay file trace)
-replay_settings (file ∷ trace ∷ word ∷ words) = Err 4
+replay_settings (file ∷ trace ∷ words) =
+    made_of (replay_with file trace) (length words + 4) (options_from commands.Replay none 4 words)
+
+-- ---- all words
+
+-- after a command's word
+abbrev pub settings_of : Command → List (List ℕ) → Taken
+settings_of (commands.Run report) words = run_settings report words
+settings_of commands.Campaign words = campaign_settings words
+settings_of commands.Big words = big_settings words
+settings_of commands.Replay words = replay_settings words
+
+abbrev pub settings_by : Option Command → List (List ℕ) → Taken
+settings_by None words = Err 1
+settings_by (Some command) words = settings_of command words
 
 -- the words of the program, after its own name
 abbrev pub settings : List (List ℕ) → Taken
 settings [] = Err 1
-settings (command ∷ words) =
-    if bytes_eq command (codes "run") then run_settings words
-    else (if bytes_eq command (codes "replay") then replay_settings words else Err 1)
+settings (word ∷ words) = settings_by (command_named word) words
 
 -- what a call answers is what the words ask for, want of memory aside
 abbrev pub ReadsAs : Result Settings WordsError → Taken → Type 0
@@ -68,10 +131,17 @@ ReadsAs (Err NoMemory) taken = Unit {0}
 
 -- ---- the ranges that the words keep to
 
-abbrev pub IsForm : RunForm → Type 0
-IsForm (Ordered order points) = (length points ≤ 7) × All IsStepCount points
-IsForm (Seeded seed depth steps) = (1 ≤ depth) × (depth ≤ 8) × IfSome steps IsStepCount
+abbrev pub ArePoints : List ℕ → Type 0
+ArePoints points = (length points ≤ 7) × All IsStepCount points
+
+abbrev pub IsDepth : ℕ → Type 0
+IsDepth depth = (1 ≤ depth) × (depth ≤ 8)
 
 abbrev pub AreLawful : Settings → Type 0
-AreLawful (Run file form limit) = IsForm form × IsStepCount limit
+AreLawful (RunOrder file order word points limit report) = ArePoints points × IsStepCount limit
+AreLawful (RunSeed file seed depth steps limit report) =
+    IsDepth depth × IfSome steps IsStepCount × IsStepCount limit
+AreLawful (Campaign file first count depth steps limit json) =
+    IsStepCount count × IsDepth depth × IfSome steps IsStepCount × IsStepCount limit
+AreLawful (Big pieces) = (1 ≤ pieces) × (pieces ≤ 100)
 AreLawful (Replay file trace) = Unit {0}

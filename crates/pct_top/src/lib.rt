@@ -1,6 +1,12 @@
 //! The program's words, its runs and what it writes.
 #![tactic(auto)]
 
+mod command;
+mod commands;
+mod confirmed;
+mod dispatch;
+mod files;
+mod lines;
 mod options;
 mod order;
 mod outcome;
@@ -8,18 +14,20 @@ mod playing;
 mod printing;
 mod priorities;
 mod refusal;
-mod reply;
+mod reports;
 mod settings;
 mod status;
 mod test;
 mod text;
 mod top;
+mod traces;
 mod values;
 mod words;
 
+pub use confirmed::runs_are_confirmed;
 pub use printing::say;
 pub use refusal::Refusal;
-pub use settings::{NamedOrder, RunForm, Settings, WordsError};
+pub use settings::{Report, Settings, WordsError};
 pub use status::Status;
 pub use text::{Text, TextList};
 pub use top::pct;

@@ -1,12 +1,14 @@
-//! The options of a run.
+//! The options of the commands.
 
-ghost use Rattle.std.specs.Prelude.{◌≡◌, ◌+◌, ◌*◌, ◌∷◌, length, IfOk, OnOk};
+ghost use Rattle.std.specs.Prelude.{◌≡◌, ◌+◌, ◌*◌, ◌≤◌, ◌∷◌, length, IfOk, OnOk};
 ghost use Rattle.pct_outside.specs.Reading.{texts_of};
 ghost use Rattle.pct_top.specs.Options as options;
-ghost use Rattle.pct_top.specs.Options.{ChangesTo, GivesOptions, GoesOn, lawful_or};
+ghost use Rattle.pct_top.specs.Options.{ChangesTo, GivesOptions, LeavesTo, lawful_or};
 
-use crate::settings::{NamedOrder, WordsError};
-use crate::values::{depth_in, order_in, points_in, seed_in, step_count};
+use crate::command::Command;
+use crate::settings::WordsError;
+use crate::text::TextList;
+use crate::values::{depth_in, is_json, order_in, points_in, seed_in, step_count};
 use pct_ask::PointList;
 use std::alloc::Global;
 
@@ -19,6 +21,9 @@ pub enum OptionName {
     Seed,
     Depth,
     Steps,
+    From,
+    Count,
+    Form,
 }
 
 /// The option that a word begins.
@@ -32,11 +37,23 @@ fn option_named(word: &str) -> Option<OptionName>
         "--seed" => Some(OptionName::Seed),
         "--depth" => Some(OptionName::Depth),
         "--steps" => Some(OptionName::Steps),
+        "--from" => Some(OptionName::From),
+        "--count" => Some(OptionName::Count),
+        "--form" => Some(OptionName::Form),
         _ => None,
     }
 }
 
-/// What the options of a run give, each at most once.
+/// An order of threads as the words give it.
+#[derive(Debug, Drop)]
+pub struct NamedOrder {
+    /// The threads' names, the highest priority first.
+    pub items: TextList,
+    /// The number of the word that they stand in, from 1.
+    pub word: u32,
+}
+
+/// What options give, each at most once.
 #[derive(Debug, Drop)]
 pub struct Options {
     pub order: Option<NamedOrder>,
@@ -45,6 +62,10 @@ pub struct Options {
     pub seed: Option<u64>,
     pub depth: Option<u32>,
     pub steps: Option<u32>,
+    pub from: Option<u64>,
+    pub count: Option<u32>,
+    /// Whether the report is to be JSON.
+    pub json: Option<bool>,
 }
 
 impl Options {
@@ -59,46 +80,39 @@ impl Options {
             seed: None,
             depth: None,
             steps: None,
+            from: None,
+            count: None,
+            json: None,
         }
     }
 
-    /// Whether an option of the ordered form was given.
-    fn is_ordered(&self) -> bool
-        ensures { result ≡ options.is_ordered self.now }
-    {
-        self.order.is_some() || self.points.is_some()
-    }
-
-    /// Whether an option of the seeded form was given.
-    fn is_seeded(&self) -> bool
-        ensures { result ≡ options.is_seeded self.now }
-    {
-        self.seed.is_some() || self.depth.is_some() || self.steps.is_some()
-    }
-
-    /// Whether the option wasn't given before, nor one of the other form.
-    fn may_take(&self, name: OptionName) -> bool
-        ensures { result ≡ options.may_take self.now name }
+    /// Whether the option wasn't given before.
+    fn is_new(&self, name: OptionName) -> bool
+        ensures { result ≡ options.is_new self.now name }
     {
         match name {
-            OptionName::Order => self.order.is_none() && !self.is_seeded(),
-            OptionName::Points => self.points.is_none() && !self.is_seeded(),
+            OptionName::Order => self.order.is_none(),
+            OptionName::Points => self.points.is_none(),
             OptionName::Limit => self.limit.is_none(),
-            OptionName::Seed => self.seed.is_none() && !self.is_ordered(),
-            OptionName::Depth => self.depth.is_none() && !self.is_ordered(),
-            OptionName::Steps => self.steps.is_none() && !self.is_ordered(),
+            OptionName::Seed => self.seed.is_none(),
+            OptionName::Depth => self.depth.is_none(),
+            OptionName::Steps => self.steps.is_none(),
+            OptionName::From => self.from.is_none(),
+            OptionName::Count => self.count.is_none(),
+            OptionName::Form => self.json.is_none(),
         }
     }
 
-    /// The option that a word begins here.
-    fn next_option(&self, word: &str) -> Option<OptionName>
-        ensures { result ≡ options.next_option self.now word.now }
+    /// The option that a word begins here, where it is new and the command takes it.
+    fn next_option(&self, command: Command, word: &str) -> Option<OptionName>
+        ensures { result ≡ options.next_option command self.now word.now }
     {
-        option_named(word).filter(|name| self.may_take(*name))
+        option_named(word).filter(|name| self.is_new(*name) && command.takes(self, *name))
     }
 
     fn take_order(&mut self, alloc: Global, word: u32, value: &str) -> Result<(), WordsError>
-        ensures { ChangesTo result self.new (lawful_or word (options.with_value self.old word OptionName.Order value.now)) }
+        ensures { ChangesTo result self.new
+            (lawful_or word (options.with_value self.old word OptionName.Order value.now)) }
     {
         let Some(items) = order_in(alloc, value)? else {
             return Err(WordsError::Word(word));
@@ -108,7 +122,8 @@ impl Options {
     }
 
     fn take_points(&mut self, alloc: Global, word: u32, value: &str) -> Result<(), WordsError>
-        ensures { ChangesTo result self.new (lawful_or word (options.with_value self.old word OptionName.Points value.now)) }
+        ensures { ChangesTo result self.new
+            (lawful_or word (options.with_value self.old word OptionName.Points value.now)) }
     {
         let Some(points) = points_in(alloc, value)? else {
             return Err(WordsError::Word(word));
@@ -118,7 +133,8 @@ impl Options {
     }
 
     fn take_limit(&mut self, word: u32, value: &str) -> Result<(), WordsError>
-        ensures { ChangesTo result self.new (lawful_or word (options.with_value self.old word OptionName.Limit value.now)) }
+        ensures { ChangesTo result self.new
+            (lawful_or word (options.with_value self.old word OptionName.Limit value.now)) }
     {
         let Some(limit) = step_count(value) else {
             return Err(WordsError::Word(word));
@@ -128,7 +144,8 @@ impl Options {
     }
 
     fn take_seed(&mut self, word: u32, value: &str) -> Result<(), WordsError>
-        ensures { ChangesTo result self.new (lawful_or word (options.with_value self.old word OptionName.Seed value.now)) }
+        ensures { ChangesTo result self.new
+            (lawful_or word (options.with_value self.old word OptionName.Seed value.now)) }
     {
         let Some(seed) = seed_in(value) else {
             return Err(WordsError::Word(word));
@@ -138,7 +155,8 @@ impl Options {
     }
 
     fn take_depth(&mut self, word: u32, value: &str) -> Result<(), WordsError>
-        ensures { ChangesTo result self.new (lawful_or word (options.with_value self.old word OptionName.Depth value.now)) }
+        ensures { ChangesTo result self.new
+            (lawful_or word (options.with_value self.old word OptionName.Depth value.now)) }
     {
         let Some(depth) = depth_in(value) else {
             return Err(WordsError::Word(word));
@@ -148,12 +166,46 @@ impl Options {
     }
 
     fn take_steps(&mut self, word: u32, value: &str) -> Result<(), WordsError>
-        ensures { ChangesTo result self.new (lawful_or word (options.with_value self.old word OptionName.Steps value.now)) }
+        ensures { ChangesTo result self.new
+            (lawful_or word (options.with_value self.old word OptionName.Steps value.now)) }
     {
         let Some(steps) = step_count(value) else {
             return Err(WordsError::Word(word));
         };
         self.steps = Some(steps);
+        Ok(())
+    }
+
+    fn take_from(&mut self, word: u32, value: &str) -> Result<(), WordsError>
+        ensures { ChangesTo result self.new
+            (lawful_or word (options.with_value self.old word OptionName.From value.now)) }
+    {
+        let Some(from) = seed_in(value) else {
+            return Err(WordsError::Word(word));
+        };
+        self.from = Some(from);
+        Ok(())
+    }
+
+    fn take_count(&mut self, word: u32, value: &str) -> Result<(), WordsError>
+        ensures { ChangesTo result self.new
+            (lawful_or word (options.with_value self.old word OptionName.Count value.now)) }
+    {
+        let Some(count) = step_count(value) else {
+            return Err(WordsError::Word(word));
+        };
+        self.count = Some(count);
+        Ok(())
+    }
+
+    fn take_form(&mut self, word: u32, value: &str) -> Result<(), WordsError>
+        ensures { ChangesTo result self.new
+            (lawful_or word (options.with_value self.old word OptionName.Form value.now)) }
+    {
+        let Some(json) = is_json(value) else {
+            return Err(WordsError::Word(word));
+        };
+        self.json = Some(json);
         Ok(())
     }
 
@@ -165,7 +217,8 @@ impl Options {
         word: u32,
         value: &str,
     ) -> Result<(), WordsError>
-        ensures { ChangesTo result self.new (lawful_or word (options.with_value self.old word name value.now)) }
+        ensures { ChangesTo result self.new
+            (lawful_or word (options.with_value self.old word name value.now)) }
     {
         match name {
             OptionName::Order => self.take_order(alloc, word, value),
@@ -174,6 +227,9 @@ impl Options {
             OptionName::Seed => self.take_seed(word, value),
             OptionName::Depth => self.take_depth(word, value),
             OptionName::Steps => self.take_steps(word, value),
+            OptionName::From => self.take_from(word, value),
+            OptionName::Count => self.take_count(word, value),
+            OptionName::Form => self.take_form(word, value),
         }
     }
 
@@ -181,16 +237,19 @@ impl Options {
     fn take_next<'a>(
         &mut self,
         alloc: Global,
+        command: Command,
         number: u32,
         word: &str,
         others: &'a [String],
     ) -> Result<&'a [String], WordsError>
-        requires { number ≡ 3 + 2 * options.count self.old }
-        ensures goes_on { GoesOn (λ rest. options.options_from self.new (number + 2) (texts_of rest.now)) (options.options_from self.old number (word.now ∷ texts_of others.now)) result }
+        requires { number ≤ 4 + 2 * options.count self.old }
+        ensures leaves { LeavesTo
+            (λ rest. options.options_from command self.new (number + 2) (texts_of rest.now))
+            (options.options_from command self.old number (word.now ∷ texts_of others.now)) result }
         ensures count { OnOk result (options.count self.new ≡ options.count self.old + 1) }
         ensures shorter { IfOk result (λ rest. length rest.now + 1 ≡ length others.now) }
     {
-        let Some(name) = self.next_option(word) else {
+        let Some(name) = self.next_option(command, word) else {
             return Err(WordsError::Word(number));
         };
         let Some((value, rest)) = others.split_first() else {
@@ -201,16 +260,24 @@ impl Options {
     }
 }
 
-/// The options that words give, and the number of the word that would follow them. The first word has the number 3.
-pub fn options_in(alloc: Global, words: &[String]) -> Result<(Options, u32), WordsError>
-    ensures options { GivesOptions (λ given. given.0) result (options.options_from options.none 3 (texts_of words.now)) }
-    ensures next { IfOk result (λ given. given.1 ≡ length words.now + 3) }
+/// The options that words give a command, of which the first has this number, and the number of the word that would
+/// follow them.
+pub fn options_in(
+    alloc: Global,
+    command: Command,
+    first: u32,
+    words: &[String],
+) -> Result<(Options, u32), WordsError>
+    requires { first ≤ 4 }
+    ensures options { GivesOptions (λ given. given.0) result
+        (options.options_from command options.none first (texts_of words.now)) }
+    ensures next { IfOk result (λ given. given.1 ≡ length words.now + first) }
 {
     let mut options = Options::none();
-    let mut number = 3;
+    let mut number = first;
     let mut rest = words;
     while let Some((word, others)) = rest.split_first() {
-        rest = options.take_next(alloc, number, word.as_str(), others)?;
+        rest = options.take_next(alloc, command, number, word.as_str(), others)?;
         number += 2;
     }
     Ok((options, number))

@@ -3,7 +3,9 @@
 ghost use Rattle.std.specs.Prelude.{◌≡◌, ℕ, ◌≤◌, List, length, IfOk, MatchOption, MatchBool};
 ghost use Rattle.rank_now.specs.Order.{IsOrder};
 ghost use Rattle.pct_top.specs.Ordered.{threads_named, NamesAll};
+ghost use Rattle.pct_top.specs.Priorities.{GivesOrder};
 
+use crate::refusal::Refusal;
 use crate::text::Text;
 use pct_ask::{NameKind, Names, OrderList};
 use rank_now::{RankError, Ranks};
@@ -36,8 +38,9 @@ fn is_order(alloc: Global, threads: &[u32]) -> Result<bool, NoMemory>
 }
 
 /// The order in which names list the threads of a script, where they list each once.
-pub fn order_of(alloc: Global, names: &Names, items: &[Text]) -> Result<Option<OrderList>, NoMemory>
-    ensures { IfOk result (λ order. MatchOption order ((other : List ℕ) → ¬ NamesAll names.now items.now other) (NamesAll names.now items.now)) }
+fn order_of(alloc: Global, names: &Names, items: &[Text]) -> Result<Option<OrderList>, NoMemory>
+    ensures { IfOk result (λ order. MatchOption order
+        ((other : List ℕ) → ¬ NamesAll names.now items.now other) (NamesAll names.now items.now)) }
 {
     let Some(threads) = threads_of(alloc, names, items)? else {
         return Ok(None);
@@ -47,4 +50,19 @@ pub fn order_of(alloc: Global, names: &Names, items: &[Text]) -> Result<Option<O
     }
     let whole = is_order(alloc, threads.as_slice())?;
     Ok(whole.then_some(threads))
+}
+
+/// The order that names give, which stand in the word of this number.
+pub fn order_given(
+    alloc: Global,
+    names: &Names,
+    items: &[Text],
+    word: u32,
+) -> Result<OrderList, Refusal>
+    ensures { GivesOrder names.now items.now word result }
+{
+    match order_of(alloc, names, items)? {
+        Some(order) => Ok(order),
+        None => Err(Refusal::Usage { word }),
+    }
 }

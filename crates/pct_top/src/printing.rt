@@ -1,6 +1,6 @@
 //! What is put on the output and the error stream.
 
-ghost use Rattle.std.specs.Prelude.{◌≡◌, ◌≤◌, ◌<◌, ◌+◌, [], ◌∷◌, ◌++◌, ◌⊎◌, length, codes, decimal, Err, OnOk, OnErr};
+ghost use Rattle.std.specs.Prelude.{◌≡◌, ◌≤◌, ◌<◌, ◌+◌, [], ◌∷◌, ◌++◌, length, codes, decimal, Err, OnOk, OnErr};
 ghost use Rattle.arrayvec.specs.ArrayString.{array_string_len};
 ghost use Rattle.pct_top.specs.Refusing as refusing;
 ghost use Rattle.pct_top.specs.Refusing.{refusal_line};
@@ -109,7 +109,8 @@ fn trace_fault_name(kind: TraceFault) -> &'static str
 fn fault_line(file: &str, number: u32, name: &str) -> Line
     requires file { length file.now ≤ 20 }
     requires name { length name.now ≤ 20 }
-    ensures { result.bytes ≡ file.now ++ (codes ": line " ++ decimal number ++ 32 ∷ name.now ++ 10 ∷ []) }
+    ensures { result.bytes
+        ≡ file.now ++ (codes ": line " ++ decimal number ++ 32 ∷ name.now ++ 10 ∷ []) }
 {
     let mut line = Line::new();
     line.push_str(file);
@@ -146,7 +147,17 @@ fn line_of(refusal: &Refusal) -> Line
 
 /// Says on the error stream why a call gives no output. A put that is refused there changes nothing else.
 pub fn say<E: Sink>(err: &mut E, refusal: &Refusal)
-    ensures { Says (refusal_line refusal.now) (E.written err.old) (E.written err.new) (Rose (E.faults err.old) (E.faults err.new) ⊎ Rose (E.shorts err.old) (E.shorts err.new)) }
+    ensures { Says (refusal_line refusal.now)
+        (record {
+          written = E.written err.old;
+          faults = E.faults err.old;
+          shorts = E.shorts err.old;
+        })
+        (record {
+          written = E.written err.new;
+          faults = E.faults err.new;
+          shorts = E.shorts err.new;
+        }) }
 {
     let line = line_of(refusal);
     let _ = err.put(line.as_bytes());

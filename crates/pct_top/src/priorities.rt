@@ -1,20 +1,17 @@
 //! The priorities of a run.
 
-ghost use Rattle.std.specs.Prelude.{◌≡◌, ◌≤◌, ℕ, length, All, None, IfOk, IfSome};
+ghost use Rattle.std.specs.Prelude.{◌≡◌, ◌≤◌, None, IfOk, IfSome};
 ghost use Rattle.script_tree.specs.ScriptSeen.{text};
 ghost use Rattle.priority_draw.specs.Drawing.{drawn};
 ghost use Rattle.trace_text.specs.Lawful.{IsStepCount};
-ghost use Rattle.pct_top.specs.Settings.{IsForm};
-ghost use Rattle.pct_top.specs.Output.{DrawsFrom};
+ghost use Rattle.pct_top.specs.Settings.{IsDepth};
+ghost use Rattle.pct_top.specs.Runs.{DrawsFrom};
 ghost use Rattle.pct_top.specs.Ready.{IsReady};
-ghost use Rattle.pct_top.specs.Priorities.{ArePriorities, IsPrioritiesOf};
+ghost use Rattle.pct_top.specs.Priorities.{ArePriorities};
 
-use crate::order::order_of;
 use crate::playing::play;
-use crate::refusal::Refusal;
-use crate::settings::{NamedOrder, RunForm};
 use crate::test::Test;
-use pct_ask::{NameKind, OrderList, PointList};
+use pct_ask::{OrderList, PointList};
 use pct_outside::Gate;
 use priority_draw::{Words, declared_order};
 use std::alloc::{AllocError as NoMemory, Global};
@@ -26,28 +23,6 @@ use std::thread::Threads;
 pub struct Priorities {
     pub order: OrderList,
     pub points: PointList,
-}
-
-/// The order that the names give, and these points.
-fn given(
-    alloc: Global,
-    test: &Test,
-    order: &NamedOrder,
-    points: &PointList,
-) -> Result<Priorities, Refusal>
-    requires ready { IsReady test.now }
-    requires few_points { length points.now ≤ 7 }
-    requires points_fit { All IsStepCount points.now }
-    ensures { (limit : ℕ) → IsPrioritiesOf (text test.now.script) test.now.deal limit (RunForm.Ordered order.now points.now) result }
-{
-    let names = test.script.names();
-    match order_of(alloc, names, order.items.as_slice())? {
-        None => Err(Refusal::Usage { word: order.word }),
-        Some(order) => Ok(Priorities {
-            order,
-            points: points.copy(alloc)?,
-        }),
-    }
 }
 
 /// How many steps the run in declared order has, without points, and at least one.
@@ -69,7 +44,7 @@ fn declared_length<R: Threads + Wait + Sync, G: Gate>(
 }
 
 /// From how many steps points are drawn.
-fn steps_of<R: Threads + Wait + Sync, G: Gate>(
+pub fn steps_of<R: Threads + Wait + Sync, G: Gate>(
     rt: &R,
     alloc: Global,
     test: &Test,
@@ -90,7 +65,7 @@ fn steps_of<R: Threads + Wait + Sync, G: Gate>(
 }
 
 /// The order and the points of a seed.
-fn drawn(
+pub fn drawn(
     alloc: Global,
     threads: u32,
     seed: u64,
@@ -100,37 +75,13 @@ fn drawn(
     requires some_thread { 1 ≤ threads }
     requires few_threads { threads ≤ 64 }
     requires steps { IsStepCount steps }
-    requires some_depth { 1 ≤ depth }
-    requires little_depth { depth ≤ 8 }
-    ensures order { IfOk result (λ priorities. priorities.order ≡ (drawn seed threads steps depth).order) }
-    ensures points { IfOk result (λ priorities. priorities.points ≡ (drawn seed threads steps depth).points) }
+    requires depth { IsDepth depth }
+    ensures order { IfOk result (λ own. own.order ≡ (drawn seed threads steps depth).order) }
+    ensures points { IfOk result (λ own. own.points ≡ (drawn seed threads steps depth).points) }
     ensures are { IfOk result (ArePriorities threads) }
 {
     let mut words = Words::of_seed(seed);
     let order = words.draw_order(alloc, threads)?;
     let points = words.draw_points(alloc, steps, depth - 1)?;
     Ok(Priorities { order, points })
-}
-
-/// The order and the points of a run's form.
-pub fn priorities_of<R: Threads + Wait + Sync, G: Gate>(
-    rt: &R,
-    alloc: Global,
-    test: &Test,
-    form: &RunForm,
-    limit: u32,
-    gate: &G,
-) -> Result<Priorities, Refusal>
-    requires ready { IsReady test.now }
-    requires form { IsForm form.now }
-    requires limit { IsStepCount limit }
-    ensures { IsPrioritiesOf (text test.now.script) test.now.deal limit form.now result }
-{
-    match form {
-        RunForm::Ordered { order, points } => given(alloc, test, order, points),
-        RunForm::Seeded { seed, depth, steps } => {
-            let steps = steps_of(rt, alloc, test, *steps, limit, gate)?;
-            Ok(drawn(alloc, test.deal.threads, *seed, steps, *depth)?)
-        }
-    }
 }

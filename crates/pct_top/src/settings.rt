@@ -8,40 +8,56 @@ use pct_ask::PointList;
 use std::alloc::AllocError;
 use thiserror::Error;
 
-/// An order of threads as the words give it.
-#[derive(Debug, Drop)]
-pub struct NamedOrder {
-    /// The threads' names, the highest priority first.
-    pub items: TextList,
-    /// The number of the word that they stand in, from 1.
-    pub word: u32,
-}
-
-/// Where the priorities of a run come from.
-#[derive(Debug, Drop)]
-pub enum RunForm {
-    /// An order of the threads, and the change points.
-    Ordered {
-        order: NamedOrder,
-        points: PointList,
-    },
-    /// Drawn from a seed: an order, and `depth - 1` change points. They are drawn from so many steps, or where none are
-    /// given from as many as the run in declared order has.
-    Seeded {
-        seed: u64,
-        depth: u32,
-        steps: Option<u32>,
-    },
+/// What is reported of a run.
+#[derive(Clone, Copy, Debug, PartialEq, Eq)]
+pub enum Report {
+    /// The trace.
+    Trace,
+    /// The data races.
+    Races,
+    /// The order in which its mutexes are nested.
+    Locks,
+    /// The short directive that its failure comes to.
+    Find,
 }
 
 /// A command with its values.
 #[derive(Debug, Drop)]
 pub enum Settings {
-    /// The run of a script. It has at most `limit` steps.
-    Run {
+    /// The run of a script under an order of its threads, the highest priority first, which stands in the word of this
+    /// number, and change points. It has at most `limit` steps.
+    RunOrder {
         file: Text,
-        form: RunForm,
+        order: TextList,
+        word: u32,
+        points: PointList,
         limit: u32,
+        report: Report,
+    },
+    /// The run of a script under an order and `depth - 1` change points that are drawn from a seed. The points are drawn
+    /// from so many steps, or where none are given from as many as the run in declared order has.
+    RunSeed {
+        file: Text,
+        seed: u64,
+        depth: u32,
+        steps: Option<u32>,
+        limit: u32,
+        report: Report,
+    },
+    /// A campaign: the runs of a script for each of `count` seeds from `first` on, after whose last comes 0, and the report
+    /// on them, as JSON or as a text.
+    Campaign {
+        file: Text,
+        first: u64,
+        count: u32,
+        depth: u32,
+        steps: Option<u32>,
+        limit: u32,
+        json: bool,
+    },
+    /// The campaign of the large script, whose threads have so many pieces.
+    Big {
+        pieces: u32,
     },
     /// The replay of a trace over a script.
     Replay {

@@ -1,6 +1,6 @@
 mod meetings;
 
-use crate::{RunForm, Settings, Status, WordsError, pct, read_words};
+use crate::{Report, Settings, Status, WordsError, pct, read_words};
 use pct_outside::{Gate, MemoryShelf, MemorySink, OpenGate};
 use std::alloc::{AllocError as NoMemory, Global};
 use std::process::Abort;
@@ -314,21 +314,28 @@ fn long_trace_is_said(rt: HostRuntime) -> Result<(), Fail> {
 #[test]
 fn words_of_an_ordered_run_are_read(rt: HostRuntime) -> Result<(), Fail> {
     let words = words_of(rt.alloc(), "run s.pct --limit 9 --points 3,1 --order A,B")?;
-    let Ok(Settings::Run { file, form, limit }) = read_words(rt.alloc(), words.as_slice()) else {
-        panic!(rt; "not a run");
-    };
-    assert_eq!(rt; file.as_str(), "s.pct");
-    assert_eq!(rt; limit, 9);
-    match form {
-        RunForm::Ordered { order, points } => {
-            assert_eq!(rt; order.word, 8);
-            assert_eq!(rt; order.items.len(), 2);
-            for (item, name) in order.items.as_slice().iter().zip(["A", "B"].iter()) {
+    match read_words(rt.alloc(), words.as_slice()) {
+        Ok(
+            Settings::RunOrder {
+                file,
+                order,
+                word,
+                points,
+                limit,
+                report,
+            },
+        ) => {
+            assert_eq!(rt; file.as_str(), "s.pct");
+            assert_eq!(rt; order.len(), 2);
+            for (item, name) in order.as_slice().iter().zip(["A", "B"].iter()) {
                 assert_eq!(rt; item.as_str(), *name);
             }
+            assert_eq!(rt; word, 8);
             assert_eq!(rt; points.as_slice(), [3, 1].as_slice());
+            assert_eq!(rt; limit, 9);
+            assert_eq!(rt; report, Report::Trace);
         }
-        RunForm::Seeded { .. } => panic!(rt; "a seed"),
+        _ => panic!(rt; "not a run under an order"),
     }
     Ok(())
 }
@@ -337,17 +344,22 @@ fn words_of_an_ordered_run_are_read(rt: HostRuntime) -> Result<(), Fail> {
 fn words_of_a_seeded_run_are_read(rt: HostRuntime) -> Result<(), Fail> {
     let line = "run s.pct --steps 8 --seed 18446744073709551615 --depth 3";
     let words = words_of(rt.alloc(), line)?;
-    let Ok(Settings::Run { form, limit, .. }) = read_words(rt.alloc(), words.as_slice()) else {
-        panic!(rt; "not a run");
-    };
-    assert_eq!(rt; limit, 10_000);
-    match form {
-        RunForm::Ordered { .. } => panic!(rt; "an order"),
-        RunForm::Seeded { seed, depth, steps } => {
+    match read_words(rt.alloc(), words.as_slice()) {
+        Ok(
+            Settings::RunSeed {
+                seed,
+                depth,
+                steps,
+                limit,
+                ..
+            },
+        ) => {
             assert_eq!(rt; seed, u64::MAX);
             assert_eq!(rt; depth, 3);
             assert_eq!(rt; steps, Some(8));
+            assert_eq!(rt; limit, 10_000);
         }
+        _ => panic!(rt; "not a run of a seed"),
     }
     Ok(())
 }
@@ -360,9 +372,8 @@ fn words_of_a_replay_are_read(rt: HostRuntime) -> Result<(), Fail> {
             assert_eq!(rt; file.as_str(), "s.pct");
             assert_eq!(rt; trace.as_str(), "t.txt");
         }
-        Ok(Settings::Run { .. }) => panic!(rt; "a run"),
         Err(WordsError::Word(word)) => panic!(rt; "word {word}"),
-        Err(WordsError::NoMemory) => panic!(rt; "no memory"),
+        _ => panic!(rt; "not a replay"),
     }
     Ok(())
 }

@@ -78,6 +78,25 @@ pub fn depth_in(word: &str) -> Option<u32>
     Some(depth as u32)
 }
 
+/// How many pieces the threads of the large script have.
+pub fn pieces_in(word: &str) -> Option<u32>
+    ensures { result ≡ values.pieces_in word.now }
+{
+    let pieces = number_in(1, 100, word)?;
+    Some(pieces as u32)
+}
+
+/// Whether a form of reports is JSON.
+pub fn is_json(word: &str) -> Option<bool>
+    ensures { result ≡ values.is_json word.now }
+{
+    match word {
+        "json" => Some(true),
+        "text" => Some(false),
+        _ => None,
+    }
+}
+
 /// What each item is, where each is a number of steps.
 fn step_counts(alloc: Global, items: &[Text]) -> Result<Option<PointList>, NoMemory>
     ensures { IfOk result (λ counts. counts ≡ values.step_counts items.now) }

@@ -1,55 +1,103 @@
 //! The words of the command line.
 
-ghost use Rattle.std.specs.Prelude.{◌≡◌, IfOk};
+ghost use Rattle.std.specs.Prelude.{◌≡◌, Ok, IfOk};
 ghost use Rattle.pct_outside.specs.Reading.{texts_of};
 ghost use Rattle.pct_top.specs.Settings as settings;
 ghost use Rattle.pct_top.specs.Settings.{ReadsAs, AreLawful};
 
-use crate::options::{Options, options_in};
-use crate::settings::{RunForm, Settings, WordsError};
+use crate::command::Command;
+use crate::options::{NamedOrder, Options, options_in};
+use crate::settings::{Report, Settings, WordsError};
 use crate::text::Text;
+use crate::values::pieces_in;
 use pct_ask::PointList;
 use std::alloc::Global;
 
 /// How many steps a run may have where nothing else is said.
-const DEFAULT_LIMIT: u32 = 10_000;
+pub const DEFAULT_LIMIT: u32 = 10_000;
 
-/// The form of the run, where its options are all there.
-fn form_of(alloc: Global, options: Options) -> Option<RunForm>
-    ensures { result ≡ settings.form_of options }
+/// The run that options ask for, where they are all there.
+fn run_with(alloc: Global, report: Report, file: Text, options: Options) -> Option<Settings>
+    ensures { result ≡ settings.run_with report file options }
 {
     let Options {
         order,
         points,
+        limit,
         seed,
         depth,
         steps,
         ..
     } = options;
-    if let Some(order) = order {
-        let points = points.unwrap_or(PointList::new(alloc));
-        return Some(RunForm::Ordered { order, points });
+    let limit = limit.unwrap_or(DEFAULT_LIMIT);
+    if let Some(NamedOrder { items, word }) = order {
+        return Some(Settings::RunOrder {
+            file,
+            order: items,
+            word,
+            points: points.unwrap_or(PointList::new(alloc)),
+            limit,
+            report,
+        });
     }
-    Some(RunForm::Seeded {
+    Some(Settings::RunSeed {
+        file,
         seed: seed?,
         depth: depth?,
         steps,
+        limit,
+        report,
     })
 }
 
-fn run_words(alloc: Global, words: &[String]) -> Result<Settings, WordsError>
-    ensures { ReadsAs result (settings.run_settings (texts_of words.now)) }
+fn run_words(alloc: Global, report: Report, words: &[String]) -> Result<Settings, WordsError>
+    ensures { ReadsAs result (settings.run_settings report (texts_of words.now)) }
 {
     let Some((file, others)) = words.split_first() else {
         return Err(WordsError::Word(2));
     };
-    let (options, next) = options_in(alloc, others)?;
-    let limit = options.limit.unwrap_or(DEFAULT_LIMIT);
-    let Some(form) = form_of(alloc, options) else {
-        return Err(WordsError::Word(next));
-    };
+    let (options, next) = options_in(alloc, Command::Run(report), 3, others)?;
     let file = Text::copy_of(alloc, file.as_str())?;
-    Ok(Settings::Run { file, form, limit })
+    run_with(alloc, report, file, options).ok_or(WordsError::Word(next))
+}
+
+/// The campaign that options ask for, where they are all there.
+fn campaign_with(file: Text, options: Options) -> Option<Settings>
+    ensures { result ≡ settings.campaign_with file options }
+{
+    Some(Settings::Campaign {
+        file,
+        first: options.from?,
+        count: options.count?,
+        depth: options.depth?,
+        steps: options.steps,
+        limit: options.limit.unwrap_or(DEFAULT_LIMIT),
+        json: options.json.unwrap_or(false),
+    })
+}
+
+fn campaign_words(alloc: Global, words: &[String]) -> Result<Settings, WordsError>
+    ensures { ReadsAs result (settings.campaign_settings (texts_of words.now)) }
+{
+    let Some((file, others)) = words.split_first() else {
+        return Err(WordsError::Word(2));
+    };
+    let (options, next) = options_in(alloc, Command::Campaign, 3, others)?;
+    let file = Text::copy_of(alloc, file.as_str())?;
+    campaign_with(file, options).ok_or(WordsError::Word(next))
+}
+
+fn big_words(alloc: Global, words: &[String]) -> Result<Settings, WordsError>
+    ensures { ReadsAs result (settings.big_settings (texts_of words.now)) }
+{
+    let Some((word, others)) = words.split_first() else {
+        return Err(WordsError::Word(2));
+    };
+    let Some(pieces) = pieces_in(word.as_str()) else {
+        return Err(WordsError::Word(2));
+    };
+    options_in(alloc, Command::Big, 3, others)?;
+    Ok(Settings::Big { pieces })
 }
 
 fn replay_words(alloc: Global, words: &[String]) -> Result<Settings, WordsError>
@@ -58,11 +106,25 @@ fn replay_words(alloc: Global, words: &[String]) -> Result<Settings, WordsError>
     match words {
         [] => Err(WordsError::Word(2)),
         [_] => Err(WordsError::Word(3)),
-        [file, trace] => Ok(Settings::Replay {
-            file: Text::copy_of(alloc, file.as_str())?,
-            trace: Text::copy_of(alloc, trace.as_str())?,
-        }),
-        _ => Err(WordsError::Word(4)),
+        [file, trace, others @ ..] => {
+            options_in(alloc, Command::Replay, 4, others)?;
+            Ok(Settings::Replay {
+                file: Text::copy_of(alloc, file.as_str())?,
+                trace: Text::copy_of(alloc, trace.as_str())?,
+            })
+        }
+    }
+}
+
+/// What the words after a command's ask for.
+fn command_words(alloc: Global, command: Command, words: &[String]) -> Result<Settings, WordsError>
+    ensures { ReadsAs result (settings.settings_of command (texts_of words.now)) }
+{
+    match command {
+        Command::Run(report) => run_words(alloc, report, words),
+        Command::Campaign => campaign_words(alloc, words),
+        Command::Big => big_words(alloc, words),
+        Command::Replay => replay_words(alloc, words),
     }
 }
 
@@ -71,12 +133,11 @@ pub fn read_words(alloc: Global, words: &[String]) -> Result<Settings, WordsErro
     ensures settings { ReadsAs result (settings.settings (texts_of words.now)) }
     ensures lawful { IfOk result AreLawful }
 {
-    let Some((command, others)) = words.split_first() else {
+    let Some((word, others)) = words.split_first() else {
         return Err(WordsError::Word(1));
     };
-    match command.as_str() {
-        "run" => run_words(alloc, others),
-        "replay" => replay_words(alloc, others),
-        _ => Err(WordsError::Word(1)),
+    match Command::named(word.as_str()) {
+        Some(command) => command_words(alloc, command, others),
+        None => Err(WordsError::Word(1)),
     }
 }

@@ -1,19 +1,12 @@
 -- Replay of a trace: its list of threads is run over the bodies of a script, under the trace's limit, and the run is
 -- compared with the trace (this project).
-use Rattle.std.specs.Prelude.{◌≡◌, ◌≢◌, ℕ, ◌+◌, List, ◌∷◌, ◌++◌, length, map}
+use Rattle.std.specs.Prelude.{◌≡◌, ◌≢◌, ℕ, ◌+◌, List, ◌∷◌, ◌++◌, length}
 use Rattle.pct_ask.specs.declared.Deal.{Deal}
 use Rattle.pct_ask.specs.declared.event.Event.{Event}
 use Rattle.pct_ask.specs.declared.verdict.Verdict.{Verdict}
 use Rattle.pct_ask.specs.declared.verdict.Outcome.{Outcome}
 use Rattle.pct_ask.specs.declared.verdict.Outcome.TheVariants.{Verdict as Ends, Departed}
-use Rattle.script_tree.specs.ScriptText.{ScriptText}
-use Rattle.script_tree.specs.Fitting.{IsScript}
-use Rattle.script_tree.specs.DealOf.{IsDealOf}
-use Rattle.script_tree.specs.Posts.{pending}
-use Rattle.script_code.specs.Operations.{Operation}
-use Rattle.script_code.specs.CodeOf.{IsCodeOf}
 use Rattle.policy_pick.specs.Plan.{ByList}
-use Rattle.turn_book.specs.Chances.{threads_below}
 use Rattle.turn_book.specs.Posts.{schedule_of}
 use Rattle.trace_text.specs.declared.file.TraceFile.{TraceFile}
 use Rattle.worker_run.specs.Bodies.{Pending}
@@ -24,16 +17,6 @@ use Rattle.replay_run.specs.declared.answer.Found.{Found}
 use Rattle.replay_run.specs.declared.answer.Found.TheVariants.{Event as FoundEvent, NotEnabled, Goes, Over}
 use Rattle.replay_run.specs.declared.answer.Replayed.{Replayed}
 use Rattle.replay_run.specs.declared.answer.Replayed.TheVariants.{Confirmed, Departs}
-
--- what each thread of the script posts
-abbrev pub bodies_of : ScriptText → List Pending
-bodies_of script = map (pending script) (threads_below (length script.threads))
-
--- code and a deal that are those of a sound script
-pub record AreOf (script : ScriptText) (code : List (List Operation)) (deal : Deal) : Type 0 where
-  pub sound : IsScript script
-  pub is_code : IsCodeOf script code
-  pub is_deal : IsDealOf script deal
 
 -- The steps that were made and those that are told agree before this step, and there they are different.
 pub record DifferAt (step : ℕ) (made told : List Event) (e f : Event) : Type 0 where

@@ -11,4 +11,4 @@ mod samples;
 mod tests;
 
 pub use answer::{Found, Replayed, Written};
-pub use replaying::{bodies_of, replay};
+pub use replaying::replay;

@@ -1,38 +1,26 @@
-ghost use Rattle.std.specs.Prelude.{◌≡◌, ◌<◌, List, ℕ, length, map, All, IfOk, Some};
+ghost use Rattle.std.specs.Prelude.{◌≡◌, ◌<◌, List, ℕ, length, All, IfOk, Some};
 ghost use Rattle.pct_ask.specs.declared.event.Event.{Event};
 ghost use Rattle.script_tree.specs.ScriptText.{ScriptText};
 ghost use Rattle.script_code.specs.Listing.{listing};
-ghost use Rattle.script_code.specs.FlatPosts.{flat_pending};
-ghost use Rattle.script_body.specs.BodyPosts.{pending_of};
+ghost use Rattle.script_body.specs.Bodies.{bodies_of, AreOf};
 ghost use Rattle.trace_text.specs.Lawful.{IsStepCount};
 ghost use Rattle.turn_book.specs.Posts.{schedule_of};
 ghost use Rattle.worker_run.specs.Run.{run};
 ghost use Rattle.replay_run.specs.declared.answer.Replayed.{Replayed};
-ghost use Rattle.replay_run.specs.Replay.{IsReplay, AreOf, bodies_of};
+ghost use Rattle.replay_run.specs.Replay.{IsReplay};
 
 use crate::answer::Replayed;
 use crate::compare::compare;
 use pct_ask::{Deal, Event};
 use pct_outside::Gate;
 use policy_pick::Listed;
-use script_body::ScriptBody;
+use script_body::bodies_of;
 use script_code::Code;
 use std::alloc::{AllocError as NoMemory, Global};
 use std::sync::Wait;
 use std::thread::Threads;
 use trace_text::TraceFile;
 use worker_run::run_threads;
-
-/// The bodies of a script's threads, none of which has had an answer.
-pub fn bodies_of<'c>(alloc: Global, code: &'c Code) -> Result<Vec<ScriptBody<'c>>, NoMemory>
-    ensures { IfOk result (λ bodies. map pending_of bodies.items ≡ map flat_pending (listing code.now)) }
-{
-    let mut bodies = Vec::new(alloc);
-    for thread in 0..code.threads() {
-        bodies.push(ScriptBody::new(code, thread))?;
-    }
-    Ok(bodies)
-}
 
 /// The threads of some steps, in their order.
 fn threads_of(alloc: Global, events: &[Event]) -> Result<Vec<u32>, NoMemory>

@@ -3,13 +3,13 @@
 ghost use Rattle.std.specs.Prelude.{◌≡◌, length};
 ghost use Rattle.script_code.specs.Listing.{listing};
 ghost use Rattle.script_tree.specs.ScriptText.{ScriptText};
-ghost use Rattle.replay_run.specs.Replay.{AreOf};
+ghost use Rattle.script_body.specs.Bodies.{AreOf};
 
 use pct_ask::Deal;
 use pct_outside::OpenGate;
 use policy_pick::Pct;
 use priority_draw::declared_order;
-use replay_run::bodies_of;
+use script_body::bodies_of;
 use script_code::{Code, compile};
 use script_parse::parse;
 use std::alloc::{AllocError as NoMemory, Global};

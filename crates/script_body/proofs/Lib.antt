@@ -1,5 +1,4 @@
 pub mod Ends
 pub mod Steps
 pub mod TestScripts
-pub mod SmallStatements
-pub mod PlainStates
+pub mod laws

@@ -6,5 +6,4 @@ pub mod Turns
 pub mod Asking
 pub mod BodyPosts
 pub mod Samples
-pub mod Generated
-pub mod Plain
+pub mod Bodies

@@ -1,15 +1,13 @@
 //! Bodies that are driven by hand.
 
 use crate::ScriptBody;
-use crate::generated::{Draws, any_body};
-use crate::plain::post_after;
 use crate::samples::{
     Place, counting, counting_more, dividing, faulting, idle, meeting, sample, started, starting,
     trying, waiting,
 };
 use pct_ask::{Ask, Body, FaultKind, Post};
 use script_code::{Code, compile};
-use script_tree::{Block, Op};
+use script_tree::Op;
 use std::alloc::{AllocError as NoMemory, Global};
 use std::process::Abort;
 use std::test::Fail;
@@ -177,50 +175,5 @@ fn each_place_has_its_fault(rt: HostRuntime) -> Result<(), Fail> {
     let alloc = rt.alloc();
     expect_fault(&rt, alloc, &PLACES, Op::Plus, 1, FaultKind::Overflow)?;
     expect_fault(&rt, alloc, &PLACES, Op::Over, 0, FaultKind::ZeroDivisor)?;
-    Ok(())
-}
-
-/// A body posts what the plain interpreter does, after each number of the answers.
-fn expect_plain(
-    rt: &impl Abort,
-    alloc: Global,
-    body: &mut ScriptBody<'_>,
-    stmts: &Block,
-    answers: &[i64],
-) -> Result<(), NoMemory> {
-    for (count, answer) in answers.iter().enumerate() {
-        let post = body.post();
-        assert_eq!(rt; post, post_after(alloc, stmts, &answers[..count])?);
-        if post.ask.is_none() {
-            return Ok(());
-        }
-        body.answer(*answer);
-    }
-    assert_eq!(rt; body.post(), post_after(alloc, stmts, answers)?);
-    Ok(())
-}
-
-/// The statements and the answers of a number.
-fn compare_plain(rt: &impl Abort, alloc: Global, seed: u32) -> Result<(), NoMemory> {
-    let mut draws = Draws::new(seed);
-    let script = sample(alloc, any_body(alloc, &mut draws)?, idle(alloc))?;
-    let mut answers = Vec::new(alloc);
-    for _ in 0..12 {
-        answers.push(i64::from(draws.below(3)))?;
-    }
-    let Some(text) = script.threads.first() else {
-        panic!(rt; "no thread");
-    };
-    let code = compile(alloc, &script)?;
-    assert_eq!(rt; code.threads(), 2);
-    let mut body = ScriptBody::new(&code, 0);
-    expect_plain(rt, alloc, &mut body, &text.body, answers.as_slice())
-}
-
-#[test]
-fn bodies_post_as_a_plain_interpreter_does(rt: HostRuntime) -> Result<(), Fail> {
-    for seed in 0..500 {
-        compare_plain(&rt, rt.alloc(), seed)?;
-    }
     Ok(())
 }

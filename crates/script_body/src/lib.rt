@@ -3,16 +3,11 @@
 
 mod answer;
 mod ask;
+mod bodies;
 mod body;
 #[cfg(test)]
 mod drives;
-#[cfg(test)]
-mod generated;
 mod moving;
-#[cfg(test)]
-mod plain;
-#[cfg(test)]
-mod plain_value;
 #[cfg(test)]
 mod samples;
 mod settling;
@@ -22,4 +17,5 @@ mod tests;
 mod turn;
 mod value;
 
+pub use bodies::bodies_of;
 pub use body::ScriptBody;

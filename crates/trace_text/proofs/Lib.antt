@@ -17,3 +17,4 @@ pub mod Readings
 pub mod Sizes
 pub mod Traces
 pub mod StepObjects
+pub mod OneAnswer

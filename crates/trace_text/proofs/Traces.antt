@@ -43,7 +43,7 @@ known-inv : (order : Option (List ℕ)) (threads : List ℕ) → known order ≡
 known-inv None threads h = absurd cc
 known-inv (Some order) threads h = let same : order ≡ threads = cc in ap (λ o. Some o) same
 
-ok_is : {A : Type 0} (x y : A) → ◌≡◌ {A = Result A Fault} (Ok x) (Ok y) → x ≡ y
+pub ok_is : {A : Type 0} (x y : A) → ◌≡◌ {A = Result A Fault} (Ok x) (Ok y) → x ≡ y
 ok_is x y h = cc
 
 pair-parts : (a b : List ℕ) (u v : List (List ℕ)) → ◌≡◌ {A = Result (List ℕ × List (List ℕ)) Fault} (Ok (a, u)) (Ok (b, v)) → (a ≡ b) × (u ≡ v)
@@ -265,7 +265,7 @@ one-fault size names pieces l m j k a b = lines (order-cases l m)
 same-fault : (a b : ℕ) (j k : TraceFault) → a ≡ b → j ≡ k → ◌≡◌ {A = Fault} (a, j) (b, k)
 same-fault a b j k p q = cc
 
-fault-read : (names : NameLists) (bytes : List ℕ) (r : Result TraceFile Fault) (line : ℕ) (kind : TraceFault) → IsTold (length bytes) names (pieces_of bytes) r → IsTraceFault bytes names line kind → r ≡ Err (line, kind)
+pub fault-read : (names : NameLists) (bytes : List ℕ) (r : Result TraceFile Fault) (line : ℕ) (kind : TraceFault) → IsTold (length bytes) names (pieces_of bytes) r → IsTraceFault bytes names line kind → r ≡ Err (line, kind)
 fault-read names bytes (Ok file) line kind told fault = absurd (true-false (is_faulty (length bytes) names (pieces_of bytes) line kind) fault.faulty (told line kind))
 fault-read names bytes (Err e) line kind told fault =
     let same = one-fault (length bytes) names (pieces_of bytes) e.0 line e.1 kind told fault in

@@ -17,5 +17,5 @@ mod writing;
 
 pub use fault::{TraceError, TraceFault};
 pub use file::{Header, TraceFile};
-pub use reading::read_trace;
+pub use reading::{one_answer, read_trace};
 pub use writing::{write_step, write_trace};

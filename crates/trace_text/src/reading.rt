@@ -2,7 +2,7 @@
 
 ghost use Rattle.std.specs.Prelude.{◌≡◌, ◌⊎◌, ℕ, ◌+◌, ◌≤◌};
 ghost use Rattle.pct_ask.specs.NameLists.{AreNames};
-ghost use Rattle.trace_text.specs.Answers.{Answers};
+ghost use Rattle.trace_text.specs.Answers.{Answers, EachHasOneAnswer};
 ghost use Rattle.trace_text.specs.Faults.{IsTraceFault};
 ghost use Rattle.trace_text.specs.Lines.{pieces_of};
 ghost use Rattle.trace_text.specs.Reading as reading;
@@ -114,3 +114,9 @@ pub fn read_trace(alloc: Global, bytes: &[u8], names: &Names) -> Result<TraceFil
 {
     read(alloc, bytes, names)
 }
+
+/// A law of traces, and no work: each text is, under the names of a test, the trace of one file or has one first fault,
+/// and never both.
+pub fn one_answer()
+    ensures { EachHasOneAnswer }
+{}

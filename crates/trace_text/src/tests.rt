@@ -1,4 +1,4 @@
-use crate::{TraceError, TraceFault, TraceFile, read_trace, write_trace};
+use crate::{TraceError, TraceFault, TraceFile, one_answer, read_trace, write_trace};
 use pct_ask::{NameKind, Names, is_lawful_name};
 use std::alloc::Global;
 use std::process::Abort;
@@ -469,6 +469,7 @@ const FAULTY_OF_THREE: [Faulty; 2] = [
 #[test]
 fn bad_traces(rt: HostRuntime) -> Result<(), Fail> {
     let names = names_of(&rt, rt.alloc(), 3)?;
+    one_answer();
     expect_faults(&rt, rt.alloc(), &names, &FAULTY_OF_THREE)
 }
 

@@ -1,6 +1,6 @@
 //! A trace, written line by line.
 
-ghost use Rattle.std.specs.Prelude.{◌≡◌, ◌<◌, ◌≤◌, ◌⊎◌, ◌+◌, [], ◌∷◌, ◌++◌, false, All, Result, OnOk, IfOk, length, map, codes, decimal};
+ghost use Rattle.std.specs.Prelude.{◌≡◌, ◌<◌, ◌≤◌, ◌⊎◌, ◌+◌, [], ◌∷◌, ◌++◌, false, All, Result, OnOk, OnErr, IfOk, length, map, codes, decimal};
 ghost use Rattle.std.specs.Fmt.{signed_decimal};
 ghost use Rattle.std.specs.List.{slice_index_or, flat_map};
 ghost use Rattle.pct_ask.specs.NameLists.{list_of};
@@ -200,7 +200,8 @@ fn push_event(
     push_answer(out, event)
 }
 
-/// Writes the line of a step, as it stands in a trace of the second version.
+/// Writes the line of a step at the end, as it stands in a trace of the second version. After an `Err` the bytes are as
+/// before.
 pub fn write_step(
     step: u32,
     event: &Event,
@@ -208,9 +209,12 @@ pub fn write_step(
     out: &mut Vec<u8>,
 ) -> Result<(), NoMemory>
     requires { NamesKnown names.now 2 event.now }
-    ensures { OnOk result (out.new.items ≡ out.old.items ++ line_text (event_words names.now step event.now)) }
+    ensures written { OnOk result (out.new.items ≡ out.old.items ++ line_text (event_words names.now step event.now)) }
+    ensures unchanged { OnErr result (out.new.items ≡ out.old.items) }
 {
-    push_event(out, names, 2, step as usize, event)
+    let mut line = Vec::new(*out.allocator());
+    push_event(&mut line, names, 2, step as usize, event)?;
+    out.extend_from_slice(&line)
 }
 
 fn push_steps(

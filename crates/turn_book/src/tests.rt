@@ -3,8 +3,6 @@ ghost use Rattle.sync_store.specs.Store.{sizes_of_deal};
 ghost use Rattle.policy_pick.specs.Plan.{SpeaksOf};
 ghost use Rattle.turn_book.specs.Told.{PostIsInRange};
 
-mod plain;
-
 use crate::{Because, Taken, TurnBook};
 use pct_ask::{Ask, Blocked, Deal, Event, MisuseKind, Outcome, Post, Sequence, Standing, Verdict};
 use policy_pick::{Pct, Policy};

@@ -10,3 +10,5 @@ pub mod Plays
 pub mod Samples
 pub mod Ranges
 pub mod Again
+pub mod Wholes
+pub mod laws

@@ -1,6 +1,7 @@
 //! Runs of the bodies of a test under a policy, each body in a thread of its own.
 #![tactic(auto)]
 
+mod by_order;
 mod crew;
 mod done;
 mod lent;
@@ -9,6 +10,7 @@ mod run;
 mod runner;
 mod team;
 
+pub use by_order::{WholeRun, run_by_events, run_by_points};
 pub use lent::run_on;
 pub use played::Played;
 pub use run::{run_here, run_threads};

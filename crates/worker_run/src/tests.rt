@@ -4,10 +4,10 @@ ghost use Rattle.policy_pick.specs.Plan.{SpeaksOf};
 mod many;
 mod meetings;
 
-use crate::{Played, run_here, run_on, run_threads};
+use crate::{Played, run_by_events, run_by_points, run_here, run_on, run_threads};
 use pct_ask::{Ask, Body, Deal, Event, Outcome, Post, Sequence, Verdict};
 use pct_outside::{Gate, OpenGate};
-use policy_pick::{DirectedPolicy, Listed, Moment, Pct, Policy};
+use policy_pick::{Listed, Moment, Pct, Policy};
 use std::alloc::{AllocError as NoMemory, Global};
 use std::process::Abort;
 use std::sync::Wait;
@@ -230,18 +230,40 @@ fn runs_on_a_lent_lock(rt: HostRuntime) -> Result<(), Fail> {
 /// A change point after the first step.
 #[test]
 fn loses_an_update(rt: HostRuntime) -> Result<(), Fail> {
-    let pct = Pct::new(rt.alloc(), &[0, 1, 2], &[1])?;
-    let played = play(&rt, rt.alloc(), pct, 10_000, &OpenGate::new())?;
-    expect(&rt, &played, &LOST_UPDATE, FAILED);
+    let deal = sample_deal(rt.alloc())?;
+    let bodies = samples(rt.alloc())?;
+    let gate = OpenGate::new();
+    let whole = run_by_points(
+        &rt,
+        rt.alloc(),
+        deal,
+        &[0, 1, 2],
+        &[1],
+        10_000,
+        bodies,
+        &gate,
+    )?;
+    expect(&rt, &Played::from(whole), &LOST_UPDATE, FAILED);
     Ok(())
 }
 
 /// The same by the first thread's first own step.
 #[test]
 fn loses_an_update_by_a_moment(rt: HostRuntime) -> Result<(), Fail> {
-    let directed = DirectedPolicy::new(rt.alloc(), &[0, 1, 2], &FIRST_STEP)?;
-    let played = play(&rt, rt.alloc(), directed, 10_000, &OpenGate::new())?;
-    expect(&rt, &played, &LOST_UPDATE, FAILED);
+    let deal = sample_deal(rt.alloc())?;
+    let bodies = samples(rt.alloc())?;
+    let gate = OpenGate::new();
+    let whole = run_by_events(
+        &rt,
+        rt.alloc(),
+        deal,
+        &[0, 1, 2],
+        &FIRST_STEP,
+        10_000,
+        bodies,
+        &gate,
+    )?;
+    expect(&rt, &Played::from(whole), &LOST_UPDATE, FAILED);
     Ok(())
 }
 

@@ -1,5 +1,5 @@
 use Rattle.std.proofs.Common.{refl}
-use Rattle.pct_top.proofs.Orders.{wrong_is_no_order}
+use Rattle.worker_run.proofs.laws.Orders.{wrong_is_no_order}
 use Rattle.pct_top.proofs.order.is_order.Goals as goal
 
 pub returns-in-Err-NotAnOrder : goal.returns-in-Err-NotAnOrder

@@ -1,35 +1,43 @@
-use Rattle.std.proofs.Common.{map, refl, ◌∙◌}
-use Rattle.script_code.specs.Listing.{listing}
+use Rattle.std.proofs.Common.{◌≡◌, List, Some, IfOk, map, refl, sym, ap, subst, ◌∙◌}
+use Rattle.std.proofs.lemmas.Result.{IfOk-weaker}
+use Rattle.pct_ask.specs.declared.Deal.{Deal}
+use Rattle.pct_ask.specs.declared.verdict.Outcome.TheVariants.{Verdict as Ends}
+use Rattle.sync_store.specs.Store.{sizes_of_deal}
 use Rattle.script_tree.specs.ScriptSeen.{text}
 use Rattle.script_body.specs.BodyPosts.{pending_of}
-use Rattle.policy_pick.specs.Kept.{points_plan}
-use Rattle.replay_run.specs.Replay.{bodies_of}
-use Rattle.replay_run.proofs.ScriptBodies.{code_bodies, all_in_range}
-use Rattle.replay_run.proofs.Compared.{played_as}
+use Rattle.script_body.specs.Bodies.{bodies_of, AskInRange}
+use Rattle.policy_pick.specs.Plan.{ByPoints}
+use Rattle.worker_run.specs.declared.by_order.WholeRun.{WholeRun}
+use Rattle.worker_run.specs.Bodies.{Pending}
+use Rattle.worker_run.specs.Played.{IsPlayed}
+use Rattle.worker_run.specs.Run.{run}
+use Rattle.pct_top.specs.Known.{AreKnown}
 use Rattle.pct_top.proofs.KnownRuns.{known-run}
-use Rattle.pct_top.proofs.Played.{run_as}
 use Rattle.pct_top.proofs.playing.play.Goals as goal
 
-pub run_threads-requires-clause-in_range : goal.run_threads-requires-clause-in_range
-run_threads-requires-clause-in_range g c κs within =
+pub run_by_points-requires-clause-in_range : goal.run_by_points-requires-clause-in_range
+run_by_points-requires-clause-in_range g c κs within =
     let test = c.args.test.now in
-    all_in_range c.in_ok-bodies.bodies.items pending_of (text test.script) (listing test.code) test.deal c.in_ok-deal.deal c.requires.ready c.in_ok-deal.ensures c.in_ok-bodies.ensures
-
-pub verdict_of-verdict-requires : goal.verdict_of-verdict-requires
-verdict_of-verdict-requires g c = let is = c.in_ok-played.ensures.run c.args.order.now c.args.points.now c.in_ok-policy.ensures.plan in (is.verdict, is.ends)
+    let D : Deal → Type 0 = λ d. AskInRange (sizes_of_deal d) (map pending_of c.in_ok-bodies.bodies.items) in
+    subst D (sym c.in_ok-deal.ensures) (c.in_ok-bodies.ensures.in_range (text test.script) test.deal c.requires.ready)
 
 pub returns-clause-run : goal.returns-clause-run
 returns-clause-run g c =
     let test = c.args.test.now in
     let script = text test.script in
-    let bodies = c.in_ok-bodies.ensures ∙ code_bodies script (listing test.code) (c.requires.ready).is_code in
-    run_as c.in_ok-deal.deal test.deal (map pending_of c.in_ok-bodies.bodies.items) (bodies_of script) c.args.order.now c.args.points.now c.args.limit c.in_ok-played.played.events c.in_ok-played.played.outcome c.verdict_of-verdict.result
-    c.in_ok-deal.ensures bodies c.verdict_of-verdict.ensures (c.in_ok-played.ensures.run c.args.order.now c.args.points.now c.in_ok-policy.ensures.plan)
+    let order = c.args.order.now in
+    let points = c.args.points.now in
+    let D : Deal → Type 0 = λ d. IfOk c.run_by_points.result (λ (r : WholeRun). run d (map pending_of c.in_ok-bodies.bodies.items) order points c.args.limit ≡ Some (r.events, r.verdict)) in
+    let B : List Pending → Type 0 = λ bs. IfOk c.run_by_points.result (λ (r : WholeRun). run test.deal bs order points c.args.limit ≡ Some (r.events, r.verdict)) in
+    subst B (c.in_ok-bodies.ensures.script script (c.requires.ready).is_code) (subst D c.in_ok-deal.ensures c.run_by_points.ensures.run)
 
 pub returns-clause-known : goal.returns-clause-known
 returns-clause-known g c =
     let test = c.args.test.now in
     let script = text test.script in
-    let bodies = c.in_ok-bodies.ensures ∙ code_bodies script (listing test.code) (c.requires.ready).is_code in
-    known-run script test.deal (c.requires.ready).sound (c.requires.ready).is_deal (points_plan c.in_ok-policy.policy) c.args.limit c.in_ok-played.played.events c.verdict_of-verdict.result c.in_ok-played.played.outcome c.verdict_of-verdict.ensures
-    (played_as (points_plan c.in_ok-policy.policy) (points_plan c.in_ok-policy.policy) c.in_ok-deal.deal test.deal (map pending_of c.in_ok-bodies.bodies.items) (bodies_of script) c.args.limit c.in_ok-played.played.events c.in_ok-played.played.outcome refl c.in_ok-deal.ensures bodies c.in_ok-played.ensures.played)
+    let plan = ByPoints c.args.order.now c.args.points.now in
+    let D : Deal → Type 0 = λ d. IfOk c.run_by_points.result (λ (r : WholeRun). IsPlayed plan d (map pending_of c.in_ok-bodies.bodies.items) c.args.limit r.events (Ends r.verdict)) in
+    let B : List Pending → Type 0 = λ bs. IfOk c.run_by_points.result (λ (r : WholeRun). IsPlayed plan test.deal bs c.args.limit r.events (Ends r.verdict)) in
+    let played = subst B (c.in_ok-bodies.ensures.script script (c.requires.ready).is_code) (subst D c.in_ok-deal.ensures c.run_by_points.ensures.played) in
+    IfOk-weaker c.run_by_points.result (λ (r : WholeRun). IsPlayed plan test.deal (bodies_of script) c.args.limit r.events (Ends r.verdict)) (λ (r : WholeRun). AreKnown script c.args.limit r.events r.verdict)
+    (λ r is. known-run script test.deal (c.requires.ready).sound (c.requires.ready).is_deal plan c.args.limit r.events r.verdict (Ends r.verdict) refl is) played

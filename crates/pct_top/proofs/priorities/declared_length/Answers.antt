@@ -4,12 +4,12 @@ use Rattle.std.proofs.lemmas.List.FromFn.{length-range_with_len}
 use Rattle.rank_now.specs.Order.{IsOrder}
 use Rattle.script_tree.specs.ScriptSeen.{text}
 use Rattle.worker_run.specs.Run.{Run}
-use Rattle.pct_top.specs.Output.{run_of}
-use Rattle.pct_top.proofs.Draws.{declared_is}
+use Rattle.pct_top.specs.Runs.{run_of}
+use Rattle.worker_run.proofs.laws.Orders.{declared_is_order}
 use Rattle.pct_top.proofs.priorities.declared_length.Goals as goal
 
 pub play-requires-clause-order : goal.play-requires-clause-order
-play-requires-clause-order g c κs within = subst IsOrder (sym (c.deref.ensures.value ∙ c.in_ok-order.ensures)) (declared_is c.args.test.now.deal.threads)
+play-requires-clause-order g c κs within = subst IsOrder (sym (c.deref.ensures.value ∙ c.in_ok-order.ensures)) (declared_is_order c.args.test.now.deal.threads)
 
 pub play-requires-clause-whole : goal.play-requires-clause-whole
 play-requires-clause-whole g c κs within = ap length (c.deref.ensures.value ∙ c.in_ok-order.ensures) ∙ length-range_with_len 0 c.args.test.now.deal.threads

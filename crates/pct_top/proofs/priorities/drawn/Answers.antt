@@ -6,6 +6,6 @@ pub returns-clause-are : goal.returns-clause-are
 returns-clause-are c = record {
   order = drawn_order c.args.threads c.in_ok-order.order c.in_ok-order.ensures.order;
   whole = c.in_ok-order.ensures.order.whole;
-  few_points = omega (arith, c.in_ok-points.ensures.count, c.requires.little_depth);
+  few_points = omega (arith, c.in_ok-points.ensures.count, c.requires.depth.1);
   points_fit = drawn_points c.args.steps c.in_ok-points.points c.requires.steps c.in_ok-points.ensures.steps;
 }

@@ -3,14 +3,14 @@ use Rattle.std.proofs.lemmas.List.{length-map}
 use Rattle.std.proofs.lemmas.List.Elements.{All-map}
 use Rattle.pct_ask.specs.declared.Deal.{Deal}
 use Rattle.pct_ask.specs.declared.event.Event.{Event}
+use Rattle.sync_store.specs.Store.{sizes_of_deal}
 use Rattle.script_code.specs.Listing.{listing}
 use Rattle.script_body.specs.BodyPosts.{pending_of}
 use Rattle.policy_pick.specs.Plan.{Plan, ByList, SpeaksOf}
 use Rattle.policy_pick.specs.Kept.{list_plan}
 use Rattle.turn_book.specs.Posts.{schedule_of}
 use Rattle.worker_run.specs.Bodies.{source_of_bodies}
-use Rattle.replay_run.specs.Replay.{bodies_of}
-use Rattle.replay_run.proofs.ScriptBodies.{code_bodies, all_in_range}
+use Rattle.script_body.specs.Bodies.{bodies_of, AskInRange}
 use Rattle.replay_run.proofs.ListedRuns.{listed_short}
 use Rattle.replay_run.proofs.Compared.{played_as, run_confirmed}
 use Rattle.replay_run.proofs.replaying.replay.Goals as goal
@@ -25,7 +25,9 @@ run_threads-requires-clause-speaks g c κs within =
     subst D (sym c.in_ok-own.ensures) (subst S (sym plan) (deal.few_threads, listed))
 
 pub run_threads-requires-clause-in_range : goal.run_threads-requires-clause-in_range
-run_threads-requires-clause-in_range g c κs within = all_in_range c.in_ok-bodies.bodies.items pending_of c.requires.script.0 (listing c.args.code.now) c.args.deal.now c.in_ok-own.own c.requires.script.1 c.in_ok-own.ensures c.in_ok-bodies.ensures
+run_threads-requires-clause-in_range g c κs within =
+    let D : Deal → Type 0 = λ d. AskInRange (sizes_of_deal d) (map pending_of c.in_ok-bodies.bodies.items) in
+    subst D (sym c.in_ok-own.ensures) (c.in_ok-bodies.ensures.in_range c.requires.script.0 c.args.deal.now c.requires.script.1)
 
 pub compare-requires-clause-no_longer : goal.compare-requires-clause-no_longer
 compare-requires-clause-no_longer g c =
@@ -39,7 +41,7 @@ compare-requires-clause-no_longer g c =
 pub returns-clause-replay : goal.returns-clause-replay
 returns-clause-replay g c = λ script of.
     let plan = c.in_ok-policy.ensures.plan ∙ ap ByList (c.as_slice-2.ensures.value ∙ c.in_ok-threads.ensures ∙ ap schedule_of c.as_slice.ensures) in
-    let bodies = c.in_ok-bodies.ensures ∙ code_bodies script (listing c.args.code.now) of.is_code in
+    let bodies = c.in_ok-bodies.ensures.script script of.is_code in
     record {
       made = c.in_ok-played.played.events;
       outcome = c.in_ok-played.played.outcome;

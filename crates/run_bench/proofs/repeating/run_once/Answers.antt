@@ -1,16 +1,22 @@
-use Rattle.script_code.specs.Listing.{listing}
+use Rattle.std.proofs.Common.{map, sym, ap, subst, ◌∙◌}
+use Rattle.pct_ask.specs.declared.Deal.{Deal}
+use Rattle.sync_store.specs.Store.{sizes_of_deal}
 use Rattle.script_body.specs.BodyPosts.{pending_of}
-use Rattle.replay_run.proofs.ScriptBodies.{one_each, all_in_range}
+use Rattle.script_body.specs.Bodies.{AskInRange}
 use Rattle.run_bench.proofs.repeating.run_once.Goals as goal
 
 pub run_here-requires-clause-bodies : goal.run_here-requires-clause-bodies
-run_here-requires-clause-bodies g c κs within = one_each c.in_ok-bodies.bodies.items pending_of c.requires.script.0 (listing c.args.code.now) c.args.deal.now c.in_ok-own.own c.requires.script.1 c.in_ok-own.ensures c.in_ok-bodies.ensures
+run_here-requires-clause-bodies g c κs within = c.in_ok-bodies.ensures.one_each c.requires.script.0 c.args.deal.now c.requires.script.1 ∙ ap (λ (d : Deal). d.threads) (sym c.in_ok-own.ensures)
 
 pub run_here-requires-clause-in_range : goal.run_here-requires-clause-in_range
-run_here-requires-clause-in_range g c κs within = all_in_range c.in_ok-bodies.bodies.items pending_of c.requires.script.0 (listing c.args.code.now) c.args.deal.now c.in_ok-own.own c.requires.script.1 c.in_ok-own.ensures c.in_ok-bodies.ensures
+run_here-requires-clause-in_range g c κs within =
+    let D : Deal → Type 0 = λ d. AskInRange (sizes_of_deal d) (map pending_of c.in_ok-bodies.bodies.items) in
+    subst D (sym c.in_ok-own.ensures) (c.in_ok-bodies.ensures.in_range c.requires.script.0 c.args.deal.now c.requires.script.1)
 
 pub run_threads-requires-clause-bodies : goal.run_threads-requires-clause-bodies
-run_threads-requires-clause-bodies g c κs within = one_each c.in_ok-bodies.bodies.items pending_of c.requires.script.0 (listing c.args.code.now) c.args.deal.now c.in_ok-own.own c.requires.script.1 c.in_ok-own.ensures c.in_ok-bodies.ensures
+run_threads-requires-clause-bodies g c κs within = c.in_ok-bodies.ensures.one_each c.requires.script.0 c.args.deal.now c.requires.script.1 ∙ ap (λ (d : Deal). d.threads) (sym c.in_ok-own.ensures)
 
 pub run_threads-requires-clause-in_range : goal.run_threads-requires-clause-in_range
-run_threads-requires-clause-in_range g c κs within = all_in_range c.in_ok-bodies.bodies.items pending_of c.requires.script.0 (listing c.args.code.now) c.args.deal.now c.in_ok-own.own c.requires.script.1 c.in_ok-own.ensures c.in_ok-bodies.ensures
+run_threads-requires-clause-in_range g c κs within =
+    let D : Deal → Type 0 = λ d. AskInRange (sizes_of_deal d) (map pending_of c.in_ok-bodies.bodies.items) in
+    subst D (sym c.in_ok-own.ensures) (c.in_ok-bodies.ensures.in_range c.requires.script.0 c.args.deal.now c.requires.script.1)

@@ -1,7 +1,7 @@
 use Rattle.script_tree.specs.ScriptSeen.{text}
 use Rattle.script_code.specs.Listing.{listing}
 use Rattle.script_body.specs.BodyPosts.{pending_of}
-use Rattle.replay_run.proofs.ScriptBodies.{one_each, all_in_range}
+use Rattle.script_body.proofs.laws.ScriptBodies.{one_each, all_in_range}
 use Rattle.pct_top.proofs.tests.meetings.expect_meeting.Goals as goal
 
 pub run_threads-requires-clause-bodies : goal.run_threads-requires-clause-bodies

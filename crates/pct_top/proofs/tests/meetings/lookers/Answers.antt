@@ -1,7 +1,7 @@
 use Rattle.std.proofs.Common.{◌<◌, length, arith}
 use Rattle.script_code.specs.Listing.{listing}
 use Rattle.script_body.specs.BodyPosts.{pending_of}
-use Rattle.replay_run.proofs.ScriptBodies.{one_more}
+use Rattle.script_body.proofs.laws.ScriptBodies.{one_more}
 use Rattle.pct_top.proofs.tests.meetings.lookers.Goals as goal
 
 pub loop-thread-preserved : goal.loop-thread-preserved

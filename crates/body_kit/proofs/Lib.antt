@@ -1,0 +1,4 @@
+pub mod Refusals
+pub mod Answered
+pub mod Ports
+pub mod Laws

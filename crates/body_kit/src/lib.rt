@@ -1,0 +1,19 @@
+//! Tests written in Rust, under the same lock as scripts: as bodies in boxes, or as threads of one's own that each have a port.
+#![tactic(auto)]
+
+mod asked;
+mod asking;
+mod boxed;
+mod counts;
+mod error;
+mod kit;
+mod port;
+mod run;
+#[cfg(test)]
+mod tests;
+
+pub use asked::Asked;
+pub use error::KitError;
+pub use kit::Kit;
+pub use port::Port;
+pub use run::{BoxedRun, run_boxed};

@@ -1,0 +1,9 @@
+pub mod DirectiveText
+pub mod Forms
+pub mod Lines
+pub mod Directive
+pub mod Faults
+pub mod Answers
+pub mod Reading
+pub mod Seen
+pub mod Rows

@@ -1,0 +1,27 @@
+-- A text as lines (this project).
+use Rattle.std.specs.Prelude.{◌≡◌, ℕ, ◌-◌, ◌<◌, ◌⊎◌, Bool, true, false, ◌==◌, List, [], ◌∷◌, length, drop}
+use Rattle.std.specs.List.{slice_split}
+
+-- What stands between the LFs of a text: each piece but the last is a line with its LF, and the
+-- last one is what stands after the last LF.
+abbrev pub pieces_of : List ℕ → List (List ℕ)
+pieces_of bytes = slice_split (λ b. b == 10) bytes
+
+-- a line's bytes without its LF, and whether it has one
+pub record Line : Type 0 where
+  pub text : List ℕ
+  pub whole : Bool
+
+-- the first of some pieces, and nothing where there is none
+abbrev pub first_line : List (List ℕ) → Line
+first_line [] = record { text = []; whole = false }
+first_line (piece ∷ []) = record { text = piece; whole = false }
+first_line (piece ∷ next ∷ pieces) = record { text = piece; whole = true }
+
+-- line k, from 1
+abbrev pub line_at : List (List ℕ) → ℕ → Line
+line_at pieces k = first_line (drop (k - 1) pieces)
+
+-- there is a byte of the line
+abbrev pub IsThere : Line → Type 0
+IsThere line = (line.whole ≡ true) ⊎ (0 < length line.text)

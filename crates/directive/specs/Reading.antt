@@ -1,0 +1,148 @@
+-- Reading a directive from its first line to its last.
+use Rattle.std.specs.Prelude.{ℕ, ℤ, pos, negsuc, ◌+◌, ◌&&◌, nat_le, nat_lt, if◌then◌else◌, List, [], ◌∷◌, length, take, drop, Option, Some, None, Result, Ok, Err, codes, decimal}
+use Rattle.std.specs.Str.{bytes_eq}
+use Rattle.std.specs.Str.Parse.{digits_value}
+use Rattle.pct_ask.specs.Words.{is_name}
+use Rattle.pct_ask.specs.NameLists.{NameLists, place_of}
+use Rattle.pct_ask.specs.VerdictWords.{words_of, verdict_of_words}
+use Rattle.pct_ask.specs.declared.verdict.Verdict.{Verdict}
+use Rattle.pct_ask.specs.declared.verdict_text.VerdictRead.{VerdictRead}
+use Rattle.pct_ask.specs.declared.verdict_text.VerdictRead.TheVariants.{Is, NoForm, UnknownName as Unknown}
+use Rattle.rank_now.specs.declared.moment.Moment.{Moment}
+use Rattle.directive.specs.DirectiveText.{DirectiveText}
+use Rattle.directive.specs.Lines.{pieces_of}
+use Rattle.directive.specs.declared.row.Row.{Row}
+use Rattle.directive.specs.declared.row.Row.TheVariants.{After, End}
+use Rattle.directive.specs.declared.row.Sound.{Sound}
+use Rattle.directive.specs.declared.row.Sound.TheVariants as sound
+use Rattle.directive.specs.declared.fault.DirectiveFault.{DirectiveFault}
+use Rattle.directive.specs.declared.fault.DirectiveFault.TheVariants.{TooLong, BadHeader, BadLine, UnknownName, NoVerdict, MoreAfterVerdict}
+
+abbrev pub Fault : Type 0
+Fault = ℕ × DirectiveFault
+
+-- a number, where it is in 1..100000
+abbrev pub ranged : ℤ → Option ℕ
+ranged (pos n) = if nat_le 1 n && nat_le n 100000 then Some n else None
+ranged (negsuc n) = None
+
+-- the number in 1..100000 of which the word is the canonical decimal
+unfoldable pub number_in : List ℕ → Option ℕ
+number_in word =
+    if bytes_eq (decimal (digits_value 10 word)) word
+    then ranged (pos (digits_value 10 word)) else None
+
+abbrev pub lawful : List ℕ → Option (List ℕ)
+lawful name = if is_name 1 name then Some name else None
+
+-- the name of a `low` line, by its words
+abbrev pub low_words : List (List ℕ) → Option (List ℕ)
+low_words (head ∷ name ∷ []) = if bytes_eq head (codes "low") then lawful name else None
+low_words words = None
+
+unfoldable pub low_in : List ℕ → Option (List ℕ)
+low_in text = low_words (words_of text)
+
+abbrev pub moment_row : NameLists → Option (List ℕ) → Option ℕ → Option Row
+moment_row names None number = None
+moment_row names (Some name) None = None
+moment_row names (Some name) (Some number) = Some (After (place_of name names.threads) number)
+
+abbrev pub moment_of : NameLists → List ℕ → List ℕ → Option Row
+moment_of names name number = moment_row names (lawful name) (number_in number)
+
+-- the moment that an `after` line tells by its words
+abbrev pub after_words : NameLists → List (List ℕ) → Option Row
+after_words names (head ∷ name ∷ number ∷ []) =
+    if bytes_eq head (codes "after") then moment_of names name number else None
+after_words names words = None
+
+abbrev pub end_of : VerdictRead → Option Row
+end_of NoForm = None
+end_of Unknown = Some (End None)
+end_of (Is verdict) = Some (End (Some verdict))
+
+-- what a line after the second says by form
+unfoldable pub row_of : NameLists → List ℕ → Option Row
+row_of names text =
+    if bytes_eq (take 8 text) (codes "verdict ")
+    then end_of (verdict_of_words names (words_of (drop 8 text)))
+    else after_words names (words_of text)
+
+-- the fault of line k where it has no LF
+abbrev pub unended_fault : ℕ → Option Row → List ℕ → DirectiveFault
+unended_fault k None [] = NoVerdict
+unended_fault k None (b ∷ bs) = BadLine
+unended_fault k (Some (After thread number)) text = if nat_lt 9 k then TooLong else BadLine
+unended_fault k (Some (End verdict)) text = BadLine
+
+abbrev pub judged_moment : Option ℕ → ℕ → Result Sound DirectiveFault
+judged_moment None number = Err UnknownName
+judged_moment (Some thread) number = Ok (sound.Event (record { thread = thread; number = number }))
+
+-- what line k is where it has its LF, or its fault
+abbrev pub judged : ℕ → Option Row → Result Sound DirectiveFault
+judged k None = Err BadLine
+judged k (Some (After thread number)) =
+    if nat_lt 9 k then Err TooLong else judged_moment thread number
+judged k (Some (End None)) = Err UnknownName
+judged k (Some (End (Some verdict))) = Ok (sound.Last verdict)
+
+abbrev pub Body : Type 0
+Body = List Moment × Verdict
+
+abbrev pub with_moment : Moment → Result Body Fault → Result Body Fault
+with_moment moment (Ok body) = Ok (moment ∷ body.0, body.1)
+with_moment moment (Err fault) = Err fault
+
+-- nothing stands after the verdict line
+abbrev pub closed : ℕ → Verdict → List ℕ → List (List ℕ) → Result Body Fault
+closed k verdict [] [] = Ok ([], verdict)
+closed k verdict [] (piece ∷ pieces) = Err (k, MoreAfterVerdict)
+closed k verdict (b ∷ bs) pieces = Err (k, MoreAfterVerdict)
+
+abbrev pub after_row : ℕ → Result Sound DirectiveFault → List ℕ → List (List ℕ) → Result Body Fault
+    → Result Body Fault
+after_row k (Err kind) piece pieces others = Err (k, kind)
+after_row k (Ok (sound.Event moment)) piece pieces others = with_moment moment others
+after_row k (Ok (sound.Last verdict)) piece pieces others = closed (k + 1) verdict piece pieces
+
+-- the moments and the verdict, from line k on
+abbrev pub body_of : NameLists → ℕ → List (List ℕ) → Result Body Fault
+body_of names k [] = Err (k, NoVerdict)
+body_of names k (piece ∷ []) = Err (k, unended_fault k (row_of names piece) piece)
+body_of names k (piece ∷ after ∷ pieces) =
+    after_row k (judged k (row_of names piece)) after pieces
+    (body_of names (k + 1) (after ∷ pieces))
+
+abbrev pub told_of : ℕ → Result Body Fault → Result DirectiveText Fault
+told_of low (Ok body) = Ok (record { low = low; events = body.0; verdict = body.1 })
+told_of low (Err fault) = Err fault
+
+abbrev pub low_known : NameLists → Option ℕ → List (List ℕ) → Result DirectiveText Fault
+low_known names None pieces = Err (2, UnknownName)
+low_known names (Some low) pieces = told_of low (body_of names 3 pieces)
+
+abbrev pub low_read : NameLists → Option (List ℕ) → List (List ℕ) → Result DirectiveText Fault
+low_read names None pieces = Err (2, BadHeader)
+low_read names (Some name) pieces = low_known names (place_of name names.threads) pieces
+
+-- from the second line on
+abbrev pub second_line : NameLists → List (List ℕ) → Result DirectiveText Fault
+second_line names [] = Err (2, BadHeader)
+second_line names (piece ∷ []) = Err (2, BadHeader)
+second_line names (piece ∷ after ∷ pieces) = low_read names (low_in piece) (after ∷ pieces)
+
+-- from the first line on
+abbrev pub first_line : NameLists → List (List ℕ) → Result DirectiveText Fault
+first_line names [] = Err (1, BadHeader)
+first_line names (piece ∷ []) = Err (1, BadHeader)
+first_line names (piece ∷ after ∷ pieces) =
+    if bytes_eq piece (codes "directive 1") then second_line names (after ∷ pieces)
+    else Err (1, BadHeader)
+
+-- the directive that a text is read as, or its fault
+abbrev pub read : NameLists → List ℕ → Result DirectiveText Fault
+read names bytes =
+    if nat_lt 65536 (length bytes) then Err (1, TooLong)
+    else first_line names (pieces_of bytes)

@@ -1,0 +1,17 @@
+//! A directive as a value.
+
+ghost use Rattle.std.specs.Prelude.{◌≤◌, length};
+
+use pct_ask::Verdict;
+use policy_pick::MomentList;
+
+/// Which verdict comes where one thread is lowest and others are lowered at some moments.
+#[derive(Debug, Drop)]
+pub struct Directive {
+    /// The thread of the lowest priority.
+    pub low: u32,
+    /// After the i-th of these moments its thread gets the priority i, from 1.
+    pub events: MomentList,
+    pub verdict: Verdict,
+    ghost few: { length events ≤ 7 },
+}

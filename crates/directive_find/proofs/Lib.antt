@@ -1,0 +1,3 @@
+pub mod laws
+pub mod Walk
+pub mod Rounds

@@ -1,0 +1,4 @@
+pub mod Moments
+pub mod Reduced
+pub mod Found
+pub mod Rows

@@ -1,0 +1,78 @@
+//! A short directive for a failing run.
+
+ghost use Rattle.std.specs.Prelude.{◌≡◌, ◌≤◌, List, length, IfOk, All, Some};
+ghost use Rattle.pct_ask.specs.declared.event.Event.{Event};
+ghost use Rattle.pct_ask.specs.declared.verdict.Verdict.{Verdict};
+ghost use Rattle.rank_now.specs.Order.{IsOrder};
+ghost use Rattle.script_tree.specs.ScriptText.{ScriptText};
+ghost use Rattle.script_code.specs.Listing.{listing};
+ghost use Rattle.script_body.specs.Bodies.{bodies_of, AreOf};
+ghost use Rattle.turn_book.specs.Posts.{schedule_of};
+ghost use Rattle.worker_run.specs.Run.{run, directed};
+ghost use Rattle.directive_find.specs.Moments.{events_of};
+ghost use Rattle.directive_find.specs.Found.{Finds};
+
+use crate::moments::events_of;
+use crate::reducing::{Short, reduce};
+use crate::running::run_of_points;
+use pct_ask::{Deal, Verdict};
+use pct_outside::Gate;
+use policy_pick::MomentList;
+use script_code::Code;
+use std::alloc::{AllocError as NoMemory, Global};
+use std::sync::Wait;
+use std::thread::Threads;
+
+/// What a run by an order and change points comes to.
+#[derive(Debug, Drop)]
+pub enum FoundOut {
+    /// These moments lead the order to the run's verdict, each of them is needed, and their directed run has this number
+    /// of steps.
+    Events {
+        events: MomentList,
+        verdict: Verdict,
+        steps: u32,
+    },
+    /// The run passes, after this number of steps.
+    Passes {
+        steps: u32,
+    },
+}
+
+/// Runs a script by an order of its threads, the highest first, and change points, which are numbers of steps from 1. Where
+/// the run doesn't pass, finds few moments by which the order has the same verdict. There are at most 29 runs.
+pub fn find<R: Threads + Wait + Sync, G: Gate>(
+    rt: &R,
+    alloc: Global,
+    code: &Code,
+    deal: &Deal,
+    order: &[u32],
+    points: &[u32],
+    limit: u32,
+    gate: &G,
+) -> Result<FoundOut, NoMemory>
+    requires script { (script : ScriptText) × AreOf script (listing code.now) deal.now }
+    requires order { IsOrder order.now }
+    requires whole { length order.now ≡ deal.now.threads }
+    requires few_points { length points.now ≤ 7 }
+    requires points { All (λ point. 1 ≤ point) points.now }
+    requires some_steps { 1 ≤ limit }
+    requires few_steps { limit ≤ 100000 }
+    ensures { (script : ScriptText) → AreOf script (listing code.now) deal.now
+        → IfOk result (Finds deal.now (bodies_of script) order.now points.now limit) }
+{
+    let whole = run_of_points(rt, alloc, code, deal, order, points, limit, gate)?;
+    let steps = whole.events.len() as u32;
+    let verdict = whole.verdict;
+    if verdict.is(&Verdict::Passed) {
+        return Ok(FoundOut::Passes { steps });
+    }
+    let events = events_of(alloc, whole.events.as_slice(), points)?;
+    let whole = Short { events, steps };
+    let short = reduce(rt, alloc, code, deal, order, whole, &verdict, limit, gate)?;
+    Ok(FoundOut::Events {
+        events: short.events,
+        verdict,
+        steps: short.steps,
+    })
+}

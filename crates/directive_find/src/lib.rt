@@ -1,0 +1,14 @@
+//! A short directive from a failing run: the moments of the run by an order and change points, without those that its
+//! verdict doesn't need.
+#![tactic(auto)]
+
+mod finding;
+mod moments;
+mod reducing;
+mod running;
+#[cfg(test)]
+mod samples;
+#[cfg(test)]
+mod tests;
+
+pub use finding::{FoundOut, find};

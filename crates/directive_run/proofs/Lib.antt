@@ -1,0 +1,5 @@
+pub mod laws
+pub mod Walk
+pub mod Exposure
+pub mod Places
+pub mod Certificates

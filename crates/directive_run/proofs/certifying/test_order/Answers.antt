@@ -1,0 +1,17 @@
+-- The directed run is too long, has another verdict, or is the run of its moments' points.
+use Rattle.std.proofs.Common.{ap, ◌∙◌, arith}
+use Rattle.script_body.specs.Bodies.{bodies_of}
+use Rattle.turn_book.specs.Posts.{schedule_of}
+use Rattle.directive_run.specs.Points.{points_of}
+use Rattle.directive_run.proofs.Exposure.{too-long}
+use Rattle.directive_run.proofs.Certificates.{pointed}
+use Rattle.directive_run.proofs.certifying.test_order.Goals as goal
+
+pub returns-then-many-steps : goal.returns-then-many-steps
+returns-then-many-steps g c = λ script of.
+    too-long c.args.deal.now (bodies_of script) c.args.order.now c.as_slice-events.result.now c.args.directive.now.events c.args.steps c.args.limit c.len-many.result c.in_ok-whole.whole.events c.in_ok-whole.whole.verdict c.as_slice-events.ensures (c.in_ok-whole.ensures.directed script of) c.len-many.ensures c.if-many-steps.true
+
+pub returns : goal.returns
+returns g c = λ script of.
+    pointed c.args.deal.now (bodies_of script) c.args.order.now c.as_slice-events.result.now c.args.directive.now.events c.args.directive.now.verdict c.in_ok-whole.whole.verdict c.args.steps c.args.limit c.in_ok-whole.whole.events c.in_ok-points_of.field-0 c.as_slice-events.ensures (c.in_ok-whole.ensures.directed script of) (c.is.ensures.0 c.if-not-is.false) (omega (arith, c.len-many.ensures, c.if-many-steps.false))
+    (c.in_ok-points_of.ensures ∙ ap (λ es. points_of (schedule_of es) c.args.steps c.as_slice-events.result.now) c.as_slice.ensures)

@@ -1,0 +1,4 @@
+pub mod ExposedPoints
+pub mod OrderLists
+pub mod Counts
+pub mod OneAnswer

@@ -1,0 +1,103 @@
+-- What certifying a directive answers (this project).
+use Rattle.std.specs.Prelude.{◌≡◌, ◌≢◌, ℕ, ◌*◌, ◌^◌, ◌<◌, ◌≤◌, List, [], ◌∷◌, ◌++◌, length, Some}
+use Rattle.pct_ask.specs.declared.Deal.{Deal}
+use Rattle.pct_ask.specs.declared.event.Event.{Event}
+use Rattle.pct_ask.specs.declared.verdict.Verdict.{Verdict}
+use Rattle.rank_now.specs.declared.moment.Moment.{Moment}
+use Rattle.rank_now.specs.Order.{IsOrder}
+use Rattle.turn_book.specs.Posts.{schedule_of}
+use Rattle.worker_run.specs.Bodies.{Pending}
+use Rattle.worker_run.specs.Run.{run, directed}
+use Rattle.directive.specs.declared.directive.Directive.{Directive}
+use Rattle.directive_run.specs.Points.{points_of}
+use Rattle.directive_run.specs.Exposing.{IsTooLong}
+use Rattle.directive_run.specs.Orders.{factorial, low_orders}
+use Rattle.directive_run.specs.Counting.{hits}
+use Rattle.directive_run.specs.Guarantees.{EndsIn, IsLed, Guarantees}
+use Rattle.directive_run.specs.declared.answers.CertifyRow.{CertifyRow}
+use Rattle.directive_run.specs.declared.answers.Certified.{Certified}
+use Rattle.directive_run.specs.declared.answers.Certified.TheVariants.{Yes, Refuted, TooLong, TooManyThreads}
+
+-- The order's directed run has the verdict and at most so many steps; the points are those of its
+-- moments, and the run of the order and these points has the same steps and the verdict.
+pub record IsPointed (deal : Deal) (bodies : List Pending) (order : List ℕ) (events : List Moment)
+    (verdict : Verdict) (steps limit : ℕ) (points : List ℕ) : Type 0 where
+  pub made : List Event
+  pub is_directed : directed deal bodies order events limit ≡ Some (made, verdict)
+  pub short : length made ≤ steps
+  pub points_are : points ≡ points_of (schedule_of made) steps events
+  pub is_run : run deal bodies order points limit ≡ Some (made, verdict)
+
+-- one row for each of the orders, in their order
+abbrev pub AreRows : Deal → List Pending → Directive → ℕ → ℕ → List (List ℕ) → List CertifyRow
+    → Type 0
+AreRows deal bodies directive steps limit [] [] = Unit {0}
+AreRows deal bodies directive steps limit [] (row ∷ rows) = ⊥
+AreRows deal bodies directive steps limit (order ∷ orders) [] = ⊥
+AreRows deal bodies directive steps limit (order ∷ orders) (row ∷ rows) =
+    (row.order ≡ order)
+    × IsPointed deal bodies order directive.events directive.verdict steps limit row.points
+    × AreRows deal bodies directive steps limit orders rows
+
+-- The directive guarantees its verdict; there is one row for each order that places its thread
+-- last; and the count: of the n! k^m choices of an order and m points in 1..k, for n threads, k
+-- steps and m moments, at least one in n k^m leads to the verdict.
+pub record IsCertified (deal : Deal) (bodies : List Pending) (directive : Directive)
+    (steps limit bound : ℕ) (rows : List CertifyRow) : Type 0 where
+  pub few : deal.threads ≤ 7
+  pub guarantees : Guarantees deal bodies directive.low directive.events directive.verdict steps
+      limit
+  pub bound_is : bound ≡ deal.threads * steps ^ length directive.events
+  pub rows_are : AreRows deal bodies directive steps limit
+      (low_orders deal.threads directive.low) rows
+  pub counted : factorial deal.threads * steps ^ length directive.events
+      ≤ hits deal bodies deal.threads steps (length directive.events) directive.verdict limit
+      * bound
+
+-- The order is the first of those that place the thread last whose directed run isn't led to the
+-- verdict: those before it are.
+pub record IsFirstOther (deal : Deal) (bodies : List Pending) (directive : Directive)
+    (steps limit : ℕ) (order : List ℕ) : Type 0 where
+  pub few : deal.threads ≤ 7
+  pub before : List (List ℕ)
+  pub after : List (List ℕ)
+  pub listed : low_orders deal.threads directive.low ≡ before ++ order ∷ after
+  pub led : (other : List ℕ) (front back : List (List ℕ)) → before ≡ front ++ other ∷ back
+      → IsLed deal bodies other directive.events directive.verdict steps limit
+
+-- Its directed run has this other verdict, and at most so many steps.
+pub record IsRefuted (deal : Deal) (bodies : List Pending) (directive : Directive) (steps limit : ℕ)
+    (order : List ℕ) (verdict : Verdict) : Type 0 where
+  pub first : IsFirstOther deal bodies directive steps limit order
+  pub is_order : IsOrder order
+  pub whole : length order ≡ deal.threads
+  pub last : EndsIn order directive.low
+  pub made : List Event
+  pub is_directed : directed deal bodies order directive.events limit ≡ Some (made, verdict)
+  pub short : length made ≤ steps
+  pub apart : verdict ≢ directive.verdict
+
+-- Its directed run has this number of steps, which is more.
+pub record IsTooLongUnder (deal : Deal) (bodies : List Pending) (directive : Directive)
+    (steps limit : ℕ) (order : List ℕ) (many : ℕ) : Type 0 where
+  pub first : IsFirstOther deal bodies directive steps limit order
+  pub is_order : IsOrder order
+  pub whole : length order ≡ deal.threads
+  pub last : EndsIn order directive.low
+  pub too_long : IsTooLong deal bodies order directive.events steps limit many
+
+abbrev pub Certifies : Deal → List Pending → Directive → ℕ → ℕ → Certified → Type 0
+Certifies deal bodies directive steps limit (Yes bound rows) =
+    IsCertified deal bodies directive steps limit bound rows
+Certifies deal bodies directive steps limit (Refuted order verdict) =
+    IsRefuted deal bodies directive steps limit order verdict
+Certifies deal bodies directive steps limit (TooLong order many) =
+    IsTooLongUnder deal bodies directive steps limit order many
+Certifies deal bodies directive steps limit (TooManyThreads threads) =
+    (threads ≡ deal.threads) × (7 < threads)
+
+abbrev pub IsYes : Certified → Type 0
+IsYes (Yes bound rows) = Unit {0}
+IsYes (Refuted order verdict) = ⊥
+IsYes (TooLong order many) = ⊥
+IsYes (TooManyThreads threads) = ⊥

@@ -1,0 +1,9 @@
+pub mod Points
+pub mod Exposing
+pub mod Orders
+pub mod Counting
+pub mod Guarantees
+pub mod Certifying
+pub mod Tested
+pub mod Laws
+pub mod Rows

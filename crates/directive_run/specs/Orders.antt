@@ -1,0 +1,33 @@
+-- The orders of some threads, listed (this project).
+use Rattle.std.specs.Prelude.{ℕ, zero, suc, ◌*◌, List, [], ◌∷◌, ◌++◌, length, map, remove, slice_index}
+use Rattle.std.specs.List.{range_with_len}
+
+abbrev pub factorial : ℕ → ℕ
+factorial zero = 1
+factorial (suc n) = suc n * factorial n
+
+-- Of a list's first threads, as many as the number says, from the last to the first: the orders
+-- that end in the thread. They are the orders of the list without it, followed by it.
+abbrev pub ending : (List ℕ → List (List ℕ)) → List ℕ → ℕ → List (List ℕ)
+ending others list zero = []
+ending others list (suc place) =
+    map (λ order. order ++ slice_index list place ∷ []) (others (remove list place))
+    ++ ending others list place
+
+-- the orders of a list of so many threads: of no threads there is one, which is empty
+abbrev pub orders_by : ℕ → List ℕ → List (List ℕ)
+orders_by zero list = [] ∷ []
+orders_by (suc n) list = ending (orders_by n) list (suc n)
+
+abbrev pub orders : List ℕ → List (List ℕ)
+orders list = orders_by (length list) list
+
+-- the declared threads
+abbrev pub threads_below : ℕ → List ℕ
+threads_below threads = range_with_len 0 threads
+
+-- The orders that place the thread last: those of the other threads, each followed by it. Each
+-- declared thread stands at its own place.
+abbrev pub low_orders : ℕ → ℕ → List (List ℕ)
+low_orders threads low =
+    map (λ order. order ++ low ∷ []) (orders (remove (threads_below threads) low))

@@ -1,0 +1,39 @@
+-- Small theorems that read the definitions on known lists.
+use Rattle.std.specs.Prelude.{◌≡◌, ℕ, [], ◌∷◌, refl}
+use Rattle.rank_now.specs.declared.moment.Moment.{Moment}
+use Rattle.directive_run.specs.Points.{points_of}
+use Rattle.directive_run.specs.Orders.{orders, threads_below, low_orders}
+use Rattle.directive_run.specs.Counting.{pointlists}
+
+abbrev pub at : ℕ → ℕ → Moment
+at thread number = record { thread = thread; number = number }
+
+-- the second step of thread 0, a step of a thread that took none, the only one of thread 1, and a
+-- third of thread 0
+pub exposed : points_of (0 ∷ 1 ∷ 0 ∷ []) 9 (at 0 2 ∷ at 2 1 ∷ at 1 1 ∷ at 0 3 ∷ [])
+    ≡ 3 ∷ 9 ∷ 2 ∷ 9 ∷ []
+exposed = refl
+
+-- equal moments have equal points
+pub equal_moments : points_of (0 ∷ 1 ∷ []) 8 (at 0 1 ∷ at 0 1 ∷ []) ≡ 1 ∷ 1 ∷ []
+equal_moments = refl
+
+-- three threads have six orders, the last one varying slowest and from the last thread to the first
+pub six_orders : orders (threads_below 3) ≡
+    (0 ∷ 1 ∷ 2 ∷ []) ∷ (1 ∷ 0 ∷ 2 ∷ []) ∷ (0 ∷ 2 ∷ 1 ∷ []) ∷ (2 ∷ 0 ∷ 1 ∷ []) ∷ (1 ∷ 2 ∷ 0 ∷ [])
+    ∷ (2 ∷ 1 ∷ 0 ∷ []) ∷ []
+six_orders = refl
+
+pub no_threads : orders [] ≡ [] ∷ []
+no_threads = refl
+
+-- two of three threads are before the second one
+pub second_last : low_orders 3 1 ≡ (0 ∷ 2 ∷ 1 ∷ []) ∷ (2 ∷ 0 ∷ 1 ∷ []) ∷ []
+second_last = refl
+
+-- two points of 1..2
+pub four_lists : pointlists 2 2 ≡ (1 ∷ 1 ∷ []) ∷ (1 ∷ 2 ∷ []) ∷ (2 ∷ 1 ∷ []) ∷ (2 ∷ 2 ∷ []) ∷ []
+four_lists = refl
+
+pub no_points : pointlists 5 0 ≡ [] ∷ []
+no_points = refl

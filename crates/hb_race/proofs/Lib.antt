@@ -1,0 +1,16 @@
+pub mod Chains
+pub mod Numbers
+pub mod Meaning
+pub mod Words
+pub mod Runs
+pub mod Edges
+pub mod Advance
+pub mod Lasts
+pub mod Greatest
+pub mod Search
+pub mod Notes
+pub mod Steps
+pub mod Reports
+pub mod Ranges
+pub mod Laws
+pub mod Samples

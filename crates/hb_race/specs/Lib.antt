@@ -1,0 +1,10 @@
+pub mod HappensBefore
+pub mod Races
+pub mod Ranges
+pub mod Accesses
+pub mod Objects
+pub mod Order
+pub mod Clocks
+pub mod Lasts
+pub mod Table
+pub mod Histories

@@ -1,0 +1,62 @@
+-- The data races of a run (this project's profile of happens-before).
+use Rattle.std.specs.Prelude.{◌≡◌, ◌≢◌, ℕ, ℤ, pos, ◌+◌, ◌<◌, ◌≤◌, Bool, true, false, ◌||◌, List, map, All, Contains, Option, Some, None, slice_get}
+use Rattle.std.specs.Ordering.{int_eq}
+use Rattle.std.specs.List.Sorted.{IsStrictlyIncreasing}
+use Rattle.pct_ask.specs.declared.ask.Ask.{Ask}
+use Rattle.pct_ask.specs.declared.ask.Ask.TheVariants.{Read, Write, Add, Cas}
+use Rattle.pct_ask.specs.declared.event.Event.{Event}
+use Rattle.hb_race.specs.declared.race.Race.{Race}
+use Rattle.hb_race.specs.HappensBefore.{HappensBefore}
+
+-- the variable that a step accesses
+abbrev pub variable_accessed : Ask → Option ℕ
+variable_accessed (Read x) = Some x
+variable_accessed (Write x value) = Some x
+variable_accessed (Add x value) = Some x
+variable_accessed (Cas x old new) = Some x
+variable_accessed _ = None
+
+-- whether an access is plain: it is not atomic
+abbrev pub is_plain : Ask → Bool
+is_plain (Read x) = true
+is_plain (Write x value) = true
+is_plain _ = false
+
+-- whether an access writes; of compare-and-exchange only one that was answered 1
+abbrev pub is_writing : Ask → ℤ → Bool
+is_writing (Write x value) answer = true
+is_writing (Add x value) answer = true
+is_writing (Cas x old new) answer = int_eq answer (pos 1)
+is_writing _ answer = false
+
+-- The steps i and j race on the variable x: they are of different threads, both access it, at least
+-- one is plain, at least one writes, and the earlier one does not happen before the later one.
+pub record IsRace (events : List Event) (x i j : ℕ) : Type 0 where
+  pub earlier : i < j
+  pub a : Event
+  pub b : Event
+  pub first : slice_get events i ≡ Some a
+  pub second : slice_get events j ≡ Some b
+  pub apart : a.thread ≢ b.thread
+  pub first_accesses : variable_accessed a.ask ≡ Some x
+  pub second_accesses : variable_accessed b.ask ≡ Some x
+  pub plain : (is_plain a.ask || is_plain b.ask) ≡ true
+  pub writes : (is_writing a.ask a.answer || is_writing b.ask b.answer) ≡ true
+  pub unordered : HappensBefore events i j → ⊥
+
+-- What is reported of a variable, with steps numbered from 1: the later step is the least that
+-- races with an earlier one on it, and the earlier step is the greatest that races with that one.
+pub record IsReported (events : List Event) (race : Race) : Type 0 where
+  pub first : ℕ
+  pub second : ℕ
+  pub first_number : race.first ≡ first + 1
+  pub second_number : race.second ≡ second + 1
+  pub races : IsRace events race.var first second
+  pub least : (i j : ℕ) → IsRace events race.var i j → second ≤ j
+  pub greatest : (i : ℕ) → IsRace events race.var i second → i ≤ first
+
+-- the races of a run: one for each variable on which some steps race, in the order of the variables
+pub record AreRaces (events : List Event) (races : List Race) : Type 0 where
+  pub ordered : IsStrictlyIncreasing (map (λ race. race.var) races)
+  pub each : All (IsReported events) races
+  pub every : (x i j : ℕ) → IsRace events x i j → Contains (map (λ race. race.var) races) x

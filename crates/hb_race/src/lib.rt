@@ -1,0 +1,14 @@
+//! The data races of a run: accesses of one variable that nothing orders.
+#![tactic(auto)]
+
+mod access;
+mod clock;
+mod history;
+mod object;
+mod race;
+mod report;
+#[cfg(test)]
+mod tests;
+
+pub use race::{Race, RaceList};
+pub use report::races;

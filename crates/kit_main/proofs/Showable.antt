@@ -1,0 +1,176 @@
+-- Bodies that may be shown name only what there is, and what there is has names.
+use Rattle.std.proofs.Common.{◌≡◌, ◌≢◌, ℕ, ℤ, pos, zero, suc, ◌+◌, ◌<◌, List, [], ◌∷◌, length, map, get_or, Some, refl, sym, ap, subst, ◌∙◌, arith, inl, inr}
+use Rattle.std.specs.Prelude.{All}
+use Rattle.std.specs.List.{AllPairs}
+use Rattle.std.proofs.lemmas.Bool.{cases_lt}
+use Rattle.std.proofs.lemmas.List.{get_or_past, length-map}
+use Rattle.std.proofs.lemmas.List.Elements.{All-cons, All-nil}
+use Rattle.pct_ask.specs.VerdictText.{IsLine}
+use Rattle.pct_ask.specs.declared.Deal.{Deal}
+use Rattle.pct_ask.specs.declared.ask.Ask.{Ask}
+use Rattle.pct_ask.specs.declared.ask.Ask.TheVariants.{Read, Write, Add, Cas, Lock, TryLock, Unlock, Release, Regain, Signal, Broadcast, Down, TryDown, Up, Arrive, Leave, Join, Yield, Check, Fault, Start, Begin, RdLock, WrLock, TryRdLock, TryWrLock, RwUnlock}
+use Rattle.rank_now.specs.Order.{IsFirstWrong}
+use Rattle.sync_store.specs.Store.{Sizes, sizes_of_deal}
+use Rattle.sync_store.specs.Enabled.{IsInRange}
+use Rattle.turn_book.specs.Told.{PostIsInRange}
+use Rattle.worker_run.specs.Samples.{sample_post, sample_pending}
+use Rattle.worker_run.proofs.Samples.{samples-within}
+use Rattle.worker_run.specs.Bodies.{Pending, nobody, pending_of, AreInRange}
+use Rattle.trace_text.specs.Lawful.{HasObjects, IsHead, IsStepCount}
+use Rattle.kit_main.specs.Showing.{IsTestDeal, test_sizes, test_names, test_head, IsShowable}
+use Rattle.kit_main.proofs.Known.{IsAsked}
+
+pub sizes-are : (deal : Deal) → IsTestDeal deal → sizes_of_deal deal ≡ test_sizes
+sizes-are deal is = λ i. record {
+  threads = is.threads i;
+  vars = length (is.vars i);
+  mutexes = is.mutexes i;
+  conds = is.conds i;
+  sems = length (is.sems i);
+  barriers = length (is.barriers i);
+  rwlocks = is.rwlocks i;
+}
+
+-- ---- what the bodies name
+objects : (ask : Ask) → IsInRange test_sizes ask → HasObjects test_names 1 ask
+objects (Read x) h = h
+objects (Write x value) h = h
+objects (Add x value) h = h
+objects (Cas x old new) h = h
+objects (Lock m) h = h
+objects (TryLock m) h = h
+objects (Unlock m) h = h
+objects (Release c m) h = h
+objects (Regain c m) h = h
+objects (Signal c) h = h
+objects (Broadcast c) h = h
+objects (Down s) h = h
+objects (TryDown s) h = h
+objects (Up s) h = h
+objects (Arrive b) h = h
+objects (Leave b) h = h
+objects (Join t) h = h
+objects Yield h = tt
+objects (Check holds) h = tt
+objects (Fault kind) h = tt
+objects (Start t) h = h
+objects Begin h = tt
+objects (RdLock l) h = absurd (omega arith)
+objects (WrLock l) h = absurd (omega arith)
+objects (TryRdLock l) h = absurd (omega arith)
+objects (TryWrLock l) h = absurd (omega arith)
+objects (RwUnlock l) h = absurd (omega arith)
+
+pub mapped-three : {X : Type 0} (pending : X → Pending) (items : List X) → length items ≡ 3 → length (map pending items) ≡ 3
+mapped-three pending items three = length-map items pending ∙ three
+
+module _ (bodies : List Pending) (three : length bodies ≡ 3) (all : All IsShowable bodies) where
+  in-range : (t : ℕ) (answers : List ℤ) → PostIsInRange test_sizes (pending_of bodies t answers).ask
+  in-range t answers = elim (cases_lt t (length bodies)) [
+    | inl below ↦ (all t nobody below).in_range answers
+    | inr past ↦
+        let P : Pending → Type 0 = λ pending. PostIsInRange test_sizes (pending answers).ask in
+        let none = get_or_past bodies t nobody past in
+        subst P (sym none) tt
+  ]
+
+  pub are-in-range : (deal : Deal) → IsTestDeal deal → AreInRange (sizes_of_deal deal) bodies
+  are-in-range deal is = let P : Sizes → Type 0 = λ sizes. AreInRange sizes bodies in subst P (sym (sizes-are deal is)) in-range
+
+  pub asked : (t : ℕ) (answers : List ℤ) (ask : Ask) → (pending_of bodies t answers).ask ≡ Some ask → IsAsked test_names 1 t (pending_of bodies t answers).line ask
+  asked t answers ask asks = elim (cases_lt t (length bodies)) [
+    | inl below ↦ record {
+      at = omega (arith, three, below);
+      on = (all t nobody below).lines answers;
+      has = objects ask (subst (PostIsInRange test_sizes) asks (in-range t answers));
+    }
+    | inr past ↦
+        let P : Pending → Type 0 = λ pending. (pending answers).ask ≡ Some ask in
+        absurd (let none : P nobody = subst P (get_or_past bodies t nobody past) asks in cc)
+  ]
+
+-- ---- the head of the trace
+order-known : All (λ thread. thread < 3) (0 ∷ 1 ∷ 2 ∷ [])
+order-known zero d within = omega arith
+order-known (suc zero) d within = omega arith
+order-known (suc (suc zero)) d within = omega arith
+order-known (suc (suc (suc k))) d within = absurd (omega arith)
+
+abbrev order : List ℕ
+order = 0 ∷ 1 ∷ 2 ∷ []
+
+order-once : AllPairs ◌≢◌ order
+order-once zero (suc zero) d below within = λ e. absurd (omega (arith, e))
+order-once zero (suc (suc zero)) d below within = λ e. absurd (omega (arith, e))
+order-once (suc zero) (suc (suc zero)) d below within = λ e. absurd (omega (arith, e))
+order-once i zero d below within = absurd (omega arith)
+order-once (suc i) (suc zero) d below within = absurd (omega arith)
+order-once (suc (suc i)) (suc (suc zero)) d below within = absurd (omega arith)
+order-once i (suc (suc (suc j))) d below within = absurd (omega arith)
+
+point-known : All IsStepCount (1 ∷ [])
+point-known zero d within = (omega arith, omega arith)
+point-known (suc k) d within = absurd (omega arith)
+
+pub is-head : IsHead test_names test_head
+is-head = record {
+  version = inl refl;
+  threads = order-known;
+  once = order-once;
+  every = refl;
+  few_points = omega arith;
+  points = point-known;
+  limit = (omega arith, omega arith);
+}
+
+-- ---- the order is one
+none-zero : (k : ℕ) → k < 0 → ⊥
+none-zero k below = absurd (omega arith)
+
+abbrev named : List ℕ → ℕ → ℕ → ℕ
+named before k d = get_or before k d
+
+none-one : (k : ℕ) → k < 1 → named (0 ∷ []) k 1 ≡ 1 → ⊥
+none-one zero below is = absurd (omega (arith, is))
+none-one (suc k) below is = absurd (omega arith)
+
+none-two : (k : ℕ) → k < 2 → named (0 ∷ 1 ∷ []) k 2 ≡ 2 → ⊥
+none-two zero below is = absurd (omega (arith, is))
+none-two (suc zero) below is = absurd (omega (arith, is))
+none-two (suc (suc k)) below is = absurd (omega arith)
+
+pub no-wrong-order : (at : ℕ) → IsFirstWrong (0 ∷ 1 ∷ 2 ∷ []) at → ⊥
+no-wrong-order zero w = elim w.wrong [ inl past ↦ absurd (omega (arith, past)) | inr again ↦ none-zero again.0 again.1 ]
+no-wrong-order (suc zero) w = elim w.wrong [ inl past ↦ absurd (omega (arith, past)) | inr again ↦ none-one again.0 again.1 again.2 ]
+no-wrong-order (suc (suc zero)) w = elim w.wrong [ inl past ↦ absurd (omega (arith, past)) | inr again ↦ none-two again.0 again.1 again.2 ]
+no-wrong-order (suc (suc (suc k))) w = absurd (let within = w.within in omega arith)
+
+-- ---- bodies in boxes
+three-all : (one other last : Pending) → IsShowable one → IsShowable other → IsShowable last → All IsShowable (one ∷ other ∷ last ∷ [])
+three-all one other last a b c = All-cons IsShowable one (other ∷ last ∷ []) a (All-cons IsShowable other (last ∷ []) b (All-cons IsShowable last [] c (All-nil IsShowable)))
+
+pub boxed-showable : {X : Type 0} (pending : X → Pending) (items : List X) (one other last : X) → items ≡ one ∷ other ∷ last ∷ [] → IsShowable (pending one) → IsShowable (pending other) → IsShowable (pending last) → All IsShowable (map pending items)
+boxed-showable pending items one other last is a b c = subst (All IsShowable) (sym (ap (map pending) is)) (three-all (pending one) (pending other) (pending last) a b c)
+
+post-line : (t steps : ℕ) (seen : ℤ) → IsLine (sample_post t steps seen).line
+post-line zero zero seen = (omega arith, omega arith)
+post-line zero (suc zero) seen = (omega arith, omega arith)
+post-line zero (suc (suc steps)) seen = (omega arith, omega arith)
+post-line (suc zero) zero seen = (omega arith, omega arith)
+post-line (suc zero) (suc zero) seen = (omega arith, omega arith)
+post-line (suc zero) (suc (suc steps)) seen = (omega arith, omega arith)
+post-line (suc (suc t)) zero seen = (omega arith, omega arith)
+post-line (suc (suc t)) (suc zero) seen = (omega arith, omega arith)
+post-line (suc (suc t)) (suc (suc zero)) seen = (omega arith, omega arith)
+post-line (suc (suc t)) (suc (suc (suc zero))) seen = (omega arith, omega arith)
+post-line (suc (suc t)) (suc (suc (suc (suc steps)))) seen = (omega arith, omega arith)
+
+sample-line : (t steps : ℕ) (seen : ℤ) (answers : List ℤ) → IsLine (sample_pending t steps seen answers).line
+sample-line t steps seen [] = post-line t steps seen
+sample-line t steps seen (answer ∷ answers) = sample-line t (steps + 1) answer answers
+
+pub sample-showable : (t : ℕ) → IsShowable (sample_pending t 0 (pos 0))
+sample-showable t = record {
+  in_range = samples-within test_sizes (omega arith) (omega arith) (λ (t : ℕ). t) (λ (t : ℕ). 0) (λ (t : ℕ). pos 0) (t ∷ []) 0;
+  lines = sample-line t 0 (pos 0);
+}

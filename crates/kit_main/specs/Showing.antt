@@ -1,0 +1,82 @@
+-- The test that the program shows, and what is written of its run (this project).
+use Rattle.std.specs.Prelude.{◌≡◌, ◌≢◌, ◌⊎◌, ℕ, ℤ, pos, List, [], ◌∷◌, Option, Some, codes}
+use Rattle.pct_ask.specs.NameLists.{NameLists}
+use Rattle.pct_ask.specs.TraceText.{TraceHead, trace_text}
+use Rattle.pct_ask.specs.VerdictText.{IsLine}
+use Rattle.pct_ask.specs.declared.Deal.{Deal}
+use Rattle.pct_ask.specs.declared.verdict.Verdict.TheVariants.{Passed}
+use Rattle.pct_outside.specs.Piece.{Appended, AppendedPart}
+use Rattle.sync_store.specs.Store.{Sizes}
+use Rattle.worker_run.specs.Bodies.{Pending, IsInRangeBody}
+use Rattle.worker_run.specs.Run.{Run, run}
+use Rattle.kit_main.specs.declared.shown.Shown.{Shown}
+use Rattle.kit_main.specs.declared.shown.Shown.TheVariants.{Done, Found, WriteFault, NoMemory}
+
+-- the threads A, B and C, and the variable x
+abbrev pub test_names : NameLists
+test_names = record {
+  threads = codes "A" ∷ codes "B" ∷ codes "C" ∷ [];
+  vars = codes "x" ∷ [];
+  mutexes = [];
+  conds = [];
+  sems = [];
+  barriers = [];
+  rwlocks = [];
+}
+
+-- they are all there is, and the variable is 0 at first
+pub record IsTestDeal (deal : Deal) : Type 0 where
+  pub threads : deal.threads ≡ 3
+  pub vars : deal.vars ≡ pos 0 ∷ []
+  pub mutexes : deal.mutexes ≡ 0
+  pub conds : deal.conds ≡ 0
+  pub sems : deal.sems ≡ []
+  pub barriers : deal.barriers ≡ []
+  pub rwlocks : deal.rwlocks ≡ 0
+
+abbrev pub test_sizes : Sizes
+test_sizes = record { threads = 3; vars = 1; mutexes = 0; conds = 0; sems = 0; barriers = 0; rwlocks = 0 }
+
+-- the order A B C, and a change point after the first step
+abbrev pub test_order : List ℕ
+test_order = 0 ∷ 1 ∷ 2 ∷ []
+
+abbrev pub test_points : List ℕ
+test_points = 1 ∷ []
+
+-- they stand at the head of a trace of the first version, with room for 10000 steps
+abbrev pub test_head : TraceHead
+test_head = record { version = 1; order = test_order; points = test_points; limit = 10000 }
+
+-- whatever it is answered, a body names only what there is, and its lines are a test's
+pub record IsShowable (pending : Pending) : Type 0 where
+  pub in_range : IsInRangeBody test_sizes pending
+  pub lines : (answers : List ℤ) → IsLine (pending answers).line
+
+-- the run of the bodies, of at most so many steps
+pub record IsRunOf (bodies : List Pending) (limit : ℕ) (r : Run) : Type 0 where
+  pub deal : Deal
+  pub is_deal : IsTestDeal deal
+  pub is : run deal bodies test_order test_points limit ≡ Some r
+
+abbrev pub IsShownRun : List Pending → Run → Type 0
+IsShownRun bodies r = IsRunOf bodies test_head.limit r
+
+-- its trace
+abbrev pub text_of : Run → List ℕ
+text_of r = trace_text test_head test_names r.0 r.1
+
+-- the trace of the run was written whole
+abbrev pub PutsTrace : List Pending → Option (List ℕ) → Option (List ℕ) → Run → Type 0
+PutsTrace bodies before after r = IsShownRun bodies r × Appended (text_of r) before after
+
+-- a beginning of it was written, or nothing was
+abbrev pub PutsPart : List Pending → Option (List ℕ) → Option (List ℕ) → Type 0
+PutsPart bodies before after = ((r : Run) × IsShownRun bodies r × AppendedPart (text_of r) before after) ⊎ (after ≡ before)
+
+-- what is written with each answer
+abbrev pub Shows : List Pending → Option (List ℕ) → Option (List ℕ) → Shown → Type 0
+Shows bodies before after Done = (r : Run) × PutsTrace bodies before after r × (r.1 ≡ Passed)
+Shows bodies before after Found = (r : Run) × PutsTrace bodies before after r × (r.1 ≢ Passed)
+Shows bodies before after WriteFault = PutsPart bodies before after
+Shows bodies before after NoMemory = PutsPart bodies before after

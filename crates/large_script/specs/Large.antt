@@ -1,0 +1,90 @@
+-- The large script of so many pieces a thread: eight threads that add one to eight variables, and a last one that adds
+-- the variables up (this project).
+use Rattle.std.specs.Prelude.{ℕ, zero, suc, pos, ◌+◌, ◌*◌, ◌%◌, ◌==◌, if◌then◌else◌, List, [], ◌∷◌, ◌++◌, codes}
+use Rattle.pct_ask.specs.NameLists.{NameLists, no_names}
+use Rattle.script_tree.specs.declared.expr.Op.TheVariants as ops
+use Rattle.script_tree.specs.Trees.{Expression, Number, Reg, Two, Statement, closed_at, Read, Write, Lock, Unlock, Join, Yield, Assert, Set}
+use Rattle.script_tree.specs.ScriptText.{Thread, ScriptText}
+
+abbrev pub worker_names : List (List ℕ)
+worker_names =
+    codes "T0" ∷ codes "T1" ∷ codes "T2" ∷ codes "T3" ∷ codes "T4" ∷ codes "T5" ∷ codes "T6" ∷ codes "T7" ∷ []
+
+abbrev pub var_names : List (List ℕ)
+var_names = codes "v0" ∷ codes "v1" ∷ codes "v2" ∷ codes "v3" ∷ codes "v4" ∷ codes "v5" ∷ codes "v6" ∷ codes "v7" ∷ []
+
+abbrev pub mutex_names : List (List ℕ)
+mutex_names = codes "m0" ∷ codes "m1" ∷ codes "m2" ∷ codes "m3" ∷ codes "m4" ∷ codes "m5" ∷ codes "m6" ∷ codes "m7" ∷ []
+
+abbrev pub large_names : NameLists
+large_names = record no_names {
+  threads = worker_names ++ codes "Z" ∷ [];
+  vars = var_names;
+  mutexes = mutex_names;
+}
+
+-- The script is made to be printed. Its statements have their lines in the print, and until then this one.
+abbrev pub unprinted : ℕ
+unprinted = 1
+
+-- the sum of two registers, or of a register and a number
+abbrev pub plus : Expression → Expression → Expression
+plus left right = Two ops.Plus left right
+
+-- adding one to a variable by way of register 0
+abbrev pub added_one : ℕ → List Statement
+added_one var = Read unprinted 0 var ∷ Write unprinted var (plus (Reg 0) (Number (pos 1))) ∷ []
+
+-- a piece that adds one without a mutex, between two yields
+abbrev pub open_piece : ℕ → List Statement
+open_piece var = Yield unprinted ∷ added_one var ++ Yield unprinted ∷ []
+
+-- a piece that adds one under the mutex of the variable's number
+abbrev pub locked_piece : ℕ → List Statement
+locked_piece var = Lock unprinted var ∷ added_one var ++ Unlock unprinted var ∷ []
+
+-- The piece of a place in a thread's text, from 0, is on the variable of the sum of both numbers modulo eight. Every fourth
+-- one, from the first on, takes no mutex.
+abbrev pub piece : ℕ → ℕ → List Statement
+piece thread place = if place % 4 == 0 then open_piece ((thread + place) % 8) else locked_piece ((thread + place) % 8)
+
+-- a thread's first pieces
+abbrev pub pieces : ℕ → ℕ → List Statement
+pieces thread zero = []
+pieces thread (suc place) = pieces thread place ++ piece thread place
+
+-- joins of the first threads
+abbrev pub joins : ℕ → List Statement
+joins zero = []
+joins (suc thread) = joins thread ++ Join unprinted thread ∷ []
+
+-- adding the first variables up in register 1
+abbrev pub sums : ℕ → List Statement
+sums zero = []
+sums (suc var) = sums var ++ Read unprinted 0 var ∷ Set unprinted 1 (plus (Reg 1) (Reg 0)) ∷ []
+
+-- all pieces of the eight threads have added one
+abbrev pub is_whole : ℕ → Statement
+is_whole many = Assert unprinted (Two ops.Eq (Reg 1) (Number (pos (8 * many))))
+
+abbrev pub thread_of : List Statement → Thread
+thread_of statements = record { line = unprinted; body = closed_at unprinted statements }
+
+-- the first threads
+abbrev pub workers : ℕ → ℕ → List Thread
+workers many zero = []
+workers many (suc thread) = workers many thread ++ thread_of (pieces thread many) ∷ []
+
+-- what the last thread does
+abbrev pub checks : ℕ → List Statement
+checks many = joins 8 ++ sums 8 ++ is_whole many ∷ []
+
+abbrev pub large_script : ℕ → ScriptText
+large_script many = record {
+  version = 1;
+  names = large_names;
+  vars = pos 0 ∷ pos 0 ∷ pos 0 ∷ pos 0 ∷ pos 0 ∷ pos 0 ∷ pos 0 ∷ pos 0 ∷ [];
+  sems = [];
+  barriers = [];
+  threads = workers many 8 ++ thread_of (checks many) ∷ [];
+}

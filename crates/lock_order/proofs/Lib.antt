@@ -1,0 +1,10 @@
+pub mod Bits
+pub mod Places
+pub mod Holding
+pub mod StepNestings
+pub mod Orders
+pub mod Cycles
+pub mod Walks
+pub mod Reports
+pub mod Laws
+pub mod Rows

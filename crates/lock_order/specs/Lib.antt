@@ -1,0 +1,4 @@
+pub mod Nestings
+pub mod Good
+pub mod Chosen
+pub mod MutexSets

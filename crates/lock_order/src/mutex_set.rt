@@ -1,0 +1,83 @@
+ghost use Rattle.std.specs.Prelude.{◌≡◌, ℕ, ◌<◌, ◌≤◌, ◌↔◌, ◌⊎◌, ◌≢◌, IsTrue, MatchOption};
+ghost use Rattle.lock_order.specs.MutexSets.{Has, HasThose};
+ghost use Rattle.lock_order.specs.Chosen.{IsLowest};
+
+/// Some of a test's mutexes, of which there are at most 64.
+#[derive(Clone, Copy, Debug)]
+pub struct MutexSet {
+    bits: u64,
+}
+
+impl MutexSet {
+    pub const EMPTY: Self = MutexSet { bits: 0 };
+
+    /// The mutexes before this one.
+    pub fn before(count: u32) -> Self
+        requires { count ≤ 64 }
+        ensures { HasThose result (λ mutex. mutex < count) }
+    {
+        let mut set = Self::EMPTY;
+        for mutex in 0..count {
+            set = set.with(mutex);
+        }
+        set
+    }
+
+    pub fn contains(self, mutex: u32) -> bool
+        ensures { IsTrue result ↔ Has self mutex }
+    {
+        mutex < 64 && (self.bits >> mutex) & 1 == 1
+    }
+
+    pub fn with(self, mutex: u32) -> Self
+        requires { mutex < 64 }
+        ensures { HasThose result (λ other. (other ≡ mutex) ⊎ Has self other) }
+    {
+        MutexSet {
+            bits: self.bits | 1 << mutex,
+        }
+    }
+
+    pub fn without(self, mutex: u32) -> Self
+        requires { mutex < 64 }
+        ensures rest { HasThose result (λ other. (other ≢ mutex) × Has self other) }
+        ensures less { Has self mutex → result.bits < self.bits }
+    {
+        MutexSet {
+            bits: self.bits & !(1 << mutex),
+        }
+    }
+
+    pub fn union(self, other: Self) -> Self
+        ensures { HasThose result (λ mutex. Has self mutex ⊎ Has other mutex) }
+    {
+        MutexSet {
+            bits: self.bits | other.bits,
+        }
+    }
+
+    /// The lowest mutex that is in both sets.
+    pub fn lowest_common(self, other: Self) -> Option<u32>
+        ensures { MatchOption result ((mutex : ℕ) → Has self mutex → ¬ Has other mutex)
+            (IsLowest (λ mutex. Has self mutex × Has other mutex)) }
+    {
+        lowest_bit(self.bits & other.bits)
+    }
+
+    pub fn lowest(self) -> Option<u32>
+        ensures { MatchOption result ((mutex : ℕ) → ¬ Has self mutex) (IsLowest (Has self)) }
+    {
+        lowest_bit(self.bits)
+    }
+}
+
+fn lowest_bit(bits: u64) -> Option<u32>
+    ensures { MatchOption result ((mutex : ℕ) → ¬ Has (record { bits = bits }) mutex)
+        (IsLowest (Has (record { bits = bits }))) }
+{
+    if bits == 0 {
+        None
+    } else {
+        Some(bits.trailing_zeros())
+    }
+}

@@ -1,0 +1,24 @@
+use Rattle.std.proofs.Common.{ℕ, List, Some, take, subst}
+use Rattle.script_tree.specs.ScriptSeen.{text}
+use Rattle.pct_top.specs.Printed.{trace_bytes}
+use Rattle.pct_top.specs.Files.{Misses}
+use Rattle.pct_top.specs.Outcome.{Comes}
+use Rattle.pct_top.specs.commands.Replay.{OfReplay}
+use Rattle.pct_top.proofs.Comes.{comes_as}
+use Rattle.pct_top.proofs.dispatch.command_outcome.Goals as goal
+
+pub returns-in-Replay : goal.returns-in-Replay
+returns-in-Replay g c =
+    let test = c.args.test.now in
+    let told = g.H.Shelf.files c.args.shelf.now in
+    let failed = g.H.Shelf.failed c.args.shelf.now in
+    let failed' = g.H.Shelf.failed c.reply_to_file.new.shelf in
+    let P : List ℕ → Type 0 = λ name. Comes (λ files. OfReplay (take trace_bytes (files name)) (text test.script) test.deal) told (Misses (Some name) failed failed') c.reply_to_file.result in
+    let missed : Type 0 = Misses (Some c.in-Replay.trace) failed failed' in
+    rw c.in-Replay.is (comes_as (λ files. OfReplay (take trace_bytes (files c.in-Replay.trace)) (text test.script) test.deal) told missed (missed × Unit {0}) (λ m. (m, tt)) c.reply_to_file.result (subst P c.as_str.ensures c.reply_to_file.ensures))
+
+pub returns-in_ok-report_on-in-Campaign : goal.returns-in_ok-report_on-in-Campaign
+returns-in_ok-report_on-in-Campaign g c = rw c.in-Campaign.is (λ files told. c.in_ok-report_on-in-Campaign.ensures)
+
+pub returns-in_ok-big_of-in-Big : goal.returns-in_ok-big_of-in-Big
+returns-in_ok-big_of-in-Big g c = rw c.in-Big.is (λ files told. c.in_ok-big_of-in-Big.ensures)

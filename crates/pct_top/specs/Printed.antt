@@ -1,0 +1,68 @@
+-- What a call puts on the output and says on the error stream, and how it ends, by the order of work: the script is read
+-- and parsed, then an order is looked up, then a second file is read and parsed, and then the runs are made (this project).
+use Rattle.std.specs.Prelude.{◌≡◌, ℕ, ◌⊎◌, Bool, if◌then◌else◌, List, [], Option, Some, None}
+use Rattle.pct_ask.specs.NameLists.{NameLists}
+use Rattle.pct_ask.specs.declared.Deal.{Deal}
+use Rattle.script_tree.specs.declared.fault.ScriptFault.{ScriptFault}
+use Rattle.script_tree.specs.ScriptText.{ScriptText}
+use Rattle.script_tree.specs.DealOf.{IsDealOf}
+use Rattle.script_tree.specs.Grammar.{Spells}
+use Rattle.script_tree.specs.Faults.{IsFault}
+use Rattle.trace_text.specs.declared.file.TraceFile.{TraceFile}
+use Rattle.trace_text.specs.declared.fault.TraceFault.{TraceFault}
+use Rattle.trace_text.specs.Trace.{IsTrace}
+use Rattle.trace_text.specs.Faults.{IsTraceFault}
+use Rattle.pct_top.specs.declared.refusal.Refusal.{Refusal}
+use Rattle.pct_top.specs.declared.refusal.Refusal.TheVariants.{Usage, Script, Trace}
+use Rattle.pct_top.specs.declared.status.Status.{Status}
+use Rattle.pct_top.specs.declared.status.Status.TheVariants.{Done, Found}
+use Rattle.pct_top.specs.Refusing.{status_of_refusal, refusal_line}
+use Rattle.pct_top.specs.Ordered.{NamesAll}
+
+-- the bytes of each file by its name
+abbrev pub Files : Type 0
+Files = List ℕ → List ℕ
+
+-- the bytes on the output, the status, and the line on the error stream
+pub record Printed : Type 0 where
+  pub out : List ℕ
+  pub status : Status
+  pub err : List ℕ
+
+-- nothing is put on the output, and a line on the error stream says why
+abbrev pub refused : Refusal → Printed
+refused refusal =
+    record { out = []; status = status_of_refusal refusal; err = refusal_line refusal }
+
+-- a text is put on the output, and it is done or something is found
+abbrev pub told : List ℕ → Bool → Printed
+told text done = record { out = text; status = if done then Done else Found; err = [] }
+
+-- as many bytes of a script and of a trace as are read
+abbrev pub script_bytes : ℕ
+script_bytes = 1048577
+
+abbrev pub trace_bytes : ℕ
+trace_bytes = 16777217
+
+-- The bytes spell a script, of which, with what its threads share, this is printed; or they have a fault.
+abbrev pub OfScript : List ℕ → (ScriptText → Deal → Printed → Type 0) → Printed → Type 0
+OfScript bytes of printed =
+    ((script : ScriptText) × Spells bytes script
+    × ((deal : Deal) × IsDealOf script deal × of script deal printed))
+    ⊎ ((line : ℕ) × (kind : ScriptFault) × IsFault bytes line kind
+    × (printed ≡ refused (Script line kind)))
+
+-- The names, which stand in the word of this number, list every thread once, and this is printed of their order; or the
+-- word is refused.
+abbrev pub OfOrder : NameLists → List (List ℕ) → ℕ → (List ℕ → Printed → Type 0) → Printed → Type 0
+OfOrder names items word of printed =
+    ((order : List ℕ) × NamesAll names items order × of order printed)
+    ⊎ (((order : List ℕ) → ¬ NamesAll names items order) × (printed ≡ refused (Usage word)))
+
+-- The bytes are a trace of these names, of which this is printed; or they have a fault.
+abbrev pub OfTrace : List ℕ → NameLists → (TraceFile → Printed → Type 0) → Printed → Type 0
+OfTrace bytes names of printed =
+    ((file : TraceFile) × IsTrace bytes names file × of file printed)
+    ⊎ ((line : ℕ) × (kind : TraceFault) × IsTraceFault bytes names line kind
+    × (printed ≡ refused (Trace line kind)))

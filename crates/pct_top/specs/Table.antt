@@ -1,0 +1,63 @@
+-- The table of the program's commands: the word of each, and the options that it takes (this project).
+use Rattle.std.specs.Prelude.{ℕ, ◌||◌, not, Bool, true, false, if◌then◌else◌, List, Option, Some, None, is_some, codes}
+use Rattle.std.specs.Str.{bytes_eq}
+use Rattle.pct_top.specs.declared.command.Command.{Command}
+use Rattle.pct_top.specs.declared.command.Command.TheVariants.{Run, Campaign, Big, Replay}
+use Rattle.pct_top.specs.declared.options.OptionName.{OptionName}
+use Rattle.pct_top.specs.declared.options.OptionName.TheVariants.{Order, Points, Limit, Seed, Depth, Steps, From, Count, Form}
+use Rattle.pct_top.specs.declared.options.Options.{Options}
+use Rattle.pct_top.specs.declared.settings.Report.TheVariants.{Trace, Races, Locks, Find}
+
+-- the command that a word names
+abbrev pub command_named : List ℕ → Option Command
+command_named word =
+    if bytes_eq word (codes "run") then Some (Run Trace)
+    else (if bytes_eq word (codes "races") then Some (Run Races)
+    else (if bytes_eq word (codes "locks") then Some (Run Locks)
+    else (if bytes_eq word (codes "find") then Some (Run Find)
+    else (if bytes_eq word (codes "campaign") then Some Campaign
+    else (if bytes_eq word (codes "big") then Some Big
+    else (if bytes_eq word (codes "replay") then Some Replay else None))))))
+
+-- ---- the options of a run, in its two forms
+
+-- an option of the ordered form was given
+abbrev pub is_ordered : Options → Bool
+is_ordered o = is_some o.order || is_some o.points
+
+-- an option of the seeded form was given
+abbrev pub is_seeded : Options → Bool
+is_seeded o = is_some o.seed || is_some o.depth || is_some o.steps
+
+-- The option belongs to a run, and none of the other form was given. The limit belongs to both forms.
+abbrev pub run_takes : Options → OptionName → Bool
+run_takes o Order = not (is_seeded o)
+run_takes o Points = not (is_seeded o)
+run_takes o Limit = true
+run_takes o Seed = not (is_ordered o)
+run_takes o Depth = not (is_ordered o)
+run_takes o Steps = not (is_ordered o)
+run_takes o From = false
+run_takes o Count = false
+run_takes o Form = false
+
+-- the option belongs to a campaign
+abbrev pub campaign_takes : OptionName → Bool
+campaign_takes From = true
+campaign_takes Count = true
+campaign_takes Depth = true
+campaign_takes Steps = true
+campaign_takes Limit = true
+campaign_takes Form = true
+campaign_takes Order = false
+campaign_takes Points = false
+campaign_takes Seed = false
+
+-- ---- all commands
+
+-- the command takes the option, beside those that were given
+abbrev pub takes : Command → Options → OptionName → Bool
+takes (Run report) o name = run_takes o name
+takes Campaign o name = campaign_takes name
+takes Big o name = false
+takes Replay o name = false

@@ -1,0 +1,47 @@
+-- `big`: the campaign of the large script, counted.
+use Rattle.std.specs.Prelude.{◌≡◌, ℕ, not, List, [], ◌∷◌, length, None, codes, decimal}
+use Rattle.std.specs.List.{flat_map, count_by}
+use Rattle.pct_ask.specs.Lines.{lines_of}
+use Rattle.pct_ask.specs.TraceText.{line_text}
+use Rattle.pct_ask.specs.declared.Deal.{Deal}
+use Rattle.pct_ask.specs.declared.event.Row.{Row}
+use Rattle.script_tree.specs.Layout.{layout}
+use Rattle.script_tree.specs.ScriptText.{ScriptText}
+use Rattle.large_script.specs.Large.{large_script}
+use Rattle.failure_rank.specs.declared.group.Group.{Group}
+use Rattle.pct_top.specs.Printed.{Printed, told}
+use Rattle.pct_top.specs.Runs.{DrawsFrom, is_passed}
+use Rattle.pct_top.specs.commands.Campaign.{setup_of, all_pass, AreOfSeeds}
+
+-- how many runs don't pass
+abbrev pub failures : List Row → ℕ
+failures rows = count_by (λ row. not (is_passed row.verdict)) rows
+
+abbrev pub counted : List ℕ → ℕ → List (List ℕ)
+counted word count = word ∷ decimal count ∷ []
+
+-- the lines of the script, the steps of its run in declared order, the runs, and their failures and groups
+abbrev pub big_lines : ℕ → ℕ → List Row → List Group → List (List (List ℕ))
+big_lines lines steps rows groups =
+    counted (codes "lines") lines ∷ counted (codes "steps") steps
+    ∷ counted (codes "runs") (length rows) ∷ counted (codes "failures") (failures rows)
+    ∷ counted (codes "groups") (length groups) ∷ []
+
+abbrev pub script_lines : ℕ → ℕ
+script_lines pieces = length (lines_of (layout (large_script pieces)))
+
+-- These counts are printed. It is done where every run passes.
+abbrev pub told_big : ℕ → ℕ → List Row → List Group → Printed
+told_big pieces steps rows groups =
+    told (flat_map line_text (big_lines (script_lines pieces) steps rows groups)) (all_pass rows)
+
+-- the campaign of the seeds 1 to 20 at depth 3, under the limit that holds where none is given
+abbrev pub OfBigRuns : ℕ → ℕ → ScriptText → Deal → Printed → Type 0
+OfBigRuns pieces k script deal printed =
+    (rows : List Row) × (groups : List Group)
+    × AreOfSeeds (setup_of script deal 3 k 10000) 1 20 rows groups
+    × (printed ≡ told_big pieces k rows groups)
+
+abbrev pub OfBig : ℕ → ScriptText → Deal → Printed → Type 0
+OfBig pieces script deal printed =
+    (k : ℕ) × DrawsFrom script deal 10000 None k × OfBigRuns pieces k script deal printed

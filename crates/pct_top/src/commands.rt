@@ -1,0 +1,9 @@
+//! The commands, each in a module of its own.
+
+pub mod big;
+pub mod find;
+pub mod locks;
+pub mod races;
+pub mod replay;
+pub mod run;
+pub mod seeds;

@@ -1,0 +1,89 @@
+//! `big`: the campaign of the large script, counted.
+
+ghost use Rattle.std.specs.Prelude.{◌≡◌, ◌≤◌, List, length, IfOk};
+ghost use Rattle.std.specs.List.{flat_map};
+ghost use Rattle.pct_ask.specs.TraceText.{line_text};
+ghost use Rattle.script_tree.specs.ScriptSeen.{text};
+ghost use Rattle.pct_top.specs.Ready.{IsReady};
+ghost use Rattle.pct_top.specs.Outcome.{printed_of};
+ghost use Rattle.pct_top.specs.commands.Big.{failures as failures_by, big_lines, OfBig};
+
+use crate::commands::seeds::all_pass;
+use crate::lines::{push_count, push_size};
+use crate::outcome::Outcome;
+use crate::priorities::steps_of;
+use crate::test::Test;
+use crate::traces::is_passed;
+use campaign::campaign;
+use failure_rank::{Group, rank};
+use large_script::line_count;
+use pct_ask::Row;
+use pct_outside::Gate;
+use std::alloc::{AllocError as NoMemory, Global};
+use std::sync::Wait;
+use std::thread::Threads;
+
+/// The first seed, and how many seeds are run.
+const SEEDS: (u64, u32) = (1, 20);
+
+const DEPTH: u32 = 3;
+
+const LIMIT: u32 = 10_000;
+
+/// How many runs don't pass.
+fn failures(rows: &[Row]) -> usize
+    ensures { result ≡ failures_by rows.now }
+{
+    let mut failures = 0;
+    for row in rows {
+        if !is_passed(&row.verdict) {
+            failures += 1;
+        }
+    }
+    failures
+}
+
+/// The five lines of counts.
+fn write_counts(
+    alloc: Global,
+    lines: u32,
+    steps: u32,
+    rows: &[Row],
+    groups: &[Group],
+) -> Result<Vec<u8>, NoMemory>
+    ensures { IfOk result (λ counts. counts.items
+        ≡ flat_map line_text (big_lines lines steps rows.now groups.now)) }
+{
+    let mut text = Vec::new(alloc);
+    push_count(&mut text, "lines", lines)?;
+    push_count(&mut text, "steps", steps)?;
+    push_size(&mut text, "runs", rows.len())?;
+    push_size(&mut text, "failures", failures(rows))?;
+    push_size(&mut text, "groups", groups.len())?;
+    Ok(text)
+}
+
+/// The counts of the campaign of the large script, which is the test's.
+pub fn big_of<R: Threads + Wait + Sync, G: Gate>(
+    rt: &R,
+    alloc: Global,
+    test: &Test,
+    pieces: u32,
+    gate: &G,
+) -> Result<Outcome, NoMemory>
+    requires ready { IsReady test.now }
+    requires pieces { pieces ≤ 100 }
+    ensures { IfOk result (λ outcome.
+        OfBig pieces (text test.now.script) test.now.deal (printed_of outcome)) }
+{
+    let (first, count) = SEEDS;
+    let steps = steps_of(rt, alloc, test, None, LIMIT, gate)?;
+    let rows = campaign(
+        rt, alloc, &test.code, &test.deal, first, count, DEPTH, steps, LIMIT, gate,
+    )?;
+    let groups = rank(alloc, &rows)?;
+    let lines = line_count(pieces);
+    let text = write_counts(alloc, lines, steps, rows.as_slice(), groups.as_slice())?;
+    let done = all_pass(rows.as_slice());
+    Ok(Outcome { text, done })
+}

@@ -1,0 +1,87 @@
+//! `find`: from a script's failing run to a short directive.
+
+ghost use Rattle.std.specs.Prelude.{◌≡◌, ◌≤◌, ◌<◌, length, IfOk};
+ghost use Rattle.script_tree.specs.ScriptSeen.{text};
+ghost use Rattle.trace_text.specs.Lawful.{IsStepCount};
+ghost use Rattle.pct_top.specs.Ready.{IsReady};
+ghost use Rattle.pct_top.specs.Priorities.{ArePriorities};
+ghost use Rattle.pct_top.specs.Outcome.{printed_of};
+ghost use Rattle.pct_top.specs.commands.Find.{last_of, found_text, passes as passes_by, PrintsFound};
+ghost use Rattle.pct_top.specs.commands.KnownFinding.{IsKnownFinding};
+
+use crate::lines::push_count;
+use crate::outcome::Outcome;
+use crate::priorities::Priorities;
+use crate::test::Test;
+use directive::{Directive, write_directive};
+use directive_find::{FoundOut, find};
+use pct_ask::Names;
+use pct_outside::Gate;
+use std::alloc::{AllocError as NoMemory, Global};
+use std::sync::Wait;
+use std::thread::Threads;
+
+fn passes(found: &FoundOut) -> bool
+    ensures { result ≡ passes_by found.now }
+{
+    matches!(found, FoundOut::Passes { .. })
+}
+
+/// The directive of what was found, with this thread as the lowest, or how many steps the run has that passes.
+fn write_found(
+    alloc: Global,
+    names: &Names,
+    order: &[u32],
+    found: FoundOut,
+) -> Result<Vec<u8>, NoMemory>
+    requires some { 1 ≤ length order.now }
+    requires low { last_of order.now < length names.now.threads }
+    requires known { IsKnownFinding names.now found }
+    ensures { IfOk result (λ text. text.items ≡ found_text names.now order.now found) }
+{
+    match found {
+        FoundOut::Events {
+            events,
+            verdict,
+            ..
+        } => {
+            let low = order[order.len() - 1];
+            let directive = Directive {
+                low,
+                events,
+                verdict,
+            };
+            write_directive(alloc, &directive, names)
+        }
+        FoundOut::Passes { steps } => {
+            let mut text = Vec::new(alloc);
+            push_count(&mut text, "passes", steps)?;
+            Ok(text)
+        }
+    }
+}
+
+/// The short directive of a test's run under these priorities.
+pub fn directive_of<R: Threads + Wait + Sync, G: Gate>(
+    rt: &R,
+    alloc: Global,
+    test: &Test,
+    priorities: Priorities,
+    limit: u32,
+    gate: &G,
+) -> Result<Outcome, NoMemory>
+    requires ready { IsReady test.now }
+    requires priorities { ArePriorities test.now.deal.threads priorities }
+    requires limit { IsStepCount limit }
+    ensures { IfOk result (λ outcome. PrintsFound (text test.now.script) test.now.deal
+        priorities.order priorities.points limit (printed_of outcome)) }
+{
+    let order = priorities.order.as_slice();
+    let points = priorities.points.as_slice();
+    let found = find(
+        rt, alloc, &test.code, &test.deal, order, points, limit, gate,
+    )?;
+    let done = passes(&found);
+    let text = write_found(alloc, test.script.names(), order, found)?;
+    Ok(Outcome { text, done })
+}

@@ -1,0 +1,94 @@
+//! `locks`: in which order a script's run took its mutexes.
+
+ghost use Rattle.std.specs.Prelude.{◌≡◌, ◌++◌, ◌∷◌, map, OnOk, IfOk, codes};
+ghost use Rattle.pct_ask.specs.TraceText.{name_at, line_text};
+ghost use Rattle.script_tree.specs.ScriptSeen.{text};
+ghost use Rattle.trace_text.specs.Lawful.{IsStepCount};
+ghost use Rattle.pct_top.specs.Ready.{IsReady};
+ghost use Rattle.pct_top.specs.Priorities.{ArePriorities};
+ghost use Rattle.pct_top.specs.Outcome.{printed_of};
+ghost use Rattle.pct_top.specs.commands.Locks.{nesting_words, lock_text, is_order as is_order_by, PrintsLocks};
+
+use crate::lines::{name_of, push_number, push_size, push_word};
+use crate::outcome::Outcome;
+use crate::playing::play;
+use crate::priorities::Priorities;
+use crate::test::Test;
+use lock_order::{LockReport, Nesting, lock_order};
+use pct_ask::{NameKind, Names};
+use pct_outside::Gate;
+use std::alloc::{AllocError as NoMemory, Global};
+use std::sync::Wait;
+use std::thread::Threads;
+
+/// The line of a nesting.
+fn push_nesting(out: &mut Vec<u8>, names: &Names, nesting: &Nesting) -> Result<(), NoMemory>
+    ensures { OnOk result (out.new.items ≡ out.old.items ++ line_text (nesting_words names.now nesting.now)) }
+{
+    out.extend_from_slice(b"nest")?;
+    push_number(out, nesting.step)?;
+    push_word(out, name_of(names, NameKind::Thread, nesting.thread))?;
+    push_word(out, name_of(names, NameKind::Mutex, nesting.held))?;
+    push_word(out, name_of(names, NameKind::Mutex, nesting.taken))?;
+    out.push(b'\n')?;
+    Ok(())
+}
+
+/// The line of an order.
+fn push_order(out: &mut Vec<u8>, names: &Names, mutexes: &[u32]) -> Result<(), NoMemory>
+    ensures { OnOk result (out.new.items ≡ out.old.items ++ line_text (codes "order" ∷ map (name_at names.now.mutexes) mutexes.now)) }
+{
+    out.extend_from_slice(b"order")?;
+    for mutex in mutexes {
+        push_word(out, name_of(names, NameKind::Mutex, *mutex))?;
+    }
+    out.push(b'\n')?;
+    Ok(())
+}
+
+/// The lines of a report.
+fn write_report(alloc: Global, names: &Names, report: &LockReport) -> Result<Vec<u8>, NoMemory>
+    ensures { IfOk result (λ text. text.items ≡ lock_text names.now report.now) }
+{
+    let mut text = Vec::new(alloc);
+    match report {
+        LockReport::Order { mutexes } => push_order(&mut text, names, mutexes.as_slice())?,
+        LockReport::Cycle { nestings } => {
+            for nesting in nestings.as_slice() {
+                push_nesting(&mut text, names, nesting)?;
+            }
+            push_size(&mut text, "cycle", nestings.len())?;
+        }
+    }
+    Ok(text)
+}
+
+fn is_order(report: &LockReport) -> bool
+    ensures { result ≡ is_order_by report.now }
+{
+    matches!(report, LockReport::Order { .. })
+}
+
+/// The lock order of a test's run under these priorities, or a cycle of its nestings.
+pub fn locks_of<R: Threads + Wait + Sync, G: Gate>(
+    rt: &R,
+    alloc: Global,
+    test: &Test,
+    priorities: Priorities,
+    limit: u32,
+    gate: &G,
+) -> Result<Outcome, NoMemory>
+    requires ready { IsReady test.now }
+    requires priorities { ArePriorities test.now.deal.threads priorities }
+    requires limit { IsStepCount limit }
+    ensures { IfOk result (λ outcome. PrintsLocks (text test.now.script) test.now.deal
+        priorities.order priorities.points limit (printed_of outcome)) }
+{
+    let order = priorities.order.as_slice();
+    let points = priorities.points.as_slice();
+    let run = play(rt, alloc, test, order, points, limit, gate)?;
+    let report = lock_order(alloc, &test.deal, run.events.as_slice())?;
+    let text = write_report(alloc, test.script.names(), &report)?;
+    let done = is_order(&report);
+    Ok(Outcome { text, done })
+}

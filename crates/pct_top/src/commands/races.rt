@@ -1,0 +1,71 @@
+//! `races`: the data races of a script's run.
+
+ghost use Rattle.std.specs.Prelude.{◌≡◌, ◌++◌, OnOk, IfOk};
+ghost use Rattle.pct_ask.specs.TraceText.{line_text};
+ghost use Rattle.script_tree.specs.ScriptSeen.{text};
+ghost use Rattle.trace_text.specs.Lawful.{IsStepCount};
+ghost use Rattle.pct_top.specs.Ready.{IsReady};
+ghost use Rattle.pct_top.specs.Priorities.{ArePriorities};
+ghost use Rattle.pct_top.specs.Outcome.{printed_of};
+ghost use Rattle.pct_top.specs.commands.Races.{race_words, race_text, PrintsRaces};
+
+use crate::lines::{name_of, push_number, push_size, push_word};
+use crate::outcome::Outcome;
+use crate::playing::play;
+use crate::priorities::Priorities;
+use crate::test::Test;
+use hb_race::{Race, races};
+use pct_ask::{NameKind, Names};
+use pct_outside::Gate;
+use std::alloc::{AllocError as NoMemory, Global};
+use std::sync::Wait;
+use std::thread::Threads;
+use worker_run::Played;
+
+/// The line of a race.
+fn push_race(out: &mut Vec<u8>, names: &Names, race: &Race) -> Result<(), NoMemory>
+    ensures { OnOk result (out.new.items ≡ out.old.items ++ line_text (race_words names.now race.now)) }
+{
+    out.extend_from_slice(b"race")?;
+    push_word(out, name_of(names, NameKind::Var, race.var))?;
+    push_number(out, race.first)?;
+    push_number(out, race.second)?;
+    out.push(b'\n')?;
+    Ok(())
+}
+
+/// The lines of races, and how many there are.
+fn write_races(alloc: Global, names: &Names, races: &[Race]) -> Result<Vec<u8>, NoMemory>
+    ensures { IfOk result (λ text. text.items ≡ race_text names.now races.now) }
+{
+    let mut text = Vec::new(alloc);
+    for race in races {
+        push_race(&mut text, names, race)?;
+    }
+    push_size(&mut text, "races", races.len())?;
+    Ok(text)
+}
+
+/// The races of a test's run under these priorities.
+pub fn races_of<R: Threads + Wait + Sync, G: Gate>(
+    rt: &R,
+    alloc: Global,
+    test: &Test,
+    priorities: Priorities,
+    limit: u32,
+    gate: &G,
+) -> Result<Outcome, NoMemory>
+    requires ready { IsReady test.now }
+    requires priorities { ArePriorities test.now.deal.threads priorities }
+    requires limit { IsStepCount limit }
+    ensures { IfOk result (λ outcome. PrintsRaces (text test.now.script) test.now.deal
+        priorities.order priorities.points limit (printed_of outcome)) }
+{
+    let order = priorities.order.as_slice();
+    let points = priorities.points.as_slice();
+    let run = play(rt, alloc, test, order, points, limit, gate)?;
+    let found = races(alloc, &test.deal, &Played::from(run))?;
+    let text = write_races(alloc, test.script.names(), found.as_slice())?;
+    let done = found.len() == 0;
+    Ok(Outcome { text, done })
+}

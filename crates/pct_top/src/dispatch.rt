@@ -1,0 +1,113 @@
+//! From the settings to a command's outcome: an arm for each command.
+
+ghost use Rattle.std.specs.Prelude.{◌≡◌, Ok, IfOk};
+ghost use Rattle.script_tree.specs.ScriptSeen.{text};
+ghost use Rattle.pct_top.specs.Settings.{AreLawful};
+ghost use Rattle.pct_top.specs.Ready.{IsReady};
+ghost use Rattle.pct_top.specs.Output.{script_file, script_text, OfCommand, OfTaken};
+ghost use Rattle.pct_top.specs.Outcome.{Comes};
+ghost use Rattle.pct_top.specs.Files.{GivesTest, KeepsNames, Misses};
+ghost use Rattle.pct_top.specs.Call.{MissesSecond, ReadFailed};
+
+use crate::commands::{big, replay, seeds};
+use crate::files::{large_test, read_test};
+use crate::outcome::Outcome;
+use crate::refusal::Refusal;
+use crate::reports::{report_ordered, report_seed};
+use crate::settings::Settings;
+use crate::test::Test;
+use pct_outside::{Gate, Shelf};
+use std::alloc::Global;
+use std::sync::Wait;
+use std::thread::Threads;
+
+/// The script of a command, ready to be run.
+fn test_of<H: Shelf>(alloc: Global, settings: &Settings, shelf: &mut H) -> Result<Test, Refusal>
+    requires { AreLawful settings.now }
+    ensures ready { IfOk result IsReady }
+    ensures test { GivesTest (H.files shelf.old) (script_text settings.now)
+        (Misses (script_file settings.now) (H.failed shelf.old) (H.failed shelf.new)) result }
+    ensures keeps { KeepsNames (H.failed shelf.old) (H.failed shelf.new) }
+    ensures files { H.files shelf.new ≡ H.files shelf.old }
+{
+    match settings {
+        Settings::RunOrder { file, .. } => read_test(alloc, file.as_str(), shelf),
+        Settings::RunSeed { file, .. } => read_test(alloc, file.as_str(), shelf),
+        Settings::Campaign { file, .. } => read_test(alloc, file.as_str(), shelf),
+        Settings::Big { pieces } => large_test(alloc, *pieces),
+        Settings::Replay { file, .. } => read_test(alloc, file.as_str(), shelf),
+    }
+}
+
+/// What comes of a command over its script.
+fn command_outcome<R: Threads + Wait + Sync, H: Shelf, G: Gate>(
+    rt: &R,
+    alloc: Global,
+    settings: &Settings,
+    test: &Test,
+    shelf: &mut H,
+    gate: &G,
+) -> Result<Outcome, Refusal>
+    requires lawful { AreLawful settings.now }
+    requires ready { IsReady test.now }
+    ensures { Comes (λ files. OfCommand settings.now files (text test.now.script) test.now.deal)
+        (H.files shelf.old)
+        (MissesSecond settings.now (text test.now.script) (H.failed shelf.old) (H.failed shelf.new))
+        result }
+{
+    match settings {
+        Settings::RunOrder {
+            order,
+            word,
+            points,
+            limit,
+            report,
+            ..
+        } => report_ordered(rt, alloc, *report, test, order, *word, points, *limit, gate),
+        Settings::RunSeed {
+            seed,
+            depth,
+            steps,
+            limit,
+            report,
+            ..
+        } => Ok(report_seed(
+            rt, alloc, *report, test, *seed, *depth, *steps, *limit, gate,
+        )?),
+        Settings::Campaign {
+            first,
+            count,
+            depth,
+            steps,
+            limit,
+            json,
+            ..
+        } => Ok(seeds::report_on(
+            rt, alloc, test, *first, *count, *depth, *steps, *limit, *json, gate,
+        )?),
+        Settings::Big { pieces } => Ok(big::big_of(rt, alloc, test, *pieces, gate)?),
+        Settings::Replay { trace, .. } => {
+            replay::reply_to_file(rt, alloc, test, trace.as_str(), shelf, gate)
+        }
+    }
+}
+
+/// What the settings ask for.
+pub fn outcome_of<R: Threads + Wait + Sync, H: Shelf, G: Gate>(
+    rt: &R,
+    alloc: Global,
+    settings: &Settings,
+    shelf: &mut H,
+    gate: &G,
+) -> Result<Outcome, Refusal>
+    requires { AreLawful settings.now }
+    ensures { Comes (OfTaken (Ok settings.now)) (H.files shelf.old)
+        (ReadFailed (Ok settings.now)
+        (record { files = H.files shelf.old; failed = H.failed shelf.old })
+        (record { files = H.files shelf.new; failed = H.failed shelf.new })) result }
+{
+    match test_of(alloc, settings, shelf) {
+        Err(refusal) => Err(refusal),
+        Ok(test) => command_outcome(rt, alloc, settings, &test, shelf, gate),
+    }
+}

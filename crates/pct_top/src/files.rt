@@ -1,0 +1,61 @@
+//! The files of a call.
+
+ghost use Rattle.std.specs.Prelude.{◌≡◌, ◌≤◌, Some, IfOk, take};
+ghost use Rattle.script_tree.specs.Layout.{layout};
+ghost use Rattle.large_script.specs.Large.{large_script};
+ghost use Rattle.pct_top.specs.Ready.{IsReady};
+ghost use Rattle.pct_top.specs.Printed.{script_bytes};
+ghost use Rattle.pct_top.specs.Files.{GivesTest, GivesText, GivesTrace, KeepsNames, Misses};
+
+use crate::refusal::Refusal;
+use crate::test::Test;
+use large_script::print_large;
+use pct_ask::Names;
+use pct_outside::Shelf;
+use script_parse::parse;
+use std::alloc::Global;
+use trace_text::{TraceFile, read_trace};
+
+/// One byte more than a script may have.
+const SCRIPT_BYTES: u64 = 1_048_577;
+
+/// One byte more than a trace may have.
+const TRACE_BYTES: u64 = 16_777_217;
+
+/// The script of a file, ready to be run.
+pub fn read_test<H: Shelf>(alloc: Global, file: &str, shelf: &mut H) -> Result<Test, Refusal>
+    ensures ready { IfOk result IsReady }
+    ensures test { GivesTest (H.files shelf.old) (λ files. take script_bytes (files file.now))
+        (Misses (Some file.now) (H.failed shelf.old) (H.failed shelf.new)) result }
+    ensures keeps { KeepsNames (H.failed shelf.old) (H.failed shelf.new) }
+    ensures files { H.files shelf.new ≡ H.files shelf.old }
+{
+    let bytes = shelf.read_up_to(file, SCRIPT_BYTES)?;
+    let script = parse(alloc, &bytes)?;
+    Ok(Test::of_script(alloc, script)?)
+}
+
+/// The large script, printed and parsed, ready to be run.
+pub fn large_test(alloc: Global, pieces: u32) -> Result<Test, Refusal>
+    requires { pieces ≤ 100 }
+    ensures ready { IfOk result IsReady }
+    ensures test { GivesText (layout (large_script pieces)) result }
+{
+    let bytes = print_large(alloc, pieces)?;
+    let script = parse(alloc, &bytes)?;
+    Ok(Test::of_script(alloc, script)?)
+}
+
+/// The trace of a file.
+pub fn read_told<H: Shelf>(
+    alloc: Global,
+    file: &str,
+    names: &Names,
+    shelf: &mut H,
+) -> Result<TraceFile, Refusal>
+    ensures { GivesTrace (H.files shelf.old) file.now names.now
+        (Misses (Some file.now) (H.failed shelf.old) (H.failed shelf.new)) result }
+{
+    let bytes = shelf.read_up_to(file, TRACE_BYTES)?;
+    Ok(read_trace(alloc, &bytes, names)?)
+}

@@ -1,0 +1,91 @@
+//! Lines that commands write: each writer puts one line behind what is written.
+
+ghost use Rattle.std.specs.Prelude.{◌≡◌, [], ◌∷◌, ◌++◌, OnOk, decimal};
+ghost use Rattle.pct_ask.specs.VerdictText.{thread_name, named, verdict_words, HasNames, IsWhole};
+ghost use Rattle.pct_ask.specs.NameLists.{list_of};
+ghost use Rattle.pct_ask.specs.TraceText.{name_at, line_text};
+
+use pct_ask::{NameKind, Names, Verdict, write_number, write_verdict};
+use std::alloc::AllocError as NoMemory;
+
+/// A verdict behind a word.
+pub fn push_verdict(
+    out: &mut Vec<u8>,
+    names: &Names,
+    word: &str,
+    verdict: &Verdict,
+) -> Result<(), NoMemory>
+    requires threads { HasNames names.now verdict.now }
+    requires whole { IsWhole verdict.now }
+    ensures { OnOk result (out.new.items
+        ≡ out.old.items ++ line_text (word.now ∷ verdict_words (named names.now verdict.now))) }
+{
+    out.extend_from_slice(word.as_bytes())?;
+    out.push(b' ')?;
+    write_verdict(verdict, names, out)?;
+    out.push(b'\n')?;
+    Ok(())
+}
+
+/// A thread behind a word.
+pub fn push_thread(
+    out: &mut Vec<u8>,
+    names: &Names,
+    word: &str,
+    thread: u32,
+) -> Result<(), NoMemory>
+    ensures { OnOk result (out.new.items
+        ≡ out.old.items ++ line_text (word.now ∷ thread_name names.now thread ∷ [])) }
+{
+    out.extend_from_slice(word.as_bytes())?;
+    out.push(b' ')?;
+    out.extend_from_slice(name_of(names, NameKind::Thread, thread))?;
+    out.push(b'\n')?;
+    Ok(())
+}
+
+/// A count behind a word.
+pub fn push_size(out: &mut Vec<u8>, word: &str, count: usize) -> Result<(), NoMemory>
+    ensures { OnOk result (out.new.items
+        ≡ out.old.items ++ line_text (word.now ∷ decimal count ∷ [])) }
+{
+    out.extend_from_slice(word.as_bytes())?;
+    out.push(b' ')?;
+    write_number(count as i128, out)?;
+    out.push(b'\n')?;
+    Ok(())
+}
+
+/// The same of a smaller count.
+pub fn push_count(out: &mut Vec<u8>, word: &str, count: u32) -> Result<(), NoMemory>
+    ensures { OnOk result (out.new.items
+        ≡ out.old.items ++ line_text (word.now ∷ decimal count ∷ [])) }
+{
+    push_size(out, word, count as usize)
+}
+
+/// A word behind a space.
+pub fn push_word(out: &mut Vec<u8>, word: &[u8]) -> Result<(), NoMemory>
+    ensures { OnOk result (out.new.items ≡ out.old.items ++ 32 ∷ word.now) }
+{
+    out.push(b' ')?;
+    out.extend_from_slice(word)
+}
+
+/// A number behind a space.
+pub fn push_number(out: &mut Vec<u8>, number: u32) -> Result<(), NoMemory>
+    ensures { OnOk result (out.new.items ≡ out.old.items ++ 32 ∷ decimal number) }
+{
+    out.push(b' ')?;
+    write_number(i128::from(number), out)
+}
+
+/// The name of a thread or an object.
+pub fn name_of(names: &Names, kind: NameKind, id: u32) -> &[u8]
+    ensures { result.now ≡ name_at (list_of kind names.now) id }
+{
+    match names.name(kind, id) {
+        Some(name) => name,
+        None => &[],
+    }
+}

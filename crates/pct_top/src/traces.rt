@@ -1,0 +1,63 @@
+//! The trace of a run.
+
+ghost use Rattle.std.specs.Prelude.{◌≡◌, length, IfOk};
+ghost use Rattle.script_tree.specs.ScriptSeen.{text};
+ghost use Rattle.trace_text.specs.Lawful.{IsStepCount};
+ghost use Rattle.pct_top.specs.Runs.{trace_version as version_by, is_passed as is_passed_by, TellsRun};
+ghost use Rattle.pct_top.specs.Known.{AreKnown};
+ghost use Rattle.pct_top.specs.Priorities.{ArePriorities};
+ghost use Rattle.pct_top.specs.Outcome.{printed_of};
+
+use crate::outcome::Outcome;
+use crate::priorities::Priorities;
+use pct_ask::Verdict;
+use script_tree::Script;
+use std::alloc::{AllocError as NoMemory, Global};
+use trace_text::{Header, write_trace};
+use worker_run::WholeRun;
+
+/// Whether a run passes.
+pub fn is_passed(verdict: &Verdict) -> bool
+    ensures { result ≡ is_passed_by verdict.now }
+{
+    matches!(verdict, Verdict::Passed)
+}
+
+/// The version of a script's traces.
+fn trace_version(script: &Script) -> u32
+    ensures { result ≡ version_by (text script.now) }
+{
+    if script.version >= 3 { 2 } else { 1 }
+}
+
+/// The trace of a run, which is done where it passes.
+pub fn told_trace(
+    alloc: Global,
+    script: &Script,
+    priorities: Priorities,
+    limit: u32,
+    run: &WholeRun,
+) -> Result<Outcome, NoMemory>
+    requires priorities { ArePriorities (length script.now.names.threads) priorities }
+    requires limit { IsStepCount limit }
+    requires known { AreKnown (text script.now) limit run.now.events run.now.verdict }
+    ensures { IfOk result (λ outcome.
+        TellsRun (text script.now) priorities.order priorities.points limit
+        (run.now.events, run.now.verdict) (printed_of outcome)) }
+{
+    let header = Header {
+        version: trace_version(script),
+        order: priorities.order,
+        points: priorities.points,
+        limit,
+    };
+    let text = write_trace(
+        alloc,
+        &header,
+        script.names(),
+        run.events.as_slice(),
+        &run.verdict,
+    )?;
+    let done = is_passed(&run.verdict);
+    Ok(Outcome { text, done })
+}

@@ -1,0 +1,2 @@
+-- Laws on this crate's definitions, made for other crates too.
+pub mod ScriptBodies

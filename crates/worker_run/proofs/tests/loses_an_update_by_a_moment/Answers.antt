@@ -1,0 +1,14 @@
+use Rattle.std.proofs.Common.{arith}
+use Rattle.sync_store.specs.Store.{sizes_of_deal}
+use Rattle.worker_run.specs.declared.tests.Sample.{Sample}
+use Rattle.worker_run.proofs.Samples.{samples-within}
+use Rattle.worker_run.proofs.laws.Orders.{declared_is_order}
+use Rattle.worker_run.proofs.tests.loses_an_update_by_a_moment.Goals as goal
+
+pub run_by_events-requires-clause-order : goal.run_by_events-requires-clause-order
+run_by_events-requires-clause-order g c = λ κs. declared_is_order 3
+
+pub run_by_events-requires-clause-in_range : goal.run_by_events-requires-clause-in_range
+run_by_events-requires-clause-in_range g c = λ κs.
+    let deal = c.in_ok-deal.deal in
+    samples-within (sizes_of_deal deal) (omega (arith, c.in_ok-deal.ensures.vars)) (omega (arith, c.in_ok-deal.ensures.threads)) (λ (s : Sample). s.thread) (λ (s : Sample). s.steps) (λ (s : Sample). s.seen) c.in_ok-bodies.bodies.items

@@ -1,0 +1,150 @@
+// Whole runs: by an order of the threads, with change points or with moments in their place. A verdict ends each of them.
+ghost use Rattle.std.specs.Prelude.{◌≡◌, ◌≤◌, [], length, map, IfOk, Some};
+ghost use Rattle.pct_ask.specs.declared.verdict.Outcome.{Outcome};
+ghost use Rattle.pct_ask.specs.declared.verdict.Verdict.{Verdict};
+ghost use Rattle.sync_store.specs.Store.{sizes_of_deal};
+ghost use Rattle.rank_now.specs.Order.{IsOrder};
+ghost use Rattle.policy_pick.specs.Plan.{ByPoints, ByEvents};
+ghost use Rattle.policy_pick.specs.Kept.{points_plan, PointsStand, events_plan, EventsStand};
+ghost use Rattle.worker_run.specs.Bodies.{AreInRange};
+ghost use Rattle.worker_run.specs.Run.{run, directed};
+ghost use Rattle.worker_run.specs.Played.{IsPlayed};
+
+use crate::played::Played;
+use crate::run::run_threads;
+use pct_ask::{Body, Deal, EventList, Outcome, Verdict};
+use pct_outside::Gate;
+use policy_pick::{DirectedPolicy, Pct};
+use rank_now::{Moment, RankError};
+use std::alloc::{AllocError as NoMemory, Global};
+use std::sync::Wait;
+use std::thread::Threads;
+
+/// A whole run: its steps, and the verdict by which it ended.
+#[derive(Debug, Drop)]
+pub struct WholeRun {
+    pub events: EventList,
+    pub verdict: Verdict,
+}
+
+impl Played {
+    /// The run, where a verdict ended it, as it ends each run by an order.
+    pub fn into_whole(self) -> WholeRun
+        requires { (verdict : Verdict) × (self.outcome ≡ Outcome.Verdict verdict) }
+        ensures events { result.events ≡ self.events }
+        ensures verdict { self.outcome ≡ Outcome.Verdict result.verdict }
+    {
+        let Played { events, outcome } = self;
+        match outcome {
+            Outcome::Verdict(verdict) => WholeRun { events, verdict },
+            Outcome::Departed { .. } => unreachable!(),
+        }
+    }
+}
+
+impl From<WholeRun> for Played {
+    ghost from_gives = { λ whole played. (played.events ≡ whole.events)
+        × (played.outcome ≡ Outcome.Verdict whole.verdict) };
+
+    fn from(whole: WholeRun) -> Played {
+        Played {
+            events: whole.events,
+            outcome: Outcome::Verdict(whole.verdict),
+        }
+    }
+}
+
+/// The policy of an order and change points.
+fn points_policy(alloc: Global, order: &[u32], points: &[u32]) -> Result<Pct, NoMemory>
+    requires order { IsOrder order.now }
+    requires few_threads { length order.now ≤ 64 }
+    requires few_points { length points.now ≤ 7 }
+    ensures plan { IfOk result (λ policy. points_plan policy ≡ ByPoints order.now points.now) }
+    ensures stands { IfOk result (λ policy. PointsStand policy []) }
+{
+    match Pct::new(alloc, order, points) {
+        Ok(policy) => Ok(policy),
+        Err(RankError::NoMemory) => Err(NoMemory),
+        Err(RankError::NotAnOrder { .. }) => unreachable!(),
+    }
+}
+
+/// The policy of an order and moments.
+fn events_policy(
+    alloc: Global,
+    order: &[u32],
+    events: &[Moment],
+) -> Result<DirectedPolicy, NoMemory>
+    requires order { IsOrder order.now }
+    requires few_threads { length order.now ≤ 64 }
+    requires few_events { length events.now ≤ 7 }
+    ensures plan { IfOk result (λ policy. events_plan policy ≡ ByEvents order.now events.now) }
+    ensures stands { IfOk result (λ policy. EventsStand policy []) }
+{
+    match DirectedPolicy::new(alloc, order, events) {
+        Ok(policy) => Ok(policy),
+        Err(RankError::NoMemory) => Err(NoMemory),
+        Err(RankError::NotAnOrder { .. }) => unreachable!(),
+    }
+}
+
+/// The run of bodies under an order of their threads, the highest first, and change points, which are numbers of steps
+/// from 1. It has at most `limit` steps. Each body is in a thread of its own. The gate is passed before each post.
+pub fn run_by_points<R: Threads + Wait + Sync, B: Body, G: Gate>(
+    rt: &R,
+    alloc: Global,
+    deal: Deal,
+    order: &[u32],
+    points: &[u32],
+    limit: u32,
+    bodies: Vec<B>,
+    gate: &G,
+) -> Result<WholeRun, NoMemory>
+    requires order { IsOrder order.now }
+    requires whole { length order.now ≡ deal.threads }
+    requires few_points { length points.now ≤ 7 }
+    requires some_steps { 1 ≤ limit }
+    requires few_steps { limit ≤ 100000 }
+    requires bodies { length bodies.items ≡ deal.threads }
+    requires in_range { AreInRange (sizes_of_deal deal) (map B.pending bodies.items) }
+    ensures run { IfOk result (λ whole.
+        run deal (map B.pending bodies.items) order.now points.now limit
+        ≡ Some (whole.events, whole.verdict)) }
+    // The same, as the run that is played by these priorities.
+    ensures played { IfOk result (λ whole. IsPlayed (ByPoints order.now points.now) deal
+        (map B.pending bodies.items) limit whole.events (Outcome.Verdict whole.verdict)) }
+{
+    let policy = points_policy(alloc, order, points)?;
+    let played = run_threads(rt, alloc, deal, policy, limit, bodies, gate)?;
+    Ok(played.into_whole())
+}
+
+/// The same with moments in the place of change points: a thread is lowered after its own step of a number, from 1.
+pub fn run_by_events<R: Threads + Wait + Sync, B: Body, G: Gate>(
+    rt: &R,
+    alloc: Global,
+    deal: Deal,
+    order: &[u32],
+    events: &[Moment],
+    limit: u32,
+    bodies: Vec<B>,
+    gate: &G,
+) -> Result<WholeRun, NoMemory>
+    requires order { IsOrder order.now }
+    requires whole { length order.now ≡ deal.threads }
+    requires few_events { length events.now ≤ 7 }
+    requires some_steps { 1 ≤ limit }
+    requires few_steps { limit ≤ 100000 }
+    requires bodies { length bodies.items ≡ deal.threads }
+    requires in_range { AreInRange (sizes_of_deal deal) (map B.pending bodies.items) }
+    ensures directed { IfOk result (λ whole.
+        directed deal (map B.pending bodies.items) order.now events.now limit
+        ≡ Some (whole.events, whole.verdict)) }
+    // The same, as the run that is played by these priorities.
+    ensures played { IfOk result (λ whole. IsPlayed (ByEvents order.now events.now) deal
+        (map B.pending bodies.items) limit whole.events (Outcome.Verdict whole.verdict)) }
+{
+    let policy = events_policy(alloc, order, events)?;
+    let played = run_threads(rt, alloc, deal, policy, limit, bodies, gate)?;
+    Ok(played.into_whole())
+}
