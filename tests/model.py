@@ -177,8 +177,7 @@ def find_command(settings):
 
 COMMANDS = {
     "run": run_command, "replay": replay_command, "campaign": campaign_command, "big": big_command, "races": races_command,
-    "locks": locks_command, "expose": expose_command, "certify": certify_command,
-    "find": find_command,
+    "locks": locks_command, "find": find_command, "expose": expose_command, "certify": certify_command,
 }
 
 

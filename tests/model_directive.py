@@ -4,7 +4,7 @@ from dataclasses import dataclass, field
 
 from model_run import ranked_run
 from model_script import Faulty, is_name
-from model_trace import number_of, threads_of_verdict
+from model_trace import LineReader, number_of
 
 MOST_BYTES, MOST_EVENTS, MOST_THREADS = 65536, 7, 7
 
@@ -24,58 +24,34 @@ def directive_lines(directive):
     yield f"verdict {directive.verdict}"
 
 
-class DirectiveReader:
-    """Takes a file line by line. Each `take` answers the fault of its line, or None."""
-
+class DirectiveReader(LineReader):
     def __init__(self, data, script):
-        *whole, self.last = data.split(b"\n")  # the last piece has no LF
-        self.lines = [*whole, self.last] if self.last else whole
-        self.whole = len(whole)
-        self.script, self.directive = script, Directive()
+        super().__init__(data, script, 2, Directive())
 
-    def read(self):
-        for number in range(1, max(2, len(self.lines)) + 1):
-            if self.directive.verdict is not None:
-                raise Faulty(number, "MoreAfterVerdict")
-            text = self.lines[number - 1].decode("latin-1") if number <= len(self.lines) else ""
-            take = {1: self.take_first, 2: self.take_second}.get(number, self.take_later)
-            fault = take(text.split(" "), number <= self.whole)
-            if fault:
-                raise Faulty(number, fault)
-        if self.directive.verdict is None:
-            raise Faulty(len(self.lines) + 1, "NoVerdict")
-        return self.directive
-
-    @staticmethod
-    def take_first(words, has_end):
-        return None if has_end and words == ["directive", "1"] else "BadHeader"
-
-    def take_second(self, words, has_end):
+    def take_head(self, number, words, has_end):
+        if number == 1:
+            return None if has_end and words == ["directive", "1"] else "BadHeader"
         if not has_end or len(words) != 2 or words[0] != "low" or not is_name(words[1]):
             return "BadHeader"
-        self.directive.low = words[1]
-        return self.fault_of_threads(words[1:])
+        self.made.low = words[1]
+        return self.fault_of_names([("thread", words[1])])
 
-    def take_later(self, words, has_end):
-        if self.is_event(words):
-            if len(self.directive.events) == MOST_EVENTS:
-                return "TooLong"
-            self.directive.events.append((words[1], int(words[2])))
-            return self.fault_of_threads([words[1]]) if has_end else "BadLine"
-        is_verdict = words[0] == "verdict" and len(words) > 1
-        threads = threads_of_verdict(words[1:], 2, self.script) if is_verdict else None
-        if threads is None or not has_end:
+    def take_later(self, _, words, has_end):
+        is_event, threads = self.is_event(words), self.threads_of(words, 2)
+        if is_event and len(self.made.events) == MOST_EVENTS:
+            return "TooLong"
+        if not has_end or (not is_event and threads is None):
             return "BadLine"
-        self.directive.verdict = " ".join(words[1:])
-        return self.fault_of_threads(threads)
+        return self.take_event(words[1], int(words[2])) if is_event else self.take_verdict(words, threads)
+
+    def take_event(self, thread, number):
+        self.made.events.append((thread, number))
+        return self.fault_of_names([("thread", thread)])
 
     @staticmethod
     def is_event(words):
         is_form = len(words) == 3 and words[0] == "after" and is_name(words[1])
         return is_form and number_of(words[2], 1, 100000) is not None
-
-    def fault_of_threads(self, threads):
-        return None if all(thread in self.script.threads for thread in threads) else "UnknownName"
 
 
 def read_directive(data, script):

@@ -104,28 +104,48 @@ def threads_of_verdict(words, version, script):
     return threads if all(low < high for low, high in zip(places, places[1:])) else None
 
 
-class Reader:
-    def __init__(self, data, script):
+class LineReader:
+    """Takes a file line by line, its head first, into what it makes. Each `take` answers the fault of its line, or None."""
+
+    def __init__(self, data, script, lines_of_head, made):
         *whole, self.last = data.split(b"\n")  # the last piece has no LF
         self.lines = [*whole, self.last] if self.last else whole
-        self.whole = len(whole)
-        self.script, self.trace = script, Trace()
+        self.whole, self.lines_of_head = len(whole), lines_of_head
+        self.script, self.made = script, made
 
     def read(self):
-        for number in range(1, max(4, len(self.lines)) + 1):
-            if self.trace.verdict is not None:
+        for number in range(1, max(self.lines_of_head, len(self.lines)) + 1):
+            if self.made.verdict is not None:
                 raise Faulty(number, "MoreAfterVerdict")
             text = self.lines[number - 1].decode("latin-1") if number <= len(self.lines) else ""
-            take = self.take_head if number <= 4 else self.take_later
+            take = self.take_head if number <= self.lines_of_head else self.take_later
             fault = take(number, text.split(" "), number <= self.whole)
             if fault:
                 raise Faulty(number, fault)
-        if self.trace.verdict is None:
+        if self.made.verdict is None:
             raise Faulty(len(self.lines) + 1, "NoVerdict")
-        return self.trace
+        return self.made
+
+    def threads_of(self, words, version):
+        """The threads that a verdict's line names, or None where the words are no such line by form."""
+        is_verdict = words[0] == "verdict" and len(words) > 1
+        return threads_of_verdict(words[1:], version, self.script) if is_verdict else None
+
+    def take_verdict(self, words, threads):
+        self.made.verdict = " ".join(words[1:])
+        return self.fault_of_names([("thread", thread) for thread in threads])
+
+    def fault_of_names(self, names):
+        """The names with the kinds that their places need."""
+        return None if all(self.script.declares(kind, name) for kind, name in names) else "UnknownName"
+
+
+class TraceReader(LineReader):
+    def __init__(self, data, script):
+        super().__init__(data, script, 4, Trace())
 
     def take_head(self, number, words, has_end):
-        trace, values = self.trace, words[1:]
+        trace, values = self.made, words[1:]
         if not has_end or words[0] != ["trace", "order", "points", "limit"][number - 1]:
             return "BadHeader"
         if number == 1 and values in (["1"], ["2"]):
@@ -135,7 +155,7 @@ class Reader:
             if not is_well:
                 return "BadHeader"
             trace.order = values
-            return "UnknownName" if set(values) != set(self.script.threads) else None
+            return self.fault_of_names([("thread", value) for value in values])
         elif number == 3:
             trace.points = [number_of(value, 1, 100000) for value in values]
             return "BadHeader" if None in trace.points or len(values) > 7 else None
@@ -147,24 +167,19 @@ class Reader:
         return None
 
     def take_later(self, _, words, has_end):
-        step = step_of(words, self.trace.version)
-        if step and step[0] > self.trace.limit:
+        step, threads = step_of(words, self.made.version), self.threads_of(words, self.made.version)
+        if step and step[0] > self.made.limit:
             return "TooLong"
-        is_verdict = words[0] == "verdict" and len(words) > 1
-        threads = threads_of_verdict(words[1:], self.trace.version, self.script) if is_verdict else None
         if not has_end or (step is None and threads is None):
             return "BadLine"
-        names = step[2] if step else [("thread", thread) for thread in threads]
-        if not all(self.script.declares(kind, name) for kind, name in names):
-            return "UnknownName"
-        if not step:
-            self.trace.verdict = " ".join(words[1:])
-            return None
-        self.trace.events.append(step[1])
-        return "OutOfOrder" if step[0] != len(self.trace.events) else None
+        return self.take_step(*step) if step else self.take_verdict(words, threads)
+
+    def take_step(self, number, event, names):
+        self.made.events.append(event)
+        return self.fault_of_names(names) or (None if number == len(self.made.events) else "OutOfOrder")
 
 
 def read_trace(data, script):
     if len(data) > 16777216:
         raise Faulty(1, "TooLong")
-    return Reader(data, script).read()
+    return TraceReader(data, script).read()
