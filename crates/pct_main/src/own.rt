@@ -8,7 +8,8 @@ ghost use Rattle.pct_main.specs.Own as own;
 const HELP: &str = "\
 pct runs a test script of threads under one order of their priorities, and prints the run's trace,
 its data races, its lock order or a directive for its failure; or it runs a script under the
-priorities of many seeds and ranks the failures; or it replays a trace.
+priorities of many seeds and ranks the failures; or it replays a trace; or it runs a directive under
+one order, or under all orders with its lowest thread last, and certifies it.
 
 usage: pct run FILE --order NAMES [--points STEPS] [--limit STEPS]
        pct run FILE --seed NUMBER --depth DEPTH [--steps STEPS] [--limit STEPS]
@@ -16,6 +17,8 @@ usage: pct run FILE --order NAMES [--points STEPS] [--limit STEPS]
        pct campaign FILE --from NUMBER --count RUNS --depth DEPTH [--steps STEPS] [--limit STEPS]
            [--form text|json]
        pct replay FILE TRACE
+       pct expose FILE DIRECTIVE --order NAMES --steps STEPS [--limit STEPS]
+       pct certify FILE DIRECTIVE --steps STEPS [--limit STEPS]
        pct big PIECES
        pct --help
        pct --version
@@ -24,10 +27,12 @@ FILE is the script. NAMES are all its threads, joined by commas, the highest pri
 the points are the numbers of the steps after which the thread that took the step is lowered. A
 seed draws the order and the points, one less of them than the depth. A run has at most so many
 steps as its limit says, 10000 where it says nothing. A campaign runs so many seeds from the first
-one on; big does so with a large script of its own.
-The status is 0 where each run passes, there are no races, there is a lock order or the trace is
-confirmed, 1 where not, 2 for a word that isn't taken, 3 and 4 for files that are no script and no
-trace, 6 and 7 for files and output that can't be read or written, and 8 where there is no memory.
+one on; big does so with a large script of its own. A directive is what find prints; expose prints
+the trace of its run, and certify whether each order leads to its verdict within so many steps.
+The status is 0 where each run passes, there are no races, there is a lock order, the trace is
+confirmed, what is exposed has the directive's verdict or the directive is certified, 1 where not,
+2 for a word that isn't taken, 3, 4 and 5 for files that are no script, no trace and no directive,
+6 and 7 for files and output that can't be read or written, and 8 where there is no memory.
 ";
 
 /// What `pct --version` answers.
