@@ -1,0 +1,40 @@
+# Completion for fish of the words of pct.
+
+# The threads of a script in their order, joined by commas.
+function __pct_threads
+    set -l words (commandline -opc)
+    sed -n 's/^[[:space:]]*thread[[:space:]][[:space:]]*\([A-Za-z_][A-Za-z0-9_]*\).*/\1/p' $words[3] 2>/dev/null | paste -s -d , -
+end
+
+# Whether the command is one of these, and its file is there.
+function __pct_has_file_of
+    set -l words (commandline -opc)
+    test (count $words) -ge 3; and contains -- $words[2] $argv
+end
+
+# Whether the next word is a file.
+function __pct_wants_file
+    set -l words (commandline -opc)
+    switch (count $words)
+        case 2
+            test $words[2] != big
+        case 3
+            test $words[2] = replay
+        case '*'
+            false
+    end
+end
+
+set -l of_run run races locks find
+complete -c pct -f
+complete -c pct -n 'test (count (commandline -opc)) -eq 1' -a 'run races locks find campaign replay big --help --version'
+complete -c pct -n __pct_wants_file -F
+complete -c pct -n "__pct_has_file_of $of_run" -l order -x -a '(__pct_threads)' -d 'all threads, the highest first'
+complete -c pct -n "__pct_has_file_of $of_run" -l points -x -d 'after which steps threads are lowered'
+complete -c pct -n "__pct_has_file_of $of_run" -l seed -x -d 'draws the order and the points'
+complete -c pct -n '__pct_has_file_of campaign' -l from -x -d 'the first seed'
+complete -c pct -n '__pct_has_file_of campaign' -l count -x -d 'how many seeds'
+complete -c pct -n "__pct_has_file_of $of_run campaign" -l depth -x -d 'one more than the points'
+complete -c pct -n "__pct_has_file_of $of_run campaign" -l steps -x -d 'from how many steps points are drawn'
+complete -c pct -n "__pct_has_file_of $of_run campaign" -l limit -x -d 'how many steps a run may have'
+complete -c pct -n '__pct_has_file_of campaign' -l form -x -a 'text json' -d 'the form of the report'
