@@ -3,7 +3,7 @@ use Rattle.std.proofs.Common.{◌≡◌, ℕ, suc, zero, ◌<◌, ◌⊎◌, inl
 use Rattle.std.specs.List.{All, AllPairs, Contains}
 use Rattle.std.proofs.lemmas.List.Elements.{All-contains}
 use Rattle.pct_ask.specs.declared.event.Row.{Row}
-use Rattle.failure_rank.specs.Groups.{IsRanking, StandsBefore, MoreOften, Shorter, Lower, Earlier}
+use Rattle.failure_rank.specs.Groups.{StandsBefore, MoreOften, Shorter, Lower, Earlier}
 use Rattle.failure_rank.specs.declared.group.Group.{Group}
 use Rattle.failure_rank.proofs.Counting.{pair_tail, pair_head}
 
@@ -61,7 +61,3 @@ module _ {X : Type 0} (R : X → X → Type 0) (one_way : (a b : X) → R a b �
       let e : a ≡ b = same_head a xs b ys (pair_head R a xs p) (pair_head R b ys q) (to a (here a xs)) (from b (here b ys)) in
       let rest : xs ≡ ys = same_lists xs ys (pair_tail R a xs p) (pair_tail R b ys q) (rest_has a xs b ys e (pair_head R a xs p) to) (rest_has b ys a xs (sym e) (pair_head R b ys q) from) in
       cc
-
-pub one_ranking : (rows : List Row) (groups other : List Group) → IsRanking rows groups → IsRanking rows other → other ≡ groups
-one_ranking rows groups other is too =
-    same_lists (StandsBefore rows) (not_both rows) other groups too.order is.order (λ g h. (is.members g).1 ((too.members g).0 h)) (λ g h. (too.members g).1 ((is.members g).0 h))

@@ -27,8 +27,8 @@ use Rattle.turn_book.specs.Board.{verdict_of}
 use Rattle.turn_book.specs.Chances.{threads_below, is_idle, blocked_by_ask, blocked_at, verdict_of_blocked, rest_verdict}
 use Rattle.turn_book.specs.Obeys.{next_in, choice_in, outcome_by, outcome_by_pick}
 use Rattle.turn_book.specs.Posts.{schedule_of}
-use Rattle.turn_book.proofs.More.{settled-at}
-use Rattle.turn_book.proofs.Worlds.{Steps, steps-from, event_of, effect-is, made-from}
+use Rattle.turn_book.proofs.laws.MorePosts.{settled-at}
+use Rattle.turn_book.proofs.laws.Worlds.{Steps, steps-from, event_of, effect-is, made-from}
 use Rattle.worker_run.specs.Bodies.{Pending, pending_of, source_of_bodies}
 use Rattle.worker_run.specs.Played.{IsPlayed}
 use Rattle.trace_text.specs.Lawful.{HasObjects, NamesKnown}

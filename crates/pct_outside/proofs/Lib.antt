@@ -1,4 +1,4 @@
 pub mod Meetings
 pub mod FileLemmas
 pub mod CounterLaws
-pub mod PieceLaws
+pub mod laws

@@ -1,7 +1,7 @@
 -- What a call does to the streams, from what comes of its words.
 use Rattle.std.proofs.Common.{◌≡◌, ℕ, List, [], ◌∷◌, inl, inr, Option, Some, Result, Ok, Err, refl, sym, subst, ap, ◌∙◌}
 use Rattle.pct_outside.specs.Piece.{Appended, AppendedPart}
-use Rattle.pct_outside.proofs.PieceLaws.{Appended-nil, AppendedPart-nil}
+use Rattle.pct_outside.proofs.laws.Pieces.{Appended-nil, AppendedPart-nil}
 use Rattle.pct_top.specs.declared.refusal.Refusal.{Refusal}
 use Rattle.pct_top.specs.declared.refusal.Refusal.TheVariants.{Usage, Script, Trace, Read, Write, Memory}
 use Rattle.pct_top.specs.declared.settings.Settings.{Settings}

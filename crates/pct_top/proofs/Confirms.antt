@@ -18,10 +18,10 @@ use Rattle.policy_pick.specs.Plan.{ByPoints, ByList}
 use Rattle.turn_book.specs.Posts.{schedule_of}
 use Rattle.script_body.specs.Bodies.{bodies_of}
 use Rattle.worker_run.specs.Run.{Run}
-use Rattle.worker_run.proofs.Whole.{run-played}
+use Rattle.worker_run.proofs.laws.WholeRuns.{run-played}
 use Rattle.replay_run.specs.declared.answer.Replayed.TheVariants.{Confirmed}
 use Rattle.replay_run.specs.Replay.{IsReplay}
-use Rattle.replay_run.proofs.ListedRuns.{listed_again}
+use Rattle.replay_run.proofs.laws.ListedRuns.{listed_again}
 use Rattle.pct_top.specs.declared.refusal.Refusal.{Refusal}
 use Rattle.pct_top.specs.declared.refusal.Refusal.TheVariants.{Usage, Script}
 use Rattle.pct_top.specs.declared.settings.Report.TheVariants.{Trace}

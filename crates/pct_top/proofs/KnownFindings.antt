@@ -9,7 +9,7 @@ use Rattle.script_tree.specs.Fitting.{IsScript}
 use Rattle.script_tree.specs.DealOf.{IsDealOf}
 use Rattle.policy_pick.specs.Plan.{ByPoints}
 use Rattle.script_body.specs.Bodies.{bodies_of}
-use Rattle.worker_run.proofs.Whole.{run-played}
+use Rattle.worker_run.proofs.laws.WholeRuns.{run-played}
 use Rattle.directive.specs.Directive.{IsMoment}
 use Rattle.directive_find.specs.Moments.{Fits}
 use Rattle.directive_find.specs.Found.{Finds}

@@ -13,10 +13,10 @@ use Rattle.script_tree.specs.Fitting.{IsScript}
 use Rattle.script_tree.specs.DealOf.{IsDealOf}
 use Rattle.policy_pick.specs.Plan.{ByPoints}
 use Rattle.priority_draw.specs.Drawing.{drawn, drawn_places}
-use Rattle.priority_draw.proofs.OrderLemmas.{order-of-is}
-use Rattle.priority_draw.proofs.DrawLemmas.{drawn-are}
+use Rattle.priority_draw.proofs.laws.Orders.{order-of-is}
+use Rattle.priority_draw.proofs.laws.Draws.{drawn-are}
 use Rattle.worker_run.specs.Run.{Run}
-use Rattle.worker_run.proofs.Whole.{run-played}
+use Rattle.worker_run.proofs.laws.WholeRuns.{run-played}
 use Rattle.campaign.specs.Rows.{Setup, run_of_seed, row_of, row_of_seed, seed_at, rows_of}
 use Rattle.report_text.specs.Report.{IsWritable}
 use Rattle.pct_top.specs.commands.Campaign.{setup_of}

@@ -7,7 +7,7 @@ use Rattle.campaign.specs.Rows.{Setup, rows_of}
 use Rattle.campaign.proofs.laws.OneCampaign.{one_campaign}
 use Rattle.failure_rank.specs.declared.group.Group.{Group}
 use Rattle.failure_rank.specs.Groups.{IsRanking}
-use Rattle.failure_rank.proofs.Unique.{one_ranking}
+use Rattle.failure_rank.proofs.Laws.{one_ranking}
 use Rattle.pct_top.specs.Printed.{Printed}
 use Rattle.pct_top.specs.commands.Campaign.{setup_of, frame_of, all_pass, campaign_text, told_campaign, AreOfSeeds, OfSeeds, OfCampaign}
 use Rattle.pct_top.specs.Call.{IsAnswer}

@@ -6,7 +6,7 @@ use Rattle.script_tree.specs.ScriptText.{ScriptText}
 use Rattle.trace_text.specs.declared.file.TraceFile.{TraceFile}
 use Rattle.trace_text.specs.Trace.{IsTrace}
 use Rattle.script_body.specs.Bodies.{bodies_of}
-use Rattle.replay_run.proofs.Once.{one_replay}
+use Rattle.replay_run.proofs.laws.OneReplay.{one_replay}
 use Rattle.pct_top.specs.Printed.{Printed}
 use Rattle.pct_top.specs.commands.Replay.{reply_text, is_confirmed, replied, PrintsReply, OfReplay}
 use Rattle.pct_top.specs.Call.{IsAnswer}

@@ -16,7 +16,7 @@ use Rattle.script_tree.specs.Fitting.{IsScript}
 use Rattle.script_tree.specs.DealOf.{IsDealOf}
 use Rattle.trace_text.specs.declared.file.TraceFile.{TraceFile}
 use Rattle.trace_text.specs.Lawful.{HasObjects, NamesKnown, IsStep}
-use Rattle.trace_text.proofs.StepObjects.{has_objects}
+use Rattle.trace_text.proofs.laws.Objects.{has_objects}
 use Rattle.trace_text.specs.Trace.{IsTrace}
 use Rattle.replay_run.specs.declared.answer.Written.TheVariants as written
 use Rattle.replay_run.specs.declared.answer.Found.TheVariants as found

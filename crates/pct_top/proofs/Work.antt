@@ -6,14 +6,15 @@ use Rattle.script_tree.specs.declared.fault.ScriptFault.{ScriptFault}
 use Rattle.script_tree.specs.ScriptText.{ScriptText}
 use Rattle.script_tree.specs.DealOf.{IsDealOf}
 use Rattle.script_tree.specs.Grammar.{Spells}
-use Rattle.script_parse.proofs.WholeText.{one_script, spelled_no_fault}
-use Rattle.script_parse.proofs.FaultLaws.{one_fault}
+use Rattle.script_parse.proofs.laws.Scripts.{one_script, spelled_no_fault}
+use Rattle.script_parse.proofs.laws.Faults.{one_fault}
 use Rattle.trace_text.specs.declared.file.TraceFile.{TraceFile}
 use Rattle.trace_text.specs.declared.fault.TraceFault.{TraceFault}
 use Rattle.trace_text.specs.declared.fault.TraceError.TheVariants.{Bad}
 use Rattle.trace_text.specs.Trace.{IsTrace}
 use Rattle.trace_text.specs.Faults.{IsTraceFault}
-use Rattle.trace_text.proofs.Traces.{written-answer, one-fault}
+use Rattle.trace_text.proofs.laws.Faults.{one-fault}
+use Rattle.trace_text.proofs.laws.Answers.{written-answer}
 use Rattle.trace_text.specs.Lines.{pieces_of}
 use Rattle.pct_top.specs.declared.refusal.Refusal.TheVariants.{Script, Trace}
 use Rattle.pct_top.specs.Ordered.{NamesAll, OrderFits}

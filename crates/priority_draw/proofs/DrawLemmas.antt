@@ -6,24 +6,10 @@ use borrow.Rule.Slice.PartMut.{put_mid}
 use Rattle.std.proofs.lemmas.List.Edits.{length-remove}
 use Rattle.std.proofs.lemmas.List.FromFn.{length-range_with_len, length-map-range_with_len, get_or-map-range_with_len, fill_by_all}
 use Rattle.priority_draw.specs.Words.{SeedWords, first_words, place_after, after}
-use Rattle.priority_draw.specs.Orders.{declared_order, ArePlaces, taken_from, order_of}
+use Rattle.priority_draw.specs.Orders.{declared_order, taken_from, order_of}
 use Rattle.priority_draw.specs.Drawing.{draw, drawn_places, drawn_order, drawn_points, IsStep}
 use Rattle.priority_draw.proofs.WordLemmas.{draw-lt, draw-after}
-
-pub drawn-length : (seed place threads : ℕ) → length (drawn_places seed place threads) ≡ threads
-unfolding drawn_places
-drawn-length seed place threads = length-map-range_with_len (λ i. draw seed (place + 2 * i) (threads - i)) 0 threads
-
-pub drawn-at : (seed place threads i : ℕ) → i < threads → get_or (drawn_places seed place threads) i 0 ≡ draw seed (place + 2 * i) (threads - i)
-unfolding drawn_places
-drawn-at seed place threads i within = get_or-map-range_with_len (λ i. draw seed (place + 2 * i) (threads - i)) 0 threads i i 0 within (omega arith)
-
--- the places that are drawn are in bounds
-pub drawn-are : (seed place threads : ℕ) → ArePlaces threads (drawn_places seed place threads)
-drawn-are seed place threads = record {
-  whole = drawn-length seed place threads;
-  within = λ i p. omega (arith, drawn-at seed place threads i p, draw-lt seed (place + 2 * i) (threads - i) (omega arith));
-}
+use Rattle.priority_draw.proofs.laws.Draws.{drawn-length, drawn-at}
 
 -- what is still to be drawn
 pub drawn-more : (seed place threads i : ℕ) → i < threads → drop i (drawn_places seed place threads) ≡ draw seed (place + 2 * i) (threads - i) ∷ drop (i + 1) (drawn_places seed place threads)

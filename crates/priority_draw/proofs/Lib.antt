@@ -1,5 +1,5 @@
 pub mod WordLemmas
 pub mod CountLemmas
 pub mod PlaceLemmas
-pub mod OrderLemmas
 pub mod DrawLemmas
+pub mod laws

@@ -8,13 +8,13 @@ use Rattle.pct_ask.specs.declared.verdict.Outcome.{Outcome}
 use Rattle.pct_ask.specs.declared.verdict.Outcome.TheVariants.{Verdict as Ends}
 use Rattle.policy_pick.specs.Plan.{Plan, ByPoints, ByList, SpeaksOf}
 use Rattle.turn_book.specs.Posts.{schedule_of}
-use Rattle.turn_book.proofs.Worlds.{same-cut}
+use Rattle.turn_book.proofs.laws.Worlds.{same-cut}
 use Rattle.trace_text.specs.declared.file.TraceFile.{TraceFile}
 use Rattle.worker_run.specs.Bodies.{Pending}
 use Rattle.worker_run.specs.Run.{run}
 use Rattle.worker_run.specs.Played.{IsPlayed}
 use Rattle.worker_run.proofs.Only.{only-played}
-use Rattle.worker_run.proofs.Whole.{run-played}
+use Rattle.worker_run.proofs.laws.WholeRuns.{run-played}
 use Rattle.replay_run.specs.declared.answer.Written.{Written}
 use Rattle.replay_run.specs.declared.answer.Written.TheVariants.{Event as WrittenEvent, Verdict as WrittenVerdict}
 use Rattle.replay_run.specs.declared.answer.Found.{Found}
@@ -22,7 +22,7 @@ use Rattle.replay_run.specs.declared.answer.Found.TheVariants.{Event as FoundEve
 use Rattle.replay_run.specs.declared.answer.Replayed.{Replayed}
 use Rattle.replay_run.specs.declared.answer.Replayed.TheVariants.{Confirmed, Departs}
 use Rattle.replay_run.specs.Replay.{DifferAt, EndsBefore, IsDeparture, Tells, IsReplay}
-use Rattle.replay_run.proofs.ListedRuns.{listed_again}
+use Rattle.replay_run.proofs.laws.ListedRuns.{listed_again}
 
 -- equal lists don't differ
 pub no_difference : (step : ℕ) (made told : List Event) (e f : Event) → made ≡ told → DifferAt step made told e f → ⊥

@@ -1,5 +1,4 @@
 pub mod SameStep
-pub mod ListedRuns
 pub mod Compared
-pub mod Once
 pub mod Parts
+pub mod laws

@@ -52,3 +52,4 @@ pub mod BelowSteps
 pub mod ReadSteps
 pub mod AheadSteps
 pub mod Places
+pub mod laws

@@ -3,7 +3,7 @@ use Rattle.script_tree.specs.Layout.{layout}
 use Rattle.script_tree.specs.Renumbering.{renumbered}
 use Rattle.script_tree.proofs.PrintLaw.{layout_spells}
 use Rattle.script_parse.specs.Answers.{PrintIsRead}
-use Rattle.script_parse.proofs.WholeText.{one_script, spelled_no_fault}
+use Rattle.script_parse.proofs.laws.Scripts.{one_script, spelled_no_fault}
 
 pub layout_is_read : PrintIsRead
 layout_is_read script is names ranged short =

@@ -1,5 +1,5 @@
 -- A text that spells a script is read as it, so that each text spells one script or has one first fault.
-use Rattle.std.proofs.Common.{◌≡◌, ℕ, suc, ◌+◌, ◌≤◌, ◌⊎◌, inl, inr, Bool, true, false, length, List, [], ◌∷◌, ◌++◌, map, Option, Some, None, Result, Ok, Err, refl, sym, ap, ◌∙◌, subst, arith, append_assoc, length-append}
+use Rattle.std.proofs.Common.{◌≡◌, ℕ, suc, ◌+◌, ◌≤◌, Bool, true, false, length, List, [], ◌∷◌, ◌++◌, map, Option, Some, None, Ok, refl, sym, ap, ◌∙◌, subst, arith, append_assoc, length-append}
 use Rattle.std.specs.Prelude.{◌&&◌, All}
 use Rattle.std.proofs.lemmas.Bool.{le-ltb}
 use Rattle.std.proofs.lemmas.List.{append-nil}
@@ -11,22 +11,17 @@ use Rattle.pct_ask.specs.NameLists.{list_of, no_names, place_of}
 use Rattle.pct_ask.specs.declared.names.NameKind.{NameKind}
 use Rattle.pct_ask.specs.declared.names.NameKind.TheVariants as kinds
 use Rattle.script_tree.specs.ScriptText.{ScriptText}
-use Rattle.script_tree.specs.declared.fault.ScriptFault.{ScriptFault}
 use Rattle.script_tree.specs.Fitting.{most_threads}
 use Rattle.script_tree.specs.Lines.{tokens_in, is_blank_line, version_in, named, names_of, just_thread, thread_in, threads_in}
-use Rattle.script_tree.specs.Faults.{are_blank, IsFault}
+use Rattle.script_tree.specs.Faults.{are_blank}
 use Rattle.script_tree.specs.Grammar.{IsSound, Spells, all_thread_lines}
 use Rattle.script_parse.specs.Part.{Part}
-use Rattle.script_parse.specs.Answers.{SpellsOne, FailsOnce, EachHasOneAnswer}
 use Rattle.script_parse.specs.Reading.{Finder, is_empty, start, line_taken, read_from, script_of, read}
 use Rattle.script_parse.proofs.ExpressionWhole.{exact}
 use Rattle.script_parse.proofs.Fresh.{all_front, all_back}
 use Rattle.script_parse.proofs.LineSteps.{cut_tokens, says_something}
 use Rattle.script_parse.proofs.Standing.{Lines, Stands}
 use Rattle.script_parse.proofs.Headers.{AreQuiet, quiet_none, quiet_blank, header_is, begun_stands}
-use Rattle.script_parse.proofs.TextFaults.{ok_is}
-use Rattle.script_parse.proofs.FaultLaws.{fault_found, no_fault, one_fault}
-use Rattle.script_parse.proofs.Spelled.{read_is_spelled}
 use Rattle.script_parse.proofs.Runs.{Runs}
 use Rattle.script_parse.proofs.ThreadRuns.{having, threads_run}
 use Rattle.script_parse.proofs.FreeLines.{IsWhole}
@@ -192,20 +187,3 @@ module _ (bytes : List ℕ) (script : ScriptText) (s : Spells bytes script) wher
   spelled_is_read = rw (le-ltb 1048576 (length bytes) s.small, says) all_read
 
 -- ---- each text spells one script, or has one first fault
-
-pub one_script : (bytes : List ℕ) (script other : ScriptText) → Spells bytes script → Spells bytes other → script ≡ other
-one_script bytes script other s o = ok_is (sym (spelled_is_read bytes script s) ∙ spelled_is_read bytes other o)
-
-pub spelled_no_fault : (bytes : List ℕ) (script : ScriptText) (n : ℕ) (kind : ScriptFault) → Spells bytes script → ¬ IsFault bytes n kind
-spelled_no_fault bytes script n kind s = no_fault bytes script (spelled_is_read bytes script s) n kind
-
-pub script_or_fault : EachHasOneAnswer
-script_or_fault bytes = by_read (read exact bytes) refl
-  where
-    by_read : (found : Result ScriptText (ℕ × ScriptFault)) → read exact bytes ≡ found → SpellsOne bytes ⊎ FailsOnce bytes
-    by_read (Ok script) e =
-        let spells = read_is_spelled bytes script e in
-        inl (script, record { spells = spells; only = λ other o. one_script bytes script other spells o; faultless = no_fault bytes script e })
-    by_read (Err found) e =
-        let fault = fault_found bytes found.0 found.1 e in
-        inr (found.0, found.1, record { fault = fault; only = λ m other f. one_fault bytes found.0 m found.1 other fault f; no_script = λ script s. spelled_no_fault bytes script found.0 found.1 s fault })

@@ -1,6 +1,5 @@
 pub mod SeenLemmas
 pub mod Conjunctions
-pub mod NamingLemmas
 pub mod PrintLemmas
 pub mod DeclarationLemmas
 pub mod Cuts
@@ -11,3 +10,4 @@ pub mod InnerLines
 pub mod Renumbered
 pub mod NamesPrinted
 pub mod PrintLaw
+pub mod laws

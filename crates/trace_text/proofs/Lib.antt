@@ -16,5 +16,5 @@ pub mod FaultBodies
 pub mod Readings
 pub mod Sizes
 pub mod Traces
-pub mod StepObjects
 pub mod OneAnswer
+pub mod laws

@@ -11,7 +11,8 @@ use Rattle.trace_text.specs.declared.file.TraceFile.{TraceFile}
 use Rattle.trace_text.specs.declared.fault.TraceFault.{TraceFault}
 use Rattle.trace_text.specs.declared.fault.TraceError.TheVariants.{Bad}
 use Rattle.trace_text.proofs.Readings.{read-told}
-use Rattle.trace_text.proofs.Traces.{answer-given, trace-read, fault-read, one-fault, ok_is}
+use Rattle.trace_text.proofs.laws.Faults.{one-fault}
+use Rattle.trace_text.proofs.Traces.{answer-given, trace-read, fault-read, ok_is}
 
 module _ (names : NameLists) (sound : AreNames names) (bytes : List ℕ) where
   no-both : (file : TraceFile) (line : ℕ) (kind : TraceFault) → IsTrace bytes names file → ¬ IsTraceFault bytes names line kind

@@ -1,7 +1,7 @@
 -- A text is read as a file exactly where it is the file's trace.
 use Rattle.std.specs.Prelude.{codes, decimal, nat_lt, map, if◌then◌else◌}
 use Rattle.std.specs.List.{All, flat_map, join_with_byte}
-use Rattle.std.proofs.Common.{◌≡◌, ◌⊎◌, ℕ, ◌+◌, ◌<◌, ◌≤◌, ◌^◌, Bool, true, false, List, [], ◌∷◌, ◌++◌, length, zero, suc, Option, Some, None, Result, Ok, Err, refl, sym, ap, ◌∙◌, inl, inr, arith}
+use Rattle.std.proofs.Common.{◌≡◌, ◌⊎◌, ℕ, ◌+◌, ◌<◌, ◌≤◌, ◌^◌, Bool, true, false, List, [], ◌∷◌, ◌++◌, length, Option, Some, None, Result, Ok, Err, refl, sym, ap, ◌∙◌, inl, inr, arith}
 use Rattle.std.proofs.lemmas.Bool.Decides.{nat_tests}
 use Rattle.std.proofs.lemmas.List.Elements.{All-head, All-tail}
 use Rattle.pct_ask.specs.NameLists.{NameLists, AreNames}
@@ -18,12 +18,12 @@ use Rattle.trace_text.specs.Lawful.{IsStep, IsEnd}
 use Rattle.trace_text.specs.Lines.{pieces_of}
 use Rattle.trace_text.specs.Trace.{head_of, IsRun, IsTrace}
 use Rattle.trace_text.specs.Heads.{version_in, order_in, threads_of, points_in, limit_in}
-use Rattle.trace_text.specs.Faults.{is_faulty, rank, IsFirstFault, IsTraceFault}
+use Rattle.trace_text.specs.Faults.{is_faulty, IsTraceFault}
 use Rattle.trace_text.specs.Reading.{Fault, Body, ◌>>=◌, head_line, known, order_line, body_of, file_of, file_in, read}
 use Rattle.trace_text.specs.Seen.{Gives}
 use Rattle.trace_text.specs.declared.file.TraceFile.{TraceFile}
 use Rattle.trace_text.specs.declared.fault.TraceFault.{TraceFault}
-use Rattle.trace_text.specs.declared.fault.TraceFault.TheVariants.{TooLong, BadHeader, BadLine, UnknownName, OutOfOrder, NoVerdict, MoreAfterVerdict}
+use Rattle.trace_text.specs.declared.fault.TraceFault.TheVariants.{TooLong}
 use Rattle.trace_text.specs.declared.fault.TraceError.{TraceError}
 use Rattle.trace_text.specs.declared.fault.TraceError.TheVariants.{Bad, NoMemory}
 use Rattle.trace_text.proofs.Bytes.{AreHigh, no-end, high-by, name-high, decimal-high, step-high}
@@ -32,6 +32,7 @@ use Rattle.trace_text.proofs.Wholes.{line_pieces, HaveNoEnds, pieces-lines, line
 use Rattle.trace_text.proofs.FaultBodies.{IsTold}
 use Rattle.trace_text.proofs.Readings.{HeadLine, head-ok, read-told}
 use Rattle.trace_text.proofs.Sizes.{trace-size}
+use Rattle.trace_text.proofs.laws.Faults.{true-false, one-fault}
 
 -- ---- what is read is spelled so
 
@@ -217,51 +218,6 @@ given-ok (Err NoMemory) r file given h = inr refl
 pub trace-given : (names : NameLists) (bytes : List ℕ) (result : Result TraceFile TraceError) (file : TraceFile) → AreNames names → Gives (λ (f : TraceFile). f) result (read names bytes) → IsTrace bytes names file → (result ≡ Ok file) ⊎ (result ≡ Err NoMemory)
 trace-given names bytes result file sound given trace = given-ok result (read names bytes) file given (trace-read names bytes file sound trace)
 
-of_rank : ℕ → TraceFault
-of_rank zero = TooLong
-of_rank (suc zero) = BadHeader
-of_rank (suc (suc zero)) = BadLine
-of_rank (suc (suc (suc zero))) = UnknownName
-of_rank (suc (suc (suc (suc zero)))) = OutOfOrder
-of_rank (suc (suc (suc (suc (suc zero))))) = NoVerdict
-of_rank (suc (suc (suc (suc (suc (suc n)))))) = MoreAfterVerdict
-
-of_rank-rank : (kind : TraceFault) → of_rank (rank kind) ≡ kind
-unfolding of_rank
-of_rank-rank TooLong = refl
-of_rank-rank BadHeader = refl
-of_rank-rank BadLine = refl
-of_rank-rank UnknownName = refl
-of_rank-rank OutOfOrder = refl
-of_rank-rank NoVerdict = refl
-of_rank-rank MoreAfterVerdict = refl
-
-true-false : (b : Bool) → b ≡ true → b ≡ false → ⊥
-true-false true p q = cc
-true-false false p q = cc
-
-order-cases : (m n : ℕ) → (m < n) ⊎ ((n < m) ⊎ (m ≡ n))
-order-cases m n = by (nat_lt m n) (nat_lt n m) refl refl
-  where
-    by : (a b : Bool) → nat_lt m n ≡ a → nat_lt n m ≡ b → (m < n) ⊎ ((n < m) ⊎ (m ≡ n))
-    by true b p q = inl (grind (arith, nat_tests))
-    by false true p q = inr (inl (grind (arith, nat_tests)))
-    by false false p q = inr (inr (grind (arith, nat_tests)))
-
--- a text has one first fault
-pub one-fault : (size : ℕ) (names : NameLists) (pieces : List (List ℕ)) (l m : ℕ) (j k : TraceFault) → IsFirstFault size names pieces l j → IsFirstFault size names pieces m k → (l ≡ m) × (j ≡ k)
-one-fault size names pieces l m j k a b = lines (order-cases l m)
-  where
-    kinds : l ≡ m → (rank j < rank k) ⊎ ((rank k < rank j) ⊎ (rank j ≡ rank k)) → j ≡ k
-    kinds same (inl low) = absurd (true-false (is_faulty size names pieces m j) (ap (λ x. is_faulty size names pieces x j) (sym same) ∙ a.faulty) (b.first_kind j low))
-    kinds same (inr (inl low)) = absurd (true-false (is_faulty size names pieces l k) (ap (λ x. is_faulty size names pieces x k) same ∙ b.faulty) (a.first_kind k low))
-    kinds same (inr (inr e)) = sym (of_rank-rank j) ∙ ap of_rank e ∙ of_rank-rank k
-
-    lines : (l < m) ⊎ ((m < l) ⊎ (l ≡ m)) → (l ≡ m) × (j ≡ k)
-    lines (inl low) = absurd (true-false (is_faulty size names pieces l j) a.faulty (b.first_line l j low))
-    lines (inr (inl low)) = absurd (true-false (is_faulty size names pieces m k) b.faulty (a.first_line m k low))
-    lines (inr (inr e)) = (e, kinds e (order-cases (rank j) (rank k)))
-
 same-fault : (a b : ℕ) (j k : TraceFault) → a ≡ b → j ≡ k → ◌≡◌ {A = Fault} (a, j) (b, k)
 same-fault a b j k p q = cc
 
@@ -284,19 +240,9 @@ fault-given names bytes result line kind given fault = given-err result (read na
 
 -- ---- what is written
 
-answered-by : (names : NameLists) (bytes : List ℕ) (file : TraceFile) (answer : Result TraceFile TraceError) → AreNames names → IsTrace bytes names file → Answers bytes names answer → (answer ≡ Ok file) ⊎ (answer ≡ Err NoMemory)
-answered-by names bytes file (Ok other) sound trace told =
-    let same = ok_is other file (sym (trace-read names bytes other sound told) ∙ trace-read names bytes file sound trace) in inl (ap (λ x. Ok x) same)
-answered-by names bytes file (Err (Bad line kind)) sound trace told =
-    let two : ◌≡◌ {A = Result TraceFile Fault} (Ok file) (Err (line, kind)) = sym (trace-read names bytes file sound trace) ∙ fault-read names bytes (read names bytes) line kind (read-told names bytes) told in absurd cc
-answered-by names bytes file (Err NoMemory) sound trace told = inr refl
-
 -- a text that was written is a trace, and whatever is answered of it is what was written
 pub written-trace : (names : NameLists) (bytes : List ℕ) (file : TraceFile) → AreNames names → IsRun names file → bytes ≡ trace_text (head_of file.header) names file.events file.verdict → IsTrace bytes names file
 written-trace names bytes file sound run is = record { run = run; small = rw is (trace-size names file sound run); text = is }
-
-pub written-answer : (names : NameLists) (bytes : List ℕ) (file : TraceFile) (answer : Result TraceFile TraceError) → AreNames names → IsTrace bytes names file → Answers bytes names answer → (answer ≡ Ok file) ⊎ (answer ≡ Err NoMemory)
-written-answer names bytes file answer sound trace told = answered-by names bytes file answer sound trace told
 
 -- ---- what was read can be written
 

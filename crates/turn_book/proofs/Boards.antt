@@ -26,7 +26,7 @@ use Rattle.policy_pick.specs.Choice.{chance_of, HasAwayTarget, TargetsAreAway}
 use Rattle.turn_book.specs.Chances.{NextPosts, is_unknown, is_ended, chance_by, chance_of_ask, chance_of_post, chance, chances, blocked_at, verdict_of_blocked}
 use Rattle.turn_book.specs.Told.{PostIsInRange, standing_by_ask, standing_by}
 use Rattle.turn_book.specs.Board.{IsBoard, listed, ask_of_post, AreInRange, joins, concerns_ask, concerns}
-use Rattle.turn_book.proofs.More.{readiness-same}
+use Rattle.turn_book.proofs.laws.MorePosts.{readiness-same}
 
 -- ---- all chances
 pub chance-at : (threads : ℕ) (store : StoreState) (next : NextPosts) (t : ℕ) → t < threads → chance_of (chances threads store next) t ≡ chance store next t

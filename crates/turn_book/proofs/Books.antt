@@ -33,8 +33,8 @@ use Rattle.turn_book.specs.Obeys.{choice_in, choice_after, Obeys, outcome_by_pic
 use Rattle.turn_book.specs.Told.{next_post, standing_by_ask, standing_by, standing_of, choice_of, IsLawful}
 use Rattle.turn_book.specs.Board.{BoardState, TakesStep, listed}
 use Rattle.turn_book.specs.Kept.{posts_by, told, IsAt, IsKept}
-use Rattle.turn_book.proofs.Worlds.{map-some, cons-same, effect-is, Steps, IsMade, made-events, made-push}
-use Rattle.turn_book.proofs.More.{choice-at, settled-at, obeys-more, made-more, chosen-ready, nobody-closed, departs-may}
+use Rattle.turn_book.proofs.laws.Worlds.{map-some, cons-same, effect-is, Steps, IsMade, made-events, made-push}
+use Rattle.turn_book.proofs.laws.MorePosts.{choice-at, settled-at, obeys-more, made-more, chosen-ready, nobody-closed, departs-may}
 use Rattle.turn_book.proofs.Boards.{chance-at, length-chances, nothing-posted}
 use Rattle.turn_book.specs.Answers.{MayWait}
 use Rattle.turn_book.proofs.Takes.{may-wait}

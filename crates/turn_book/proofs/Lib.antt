@@ -1,5 +1,3 @@
-pub mod Worlds
-pub mod More
 pub mod Prefix
 pub mod Boards
 pub mod PostLists
@@ -7,3 +5,4 @@ pub mod Books
 pub mod Takes
 pub mod Fronts
 pub mod Within
+pub mod laws

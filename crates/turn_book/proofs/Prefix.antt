@@ -14,8 +14,8 @@ use Rattle.policy_pick.specs.Plan.{Plan, SpeaksOf}
 use Rattle.turn_book.specs.Posts.{schedule_of, KeepsPosts}
 use Rattle.turn_book.specs.Chances.{rest_verdict}
 use Rattle.turn_book.specs.Obeys.{next_in, choice_in, Obeys, outcome_by_pick, outcome_by, settled}
-use Rattle.turn_book.proofs.Worlds.{cons-same, same-cut, IsMade, made-from, passes, last-step}
-use Rattle.turn_book.proofs.More.{choice-at, settled-at, obeys-more, settled-more}
+use Rattle.turn_book.proofs.laws.Worlds.{cons-same, same-cut, IsMade, made-from, passes, last-step}
+use Rattle.turn_book.proofs.laws.MorePosts.{choice-at, settled-at, obeys-more, settled-more}
 
 -- one list begins with another
 abbrev pub IsPrefix : List Event → List Event → Type 0

@@ -5,7 +5,7 @@ use Rattle.pct_ask.specs.declared.ask.Post.{Post}
 use Rattle.turn_book.specs.Posts.{events_of, posts_of, source_of, HasMore}
 use Rattle.turn_book.specs.Obeys.{Obeys}
 use Rattle.turn_book.specs.Told.{Told, SameMaking, IsPosted, IsAnswered, IsLawful, Within}
-use Rattle.turn_book.proofs.More.{obeys-more}
+use Rattle.turn_book.proofs.laws.MorePosts.{obeys-more}
 use Rattle.turn_book.proofs.PostLists.{more-keeps, set-more, events-own, events-other}
 
 pub same-making : (book : Told) → SameMaking book book

@@ -17,8 +17,8 @@ use Rattle.policy_pick.specs.Plan.{Plan, ByPoints, ByEvents, SpeaksOf}
 use Rattle.turn_book.specs.Posts.{schedule_of}
 use Rattle.turn_book.specs.Chances.{rest_verdict}
 use Rattle.turn_book.specs.Obeys.{next_in, choice_in, outcome_by_pick, outcome_by}
-use Rattle.turn_book.proofs.Worlds.{IsMade, made-from, last-step}
-use Rattle.turn_book.proofs.More.{choice-at, settled-at}
+use Rattle.turn_book.proofs.laws.Worlds.{IsMade, made-from, last-step}
+use Rattle.turn_book.proofs.laws.MorePosts.{choice-at, settled-at}
 use Rattle.worker_run.specs.Bodies.{Pending, source_of_bodies}
 use Rattle.worker_run.specs.Run.{Setting, Over, Goes, next_of, next_thread, next_after, cut_at, go_on, run_from, run, directed}
 use Rattle.worker_run.specs.Played.{IsPlayed, IsRun}

@@ -1,7 +1,6 @@
 pub mod Known
 pub mod Follows
 pub mod Only
-pub mod Whole
 pub mod Running
 pub mod Over
 pub mod Crews

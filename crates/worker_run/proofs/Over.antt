@@ -21,8 +21,8 @@ use Rattle.turn_book.specs.Chances.{is_unknown, is_ended, chance_of_ask, chance_
 use Rattle.turn_book.specs.Posts.{schedule_of, source_of}
 use Rattle.turn_book.specs.Obeys.{next_in, choice_in, outcome_by_pick, outcome_by, settled}
 use Rattle.turn_book.specs.Told.{Told, Within, next_post, standing_by_ask, standing_by, standing_of}
-use Rattle.turn_book.proofs.Worlds.{IsMade, made-from}
-use Rattle.turn_book.proofs.More.{chosen-ready, settled-at, settled-more}
+use Rattle.turn_book.proofs.laws.Worlds.{IsMade, made-from}
+use Rattle.turn_book.proofs.laws.MorePosts.{chosen-ready, settled-at, settled-more}
 use Rattle.turn_book.proofs.Prefix.{goes-on}
 use Rattle.turn_book.proofs.PostLists.{more-keeps}
 use Rattle.turn_lock.specs.Seen.{ObeysPlan}

@@ -15,7 +15,7 @@ use Rattle.policy_pick.specs.Plan.{Plan, SpeaksOf}
 use Rattle.turn_book.specs.Posts.{events_of, source_of, KeepsPosts}
 use Rattle.turn_book.specs.Obeys.{Obeys, settled}
 use Rattle.turn_book.specs.Told.{Told, SameMaking, IsLawful, Within, new_book}
-use Rattle.turn_book.proofs.More.{obeys-more, settled-more}
+use Rattle.turn_book.proofs.laws.MorePosts.{obeys-more, settled-more}
 use Rattle.turn_lock.specs.Seen.{ObeysPlan}
 use Rattle.turn_lock.specs.Rule.{Serves, first_view}
 use Rattle.turn_lock.specs.Seats.{joined}

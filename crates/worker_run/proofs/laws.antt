@@ -7,3 +7,5 @@ pub mod SameRuns
 pub mod RanksAlike
 -- own steps and moments: a moment is one step at most
 pub mod Moments
+-- over bodies there is a whole run by points, or by moments, and it is what is played
+pub mod WholeRuns

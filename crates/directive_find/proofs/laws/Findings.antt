@@ -13,7 +13,7 @@ use Rattle.rank_now.specs.Order.{IsOrder}
 use Rattle.turn_book.specs.Posts.{schedule_of}
 use Rattle.worker_run.specs.Bodies.{Pending}
 use Rattle.worker_run.specs.Run.{Run, run, directed}
-use Rattle.worker_run.proofs.Whole.{directed-is-there, run-played}
+use Rattle.worker_run.proofs.laws.WholeRuns.{directed-is-there, run-played}
 use Rattle.directive_find.specs.declared.reducing.Short.{Short}
 use Rattle.directive_find.specs.declared.finding.FoundOut.{FoundOut}
 use Rattle.directive_find.specs.declared.finding.FoundOut.TheVariants.{Events, Passes}

@@ -14,7 +14,7 @@ use Rattle.sync_store.specs.Enabled.{IsInRange}
 use Rattle.script_tree.specs.ScriptText.{ScriptText}
 use Rattle.script_tree.specs.Naming.{NamesOnly, AsksOnly}
 use Rattle.script_tree.specs.Posts.{pending}
-use Rattle.script_tree.proofs.NamingLemmas.{pending_named}
+use Rattle.script_tree.proofs.laws.Naming.{pending_named}
 use Rattle.script_code.specs.Operations.{Operation}
 use Rattle.script_code.specs.Placed.{listing_of}
 use Rattle.script_code.specs.FlatPosts.{flat_pending}

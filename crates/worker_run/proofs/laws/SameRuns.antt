@@ -15,7 +15,7 @@ use Rattle.sync_store.specs.World.{Source, World, start, world_after}
 use Rattle.policy_pick.specs.Laws.Finds.{find-none, found-or-none, all-from-below}
 use Rattle.turn_book.specs.Chances.{threads_below}
 use Rattle.turn_book.specs.Posts.{schedule_of}
-use Rattle.turn_book.proofs.Worlds.{map-some, grows}
+use Rattle.turn_book.proofs.laws.Worlds.{map-some, grows}
 use Rattle.worker_run.specs.Bodies.{Pending, source_of_bodies}
 use Rattle.worker_run.specs.Run.{Setting, Next, Over, Goes, Run, may_go, goes_first, next_of, next_thread, next_after, cut_at, go_on, run_from}
 

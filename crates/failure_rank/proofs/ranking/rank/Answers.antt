@@ -7,7 +7,7 @@ use Rattle.std.specs.Map.{values_of}
 use Rattle.std.specs.declared.cmp.Reverse.{Reverse}
 use Rattle.std.proofs.lemmas.List.Sorted.{answers_always}
 use Rattle.failure_rank.proofs.Stable.{ranking, comes_first}
-use Rattle.failure_rank.proofs.Unique.{one_ranking}
+use Rattle.failure_rank.proofs.Laws.{one_ranking}
 use Rattle.failure_rank.proofs.ranking.rank.Goals as goal
 
 abbrev key_of : Group → Reverse ℕ × ℕ × ℕ

@@ -1,7 +1,7 @@
 use Rattle.std.proofs.Common.{◌≡◌, List, ℕ, ◌++◌, take, drop, ap, sym, ◌∙◌, subst, append_assoc, arith}
 use Rattle.std.proofs.lemmas.List.{take-append-drop}
 use Rattle.pct_outside.specs.Piece.{AppendedPart}
-use Rattle.pct_outside.proofs.PieceLaws.{Appended-then, AppendedPart-then, AppendedPart-longer}
+use Rattle.pct_outside.proofs.laws.Pieces.{Appended-then, AppendedPart-then, AppendedPart-longer}
 use Rattle.pct_top.proofs.printing.put_lines.Goals as goal
 
 -- what is left is the line and what follows it

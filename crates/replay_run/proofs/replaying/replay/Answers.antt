@@ -11,7 +11,7 @@ use Rattle.policy_pick.specs.Kept.{list_plan}
 use Rattle.turn_book.specs.Posts.{schedule_of}
 use Rattle.worker_run.specs.Bodies.{source_of_bodies}
 use Rattle.script_body.specs.Bodies.{bodies_of, AskInRange}
-use Rattle.replay_run.proofs.ListedRuns.{listed_short}
+use Rattle.replay_run.proofs.laws.ListedRuns.{listed_short}
 use Rattle.replay_run.proofs.Compared.{played_as, run_confirmed}
 use Rattle.replay_run.proofs.replaying.replay.Goals as goal
 

@@ -1,4 +1,4 @@
-use Rattle.script_parse.proofs.WholeText.{script_or_fault}
+use Rattle.script_parse.proofs.laws.Scripts.{script_or_fault}
 use Rattle.script_parse.proofs.parsing.one_answer.Goals as goal
 
 pub returns : goal.returns

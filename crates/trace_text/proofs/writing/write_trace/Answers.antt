@@ -2,7 +2,8 @@
 use Rattle.std.proofs.Common.{◌∙◌}
 use Rattle.trace_text.specs.Trace.{head_of, told, IsRun}
 use Rattle.trace_text.proofs.Written.{whole_text}
-use Rattle.trace_text.proofs.Traces.{written-trace, written-answer}
+use Rattle.trace_text.proofs.laws.Answers.{written-answer}
+use Rattle.trace_text.proofs.Traces.{written-trace}
 use Rattle.trace_text.proofs.writing.write_trace.Goals as goal
 
 pub returns : goal.returns

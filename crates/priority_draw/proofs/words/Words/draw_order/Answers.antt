@@ -4,8 +4,8 @@ use Rattle.std.proofs.lemmas.List.FromFn.{length-range_with_len}
 use Rattle.priority_draw.specs.Words.{SeedWords, after}
 use Rattle.priority_draw.specs.Orders.{IsOrder, declared_order}
 use Rattle.priority_draw.specs.Drawing.{drawn_order, drawn_places}
-use Rattle.priority_draw.proofs.OrderLemmas.{only-places, order-of-is}
-use Rattle.priority_draw.proofs.DrawLemmas.{drawn-are}
+use Rattle.priority_draw.proofs.laws.Orders.{only-places, order-of-is}
+use Rattle.priority_draw.proofs.laws.Draws.{drawn-are}
 use Rattle.priority_draw.proofs.words.Words.draw_order.Goals as goal
 
 pub returns-in_err-order-clause-places : goal.returns-in_err-order-clause-places

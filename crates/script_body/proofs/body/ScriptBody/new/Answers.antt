@@ -1,7 +1,7 @@
 use Rattle.std.proofs.Common.{◌≡◌, ◌<◌, length, arith, sym, ◌∙◌, subst}
 use Rattle.script_tree.specs.Posts.{pending}
 use Rattle.script_tree.specs.Naming.{IsPostOf}
-use Rattle.script_tree.proofs.NamingLemmas.{pending_named}
+use Rattle.script_tree.proofs.laws.Naming.{pending_named}
 use Rattle.script_code.specs.Listing.{listing}
 use Rattle.script_code.specs.Placed.{listing_of}
 use Rattle.script_code.specs.FlatPosts.{first_spot}

@@ -7,7 +7,7 @@ use Rattle.pct_ask.specs.declared.verdict.Verdict.{Verdict}
 use Rattle.pct_ask.specs.declared.verdict.Outcome.{Outcome}
 use Rattle.policy_pick.specs.Plan.{ByList}
 use Rattle.turn_book.specs.Posts.{schedule_of}
-use Rattle.turn_book.proofs.Worlds.{cons-same, same-cut}
+use Rattle.turn_book.proofs.laws.Worlds.{cons-same, same-cut}
 use Rattle.trace_text.specs.declared.file.TraceFile.{TraceFile}
 use Rattle.worker_run.specs.Bodies.{Pending}
 use Rattle.worker_run.proofs.Only.{only-played}

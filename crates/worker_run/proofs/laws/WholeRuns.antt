@@ -27,8 +27,8 @@ use Rattle.turn_book.specs.Chances.{is_unknown, is_ended, chance_by, chance_of_a
 use Rattle.turn_book.specs.Posts.{schedule_of}
 use Rattle.turn_book.specs.Obeys.{next_in, choice_in, Obeys, outcome_by_pick, outcome_by, settled}
 use Rattle.turn_book.specs.Board.{verdict_of}
-use Rattle.turn_book.proofs.Worlds.{event_of, effect-is, Steps, IsMade, made-from, made-events, made-push}
-use Rattle.turn_book.proofs.More.{chosen-ready, choice-at, settled-at}
+use Rattle.turn_book.proofs.laws.Worlds.{event_of, effect-is, Steps, IsMade, made-from, made-events, made-push}
+use Rattle.turn_book.proofs.laws.MorePosts.{chosen-ready, choice-at, settled-at}
 use Rattle.turn_book.proofs.Books.{obeys-push, obeys-none}
 use Rattle.worker_run.specs.Bodies.{Pending, pending_of, source_of_bodies}
 use Rattle.worker_run.specs.Run.{Run, run, directed}

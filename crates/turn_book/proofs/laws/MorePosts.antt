@@ -30,7 +30,7 @@ use Rattle.policy_pick.specs.Laws.Chances.{closed-known}
 use Rattle.turn_book.specs.Chances.{NextPosts, is_unknown, is_ended, chance_by, chance_of_ask, chance_of_post, chance, chances, blocked_by_post, blocked_at, verdict_of_blocked, rest_verdict}
 use Rattle.turn_book.specs.Posts.{schedule_of, KeepsPosts}
 use Rattle.turn_book.specs.Obeys.{next_in, choice_in, choice_after, Obeys, outcome_by_pick, outcome_by, outcome_in, settled}
-use Rattle.turn_book.proofs.Worlds.{Steps, steps-from, step-is, grows, IsMade, made-from, made-events, passes}
+use Rattle.turn_book.proofs.laws.Worlds.{Steps, steps-from, step-is, grows, IsMade, made-from, made-events, passes}
 
 -- ---- asks
 -- whether an ask is enabled depends on who has ended only at the thread that it joins

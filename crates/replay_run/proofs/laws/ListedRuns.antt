@@ -24,8 +24,8 @@ use Rattle.policy_pick.specs.Laws.Walks.{number-stops, number-ends}
 use Rattle.turn_book.specs.Chances.{chance, chances, rest_verdict}
 use Rattle.turn_book.specs.Posts.{schedule_of}
 use Rattle.turn_book.specs.Obeys.{next_in, choice_in, choice_after, Obeys, outcome_by_pick, outcome_by, settled}
-use Rattle.turn_book.proofs.Worlds.{map-some, made-from}
-use Rattle.turn_book.proofs.More.{nobody-closed, chosen-ready, departs-may, settled-at}
+use Rattle.turn_book.proofs.laws.Worlds.{map-some, made-from}
+use Rattle.turn_book.proofs.laws.MorePosts.{nobody-closed, chosen-ready, departs-may, settled-at}
 use Rattle.worker_run.specs.Bodies.{Pending, source_of_bodies}
 use Rattle.worker_run.specs.Played.{IsPlayed}
 use Rattle.worker_run.proofs.Known.{bodies-no-wait}
