@@ -9,7 +9,7 @@ use Rattle.std.proofs.lemmas.Slice.Eq.{bytes_eq-Decides}
 use Rattle.pct_ask.specs.NameLists.{NameLists, AreNames, place_of}
 use Rattle.pct_ask.specs.VerdictText.{verdict_text, thread_name}
 use Rattle.pct_ask.specs.declared.verdict.Verdict.{Verdict}
-use Rattle.pct_ask.proofs.NameLemmas.{place_of-Some, place_of-thread, thread-lawful}
+use Rattle.pct_ask.proofs.laws.Names.{place_of-Some, place_of-thread, thread-lawful}
 use Rattle.rank_now.specs.declared.moment.Moment.{Moment}
 use Rattle.directive.specs.DirectiveText.{DirectiveText, low_line, moment_line, verdict_line, directive_lines}
 use Rattle.directive.specs.Forms.{IsLow, HasUnknownLow}

@@ -7,7 +7,7 @@ use Rattle.std.proofs.lemmas.List.Elements.{All-nil, All-cons}
 use Rattle.pct_ask.specs.NameLists.{NameLists, AreNames, place_of}
 use Rattle.pct_ask.specs.VerdictText.{verdict_text}
 use Rattle.pct_ask.specs.declared.verdict.Verdict.{Verdict}
-use Rattle.pct_ask.proofs.NameLemmas.{place_of-Some}
+use Rattle.pct_ask.proofs.laws.Names.{place_of-Some}
 use Rattle.rank_now.specs.declared.moment.Moment.{Moment}
 use Rattle.directive.specs.DirectiveText.{after_line, moment_line, verdict_line}
 use Rattle.directive.specs.Forms.{IsAfter, IsAfterText, IsVerdictText, HasUnknownAfter, HasUnknownVerdict}

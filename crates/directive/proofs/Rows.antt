@@ -13,8 +13,8 @@ use Rattle.pct_ask.specs.VerdictWords.{words_of, verdict_of_words}
 use Rattle.pct_ask.specs.declared.verdict.Verdict.{Verdict}
 use Rattle.pct_ask.specs.declared.verdict_text.VerdictRead.{VerdictRead}
 use Rattle.pct_ask.specs.declared.verdict_text.VerdictRead.TheVariants.{Is, NoForm, UnknownName as Unknown}
-use Rattle.pct_ask.proofs.WordLemmas.{words_of-join, join-words_of, solid-by, name-solid, decimal-solid}
-use Rattle.pct_ask.proofs.VerdictReadLemmas.{ReadsAs-words, ReadsAs-only}
+use Rattle.pct_ask.proofs.laws.SplitWords.{words_of-join, join-words_of, solid-by, name-solid, decimal-solid}
+use Rattle.pct_ask.proofs.laws.VerdictsRead.{ReadsAs-words, ReadsAs-only}
 use Rattle.directive.specs.DirectiveText.{verdict_line}
 use Rattle.directive.specs.Forms.{IsNumber, IsLow, IsAfter, IsVerdict, IsAfterText, IsVerdictText, HasUnknownVerdict}
 use Rattle.directive.specs.Reading.{low_words, low_in, moment_row, after_words, end_of, row_of, number_in}

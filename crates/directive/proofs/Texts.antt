@@ -10,7 +10,7 @@ use Rattle.pct_ask.specs.Words.{is_name}
 use Rattle.pct_ask.specs.NameLists.{NameLists, AreNames}
 use Rattle.pct_ask.specs.VerdictText.{NamedVerdict, thread_name, verdict_words, named_text, named, verdict_text, IsForm, HasNames}
 use Rattle.pct_ask.specs.declared.verdict.Verdict.{Verdict}
-use Rattle.pct_ask.proofs.NameLemmas.{thread-lawful}
+use Rattle.pct_ask.proofs.laws.Names.{thread-lawful}
 use Rattle.rank_now.specs.declared.moment.Moment.{Moment}
 use Rattle.directive.specs.DirectiveText.{DirectiveText, low_line, moment_line, verdict_line, directive_lines, text_of_lines, directive_text}
 use Rattle.directive.specs.Lines.{pieces_of}

@@ -20,8 +20,8 @@ use Rattle.pct_ask.specs.declared.verdict.MisuseKind.{MisuseKind}
 use Rattle.pct_ask.specs.declared.verdict.MisuseKind.TheVariants.{NotOwner, SemFull, AlreadyStarted, TooManyReads}
 use Rattle.pct_ask.specs.declared.verdict.Verdict.{Verdict}
 use Rattle.pct_ask.specs.declared.verdict.Verdict.TheVariants.{Passed, Failed, Stuck, Misuse, Fault as VerdictFault, Cut}
-use Rattle.pct_ask.proofs.NameLemmas.{place_of-thread}
-use Rattle.pct_ask.proofs.StuckLemmas.{named_place, RiseFrom, RiseFrom-increasing}
+use Rattle.pct_ask.proofs.laws.Names.{place_of-thread}
+use Rattle.pct_ask.proofs.laws.RisingPlaces.{named_place, RiseFrom, RiseFrom-increasing}
 
 -- above the space
 abbrev pub IsHigh : List ℕ → Type 0

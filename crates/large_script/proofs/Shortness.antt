@@ -16,8 +16,7 @@ use Rattle.script_tree.specs.Forms as forms
 use Rattle.script_tree.specs.Grammar.{Spells, Line, statement_lines, block_lines, thread_lines, all_thread_lines}
 use Rattle.script_tree.specs.Layout.{form_text, text_of_lines, meanings, forms_of, declared_forms, header_text, layout}
 use Rattle.script_tree.specs.Renumbering.{IsShort, renumbered}
-use Rattle.script_tree.proofs.Cuts.{is_plain}
-use Rattle.script_tree.proofs.PrintedLines.{ArePlain, lines_of_text}
+use Rattle.script_tree.proofs.laws.PlainLines.{is_plain, ArePlain, lines_of_text}
 use Rattle.large_script.specs.Large.{large_names, large_script, pieces, joins, sums, checks, is_whole, thread_of, open_piece, locked_piece}
 use Rattle.large_script.proofs.Simple.{all-append, at_eight, pieces_hold, length-pieces}
 

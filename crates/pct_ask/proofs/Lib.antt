@@ -1,10 +1,7 @@
-pub mod NameLemmas
 pub mod PlaceLemmas
 pub mod NumberLemmas
 pub mod LineLemmas
-pub mod WordLemmas
 pub mod VerdictWordLemmas
 pub mod StuckLemmas
-pub mod VerdictReadLemmas
 pub mod PieceLemmas
-pub mod SameLemmas
+pub mod laws

@@ -14,7 +14,7 @@ use Rattle.pct_ask.specs.VerdictText.{thread_name, place_words, verdict_text}
 use Rattle.pct_ask.specs.declared.verdict.Verdict.{Verdict}
 use Rattle.pct_ask.specs.declared.verdict.Verdict.TheVariants.{Stuck}
 use Rattle.pct_ask.specs.VerdictPieces.{Begins, place_piece}
-use Rattle.pct_ask.proofs.StuckLemmas.{named_place, RiseFrom, RiseFrom-increasing}
+use Rattle.pct_ask.proofs.laws.RisingPlaces.{named_place, RiseFrom, RiseFrom-increasing}
 
 name-there : (names : List (List ℕ)) (place : ℕ) (name : List ℕ) → Some name ≡ slice_get names place → name ≡ slice_index_or names place []
 name-there [] place name h = cc

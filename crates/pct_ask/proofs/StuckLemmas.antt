@@ -3,19 +3,20 @@ use Rattle.std.specs.Prelude.{◌||◌, nat_le, map, decimal, if◌then◌else�
 use Rattle.std.specs.List.{All, Any, flat_map, cons_option}
 use Rattle.std.specs.List.Sorted.{IsStrictlyIncreasing}
 use Rattle.std.specs.Option.{is_none}
-use Rattle.std.proofs.Common.{◌≡◌, ℕ, ◌+◌, ◌<◌, ◌≤◌, Bool, true, false, List, [], ◌∷◌, ◌++◌, length, get_or, zero, suc, Option, Some, None, refl, sym, ◌∙◌, ap, arith, add-one, append_assoc, append-nil}
+use Rattle.std.proofs.Common.{◌≡◌, ℕ, ◌+◌, ◌<◌, ◌≤◌, Bool, true, false, List, [], ◌∷◌, ◌++◌, length, get_or, zero, suc, Option, Some, None, refl, sym, ◌∙◌, ap, arith, append_assoc, append-nil}
 use Rattle.std.proofs.lemmas.Bool.Decides.{nat_tests}
 use Rattle.std.proofs.lemmas.List.Elements.{All-nil, All-cons, All-head, All-tail}
 use Rattle.pct_ask.specs.Words.{is_name}
 use Rattle.pct_ask.specs.NameLists.{NameLists, AreNames, place_of}
-use Rattle.pct_ask.specs.VerdictText.{IsPlace, place_words, known_threads, thread_name}
+use Rattle.pct_ask.specs.VerdictText.{IsPlace, place_words, known_threads}
 use Rattle.pct_ask.specs.VerdictPieces.{HasName}
 use Rattle.pct_ask.specs.VerdictWords.{line_number, stuck_read, stuck_step, stuck_words}
 use Rattle.pct_ask.specs.declared.verdict_text.VerdictRead.{VerdictRead}
 use Rattle.pct_ask.specs.declared.verdict_text.VerdictRead.TheVariants.{NoForm}
-use Rattle.pct_ask.proofs.NameLemmas.{place_of-Some, place_of-thread}
+use Rattle.pct_ask.proofs.laws.Names.{place_of-Some, place_of-thread}
 use Rattle.pct_ask.proofs.PlaceLemmas.{increasing-cons}
 use Rattle.pct_ask.proofs.VerdictWordLemmas.{line_number-decimal, line_number-Some}
+use Rattle.pct_ask.proofs.laws.RisingPlaces.{RiseFrom, named_place}
 
 -- what places by names are read as, after some that were read
 abbrev pub stuck_places : NameLists → ℕ → List (ℕ × ℕ) → Bool → List (List ℕ × ℕ) → VerdictRead
@@ -73,27 +74,6 @@ stuck_words-read names least blocked unknown [] read form e =
 stuck_words-read names least blocked unknown (name ∷ []) read form e = absurd (form (sym e))
 stuck_words-read names least blocked unknown (name ∷ line ∷ words) read form e =
     read-step names least blocked unknown name line words read (is_name 1 name) (place_of name names.threads) (line_number line) form refl refl refl e (λ l b u later. stuck_words-read names l b u words read form later)
-
--- threads that rise, from a least one on
-abbrev pub RiseFrom : ℕ → List ℕ → Type 0
-RiseFrom least [] = Unit {0}
-RiseFrom least (t ∷ ts) = (least ≤ t) × RiseFrom (t + 1) ts
-
-rise-tail : (x : ℕ) (xs : List ℕ) → IsStrictlyIncreasing (x ∷ xs) → IsStrictlyIncreasing xs
-rise-tail x xs rising k h =
-    let later = rw add-one at (rising (suc k) (omega arith)) in rw add-one later
-
-rise-first : (x : ℕ) (xs : List ℕ) → IsStrictlyIncreasing (x ∷ xs) → 0 < length xs → x < get_or xs 0 0
-rise-first x xs rising h = rising 0 (omega arith)
-
-rise-from : (least : ℕ) (xs : List ℕ) → (0 < length xs → least ≤ get_or xs 0 0) → IsStrictlyIncreasing xs → RiseFrom least xs
-rise-from least [] low rising = tt
-rise-from least (x ∷ xs) low rising =
-    let first = rise-first x xs rising in
-    (low (omega arith), rise-from (x + 1) xs (λ h. let above = first h in omega arith) (rise-tail x xs rising))
-
-pub RiseFrom-increasing : (xs : List ℕ) → IsStrictlyIncreasing xs → RiseFrom 0 xs
-RiseFrom-increasing xs rising = rise-from 0 xs (λ h. omega arith) rising
 
 rise-above : (least : ℕ) (xs : List ℕ) → RiseFrom least xs → 0 < length xs → least ≤ get_or xs 0 0
 rise-above least [] rise h = absurd (omega arith)
@@ -153,10 +133,6 @@ pub stuck_places-form : (names : NameLists) (least : ℕ) (blocked : List (ℕ �
 stuck_places-form names least blocked unknown [] read form e = tt
 stuck_places-form names least blocked unknown (p ∷ ps) read form e =
     rises-step names (place_of p.0 names.threads) p.1 least blocked unknown ps read form e (λ l b u later. stuck_places-form names l b u ps read form later)
-
--- a place with its thread by its name
-abbrev pub named_place : NameLists → ℕ × ℕ → List ℕ × ℕ
-named_place names place = (thread_name names place.0, place.1)
 
 -- places with the names of threads are those threads' places
 pub known-named : (names : NameLists) (places : List (ℕ × ℕ)) → AreNames names → All (HasName names) (map (λ (p : ℕ × ℕ). p.0) places) → (known_places names (map (named_place names) places) ≡ places) × (any_unknown names (map (named_place names) places) ≡ false)

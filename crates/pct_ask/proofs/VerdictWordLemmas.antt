@@ -20,7 +20,7 @@ use Rattle.pct_ask.specs.VerdictText.{IsLine}
 use Rattle.pct_ask.specs.VerdictWords.{words_of, words_after, line_number, line_in_range, place_by, stuck_step, first_place, placed_kind, placed_words, stuck_words, verdict_of_words}
 use Rattle.pct_ask.specs.declared.verdict_text.VerdictRead.{VerdictRead}
 use Rattle.pct_ask.specs.declared.verdict_text.VerdictRead.TheVariants.{NoForm}
-use Rattle.pct_ask.proofs.WordLemmas.{words_of-some}
+use Rattle.pct_ask.proofs.laws.SplitWords.{words_of-some}
 
 -- a line's decimal is read as the line
 pub line_number-decimal : (line : ℕ) (word : List ℕ) → IsLine line → word ≡ decimal line → line_number word ≡ Some line

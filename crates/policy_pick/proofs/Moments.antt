@@ -8,8 +8,8 @@ use Rattle.std.proofs.lemmas.List.Sums.{sum_by_push}
 use Rattle.rank_now.specs.declared.moment.Moment.{Moment}
 use Rattle.rank_now.specs.Positions.{passes_at, last_position}
 use Rattle.rank_now.specs.Rank.{own_steps, is_moment, index_of_moment}
-use Rattle.rank_now.proofs.Schedule.{greatest-le, greatest-agree, passes_at-last, passes_at-agree}
-use Rattle.rank_now.proofs.Changes.{own_steps-last}
+use Rattle.rank_now.proofs.laws.Positions.{greatest-le, greatest-agree, passes_at-last, passes_at-agree}
+use Rattle.rank_now.proofs.laws.GivenOnce.{own_steps-last}
 use Rattle.policy_pick.specs.Kept.{own_counts}
 
 abbrev steps_of : List ℕ → ℕ → ℕ

@@ -3,7 +3,7 @@ use Rattle.std.proofs.Common.{◌≡◌, ℕ, ◌+◌, ◌-◌, ◌<◌, ◌≤�
 use Rattle.std.specs.List.{range_with_len}
 use Rattle.std.proofs.lemmas.List.FromFn.{length-map-range_with_len, get_or-map-range_with_len, map-range_with_len_more}
 use Rattle.rank_now.specs.Rank.{rank_by, threads_of}
-use Rattle.rank_now.proofs.Schedule.{rank_by-agree}
+use Rattle.rank_now.proofs.laws.Positions.{rank_by-agree}
 
 -- one more item of a list that is made from a function of the place
 pub made-more : (f : ℕ → ℕ) (items : List ℕ) (place item : ℕ) → items ≡ map f (range_with_len 0 place) → item ≡ f place → items ++ item ∷ [] ≡ map f (range_with_len 0 (place + 1))

@@ -3,7 +3,7 @@ use Rattle.std.proofs.Common.{◌≡◌, ℕ, ◌+◌, ◌<◌, ◌≤◌, true,
 use Rattle.std.specs.List.{count_by}
 use Rattle.std.proofs.lemmas.Bool.{cases_lt, cases_eq}
 use Rattle.rank_now.specs.Ranking.{place_by_value, IsAtPlace}
-use Rattle.rank_now.proofs.Places.{place-lt, place-within}
+use Rattle.rank_now.proofs.laws.PlacesByValue.{place-lt, place-within}
 use Rattle.policy_pick.specs.declared.chance.Chance.{Chance}
 use Rattle.policy_pick.specs.declared.chance.Pick.TheVariants.{Thread, Nobody}
 use Rattle.policy_pick.specs.Choice.{chance_of, pick_at, is_highest, choice_by_rank}

@@ -11,9 +11,9 @@ use Rattle.rank_now.specs.Positions.{passes_at}
 use Rattle.rank_now.specs.Order.{IsOrder}
 use Rattle.rank_now.specs.Ranking.{AreDistinct}
 use Rattle.rank_now.specs.Rank.{place_of, last_change, rank_by, index_of_point, own_steps, is_moment, index_of_moment, threads_of, ranks, ranks_by_events}
-use Rattle.rank_now.proofs.Orders.{named}
-use Rattle.rank_now.proofs.Schedule.{greatest-le, greatest-passes, passes_at-both, passes_at-read}
-use Rattle.rank_now.proofs.Changes.{point-once}
+use Rattle.rank_now.proofs.laws.Orders.{named}
+use Rattle.rank_now.proofs.laws.Positions.{greatest-le, greatest-passes, passes_at-both, passes_at-read}
+use Rattle.rank_now.proofs.laws.GivenOnce.{point-once}
 
 module _ (given : ℕ → ℕ) (count : ℕ) (order schedule : List ℕ) (is : IsOrder order) (low : (step : ℕ) → given step ≤ count) (once : (first second : ℕ) → 0 < first → first ≤ length schedule → 0 < second → second ≤ length schedule → 0 < given first → given first ≡ given second → first ≡ second) where
   abbrev changes : ℕ → ℕ → Bool

@@ -1,5 +1,4 @@
-pub mod Changes
 pub mod Distinct
 pub mod Orders
 pub mod Places
-pub mod Schedule
+pub mod laws

@@ -12,6 +12,7 @@ use Rattle.std.proofs.lemmas.Map.Steps.{length-le_from_distinct_below}
 use Rattle.rank_now.specs.Rank.{place_of, threads_of}
 use Rattle.rank_now.specs.Ranking.{AreDistinct, IsAtPlace, IsKept}
 use Rattle.rank_now.specs.Order.{IsOrder, IsWrongAt}
+use Rattle.rank_now.proofs.laws.Orders.{named}
 
 module _ (order : List ℕ) (sound : (place : ℕ) → place < length order → ¬ IsWrongAt order place) where
   below : (place : ℕ) → place < length order → get_or order place 0 < length order
@@ -122,15 +123,6 @@ place-of-named order is place within =
     let thread = get_or order place 0 in
     position_or_len_is (λ other. eqb other thread) order place 0 (omega arith) (λ k p. ne_eqb (get_or order k 0) thread (is.once k place p within)) (λ p. eq-eqb thread thread refl)
 
--- the place of a thread, and that it stands there
-pub named : (order : List ℕ) → IsOrder order → (thread : ℕ) → thread < length order → (place_of order thread < length order) × (get_or order (place_of order thread) 0 ≡ thread)
-named order is thread small =
-    let w = is.all thread small in
-    elim (cases_lt (place_of order thread) (length order)) [
-      | inl there ↦ (there, eqb-true (get_or order (place_of order thread) 0) thread (passes_at_first (λ other. eqb other thread) order 0 there))
-      | inr past ↦ absurd (let none = fails_before_first (λ other. eqb other thread) order w.0 thread (omega (arith, w.1)) in grind (arith, nat_tests, w.2))
-    ]
-
 module _ (order values : List ℕ) (count : ℕ) (is : IsOrder order) (long : length values ≡ length order) (given : (place : ℕ) → place < length order → get_or values (get_or order place 0) 0 ≡ count + length order - place) where
   value-of : (thread : ℕ) → thread < length order → get_or values thread 0 ≡ count + length order - place_of order thread
   value-of thread small = let at = named order is thread small in ap (λ x. get_or values x 0) (sym at.1) ∙ given (place_of order thread) at.0
@@ -182,7 +174,3 @@ first-kept order values count is made few_threads few_points =
     let given : (place : ℕ) → place < length order → get_or values (get_or order place 0) 0 ≡ count + length order - place = λ place within.
     ap (λ x. get_or x (get_or order place 0) 0) made ∙ get_or-map-range_with_len f 0 (length order) (get_or order place 0) (get_or order place 0) 0 (is.below place within) (omega arith) ∙ ap (λ x. count + length order - x) (place-of-named order is place within) in
     kept-first order values count is long given few_threads few_points
-
--- each thread's place is one of the order's
-pub place-within-order : (order : List ℕ) → IsOrder order → (thread : ℕ) → thread < length order → place_of order thread < length order
-place-within-order order is thread small = (named order is thread small).0

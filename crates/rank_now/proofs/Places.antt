@@ -1,43 +1,12 @@
 -- A thread's place is how many threads have a greater value. What becomes of the places where one value changes.
-use Rattle.std.proofs.Common.{◌≡◌, ◌≢◌, ℕ, ◌+◌, ◌-◌, ◌<◌, ◌≤◌, cond, nat_lt, List, length, get_or, set, refl, sym, ap, subst, ◌∙◌, arith, inl, inr, length-set}
-use Rattle.std.specs.List.{count_by, remove}
+use Rattle.std.proofs.Common.{◌≡◌, ◌≢◌, ℕ, ◌+◌, ◌-◌, ◌<◌, ◌≤◌, nat_lt, List, length, get_or, set, refl, sym, ap, subst, ◌∙◌, arith, inl, inr, length-set}
+use Rattle.std.specs.List.{count_by}
 use Rattle.std.proofs.lemmas.List.{get_or-set_same, get_or-set_other, get_or_read}
-use Rattle.std.proofs.lemmas.List.Sums.{count_by-le-length, sum_by-remove, sum_by-set, sum_by-le-sum_by}
-use Rattle.std.proofs.lemmas.List.Edits.{length-remove}
+use Rattle.std.proofs.lemmas.List.Sums.{sum_by-set}
 use Rattle.std.proofs.lemmas.Bool.{cases_lt, cases_eq}
 use Rattle.std.proofs.lemmas.Bool.Decides.{nat_tests}
 use Rattle.rank_now.specs.Ranking.{place_by_value, AreDistinct, IsAtPlace, IsKept, IsMoved}
-
--- what a value adds to the count of the values above another
-abbrev counted : ℕ → ℕ → ℕ
-counted value other = cond (nat_lt value other) 1 0
-
--- a lower value has no fewer values above it
-above-le : (low high : ℕ) (values : List ℕ) → low ≤ high → count_by (nat_lt high) values ≤ count_by (nat_lt low) values
-above-le low high values le = sum_by-le-sum_by (counted high) (counted low) values (λ x. grind (arith, nat_tests))
-
--- the value of a thread is not above itself, and is above each lower one
-pub above-lt : (low : ℕ) (values : List ℕ) (thread : ℕ) → thread < length values → low < get_or values thread 0 → count_by (nat_lt (get_or values thread 0)) values < count_by (nat_lt low) values
-above-lt low values thread within lower =
-    let high = get_or values thread 0 in
-    let others : count_by (nat_lt high) (remove values thread) ≤ count_by (nat_lt low) (remove values thread) = above-le low high (remove values thread) (omega arith) in
-    let by_high = sum_by-remove (counted high) values thread 0 within in
-    let by_low = sum_by-remove (counted low) values thread 0 within in
-    let none : counted high high ≡ 0 = grind (arith, nat_tests) in
-    let one : counted low high ≡ 1 = grind (arith, nat_tests) in
-    omega arith
-
-pub place-lt : (values : List ℕ) (first second : ℕ) → first < length values → get_or values second 0 < get_or values first 0 → place_by_value values first < place_by_value values second
-place-lt values first second within lower = above-lt (get_or values second 0) values first within lower
-
-pub place-within : (values : List ℕ) (thread : ℕ) → thread < length values → place_by_value values thread < length values
-place-within values thread within =
-    let value = get_or values thread 0 in
-    let all = sum_by-remove (counted value) values thread 0 within in
-    let none : counted value value ≡ 0 = grind (arith, nat_tests) in
-    let others = count_by-le-length (nat_lt value) (remove values thread) in
-    let rest = length-remove values thread within in
-    omega arith
+use Rattle.rank_now.proofs.laws.PlacesByValue.{counted, place-lt, place-within}
 
 -- threads at one place are one
 pub place-only : (values : List ℕ) (place first second : ℕ) → AreDistinct values → IsAtPlace values place first → IsAtPlace values place second → first ≡ second

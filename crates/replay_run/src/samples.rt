@@ -12,21 +12,21 @@ use pct_ask::{NameKind, Names, NumberList};
 use script_tree::{Block, Expr, Op, Script, Stmt, ThreadText};
 use std::alloc::{AllocError as NoMemory, Global};
 
-#[tactic(auto, using(script_tree::proofs::SeenLemmas::seen_laws))]
+#[tactic(auto, using(script_tree::proofs::laws::SeenParts::seen_laws))]
 fn number(value: i64) -> Expr
     ensures { expression result ≡ trees.Number value }
 {
     Expr::Number(value)
 }
 
-#[tactic(auto, using(script_tree::proofs::SeenLemmas::seen_laws))]
+#[tactic(auto, using(script_tree::proofs::laws::SeenParts::seen_laws))]
 fn register(reg: u32) -> Expr
     ensures { expression result ≡ trees.Reg reg }
 {
     Expr::Reg(reg)
 }
 
-#[tactic(auto, using(script_tree::proofs::SeenLemmas::seen_laws))]
+#[tactic(auto, using(script_tree::proofs::laws::SeenParts::seen_laws))]
 fn two(alloc: Global, op: Op, left: Expr, right: Expr) -> Result<Expr, NoMemory>
     ensures { IfOk result (λ e. expression e ≡ trees.Two op (expression left) (expression right)) }
 {
@@ -39,7 +39,7 @@ fn push(stmt: Stmt, stmts: &mut Vec<Stmt>) -> Result<(), NoMemory>
     Ok(stmts.push(stmt)?)
 }
 
-#[tactic(auto, using(script_tree::proofs::SeenLemmas::seen_laws))]
+#[tactic(auto, using(script_tree::proofs::laws::SeenParts::seen_laws))]
 fn closed(stmts: Vec<Stmt>, end_line: u32) -> Block
     ensures { block result ≡ closed_at end_line (statements stmts.items) }
 {
@@ -47,7 +47,7 @@ fn closed(stmts: Vec<Stmt>, end_line: u32) -> Block
 }
 
 // A thread that adds 1 to the variable, not in one step.
-#[tactic(auto, using(script_tree::proofs::SeenLemmas::seen_laws))]
+#[tactic(auto, using(script_tree::proofs::laws::SeenParts::seen_laws))]
 fn adder(alloc: Global, line: u32) -> Result<ThreadText, NoMemory>
     requires { line < 1000 }
     ensures { IfOk result (λ t. thread t ≡ adder line (line + 1) (line + 2) (line + 3)) }
@@ -71,7 +71,7 @@ fn adder(alloc: Global, line: u32) -> Result<ThreadText, NoMemory>
 }
 
 // The thread that joins the adders and wants the sum.
-#[tactic(auto, using(script_tree::proofs::SeenLemmas::seen_laws))]
+#[tactic(auto, using(script_tree::proofs::laws::SeenParts::seen_laws))]
 fn checker(alloc: Global) -> Result<ThreadText, NoMemory>
     ensures { IfOk result (λ t. thread t ≡ checker) }
 {

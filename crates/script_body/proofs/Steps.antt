@@ -13,7 +13,7 @@ use Rattle.script_tree.specs.Values.{Value, value_of}
 use Rattle.script_code.specs.Operations.{Operation, Do, Test, End, Begin}
 use Rattle.script_code.specs.Placed.{is_end, last_place}
 use Rattle.script_code.specs.FlatPosts.{Spot, spot, last_spot, is_fault, lone_move, after_lone, test_move, flat_act, flat_head, flat_pending_from}
-use Rattle.script_code.proofs.Listings.{some_operation}
+use Rattle.script_code.proofs.laws.Listings.{some_operation}
 use Rattle.script_body.specs.declared.turn.Turn.TheVariants as turns
 use Rattle.script_body.specs.Turns.{turn_of}
 use Rattle.script_body.specs.Waiting.{after_act, spot_after, is_waiting, stand_of, Settles, asks_fault, stopped, pending_at}

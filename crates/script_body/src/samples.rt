@@ -12,21 +12,21 @@ use pct_ask::{NameKind, Names, NumberList};
 use script_tree::{Block, Expr, Op, Script, Stmt, ThreadText};
 use std::alloc::{AllocError as NoMemory, Global};
 
-#[tactic(auto, using(script_tree::proofs::SeenLemmas::seen_laws))]
+#[tactic(auto, using(script_tree::proofs::laws::SeenParts::seen_laws))]
 pub(crate) fn number(value: i64) -> Expr
     ensures { expression result ≡ trees.Number value }
 {
     Expr::Number(value)
 }
 
-#[tactic(auto, using(script_tree::proofs::SeenLemmas::seen_laws))]
+#[tactic(auto, using(script_tree::proofs::laws::SeenParts::seen_laws))]
 pub(crate) fn register(reg: u32) -> Expr
     ensures { expression result ≡ trees.Reg reg }
 {
     Expr::Reg(reg)
 }
 
-#[tactic(auto, using(script_tree::proofs::SeenLemmas::seen_laws))]
+#[tactic(auto, using(script_tree::proofs::laws::SeenParts::seen_laws))]
 fn minus(alloc: Global, value: u32) -> Result<Expr, NoMemory>
     ensures { IfOk result (λ e. expression e ≡ minus value) }
 {
@@ -34,7 +34,7 @@ fn minus(alloc: Global, value: u32) -> Result<Expr, NoMemory>
     Ok(Expr::Minus(Box::new(alloc, part)?))
 }
 
-#[tactic(auto, using(script_tree::proofs::SeenLemmas::seen_laws))]
+#[tactic(auto, using(script_tree::proofs::laws::SeenParts::seen_laws))]
 pub(crate) fn two(alloc: Global, op: Op, left: Expr, right: Expr) -> Result<Expr, NoMemory>
     ensures { IfOk result (λ e. expression e ≡ trees.Two op (expression left) (expression right)) }
 {
@@ -47,7 +47,7 @@ fn equals(alloc: Global, reg: u32, value: Expr) -> Result<Expr, NoMemory>
     two(alloc, Op::Eq, register(reg), value)
 }
 
-#[tactic(auto, using(script_tree::proofs::SeenLemmas::seen_laws))]
+#[tactic(auto, using(script_tree::proofs::laws::SeenParts::seen_laws))]
 fn set(
     alloc: Global,
     line: u32,
@@ -62,7 +62,7 @@ fn set(
     Ok(Stmt::Set { line, reg, value })
 }
 
-#[tactic(auto, using(script_tree::proofs::SeenLemmas::seen_laws))]
+#[tactic(auto, using(script_tree::proofs::laws::SeenParts::seen_laws))]
 fn assert(alloc: Global, line: u32, op: Op, left: Expr, right: Expr) -> Result<Stmt, NoMemory>
     ensures { IfOk result (λ s. statement s ≡ trees.Assert line (trees.Two op (expression left) (expression right))) }
 {
@@ -76,14 +76,14 @@ pub(crate) fn push(stmt: Stmt, stmts: &mut Vec<Stmt>) -> Result<(), NoMemory>
     Ok(stmts.push(stmt)?)
 }
 
-#[tactic(auto, using(script_tree::proofs::SeenLemmas::seen_laws))]
+#[tactic(auto, using(script_tree::proofs::laws::SeenParts::seen_laws))]
 pub(crate) fn closed(stmts: Vec<Stmt>, end_line: u32) -> Block
     ensures { block result ≡ closed_at end_line (statements stmts.items) }
 {
     Block { stmts, end_line }
 }
 
-#[tactic(auto, using(script_tree::proofs::SeenLemmas::seen_laws))]
+#[tactic(auto, using(script_tree::proofs::laws::SeenParts::seen_laws))]
 fn push_trying(stmts: &mut Vec<Stmt>) -> Result<(), NoMemory>
     ensures { OnOk result (statements stmts.new.items ≡ statements stmts.old.items ++ trying) }
 {
@@ -147,7 +147,7 @@ pub(crate) fn trying(alloc: Global) -> Result<Block, NoMemory>
     Ok(closed(stmts, 16))
 }
 
-#[tactic(auto, using(script_tree::proofs::SeenLemmas::seen_laws))]
+#[tactic(auto, using(script_tree::proofs::laws::SeenParts::seen_laws))]
 fn push_waiting(stmts: &mut Vec<Stmt>) -> Result<(), NoMemory>
     ensures { OnOk result (statements stmts.new.items ≡ statements stmts.old.items ++ waiting) }
 {
@@ -189,7 +189,7 @@ fn push_dividing(alloc: Global, stmts: &mut Vec<Stmt>) -> Result<(), NoMemory>
     push(assert(alloc, 10, Op::And, left, right)?, stmts)
 }
 
-#[tactic(auto, using(script_tree::proofs::SeenLemmas::seen_laws))]
+#[tactic(auto, using(script_tree::proofs::laws::SeenParts::seen_laws))]
 fn push_overflowing(alloc: Global, stmts: &mut Vec<Stmt>) -> Result<(), NoMemory>
     ensures { OnOk result (statements stmts.new.items ≡ statements stmts.old.items ++ overflowing) }
 {
@@ -211,7 +211,7 @@ pub(crate) fn dividing(alloc: Global) -> Result<Block, NoMemory>
     Ok(closed(stmts, 13))
 }
 
-#[tactic(auto, using(script_tree::proofs::SeenLemmas::seen_laws))]
+#[tactic(auto, using(script_tree::proofs::laws::SeenParts::seen_laws))]
 fn push_meeting(alloc: Global, stmts: &mut Vec<Stmt>) -> Result<(), NoMemory>
     ensures { OnOk result (statements stmts.new.items ≡ statements stmts.old.items ++ meeting) }
 {
@@ -262,7 +262,7 @@ pub(crate) fn started(alloc: Global) -> Result<Block, NoMemory>
     Ok(closed(stmts, 32))
 }
 
-#[tactic(auto, using(script_tree::proofs::SeenLemmas::seen_laws))]
+#[tactic(auto, using(script_tree::proofs::laws::SeenParts::seen_laws))]
 fn moving(line: u32) -> Stmt
     ensures { statement result ≡ moving line }
 {
@@ -273,7 +273,7 @@ fn moving(line: u32) -> Stmt
     }
 }
 
-#[tactic(auto, using(script_tree::proofs::SeenLemmas::seen_laws))]
+#[tactic(auto, using(script_tree::proofs::laws::SeenParts::seen_laws))]
 fn rounds(alloc: Global, line: u32) -> Result<Stmt, NoMemory>
     requires { line < 1000 }
     ensures { IfOk result (λ s. statement s ≡ rounds line) }
@@ -286,7 +286,7 @@ fn rounds(alloc: Global, line: u32) -> Result<Stmt, NoMemory>
     Ok(Stmt::While { line, test, body })
 }
 
-#[tactic(auto, using(script_tree::proofs::SeenLemmas::seen_laws))]
+#[tactic(auto, using(script_tree::proofs::laws::SeenParts::seen_laws))]
 fn push_counting(alloc: Global, line: u32, stmts: &mut Vec<Stmt>) -> Result<(), NoMemory>
     requires { line < 900 }
     ensures { OnOk result (statements stmts.new.items ≡ statements stmts.old.items ++ counting line) }
@@ -329,7 +329,7 @@ pub(crate) enum Place {
 }
 
 // A statement that has this value at a place.
-#[tactic(auto, using(script_tree::proofs::SeenLemmas::seen_laws))]
+#[tactic(auto, using(script_tree::proofs::laws::SeenParts::seen_laws))]
 fn statement_with(alloc: Global, place: Place, value: Expr) -> Stmt
     requires { expression_fits (expression value) ≡ true }
     ensures { MayStandAlone (statement result) }

@@ -4,5 +4,5 @@ pub mod Placing
 pub mod Whole
 pub mod Pieces
 pub mod EmitLemmas
-pub mod Listings
 pub mod Threads
+pub mod laws

@@ -5,7 +5,7 @@ use Rattle.script_tree.specs.Trees.{Closed, Then, closed_at}
 use Rattle.script_tree.specs.Seen.{statement, block, statements}
 use Rattle.script_code.specs.Layout.{entry}
 use Rattle.script_code.specs.Rest.{from}
-use Rattle.script_tree.proofs.SeenLemmas.{block-parts}
+use Rattle.script_tree.proofs.laws.SeenParts.{block-parts}
 use Rattle.script_tree.specs.declared.stmt.Block.{Block}
 use Rattle.script_tree.specs.declared.stmt.Stmt.{Stmt}
 

@@ -10,7 +10,7 @@ use Rattle.script_tree.specs.ScriptText.{Thread}
 use Rattle.script_tree.specs.ScriptParts.{thread}
 use Rattle.script_tree.specs.ScriptSeen.{text}
 use Rattle.script_tree.specs.Posts.{any_starts, is_held}
-use Rattle.script_tree.proofs.SeenLemmas.{end_line-block}
+use Rattle.script_tree.proofs.laws.SeenParts.{end_line-block}
 use Rattle.script_code.proofs.Placing.{left_true, right_true}
 use Rattle.script_tree.specs.declared.script.Script.{Script}
 use Rattle.script_tree.specs.declared.stmt.ThreadText.{ThreadText}

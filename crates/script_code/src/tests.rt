@@ -21,7 +21,7 @@ fn names(alloc: Global) -> Result<Names, NoMemory>
     Ok(names)
 }
 
-#[tactic(auto, using(script_tree::proofs::SeenLemmas::seen_laws))]
+#[tactic(auto, using(script_tree::proofs::laws::SeenParts::seen_laws))]
 fn starting(alloc: Global) -> Result<Stmt, NoMemory>
     ensures { IfOk result (λ s. statement s ≡ starting) }
 {
@@ -37,7 +37,7 @@ fn starting(alloc: Global) -> Result<Stmt, NoMemory>
     })
 }
 
-#[tactic(auto, using(script_tree::proofs::SeenLemmas::seen_laws))]
+#[tactic(auto, using(script_tree::proofs::laws::SeenParts::seen_laws))]
 fn starter_body(alloc: Global) -> Result<Block, NoMemory>
     ensures { IfOk result (λ b. block b ≡ starter_body) }
 {
@@ -48,7 +48,7 @@ fn starter_body(alloc: Global) -> Result<Block, NoMemory>
     })
 }
 
-#[tactic(auto, using(script_tree::proofs::SeenLemmas::seen_laws))]
+#[tactic(auto, using(script_tree::proofs::laws::SeenParts::seen_laws))]
 fn threads(alloc: Global) -> Result<Vec<ThreadText>, NoMemory>
     ensures { IfOk result (λ threads. map thread threads.items ≡ starter.threads) }
 {

@@ -11,7 +11,7 @@ use Rattle.pct_ask.specs.Words.{is_name, is_among}
 use Rattle.pct_ask.specs.NameLists.{NameLists, AreNames, list_of, with_name, all_names}
 use Rattle.pct_ask.specs.declared.names.NameKind.{NameKind}
 use Rattle.pct_ask.specs.declared.names.NameKind.TheVariants as kinds
-use Rattle.pct_ask.proofs.NameLemmas.{AreNames-push, is_name-first}
+use Rattle.pct_ask.proofs.laws.Names.{AreNames-push, is_name-first}
 use Rattle.script_tree.specs.Forms.{is_plain, has_value, kind_since}
 use Rattle.script_tree.specs.Fitting.{most_threads, rwlocks_fit, thread_fits}
 use Rattle.script_tree.specs.Grammar.{Line, declares, all_thread_lines}

@@ -1,7 +1,7 @@
 -- What is printed of a script is read again.
 use Rattle.script_tree.specs.Layout.{layout}
 use Rattle.script_tree.specs.Renumbering.{renumbered}
-use Rattle.script_tree.proofs.PrintLaw.{layout_spells}
+use Rattle.script_tree.proofs.laws.Layouts.{layout_spells}
 use Rattle.script_parse.specs.Answers.{PrintIsRead}
 use Rattle.script_parse.proofs.laws.Scripts.{one_script, spelled_no_fault}
 

@@ -6,7 +6,7 @@ use Rattle.std.proofs.lemmas.Bool.{le-ltb}
 use Rattle.pct_ask.specs.Lines.{lines_of}
 use Rattle.pct_ask.specs.Tokens.{Token}
 use Rattle.pct_ask.specs.NameLists.{place_of}
-use Rattle.pct_ask.proofs.NameLemmas.{is_name-first}
+use Rattle.pct_ask.proofs.laws.Names.{is_name-first}
 use Rattle.script_tree.specs.ScriptText.{ScriptText}
 use Rattle.script_tree.specs.declared.fault.ScriptFault.{ScriptFault}
 use Rattle.script_tree.specs.Fitting.{IsScript}

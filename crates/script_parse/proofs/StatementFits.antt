@@ -8,7 +8,7 @@ use Rattle.pct_ask.specs.Tokens.{Token}
 use Rattle.pct_ask.specs.NameLists.{NameLists, list_of, place_of}
 use Rattle.pct_ask.specs.declared.names.NameKind.{NameKind}
 use Rattle.pct_ask.specs.declared.names.NameKind.TheVariants as kinds
-use Rattle.pct_ask.proofs.NameLemmas.{place_of-Some}
+use Rattle.pct_ask.proofs.laws.Names.{place_of-Some}
 use Rattle.script_tree.specs.Trees.{Expression, Statement}
 use Rattle.script_tree.specs.Trees as trees
 use Rattle.script_tree.specs.Fitting.{line_fits, place_fits, expression_fits, statement_fits, count_of}

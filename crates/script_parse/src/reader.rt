@@ -270,7 +270,7 @@ impl Reader {
     }
 
     /// Closes the innermost block.
-    #[tactic(auto, using(script_tree::proofs::SeenLemmas::seen_laws))]
+    #[tactic(auto, using(script_tree::proofs::laws::SeenParts::seen_laws))]
     fn ended(mut self, line: u32) -> Result<Reader, NoMemory>
         ensures { IfOk result (λ r. seen_reader r ≡ reading.ended (seen_reader self) (seen_reader self).open_blocks line) }
     {
@@ -287,7 +287,7 @@ impl Reader {
         )
     }
 
-    #[tactic(auto, using(script_tree::proofs::SeenLemmas::seen_laws))]
+    #[tactic(auto, using(script_tree::proofs::laws::SeenParts::seen_laws))]
     fn ended_by(mut self, opening: Opening, block: Block) -> Result<Reader, NoMemory>
         ensures { IfOk result (λ r. seen_reader r ≡ reading.closed_by (seen_reader self) (seen_opening opening) (tree_of_block block)) }
     {
@@ -324,7 +324,7 @@ impl Reader {
     }
 
     /// Closes the first block of an `if`, and begins its `else`.
-    #[tactic(auto, using(script_tree::proofs::SeenLemmas::seen_laws))]
+    #[tactic(auto, using(script_tree::proofs::laws::SeenParts::seen_laws))]
     fn turned(mut self, alloc: Global, line: u32) -> Result<Reader, NoMemory>
         ensures { IfOk result (λ r. seen_reader r ≡ reading.turned (seen_reader self) (seen_reader self).open_blocks line) }
     {

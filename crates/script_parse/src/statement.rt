@@ -49,7 +49,7 @@ pub fn place_in(names: &Names, ahead: &Ahead<'_>, kind: NameKind, name: &[u8]) -
     }
 }
 
-#[tactic(auto, using(script_tree::proofs::SeenLemmas::seen_laws))]
+#[tactic(auto, using(script_tree::proofs::laws::SeenParts::seen_laws))]
 fn on_statement(verb: OnVerb, line: u32, place: u32) -> Stmt
     ensures { statement result ≡ reading.on_statement (seen_on verb) line place }
 {
@@ -83,7 +83,7 @@ fn on_statement(verb: OnVerb, line: u32, place: u32) -> Stmt
     }
 }
 
-#[tactic(auto, using(script_tree::proofs::SeenLemmas::seen_laws))]
+#[tactic(auto, using(script_tree::proofs::laws::SeenParts::seen_laws))]
 fn into_statement(verb: IntoVerb, line: u32, reg: u32, place: u32) -> Stmt
     ensures { statement result ≡ reading.into_statement (seen_into verb) line reg place }
 {
@@ -122,7 +122,7 @@ fn into_statement(verb: IntoVerb, line: u32, reg: u32, place: u32) -> Stmt
 }
 
 /// The statement on a line, where the names that it uses are known and it opens and closes no block.
-#[tactic(auto, using(script_tree::proofs::SeenLemmas::seen_laws))]
+#[tactic(auto, using(script_tree::proofs::laws::SeenParts::seen_laws))]
 pub fn statement_on(names: &Names, ahead: &Ahead<'_>, line: u32, form: Form<'_>) -> Option<Stmt>
     ensures { option_map statement result ≡ reading.statement_on names.now (place_ahead ahead.now) line (seen_form form.entry) }
 {

@@ -1,6 +1,6 @@
 -- How a printed line is cut into its tokens.
 use Rattle.std.proofs.Common.{◌≡◌, ℕ, ◌<◌, Bool, true, false, not, cond, eqb, List, [], ◌∷◌, ◌++◌, length, Option, Some, None, refl, sym, ap, ◌∙◌, append_assoc, arith}
-use Rattle.std.specs.Prelude.{◌&&◌, nat_le, nat_lt}
+use Rattle.std.specs.Prelude.{◌&&◌, nat_le}
 use Rattle.std.specs.List.{list_all}
 use Rattle.std.specs.Option.{option_map}
 use Rattle.std.proofs.lemmas.List.{append-nil}
@@ -9,10 +9,7 @@ use Rattle.std.proofs.lemmas.Bool.Decides.{nat_tests}
 use Rattle.pct_ask.specs.Characters.{is_blank, is_letter, is_digit, is_word_byte}
 use Rattle.pct_ask.specs.Words.{is_word}
 use Rattle.pct_ask.specs.Tokens.{Token, Word, Number, Symbol, before, joined, pieces_of, token_of, tokens_of_pieces, tokens_of}
-
--- a byte that a line may have: an ASCII character that is shown, or a space
-abbrev pub is_plain : ℕ → Bool
-is_plain b = nat_le 32 b && nat_lt b 127
+use Rattle.script_tree.proofs.laws.PlainLines.{is_plain}
 
 -- what may follow a word: nothing, a space, a `)` or a comma
 pub data Break : List ℕ → Type 0 where

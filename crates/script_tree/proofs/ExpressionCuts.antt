@@ -20,7 +20,8 @@ use Rattle.script_tree.specs.Fitting.{expression_fits}
 use Rattle.script_tree.specs.Ranges.{is_great, has_great}
 use Rattle.script_tree.specs.Layout.{expression_text}
 use Rattle.script_tree.specs.Printing.{is_ranged}
-use Rattle.script_tree.proofs.Cuts.{IsCut, Break, ends, space, closes, comma, with_front, one_token, word_cut, number_cut, minus_cut, not_cut, enclosed_cut, spaced_cut, begins_plainly, is_plain}
+use Rattle.script_tree.proofs.laws.PlainLines.{is_plain}
+use Rattle.script_tree.proofs.Cuts.{IsCut, Break, ends, space, closes, comma, with_front, one_token, word_cut, number_cut, minus_cut, not_cut, enclosed_cut, spaced_cut, begins_plainly}
 
 -- the tokens of a printed expression
 abbrev pub expression_tokens : Expression → List Token

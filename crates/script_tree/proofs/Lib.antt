@@ -1,4 +1,3 @@
-pub mod SeenLemmas
 pub mod Conjunctions
 pub mod PrintLemmas
 pub mod DeclarationLemmas
@@ -9,5 +8,4 @@ pub mod PrintedLines
 pub mod InnerLines
 pub mod Renumbered
 pub mod NamesPrinted
-pub mod PrintLaw
 pub mod laws

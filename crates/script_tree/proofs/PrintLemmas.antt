@@ -8,7 +8,7 @@ use Rattle.pct_ask.specs.NameLists.{NameLists}
 use Rattle.script_tree.specs.Seen.{statement, statements, block}
 use Rattle.script_tree.specs.declared.stmt.Block.{Block}
 use Rattle.script_tree.specs.declared.stmt.Stmt.{Stmt}
-use Rattle.script_tree.proofs.SeenLemmas.{list-block}
+use Rattle.script_tree.proofs.laws.SeenParts.{list-block}
 use Rattle.script_tree.specs.Trees.{Statements, Closed, Then, list, end_line}
 use Rattle.script_tree.specs.Forms.{Meant}
 use Rattle.script_tree.specs.Forms as forms

@@ -1,5 +1,5 @@
 -- The lines of a printed text: their numbers, and that each is sound.
-use Rattle.std.proofs.Common.{◌≡◌, ℕ, zero, suc, ◌+◌, ◌<◌, ◌≤◌, true, false, eqb, List, [], ◌∷◌, ◌++◌, length, map, Some, inr, refl, ap, ◌∙◌, All, arith}
+use Rattle.std.proofs.Common.{◌≡◌, ℕ, zero, suc, ◌+◌, ◌<◌, ◌≤◌, true, List, [], ◌∷◌, ◌++◌, length, map, Some, inr, refl, ap, ◌∙◌, All, arith}
 use Rattle.std.specs.List.{list_all}
 use Rattle.std.specs.Fmt.{digits}
 use Rattle.std.specs.Str.{IsAscii}
@@ -8,12 +8,11 @@ use Rattle.std.proofs.lemmas.Bool.Decides.{nat_tests}
 use Rattle.std.proofs.lemmas.List.Elements.{All-nil, All-cons, All-head, All-tail}
 use Rattle.std.proofs.lemmas.Str.{is_utf8-from_IsUtf8, IsUtf8-from_ascii}
 use Rattle.std.proofs.lemmas.Str.Ascii.{IsAscii-nil, IsAscii-cons}
-use Rattle.pct_ask.specs.Lines.{lines_of, onto_first}
 use Rattle.script_tree.specs.Forms.{Meant}
 use Rattle.script_tree.specs.Lines.{tokens_in, version_in}
 use Rattle.script_tree.specs.Grammar.{Line, AreLines, IsSound}
-use Rattle.script_tree.specs.Layout.{form_text, header_text, text_of_lines}
-use Rattle.script_tree.proofs.Cuts.{is_plain}
+use Rattle.script_tree.specs.Layout.{form_text, header_text}
+use Rattle.script_tree.proofs.laws.PlainLines.{is_plain, ArePlain}
 use Rattle.script_tree.proofs.FormCuts.{Fits, form_cut, form_says}
 
 -- lines that mean these, one after another, of which the first has this number
@@ -41,26 +40,9 @@ are_lines version n (m ∷ ms) fit = inr (m, numbered (n + 1) ms, refl, form_say
 
 -- ---- bytes
 
-abbrev pub ArePlain : List (List ℕ) → Type 0
-ArePlain [] = Unit {0}
-ArePlain (line ∷ lines) = (list_all is_plain line ≡ true) × ArePlain lines
-
 pub forms_are_plain : (version : ℕ) (ms : List Meant) → AreFit version ms → ArePlain (map form_text ms)
 forms_are_plain version [] fit = tt
 forms_are_plain version (m ∷ ms) fit = ((form_cut version m fit.0).plain, forms_are_plain version ms fit.1)
-
-plain_is_no_end : (b : ℕ) → is_plain b ≡ true → eqb b 10 ≡ false
-plain_is_no_end b h = grind (arith, nat_tests)
-
-line_first : (line rest : List ℕ) → list_all is_plain line ≡ true → lines_of (line ++ 10 ∷ rest) ≡ line ∷ lines_of rest
-line_first [] rest h = refl
-line_first (b ∷ line) rest h =
-    let both = and_parts (is_plain b) (list_all is_plain line) h in
-    rw (plain_is_no_end b both.0) (ap (onto_first b) (line_first line rest both.1))
-
-pub lines_of_text : (lines : List (List ℕ)) → ArePlain lines → lines_of (text_of_lines lines) ≡ lines
-lines_of_text [] plain = refl
-lines_of_text (line ∷ lines) plain = line_first line (text_of_lines lines) plain.0 ∙ ap (λ others. line ∷ others) (lines_of_text lines plain.1)
 
 plain_is_ascii : (b : ℕ) → is_plain b ≡ true → b < 128
 plain_is_ascii b h = grind (arith, nat_tests)

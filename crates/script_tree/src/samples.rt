@@ -275,7 +275,7 @@ fn small(alloc: Global, stmt: Option<Stmt>, end_line: u32) -> Result<Block, NoMe
     Ok(closed(stmts, end_line))
 }
 
-#[tactic(auto, using(crate::proofs::SeenLemmas::seen_laws))]
+#[tactic(auto, using(crate::proofs::laws::SeenParts::seen_laws))]
 fn one_block(alloc: Global) -> Result<Stmt, NoMemory>
     ensures { IfOk result (λ s. statement s ≡ one_block) }
 {
@@ -287,7 +287,7 @@ fn one_block(alloc: Global) -> Result<Stmt, NoMemory>
     })
 }
 
-#[tactic(auto, using(crate::proofs::SeenLemmas::seen_laws))]
+#[tactic(auto, using(crate::proofs::laws::SeenParts::seen_laws))]
 fn two_blocks(alloc: Global) -> Result<Stmt, NoMemory>
     ensures { IfOk result (λ s. statement s ≡ two_blocks) }
 {
@@ -301,7 +301,7 @@ fn two_blocks(alloc: Global) -> Result<Stmt, NoMemory>
     })
 }
 
-#[tactic(auto, using(crate::proofs::SeenLemmas::seen_laws))]
+#[tactic(auto, using(crate::proofs::laws::SeenParts::seen_laws))]
 fn inner_block(alloc: Global) -> Result<Stmt, NoMemory>
     ensures { IfOk result (λ s. statement s ≡ inner_block) }
 {

@@ -20,7 +20,7 @@ use Rattle.pct_ask.specs.declared.ask.FaultKind.TheVariants.{Overflow, ZeroDivis
 use Rattle.pct_ask.specs.declared.ask.Ask.{Ask}
 use Rattle.pct_ask.specs.declared.ask.Ask.TheVariants.{Read, Write, Add, Cas, Lock, TryLock, Unlock, Release, Regain, Signal, Broadcast, Down, TryDown, Up, Arrive, Leave, Join, Yield, Check, Fault, Start, Begin, RdLock, WrLock, TryRdLock, TryWrLock, RwUnlock}
 use Rattle.pct_ask.specs.declared.event.Event.{Event}
-use Rattle.pct_ask.proofs.WordLemmas.{IsSolid, AreSolid}
+use Rattle.pct_ask.proofs.laws.SplitWords.{IsSolid, AreSolid}
 use Rattle.trace_text.specs.Lawful.{IsAsk, IsStep, IsValue}
 use Rattle.trace_text.proofs.Names.{name-lawful}
 

@@ -3,7 +3,7 @@ use Rattle.std.specs.Prelude.{◌==◌, position}
 use Rattle.std.specs.List.{position_or_len, onto_first}
 use Rattle.std.proofs.Common.{◌≡◌, ℕ, ◌+◌, ◌<◌, ◌≤◌, true, false, List, [], ◌∷◌, length, get_or, take, drop, zero, suc, Some, None, refl, ap, arith, add-one}
 use Rattle.std.proofs.lemmas.List.Quantifiers.{position-Some}
-use Rattle.pct_ask.proofs.LineLemmas.{not-here, none-left}
+use Rattle.pct_ask.proofs.laws.Positions.{not-here, none-left}
 use Rattle.trace_text.specs.Lines.{pieces_of}
 
 cut-at : (text : List ℕ) (i : ℕ) → i < length text → (get_or text i 0 == 10) ≡ true → ((k : ℕ) → k < i → (get_or text k 0 == 10) ≡ false) → pieces_of text ≡ take i text ∷ pieces_of (drop (suc i) text)

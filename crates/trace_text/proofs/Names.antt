@@ -12,7 +12,7 @@ use Rattle.pct_ask.specs.Words.{is_name, is_among}
 use Rattle.pct_ask.specs.NameLists.{NameLists, list_of, all_names, place_of, AreDistinct, AreNames}
 use Rattle.pct_ask.specs.declared.names.NameKind.{NameKind}
 use Rattle.pct_ask.specs.declared.names.NameKind.TheVariants.{Thread, Var, Mutex, Cond, Sem, Barrier, RwLock}
-use Rattle.pct_ask.proofs.NameLemmas.{place_of-Some}
+use Rattle.pct_ask.proofs.laws.Names.{place_of-Some}
 use Rattle.trace_text.specs.Asks.{object}
 
 or-left : (a b : Bool) → (a || b) ≡ false → a ≡ false

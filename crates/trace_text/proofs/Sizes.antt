@@ -25,8 +25,8 @@ use Rattle.pct_ask.specs.declared.ask.Ask.TheVariants.{Read, Write, Add, Cas, Lo
 use Rattle.pct_ask.specs.declared.event.Event.{Event}
 use Rattle.pct_ask.specs.declared.verdict.Verdict.{Verdict}
 use Rattle.pct_ask.specs.declared.verdict.Verdict.TheVariants.{Passed, Failed, Stuck, Misuse, Fault as VerdictFault, Cut}
-use Rattle.pct_ask.proofs.NameLemmas.{place_of-thread}
-use Rattle.pct_ask.proofs.StuckLemmas.{named_place, RiseFrom, RiseFrom-increasing}
+use Rattle.pct_ask.proofs.laws.Names.{place_of-thread}
+use Rattle.pct_ask.proofs.laws.RisingPlaces.{named_place, RiseFrom, RiseFrom-increasing}
 use Rattle.trace_text.specs.Lawful.{IsAsk, IsStep, IsStepCount, IsValue}
 use Rattle.trace_text.specs.Trace.{head_of, IsRun}
 use Rattle.trace_text.specs.declared.file.TraceFile.{TraceFile}

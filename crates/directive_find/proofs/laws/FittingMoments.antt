@@ -11,7 +11,7 @@ use Rattle.pct_ask.specs.declared.event.Event.{Event}
 use Rattle.pct_ask.specs.declared.verdict.Outcome.{Outcome}
 use Rattle.rank_now.specs.Positions.{passes_at}
 use Rattle.rank_now.specs.Rank.{own_steps}
-use Rattle.rank_now.proofs.Schedule.{passes_at-read}
+use Rattle.rank_now.proofs.laws.Positions.{passes_at-read}
 use Rattle.policy_pick.specs.Plan.{ByPoints}
 use Rattle.turn_book.specs.Posts.{schedule_of}
 use Rattle.turn_book.proofs.Books.{obeys-within}

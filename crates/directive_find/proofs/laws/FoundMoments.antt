@@ -12,7 +12,7 @@ use Rattle.rank_now.specs.declared.moment.Moment.{Moment}
 use Rattle.rank_now.specs.Order.{IsOrder}
 use Rattle.rank_now.specs.Positions.{greatest, passes_at, last_position}
 use Rattle.rank_now.specs.Rank.{index_of_point, own_steps, is_moment, index_of_moment, rank, rank_by_events}
-use Rattle.rank_now.proofs.Schedule.{greatest-le, passes_at-read}
+use Rattle.rank_now.proofs.laws.Positions.{greatest-le, passes_at-read}
 use Rattle.turn_book.specs.Posts.{schedule_of}
 use Rattle.worker_run.specs.Bodies.{Pending}
 use Rattle.worker_run.specs.Run.{run, directed}

@@ -11,7 +11,7 @@ use Rattle.pct_ask.specs.declared.verdict.Verdict.{Verdict}
 use Rattle.rank_now.specs.declared.moment.Moment.{Moment}
 use Rattle.rank_now.specs.Positions.{greatest, passes_at}
 use Rattle.rank_now.specs.Rank.{rank_by, index_of_point, is_moment, index_of_moment, rank, rank_by_events}
-use Rattle.rank_now.proofs.Schedule.{greatest-agree, greatest-passes, greatest-le, passes_at-agree, rank_by-agree}
+use Rattle.rank_now.proofs.laws.Positions.{greatest-agree, greatest-passes, greatest-le, passes_at-agree, rank_by-agree}
 use Rattle.turn_book.specs.Posts.{schedule_of}
 use Rattle.worker_run.specs.Bodies.{Pending}
 use Rattle.worker_run.specs.Run.{run, directed}

@@ -7,7 +7,7 @@ use Rattle.std.proofs.lemmas.List.Sums.{sum_by-cons}
 use Rattle.rank_now.specs.declared.moment.Moment.{Moment}
 use Rattle.rank_now.specs.Positions.{passes_at}
 use Rattle.rank_now.specs.Rank.{own_steps, is_moment}
-use Rattle.rank_now.proofs.Schedule.{passes_at-append}
+use Rattle.rank_now.proofs.laws.Positions.{passes_at-append}
 
 abbrev one_if : Bool → ℕ
 one_if b = cond b 1 0

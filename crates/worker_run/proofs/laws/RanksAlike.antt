@@ -6,8 +6,8 @@ use Rattle.std.proofs.lemmas.Bool.Decides.{nat_tests}
 use Rattle.rank_now.specs.Order.{IsOrder}
 use Rattle.rank_now.specs.Positions.{passes_at}
 use Rattle.rank_now.specs.Rank.{place_of, last_change, rank_by}
-use Rattle.rank_now.proofs.Orders.{place-within-order}
-use Rattle.rank_now.proofs.Schedule.{greatest-le, greatest-agree, greatest-passes}
+use Rattle.rank_now.proofs.laws.Orders.{place-within-order}
+use Rattle.rank_now.proofs.laws.Positions.{greatest-le, greatest-agree, greatest-passes}
 
 -- the indices come at the same steps, are in the same order, and are no greater than the counts
 pub record GivenAlike (given given' : ℕ → ℕ) (count count' steps : ℕ) : Type 0 where

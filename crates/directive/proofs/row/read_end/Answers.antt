@@ -1,7 +1,7 @@
 -- The verdict's text is read as it is.
 use Rattle.std.proofs.Common.{sym, ◌∙◌, ap}
 use Rattle.pct_ask.specs.VerdictWords.{words_of, verdict_of_words}
-use Rattle.pct_ask.proofs.VerdictReadLemmas.{ReadsAs-words}
+use Rattle.pct_ask.proofs.laws.VerdictsRead.{ReadsAs-words}
 use Rattle.directive.specs.Reading.{end_of}
 use Rattle.directive.proofs.row.read_end.Goals as goal
 

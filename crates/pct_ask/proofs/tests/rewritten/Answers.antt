@@ -1,5 +1,5 @@
 -- A verdict that was read can be written.
-use Rattle.pct_ask.proofs.VerdictReadLemmas.{read-written}
+use Rattle.pct_ask.proofs.laws.VerdictsRead.{read-written}
 use Rattle.pct_ask.proofs.tests.rewritten.Goals as goal
 
 pub write_verdict-requires-clause-whole : goal.write_verdict-requires-clause-whole

@@ -1,6 +1,6 @@
 -- What the words are read as is what the text is read as, and nothing else is.
 use Rattle.std.proofs.Common.{◌∙◌}
-use Rattle.pct_ask.proofs.VerdictReadLemmas.{ReadsAs-words, ReadsAs-only}
+use Rattle.pct_ask.proofs.laws.VerdictsRead.{ReadsAs-words, ReadsAs-only}
 use Rattle.pct_ask.proofs.verdict_text.read_verdict.Goals as goal
 
 pub returns-clause-read : goal.returns-clause-read

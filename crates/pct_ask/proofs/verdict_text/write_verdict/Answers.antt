@@ -1,6 +1,6 @@
 -- What is written is read back.
 use Rattle.std.proofs.lemmas.Result.{on_ok_weaker}
-use Rattle.pct_ask.proofs.VerdictReadLemmas.{ReadsAs-written}
+use Rattle.pct_ask.proofs.laws.VerdictsRead.{ReadsAs-written}
 use Rattle.pct_ask.proofs.verdict_text.write_verdict.Goals as goal
 
 pub returns-else-is_err-clause-read_back : goal.returns-else-is_err-clause-read_back

@@ -1,7 +1,7 @@
 -- The first word ends at the first space, or is all.
 use Rattle.std.proofs.Common.{sym}
 use Rattle.std.proofs.lemmas.List.{take_rest}
-use Rattle.pct_ask.proofs.WordLemmas.{words_of-cut, words_of-whole}
+use Rattle.pct_ask.proofs.laws.SplitWords.{words_of-cut, words_of-whole}
 use Rattle.pct_ask.proofs.verdict_words.cut_word.Goals as goal
 
 pub returns-in-Some-clause-words : goal.returns-in-Some-clause-words

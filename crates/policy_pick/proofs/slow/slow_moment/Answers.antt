@@ -2,7 +2,7 @@ use Rattle.std.proofs.Common.{◌≡◌, ℕ, ◌+◌, ◌<◌, Bool, true, fals
 use Rattle.rank_now.specs.declared.moment.Moment.{Moment}
 use Rattle.rank_now.specs.Positions.{greatest, passes_at}
 use Rattle.rank_now.specs.Rank.{is_moment}
-use Rattle.rank_now.proofs.Schedule.{passes_at-read, greatest-more}
+use Rattle.rank_now.proofs.laws.Positions.{passes_at-read, greatest-more}
 use Rattle.policy_pick.proofs.slow.slow_moment.Goals as goal
 use Rattle.policy_pick.proofs.slow.slow_moment.Goals.{then-slow_is_moment, else-slow_is_moment}
 

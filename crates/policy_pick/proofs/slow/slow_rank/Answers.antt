@@ -2,7 +2,7 @@ use Rattle.std.proofs.Common.{◌≡◌, ℕ, ◌≤◌, ◌+◌, ◌-◌, ◌&&
 use Rattle.std.proofs.lemmas.List.Sums.{prefix_len-le-length}
 use Rattle.rank_now.specs.Positions.{passes_at}
 use Rattle.rank_now.specs.Rank.{rank_by, place_of, last_change}
-use Rattle.rank_now.proofs.Schedule.{greatest-le}
+use Rattle.rank_now.proofs.laws.Positions.{greatest-le}
 use Rattle.policy_pick.proofs.slow.slow_rank.Goals as goal
 
 pub overflow_sub-result : goal.overflow_sub-result

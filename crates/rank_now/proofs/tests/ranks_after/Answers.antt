@@ -4,8 +4,8 @@ use Rattle.std.proofs.lemmas.List.FromFn.{length-map-range_with_len}
 use Rattle.rank_now.specs.Ranking.{Ranking}
 use Rattle.rank_now.specs.Positions.{passes_at}
 use Rattle.rank_now.specs.Rank.{ranks, rank, index_of_point}
-use Rattle.rank_now.proofs.Schedule.{greatest-le}
-use Rattle.rank_now.proofs.Changes.{ranks-same, ranks-free}
+use Rattle.rank_now.proofs.laws.Positions.{greatest-le}
+use Rattle.rank_now.proofs.laws.GivenOnce.{ranks-same, ranks-free}
 use Rattle.rank_now.proofs.tests.ranks_after.Goals as goal
 use Rattle.rank_now.proofs.tests.ranks_after.Goals.{then-index-gt0, else-index-gt0}
 

@@ -1,7 +1,7 @@
 use Rattle.std.proofs.Common.{◌≡◌, ℕ, ◌+◌, ◌<◌, Bool, true, false, cond, ◌&&◌, nat_lt, eqb, List, length, get_or, ap, sym, ◌∙◌, arith}
 use Rattle.rank_now.specs.Positions.{greatest, passes_at}
 use Rattle.rank_now.specs.Rank.{index_of_point}
-use Rattle.rank_now.proofs.Schedule.{passes_at-read, greatest-more}
+use Rattle.rank_now.proofs.laws.Positions.{passes_at-read, greatest-more}
 use Rattle.rank_now.proofs.tests.slow_change.Goals as goal
 use Rattle.rank_now.proofs.tests.slow_change.Goals.{then-slow_test, else-slow_test}
 

@@ -2,7 +2,7 @@ use Rattle.std.proofs.Common.{◌≡◌, ℕ, ◌+◌, ◌-◌, sym, ap, ◌∙�
 use Rattle.script_tree.specs.Posts.{most_moves}
 use Rattle.script_code.specs.Listing.{listing}
 use Rattle.script_code.specs.Placed.{listing_of}
-use Rattle.script_code.proofs.Listings.{listing_at, ends}
+use Rattle.script_code.proofs.laws.Listings.{listing_at, ends}
 use Rattle.script_body.specs.Spots.{spot_of}
 use Rattle.script_body.specs.Waiting.{Settles}
 use Rattle.script_body.proofs.Steps.{most_is, the_stand, stand_moves, settled_post, settled_move_fault, settled_spin}

@@ -4,7 +4,7 @@ use Rattle.pct_ask.specs.declared.names.NameKind.TheVariants.{Thread}
 use Rattle.script_tree.specs.Fitting.{IsScript}
 use Rattle.script_tree.specs.ScriptParts.{thread}
 use Rattle.script_tree.specs.Rows.{spinner}
-use Rattle.script_tree.proofs.SeenLemmas.{block-parts, statement-While, expression-Number}
+use Rattle.script_tree.proofs.laws.SeenParts.{block-parts, statement-While, expression-Number}
 use Rattle.script_body.proofs.TestScripts.{spinner_sound, texts}
 use Rattle.script_body.proofs.tests.spinner.Goals as goal
 

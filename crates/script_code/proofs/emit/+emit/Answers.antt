@@ -2,7 +2,7 @@ use Rattle.std.proofs.Common.{◌≡◌, ℕ, ◌+◌, ◌<◌, ◌++◌, length
 use Rattle.script_tree.specs.Seen.{expression, statement, block}
 use Rattle.script_tree.specs.Fitting.{count_of, counts_of}
 use Rattle.script_tree.specs.declared.stmt.Stmt.{If, the_lemmas}
-use Rattle.script_tree.proofs.SeenLemmas.{statement-If, statement-IfElse, statement-While}
+use Rattle.script_tree.proofs.laws.SeenParts.{statement-If, statement-IfElse, statement-While}
 use Rattle.script_code.specs.Operations.{Test, operations}
 use Rattle.script_code.specs.Layout.{entry, codes_of}
 use Rattle.script_code.specs.Rest.{from}

@@ -1,4 +1,4 @@
-use Rattle.script_tree.proofs.SeenLemmas.{block-parts, statement-Start, statement-While, expression-Reg}
+use Rattle.script_tree.proofs.laws.SeenParts.{block-parts, statement-Start, statement-While, expression-Reg}
 use Rattle.script_code.proofs.tests.starting.Goals as goal
 
 pub returns : goal.returns

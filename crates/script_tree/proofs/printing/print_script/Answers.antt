@@ -8,7 +8,7 @@ use Rattle.script_tree.specs.Layout.{layout}
 use Rattle.script_tree.specs.Renumbering.{renumbered, IsShort}
 use Rattle.script_tree.specs.Printing.{printed, are_ranged}
 use Rattle.script_tree.proofs.DeclarationLemmas.{layout-printed}
-use Rattle.script_tree.proofs.PrintLaw.{layout_spells}
+use Rattle.script_tree.proofs.laws.Layouts.{layout_spells}
 use Rattle.script_tree.proofs.printing.print_script.Goals as goal
 
 pub returns-clause-layout : goal.returns-clause-layout

@@ -11,7 +11,7 @@ use Rattle.script_tree.specs.Grammar.{statement_lines, block_lines}
 use Rattle.script_tree.specs.Layout.{spaced, expression_text}
 use Rattle.script_tree.specs.Printing.{printed, are_ranged, is_ranged}
 use Rattle.script_tree.specs.declared.stmt.Stmt.TheVariants as stmts
-use Rattle.script_tree.proofs.SeenLemmas.{statement-While, statement-If, statement-IfElse}
+use Rattle.script_tree.proofs.laws.SeenParts.{statement-While, statement-If, statement-IfElse}
 use Rattle.script_tree.proofs.PrintLemmas.{one-printed, two-printed, ranged-block, are_ranged-append, lines_in, more-written, more-ranged, all-written, all-ranged}
 use Rattle.script_tree.proofs.printing_statements.+printing.Goals as goal
 use Rattle.script_tree.proofs.printing_statements.+printing.Goals.{push_statement-in-Some+in_ok-push_last-in-If+in_ok-push_statements-in-If-2, push_statement-in_default}

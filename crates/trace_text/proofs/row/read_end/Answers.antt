@@ -1,7 +1,7 @@
 -- The verdict's text is read as it is, and the first version leaves out what comes from read-write locks.
 use Rattle.std.proofs.Common.{sym, ◌∙◌}
 use Rattle.pct_ask.specs.VerdictWords.{words_of, verdict_of_words}
-use Rattle.pct_ask.proofs.VerdictReadLemmas.{ReadsAs-words}
+use Rattle.pct_ask.proofs.laws.VerdictsRead.{ReadsAs-words}
 use Rattle.trace_text.proofs.Ends.{end-none, end-left_out, end-other_text, end-other_version, end-misuse, end-other_verdict, end-verdict}
 use Rattle.trace_text.proofs.row.read_end.Goals as goal
 use Rattle.trace_text.proofs.row.read_end.Goals.{else-version-eq1-via-then-version-eq1+else-tells_reads, else-version-eq1-via-else-version-eq1, else-version-eq1-2-via-then-version-eq1-2+else-is_of_second, else-version-eq1-2-via-else-version-eq1-2}

@@ -2,7 +2,7 @@
 use Rattle.std.proofs.Common.{refl}
 use Rattle.pct_ask.specs.VerdictText.{verdict_text}
 use Rattle.pct_ask.specs.declared.verdict_text.VerdictRead.TheVariants.{Is}
-use Rattle.pct_ask.proofs.VerdictReadLemmas.{read-written}
+use Rattle.pct_ask.proofs.laws.VerdictsRead.{read-written}
 use Rattle.trace_text.proofs.Traces.{few-steps, all-steps}
 use Rattle.trace_text.proofs.laws.Objects.{has_objects}
 use Rattle.trace_text.proofs.tests.rewritten.Goals as goal

@@ -1,7 +1,7 @@
 -- A name that is pushed keeps the names lawful and distinct.
 use Rattle.std.proofs.Common.{◌∙◌}
 use Rattle.pct_ask.specs.declared.names.NameKind.TheVariants.{Thread, Var, Mutex, Cond, Sem, Barrier, RwLock}
-use Rattle.pct_ask.proofs.NameLemmas.{AreNames-push}
+use Rattle.pct_ask.proofs.laws.Names.{AreNames-push}
 use Rattle.pct_ask.proofs.names.Names.add.Goals as goal
 
 pub invariant_of-self : goal.invariant_of-self

@@ -1,6 +1,6 @@
 -- `==` is equality.
 use Rattle.std.proofs.Common.{sym, ◌∙◌}
-use Rattle.pct_ask.proofs.SameLemmas.{outcome-Decides}
+use Rattle.pct_ask.proofs.laws.SameVerdicts.{outcome-Decides}
 use Rattle.pct_ask.proofs.verdict.Outcome.is.Goals as goal
 
 pub returns : goal.returns

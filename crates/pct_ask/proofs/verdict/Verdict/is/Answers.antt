@@ -1,6 +1,6 @@
 -- `==` is equality.
 use Rattle.std.proofs.Common.{sym, ◌∙◌}
-use Rattle.pct_ask.proofs.SameLemmas.{verdict-Decides}
+use Rattle.pct_ask.proofs.laws.SameVerdicts.{verdict-Decides}
 use Rattle.pct_ask.proofs.verdict.Verdict.is.Goals as goal
 
 pub returns : goal.returns

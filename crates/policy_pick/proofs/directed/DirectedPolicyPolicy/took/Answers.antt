@@ -1,7 +1,7 @@
 use Rattle.std.proofs.Common.{◌≡◌, ◌+◌, ◌<◌, length, eqb, sym, ap, subst, ◌∙◌, arith}
 use Rattle.std.proofs.lemmas.List.{length_push, get_or_read}
 use Rattle.std.proofs.lemmas.List.Sums.{count_by-le-length}
-use Rattle.rank_now.proofs.Changes.{ranks_by_events-same, ranks_by_events-free}
+use Rattle.rank_now.proofs.laws.GivenOnce.{ranks_by_events-same, ranks_by_events-free}
 use Rattle.policy_pick.specs.Kept.{EventsKept, EventsStand}
 use Rattle.policy_pick.proofs.Moments.{own_counts-threads, own_counts-at, own_counts-after, step-is}
 use Rattle.policy_pick.proofs.directed.DirectedPolicyPolicy.took.Goals as goal

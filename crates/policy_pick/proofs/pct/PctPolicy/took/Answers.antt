@@ -2,8 +2,8 @@ use Rattle.std.proofs.Common.{◌≡◌, ◌+◌, length, eqb, sym, ap, subst, �
 use Rattle.std.proofs.lemmas.List.{length_push}
 use Rattle.rank_now.specs.Positions.{passes_at}
 use Rattle.rank_now.specs.Rank.{index_of_point}
-use Rattle.rank_now.proofs.Schedule.{greatest-le}
-use Rattle.rank_now.proofs.Changes.{ranks-same, ranks-free}
+use Rattle.rank_now.proofs.laws.Positions.{greatest-le}
+use Rattle.rank_now.proofs.laws.GivenOnce.{ranks-same, ranks-free}
 use Rattle.policy_pick.specs.Kept.{PointsKept, PointsStand}
 use Rattle.policy_pick.proofs.pct.PctPolicy.took.Goals as goal
 

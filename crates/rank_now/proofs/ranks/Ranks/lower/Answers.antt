@@ -1,8 +1,9 @@
 use Rattle.std.proofs.Common.{◌≡◌, ◌<◌, List, ℕ, length, ap, sym, subst, ◌∙◌, arith, set}
 use Rattle.std.proofs.lemmas.List.{with_items_is}
 use Rattle.rank_now.specs.Ranking.{Ranking, IsKept}
-use Rattle.rank_now.proofs.Places.{place-within, from-is, to-within, kept-after}
-use Rattle.rank_now.proofs.Changes.{ranks-step, ranks_by_events-step}
+use Rattle.rank_now.proofs.laws.PlacesByValue.{place-within}
+use Rattle.rank_now.proofs.Places.{from-is, to-within, kept-after}
+use Rattle.rank_now.proofs.laws.GivenOnce.{ranks-step, ranks_by_events-step}
 use Rattle.rank_now.proofs.ranks.Ranks.lower.Goals as goal
 
 pub shift-requires-clause-from : goal.shift-requires-clause-from

@@ -1,7 +1,7 @@
 use Rattle.std.proofs.Common.{refl, sym, subst, List, ℕ}
 use Rattle.rank_now.specs.Ranking.{IsKept}
 use Rattle.rank_now.proofs.Orders.{is-order, first-kept}
-use Rattle.rank_now.proofs.Changes.{ranks-first, ranks_by_events-first}
+use Rattle.rank_now.proofs.laws.GivenOnce.{ranks-first, ranks_by_events-first}
 use Rattle.rank_now.proofs.ranks.Ranks.new.Goals as goal
 
 pub first_values-requires-clause-order : goal.first_values-requires-clause-order

@@ -2,7 +2,7 @@ use Rattle.std.proofs.Common.{◌≡◌, ◌<◌, length, arith, subst}
 use Rattle.std.specs.Prelude.{slice_index_or}
 use Rattle.std.proofs.lemmas.List.{length-map}
 use Rattle.script_code.specs.Operations.{operations}
-use Rattle.script_code.proofs.Listings.{length_short, length_some}
+use Rattle.script_code.proofs.laws.Listings.{length_short, length_some}
 use Rattle.script_code.proofs.code.Code.end.Goals as goal
 
 pub overflow_cast-result : goal.overflow_cast-result

@@ -2,7 +2,7 @@ use Rattle.std.proofs.Common.{◌≡◌, ◌<◌, length, ap, arith, subst}
 use Rattle.std.specs.Prelude.{slice_index_or}
 use Rattle.std.proofs.lemmas.List.{length-map}
 use Rattle.script_code.specs.Operations.{operations, operation}
-use Rattle.script_code.proofs.Listings.{listing_is, placed_at}
+use Rattle.script_code.proofs.laws.Listings.{listing_is, placed_at}
 use Rattle.script_code.proofs.code.Code.flat.Goals as goal
 
 pub returns-clause-placed : goal.returns-clause-placed

@@ -1,4 +1,4 @@
-use Rattle.script_tree.proofs.SeenLemmas.{block-parts}
+use Rattle.script_tree.proofs.laws.SeenParts.{block-parts}
 use Rattle.script_parse.proofs.BlockLists.{popped}
 use Rattle.script_parse.proofs.reader.Reader.ended.Goals as goal
 

@@ -1,4 +1,4 @@
-use Rattle.script_tree.proofs.SeenLemmas.{statement-IfElse}
+use Rattle.script_tree.proofs.laws.SeenParts.{statement-IfElse}
 use Rattle.script_parse.proofs.reader.Reader.ended_by.Goals as goal
 
 pub returns-in-Else : goal.returns-in-Else

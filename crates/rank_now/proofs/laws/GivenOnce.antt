@@ -9,8 +9,8 @@ use Rattle.rank_now.specs.declared.moment.Moment.{Moment}
 use Rattle.rank_now.specs.Positions.{passes_at}
 use Rattle.rank_now.specs.Order.{IsOrder}
 use Rattle.rank_now.specs.Rank.{place_of, last_change, rank_by, index_of_point, own_steps, is_moment, index_of_moment, threads_of, ranks, ranks_by_events}
-use Rattle.rank_now.proofs.Orders.{place-within-order}
-use Rattle.rank_now.proofs.Schedule.{greatest-le, greatest-agree, greatest-passes, passes_at-append, passes_at-last, passes_at-agree, passes_at-both, ranks_by-same, ranks_by-step}
+use Rattle.rank_now.proofs.laws.Orders.{place-within-order}
+use Rattle.rank_now.proofs.laws.Positions.{greatest-le, greatest-agree, greatest-passes, passes_at-append, passes_at-last, passes_at-agree, passes_at-both, ranks_by-same, ranks_by-step}
 
 -- ---- a value that no step has given
 module _ (given : ℕ → ℕ) (count : ℕ) (order schedule : List ℕ) (is : IsOrder order) (value : ℕ) (low : value ≤ count) (new : (step : ℕ) → 0 < step → step ≤ length schedule → given step ≢ value) where

@@ -26,7 +26,8 @@ use Rattle.script_tree.specs.Renumbering.{renumbered, renumbered_threads, IsShor
 use Rattle.script_tree.proofs.Cuts.{IsCut, minus_cut}
 use Rattle.script_tree.proofs.ExpressionCuts.{decimal_cut, decimal_value}
 use Rattle.script_tree.proofs.FormCuts.{IsGoodValue}
-use Rattle.script_tree.proofs.PrintedLines.{numbered, numbered-append, AreFit, AreFit-append, are_lines, ArePlain, forms_are_plain, lines_of_text, IsShortLine, all_sound, is_header}
+use Rattle.script_tree.proofs.laws.PlainLines.{ArePlain, lines_of_text}
+use Rattle.script_tree.proofs.PrintedLines.{numbered, numbered-append, AreFit, AreFit-append, are_lines, forms_are_plain, IsShortLine, all_sound, is_header}
 use Rattle.script_tree.proofs.InnerLines.{are_ranged-parts, lawful_kind, thread_inner, threads_fit}
 use Rattle.script_tree.proofs.Renumbered.{threads_numbered, renumbered_length, threads_refit}
 use Rattle.script_tree.proofs.NamesPrinted.{tokens_are, ThreadsInner, AreRead, names_are, vars_are, sems_are, barriers_are}

@@ -23,10 +23,11 @@ use Rattle.pct_ask.specs.declared.verdict_text.VerdictRead.{VerdictRead}
 use Rattle.pct_ask.specs.declared.verdict_text.VerdictRead.TheVariants.{Is, NoForm, UnknownName}
 use Rattle.pct_ask.specs.declared.verdict_words.PlacedKind.{PlacedKind}
 use Rattle.pct_ask.specs.declared.verdict_words.PlacedKind.TheVariants.{Failure, Misused, Faulted}
-use Rattle.pct_ask.proofs.NameLemmas.{place_of-Some, place_of-thread, thread-lawful}
-use Rattle.pct_ask.proofs.WordLemmas.{IsSolid, AreSolid, words_of-join, join-words_of, solid-by, name-solid, decimal-solid}
+use Rattle.pct_ask.proofs.laws.Names.{place_of-Some, place_of-thread, thread-lawful}
+use Rattle.pct_ask.proofs.laws.SplitWords.{IsSolid, AreSolid, words_of-join, join-words_of, solid-by, name-solid, decimal-solid}
 use Rattle.pct_ask.proofs.VerdictWordLemmas.{line_number-decimal, line_number-Some}
-use Rattle.pct_ask.proofs.StuckLemmas.{stuck_places, stuck_words-places, stuck_words-read, stuck_places-rising, stuck_places-form, RiseFrom-increasing, increasing-RiseFrom, known_places, any_unknown, named_place, known-named, named-known, NoThread, unknown-any, any-unknown}
+use Rattle.pct_ask.proofs.laws.RisingPlaces.{RiseFrom-increasing, named_place}
+use Rattle.pct_ask.proofs.StuckLemmas.{stuck_places, stuck_words-places, stuck_words-read, stuck_places-rising, stuck_places-form, increasing-RiseFrom, known_places, any_unknown, known-named, named-known, NoThread, unknown-any, any-unknown}
 
 -- ---- the words of a verdict's text
 

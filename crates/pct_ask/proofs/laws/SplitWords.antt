@@ -11,7 +11,7 @@ use Rattle.pct_ask.specs.Characters.{is_letter, is_digit, is_word_byte}
 use Rattle.pct_ask.specs.Words.{is_name, is_among, keywords, registers}
 use Rattle.std.proofs.Common.{◌≡◌, ℕ, ◌+◌, ◌<◌, ◌≤◌, Bool, true, false, List, [], ◌∷◌, length, get_or, take, drop, zero, suc, Some, None, refl, ap, ◌∙◌, ◌^◌, arith, add-one}
 use Rattle.std.proofs.lemmas.List.Quantifiers.{position-Some}
-use Rattle.pct_ask.proofs.LineLemmas.{not-here, none-left}
+use Rattle.pct_ask.proofs.laws.Positions.{not-here, none-left}
 use Rattle.pct_ask.specs.VerdictWords.{words_of}
 
 and-left : (a b : Bool) → (a && b) ≡ true → a ≡ true

@@ -1,0 +1,9 @@
+-- Laws on this crate's definitions, made for other crates too.
+-- the greatest number that passes a test, and ranks by indices that agree
+pub mod Positions
+-- each index is given at one step at most, by change points and by moments
+pub mod GivenOnce
+-- a thread's place by its value
+pub mod PlacesByValue
+-- each thread's place is one of the order's
+pub mod Orders
