@@ -10,15 +10,15 @@ use Rattle.pct_ask.specs.declared.verdict.Outcome.{Outcome}
 use Rattle.turn_book.specs.Posts.{events_of, posts_of}
 use Rattle.turn_book.specs.Told.{Told, IsAnswered, next_post, standing_by, standing_of, post_of_event}
 use Rattle.turn_book.specs.declared.taken.Because.{Because}
-use Rattle.turn_book.proofs.PostLists.{events-own}
+use Rattle.turn_book.proofs.laws.OwnSteps.{events-own}
 use Rattle.turn_lock.specs.Seen.{SameOf, pairs_of, posted_by, owes_of}
 use Rattle.turn_lock.specs.Rule.{Serves}
 use Rattle.turn_lock.specs.Turns.{IsAsked, GainsPair, TookTurn, TookAtLast}
 use Rattle.turn_lock.specs.declared.turn.Turn.{Turn}
 use Rattle.turn_lock.specs.declared.turn.Turn.TheVariants.{Answer, Ended, NotYet, Busy, Over}
 use Rattle.turn_lock.specs.declared.view.View.{View}
-use Rattle.turn_lock.proofs.Orders.{within-along}
-use Rattle.turn_lock.proofs.Standings.{owes-length}
+use Rattle.turn_lock.proofs.laws.SeenBooks.{within-along}
+use Rattle.turn_lock.proofs.laws.Standings.{owes-length}
 use Rattle.body_kit.specs.declared.asked.Asked.{Asked}
 use Rattle.body_kit.specs.declared.asked.Asked.TheVariants as tells
 use Rattle.body_kit.specs.Asking.{ask_post, end_post, step_of, IsGiven, IsAnsweredAsk, IsToldOver, AskTells, IsEnded, GoesOn, as_turn}

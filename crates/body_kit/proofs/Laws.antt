@@ -11,7 +11,7 @@ use Rattle.turn_lock.specs.Rule.{Has, Serves}
 use Rattle.turn_lock.specs.Views.{view}
 use Rattle.turn_lock.specs.declared.seat.Seat.{Seat}
 use Rattle.turn_lock.specs.declared.view.View.{View}
-use Rattle.turn_lock.proofs.Orders.{within-along}
+use Rattle.turn_lock.proofs.laws.SeenBooks.{within-along}
 use Rattle.worker_run.specs.Played.{IsPlayed}
 use Rattle.worker_run.specs.Bodies.{Pending, IsInRangeBody, AreInRange}
 use Rattle.body_kit.specs.Asking.{GoesOn}

@@ -17,11 +17,11 @@ use Rattle.turn_lock.specs.Views.{view, IsOf}
 use Rattle.turn_lock.specs.declared.held.TurnLock.{TurnLock}
 use Rattle.turn_lock.specs.declared.seat.Seat.{Seat}
 use Rattle.turn_lock.specs.declared.view.View.{View}
-use Rattle.turn_lock.proofs.Cuts.{alone-one}
-use Rattle.turn_lock.proofs.Orders.{within-self}
+use Rattle.turn_lock.proofs.laws.Serving.{alone-one}
+use Rattle.turn_lock.proofs.laws.SeenBooks.{within-self}
 use Rattle.worker_run.specs.Served.{IsOver}
-use Rattle.worker_run.proofs.Over.{same-trace, later-ends}
-use Rattle.worker_run.proofs.Parting.{alone-has}
+use Rattle.worker_run.proofs.laws.RunsOver.{same-trace, later-ends}
+use Rattle.turn_lock.proofs.laws.Serving.{alone-has}
 use Rattle.body_kit.specs.declared.asked.Asked.{Asked}
 use Rattle.body_kit.specs.declared.asked.Asked.TheVariants.{Answer, Over}
 use Rattle.body_kit.specs.Asking.{step_of, end_post, IsGiven, IsToldOver, AskTells, IsEnded, GoesOn, over_of}

@@ -14,7 +14,7 @@ use Rattle.sync_store.specs.Store.{Sizes, sizes_of_deal}
 use Rattle.sync_store.specs.Enabled.{IsInRange}
 use Rattle.turn_book.specs.Told.{PostIsInRange}
 use Rattle.worker_run.specs.Samples.{sample_post, sample_pending}
-use Rattle.worker_run.proofs.Samples.{samples-within}
+use Rattle.worker_run.proofs.laws.SampleRanges.{samples-within}
 use Rattle.worker_run.specs.Bodies.{Pending, nobody, pending_of, AreInRange}
 use Rattle.trace_text.specs.Lawful.{HasObjects, IsHead, IsStepCount}
 use Rattle.kit_main.specs.Showing.{IsTestDeal, test_sizes, test_names, test_head, IsShowable}

@@ -13,7 +13,7 @@ use Rattle.trace_text.specs.declared.file.TraceFile.{TraceFile}
 use Rattle.worker_run.specs.Bodies.{Pending}
 use Rattle.worker_run.specs.Run.{run}
 use Rattle.worker_run.specs.Played.{IsPlayed}
-use Rattle.worker_run.proofs.Only.{only-played}
+use Rattle.worker_run.proofs.laws.OnePlayed.{only-played}
 use Rattle.worker_run.proofs.laws.WholeRuns.{run-played}
 use Rattle.replay_run.specs.declared.answer.Written.{Written}
 use Rattle.replay_run.specs.declared.answer.Written.TheVariants.{Event as WrittenEvent, Verdict as WrittenVerdict}

@@ -1,12 +1,11 @@
 -- What a book keeps, along its calls, and what follows of what it tells.
-use Rattle.std.proofs.Common.{◌≡◌, ◌≢◌, ℕ, ◌<◌, ◌≤◌, Bool, true, false, eqb, Option, Some, None, option_to_list, List, [], ◌∷◌, ◌++◌, length, set, replicate, refl, sym, ap, subst, ◌∙◌, arith, ◌⊎◌, inl, inr, eq-eqb}
+use Rattle.std.proofs.Common.{◌≡◌, ◌≢◌, ℕ, ◌<◌, ◌≤◌, Bool, true, false, eqb, Option, Some, None, option_to_list, List, [], ◌∷◌, ◌++◌, length, set, replicate, refl, sym, ap, subst, ◌∙◌, arith, inl, inr, eq-eqb}
 use Rattle.std.specs.Prelude.{slice_get, is_some}
-use Rattle.std.specs.Option.{option_map}
 use Rattle.std.specs.List.{All}
 use Rattle.std.proofs.lemmas.List.Elements.{All-get_or}
 use Rattle.std.proofs.lemmas.Option.{slice_get_within, get_or_from_slice_get}
 use Rattle.std.proofs.lemmas.Bool.{false≢true}
-use Rattle.std.proofs.lemmas.List.{length-append, length-replicate, length-set}
+use Rattle.std.proofs.lemmas.List.{length-replicate, length-set}
 use Rattle.pct_ask.specs.declared.ask.Ask.{Ask}
 use Rattle.pct_ask.specs.declared.ask.Post.{Post}
 use Rattle.pct_ask.specs.declared.Deal.{Deal}
@@ -29,57 +28,18 @@ use Rattle.policy_pick.specs.Laws.Finds.{found-or-none}
 use Rattle.policy_pick.specs.Laws.Walks.{open_at, number-stops, number-ends}
 use Rattle.turn_book.specs.Chances.{is_unknown, is_ended, chance_by, chance_of_post, chance, chances, rest_verdict}
 use Rattle.turn_book.specs.Posts.{schedule_of, posts_of, source_of, HasMore, KeepsPosts}
-use Rattle.turn_book.specs.Obeys.{choice_in, choice_after, Obeys, outcome_by_pick, outcome_by, settled}
+use Rattle.turn_book.specs.Obeys.{choice_after, Obeys, outcome_by_pick, outcome_by, settled}
 use Rattle.turn_book.specs.Told.{next_post, standing_by_ask, standing_by, standing_of, choice_of, IsLawful}
 use Rattle.turn_book.specs.Board.{BoardState, TakesStep, listed}
 use Rattle.turn_book.specs.Kept.{posts_by, told, IsAt, IsKept}
-use Rattle.turn_book.proofs.laws.Worlds.{map-some, cons-same, effect-is, Steps, IsMade, made-events, made-push}
+use Rattle.turn_book.proofs.laws.Worlds.{effect-is, Steps, IsMade, made-events, made-push}
 use Rattle.turn_book.proofs.laws.MorePosts.{choice-at, settled-at, obeys-more, made-more, chosen-ready, nobody-closed, departs-may}
 use Rattle.turn_book.proofs.Boards.{chance-at, length-chances, nothing-posted}
 use Rattle.turn_book.specs.Answers.{MayWait}
 use Rattle.turn_book.proofs.Takes.{may-wait}
-use Rattle.turn_book.proofs.PostLists.{made, length-posts, next-is, posts-are, posts-posted, posts-taken, more-keeps, set-more}
-
--- ---- steps that obey
-pub nil-cut : {X : Type 0} (before after : List X) (x : X) → [] ≡ before ++ x ∷ after → ⊥
-nil-cut [] after x e = cc
-nil-cut (y ∷ before) after x e = cc
-
--- a list with one more item, cut: behind that item, or before it
-snoc-cut : (events : List Event) (e : Event) (before after : List Event) (f : Event) → events ++ e ∷ [] ≡ before ++ f ∷ after → ((before ≡ events) × (f ≡ e)) ⊎ ((rest : List Event) × (events ≡ before ++ f ∷ rest))
-snoc-cut [] e [] after f cut = inl (refl, sym ((cons-same e f [] after cut).0))
-snoc-cut [] e (b ∷ before) after f cut = absurd (nil-cut before after f ((cons-same e b [] (before ++ f ∷ after) cut).1))
-snoc-cut (x ∷ events) e [] after f cut = inr (events, ap (λ y. y ∷ events) ((cons-same x f (events ++ e ∷ []) after cut).0))
-snoc-cut (x ∷ events) e (b ∷ before) after f cut =
-    let parts = cons-same x b (events ++ e ∷ []) (before ++ f ∷ after) cut in
-    elim (snoc-cut events e before after f parts.1) [
-      | inl w ↦ inl (ap (λ y. y ∷ before) (sym parts.0) ∙ ap (λ l. x ∷ l) w.0, w.1)
-      | inr w ↦ inr (w.0, ap (λ y. y ∷ events) parts.0 ∙ ap (λ l. b ∷ l) w.1)
-    ]
-
-module _ (plan : Plan) (deal : Deal) (source : Source) (limit : ℕ) where
-  -- the thread of each step is one of the deal's
-  pub obeys-within : (events : List Event) → SpeaksOf plan deal.threads → Obeys plan deal source limit events → (e : Event) (before after : List Event) → events ≡ before ++ e ∷ after → e.thread < deal.threads
-  obeys-within events speaks obeys e before after cut =
-      let w = map-some (choice_in plan deal.threads source (schedule_of before)) (world_after (first deal) source (schedule_of before)) (Thread e.thread) (obeys.chosen before after e cut) in
-      let all = chances deal.threads (w.0).store (λ t. source t (w.0).events) in
-      let long = length-chances deal.threads (w.0).store (λ t. source t (w.0).events) in
-      let Speaks : ℕ → Type 0 = SpeaksOf plan in
-      omega (arith, (chosen-ready plan (schedule_of before) all e.thread (subst Speaks (sym long) speaks) w.2).0)
-
-  pub obeys-push : (events : List Event) (e : Event) → Obeys plan deal source limit events → choice_after plan deal source (schedule_of events) ≡ Some (Thread e.thread)
-      → option_map (λ world. world.events) (world_after (first deal) source (schedule_of (events ++ e ∷ []))) ≡ Some (events ++ e ∷ []) → length events < limit → Obeys plan deal source limit (events ++ e ∷ [])
-  obeys-push events e obeys chosen made room = record {
-    chosen = λ before after f cut. elim (snoc-cut events e before after f cut) [
-      | inl w ↦ ap (λ es. choice_after plan deal source (schedule_of es)) w.0 ∙ chosen ∙ ap (λ (x : Event). Some (Thread x.thread)) (sym w.1)
-      | inr w ↦ obeys.chosen before w.0 f w.1
-    ];
-    made = made;
-    within = omega (arith, length-append events (e ∷ []));
-  }
-
-  pub obeys-none : Obeys plan deal source limit []
-  obeys-none = record { chosen = λ before after e cut. absurd (nil-cut before after e cut); made = refl; within = omega arith }
+use Rattle.turn_book.proofs.laws.OwnSteps.{more-keeps}
+use Rattle.turn_book.proofs.PostLists.{made, length-posts, next-is, posts-are, posts-posted, posts-taken, set-more}
+use Rattle.turn_book.proofs.laws.ObeyingSteps.{obeys-within, obeys-push, obeys-none}
 
 -- ---- the world of a book
 module _ (plan : Plan) (deal : Deal) (board : BoardState) (events : List Event) where

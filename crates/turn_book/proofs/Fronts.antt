@@ -7,8 +7,8 @@ use Rattle.pct_ask.specs.declared.event.Event.{Event}
 use Rattle.pct_ask.specs.declared.verdict.Outcome.{Outcome}
 use Rattle.turn_book.specs.Posts.{source_of}
 use Rattle.turn_book.specs.Told.{Told, IsLawful, IsRunOver}
-use Rattle.turn_book.proofs.PostLists.{more-keeps}
-use Rattle.turn_book.proofs.Prefix.{IsFrontOf, front-of}
+use Rattle.turn_book.proofs.laws.OwnSteps.{more-keeps}
+use Rattle.turn_book.proofs.laws.Prefixes.{IsFrontOf, front-of}
 
 some-outcome : (o : Option Outcome) → IsSome o → (outcome : Outcome) × (o ≡ Some outcome)
 some-outcome None is = absurd (false≢true is)

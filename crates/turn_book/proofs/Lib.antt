@@ -1,4 +1,3 @@
-pub mod Prefix
 pub mod Boards
 pub mod PostLists
 pub mod Books

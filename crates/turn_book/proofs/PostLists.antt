@@ -1,27 +1,15 @@
 -- The posts of each thread, from the steps and the next posts.
-use Rattle.std.proofs.Common.{◌≡◌, ◌≢◌, ℕ, zero, suc, ◌+◌, ◌<◌, cond, eqb, Option, Some, None, option_to_list, List, [], ◌∷◌, ◌++◌, length, get_or, set, map, replicate, refl, sym, ap, ◌∙◌, arith, inl, inr, eq-eqb, ne_eqb}
+use Rattle.std.proofs.Common.{◌≡◌, ◌≢◌, ℕ, zero, suc, ◌+◌, ◌<◌, cond, Option, Some, None, option_to_list, List, [], ◌∷◌, ◌++◌, length, get_or, set, map, replicate, refl, sym, ap, ◌∙◌, arith, inl, inr, ne_eqb}
 use Rattle.std.specs.Prelude.{slice_get}
-use Rattle.std.specs.List.{filter}
 use Rattle.std.proofs.lemmas.Bool.{cases_lt, cases_eq}
 use Rattle.std.proofs.lemmas.List.{append-nil, map-append, length-map, get_or_past, get_or-set_other, get_or-set_same}
-use Rattle.std.proofs.lemmas.List.Elements.{filter-append}
 use Rattle.pct_ask.specs.declared.ask.Post.{Post}
 use Rattle.pct_ask.specs.declared.event.Event.{Event}
-use Rattle.turn_book.specs.Posts.{events_of, posts_of, source_of, HasMore, KeepsPosts}
+use Rattle.turn_book.specs.Posts.{events_of, posts_of, source_of, HasMore}
 use Rattle.turn_book.specs.Told.{post_of_event}
 use Rattle.turn_book.specs.Board.{listed}
 use Rattle.turn_book.specs.Kept.{posts_from, posts_by}
-
--- ---- a thread's own steps
-pub events-own : (t : ℕ) (events : List Event) (e : Event) → e.thread ≡ t → events_of t (events ++ e ∷ []) ≡ events_of t events ++ e ∷ []
-events-own t events e own =
-    let one : filter (λ x. eqb x.thread t) (e ∷ []) ≡ e ∷ [] = ap (λ b. cond b (e ∷ []) []) (eq-eqb e.thread t own) in
-    filter-append (λ (x : Event). eqb x.thread t) events (e ∷ []) ∙ ap (λ es. events_of t events ++ es) one
-
-pub events-other : (t : ℕ) (events : List Event) (e : Event) → e.thread ≢ t → events_of t (events ++ e ∷ []) ≡ events_of t events
-events-other t events e apart =
-    let none : filter (λ x. eqb x.thread t) (e ∷ []) ≡ [] = ap (λ b. cond b (e ∷ []) []) (ne_eqb e.thread t apart) in
-    filter-append (λ (x : Event). eqb x.thread t) events (e ∷ []) ∙ ap (λ es. events_of t events ++ es) none ∙ append-nil (events_of t events)
+use Rattle.turn_book.proofs.laws.OwnSteps.{events-own, events-other}
 
 abbrev pub made : ℕ → List Event → List Post
 made t events = map post_of_event (events_of t events)
@@ -106,16 +94,6 @@ posts-take events k (suc i) e (p ∷ next) at within asks =
 
 pub posts-taken : (events : List Event) (next : List (Option Post)) (t : ℕ) (e : Event) → e.thread ≡ t → t < length next → listed next t ≡ Some (post_of_event e) → posts_by (events ++ e ∷ []) (set next t None) ≡ posts_by events next
 posts-taken events next t e own within asks = posts-take events 0 t e next (omega arith) within asks
-
--- ---- more posts
-slice_get-more : {X : Type 0} (xs more : List X) (n : ℕ) (x : X) → slice_get xs n ≡ Some x → slice_get (xs ++ more) n ≡ Some x
-slice_get-more [] more n x e = absurd cc
-slice_get-more (y ∷ xs) more zero x e = e
-slice_get-more (y ∷ xs) more (suc n) x e = slice_get-more xs more n x e
-
-pub more-keeps : (events : List Event) (earlier later : List (List Post)) → HasMore earlier later → KeepsPosts events (source_of earlier) (source_of later)
-more-keeps events earlier later more before after t post cut e =
-    ap (λ ps. slice_get ps (length (events_of t before))) (more t).1 ∙ slice_get-more (posts_of earlier t) (more t).0 (length (events_of t before)) post e
 
 pub set-more : (posts : List (List Post)) (t : ℕ) (post : Post) → t < length posts → HasMore posts (set posts t (posts_of posts t ++ post ∷ []))
 set-more posts t post within u = elim (cases_eq u t) [

@@ -6,7 +6,8 @@ use Rattle.turn_book.specs.Posts.{events_of, posts_of, source_of, HasMore}
 use Rattle.turn_book.specs.Obeys.{Obeys}
 use Rattle.turn_book.specs.Told.{Told, SameMaking, IsPosted, IsAnswered, IsLawful, Within}
 use Rattle.turn_book.proofs.laws.MorePosts.{obeys-more}
-use Rattle.turn_book.proofs.PostLists.{more-keeps, set-more, events-own, events-other}
+use Rattle.turn_book.proofs.laws.OwnSteps.{more-keeps, events-own, events-other}
+use Rattle.turn_book.proofs.PostLists.{set-more}
 
 pub same-making : (book : Told) → SameMaking book book
 same-making book = record { deal = refl; limit = refl; plan = refl }

@@ -3,3 +3,9 @@
 pub mod Worlds
 -- what stays as more posts become known
 pub mod MorePosts
+-- of two lists of steps that obey one plan one begins with the other
+pub mod Prefixes
+-- steps that obey a plan: none, one more, and of whom they are
+pub mod ObeyingSteps
+-- a thread's own steps, and more of its posts
+pub mod OwnSteps

@@ -1,43 +1,23 @@
 -- A seat is cut in two, two seats are made one, and a load tells what the rule says of the last join.
-use Rattle.std.proofs.Common.{◌≡◌, ◌≢◌, ℕ, zero, suc, Bool, true, false, ◌⊎◌, List, [], ◌∷◌, ◌++◌, length, get_or, set, replicate, sym, refl, ap, ◌∙◌, subst, inl, inr, ⊎_elim, length-set, get_or-set_other}
+use Rattle.std.proofs.Common.{◌≡◌, ◌≢◌, ℕ, zero, suc, true, false, ◌⊎◌, List, [], ◌∷◌, ◌++◌, length, get_or, set, sym, refl, ap, ◌∙◌, subst, inl, inr, ⊎_elim, length-set}
 use mathlib.Core.Option.{none, some, some-injective, some-ne-none}
-use mathlib.Core.Logic.{dite}
-use native.Mathlib.Decide.{ℕ_discrete}
 use lib.ListN.{get_elem?}
 use Rattle.atomic_table.specs.Table.{step, keeps, Allows, Splits, Joins}
 use Rattle.atomic_table.proofs.Lists.{at_set, set_else, at_longer, at_snoc}
 use Rattle.turn_book.specs.Told.{Told}
 use Rattle.turn_lock.specs.Seen.{SameOf}
-use Rattle.turn_lock.specs.Rule.{Has, Serves, Ties, HoldsGate, Kept, spent_view}
+use Rattle.turn_lock.specs.Rule.{Serves, Ties, HoldsGate, Kept, spent_view}
 use Rattle.turn_lock.specs.Plays.{Seated, Looks}
-use Rattle.turn_lock.specs.Seats.{without, alone, either_of, seen_together, joined}
+use Rattle.turn_lock.specs.Seats.{without, alone, seen_together, joined}
 use Rattle.turn_lock.specs.declared.view.View.{View}
-use Rattle.turn_lock.proofs.Orders.{within-self, same-back, same-between, meets, Meets}
-use Rattle.turn_lock.proofs.Keeps.{not_both, none_has, each, not-holder, unmoved}
+use Rattle.turn_lock.proofs.laws.SeenBooks.{within-self, same-back, same-between, meets, Meets}
+use Rattle.turn_lock.proofs.laws.Serving.{not_both, none_has}
+use Rattle.turn_lock.proofs.Keeps.{each, not-holder, unmoved}
+use Rattle.turn_lock.proofs.laws.Serving.{alone-one, without-not, without-had, either-serves}
 
 pub looks : (made : Told) (slots id : ℕ) (m : Seated) → m.0.live ≡ true → m.0.held ≡ false → Allows (Kept made) slots id m 0 (λ n. n) (Looks (step slots 0 0 0 none) m)
 looks made slots id m live idle s k long at small = let tied : Ties m.0 k.slot.book = k.ties id m.0 at live in
     (m.0, keeps, tt, unmoved made s k id m.0 m.0 at refl refl idle idle (λ _. tied), record { same = refl; obeys = tied.obeys; left = tied.left; right = tied.right; left_own = tied.left_own; right_own = tied.right_own })
-
--- ---- which threads the two parts serve
-none-true : (n i : ℕ) → get_or (replicate n false) i false ≡ false
-none-true zero i = refl
-none-true (suc n) zero = refl
-none-true (suc n) (suc i) = none-true n i
-
-pub alone-one : (v : View) (t u : ℕ) → Serves (alone v t) u → u ≡ t
-alone-one v t u h = dite (ℕ_discrete u t) (λ e. e) (λ ne. let other = get_or-set_other (replicate 64 false) t u true false ne in absurd (not_both (get_or (alone v t).serves u false) h (other ∙ none-true 64 u)))
-
-unset : (l : List Bool) (i : ℕ) → get_or (set l i false) i false ≡ false
-unset [] i = refl
-unset (x ∷ l) zero = refl
-unset (x ∷ l) (suc i) = unset l i
-
-pub without-not : (v : View) (t u : ℕ) → Serves (without v t) u → u ≢ t
-without-not v t u h e = not_both (get_or (set v.serves t false) u false) h (ap (λ (n : ℕ). get_or (set v.serves t false) n false) e ∙ unset v.serves t)
-
-pub without-had : (v : View) (t u : ℕ) → Serves (without v t) u → Serves v u
-without-had v t u h = sym (get_or-set_other v.serves t u false false (without-not v t u h)) ∙ h
 
 -- ---- the views after a cut
 at_end : {A : Type 0} (l : List A) (a b : A) (j : ℕ) → get_elem? (l ++ a ∷ []) j ≡ some b → (get_elem? l j ≡ some b) ⊎ ((j ≡ length l) × (a ≡ b))
@@ -112,28 +92,6 @@ splits made id v t live idle mine s k at =
           let one : o.from ≡ r.from = k.apart o.from r.from o.view r.view n o.at r.at o.serves r.serves in
           ⊎_elim (λ c. ⊎_elim (λ d. c.0 ∙ one ∙ sym d.0) (λ d. absurd (c.1 (one ∙ d.2) d.1)) r.is) (λ c. ⊎_elim (λ d. absurd (d.1 (sym one ∙ c.2) c.1)) (λ d. c.0 ∙ sym d.0) r.is) o.is;
     }
-
--- ---- which threads the joined seat serves
-pub either-serves : (xs ys : List Bool) (t : ℕ) → Has (either_of xs ys) t → Has xs t ⊎ Has ys t
-either-serves [] ys t h = inr h
-either-serves (x ∷ xs) [] t h = inl h
-either-serves (true ∷ xs) (y ∷ ys) zero h = inl refl
-either-serves (false ∷ xs) (y ∷ ys) zero h = inr h
-either-serves (x ∷ xs) (y ∷ ys) (suc t) h = either-serves xs ys t h
-
-pub serves-left : (xs ys : List Bool) (t : ℕ) → Has xs t → Has (either_of xs ys) t
-serves-left [] ys t h = absurd (not_both false h refl)
-serves-left (x ∷ xs) [] t h = h
-serves-left (true ∷ xs) (y ∷ ys) zero h = refl
-serves-left (false ∷ xs) (y ∷ ys) zero h = absurd (not_both false h refl)
-serves-left (x ∷ xs) (y ∷ ys) (suc t) h = serves-left xs ys t h
-
-pub serves-right : (xs ys : List Bool) (t : ℕ) → Has ys t → Has (either_of xs ys) t
-serves-right [] ys t h = h
-serves-right (x ∷ xs) [] t h = absurd (not_both false h refl)
-serves-right (true ∷ xs) (y ∷ ys) zero h = refl
-serves-right (false ∷ xs) (y ∷ ys) zero h = h
-serves-right (x ∷ xs) (y ∷ ys) (suc t) h = serves-right xs ys t h
 
 -- ---- the views after a join
 spent-none : (n : ℕ) → Serves spent_view n → ⊥

@@ -9,7 +9,7 @@ use Rattle.pct_ask.specs.declared.event.Event.{Event}
 use Rattle.pct_ask.specs.declared.verdict.Outcome.{Outcome}
 use Rattle.turn_book.specs.Posts.{events_of}
 use Rattle.turn_book.specs.Told.{Told, IsPosted, IsAnswered, IsLawful, Within}
-use Rattle.turn_book.proofs.PostLists.{events-own, events-other}
+use Rattle.turn_book.proofs.laws.OwnSteps.{events-own, events-other}
 use Rattle.turn_lock.specs.Seen.{Begins, SameOf, pairs_of, posted_by}
 use Rattle.turn_lock.specs.Slots.{Slot, NotesBelow}
 use Rattle.turn_lock.specs.Rule.{Serves, Ties}
@@ -19,7 +19,7 @@ use Rattle.turn_lock.specs.Hands.{GoesOn}
 use Rattle.turn_lock.specs.declared.turn.Turn.{Turn}
 use Rattle.turn_lock.specs.declared.turn.Turn.TheVariants.{Answer, Ended, NotYet, Busy, Over}
 use Rattle.turn_lock.specs.declared.view.View.{View}
-use Rattle.turn_lock.proofs.Orders.{within-self, within-along, same-self, same-along}
+use Rattle.turn_lock.proofs.laws.SeenBooks.{within-self, within-along, same-self, same-along}
 
 -- the book grew, by the thread t alone
 pub record Grew (t : ℕ) (old new : Told) : Type 0 where

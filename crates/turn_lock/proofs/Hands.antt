@@ -17,9 +17,9 @@ use Rattle.turn_lock.specs.declared.turn.Turn.{Turn}
 use Rattle.turn_lock.specs.declared.turn.Turn.TheVariants.{Answer, Ended, NotYet, Busy, Over}
 use Rattle.turn_lock.specs.declared.view.View.{View}
 use Rattle.turn_lock.specs.declared.work.Work.{Work}
-use Rattle.turn_lock.proofs.Orders.{begins-self}
+use Rattle.turn_lock.proofs.laws.SeenBooks.{begins-self}
 use Rattle.turn_lock.proofs.Growth.{took, goes, goes-back}
-use Rattle.turn_lock.proofs.Standings.{same-owes}
+use Rattle.turn_lock.proofs.laws.Standings.{same-owes}
 
 -- ---- what a seat may do that took the slot
 owed-in : (t : ℕ) (seen book : Told) (post : Option Post) → SameOf t seen book → IsOwed seen t post → IsOwed book t post

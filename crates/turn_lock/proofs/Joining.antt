@@ -7,8 +7,8 @@ use Rattle.turn_lock.specs.Seen.{SameOf, owes_of}
 use Rattle.turn_lock.specs.Rule.{Has}
 use Rattle.turn_lock.specs.Seats.{either_of, alone}
 use Rattle.turn_lock.specs.declared.view.View.{View}
-use Rattle.turn_lock.proofs.Cuts.{either-serves, alone-one}
-use Rattle.turn_lock.proofs.Standings.{same-owes}
+use Rattle.turn_lock.proofs.laws.Serving.{either-serves, alone-one}
+use Rattle.turn_lock.proofs.laws.Standings.{same-owes}
 
 -- ---- a seat for one thread
 pub threads-alone : (v : View) (t n : ℕ) → t < n → (u : ℕ) → Has (alone v t).serves u → u < n

@@ -17,24 +17,16 @@ use Rattle.turn_lock.specs.Rule.{LockState, Has, Serves, Ties, HoldsGate, Holder
 use Rattle.turn_lock.specs.Plays.{Seated, with_gate, turned_away, with_book, Grabs, Opens}
 use Rattle.turn_lock.specs.Hands.{GoesOn}
 use Rattle.turn_lock.specs.declared.view.View.{View}
-use Rattle.turn_lock.proofs.Orders.{within-self, within-along, same-self, same-along, making-self, making-along}
+use Rattle.turn_lock.proofs.laws.SeenBooks.{within-self, within-along, same-self, same-along, making-self, making-along}
+use Rattle.turn_lock.proofs.laws.Serving.{not_both, none_has, serves-along}
 
 abbrev pub state : List ℕ → List (Option Slot) → List View → LockState
 state words homes views = record { words = words; homes = homes; views = views }
-
-pub not_both : (b : Bool) → b ≡ true → b ≡ false → ⊥
-not_both b p q = let e : true ≡ false = sym p ∙ q in cc
-
-pub none_has : {X : Type 0} (t : ℕ) → Has [] t → X
-none_has t h = absurd (not_both false h refl)
 
 pub set_at : {A : Type 0} (l : List A) (i : ℕ) (a b : A) → get_elem? l i ≡ some a → get_elem? (set l i b) i ≡ some b
 set_at [] i a b e = absurd (some-ne-none a (sym e))
 set_at (x ∷ xs) zero a b e = refl
 set_at (x ∷ xs) (suc i) a b e = set_at xs i a b e
-
-pub serves-along : (t : ℕ) (u v : View) → u.serves ≡ v.serves → Serves u t → Serves v t
-serves-along t u v e h = subst (λ (l : List Bool). Has l t) e h
 
 -- two deals of one making have as many threads
 pub as-many : (a b c : Told) → SameMaking a c → SameMaking b c → a.deal.threads ≡ b.deal.threads

@@ -1,8 +1,6 @@
-pub mod Orders
 pub mod Boards
 pub mod Keeps
 pub mod Cuts
-pub mod Standings
 pub mod Rows
 pub mod Sweeps
 pub mod Hands
@@ -12,3 +10,4 @@ pub mod Joining
 pub mod Waiting
 pub mod Growth
 pub mod Waking
+pub mod laws

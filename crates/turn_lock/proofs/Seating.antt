@@ -1,5 +1,5 @@
 -- What the flags of a seat tell.
-use Rattle.std.proofs.Common.{ℕ, ◌<◌, List, Bool, sym, subst}
+use Rattle.std.proofs.Common.{ℕ, List, Bool, sym, subst}
 use Rattle.policy_pick.specs.declared.policy.Policy.{Ghosts}
 use Rattle.turn_lock.specs.Rule.{Has, Serves}
 use Rattle.turn_lock.specs.Views.{view}
@@ -11,6 +11,3 @@ module _ {P : Type 0} {policy : Ghosts P} (seat : Seat P policy) (t : ℕ) where
 
   pub from-flag : Has seat.serves t → Serves (view seat) t
   from-flag h = subst (λ (l : List Bool). Has l t) seat.served h
-
-  pub inside : Serves (view seat) t → t < (view seat).seen.deal.threads
-  inside h = seat.threads t (to-flag h)

@@ -16,7 +16,7 @@ use Rattle.turn_lock.specs.declared.turn.Turn.TheVariants.{Answer, Ended, NotYet
 use Rattle.turn_lock.specs.declared.work.Wakes.TheVariants.{Nobody}
 use Rattle.turn_lock.specs.declared.work.Work.{Work}
 use Rattle.turn_lock.proofs.Growth.{grew-turn}
-use Rattle.turn_lock.proofs.Standings.{away, away-owes}
+use Rattle.turn_lock.proofs.laws.Standings.{away, away-owes}
 
 pub noted-is : (threads : ℕ) (board : Board) (t : ℕ) (noted : Option ℕ) → noted ≡ word_noted board t → NotesBelow threads board → IfSome noted (λ word. (word_noted board t ≡ Some word) × (word < threads))
 noted-is threads board t None is notes = tt

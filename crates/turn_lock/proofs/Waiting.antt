@@ -11,8 +11,8 @@ use Rattle.turn_lock.specs.Hands.{Stays}
 use Rattle.turn_lock.specs.declared.turn.Turn.{Turn}
 use Rattle.turn_lock.specs.declared.turn.Turn.TheVariants.{Answer, Ended, NotYet, Busy, Over}
 use Rattle.turn_lock.specs.declared.view.View.{View}
-use Rattle.turn_lock.proofs.Orders.{begins-self, begins-along, within-self, within-along, same-self, same-along}
-use Rattle.turn_lock.proofs.Standings.{same-owes}
+use Rattle.turn_lock.proofs.laws.SeenBooks.{begins-self, begins-along, within-self, within-along, same-self, same-along}
+use Rattle.turn_lock.proofs.laws.Standings.{same-owes}
 
 pub stays-self : (v : View) → Stays v v
 stays-self v = record { seen = within-self v.seen; own = λ t _. same-self t v.seen; serves = refl; takes = le_refl v.takes; turned = begins-self v.turned }

@@ -26,11 +26,11 @@ use Rattle.turn_book.specs.Chances.{chance, chances, rest_verdict}
 use Rattle.turn_book.specs.Posts.{schedule_of}
 use Rattle.turn_book.specs.Obeys.{next_in, choice_in, Obeys, outcome_by_pick, outcome_by}
 use Rattle.turn_book.proofs.laws.Worlds.{IsMade, made-from, passes}
-use Rattle.turn_book.proofs.Books.{obeys-within}
+use Rattle.turn_book.proofs.laws.ObeyingSteps.{obeys-within}
 use Rattle.turn_book.proofs.laws.MorePosts.{choice-at, settled-at, chosen-ready, nobody-closed, departs-may}
 use Rattle.worker_run.specs.Bodies.{Pending, pending_of, source_of_bodies}
 use Rattle.worker_run.specs.Played.{IsPlayed}
-use Rattle.worker_run.proofs.Known.{known-at, bodies-no-wait, ready-by}
+use Rattle.worker_run.proofs.laws.KnownPosts.{known-at, bodies-no-wait, ready-by}
 
 get-middle : {X : Type 0} (xs : List X) (y : X) (zs : List X) → slice_get (xs ++ y ∷ zs) (length xs) ≡ Some y
 get-middle [] y zs = refl

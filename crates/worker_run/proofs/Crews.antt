@@ -9,14 +9,14 @@ use Rattle.turn_book.specs.Told.{Told, IsLawful, Within, standing_by, standing_o
 use Rattle.turn_lock.specs.Seen.{SameOf, ObeysPlan, pairs_of, posted_by, owes_of}
 use Rattle.turn_lock.specs.Rule.{Serves}
 use Rattle.turn_lock.specs.declared.view.View.{View}
-use Rattle.turn_lock.proofs.Keeps.{serves-along}
-use Rattle.turn_lock.proofs.Standings.{same-owes}
-use Rattle.turn_lock.proofs.Orders.{within-self, within-along, same-self, same-along}
+use Rattle.turn_lock.proofs.laws.Serving.{serves-along}
+use Rattle.turn_lock.proofs.laws.Standings.{same-owes}
+use Rattle.turn_lock.proofs.laws.SeenBooks.{within-self, within-along, same-self, same-along}
 use Rattle.worker_run.specs.Bodies.{Pending}
 use Rattle.worker_run.specs.declared.runner.Runner.{Runner}
 use Rattle.worker_run.specs.Served.{Follows, IsRunning, runner_at, IsCrew, AllOwe, GoesOn, Moves, IsOver, StaysOutside, IsServed}
 use Rattle.worker_run.proofs.Running.{follows-same, running-same}
-use Rattle.worker_run.proofs.Over.{speaks-later, over-later}
+use Rattle.worker_run.proofs.laws.RunsOver.{speaks-later, over-later}
 
 -- ---- the seat goes on
 pub on-self : (v : View) → GoesOn v v

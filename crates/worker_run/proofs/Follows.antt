@@ -22,7 +22,7 @@ use Rattle.turn_book.proofs.laws.MorePosts.{choice-at, settled-at}
 use Rattle.worker_run.specs.Bodies.{Pending, source_of_bodies}
 use Rattle.worker_run.specs.Run.{Setting, Over, Goes, next_of, next_thread, next_after, cut_at, go_on, run_from, run, directed}
 use Rattle.worker_run.specs.Played.{IsPlayed, IsRun}
-use Rattle.worker_run.proofs.Known.{pick_of, pick_of-thread, points-pick, events-pick}
+use Rattle.worker_run.proofs.laws.KnownPosts.{pick_of, pick_of-thread, points-pick, events-pick}
 
 module _ (plan : Plan) (deal : Deal) (bodies : List Pending) (rank_after : List ℕ → ℕ → ℕ) where
   abbrev setting : Setting

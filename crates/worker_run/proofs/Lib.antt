@@ -1,8 +1,5 @@
-pub mod Known
 pub mod Follows
-pub mod Only
 pub mod Running
-pub mod Over
 pub mod Crews
 pub mod Parting
 pub mod Plays

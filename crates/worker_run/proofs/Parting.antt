@@ -10,22 +10,15 @@ use Rattle.turn_lock.specs.Seen.{SameOf, ObeysPlan, posted_by}
 use Rattle.turn_lock.specs.Rule.{Serves}
 use Rattle.turn_lock.specs.Seats.{without, alone, joined, longer, longer_posts}
 use Rattle.turn_lock.specs.declared.view.View.{View}
-use Rattle.turn_lock.proofs.Cuts.{alone-one, without-not, without-had, either-serves, serves-left, serves-right}
-use Rattle.turn_lock.proofs.Standings.{same-owes}
-use Rattle.turn_lock.proofs.Orders.{within-self, within-along}
+use Rattle.turn_lock.proofs.laws.Serving.{alone-one, alone-has, without-not, without-had, without-has, joined-left, joined-right, joined-either}
+use Rattle.turn_lock.proofs.laws.Standings.{same-owes}
+use Rattle.turn_lock.proofs.laws.SeenBooks.{within-self, within-along}
 use Rattle.worker_run.specs.Bodies.{Pending, IsInRangeBody}
 use Rattle.worker_run.specs.declared.runner.Runner.{Runner}
 use Rattle.worker_run.specs.Served.{IsUnposted, IsWhole, IsRunning, runner_at, IsCrew, AllOwe, StaysOutside, IsServed}
 use Rattle.worker_run.specs.Handed.{ArePaired}
 use Rattle.worker_run.proofs.Running.{running-same}
 use Rattle.worker_run.proofs.Crews.{runner-within, served-wider, served-later, own-thread}
-
--- ---- which threads the two parts of a seat serve
-pub alone-has : (v : View) (t : ℕ) → t < 64 → Serves (alone v t) t
-alone-has v t below = get_or-set_same (replicate 64 false) t true false (omega (arith, length-replicate 64 false))
-
-pub without-has : (v : View) (t u : ℕ) → u ≢ t → Serves v u → Serves (without v t) u
-without-has v t u apart here = get_or-set_other v.serves t u false false apart ∙ here
 
 -- ---- split off
 module _ {B : Type 0} (pending : B → Pending) (runners : List (Option (Runner B))) (t : ℕ) (runner : Runner B) (at : runner_at runners t ≡ Some runner) (below : t < 64) (v : View) where
@@ -101,15 +94,6 @@ joined-outside v a b w is one other within within_too t beyond none =
     let same = ap (λ (d : Deal). d.threads) (within.making).deal in
     let same_too = ap (λ (d : Deal). d.threads) (within_too.making).deal in
     ap (λ (u : View). posted_by u.seen t) is ∙ posts-none (a.seen).posts (b.seen).posts t (one t (omega (arith, same)) none) (other t (omega (arith, same_too)) none)
-
-pub joined-left : (a b w : View) (t : ℕ) → w ≡ joined a b → Serves a t → Serves w t
-joined-left a b w t is here = subst (λ (u : View). Serves u t) (sym is) (serves-left a.serves b.serves t here)
-
-pub joined-right : (a b w : View) (t : ℕ) → w ≡ joined a b → Serves b t → Serves w t
-joined-right a b w t is here = subst (λ (u : View). Serves u t) (sym is) (serves-right a.serves b.serves t here)
-
-pub joined-either : (a b w : View) (t : ℕ) → w ≡ joined a b → Serves w t → Serves a t ⊎ Serves b t
-joined-either a b w t is here = either-serves a.serves b.serves t (subst (λ (u : View). Serves u t) is here)
 
 -- what a join tells
 pub record IsJoin (a b w : View) : Type 0 where

@@ -20,12 +20,12 @@ use Rattle.turn_lock.specs.Seen.{ObeysPlan}
 use Rattle.turn_lock.specs.Rule.{Serves, first_view}
 use Rattle.turn_lock.specs.Seats.{joined}
 use Rattle.turn_lock.specs.declared.view.View.{View}
-use Rattle.turn_lock.proofs.FlagLists.{first-has, first-below}
+use Rattle.turn_lock.proofs.laws.FirstThreads.{first-has, first-below}
 use Rattle.worker_run.specs.Bodies.{Pending, pending_of, source_of_bodies, AreInRange}
 use Rattle.worker_run.specs.declared.runner.Runner.{Runner}
 use Rattle.worker_run.specs.Played.{IsPlayed, HasPlayed}
 use Rattle.worker_run.specs.Served.{IsUnposted, IsRunning, runner_at, IsCrew, AllOwe, IsOver, IsServed, first_runners}
-use Rattle.worker_run.proofs.Over.{ended-over, same-trace, later-ends}
+use Rattle.worker_run.proofs.laws.RunsOver.{ended-over, same-trace, later-ends}
 
 -- ---- before the first post
 none-at : (n : ℕ) (post : Post) → slice_get [] n ≡ Some post → ⊥

@@ -18,7 +18,7 @@ use Rattle.turn_lock.specs.Turns.{IsAsked, GainsPair, TookTurn, TellsEnd}
 use Rattle.turn_lock.specs.declared.turn.Turn.{Turn}
 use Rattle.turn_lock.specs.declared.turn.Turn.TheVariants.{Answer, Ended, NotYet, Busy, Over}
 use Rattle.turn_lock.specs.declared.view.View.{View}
-use Rattle.turn_lock.proofs.Standings.{owes-length, here-owes}
+use Rattle.turn_lock.proofs.laws.Standings.{owes-length, here-owes}
 use Rattle.worker_run.specs.Bodies.{Pending}
 use Rattle.worker_run.specs.Served.{Follows, IsRunning, Moves, IsOver, is_over}
 

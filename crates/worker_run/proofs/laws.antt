@@ -9,3 +9,11 @@ pub mod RanksAlike
 pub mod Moments
 -- over bodies there is a whole run by points, or by moments, and it is what is played
 pub mod WholeRuns
+-- where every thread's next post is known, no choice waits
+pub mod KnownPosts
+-- over bodies only one list of steps obeys a plan and is settled
+pub mod OnePlayed
+-- when a run is over, and that it stays so
+pub mod RunsOver
+-- the sample threads name only what there is
+pub mod SampleRanges

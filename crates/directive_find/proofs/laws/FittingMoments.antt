@@ -14,7 +14,7 @@ use Rattle.rank_now.specs.Rank.{own_steps}
 use Rattle.rank_now.proofs.laws.Positions.{passes_at-read}
 use Rattle.policy_pick.specs.Plan.{ByPoints}
 use Rattle.turn_book.specs.Posts.{schedule_of}
-use Rattle.turn_book.proofs.Books.{obeys-within}
+use Rattle.turn_book.proofs.laws.ObeyingSteps.{obeys-within}
 use Rattle.worker_run.specs.Bodies.{Pending, source_of_bodies}
 use Rattle.worker_run.specs.Played.{IsPlayed}
 use Rattle.worker_run.proofs.laws.Moments.{own-step, own-rises}

@@ -28,7 +28,7 @@ use Rattle.turn_book.proofs.laws.Worlds.{map-some, made-from}
 use Rattle.turn_book.proofs.laws.MorePosts.{nobody-closed, chosen-ready, departs-may, settled-at}
 use Rattle.worker_run.specs.Bodies.{Pending, source_of_bodies}
 use Rattle.worker_run.specs.Played.{IsPlayed}
-use Rattle.worker_run.proofs.Known.{bodies-no-wait}
+use Rattle.worker_run.proofs.laws.KnownPosts.{bodies-no-wait}
 
 -- ---- after a list
 at_goes : (u t : ℕ) (c : Chance) → pick_at (Departs u) u c ≡ Thread t → ⊥

@@ -10,7 +10,7 @@ use Rattle.turn_book.specs.Posts.{schedule_of}
 use Rattle.turn_book.proofs.laws.Worlds.{cons-same, same-cut}
 use Rattle.trace_text.specs.declared.file.TraceFile.{TraceFile}
 use Rattle.worker_run.specs.Bodies.{Pending}
-use Rattle.worker_run.proofs.Only.{only-played}
+use Rattle.worker_run.proofs.laws.OnePlayed.{only-played}
 use Rattle.replay_run.specs.declared.answer.Written.{Written}
 use Rattle.replay_run.specs.declared.answer.Written.TheVariants.{Event as WrittenEvent, Verdict as WrittenVerdict}
 use Rattle.replay_run.specs.declared.answer.Found.{Found}

@@ -29,11 +29,11 @@ use Rattle.turn_book.specs.Obeys.{next_in, choice_in, Obeys, outcome_by_pick, ou
 use Rattle.turn_book.specs.Board.{verdict_of}
 use Rattle.turn_book.proofs.laws.Worlds.{event_of, effect-is, Steps, IsMade, made-from, made-events, made-push}
 use Rattle.turn_book.proofs.laws.MorePosts.{chosen-ready, choice-at, settled-at}
-use Rattle.turn_book.proofs.Books.{obeys-push, obeys-none}
+use Rattle.turn_book.proofs.laws.ObeyingSteps.{obeys-push, obeys-none}
 use Rattle.worker_run.specs.Bodies.{Pending, pending_of, source_of_bodies}
 use Rattle.worker_run.specs.Run.{Run, run, directed}
 use Rattle.worker_run.specs.Played.{IsPlayed, IsRun}
-use Rattle.worker_run.proofs.Known.{bodies-no-wait}
+use Rattle.worker_run.proofs.laws.KnownPosts.{bodies-no-wait}
 use Rattle.worker_run.proofs.Follows.{points-run, events-run}
 
 -- where nothing is settled, a thread goes on, and there is room

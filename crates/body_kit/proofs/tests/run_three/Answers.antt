@@ -1,7 +1,7 @@
 use Rattle.std.proofs.Common.{ℕ, pos, [], ◌∷◌, sym, subst, arith}
 use Rattle.sync_store.specs.Store.{sizes_of_deal}
 use Rattle.worker_run.specs.Bodies.{Pending, IsInRangeBody}
-use Rattle.worker_run.proofs.Samples.{samples-within}
+use Rattle.worker_run.proofs.laws.SampleRanges.{samples-within}
 use Rattle.body_kit.proofs.Laws.{boxed-in-range}
 use Rattle.body_kit.proofs.tests.run_three.Goals as goal
 

@@ -3,7 +3,7 @@ use Rattle.std.proofs.lemmas.Bool.{false≢true}
 use Rattle.turn_lock.specs.Turns.{Row}
 use Rattle.turn_lock.specs.declared.turn.Turn.{Turn}
 use Rattle.turn_lock.proofs.Rows.{row-of}
-use Rattle.turn_lock.proofs.Standings.{asks-or-ended}
+use Rattle.turn_lock.proofs.laws.Standings.{asks-or-ended}
 use Rattle.turn_lock.proofs.turning.answer.Goals as goal
 
 pub returns-clause-row : goal.returns-clause-row

@@ -7,7 +7,7 @@ use Rattle.turn_lock.specs.Seen.{owes_of}
 use Rattle.turn_lock.specs.Turns.{TookTurn}
 use Rattle.turn_lock.specs.Views.{view}
 use Rattle.turn_lock.specs.declared.turn.Turn.{Turn}
-use Rattle.turn_lock.proofs.Standings.{same-owes}
+use Rattle.turn_lock.proofs.laws.Standings.{same-owes}
 use Rattle.worker_run.specs.Served.{IsRunning}
 use Rattle.worker_run.proofs.Running.{answer-asks, answer-counts, answer-running, answer-owes, other-running, moves-is, ended-told, answers-few, none-owed}
 use Rattle.worker_run.proofs.Crews.{on-self, on-along, serves-back, moves-along, runner-within, crew-moved, crew-served, place-read}

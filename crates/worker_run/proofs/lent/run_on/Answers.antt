@@ -7,7 +7,8 @@ use Rattle.turn_book.specs.Told.{Told}
 use Rattle.worker_run.specs.Bodies.{pending_of}
 use Rattle.worker_run.specs.Served.{StaysOutside}
 use Rattle.worker_run.proofs.Crews.{served-later}
-use Rattle.worker_run.proofs.Parting.{joined-outside, joined-right}
+use Rattle.turn_lock.proofs.laws.Serving.{joined-right}
+use Rattle.worker_run.proofs.Parting.{joined-outside}
 use Rattle.worker_run.proofs.Plays.{first-crew, first-owe, has-played, joined-outcome}
 use Rattle.worker_run.proofs.lent.run_on.Goals as goal
 

@@ -5,7 +5,7 @@ use Rattle.turn_book.specs.Told.{Told}
 use Rattle.worker_run.specs.Bodies.{AreInRange}
 use Rattle.worker_run.specs.Samples.{sample_pending}
 use Rattle.worker_run.specs.declared.tests.Sample.{Sample}
-use Rattle.worker_run.proofs.Samples.{samples-within}
+use Rattle.worker_run.proofs.laws.SampleRanges.{samples-within}
 use Rattle.worker_run.proofs.tests.runs_on_a_lent_lock.Goals as goal
 
 pub run_on-requires-clause-in_range : goal.run_on-requires-clause-in_range

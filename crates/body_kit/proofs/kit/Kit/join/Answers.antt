@@ -1,6 +1,6 @@
 use Rattle.std.proofs.Common.{inl, inr}
 use Rattle.turn_lock.specs.Views.{view}
-use Rattle.worker_run.proofs.Parting.{joined-left, joined-right}
+use Rattle.turn_lock.proofs.laws.Serving.{joined-left, joined-right}
 use Rattle.body_kit.proofs.kit.Kit.join.Goals as goal
 
 pub returns-clause-serves : goal.returns-clause-serves

@@ -2,8 +2,8 @@ use Rattle.std.proofs.Common.{ℕ, sym, subst, arith}
 use Rattle.turn_lock.specs.Rule.{Serves}
 use Rattle.turn_lock.specs.Views.{view}
 use Rattle.turn_lock.specs.declared.view.View.{View}
-use Rattle.turn_lock.proofs.Seating.{inside}
-use Rattle.worker_run.proofs.Parting.{alone-has}
+use Rattle.turn_lock.proofs.laws.SeatedThreads.{inside}
+use Rattle.turn_lock.proofs.laws.Serving.{alone-has}
 use Rattle.body_kit.proofs.kit.Kit.split.Goals as goal
 
 pub returns-clause-own : goal.returns-clause-own

@@ -6,7 +6,7 @@ use Rattle.turn_lock.specs.Slots.{Slot, new_slot}
 use Rattle.turn_lock.specs.Plays.{Seated}
 use Rattle.turn_lock.proofs.Boards.{no-notes}
 use Rattle.turn_lock.proofs.Keeps.{begins}
-use Rattle.turn_lock.proofs.Standings.{away-owes}
+use Rattle.turn_lock.proofs.laws.Standings.{away-owes}
 use Rattle.turn_lock.proofs.held.TurnLock.new.Goals as goal
 
 pub new-requires : goal.new-requires

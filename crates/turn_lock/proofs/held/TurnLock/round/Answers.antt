@@ -3,9 +3,10 @@ use Rattle.turn_lock.specs.Plays.{Seated}
 use Rattle.turn_lock.specs.Turns.{TellsEnd}
 use Rattle.turn_lock.specs.Hands.{IsSwept}
 use Rattle.turn_lock.specs.declared.work.Work.{Work}
-use Rattle.turn_lock.proofs.Orders.{making-along}
+use Rattle.turn_lock.proofs.laws.SeenBooks.{making-along}
 use Rattle.turn_lock.proofs.Hands.{swept-goes, turned, stays, owes-after, threads-after, owed-after}
-use Rattle.turn_lock.proofs.Seating.{inside, from-flag}
+use Rattle.turn_lock.proofs.laws.SeatedThreads.{inside}
+use Rattle.turn_lock.proofs.Seating.{from-flag}
 use Rattle.turn_lock.proofs.held.TurnLock.round.Goals as goal
 
 pub open_gate-requires-clause-goes : goal.open_gate-requires-clause-goes

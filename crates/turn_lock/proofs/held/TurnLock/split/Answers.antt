@@ -2,7 +2,8 @@ use Rattle.std.proofs.Common.{◌<◌, ℕ, sym, ap, ◌∙◌, subst}
 use Rattle.turn_lock.specs.Seen.{owes_of}
 use Rattle.turn_lock.specs.Plays.{Seated}
 use Rattle.turn_lock.proofs.Joining.{threads-alone, owed-alone}
-use Rattle.turn_lock.proofs.Seating.{inside, to-flag}
+use Rattle.turn_lock.proofs.laws.SeatedThreads.{inside}
+use Rattle.turn_lock.proofs.Seating.{to-flag}
 use Rattle.turn_lock.proofs.held.TurnLock.split.Goals as goal
 
 pub invariant_of-result : goal.invariant_of-result

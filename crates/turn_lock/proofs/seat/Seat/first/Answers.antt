@@ -1,7 +1,7 @@
 use Rattle.std.proofs.Common.{◌<◌, ℕ, Bool, List, sym, ap, ◌∙◌, subst}
 use Rattle.turn_lock.specs.Rule.{Has, first_threads}
 use Rattle.turn_lock.specs.Plays.{Seated}
-use Rattle.turn_lock.proofs.FlagLists.{first-below}
+use Rattle.turn_lock.proofs.laws.FirstThreads.{first-below}
 use Rattle.turn_lock.proofs.seat.Seat.first.Goals as goal
 
 pub invariant_of-result : goal.invariant_of-result

@@ -1,7 +1,7 @@
 use Rattle.std.proofs.Common.{arith}
 use Rattle.sync_store.specs.Store.{sizes_of_deal}
 use Rattle.worker_run.specs.declared.tests.Sample.{Sample}
-use Rattle.worker_run.proofs.Samples.{samples-within}
+use Rattle.worker_run.proofs.laws.SampleRanges.{samples-within}
 use Rattle.worker_run.proofs.tests.meetings.meets_nobody_here.Goals as goal
 
 pub run_here-requires-clause-in_range : goal.run_here-requires-clause-in_range

@@ -12,7 +12,7 @@ use Rattle.turn_book.specs.Posts.{events_of, source_of, HasMore}
 use Rattle.turn_book.specs.Obeys.{Obeys}
 use Rattle.turn_book.specs.Told.{Told, SameMaking, Within}
 use Rattle.turn_book.proofs.laws.MorePosts.{obeys-more}
-use Rattle.turn_book.proofs.PostLists.{more-keeps}
+use Rattle.turn_book.proofs.laws.OwnSteps.{more-keeps}
 use Rattle.turn_lock.specs.Seen.{Begins, SameOf, pairs_of, posted_by, ObeysPlan}
 use Rattle.turn_lock.specs.Seats.{longer, longer_posts, seen_together}
 

@@ -23,11 +23,11 @@ use Rattle.turn_book.specs.Obeys.{next_in, choice_in, outcome_by_pick, outcome_b
 use Rattle.turn_book.specs.Told.{Told, Within, next_post, standing_by_ask, standing_by, standing_of}
 use Rattle.turn_book.proofs.laws.Worlds.{IsMade, made-from}
 use Rattle.turn_book.proofs.laws.MorePosts.{chosen-ready, settled-at, settled-more}
-use Rattle.turn_book.proofs.Prefix.{goes-on}
-use Rattle.turn_book.proofs.PostLists.{more-keeps}
+use Rattle.turn_book.proofs.laws.Prefixes.{goes-on}
+use Rattle.turn_book.proofs.laws.OwnSteps.{more-keeps}
 use Rattle.turn_lock.specs.Seen.{ObeysPlan}
 use Rattle.worker_run.specs.Served.{IsOver}
-use Rattle.worker_run.proofs.Known.{known-no-wait}
+use Rattle.worker_run.proofs.laws.KnownPosts.{known-no-wait}
 
 -- ---- every thread has ended
 ended-post : (o : Option Post) → standing_by o ≡ HasEnded → (post : Post) × (o ≡ Some post) × (post.ask ≡ None)

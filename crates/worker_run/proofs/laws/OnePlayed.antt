@@ -5,7 +5,7 @@ use Rattle.pct_ask.specs.declared.event.Event.{Event}
 use Rattle.pct_ask.specs.declared.verdict.Outcome.{Outcome}
 use Rattle.policy_pick.specs.Plan.{Plan}
 use Rattle.turn_book.specs.Obeys.{settled}
-use Rattle.turn_book.proofs.Prefix.{Compared, Same, Shorter, Longer, compare, goes-on}
+use Rattle.turn_book.proofs.laws.Prefixes.{Compared, Same, Shorter, Longer, compare, goes-on}
 use Rattle.worker_run.specs.Bodies.{Pending, source_of_bodies}
 use Rattle.worker_run.specs.Played.{IsPlayed}
 
