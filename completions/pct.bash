@@ -2,11 +2,13 @@
 
 # The threads of a script in their order, joined by commas.
 _pct_threads() {
-    sed -n 's/^[[:space:]]*thread[[:space:]][[:space:]]*\([A-Za-z_][A-Za-z0-9_]*\).*/\1/p' "$1" 2>/dev/null | paste -s -d , -
+    sed -n 's/^[[:space:]]*thread[[:space:]]\{1,\}\([A-Za-z0-9_]*\).*/\1/p' "$1" 2>/dev/null |
+        paste -s -d , -
 }
 
 _pct() {
-    local current=${COMP_WORDS[COMP_CWORD]} before=${COMP_WORDS[COMP_CWORD - 1]} command=${COMP_WORDS[1]} words=''
+    local current=${COMP_WORDS[COMP_CWORD]} before=${COMP_WORDS[COMP_CWORD - 1]}
+    local command=${COMP_WORDS[1]} words=''
     COMPREPLY=()
     case $command in
     run | races | locks | find) words='--order --points --seed --depth --steps --limit' ;;

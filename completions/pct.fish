@@ -3,7 +3,8 @@
 # The threads of a script in their order, joined by commas.
 function __pct_threads
     set -l words (commandline -opc)
-    sed -n 's/^[[:space:]]*thread[[:space:]][[:space:]]*\([A-Za-z_][A-Za-z0-9_]*\).*/\1/p' $words[3] 2>/dev/null | paste -s -d , -
+    sed -n 's/^[[:space:]]*thread[[:space:]]\{1,\}\([A-Za-z0-9_]*\).*/\1/p' $words[3] 2>/dev/null |
+        paste -s -d , -
 end
 
 # Whether the command is one of these, and its file is there.

@@ -3,9 +3,12 @@
 from xml.sax.saxutils import escape
 
 ROW, TOP, CHARACTER, GAP = 26, 48, 7.3, 28
-STYLE = """text { font: 12px monospace; fill: #222 } .name { font-weight: bold } .number, .line { fill: #666 }
-.lane { stroke: #bbb; stroke-width: 1 } .step { fill: #fff; stroke: #446 } .failing { fill: #fdd; stroke: #c00 }
-.blocked { fill: #ddd } .stuck { fill: #fbb } .asks { font-style: italic; fill: #666 } .lowered { fill: #e80 }
+STYLE = """text { font: 12px monospace; fill: #222 }
+.name { font-weight: bold } .number, .line { fill: #666 }
+.lane { stroke: #bbb; stroke-width: 1 }
+.step { fill: #fff; stroke: #446 } .failing { fill: #fdd; stroke: #c00 }
+.blocked { fill: #ddd } .stuck { fill: #fbb } .asks { font-style: italic; fill: #666 }
+.lowered { fill: #e80 }
 .arrow { stroke: #080; fill: none; marker-end: url(#head) } .wakes { stroke-dasharray: 4 3 }"""
 
 
@@ -47,7 +50,8 @@ def text_at(left, top, kind, text):
 
 
 def box(places, name, top, height, kind):
-    return (f'<rect class="{kind}" x="{places.left[name]:.1f}" y="{top:.1f}" width="{places.width[name]:.1f}" '
+    left, width = places.left[name], places.width[name]
+    return (f'<rect class="{kind}" x="{left:.1f}" y="{top:.1f}" width="{width:.1f}" '
             f'height="{height:.1f}" rx="3"/>')
 
 
@@ -61,7 +65,8 @@ def lane(picture, places, name):
 
 
 def blocked_rows(picture, places, name):
-    """Grey in each row before whose step the thread is blocked, with what it asks where that begins."""
+    """Grey in each row before whose step the thread is blocked, with what it asks where that
+    begins."""
     before = None
     for number, step in enumerate(picture.steps, 1):
         ask = step.blocked.get(name)
@@ -110,8 +115,8 @@ def svg_lines(picture):
            f'height="{places.bottom + 34:.0f}" role="img">')
     yield f"<title>verdict {escape(picture.verdict)}</title>"
     yield f"<style>{STYLE}</style>"
-    yield ('<defs><marker id="head" markerWidth="8" markerHeight="8" refX="7" refY="4" orient="auto">'
-           '<path d="M0 0L8 4L0 8z" fill="#080"/></marker></defs>')
+    yield ('<defs><marker id="head" markerWidth="8" markerHeight="8" refX="7" refY="4" '
+           'orient="auto"><path d="M0 0L8 4L0 8z" fill="#080"/></marker></defs>')
     yield '<rect width="100%" height="100%" fill="#fff"/>'
     for name in picture.threads:
         yield from lane(picture, places, name)

@@ -9,7 +9,8 @@ let s:kept = &cpoptions
 set cpoptions&vim
 
 CompilerSet makeprg=pct\ campaign\ %:S
-" The line of a faulty script; the last line of a trace; and the lines of a campaign's groups. No other line is kept.
+" The line of a faulty script; the last line of a trace; and the lines of a campaign's groups. No
+" other line is kept.
 CompilerSet errorformat=script:\ line\ %l\ %m,
       \verdict\ %m\ %l\ %*[a-z],
       \verdict\ %m\ %l,
