@@ -25,7 +25,8 @@ end_post line = record { ask = None; line = line }
 abbrev pub step_of : ℕ → Ask → ℕ → ℤ → Event
 step_of t ask line answer = record { thread = t; line = line; ask = ask; answer = answer }
 
--- What the thread owed was posted, but where the run was over before. The book is as the call found it.
+-- What the thread owed was posted, but where the run was over before. The book is as the call found
+-- it.
 pub record IsGiven (v : View) (t : ℕ) (post : Post) (w : View) : Type 0 where
   pub book : Told
   pub within : Within v.seen book
@@ -33,8 +34,10 @@ pub record IsGiven (v : View) (t : ℕ) (post : Post) (w : View) : Type 0 where
   pub posts : book.outcome ≡ None → posted_by w.seen t ≡ posted_by v.seen t ++ post ∷ []
   pub late : IsSome book.outcome → w.seen ≡ book
 
--- The thread was answered: the last step of the run is its own, of the ask that it gave, and is the one pair that it gained.
-pub record IsAnsweredAsk (v : View) (t : ℕ) (ask : Ask) (line : ℕ) (answer : ℤ) (w : View) : Type 0 where
+-- The thread was answered: the last step of the run is its own, of the ask that it gave, and is the
+-- one pair that it gained.
+pub record IsAnsweredAsk (v : View) (t : ℕ) (ask : Ask) (line : ℕ) (answer : ℤ) (w : View)
+    : Type 0 where
   pub pairs : pairs_of w.seen t ≡ pairs_of v.seen t ++ step_of t ask line answer ∷ []
   pub last : (before : List Event) × (w.seen.trace ≡ before ++ step_of t ask line answer ∷ [])
   pub posts : posted_by w.seen t ≡ posted_by v.seen t ++ ask_post ask line ∷ []
@@ -55,7 +58,8 @@ pub record IsEnded (v : View) (t : ℕ) (line : ℕ) (w : View) : Type 0 where
   pub pairs : pairs_of w.seen t ≡ pairs_of v.seen t
   pub given : IsGiven v t (end_post line) w
 
--- the seat went on, and has seen a run that keeps its rules; an outcome that it has seen is what became of that run
+-- the seat went on, and has seen a run that keeps its rules; an outcome that it has seen is what
+-- became of that run
 pub record GoesOn (v w : View) : Type 0 where
   pub within : Within v.seen w.seen
   pub lawful : IsLawful w.seen

@@ -10,18 +10,21 @@ use Rattle.turn_lock.specs.declared.seat.Seat.{Seat}
 use Rattle.turn_lock.specs.declared.view.View.{View}
 use Rattle.body_kit.specs.Asking.{ServesOnly, GoesOn}
 
--- The seat serves this thread alone. The thread owes its next post until the port was told that the run is over, and how
--- it ended then stands in what the seat has seen.
+-- The seat serves this thread alone. The thread owes its next post until the port was told that the
+-- run is over, and how it ended then stands in what the seat has seen.
 pub record IsPortSeat (v : View) (t : ℕ) (over : Option Outcome) : Type 0 where
   pub only : ServesOnly v t
   pub owes : over ≡ None → owes_of v.seen t ≡ true
-  pub told : (outcome : Outcome) → over ≡ Some outcome → (v.seen.outcome ≡ Some outcome) × IsLawful v.seen
+  pub told : (outcome : Outcome) → over ≡ Some outcome
+      → (v.seen.outcome ≡ Some outcome) × IsLawful v.seen
 
 -- and it is one of the lock's
-abbrev pub IsPort : {P : Type 0} {policy : Ghosts P} → TurnLock P → Seat P policy → ℕ → Option Outcome → Type 0
+abbrev pub IsPort : {P : Type 0} {policy : Ghosts P} → TurnLock P → Seat P policy → ℕ
+    → Option Outcome → Type 0
 IsPort lock seat t over = IsOf lock seat × IsPortSeat (view seat) t over
 
--- what a port is after a call, or the seat that it gives back: of the same lock, with all that it had seen
+-- what a port is after a call, or the seat that it gives back: of the same lock, with all that it
+-- had seen
 pub record IsBack {P : Type 0} {policy : Ghosts P} (old new : Seat P policy) : Type 0 where
   pub of : (lock : TurnLock P) → IsOf lock old → IsOf lock new
   pub on : GoesOn (view old) (view new)

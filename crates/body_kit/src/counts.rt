@@ -22,8 +22,11 @@ pub fn pct_of(
     ensures plan { IfOk result (λ p. points_plan p ≡ ByPoints order.now points.now) }
     ensures stands { IfOk result (λ p. PointsStand p []) }
     ensures fits { IfOk result (λ p. Fits threads bodies order.now) }
-    ensures wrong_count { (had named : ℕ) → (result ≡ Err (KitError.WrongCount had named)) ↔ IsWrongCount threads bodies order.now had named }
-    ensures not_an_order { (at : ℕ) → (result ≡ Err (KitError.NotAnOrder at)) ↔ IsWrongOrder threads bodies order.now at }
+    ensures wrong_count { (had named : ℕ)
+        → (result ≡ Err (KitError.WrongCount had named))
+        ↔ IsWrongCount threads bodies order.now had named }
+    ensures not_an_order { (at : ℕ)
+        → (result ≡ Err (KitError.NotAnOrder at)) ↔ IsWrongOrder threads bodies order.now at }
 {
     if bodies != threads || order.len() != threads as usize {
         return Err(KitError::WrongCount {

@@ -47,15 +47,20 @@ impl Kit {
         requires few_steps { limit ≤ 100000 }
         requires few_points { length points.now ≤ 7 }
         requires few_names { length order.now < 2 ^ 32 }
-        ensures made { IfOk result (λ r. made r.0 ≡ new_book deal limit (ByPoints order.now points.now)) }
+        ensures made { IfOk result (λ r.
+            made r.0 ≡ new_book deal limit (ByPoints order.now points.now)) }
         ensures of { IfOk result (λ r. IsOf r.0 r.1) }
         ensures view { IfOk result (λ r. view r.1 ≡ first_view (made r.0)) }
         ensures all { IfOk result (λ r. ServesAll (view r.1)) }
         ensures owe { IfOk result (λ r. (t : ℕ) → owes_of (view r.1).seen t ≡ true) }
 
         // Each refusal comes exactly where this holds.
-        ensures wrong_count { (had named : ℕ) → (result ≡ Err (KitError.WrongCount had named)) ↔ IsWrongCount deal.threads deal.threads order.now had named }
-        ensures not_an_order { (at : ℕ) → (result ≡ Err (KitError.NotAnOrder at)) ↔ IsWrongOrder deal.threads deal.threads order.now at }
+        ensures wrong_count { (had named : ℕ)
+            → (result ≡ Err (KitError.WrongCount had named))
+            ↔ IsWrongCount deal.threads deal.threads order.now had named }
+        ensures not_an_order { (at : ℕ)
+            → (result ≡ Err (KitError.NotAnOrder at))
+            ↔ IsWrongOrder deal.threads deal.threads order.now at }
     {
         let pct = pct_of(alloc, deal.threads, deal.threads, order, points)?;
         let book = TurnBook::new(alloc, deal, pct, limit)?;
@@ -96,10 +101,14 @@ impl Kit {
         requires of { IsOf self.now seat.old × IsOf self.now other }
         ensures of { IsOf self.now seat.new }
         ensures view { view seat.new ≡ joined (view seat.old) (view other) }
-        ensures seen { Within (view seat.old).seen (view seat.new).seen × Within (view other).seen (view seat.new).seen }
-        ensures serves { (t : ℕ) → Serves (view seat.old) t ⊎ Serves (view other) t → Serves (view seat.new) t }
-        ensures own { (t : ℕ) → Serves (view seat.old) t → SameOf t (view seat.old).seen (view seat.new).seen }
-        ensures theirs { (t : ℕ) → Serves (view other) t → SameOf t (view other).seen (view seat.new).seen }
+        ensures seen { Within (view seat.old).seen (view seat.new).seen
+            × Within (view other).seen (view seat.new).seen }
+        ensures serves { (t : ℕ) → Serves (view seat.old) t ⊎ Serves (view other) t
+            → Serves (view seat.new) t }
+        ensures own { (t : ℕ) → Serves (view seat.old) t
+            → SameOf t (view seat.old).seen (view seat.new).seen }
+        ensures theirs { (t : ℕ) → Serves (view other) t
+            → SameOf t (view other).seen (view seat.new).seen }
         ensures obeys { ObeysPlan (view seat.new).seen }
     {
         self.lock.join(seat, other);

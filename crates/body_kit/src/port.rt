@@ -68,10 +68,12 @@ impl<'k> Port<'k> {
     pub fn ask<R: Wait>(&mut self, rt: &R, ask: Ask, line: u32) -> Asked
         requires in_range { IsInRange (sizes_of_deal (view self.old).seen.deal) ask }
         ensures back { IsBack self.old self.new }
-        ensures row { (t : ℕ) → Serves (view self.old) t → AskTells (view self.old) t ask line result (view self.new) }
+        ensures row { (t : ℕ) → Serves (view self.old) t
+            → AskTells (view self.old) t ask line result (view self.new) }
 
         // Where the run was over by what the port had seen, it is told just that.
-        ensures later { (o : Outcome) → IsLawful (view self.old).seen → (view self.old).seen.outcome ≡ Some o → result ≡ Asked.Over o }
+        ensures later { (o : Outcome) → IsLawful (view self.old).seen
+            → (view self.old).seen.outcome ≡ Some o → result ≡ Asked.Over o }
     {
         if let Some(outcome) = self.over {
             return Asked::Over(outcome);
@@ -84,7 +86,8 @@ impl<'k> Port<'k> {
     /// The thread ends, on a line of its own, and its seat is given back. Where the run is over nothing is posted.
     pub fn end<R: Wait>(self, rt: &R, line: u32) -> Seat<Pct>
         ensures back { IsBack self.entry result }
-        ensures ended { (t : ℕ) → Serves (view self.entry) t → IsEnded (view self.entry) t line (view result) }
+        ensures ended { (t : ℕ) → Serves (view self.entry) t
+            → IsEnded (view self.entry) t line (view result) }
     {
         let Port {
             lock,

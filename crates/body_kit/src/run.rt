@@ -38,12 +38,20 @@ pub fn run_boxed<R: Threads + Wait + Sync, G: Gate>(
     requires few_bodies { length bodies.items < 2 ^ 32 }
     requires few_names { length order.now < 2 ^ 32 }
     requires in_range { AreInRange (sizes_of_deal deal) (map pending bodies.items) }
-    ensures run { IfOk result (λ r. run deal (map pending bodies.items) order.now points.now limit ≡ Some (r.events, r.verdict)) }
-    ensures played { IfOk result (λ r. IsPlayed (ByPoints order.now points.now) deal (map pending bodies.items) limit r.events (Ends r.verdict)) }
+    ensures run { IfOk result (λ r.
+        run deal (map pending bodies.items) order.now points.now limit
+        ≡ Some (r.events, r.verdict)) }
+    ensures played { IfOk result (λ r.
+        IsPlayed (ByPoints order.now points.now) deal (map pending bodies.items) limit r.events
+        (Ends r.verdict)) }
 
     // Each refusal comes exactly where this holds.
-    ensures wrong_count { (had named : ℕ) → (result ≡ Err (KitError.WrongCount had named)) ↔ IsWrongCount deal.threads (length bodies.items) order.now had named }
-    ensures not_an_order { (at : ℕ) → (result ≡ Err (KitError.NotAnOrder at)) ↔ IsWrongOrder deal.threads (length bodies.items) order.now at }
+    ensures wrong_count { (had named : ℕ)
+        → (result ≡ Err (KitError.WrongCount had named))
+        ↔ IsWrongCount deal.threads (length bodies.items) order.now had named }
+    ensures not_an_order { (at : ℕ)
+        → (result ≡ Err (KitError.NotAnOrder at))
+        ↔ IsWrongOrder deal.threads (length bodies.items) order.now at }
 {
     let pct = pct_of(alloc, deal.threads, bodies.len() as u32, order, points)?;
     let bodies = as_bodies(alloc, bodies)?;

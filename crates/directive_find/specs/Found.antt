@@ -21,10 +21,10 @@ pub record HasOther (deal : Deal) (bodies : List Pending) (order : List ℕ) (li
   pub is_directed : directed deal bodies order moments limit ≡ Some (made, other)
   pub apart : other ≢ verdict
 
--- The run of the order and points has this verdict, which isn't Passed; the directed run of its moments is the same run;
--- the events are what is left of these moments, reduced with the verdict. Their directed run has the verdict and so many
--- steps, and without any single one of them it has another verdict. There are no more of them than points, and each is a
--- step that there may be.
+-- The run of the order and points has this verdict, which isn't Passed; the directed run of its
+-- moments is the same run; the events are what is left of these moments, reduced with the verdict.
+-- Their directed run has the verdict and so many steps, and without any single one of them it has
+-- another verdict. There are no more of them than points, and each is a step that there may be.
 pub record IsFound (deal : Deal) (bodies : List Pending) (order points : List ℕ) (limit : ℕ)
     (events : List Moment) (verdict : Verdict) (steps : ℕ) : Type 0 where
   pub made : List Event
@@ -32,16 +32,18 @@ pub record IsFound (deal : Deal) (bodies : List Pending) (order points : List �
   pub fails : verdict ≢ Passed
   pub same_run :
       directed deal bodies order (events_of (schedule_of made) points) limit ≡ Some (made, verdict)
-  pub reduced :
-      Reduces (HasVerdict deal bodies order limit verdict) (events_of (schedule_of made) points) events
+  pub reduced : Reduces (HasVerdict deal bodies order limit verdict)
+      (events_of (schedule_of made) points) events
   pub leads : LeadsTo deal bodies order limit verdict events steps
-  pub needed :
-      (place : ℕ) → place < length events → HasOther deal bodies order limit verdict (remove events place)
+  pub needed : (place : ℕ) → place < length events
+      → HasOther deal bodies order limit verdict (remove events place)
   pub few : length events ≤ length points
   pub fit : All (Fits deal.threads limit) events
 
--- The run of the order and points has passed, after so many steps, and the directed run of its moments is the same run.
-pub record IsPass (deal : Deal) (bodies : List Pending) (order points : List ℕ) (limit steps : ℕ) : Type 0 where
+-- The run of the order and points has passed, after so many steps, and the directed run of its
+-- moments is the same run.
+pub record IsPass (deal : Deal) (bodies : List Pending) (order points : List ℕ) (limit steps : ℕ)
+    : Type 0 where
   pub made : List Event
   pub is_run : run deal bodies order points limit ≡ Some (made, Passed)
   pub same_run :

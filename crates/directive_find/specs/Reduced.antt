@@ -26,19 +26,21 @@ NeedsFirst Holds items many =
     (place : ℕ) → place < many → Holds (remove items place) → ⊥
 
 -- The item at the place is the first that can be left out.
-pub record IsFirst {X : Type 0} (Holds : List X → Type 0) (items : List X) (place : ℕ) : Type 0 where
+pub record IsFirst {X : Type 0} (Holds : List X → Type 0) (items : List X) (place : ℕ)
+    : Type 0 where
   pub within : place < length items
   pub holds : Holds (remove items place)
   pub before : NeedsFirst Holds items place
 
--- The first item that can be left out is, and again so, until there is none: then the list itself is left.
+-- The first item that can be left out is, and again so, until there is none: then the list itself
+-- is left.
 pub data Reduces {X : Type 0} (Holds : List X → Type 0) : List X → List X → Type 0 where
   Stays : (items : List X) → NeedsFirst Holds items (length items) → Reduces Holds items items
   Drops : (items left : List X) (place : ℕ) → IsFirst Holds items place
       → Reduces Holds (remove items place) left → Reduces Holds items left
 
--- What one round finds: the moments without the first that can be left out, and the steps of their directed run, or that
--- each is needed.
+-- What one round finds: the moments without the first that can be left out, and the steps of their
+-- directed run, or that each is needed.
 abbrev pub Leaves : Deal → List Pending → List ℕ → ℕ → Verdict → List Moment → Option Short → Type 0
 Leaves deal bodies order limit verdict moments None =
     NeedsFirst (HasVerdict deal bodies order limit verdict) moments (length moments)

@@ -10,7 +10,8 @@ at thread number = record { thread = thread; number = number }
 pub kept : events_of (0 ∷ 1 ∷ 0 ∷ []) (3 ∷ 3 ∷ 5 ∷ 1 ∷ []) ≡ at 0 2 ∷ at 0 1 ∷ []
 kept = refl
 
--- of a run of the threads 0, 1, 1, 0, 2, 2, 2, 2 the points 1 and 5 are the first steps of the threads 0 and 2
+-- of a run of the threads 0, 1, 1, 0, 2, 2, 2, 2 the points 1 and 5 are the first steps of the
+-- threads 0 and 2
 pub two_steps : events_of (0 ∷ 1 ∷ 1 ∷ 0 ∷ 2 ∷ 2 ∷ 2 ∷ 2 ∷ []) (1 ∷ 5 ∷ [])
     ≡ at 0 1 ∷ at 2 1 ∷ []
 two_steps = refl

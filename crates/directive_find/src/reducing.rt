@@ -53,7 +53,8 @@ fn leave_out<R: Threads + Wait + Sync, G: Gate>(
     requires few_steps { limit ≤ 100000 }
     ensures leaves { (script : ScriptText) → AreOf script (listing code.now) deal.now
         → IfOk result (Leaves deal.now (bodies_of script) order.now limit verdict.now events.now) }
-    ensures fewer { IfOk result (λ left. IfSome left (λ short. length short.events < length events.now)) }
+    ensures fewer { IfOk result (λ left.
+        IfSome left (λ short. length short.events < length events.now)) }
 {
     for place in 0..events.len() {
         let rest = without(alloc, events, place)?;
@@ -90,7 +91,8 @@ pub fn reduce<R: Threads + Wait + Sync, G: Gate>(
     requires leads { (script : ScriptText) → AreOf script (listing code.now) deal.now
         → LeadsTo deal.now (bodies_of script) order.now limit verdict.now whole.events whole.steps }
     ensures { (script : ScriptText) → AreOf script (listing code.now) deal.now
-        → IfOk result (IsReduced deal.now (bodies_of script) order.now limit verdict.now whole.events) }
+        → IfOk result
+        (IsReduced deal.now (bodies_of script) order.now limit verdict.now whole.events) }
 {
     let mut short = whole;
     'rounds: while let Some(shorter) = leave_out(

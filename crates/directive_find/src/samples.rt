@@ -34,7 +34,8 @@ fn two(alloc: Global, op: Op, left: Expr, right: Expr) -> Result<Expr, NoMemory>
 }
 
 fn push(stmt: Stmt, stmts: &mut Vec<Stmt>) -> Result<(), NoMemory>
-    ensures { OnOk result (statements stmts.new.items ≡ statements stmts.old.items ++ statement stmt ∷ []) }
+    ensures { OnOk result
+        (statements stmts.new.items ≡ statements stmts.old.items ++ statement stmt ∷ []) }
 {
     Ok(stmts.push(stmt)?)
 }
@@ -110,7 +111,8 @@ fn names(alloc: Global) -> Result<Names, NoMemory>
 }
 
 fn threads(alloc: Global) -> Result<Vec<ThreadText>, NoMemory>
-    ensures { IfOk result (λ threads. map thread threads.items ≡ adder 3 4 5 6 ∷ adder 7 8 9 10 ∷ checker ∷ []) }
+    ensures { IfOk result (λ threads.
+        map thread threads.items ≡ adder 3 4 5 6 ∷ adder 7 8 9 10 ∷ checker ∷ []) }
 {
     let first = adder(alloc, 3)?;
     let second = adder(alloc, 7)?;
@@ -124,7 +126,8 @@ fn threads(alloc: Global) -> Result<Vec<ThreadText>, NoMemory>
 
 /// Two threads each add one to x, and the third, which waits for both, wants 2.
 pub(crate) fn lost_update(alloc: Global) -> Result<Script, NoMemory>
-    ensures { IfOk result (λ script. text script ≡ lost_update (adder 3 4 5 6) (adder 7 8 9 10) checker) }
+    ensures { IfOk result (λ script.
+        text script ≡ lost_update (adder 3 4 5 6) (adder 7 8 9 10) checker) }
 {
     Ok(Script {
         version: 1,

@@ -1,5 +1,5 @@
--- A queue with one place, and the threads that put and take (the monitor's textbook form: a mutex, and conditions to wait on).
--- The variable 0 is 1 where the place is full.
+-- A queue with one place, and the threads that put and take (the monitor's textbook form: a mutex,
+-- and conditions to wait on). The variable 0 is 1 where the place is full.
 use Rattle.std.specs.Prelude.{ℕ, ◌-◌, ℤ, pos, nat_le, if◌then◌else◌, List, [], ◌∷◌, Option, Some, None}
 use Rattle.std.specs.Ordering.{int_eq}
 use Rattle.pct_ask.specs.declared.ask.Ask.{Ask}
@@ -33,7 +33,8 @@ line_at End = 7
 abbrev pub post_of : Worker → Post
 post_of w = record { ask = ask_at w w.at; line = line_at w.at }
 
--- The next step, once an answer has come. A worker that finds the place as it would set it waits, and looks again.
+-- The next step, once an answer has come. A worker that finds the place as it would set it waits,
+-- and looks again.
 abbrev pub step_after : Worker → ℤ → Step → Step
 step_after w value Lock = Look
 step_after w value Look = if int_eq value w.sets then Release else Change
@@ -50,7 +51,13 @@ left_after w Unlock = w.left - 1
 left_after w step = w.left
 
 abbrev pub worker_after : Worker → ℤ → Worker
-worker_after w value = record { sets = w.sets; left = left_after w w.at; at = step_after w value w.at; waits = w.waits; tells = w.tells }
+worker_after w value = record {
+  sets = w.sets;
+  left = left_after w w.at;
+  at = step_after w value w.at;
+  waits = w.waits;
+  tells = w.tells;
+}
 
 -- what a worker posts after further answers
 abbrev pub worker_pending : Worker → List ℤ → Post
@@ -63,4 +70,10 @@ taker filled emptied = record { sets = pos 0; left = 1; at = Lock; waits = fille
 
 -- it puts two items, and waits and signals the other way round
 abbrev pub putter : ℕ → ℕ → Worker
-putter filled emptied = record { sets = pos 1; left = 2; at = Lock; waits = emptied; tells = filled }
+putter filled emptied = record {
+  sets = pos 1;
+  left = 2;
+  at = Lock;
+  waits = emptied;
+  tells = filled;
+}

@@ -98,21 +98,43 @@ fn run_all<R: Threads + Wait + Sync>(
     let (one, (other, last)) = join(
         rt,
         move || -> Seat<Pct>
-            requires { IsOf kit.now one × Serves (view one) 0 × (owes_of (view one).seen 0 ≡ true) × (1 ≤ length (view one).seen.deal.vars) }
+            requires { IsOf kit.now one
+                × Serves (view one) 0
+                × (owes_of (view one).seen 0 ≡ true)
+                × (1 ≤ length (view one).seen.deal.vars) }
             ensures { IsOf kit.entry.now result × Serves (view result) 0 }
         { count(rt, kit, one, 0, 4) },
         move || -> (Seat<Pct>, Seat<Pct>)
-            requires { IsSync R.row × (IsOf kit.now other × Serves (view other) 1 × (owes_of (view other).seen 1 ≡ true) × (1 ≤ length (view other).seen.deal.vars)) × (IsOf kit.now last × Serves (view last) 2 × (owes_of (view last).seen 2 ≡ true) × (1 ≤ length (view last).seen.deal.vars) × (2 ≤ (view last).seen.deal.threads)) }
-            ensures { IsOf kit.entry.now result.0 × Serves (view result.0) 1 × IsOf kit.entry.now result.1 × Serves (view result.1) 2 }
+            requires { IsSync R.row
+                × (IsOf kit.now other
+                × Serves (view other) 1
+                × (owes_of (view other).seen 1 ≡ true)
+                × (1 ≤ length (view other).seen.deal.vars))
+                × (IsOf kit.now last
+                × Serves (view last) 2
+                × (owes_of (view last).seen 2 ≡ true)
+                × (1 ≤ length (view last).seen.deal.vars)
+                × (2 ≤ (view last).seen.deal.threads)) }
+            ensures { IsOf kit.entry.now result.0
+                × Serves (view result.0) 1
+                × IsOf kit.entry.now result.1
+                × Serves (view result.1) 2 }
         {
             join(
                 rt,
                 move || -> Seat<Pct>
-                    requires { IsOf kit.now other × Serves (view other) 1 × (owes_of (view other).seen 1 ≡ true) × (1 ≤ length (view other).seen.deal.vars) }
+                    requires { IsOf kit.now other
+                        × Serves (view other) 1
+                        × (owes_of (view other).seen 1 ≡ true)
+                        × (1 ≤ length (view other).seen.deal.vars) }
                     ensures { IsOf kit.entry.now result × Serves (view result) 1 }
                 { count(rt, kit, other, 1, 8) },
                 move || -> Seat<Pct>
-                    requires { IsOf kit.now last × Serves (view last) 2 × (owes_of (view last).seen 2 ≡ true) × (1 ≤ length (view last).seen.deal.vars) × (2 ≤ (view last).seen.deal.threads) }
+                    requires { IsOf kit.now last
+                        × Serves (view last) 2
+                        × (owes_of (view last).seen 2 ≡ true)
+                        × (1 ≤ length (view last).seen.deal.vars)
+                        × (2 ≤ (view last).seen.deal.threads) }
                     ensures { IsOf kit.entry.now result × Serves (view result) 2 }
                 { check(rt, kit, last) },
             )

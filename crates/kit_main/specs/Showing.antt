@@ -35,7 +35,15 @@ pub record IsTestDeal (deal : Deal) : Type 0 where
   pub rwlocks : deal.rwlocks ≡ 0
 
 abbrev pub test_sizes : Sizes
-test_sizes = record { threads = 3; vars = 1; mutexes = 0; conds = 0; sems = 0; barriers = 0; rwlocks = 0 }
+test_sizes = record {
+  threads = 3;
+  vars = 1;
+  mutexes = 0;
+  conds = 0;
+  sems = 0;
+  barriers = 0;
+  rwlocks = 0;
+}
 
 -- the order A B C, and a change point after the first step
 abbrev pub test_order : List ℕ
@@ -72,7 +80,8 @@ PutsTrace bodies before after r = IsShownRun bodies r × Appended (text_of r) be
 
 -- a beginning of it was written, or nothing was
 abbrev pub PutsPart : List Pending → Option (List ℕ) → Option (List ℕ) → Type 0
-PutsPart bodies before after = ((r : Run) × IsShownRun bodies r × AppendedPart (text_of r) before after) ⊎ (after ≡ before)
+PutsPart bodies before after =
+    ((r : Run) × IsShownRun bodies r × AppendedPart (text_of r) before after) ⊎ (after ≡ before)
 
 -- what is written with each answer
 abbrev pub Shows : List Pending → Option (List ℕ) → Option (List ℕ) → Shown → Type 0

@@ -19,7 +19,8 @@ pub record IsKnownVerdict (names : NameLists) (version : ℕ) (verdict : Verdict
   pub known : (is_of_second verdict ≡ false) ⊎ (version ≡ 2)
 
 -- the steps and the verdict of a run name only what has a name
-pub record AreKnown (names : NameLists) (version limit : ℕ) (events : List Event) (verdict : Verdict) : Type 0 where
+pub record AreKnown (names : NameLists) (version limit : ℕ) (events : List Event)
+    (verdict : Verdict) : Type 0 where
   pub few : length events ≤ limit
   pub steps : All (NamesKnown names version) events
   pub end : IsKnownVerdict names version verdict

@@ -32,7 +32,8 @@ fn run_test<R: Threads + Wait + Sync, G: Gate>(
     requires few_steps { limit ≤ 100000 }
     requires three { length bodies.items ≡ 3 }
     requires bodies { All IsShowable (map pending bodies.items) }
-    ensures run { IfOk result (λ r. IsRunOf (map pending bodies.items) limit (r.events, r.verdict)) }
+    ensures run { IfOk result (λ r.
+        IsRunOf (map pending bodies.items) limit (r.events, r.verdict)) }
     ensures known { IfOk result (λ r. AreKnown test_names 1 limit r.events r.verdict) }
 {
     let deal = deal(alloc)?;
@@ -86,7 +87,8 @@ pub fn show<R: Threads + Wait + Sync, O: Sink, G: Gate>(
 ) -> Shown
     requires three { length bodies.items ≡ 3 }
     requires bodies { All IsShowable (map pending bodies.items) }
-    ensures shows { Shows (map pending bodies.items) (O.written out.old) (O.written out.new) result }
+    ensures shows { Shows (map pending bodies.items) (O.written out.old) (O.written out.new)
+        result }
     ensures write_fault { result ≡ Shown.WriteFault → Rose (O.faults out.old) (O.faults out.new) }
 {
     let Ok(traced) = trace_of(rt, alloc, bodies, gate) else {

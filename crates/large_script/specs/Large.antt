@@ -1,5 +1,5 @@
--- The large script of so many pieces a thread: eight threads that add one to eight variables, and a last one that adds
--- the variables up (this project).
+-- The large script of so many pieces a thread: eight threads that add one to eight variables, and a
+-- last one that adds the variables up (this project).
 use Rattle.std.specs.Prelude.{ℕ, zero, suc, pos, ◌+◌, ◌*◌, ◌%◌, ◌==◌, if◌then◌else◌, List, [], ◌∷◌, ◌++◌, codes}
 use Rattle.pct_ask.specs.NameLists.{NameLists, no_names}
 use Rattle.script_tree.specs.declared.expr.Op.TheVariants as ops
@@ -8,13 +8,18 @@ use Rattle.script_tree.specs.ScriptText.{Thread, ScriptText}
 
 abbrev pub worker_names : List (List ℕ)
 worker_names =
-    codes "T0" ∷ codes "T1" ∷ codes "T2" ∷ codes "T3" ∷ codes "T4" ∷ codes "T5" ∷ codes "T6" ∷ codes "T7" ∷ []
+    codes "T0" ∷ codes "T1" ∷ codes "T2" ∷ codes "T3" ∷ codes "T4" ∷ codes "T5" ∷ codes "T6"
+    ∷ codes "T7" ∷ []
 
 abbrev pub var_names : List (List ℕ)
-var_names = codes "v0" ∷ codes "v1" ∷ codes "v2" ∷ codes "v3" ∷ codes "v4" ∷ codes "v5" ∷ codes "v6" ∷ codes "v7" ∷ []
+var_names =
+    codes "v0" ∷ codes "v1" ∷ codes "v2" ∷ codes "v3" ∷ codes "v4" ∷ codes "v5" ∷ codes "v6"
+    ∷ codes "v7" ∷ []
 
 abbrev pub mutex_names : List (List ℕ)
-mutex_names = codes "m0" ∷ codes "m1" ∷ codes "m2" ∷ codes "m3" ∷ codes "m4" ∷ codes "m5" ∷ codes "m6" ∷ codes "m7" ∷ []
+mutex_names =
+    codes "m0" ∷ codes "m1" ∷ codes "m2" ∷ codes "m3" ∷ codes "m4" ∷ codes "m5" ∷ codes "m6"
+    ∷ codes "m7" ∷ []
 
 abbrev pub large_names : NameLists
 large_names = record no_names {
@@ -23,7 +28,8 @@ large_names = record no_names {
   mutexes = mutex_names;
 }
 
--- The script is made to be printed. Its statements have their lines in the print, and until then this one.
+-- The script is made to be printed. Its statements have their lines in the print, and until then
+-- this one.
 abbrev pub unprinted : ℕ
 unprinted = 1
 
@@ -43,10 +49,12 @@ open_piece var = Yield unprinted ∷ added_one var ++ Yield unprinted ∷ []
 abbrev pub locked_piece : ℕ → List Statement
 locked_piece var = Lock unprinted var ∷ added_one var ++ Unlock unprinted var ∷ []
 
--- The piece of a place in a thread's text, from 0, is on the variable of the sum of both numbers modulo eight. Every fourth
--- one, from the first on, takes no mutex.
+-- The piece of a place in a thread's text, from 0, is on the variable of the sum of both numbers
+-- modulo eight. Every fourth one, from the first on, takes no mutex.
 abbrev pub piece : ℕ → ℕ → List Statement
-piece thread place = if place % 4 == 0 then open_piece ((thread + place) % 8) else locked_piece ((thread + place) % 8)
+piece thread place =
+    if place % 4 == 0 then open_piece ((thread + place) % 8)
+    else locked_piece ((thread + place) % 8)
 
 -- a thread's first pieces
 abbrev pub pieces : ℕ → ℕ → List Statement

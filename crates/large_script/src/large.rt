@@ -25,14 +25,16 @@ fn two(alloc: Global, op: Op, left: Expr, right: Expr) -> Result<Expr, NoMemory>
 }
 
 fn push(stmt: Stmt, stmts: &mut Vec<Stmt>) -> Result<(), NoMemory>
-    ensures { OnOk result (statements stmts.new.items ≡ statements stmts.old.items ++ statement stmt ∷ []) }
+    ensures { OnOk result
+        (statements stmts.new.items ≡ statements stmts.old.items ++ statement stmt ∷ []) }
 {
     Ok(stmts.push(stmt)?)
 }
 
 /// Adds one to a variable by way of register 0.
 fn push_added_one(alloc: Global, var: u32, stmts: &mut Vec<Stmt>) -> Result<(), NoMemory>
-    ensures { OnOk result (statements stmts.new.items ≡ statements stmts.old.items ++ added_one var) }
+    ensures { OnOk result
+        (statements stmts.new.items ≡ statements stmts.old.items ++ added_one var) }
 {
     let value = two(alloc, Op::Plus, Expr::Reg(0), Expr::Number(1))?;
     let read = Stmt::Read {
@@ -51,7 +53,8 @@ fn push_added_one(alloc: Global, var: u32, stmts: &mut Vec<Stmt>) -> Result<(), 
 
 /// A piece that takes no mutex.
 fn push_open_piece(alloc: Global, var: u32, stmts: &mut Vec<Stmt>) -> Result<(), NoMemory>
-    ensures { OnOk result (statements stmts.new.items ≡ statements stmts.old.items ++ open_piece var) }
+    ensures { OnOk result
+        (statements stmts.new.items ≡ statements stmts.old.items ++ open_piece var) }
 {
     push(Stmt::Yield { line: UNPRINTED }, stmts)?;
     push_added_one(alloc, var, stmts)?;
@@ -60,7 +63,8 @@ fn push_open_piece(alloc: Global, var: u32, stmts: &mut Vec<Stmt>) -> Result<(),
 
 /// A piece under the mutex of the variable's number.
 fn push_locked_piece(alloc: Global, var: u32, stmts: &mut Vec<Stmt>) -> Result<(), NoMemory>
-    ensures { OnOk result (statements stmts.new.items ≡ statements stmts.old.items ++ locked_piece var) }
+    ensures { OnOk result
+        (statements stmts.new.items ≡ statements stmts.old.items ++ locked_piece var) }
 {
     let lock = Stmt::Lock {
         line: UNPRINTED,
@@ -79,7 +83,8 @@ fn push_locked_piece(alloc: Global, var: u32, stmts: &mut Vec<Stmt>) -> Result<(
 fn push_piece(alloc: Global, thread: u32, place: u32, stmts: &mut Vec<Stmt>) -> Result<(), NoMemory>
     requires thread { thread < 8 }
     requires place { place < 100 }
-    ensures { OnOk result (statements stmts.new.items ≡ statements stmts.old.items ++ piece thread place) }
+    ensures { OnOk result
+        (statements stmts.new.items ≡ statements stmts.old.items ++ piece thread place) }
 {
     let var = (thread + place) % 8;
     if place % 4 == 0 {
@@ -195,7 +200,8 @@ fn add_vars(alloc: Global, names: &mut Names) -> Result<(), NoMemory>
 
 fn add_mutexes(alloc: Global, names: &mut Names) -> Result<(), NoMemory>
     requires { names.old ≡ record no_names { vars = var_names } }
-    ensures { OnOk result (names.new ≡ record no_names { vars = var_names; mutexes = mutex_names }) }
+    ensures { OnOk result
+        (names.new ≡ record no_names { vars = var_names; mutexes = mutex_names }) }
 {
     names.add(alloc, NameKind::Mutex, b"m0")?;
     names.add(alloc, NameKind::Mutex, b"m1")?;

@@ -46,13 +46,14 @@ pub record AreTakenOut (mutexes : ℕ) (events : List Event) (out : List ℕ) : 
   pub end : (mutex : ℕ) → ¬ IsFree mutexes events out mutex
 
 -- a mutex that remains is held where a nesting takes the other
-pub record IsHeldWhere (mutexes : ℕ) (events : List Event) (out : List ℕ) (taken held : ℕ) : Type 0 where
+pub record IsHeldWhere (mutexes : ℕ) (events : List Event) (out : List ℕ) (taken held : ℕ)
+    : Type 0 where
   pub remains : Remains mutexes out held
   pub nested : AreNested events held taken
 
--- The walk begins at the lowest mutex that is left and goes from each mutex to the lowest one that is
--- held where it is taken. Its mutexes differ, and from the last one it would go back to the one at the
--- place `back`.
+-- The walk begins at the lowest mutex that is left and goes from each mutex to the lowest one that
+-- is held where it is taken. Its mutexes differ, and from the last one it would go back to the one
+-- at the place `back`.
 pub record IsWalk (IsLeft : ℕ → Type 0) (IsHeldAt : ℕ → ℕ → Type 0) (walk : List ℕ) (back : ℕ) :
     Type 0 where
   pub begins : IsLowest IsLeft (slice_index walk 0)

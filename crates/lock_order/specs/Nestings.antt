@@ -1,5 +1,6 @@
--- Which mutexes a thread holds at a step of a list of events, and how mutexes are nested in one another:
--- the edges of the lock order graph. (The asks are those of POSIX threads; the graph is this project's.)
+-- Which mutexes a thread holds at a step of a list of events, and how mutexes are nested in one
+-- another: the edges of the lock order graph. (The asks are those of POSIX threads; the graph is
+-- this project's.)
 use Rattle.std.specs.Prelude.{◌≡◌, ◌<◌, ℕ, zero, suc, ℤ, pos, List, Option, Some, None, slice_get}
 use Rattle.std.specs.List.{All}
 use Rattle.pct_ask.specs.declared.ask.Ask.{Ask}
@@ -27,9 +28,9 @@ abbrev pub step_at : List Event → ℕ → Option Event
 step_at events zero = None
 step_at events (suc place) = slice_get events place
 
--- An ask with this answer takes the mutex: it locks it, or tries to and is answered 1, or it is the end of
--- a wait, at which the mutex is taken again (POSIX: pthread_mutex_lock, pthread_mutex_trylock,
--- pthread_cond_wait).
+-- An ask with this answer takes the mutex: it locks it, or tries to and is answered 1, or it is the
+-- end of a wait, at which the mutex is taken again (POSIX: pthread_mutex_lock,
+-- pthread_mutex_trylock, pthread_cond_wait).
 abbrev pub TakesBy : Ask → ℤ → ℕ → Type 0
 TakesBy (Lock m) answer mutex = m ≡ mutex
 TakesBy (TryLock m) answer mutex = (answer ≡ pos 1) × (m ≡ mutex)
@@ -57,8 +58,8 @@ pub record LetsGo (events : List Event) (step thread mutex : ℕ) : Type 0 where
   pub by : event.thread ≡ thread
   pub gone : LetsGoBy event.ask mutex
 
--- the thread holds the mutex before the step: it took it at an earlier one, and let it go at none in
--- between
+-- the thread holds the mutex before the step: it took it at an earlier one, and let it go at none
+-- in between
 pub record Holds (events : List Event) (thread mutex step : ℕ) : Type 0 where
   pub since : ℕ
   pub earlier : since < step

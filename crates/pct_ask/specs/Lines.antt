@@ -6,7 +6,8 @@ abbrev pub onto_first : ℕ → List (List ℕ) → List (List ℕ)
 onto_first b [] = (b ∷ []) ∷ []
 onto_first b (line ∷ lines) = (b ∷ line) ∷ lines
 
--- the pieces of a text between its LFs; a last piece that has no LF is a line where it isn't empty (this project)
+-- the pieces of a text between its LFs; a last piece that has no LF is a line where it isn't empty
+-- (this project)
 abbrev pub lines_of : List ℕ → List (List ℕ)
 lines_of [] = []
 lines_of (b ∷ bs) = if b == 10 then [] ∷ lines_of bs else onto_first b (lines_of bs)

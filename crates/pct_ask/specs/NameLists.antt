@@ -17,7 +17,15 @@ pub record NameLists : Type 0 where
   pub rwlocks : List (List ℕ)
 
 abbrev pub no_names : NameLists
-no_names = record { threads = []; vars = []; mutexes = []; conds = []; sems = []; barriers = []; rwlocks = [] }
+no_names = record {
+  threads = [];
+  vars = [];
+  mutexes = [];
+  conds = [];
+  sems = [];
+  barriers = [];
+  rwlocks = [];
+}
 
 abbrev pub list_of : NameKind → NameLists → List (List ℕ)
 list_of Thread names = names.threads
@@ -40,7 +48,10 @@ with_name RwLock name names = record names { rwlocks = names.rwlocks ++ name ∷
 
 -- the names of all kinds, which share one space
 abbrev pub all_names : NameLists → List (List ℕ)
-all_names names = names.threads ++ (names.vars ++ (names.mutexes ++ (names.conds ++ (names.sems ++ (names.barriers ++ names.rwlocks)))))
+all_names names =
+    names.threads
+    ++ (names.vars
+    ++ (names.mutexes ++ (names.conds ++ (names.sems ++ (names.barriers ++ names.rwlocks)))))
 
 -- where a name stands in a list
 abbrev pub place_of : List ℕ → List (List ℕ) → Option ℕ
@@ -51,8 +62,8 @@ abbrev pub AreDistinct : List (List ℕ) → Type 0
 AreDistinct [] = Unit {0}
 AreDistinct (name ∷ names) = (is_among name names ≡ false) × AreDistinct names
 
--- What holds of the names of every test: each is a lawful name by the first version's keywords, none stands
--- twice, also not under two kinds, and there are at most 64 of each kind.
+-- What holds of the names of every test: each is a lawful name by the first version's keywords,
+-- none stands twice, also not under two kinds, and there are at most 64 of each kind.
 pub record AreNames (names : NameLists) : Type 0 where
   pub lawful : All (λ name. is_name 1 name ≡ true) (all_names names)
   pub distinct : AreDistinct (all_names names)

@@ -8,13 +8,16 @@ use Rattle.std.proofs.lemmas.Bool.Decides.{eqb_tells, Decides-and, Decides-like}
 use Rattle.pct_ask.specs.Places.{places_from, lines_from, same_place, same_places}
 
 -- a thread before all of them has no line
-lines_from-later : (thread first n : ℕ) (lines : List (Option ℕ)) → thread < first → lines_from thread (suc n) (places_from first lines) ≡ None ∷ lines_from (thread + 1) n (places_from first lines)
+lines_from-later : (thread first n : ℕ) (lines : List (Option ℕ)) → thread < first
+    → lines_from thread (suc n) (places_from first lines)
+    ≡ None ∷ lines_from (thread + 1) n (places_from first lines)
 lines_from-later thread first n [] h = refl
 lines_from-later thread first n (None ∷ lines) h = lines_from-later thread (first + 1) n lines (omega arith)
 lines_from-later thread first n (Some line ∷ lines) h =
     let apart : (first == thread) ≡ false = grind (arith, eqb_tells) in rw apart
 
-lines_from-places : (thread : ℕ) (lines : List (Option ℕ)) → lines_from thread (length lines) (places_from thread lines) ≡ lines
+lines_from-places : (thread : ℕ) (lines : List (Option ℕ))
+    → lines_from thread (length lines) (places_from thread lines) ≡ lines
 lines_from-places thread [] = refl
 lines_from-places thread (None ∷ lines) =
     lines_from-later thread (thread + 1) (length lines) lines (omega arith) ∙ ap (λ others. None ∷ others) (lines_from-places (thread + 1) lines)
@@ -23,15 +26,19 @@ lines_from-places thread (Some line ∷ lines) =
     rw same (ap (λ others. Some line ∷ others) (lines_from-places (thread + 1) lines))
 
 -- the places of 64 lines give them back
-pub lines_of_places : (lines : List (Option ℕ)) → length lines ≡ 64 → lines_from 0 64 (places_from 0 lines) ≡ lines
-lines_of_places lines long = ap (λ n. lines_from 0 n (places_from 0 lines)) (sym long) ∙ lines_from-places 0 lines
+pub lines_of_places : (lines : List (Option ℕ)) → length lines ≡ 64
+    → lines_from 0 64 (places_from 0 lines) ≡ lines
+lines_of_places lines long =
+    ap (λ n. lines_from 0 n (places_from 0 lines)) (sym long) ∙ lines_from-places 0 lines
 
 same_pairs : (x y u v : ℕ) → x ≡ u → y ≡ v → ◌≡◌ {A = ℕ × ℕ} (x, y) (u, v)
 same_pairs x y u v e f = cc
 
 same_place-Decides : (a b : ℕ × ℕ) → Decides (same_place a b) (a ≡ b)
 same_place-Decides a b =
-    Decides-like (same_place a b) (λ e. same_pairs a.0 a.1 b.0 b.1 e.0 e.1) (λ e. (ap (λ p. p.0) e, ap (λ p. p.1) e)) (Decides-and (a.0 == b.0) (a.1 == b.1) (unsigned_Decides a.0 b.0) (unsigned_Decides a.1 b.1))
+    Decides-like (same_place a b) (λ e. same_pairs a.0 a.1 b.0 b.1 e.0 e.1)
+    (λ e. (ap (λ p. p.0) e, ap (λ p. p.1) e))
+    (Decides-and (a.0 == b.0) (a.1 == b.1) (unsigned_Decides a.0 b.0) (unsigned_Decides a.1 b.1))
 
 pub same_places-Decides : (a b : List (ℕ × ℕ)) → Decides (same_places a b) (a ≡ b)
 same_places-Decides = pointwise_decides same_place-Decides

@@ -10,10 +10,14 @@ last_line_without_end = refl
 pub no_line_after_the_last : lines_of (codes "a\n") ≡ codes "a" ∷ []
 no_line_after_the_last = refl
 
-pub cut : tokens_of (codes " write x r0==10 # to z") ≡ Some (Word (codes "write") ∷ Word (codes "x") ∷ Word (codes "r0") ∷ Symbol (codes "==") ∷ Number (codes "10") ∷ [])
+pub cut : tokens_of (codes " write x r0==10 # to z")
+    ≡ Some
+    (Word (codes "write") ∷ Word (codes "x") ∷ Word (codes "r0") ∷ Symbol (codes "==")
+    ∷ Number (codes "10") ∷ [])
 cut = refl
 
-pub three_equal_signs : tokens_of (codes "===") ≡ Some (Symbol (codes "==") ∷ Symbol (codes "=") ∷ [])
+pub three_equal_signs : tokens_of (codes "===")
+    ≡ Some (Symbol (codes "==") ∷ Symbol (codes "=") ∷ [])
 three_equal_signs = refl
 
 pub letter_after_digit : tokens_of (codes "1a") ≡ None

@@ -11,11 +11,16 @@ pub data Token : Type 0 where
 
 -- `||` `&&` `==` `!=` `<=` `>=`
 abbrev pub is_long_symbol : ℕ → ℕ → Bool
-is_long_symbol a b = (a == 124 && b == 124) || (a == 38 && b == 38) || (b == 61 && (a == 61 || a == 33 || a == 60 || a == 62))
+is_long_symbol a b =
+    (a == 124 && b == 124)
+    || (a == 38 && b == 38)
+    || (b == 61 && (a == 61 || a == 33 || a == 60 || a == 62))
 
 -- `<` `>` `+` `-` `*` `/` `%` `!` `(` `)` `,` `=`
 abbrev pub is_short_symbol : ℕ → Bool
-is_short_symbol a = a == 60 || a == 62 || a == 43 || a == 45 || a == 42 || a == 47 || a == 37 || a == 33 || a == 40 || a == 41 || a == 44 || a == 61
+is_short_symbol a =
+    a == 60 || a == 62 || a == 43 || a == 45 || a == 42 || a == 47 || a == 37 || a == 33 || a == 40
+    || a == 41 || a == 44 || a == 61
 
 -- one more piece at the front
 abbrev pub before : List ℕ → Option (List (List ℕ)) → Option (List (List ℕ))
@@ -26,8 +31,9 @@ abbrev pub joined : ℕ → List (List ℕ) → List (List ℕ)
 joined b [] = (b ∷ []) ∷ []
 joined b (piece ∷ pieces) = (b ∷ piece) ∷ pieces
 
--- The pieces of a line up to a `#`: runs of letters and digits taken as long as they go, and symbols, of which the
--- longer one is taken. Space, tab and CR separate them. None where a byte begins no piece.
+-- The pieces of a line up to a `#`: runs of letters and digits taken as long as they go, and
+-- symbols, of which the longer one is taken. Space, tab and CR separate them. None where a byte
+-- begins no piece.
 abbrev pub pieces_of : List ℕ → Option (List (List ℕ))
 pieces_of [] = Some []
 pieces_of (a ∷ []) =
@@ -36,11 +42,14 @@ pieces_of (a ∷ []) =
 pieces_of (a ∷ b ∷ bs) =
     if a == 35 then Some []
     else (if is_blank a then pieces_of (b ∷ bs)
-    else (if is_word_byte a then (if is_word_byte b then option_map (joined a) (pieces_of (b ∷ bs)) else before (a ∷ []) (pieces_of (b ∷ bs)))
+    else (if is_word_byte a
+    then (if is_word_byte b then option_map (joined a) (pieces_of (b ∷ bs))
+    else before (a ∷ []) (pieces_of (b ∷ bs)))
     else (if is_long_symbol a b then before (a ∷ b ∷ []) (pieces_of bs)
     else (if is_short_symbol a then before (a ∷ []) (pieces_of (b ∷ bs)) else None))))
 
--- What a piece is: a word is a letter followed by letters and digits, 32 at most; a number is digits alone.
+-- What a piece is: a word is a letter followed by letters and digits, 32 at most; a number is
+-- digits alone.
 abbrev pub token_of : List ℕ → Option Token
 token_of [] = None
 token_of (b ∷ bs) =

@@ -21,11 +21,13 @@ abbrev pub ask_words : NameLists → Ask → List (List ℕ)
 ask_words names (Read x) = codes "read" ∷ name_at names.vars x ∷ []
 ask_words names (Write x value) = codes "write" ∷ name_at names.vars x ∷ signed_decimal value ∷ []
 ask_words names (Add x value) = codes "add" ∷ name_at names.vars x ∷ signed_decimal value ∷ []
-ask_words names (Cas x old new) = codes "cas" ∷ name_at names.vars x ∷ signed_decimal old ∷ signed_decimal new ∷ []
+ask_words names (Cas x old new) =
+    codes "cas" ∷ name_at names.vars x ∷ signed_decimal old ∷ signed_decimal new ∷ []
 ask_words names (Lock m) = codes "lock" ∷ name_at names.mutexes m ∷ []
 ask_words names (TryLock m) = codes "trylock" ∷ name_at names.mutexes m ∷ []
 ask_words names (Unlock m) = codes "unlock" ∷ name_at names.mutexes m ∷ []
-ask_words names (Release c m) = codes "release" ∷ name_at names.conds c ∷ name_at names.mutexes m ∷ []
+ask_words names (Release c m) =
+    codes "release" ∷ name_at names.conds c ∷ name_at names.mutexes m ∷ []
 ask_words names (Regain c m) = codes "regain" ∷ name_at names.conds c ∷ name_at names.mutexes m ∷ []
 ask_words names (Signal c) = codes "signal" ∷ name_at names.conds c ∷ []
 ask_words names (Broadcast c) = codes "broadcast" ∷ name_at names.conds c ∷ []
@@ -49,14 +51,17 @@ ask_words names (RwUnlock l) = codes "rwunlock" ∷ name_at names.rwlocks l ∷ 
 -- a step: its number, its thread, its line, what was asked and the answer
 abbrev pub event_words : NameLists → ℕ → Event → List (List ℕ)
 event_words names step event =
-    decimal step ∷ thread_name names event.thread ∷ decimal event.line ∷ (ask_words names event.ask ++ codes "=" ∷ signed_decimal event.answer ∷ [])
+    decimal step ∷ thread_name names event.thread ∷ decimal event.line
+    ∷ (ask_words names event.ask ++ codes "=" ∷ signed_decimal event.answer ∷ [])
 
 -- the steps, of which the first has this number
 abbrev pub step_lines : NameLists → ℕ → List Event → List (List (List ℕ))
 step_lines names step [] = []
-step_lines names step (event ∷ events) = event_words names step event ∷ step_lines names (step + 1) events
+step_lines names step (event ∷ events) =
+    event_words names step event ∷ step_lines names (step + 1) events
 
--- what a run was made by: the format's version, the order and the change points of its priorities, and its greatest length
+-- what a run was made by: the format's version, the order and the change points of its priorities,
+-- and its greatest length
 pub record TraceHead : Type 0 where
   pub version : ℕ
   pub order : List ℕ
@@ -65,7 +70,8 @@ pub record TraceHead : Type 0 where
 
 abbrev pub head_lines : NameLists → TraceHead → List (List (List ℕ))
 head_lines names head =
-    (codes "trace" ∷ decimal head.version ∷ []) ∷ (codes "order" ∷ map (thread_name names) head.order)
+    (codes "trace" ∷ decimal head.version ∷ [])
+    ∷ (codes "order" ∷ map (thread_name names) head.order)
     ∷ (codes "points" ∷ map decimal head.points) ∷ (codes "limit" ∷ decimal head.limit ∷ []) ∷ []
 
 abbrev pub verdict_line : NameLists → Verdict → List (List ℕ)
@@ -78,4 +84,5 @@ line_text words = join_with_byte 32 words ++ 10 ∷ []
 -- the text of a run: its head, its steps from 1 and its verdict
 abbrev pub trace_text : TraceHead → NameLists → List Event → Verdict → List ℕ
 trace_text head names events verdict =
-    flat_map line_text (head_lines names head ++ step_lines names 1 events ++ verdict_line names verdict ∷ [])
+    flat_map line_text
+    (head_lines names head ++ step_lines names 1 events ++ verdict_line names verdict ∷ [])

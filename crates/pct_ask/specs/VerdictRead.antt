@@ -5,9 +5,17 @@ use Rattle.pct_ask.specs.VerdictText.{NamedVerdict, named_text, named, verdict_t
 use Rattle.pct_ask.specs.declared.verdict_text.VerdictRead.{VerdictRead}
 use Rattle.pct_ask.specs.declared.verdict_text.VerdictRead.TheVariants.{Is, NoForm, UnknownName}
 
--- A text is read as the verdict of which it is the text. It is no form where no verdict by form has this text, and
--- has an unknown name where it is one by form and some name in it is no thread's.
+-- A text is read as the verdict of which it is the text. It is no form where no verdict by form has
+-- this text, and has an unknown name where it is one by form and some name in it is no thread's.
 abbrev pub ReadsAs : NameLists → List ℕ → VerdictRead → Type 0
-ReadsAs names text (Is verdict) = HasNames names verdict × IsForm names (named names verdict) × (text ≡ verdict_text names verdict)
-ReadsAs names text UnknownName = (verdict : NamedVerdict) × IsForm names verdict × HasUnknown names verdict × (text ≡ named_text verdict)
-ReadsAs names text NoForm = (verdict : NamedVerdict) → IsForm names verdict → text ≢ named_text verdict
+ReadsAs names text (Is verdict) =
+    HasNames names verdict
+    × IsForm names (named names verdict)
+    × (text ≡ verdict_text names verdict)
+ReadsAs names text UnknownName =
+    (verdict : NamedVerdict)
+    × IsForm names verdict
+    × HasUnknown names verdict
+    × (text ≡ named_text verdict)
+ReadsAs names text NoForm =
+    (verdict : NamedVerdict) → IsForm names verdict → text ≢ named_text verdict

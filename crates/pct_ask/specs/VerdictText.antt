@@ -1,4 +1,5 @@
--- A verdict as a text: words with one space between them, in which threads stand by their names (this project).
+-- A verdict as a text: words with one space between them, in which threads stand by their names
+-- (this project).
 use Rattle.std.specs.Prelude.{◌≡◌, ℕ, ◌≤◌, ◌<◌, None, List, [], ◌∷◌, true, length, codes, decimal, map, All, Any, ⊤}
 use Rattle.std.specs.List.{slice_index_or, flat_map, filter_map, join_with_byte}
 use Rattle.std.specs.List.Sorted.{IsStrictlyIncreasing}
@@ -38,8 +39,10 @@ abbrev pub verdict_words : NamedVerdict → List (List ℕ)
 verdict_words NamedPassed = codes "passed" ∷ []
 verdict_words (NamedFailed name line) = codes "failed" ∷ name ∷ decimal line ∷ []
 verdict_words (NamedStuck places) = codes "stuck" ∷ flat_map place_words places
-verdict_words (NamedMisuse name line kind) = codes "misuse" ∷ name ∷ decimal line ∷ misuse_word kind ∷ []
-verdict_words (NamedFault name line kind) = codes "fault" ∷ name ∷ decimal line ∷ fault_word kind ∷ []
+verdict_words (NamedMisuse name line kind) =
+    codes "misuse" ∷ name ∷ decimal line ∷ misuse_word kind ∷ []
+verdict_words (NamedFault name line kind) =
+    codes "fault" ∷ name ∷ decimal line ∷ fault_word kind ∷ []
 verdict_words NamedCut = codes "cut" ∷ []
 
 abbrev pub named_text : NamedVerdict → List ℕ
@@ -71,12 +74,13 @@ IsPlace place = (is_name 1 place.0 ≡ true) × IsLine place.1
 abbrev pub known_threads : NameLists → List (List ℕ × ℕ) → List ℕ
 known_threads names places = filter_map (λ place. place_of place.0 names.threads) places
 
--- A verdict by form: its names are lawful and its lines are a test's. A list of blocked threads isn't empty, and the
--- threads among its names stand in strictly rising order.
+-- A verdict by form: its names are lawful and its lines are a test's. A list of blocked threads
+-- isn't empty, and the threads among its names stand in strictly rising order.
 abbrev pub IsForm : NameLists → NamedVerdict → Type 0
 IsForm names NamedPassed = ⊤
 IsForm names (NamedFailed name line) = IsPlace (name, line)
-IsForm names (NamedStuck places) = (0 < length places) × All IsPlace places × IsStrictlyIncreasing (known_threads names places)
+IsForm names (NamedStuck places) =
+    (0 < length places) × All IsPlace places × IsStrictlyIncreasing (known_threads names places)
 IsForm names (NamedMisuse name line kind) = IsPlace (name, line)
 IsForm names (NamedFault name line kind) = IsPlace (name, line)
 IsForm names NamedCut = ⊤

@@ -40,20 +40,25 @@ line_in_range (negsuc n) = None
 -- the line of a test that a word spells
 unfoldable pub line_number : List ℕ → Option ℕ
 line_number word =
-    if bytes_eq (decimal (digits_value 10 word)) word && nat_le 1 (digits_value 10 word) && nat_le (digits_value 10 word) 4096
+    if bytes_eq (decimal (digits_value 10 word)) word
+    && nat_le 1 (digits_value 10 word)
+    && nat_le (digits_value 10 word) 4096
     then Some (digits_value 10 word)
     else None
 
-abbrev pub place_by : Bool → Option ℕ → Option ℕ → List (List ℕ) → Option (Option ℕ × ℕ × List (List ℕ))
+abbrev pub place_by : Bool → Option ℕ → Option ℕ → List (List ℕ)
+    → Option (Option ℕ × ℕ × List (List ℕ))
 place_by false thread line rest = None
 place_by true thread None rest = None
 place_by true thread (Some n) rest = Some (thread, n, rest)
 
--- a name and a line at the front: the thread of that name, if it is one's, the line, and the other words
+-- a name and a line at the front: the thread of that name, if it is one's, the line, and the other
+-- words
 abbrev pub first_place : NameLists → List (List ℕ) → Option (Option ℕ × ℕ × List (List ℕ))
 first_place names [] = None
 first_place names (name ∷ []) = None
-first_place names (name ∷ line ∷ rest) = place_by (is_name 1 name) (place_of name names.threads) (line_number line) rest
+first_place names (name ∷ line ∷ rest) =
+    place_by (is_name 1 name) (place_of name names.threads) (line_number line) rest
 
 abbrev pub misuse_kind : List ℕ → Option MisuseKind
 misuse_kind word =
@@ -73,7 +78,8 @@ abbrev pub placed_kind : List ℕ → List (List ℕ) → Option PlacedKind
 placed_kind head [] = if bytes_eq head (codes "failed") then Some Failure else None
 placed_kind head (word ∷ []) =
     if bytes_eq head (codes "misuse") then option_map (λ kind. Misused kind) (misuse_kind word)
-    else (if bytes_eq head (codes "fault") then option_map (λ kind. Faulted kind) (fault_kind word) else None)
+    else (if bytes_eq head (codes "fault") then option_map (λ kind. Faulted kind) (fault_kind word)
+    else None)
 placed_kind head (word ∷ other ∷ rest) = None
 
 abbrev pub verdict_at : PlacedKind → ℕ → ℕ → Verdict
@@ -94,7 +100,8 @@ abbrev pub stuck_read : Bool → List (ℕ × ℕ) → VerdictRead
 stuck_read true blocked = UnknownName
 stuck_read false blocked = Is (Stuck blocked)
 
-abbrev pub stuck_step : Bool → Option ℕ → Option ℕ → ℕ → List (ℕ × ℕ) → Bool → (ℕ → List (ℕ × ℕ) → Bool → VerdictRead) → VerdictRead
+abbrev pub stuck_step : Bool → Option ℕ → Option ℕ → ℕ → List (ℕ × ℕ) → Bool
+    → (ℕ → List (ℕ × ℕ) → Bool → VerdictRead) → VerdictRead
 stuck_step false thread line least blocked unknown next = NoForm
 stuck_step true thread None least blocked unknown next = NoForm
 stuck_step true None (Some n) least blocked unknown next = next least blocked true
@@ -106,7 +113,10 @@ abbrev pub stuck_words : NameLists → ℕ → List (ℕ × ℕ) → Bool → Li
 stuck_words names least blocked unknown [] = stuck_read unknown blocked
 stuck_words names least blocked unknown (name ∷ []) = NoForm
 stuck_words names least blocked unknown (name ∷ line ∷ rest) =
-    stuck_step (is_name 1 name) (place_of name names.threads) (line_number line) least blocked unknown (λ least_later blocked_later unknown_later. stuck_words names least_later blocked_later unknown_later rest)
+    stuck_step (is_name 1 name) (place_of name names.threads) (line_number line) least blocked
+    unknown
+    (λ least_later blocked_later unknown_later.
+    stuck_words names least_later blocked_later unknown_later rest)
 
 abbrev pub bare_word : List ℕ → VerdictRead
 bare_word head =

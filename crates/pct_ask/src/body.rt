@@ -15,5 +15,6 @@ pub trait Body: Send + Drop {
     /// Goes on with the answer to what the thread asks.
     fn answer(&mut self, value: i64)
         requires { IsSome (pending self.old []).ask }
-        ensures { (answers : List ℤ) → pending self.new answers ≡ pending self.old (value ∷ answers) };
+        ensures { (answers : List ℤ)
+            → pending self.new answers ≡ pending self.old (value ∷ answers) };
 }

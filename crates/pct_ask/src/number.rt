@@ -9,7 +9,8 @@ use std::alloc::AllocError as NoMemory;
 pub fn read_number(text: &[u8]) -> Option<i128>
     ensures spelled { IfSome result (λ number. text.now ≡ number_text number) }
     ensures fits { IfSome result (λ number. FitsSigned w128 number) }
-    ensures every { (number : ℤ) → FitsSigned w128 number → text.now ≡ number_text number → result ≡ Some number }
+    ensures every { (number : ℤ) → FitsSigned w128 number → text.now ≡ number_text number
+        → result ≡ Some number }
 {
     let Ok(digits) = str::from_utf8(text) else {
         return None;

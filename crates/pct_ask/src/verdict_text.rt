@@ -40,9 +40,11 @@ pub fn read_verdict(text: &[u8], names: &Names) -> VerdictRead
 pub fn write_verdict(verdict: &Verdict, names: &Names, out: &mut Vec<u8>) -> Result<(), NoMemory>
     requires named { HasNames names.now verdict.now }
     requires whole { IsWhole verdict.now }
-    ensures written { OnOk result (out.new.items ≡ out.old.items ++ verdict_text names.now verdict.now) }
+    ensures written { OnOk result
+        (out.new.items ≡ out.old.items ++ verdict_text names.now verdict.now) }
     ensures unchanged { OnErr result (out.new.items ≡ out.old.items) }
-    ensures read_back { OnOk result (ReadsAs names.now (verdict_text names.now verdict.now) (VerdictRead.Is verdict.now)) }
+    ensures read_back { OnOk result
+        (ReadsAs names.now (verdict_text names.now verdict.now) (VerdictRead.Is verdict.now)) }
 {
     // The names are lawful, and so what is written can be read.
     let _ = names.count(NameKind::Thread);
@@ -56,7 +58,8 @@ pub fn write_verdict(verdict: &Verdict, names: &Names, out: &mut Vec<u8>) -> Res
 
 fn push_verdict(verdict: &Verdict, names: &Names, out: &mut Vec<u8>) -> Result<(), NoMemory>
     requires { HasNames names.now verdict.now }
-    ensures written { OnOk result (out.new.items ≡ out.old.items ++ verdict_text names.now verdict.now) }
+    ensures written { OnOk result
+        (out.new.items ≡ out.old.items ++ verdict_text names.now verdict.now) }
     ensures begun { OnErr result (Begins out.old.items out.new.items) }
     ensures rising { OnOk result (Rises verdict.now) }
 {
@@ -78,7 +81,9 @@ fn push_verdict(verdict: &Verdict, names: &Names, out: &mut Vec<u8>) -> Result<(
 
 fn push_stuck(blocked: &Blocked, names: &Names, out: &mut Vec<u8>) -> Result<(), NoMemory>
     requires { All (HasName names.now) (map (λ place. place.0) blocked.now) }
-    ensures written { OnOk result (out.new.items ≡ out.old.items ++ codes "stuck" ++ flat_map (place_piece names.now) blocked.now) }
+    ensures written { OnOk result
+        (out.new.items
+        ≡ out.old.items ++ codes "stuck" ++ flat_map (place_piece names.now) blocked.now) }
     ensures begun { OnErr result (Begins out.old.items out.new.items) }
     ensures rising { OnOk result (AreRising blocked.now) }
 {
@@ -99,7 +104,8 @@ fn push_placed(
     out: &mut Vec<u8>,
 ) -> Result<(), NoMemory>
     requires { thread < length names.now.threads }
-    ensures written { OnOk result (out.new.items ≡ out.old.items ++ head.now ++ place_piece names.now (thread, line)) }
+    ensures written { OnOk result
+        (out.new.items ≡ out.old.items ++ head.now ++ place_piece names.now (thread, line)) }
     ensures begun { OnErr result (Begins out.old.items out.new.items) }
 {
     out.extend_from_slice(head)?;
@@ -108,7 +114,8 @@ fn push_placed(
 
 fn push_place(thread: u32, line: u32, names: &Names, out: &mut Vec<u8>) -> Result<(), NoMemory>
     requires { thread < length names.now.threads }
-    ensures written { OnOk result (out.new.items ≡ out.old.items ++ place_piece names.now (thread, line)) }
+    ensures written { OnOk result
+        (out.new.items ≡ out.old.items ++ place_piece names.now (thread, line)) }
     ensures begun { OnErr result (Begins out.old.items out.new.items) }
 {
     let mut buffer = Buffer::new();

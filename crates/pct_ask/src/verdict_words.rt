@@ -186,9 +186,8 @@ fn read_stuck(text: &[u8], names: &Names) -> VerdictRead
 }
 
 fn read_place<'a>(text: &'a [u8], names: &Names) -> Option<PlaceRead<'a>>
-    ensures place { MatchOption result
-        (first_place names.now (words_of text.now) ≡ None)
-        (λ p. first_place names.now (words_of text.now) ≡ Some (p.thread, p.line, words_after p.rest)) }
+    ensures place { MatchOption result (first_place names.now (words_of text.now) ≡ None) (λ p.
+        first_place names.now (words_of text.now) ≡ Some (p.thread, p.line, words_after p.rest)) }
     ensures few { IfSome result (λ p. IfSome p.thread (λ thread. thread < 64)) }
     ensures shorter { IfSome result (λ p. length_after p.rest ≤ length text.now) }
 {

@@ -20,8 +20,8 @@ own_of (word ∷ []) =
     else (if bytes_eq word (codes "--version") then Some Version else None)
 own_of (word ∷ other ∷ words) = None
 
--- The text was put on the output whole, and nothing was said. Where the output refused it, or there was no memory, a part
--- of it may be there, and that is said on the error stream.
+-- The text was put on the output whole, and nothing was said. Where the output refused it, or there
+-- was no memory, a part of it may be there, and that is said on the error stream.
 abbrev pub IsPut : List ℕ → StreamTold → StreamTold → StreamTold → StreamTold → Status → Type 0
 IsPut text out out' err err' Done = Appended text out.written out'.written × (err' ≡ err)
 IsPut text out out' err err' WriteFault =

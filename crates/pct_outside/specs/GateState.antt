@@ -1,4 +1,5 @@
--- What a pair gate was made for (this project): its two threads, and how many times each looks for the other.
+-- What a pair gate was made for (this project): its two threads, and how many times each looks for
+-- the other.
 use Rattle.std.specs.Prelude.{ℕ}
 
 pub record GateState : Type 0 where

@@ -1,5 +1,6 @@
--- Two guests who look for each other (this project). The book has a word for each guest, with the keys 0 and 1, which
--- says how far it is: 0 it is away, 1 it has come, 2 it has come and seen the other. The log says what has happened.
+-- Two guests who look for each other (this project). The book has a word for each guest, with the
+-- keys 0 and 1, which says how far it is: 0 it is away, 1 it has come, 2 it has come and seen the
+-- other. The log says what has happened.
 use Rattle.std.specs.Prelude.{◌≡◌, ℕ, ◌-◌, ◌<◌, ◌≤◌, ◌⊎◌, true, List, [], ◌∷◌, length}
 use Rattle.logbook.specs.Pages.{Book, Cell, Named, Step, View, cell}
 use Rattle.pct_outside.specs.declared.moment.Moment.{Moment}
@@ -46,12 +47,14 @@ pub record IsKept (cells : List Cell) (log : List Moment) : Type 0 where
   pub tells : (guest : ℕ) → guest < 2 → Tells log guest (cell cells guest).0
 
 -- what a guest's own step tells: that it has come
-pub record Marks (s : Step Moment) (v : View Moment ℕ) (found : ℕ) (w : View Moment ℕ) : Type 0 where
+pub record Marks (s : Step Moment) (v : View Moment ℕ) (found : ℕ) (w : View Moment ℕ)
+    : Type 0 where
   pub came : Has w.0 (Came s.key)
   pub looks : looks_of w.0 ≡ looks_of v.0
 
 -- what a look at a guest tells
-pub record Looks (s : Step Moment) (v : View Moment ℕ) (found : ℕ) (w : View Moment ℕ) : Type 0 where
+pub record Looks (s : Step Moment) (v : View Moment ℕ) (found : ℕ) (w : View Moment ℕ)
+    : Type 0 where
   pub came : 1 ≤ found → Has w.0 (Came s.key)
   pub saw : 2 ≤ found → SawOther w.0 s.key
   pub looks : looks_of w.0 ≡ looks_of v.0

@@ -8,7 +8,8 @@ use Rattle.pct_outside.specs.Reading.{with_name}
 use Rattle.pct_outside.specs.declared.shelves.ShelfError.{ShelfError}
 use Rattle.pct_outside.specs.declared.shelves.ShelfError.TheVariants.{Failed, NoMemory}
 
--- its files, the names of the reads that failed, the numbers of the calls that fail, and how many calls there were
+-- its files, the names of the reads that failed, the numbers of the calls that fail, and how many
+-- calls there were
 pub record ShelfState : Type 0 where
   pub files : Files
   pub failed : List (List ℕ)
@@ -18,7 +19,11 @@ pub record ShelfState : Type 0 where
 -- it is stored as the tuple of these
 abbrev pub coded_shelf : Coded ShelfState
 coded_shelf =
-    code_by (Files × (List (List ℕ) × (List ℕ × ℕ))) (coded× coded_files (coded× (coded_list (coded_list coded_ℕ)) (coded× (coded_list coded_ℕ) coded_ℕ))) (λ s. (s.files, (s.failed, (s.fails, s.calls)))) (λ p. record { files = p.0; failed = p.1.0; fails = p.1.1.0; calls = p.1.1.1 }) (λ _. refl)
+    code_by (Files × (List (List ℕ) × (List ℕ × ℕ)))
+    (coded× coded_files
+    (coded× (coded_list (coded_list coded_ℕ)) (coded× (coded_list coded_ℕ) coded_ℕ)))
+    (λ s. (s.files, (s.failed, (s.fails, s.calls))))
+    (λ p. record { files = p.0; failed = p.1.0; fails = p.1.1.0; calls = p.1.1.1 }) (λ _. refl)
 
 -- whether the next read, of this name, fails: by its number, or since no file has the name
 abbrev pub is_refused : ShelfState → List ℕ → Bool

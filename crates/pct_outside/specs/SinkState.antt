@@ -4,7 +4,8 @@ use Rattle.pct_outside.specs.Counter.{one_more}
 use Rattle.pct_outside.specs.declared.sinks.SinkError.{SinkError}
 use Rattle.pct_outside.specs.declared.sinks.SinkError.TheVariants.{Failed, NoMemory}
 
--- a sink in memory: what was written, its two counts, the numbers of the calls that fail, and how many calls there were
+-- a sink in memory: what was written, its two counts, the numbers of the calls that fail, and how
+-- many calls there were
 pub record SinkState : Type 0 where
   pub written : List ℕ
   pub faults : ℕ

@@ -92,7 +92,8 @@ impl<W: Write + Drop> Sink for HostSink<W> {
 
 /// Writes the piece whole. A write that takes nothing of it is a fault.
 fn write_whole<W: Write>(stream: &mut W, piece: &[u8]) -> Result<(), SinkError>
-    ensures whole { OnOk result (Appends (W.contents stream.old) (W.contents stream.new) piece.now) }
+    ensures whole { OnOk result
+        (Appends (W.contents stream.old) (W.contents stream.new) piece.now) }
     ensures part { OnErr result
         (AppendsPart (W.contents stream.old) (W.contents stream.new) piece.now) }
 {

@@ -204,8 +204,14 @@ impl Meeting {
 
     // What shows that each guest has seen the other, if each has.
     fn sightings(&self) -> Option<(Known, Known)>
-        ensures one { IfSome result (λ seen. (seen.0.book ≡ self.now.opened.book) × SawOther seen.0.log 0 × (looks_of seen.0.log ≡ self.now.looks)) }
-        ensures other { IfSome result (λ seen. (seen.1.book ≡ self.now.opened.book) × SawOther seen.1.log 1 × (looks_of seen.1.log ≡ self.now.looks)) }
+        ensures one { IfSome result (λ seen.
+            (seen.0.book ≡ self.now.opened.book)
+            × SawOther seen.0.log 0
+            × (looks_of seen.0.log ≡ self.now.looks)) }
+        ensures other { IfSome result (λ seen.
+            (seen.1.book ≡ self.now.opened.book)
+            × SawOther seen.1.log 1
+            × (looks_of seen.1.log ≡ self.now.looks)) }
     {
         let one = sighting(&self.one, &self.opened)?;
         let other = sighting(&self.other, &self.opened)?;

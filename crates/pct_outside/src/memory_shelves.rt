@@ -53,7 +53,8 @@ impl FileMap {
 
     /// The bytes that the name has.
     fn get(&self, name: &str) -> Option<&Vec<u8>>
-        ensures { option_map (λ bytes. bytes.items) (option_copied result) ≡ map.get self.now name.now }
+        ensures { option_map (λ bytes. bytes.items) (option_copied result)
+            ≡ map.get self.now name.now }
     {
         self.files.get(name)
     }
@@ -96,7 +97,8 @@ impl MemoryShelf {
     /// A shelf with no files. The reads with these numbers, counted from 1, fail. All reads past the
     /// number 2^64 - 1 have that number.
     pub fn new(alloc: Global, fails: Vec<u64>) -> MemoryShelf
-        ensures { result ≡ record { files = map.empty; failed = []; fails = fails.items; calls = 0 } }
+        ensures { result
+            ≡ record { files = map.empty; failed = []; fails = fails.items; calls = 0 } }
     {
         MemoryShelf {
             alloc,
@@ -198,7 +200,8 @@ impl Shelf for SureShelf {
         ensures sure { result ≢ Err ShelfError.Failed }
         ensures same { self.new ≡ self.old }
         ensures most { IfOk result (λ bytes. vec_len bytes ≤ most) }
-        ensures first { IfOk result (λ bytes. FirstBytes most (bytes_of self.old name.now) bytes.items) }
+        ensures first { IfOk result (λ bytes.
+            FirstBytes most (bytes_of self.old name.now) bytes.items) }
     {
         let bytes = match self.files.get(name) {
             Some(bytes) => first_bytes(self.alloc, bytes, most)?,

@@ -74,7 +74,8 @@ pub(crate) fn keep_name(
     names: &mut Vec<String>,
     name: &str,
 ) -> Result<(), AllocError>
-    ensures ok { OnOk result (texts_of names.new.items ≡ with_name (texts_of names.old.items) name.now) }
+    ensures ok { OnOk result
+        (texts_of names.new.items ≡ with_name (texts_of names.old.items) name.now) }
     ensures err { OnErr result (names.new.items ≡ names.old.items) }
 {
     names.push(String::from_str(alloc, name)?)?;

@@ -1,5 +1,6 @@
--- Who goes next: the choice that a policy's parameters make after a schedule, a list of threads, from what is known of
--- each thread. (The threads of a run by PCT go by falling rank; lists, and what is known of a thread, are this project's.)
+-- Who goes next: the choice that a policy's parameters make after a schedule, a list of threads,
+-- from what is known of each thread. (The threads of a run by PCT go by falling rank; lists, and
+-- what is known of a thread, are this project's.)
 use Rattle.std.specs.Prelude.{◌≡◌, ℕ, ◌<◌, Bool, true, false, ◌&&◌, ◌||◌, not, nat_le, List, length, slice_get, slice_index, slice_index_or, Option, Some, None}
 use Rattle.std.specs.List.{find, list_all, range_with_len}
 use Rattle.rank_now.specs.Rank.{ranks, ranks_by_events}
@@ -40,15 +41,23 @@ threads_of chances = range_with_len 0 (length chances)
 
 -- whether the thread is open, and no open thread has a greater rank
 abbrev pub is_highest : List ℕ → List Chance → ℕ → Bool
-is_highest ranks chances thread = is_open (chance_of chances thread) && list_all (λ other. not (is_open (chance_of chances other)) || nat_le (slice_index ranks other) (slice_index ranks thread)) (threads_of chances)
+is_highest ranks chances thread =
+    is_open (chance_of chances thread)
+    && list_all
+    (λ other.
+    not (is_open (chance_of chances other))
+    || nat_le (slice_index ranks other) (slice_index ranks thread)) (threads_of chances)
 
 -- The walk by falling rank stops at the open thread of greatest rank.
 unfoldable pub choice_by_rank : List ℕ → List Chance → Pick
-choice_by_rank ranks chances = pick_of_walk Thread chances (find (is_highest ranks chances) (threads_of chances))
+choice_by_rank ranks chances =
+    pick_of_walk Thread chances (find (is_highest ranks chances) (threads_of chances))
 
 -- The walk by rising number stops at the first open thread. Who goes there was not listed.
 unfoldable pub choice_by_number : List Chance → Pick
-choice_by_number chances = pick_of_walk Departs chances (find (λ thread. is_open (chance_of chances thread)) (threads_of chances))
+choice_by_number chances =
+    pick_of_walk Departs chances
+    (find (λ thread. is_open (chance_of chances thread)) (threads_of chances))
 
 -- The listed thread goes, and after the list nobody may (this project).
 abbrev pub choice_by_list : Option ℕ → List Chance → Pick
@@ -57,13 +66,17 @@ choice_by_list (Some thread) chances = pick_at (Thread thread) thread (chance_of
 
 -- the choice after a schedule
 abbrev pub choice : Plan → List ℕ → List Chance → Pick
-choice (ByPoints order points) schedule chances = choice_by_rank (ranks order points schedule) chances
-choice (ByEvents order events) schedule chances = choice_by_rank (ranks_by_events order events schedule) chances
-choice (ByList listed) schedule chances = choice_by_list (slice_get listed (length schedule)) chances
+choice (ByPoints order points) schedule chances =
+    choice_by_rank (ranks order points schedule) chances
+choice (ByEvents order events) schedule chances =
+    choice_by_rank (ranks_by_events order events schedule) chances
+choice (ByList listed) schedule chances =
+    choice_by_list (slice_get listed (length schedule)) chances
 
 -- the target of an Unknown is Away
 abbrev pub HasAwayTarget : List Chance → Chance → Type 0
-HasAwayTarget chances (Unknown target) = (target < length chances) × (chance_of chances target ≡ Away)
+HasAwayTarget chances (Unknown target) =
+    (target < length chances) × (chance_of chances target ≡ Away)
 HasAwayTarget chances Away = Unit {0}
 HasAwayTarget chances Ready = Unit {0}
 HasAwayTarget chances Blocked = Unit {0}
@@ -71,7 +84,8 @@ HasAwayTarget chances Ended = Unit {0}
 
 -- the target of every Unknown is
 abbrev pub TargetsAreAway : List Chance → Type 0
-TargetsAreAway chances = (thread : ℕ) → thread < length chances → HasAwayTarget chances (chance_of chances thread)
+TargetsAreAway chances =
+    (thread : ℕ) → thread < length chances → HasAwayTarget chances (chance_of chances thread)
 
 -- only a list of threads can be departed from
 abbrev pub MayDepart : Plan → Type 0
@@ -79,11 +93,14 @@ MayDepart (ByPoints order points) = ⊥
 MayDepart (ByEvents order events) = ⊥
 MayDepart (ByList listed) = Unit {0}
 
--- A picked thread is Ready, one that is waited for is Away, and where nobody is picked every thread is Blocked or Ended.
+-- A picked thread is Ready, one that is waited for is Away, and where nobody is picked every thread
+-- is Blocked or Ended.
 abbrev pub IsSound : Plan → List Chance → Pick → Type 0
-IsSound plan chances (Thread thread) = (thread < length chances) × (chance_of chances thread ≡ Ready)
+IsSound plan chances (Thread thread) =
+    (thread < length chances) × (chance_of chances thread ≡ Ready)
 IsSound plan chances (Waits thread) = (thread < length chances) × (chance_of chances thread ≡ Away)
-IsSound plan chances Nobody = (thread : ℕ) → thread < length chances → is_open (chance_of chances thread) ≡ false
+IsSound plan chances Nobody =
+    (thread : ℕ) → thread < length chances → is_open (chance_of chances thread) ≡ false
 IsSound plan chances (Departs thread) = MayDepart plan × (thread < length chances)
 
 -- whether a thread's next step is known: neither Away nor Unknown
@@ -97,7 +114,8 @@ is_known Ended = true
 -- the later chances say the same of each thread that is known in the earlier ones
 pub record KeepsKnown (earlier later : List Chance) : Type 0 where
   pub threads : length later ≡ length earlier
-  pub known : (thread : ℕ) → thread < length earlier → is_known (chance_of earlier thread) ≡ true → chance_of later thread ≡ chance_of earlier thread
+  pub known : (thread : ℕ) → thread < length earlier → is_known (chance_of earlier thread) ≡ true
+      → chance_of later thread ≡ chance_of earlier thread
 
 -- the pick waits for a thread
 abbrev pub IsWaits : Pick → Type 0

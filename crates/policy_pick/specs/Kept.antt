@@ -36,7 +36,8 @@ events_plan kept = ByEvents kept.order kept.events
 
 -- how many steps of the schedule each thread of the order took
 abbrev pub own_counts : List ℕ → List ℕ → List ℕ
-own_counts order schedule = map (λ thread. count_by (λ taker. taker == thread) schedule) (threads_of order)
+own_counts order schedule =
+    map (λ thread. count_by (λ taker. taker == thread) schedule) (threads_of order)
 
 -- it stands for a schedule: the same, by its events, and each thread's own steps are counted
 pub record EventsStand (kept : EventsKept) (schedule : List ℕ) : Type 0 where

@@ -11,7 +11,8 @@ pub data Plan : Type 0 where
   -- a list of threads, one a step
   ByList : List ℕ → Plan
 
--- how many threads a policy speaks of: those of its order, or any number up to 64 that the listed threads are below
+-- how many threads a policy speaks of: those of its order, or any number up to 64 that the listed
+-- threads are below
 abbrev pub SpeaksOf : Plan → ℕ → Type 0
 SpeaksOf (ByPoints order points) threads = threads ≡ length order
 SpeaksOf (ByEvents order events) threads = threads ≡ length order

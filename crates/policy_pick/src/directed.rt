@@ -39,7 +39,8 @@ impl DirectedPolicy {
         requires few_events { length events.now ≤ 7 }
         ensures plan { IfOk result (λ p. events_plan p ≡ ByEvents order.now events.now) }
         ensures stands { IfOk result (λ p. EventsStand p []) }
-        ensures not_an_order { (at : ℕ) → (result ≡ Err (RankError.NotAnOrder at)) ↔ IsFirstWrong order.now at }
+        ensures not_an_order { (at : ℕ)
+            → (result ≡ Err (RankError.NotAnOrder at)) ↔ IsFirstWrong order.now at }
     {
         let ranks = Ranks::new(alloc, order, events.len() as u32)?;
         let own = vec![in alloc; 0; order.len()]?;

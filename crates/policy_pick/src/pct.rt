@@ -38,7 +38,8 @@ impl Pct {
         requires few_points { length points.now ≤ 7 }
         ensures plan { IfOk result (λ p. points_plan p ≡ ByPoints order.now points.now) }
         ensures stands { IfOk result (λ p. PointsStand p []) }
-        ensures not_an_order { (at : ℕ) → (result ≡ Err (RankError.NotAnOrder at)) ↔ IsFirstWrong order.now at }
+        ensures not_an_order { (at : ℕ)
+            → (result ≡ Err (RankError.NotAnOrder at)) ↔ IsFirstWrong order.now at }
     {
         let ranks = Ranks::new(alloc, order, points.len() as u32)?;
         let order = Vec::from_slice(alloc, order)?;

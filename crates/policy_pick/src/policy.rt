@@ -18,15 +18,19 @@ pub trait Policy: Send + Drop {
     fn pick(&self, chances: &[Chance]) -> Pick
         requires threads { SpeaksOf (plan self.now) (length chances.now) }
         requires targets { TargetsAreAway chances.now }
-        ensures choice { (schedule : List ℕ) → stands self.now schedule → result ≡ choice (plan self.now) schedule chances.now }
+        ensures choice { (schedule : List ℕ) → stands self.now schedule
+            → result ≡ choice (plan self.now) schedule chances.now }
         ensures sound { IsSound (plan self.now) chances.now result };
 
     /// Notes that the thread took a step.
     fn took(&mut self, thread: u32)
         requires thread { IsThreadOf (plan self.old) thread }
-        requires short { (schedule : List ℕ) × stands self.old schedule × (length schedule < 100000) }
+        requires short { (schedule : List ℕ)
+            × stands self.old schedule
+            × (length schedule < 100000) }
         ensures plan { plan self.new ≡ plan self.old }
-        ensures stands { (schedule : List ℕ) → stands self.old schedule → stands self.new (schedule ++ thread ∷ []) };
+        ensures stands { (schedule : List ℕ) → stands self.old schedule
+            → stands self.new (schedule ++ thread ∷ []) };
 
     // A choice that waits for nobody stays, as what was not known becomes known.
     ghost keeps: { (policy : Self) (schedule : List ℕ) (earlier later : List Chance) → SpeaksOf (plan policy) (length earlier) → KeepsKnown earlier later → ¬ IsWaits (choice (plan policy) schedule earlier) → choice (plan policy) schedule later ≡ choice (plan policy) schedule earlier };

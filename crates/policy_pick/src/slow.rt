@@ -104,7 +104,8 @@ fn slow_rank(given: &[u32], count: u32, order: &[u32], schedule: &[u32], thread:
     requires short { length schedule.now ≤ 100 }
     requires few_threads { length order.now ≤ 64 }
     requires few_changes { count ≤ 7 }
-    ensures { result ≡ rank_by (λ step. slice_index given.now (step - 1)) count order.now schedule.now thread }
+    ensures { result
+        ≡ rank_by (λ step. slice_index given.now (step - 1)) count order.now schedule.now thread }
 {
     let last = slow_change(given, schedule, thread);
     if last == 0 {
@@ -127,7 +128,10 @@ fn slow_ranks(
     requires short { length schedule.now ≤ 100 }
     requires few_threads { length order.now ≤ 64 }
     requires few_changes { count ≤ 7 }
-    ensures { IfOk result (λ v. v.items ≡ map (rank_by (λ step. slice_index given.now (step - 1)) count order.now schedule.now) (threads_of order.now)) }
+    ensures { IfOk result (λ v.
+        v.items
+        ≡ map (rank_by (λ step. slice_index given.now (step - 1)) count order.now schedule.now)
+        (threads_of order.now)) }
 {
     let mut values = Vec::new(alloc);
     for thread in 0..order.len() as u32 {
@@ -208,7 +212,9 @@ pub fn slow_choice(ranks: &[u32], chances: &[Chance]) -> Pick
 /// The open thread of least number.
 fn slow_first(chances: &[Chance]) -> Option<usize>
     ensures within { IfSome result (λ first. first < length chances.now) }
-    ensures found { result ≡ find (λ thread. is_open (chance_of chances.now thread)) (range_with_len 0 (length chances.now)) }
+    ensures found { result
+        ≡ find (λ thread. is_open (chance_of chances.now thread))
+        (range_with_len 0 (length chances.now)) }
 {
     for thread in 0..chances.len() {
         if is_open(chances[thread]) {

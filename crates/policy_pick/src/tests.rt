@@ -26,11 +26,15 @@ fn targets_are_away(chances: &[Chance]) -> bool
 fn step<P: Policy>(policy: &mut P, chances: &[Chance]) -> Pick
     requires threads { SpeaksOf (P.plan policy.old) (length chances.now) }
     requires targets { TargetsAreAway chances.now }
-    requires short { (schedule : List ℕ) × P.stands policy.old schedule × (length schedule < 100000) }
+    requires short { (schedule : List ℕ)
+        × P.stands policy.old schedule
+        × (length schedule < 100000) }
     ensures plan { P.plan policy.new ≡ P.plan policy.old }
-    ensures picked { (schedule : List ℕ) → P.stands policy.old schedule → result ≡ choice (P.plan policy.old) schedule chances.now }
+    ensures picked { (schedule : List ℕ) → P.stands policy.old schedule
+        → result ≡ choice (P.plan policy.old) schedule chances.now }
     ensures sound { IsSound (P.plan policy.old) chances.now result }
-    ensures stands { (schedule : List ℕ) → P.stands policy.old schedule → ((more : List ℕ) × (length more ≤ 1) × P.stands policy.new (schedule ++ more)) }
+    ensures stands { (schedule : List ℕ) → P.stands policy.old schedule
+        → ((more : List ℕ) × (length more ≤ 1) × P.stands policy.new (schedule ++ more)) }
 {
     let pick = policy.pick(chances);
     if let Pick::Thread(thread) = pick {

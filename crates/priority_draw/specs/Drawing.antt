@@ -1,5 +1,5 @@
--- The order and the change points that a seed gives (PCT draws them at random; how they come from words is this
--- project's).
+-- The order and the change points that a seed gives (PCT draws them at random; how they come from
+-- words is this project's).
 use Rattle.std.specs.Prelude.{ℕ, ◌+◌, ◌-◌, ◌*◌, ◌/◌, ◌^◌, ◌≤◌, List, map}
 use Rattle.std.specs.List.{range_with_len}
 use Rattle.priority_draw.specs.Words.{number}
@@ -15,7 +15,8 @@ draw seed place bound = scale (number seed place) bound
 
 -- the places of n threads, by the 2n words from a place on: the bounds are n, n-1, .., 1
 unfoldable pub drawn_places : ℕ → ℕ → ℕ → List ℕ
-drawn_places seed place threads = map (λ i. draw seed (place + 2 * i) (threads - i)) (range_with_len 0 threads)
+drawn_places seed place threads =
+    map (λ i. draw seed (place + 2 * i) (threads - i)) (range_with_len 0 threads)
 
 -- the order that these places give
 abbrev pub drawn_order : ℕ → ℕ → ℕ → List ℕ
@@ -23,15 +24,16 @@ drawn_order seed place threads = order_of (drawn_places seed place threads)
 
 -- so many points in 1..steps, by two words each from a place on
 unfoldable pub drawn_points : ℕ → ℕ → ℕ → ℕ → List ℕ
-drawn_points seed place steps count = map (λ i. 1 + draw seed (place + 2 * i) steps) (range_with_len 0 count)
+drawn_points seed place steps count =
+    map (λ i. 1 + draw seed (place + 2 * i) steps) (range_with_len 0 count)
 
 -- what a run is drawn
 pub record Drawn : Type 0 where
   pub order : List ℕ
   pub points : List ℕ
 
--- What a seed gives for n threads, k steps and depth d: first the order, by the first 2n words, and then d-1 points, by
--- the words after these.
+-- What a seed gives for n threads, k steps and depth d: first the order, by the first 2n words, and
+-- then d-1 points, by the words after these.
 abbrev pub drawn : ℕ → ℕ → ℕ → ℕ → Drawn
 drawn seed threads steps depth = record {
   order = drawn_order seed 0 threads;

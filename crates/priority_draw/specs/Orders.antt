@@ -10,7 +10,8 @@ declared_order threads = range_with_len 0 threads
 pub record IsOrder (threads : ℕ) (order : List ℕ) : Type 0 where
   pub whole : length order ≡ threads
   pub below : (place : ℕ) → place < threads → slice_index order place < threads
-  pub once : (first second : ℕ) → first < second → second < threads → slice_index order first ≢ slice_index order second
+  pub once : (first second : ℕ) → first < second → second < threads
+      → slice_index order first ≢ slice_index order second
   pub all : (thread : ℕ) → thread < threads → Contains order thread
 
 -- places, from 0, with the bounds n, n-1, .., 1
@@ -21,15 +22,16 @@ pub record ArePlaces (threads : ℕ) (places : List ℕ) : Type 0 where
 -- threads taken out of a list one by one, each by its place in what remains
 abbrev pub taken_from : List ℕ → List ℕ → List ℕ
 taken_from remaining [] = []
-taken_from remaining (place ∷ places) = slice_index remaining place ∷ taken_from (remove remaining place) places
+taken_from remaining (place ∷ places) =
+    slice_index remaining place ∷ taken_from (remove remaining place) places
 
--- The order of a list of places: the threads as they are taken out of the declared list, the highest priority first
--- (this project).
+-- The order of a list of places: the threads as they are taken out of the declared list, the
+-- highest priority first (this project).
 unfoldable pub order_of : List ℕ → List ℕ
 order_of places = taken_from (declared_order (length places)) places
 
--- The places of an order: for each thread, how many that come after it in the order are declared before it (the Lehmer
--- code of a permutation).
+-- The places of an order: for each thread, how many that come after it in the order are declared
+-- before it (the Lehmer code of a permutation).
 abbrev pub places_of : List ℕ → List ℕ
 places_of [] = []
 places_of (thread ∷ order) = count_by (λ other. nat_lt other thread) order ∷ places_of order
@@ -38,4 +40,5 @@ places_of (thread ∷ order) = count_by (λ other. nat_lt other thread) order �
 pub record AreOnlyPlaces (threads : ℕ) (order places : List ℕ) : Type 0 where
   pub bounds : ArePlaces threads places
   pub gives : order_of places ≡ order
-  pub only : (others : List ℕ) → ArePlaces threads others → order_of others ≡ order → others ≡ places
+  pub only : (others : List ℕ) → ArePlaces threads others → order_of others ≡ order
+      → others ≡ places

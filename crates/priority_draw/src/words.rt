@@ -59,18 +59,23 @@ impl Words {
     pub fn draw_order(&mut self, alloc: Global, threads: u32) -> Result<OrderList, NoMemory>
         requires some_thread { 1 ≤ threads }
         requires few_threads { threads ≤ 64 }
-        ensures value { IfOk result (λ order. order ≡ drawn_order self.old.seed self.old.place threads) }
+        ensures value { IfOk result (λ order.
+            order ≡ drawn_order self.old.seed self.old.place threads) }
         ensures order { IfOk result (IsOrder threads) }
         ensures words { OnOk result (self.new ≡ after self.old (2 * threads)) }
         ensures no_memory { OnErr result (self.new ≡ self.old) }
 
         // From a seed's first word on it is the seed's order.
-        ensures of_seed { IfOk result (λ order. (seed steps depth : ℕ) → self.old ≡ first_words seed → order ≡ (drawn seed threads steps depth).order) }
+        ensures of_seed { IfOk result (λ order.
+            (seed steps depth : ℕ) → self.old ≡ first_words seed
+            → order ≡ (drawn seed threads steps depth).order) }
 
         // The places are in bounds. Each list of places in bounds gives an order, and each order is given by exactly one.
         ensures places { ArePlaces threads (drawn_places self.old.seed self.old.place threads) }
-        ensures each_list { (places : List ℕ) → ArePlaces threads places → IsOrder threads (order_of places) }
-        ensures each_order { (order : List ℕ) → IsOrder threads order → AreOnlyPlaces threads order (places_of order) }
+        ensures each_list { (places : List ℕ) → ArePlaces threads places
+            → IsOrder threads (order_of places) }
+        ensures each_order { (order : List ℕ) → IsOrder threads order
+            → AreOnlyPlaces threads order (places_of order) }
     {
         let mut order = declared_order(alloc, threads)?;
         self.take_out(&mut order);
@@ -87,14 +92,17 @@ impl Words {
         requires some_step { 1 ≤ steps }
         requires few_steps { steps ≤ 100000 }
         requires few_points { count ≤ 7 }
-        ensures value { IfOk result (λ points. points ≡ drawn_points self.old.seed self.old.place steps count) }
+        ensures value { IfOk result (λ points.
+            points ≡ drawn_points self.old.seed self.old.place steps count) }
         ensures count { IfOk result (λ points. length points ≡ count) }
         ensures steps { IfOk result (All (IsStep steps)) }
         ensures words { OnOk result (self.new ≡ after self.old (2 * count)) }
         ensures no_memory { OnErr result (self.new ≡ self.old) }
 
         // After the seed's order of so many threads they are the seed's points.
-        ensures of_seed { IfOk result (λ points. (seed threads depth : ℕ) → self.old ≡ after (first_words seed) (2 * threads) → depth ≡ count + 1 → points ≡ (drawn seed threads steps depth).points) }
+        ensures of_seed { IfOk result (λ points.
+            (seed threads depth : ℕ) → self.old ≡ after (first_words seed) (2 * threads)
+            → depth ≡ count + 1 → points ≡ (drawn seed threads steps depth).points) }
     {
         let mut points = vec![in alloc; 0; count as usize]?;
         self.fill(&mut points, steps);
@@ -104,7 +112,8 @@ impl Words {
     /// Takes threads out of those that remain, one by one, and lines them up in front.
     fn take_out(&mut self, threads: &mut [u32])
         requires { threads.old ≡ declared_order (length threads.old) }
-        ensures order { threads.new ≡ drawn_order self.old.seed self.old.place (length threads.old) }
+        ensures order { threads.new
+            ≡ drawn_order self.old.seed self.old.place (length threads.old) }
         ensures words { self.new ≡ after self.old (2 * length threads.old) }
     {
         for taken in 0..threads.len() {
@@ -117,7 +126,8 @@ impl Words {
     fn fill(&mut self, points: &mut [u32], steps: u32)
         requires some_step { 1 ≤ steps }
         requires few_steps { steps ≤ 100000 }
-        ensures points { points.new ≡ drawn_points self.old.seed self.old.place steps (length points.old) }
+        ensures points { points.new
+            ≡ drawn_points self.old.seed self.old.place steps (length points.old) }
         ensures words { self.new ≡ after self.old (2 * length points.old) }
     {
         for point in points.iter_mut() {

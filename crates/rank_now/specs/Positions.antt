@@ -1,4 +1,5 @@
--- Positions in a list that are counted from 1, as the steps of a schedule and the change points of PCT are.
+-- Positions in a list that are counted from 1, as the steps of a schedule and the change points of
+-- PCT are.
 use Rattle.std.specs.Prelude.{ℕ, zero, suc, Bool, false, if◌then◌else◌, List, length, slice_get}
 use Rattle.std.specs.Option.{option_map_or}
 

@@ -1,5 +1,6 @@
--- The priorities of the PCT scheduler (Burckhardt, Kothari, Musuvathi, Nagarakatte: "A Randomized Scheduler
--- with Probabilistic Guarantees of Finding Bugs", 2010), of a whole schedule: a list of threads, one a step.
+-- The priorities of the PCT scheduler (Burckhardt, Kothari, Musuvathi, Nagarakatte: "A Randomized
+-- Scheduler with Probabilistic Guarantees of Finding Bugs", 2010), of a whole schedule: a list of
+-- threads, one a step.
 use Rattle.std.specs.Prelude.{ℕ, Bool, ◌+◌, ◌-◌, ◌==◌, ◌&&◌, nat_lt, if◌then◌else◌, List, length, map, take}
 use Rattle.std.specs.List.{count_by, position_or_len, range_with_len}
 use Rattle.rank_now.specs.Positions.{greatest, passes_at, last_position}
@@ -9,34 +10,41 @@ use Rattle.rank_now.specs.declared.moment.Moment.{Moment}
 abbrev pub place_of : List ℕ → ℕ → ℕ
 place_of order thread = position_or_len (λ other. other == thread) order
 
--- The thread's last step at which some index is given, and 0 where there is none. `given step` is the index that
--- is given at a step, and 0 where none is.
+-- The thread's last step at which some index is given, and 0 where there is none. `given step` is
+-- the index that is given at a step, and 0 where none is.
 abbrev pub last_change : (ℕ → ℕ) → List ℕ → ℕ → ℕ
-last_change given schedule thread = greatest (λ step. passes_at (λ other. other == thread) schedule step && nat_lt 0 (given step)) (length schedule)
+last_change given schedule thread =
+    greatest (λ step. passes_at (λ other. other == thread) schedule step && nat_lt 0 (given step))
+    (length schedule)
 
--- The thread's rank after the schedule, with `count` change points: the index that it was given last (PCT). Before
--- that the first of n threads has the rank count + n, and each next one less by one.
+-- The thread's rank after the schedule, with `count` change points: the index that it was given
+-- last (PCT). Before that the first of n threads has the rank count + n, and each next one less by
+-- one.
 unfoldable pub rank_by : (ℕ → ℕ) → ℕ → List ℕ → List ℕ → ℕ → ℕ
 rank_by given count order schedule thread =
     let step = last_change given schedule thread in
     if step == 0 then count + length order - place_of order thread else given step
 
--- the index that a step gives by change points (PCT): the greatest index of a point that is this step
+-- the index that a step gives by change points (PCT): the greatest index of a point that is this
+-- step
 abbrev pub index_of_point : List ℕ → ℕ → ℕ
 index_of_point points step = last_position (λ point. point == step) points
 
 -- a thread's rank after a schedule, by an order and change points (PCT)
 abbrev pub rank : List ℕ → List ℕ → List ℕ → ℕ → ℕ
-rank order points schedule thread = rank_by (index_of_point points) (length points) order schedule thread
+rank order points schedule thread =
+    rank_by (index_of_point points) (length points) order schedule thread
 
 -- how many of the first steps, up to this one, the thread took
 abbrev pub own_steps : List ℕ → ℕ → ℕ → ℕ
 own_steps schedule thread step = count_by (λ other. other == thread) (take step schedule)
 
--- Whether the moment is this step: its thread took the step, as its own step of the moment's number. (PCT's directed
--- scheduler; the moments are this project's.)
+-- Whether the moment is this step: its thread took the step, as its own step of the moment's
+-- number. (PCT's directed scheduler; the moments are this project's.)
 abbrev pub is_moment : List ℕ → ℕ → Moment → Bool
-is_moment schedule step moment = passes_at (λ other. other == moment.thread) schedule step && (own_steps schedule moment.thread step == moment.number)
+is_moment schedule step moment =
+    passes_at (λ other. other == moment.thread) schedule step
+    && (own_steps schedule moment.thread step == moment.number)
 
 -- the index that a step gives by moments: the greatest index of one that is this step
 abbrev pub index_of_moment : List Moment → List ℕ → ℕ → ℕ
@@ -44,7 +52,8 @@ index_of_moment events schedule step = last_position (is_moment schedule step) e
 
 -- a thread's rank after a schedule, by an order and moments in the place of change points
 abbrev pub rank_by_events : List ℕ → List Moment → List ℕ → ℕ → ℕ
-rank_by_events order events schedule thread = rank_by (index_of_moment events schedule) (length events) order schedule thread
+rank_by_events order events schedule thread =
+    rank_by (index_of_moment events schedule) (length events) order schedule thread
 
 -- the threads of an order, by number
 abbrev pub threads_of : List ℕ → List ℕ
@@ -56,4 +65,5 @@ ranks order points schedule = map (rank order points schedule) (threads_of order
 
 -- the same by moments
 abbrev pub ranks_by_events : List ℕ → List Moment → List ℕ → List ℕ
-ranks_by_events order events schedule = map (rank_by_events order events schedule) (threads_of order)
+ranks_by_events order events schedule =
+    map (rank_by_events order events schedule) (threads_of order)

@@ -29,7 +29,8 @@ impl From<NoMemory> for RankError {
 pub fn first_wrong(order: &[u32]) -> Option<u32>
     requires { length order.now ≤ 64 }
     ensures found { IfSome result (IsFirstWrong order.now) }
-    ensures none { IsNone result → (place : ℕ) → place < length order.now → ¬ IsWrongAt order.now place }
+    ensures none { IsNone result → (place : ℕ) → place < length order.now
+        → ¬ IsWrongAt order.now place }
 {
     for (place, thread) in order.iter().enumerate() {
         if *thread as usize >= order.len() || order[..place].contains(thread) {

@@ -34,15 +34,21 @@ impl Ranks {
         requires few_threads { length order.now ≤ 64 }
         requires few_points { count ≤ 7 }
         ensures count { IfOk result (λ r. r.count ≡ count) }
-        ensures values { IfOk result (λ r. r.values ≡ map (λ t. count + length order.now - place_of order.now t) (threads_of order.now)) }
+        ensures values { IfOk result (λ r.
+            r.values
+            ≡ map (λ t. count + length order.now - place_of order.now t) (threads_of order.now)) }
         ensures distinct { IfOk result (λ r. AreDistinct r.values) }
 
         // These are the ranks before the first step.
-        ensures by_points { IfOk result (λ r. (points : List ℕ) → length points ≡ count → r.values ≡ ranks order.now points []) }
-        ensures by_events { IfOk result (λ r. (events : List Moment) → length events ≡ count → r.values ≡ ranks_by_events order.now events []) }
+        ensures by_points { IfOk result (λ r.
+            (points : List ℕ) → length points ≡ count → r.values ≡ ranks order.now points []) }
+        ensures by_events { IfOk result (λ r.
+            (events : List Moment) → length events ≡ count
+            → r.values ≡ ranks_by_events order.now events []) }
 
         ensures order { OnOk result (IsOrder order.now) }
-        ensures not_an_order { (at : ℕ) → (result ≡ Err (RankError.NotAnOrder at)) ↔ IsFirstWrong order.now at }
+        ensures not_an_order { (at : ℕ)
+            → (result ≡ Err (RankError.NotAnOrder at)) ↔ IsFirstWrong order.now at }
     {
         if let Some(at) = first_wrong(order) {
             return Err(RankError::NotAnOrder { at });
@@ -61,14 +67,21 @@ impl Ranks {
         requires thread { thread < length self.old.values }
         requires positive { 1 ≤ value }
         requires low { value ≤ self.old.count }
-        requires free { (other : ℕ) → other < length self.old.values → slice_index self.old.values other ≢ value }
+        requires free { (other : ℕ) → other < length self.old.values
+            → slice_index self.old.values other ≢ value }
         ensures count { self.new.count ≡ self.old.count }
         ensures values { self.new.values ≡ slice_set self.old.values thread value }
         ensures distinct { AreDistinct self.new.values }
 
         // Ranks stay ranks where the thread has just taken the step that gives this value.
-        ensures by_points { (order points schedule : List ℕ) → self.old.values ≡ ranks order points schedule → value ≡ index_of_point points (length schedule + 1) → self.new.values ≡ ranks order points (schedule ++ thread ∷ []) }
-        ensures by_events { (order : List ℕ) (events : List Moment) (schedule : List ℕ) → self.old.values ≡ ranks_by_events order events schedule → value ≡ index_of_moment events (schedule ++ thread ∷ []) (length schedule + 1) → self.new.values ≡ ranks_by_events order events (schedule ++ thread ∷ []) }
+        ensures by_points { (order points schedule : List ℕ)
+            → self.old.values ≡ ranks order points schedule
+            → value ≡ index_of_point points (length schedule + 1)
+            → self.new.values ≡ ranks order points (schedule ++ thread ∷ []) }
+        ensures by_events { (order : List ℕ) (events : List Moment) (schedule : List ℕ)
+            → self.old.values ≡ ranks_by_events order events schedule
+            → value ≡ index_of_moment events (schedule ++ thread ∷ []) (length schedule + 1)
+            → self.new.values ≡ ranks_by_events order events (schedule ++ thread ∷ []) }
     {
         let from = greater(&self.values, self.values[thread as usize]);
         self.values[thread as usize] = value;
@@ -105,7 +118,9 @@ fn first_values(alloc: Global, order: &[u32], count: u32) -> Result<Vec<u32>, Al
     requires order { IsOrder order.now }
     requires few_threads { length order.now ≤ 64 }
     requires few_points { count ≤ 7 }
-    ensures { IfOk result (λ v. v.items ≡ map (λ t. count + length order.now - place_of order.now t) (threads_of order.now)) }
+    ensures { IfOk result (λ v.
+        v.items
+        ≡ map (λ t. count + length order.now - place_of order.now t) (threads_of order.now)) }
 {
     let mut values = vec![in alloc; 0; order.len()]?;
     for (place, thread) in order.iter().enumerate() {

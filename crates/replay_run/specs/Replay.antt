@@ -1,5 +1,5 @@
--- Replay of a trace: its list of threads is run over the bodies of a script, under the trace's limit, and the run is
--- compared with the trace (this project).
+-- Replay of a trace: its list of threads is run over the bodies of a script, under the trace's
+-- limit, and the run is compared with the trace (this project).
 use Rattle.std.specs.Prelude.{◌≡◌, ◌≢◌, ℕ, ◌+◌, List, ◌∷◌, ◌++◌, length}
 use Rattle.pct_ask.specs.declared.Deal.{Deal}
 use Rattle.pct_ask.specs.declared.event.Event.{Event}
@@ -18,7 +18,8 @@ use Rattle.replay_run.specs.declared.answer.Found.TheVariants.{Event as FoundEve
 use Rattle.replay_run.specs.declared.answer.Replayed.{Replayed}
 use Rattle.replay_run.specs.declared.answer.Replayed.TheVariants.{Confirmed, Departs}
 
--- The steps that were made and those that are told agree before this step, and there they are different.
+-- The steps that were made and those that are told agree before this step, and there they are
+-- different.
 pub record DifferAt (step : ℕ) (made told : List Event) (e f : Event) : Type 0 where
   pub before : List Event
   pub more : List Event
@@ -41,25 +42,34 @@ pub record Agree (step : ℕ) (made told : List Event) : Type 0 where
 
 -- what was found at a step and what is written there, where they differ first
 abbrev pub IsDeparture : List Event → Outcome → List Event → Verdict → ℕ → Found → Written → Type 0
-IsDeparture made outcome told verdict step (FoundEvent e) (WrittenEvent f) = DifferAt step made told e f
-IsDeparture made outcome told verdict step (NotEnabled t) (WrittenEvent f) = EndsBefore step made told f × (outcome ≡ Departed t)
-IsDeparture made outcome told verdict step (Over v) (WrittenEvent f) = EndsBefore step made told f × (outcome ≡ Ends v)
-IsDeparture made outcome told verdict step (Over v) (WrittenVerdict w) = Agree step made told × (outcome ≡ Ends v) × (verdict ≡ w) × (v ≢ w)
-IsDeparture made outcome told verdict step (Goes t) (WrittenVerdict w) = Agree step made told × (outcome ≡ Departed t) × (verdict ≡ w)
+IsDeparture made outcome told verdict step (FoundEvent e) (WrittenEvent f) =
+    DifferAt step made told e f
+IsDeparture made outcome told verdict step (NotEnabled t) (WrittenEvent f) =
+    EndsBefore step made told f × (outcome ≡ Departed t)
+IsDeparture made outcome told verdict step (Over v) (WrittenEvent f) =
+    EndsBefore step made told f × (outcome ≡ Ends v)
+IsDeparture made outcome told verdict step (Over v) (WrittenVerdict w) =
+    Agree step made told × (outcome ≡ Ends v) × (verdict ≡ w) × (v ≢ w)
+IsDeparture made outcome told verdict step (Goes t) (WrittenVerdict w) =
+    Agree step made told × (outcome ≡ Departed t) × (verdict ≡ w)
 IsDeparture made outcome told verdict step (Goes t) (WrittenEvent f) = ⊥
 IsDeparture made outcome told verdict step (FoundEvent e) (WrittenVerdict w) = ⊥
 IsDeparture made outcome told verdict step (NotEnabled t) (WrittenVerdict w) = ⊥
 
--- What is told where these steps were made with that outcome, and the trace tells those steps and that verdict: it is
--- confirmed where they are the same, and else the first difference.
+-- What is told where these steps were made with that outcome, and the trace tells those steps and
+-- that verdict: it is confirmed where they are the same, and else the first difference.
 abbrev pub Tells : List Event → Outcome → List Event → Verdict → Replayed → Type 0
-Tells made outcome told verdict (Confirmed v) = (made ≡ told) × (outcome ≡ Ends verdict) × (verdict ≡ v)
-Tells made outcome told verdict (Departs step found written) = IsDeparture made outcome told verdict step found written
+Tells made outcome told verdict (Confirmed v) =
+    (made ≡ told) × (outcome ≡ Ends verdict) × (verdict ≡ v)
+Tells made outcome told verdict (Departs step found written) =
+    IsDeparture made outcome told verdict step found written
 
--- The trace's threads go one after another over the bodies, under its limit, and what comes of it is compared with the
--- trace.
-pub record IsReplay (deal : Deal) (bodies : List Pending) (file : TraceFile) (replayed : Replayed) : Type 0 where
+-- The trace's threads go one after another over the bodies, under its limit, and what comes of it
+-- is compared with the trace.
+pub record IsReplay (deal : Deal) (bodies : List Pending) (file : TraceFile) (replayed : Replayed)
+    : Type 0 where
   pub made : List Event
   pub outcome : Outcome
-  pub played : IsPlayed (ByList (schedule_of file.events)) deal bodies file.header.limit made outcome
+  pub played : IsPlayed (ByList (schedule_of file.events)) deal bodies file.header.limit made
+      outcome
   pub tells : Tells made outcome file.events file.verdict replayed

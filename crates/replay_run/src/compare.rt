@@ -23,7 +23,8 @@ fn agreed(made: &[Event], told: &[Event]) -> usize
 
 /// What is told where the run ended, or left its list, before a step of the trace.
 fn stopped(step: u32, outcome: Outcome, written: Event) -> Replayed
-    ensures { (made told : List Event) (verdict : Verdict) → EndsBefore step made told written → Tells made outcome told verdict result }
+    ensures { (made told : List Event) (verdict : Verdict) → EndsBefore step made told written
+        → Tells made outcome told verdict result }
 {
     let found = match outcome {
         Outcome::Verdict(verdict) => Found::Over(verdict),
@@ -38,7 +39,8 @@ fn stopped(step: u32, outcome: Outcome, written: Event) -> Replayed
 
 /// What is told where all steps of the trace are the run's.
 fn ended(step: u32, outcome: Outcome, verdict: Verdict) -> Replayed
-    ensures { (steps : List Event) → step ≡ length steps + 1 → Tells steps outcome steps verdict result }
+    ensures { (steps : List Event) → step ≡ length steps + 1
+        → Tells steps outcome steps verdict result }
 {
     let found = match outcome {
         Outcome::Verdict(reached) => {

@@ -50,8 +50,10 @@ pub fn replay<R: Threads + Wait + Sync, G: Gate>(
         → IfOk result (IsReplay deal.now (bodies_of script) file.now) }
 
     // A run by an order and change points is confirmed.
-    ensures run { (script : ScriptText) (order points : List ℕ) → AreOf script (listing code.now) deal.now → deal.now.threads ≡ length order
-        → run deal.now (bodies_of script) order points file.now.header.limit ≡ Some (file.now.events, file.now.verdict)
+    ensures run { (script : ScriptText) (order points : List ℕ)
+        → AreOf script (listing code.now) deal.now → deal.now.threads ≡ length order
+        → run deal.now (bodies_of script) order points file.now.header.limit
+        ≡ Some (file.now.events, file.now.verdict)
         → IfOk result (λ replayed. replayed ≡ Replayed.Confirmed file.now.verdict) }
 {
     let threads = threads_of(alloc, file.events.as_slice())?;

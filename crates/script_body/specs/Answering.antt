@@ -28,5 +28,6 @@ put (Some reg) answer registers = slice_set registers reg answer
 -- after the answer to a statement: between its two asks, or at the next operation
 abbrev pub answered : Statement → (next : ℕ) → Spot → ℤ → Spot
 answered s next at answer =
-    if asks_twice s && not at.halfway then record { place = at.place; registers = at.registers; halfway = true }
+    if asks_twice s && not at.halfway
+    then record { place = at.place; registers = at.registers; halfway = true }
     else spot next (put (answer_reg s) answer at.registers)

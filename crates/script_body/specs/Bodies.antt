@@ -1,4 +1,5 @@
--- The bodies of a script's threads, as what they post, and code and a deal that belong to a script (this project).
+-- The bodies of a script's threads, as what they post, and code and a deal that belong to a script
+-- (this project).
 use Rattle.std.specs.Prelude.{ℕ, ℤ, List, Option, Some, None, length, map, slice_index_or}
 use Rattle.std.specs.List.{range_with_len}
 use Rattle.pct_ask.specs.declared.Deal.{Deal}
@@ -28,7 +29,8 @@ abbrev pub AskIsInRange : Sizes → Option Ask → Type 0
 AskIsInRange sizes None = Unit {0}
 AskIsInRange sizes (Some ask) = IsInRange sizes ask
 
--- so does each that these bodies post, whatever they are answered; a thread that there isn't asks nothing
+-- so does each that these bodies post, whatever they are answered; a thread that there isn't asks
+-- nothing
 abbrev pub AskInRange : Sizes → List (List ℤ → Post) → Type 0
 AskInRange sizes bodies = (t : ℕ) (answers : List ℤ)
     → AskIsInRange sizes

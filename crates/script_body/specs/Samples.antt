@@ -6,11 +6,20 @@ use Rattle.script_tree.specs.Trees.{Expression, Number, Reg, Minus, Two, Stateme
 use Rattle.script_tree.specs.Fitting.{statements_fit, counts_of}
 
 abbrev pub thread_names : NameLists
-thread_names = record { threads = codes "A" ∷ codes "B" ∷ []; vars = []; mutexes = []; conds = []; sems = []; barriers = []; rwlocks = [] }
+thread_names = record {
+  threads = codes "A" ∷ codes "B" ∷ [];
+  vars = [];
+  mutexes = [];
+  conds = [];
+  sems = [];
+  barriers = [];
+  rwlocks = [];
+}
 
 -- with what the threads change and wait for
 abbrev pub lock_names : NameLists
-lock_names = record thread_names { vars = codes "x" ∷ []; mutexes = codes "m" ∷ []; conds = codes "c" ∷ [] }
+lock_names =
+    record thread_names { vars = codes "x" ∷ []; mutexes = codes "m" ∷ []; conds = codes "c" ∷ [] }
 
 abbrev pub sample_names : NameLists
 sample_names = record lock_names { sems = codes "s" ∷ []; barriers = codes "b" ∷ [] }
@@ -24,7 +33,9 @@ equals reg value = Two ops.Eq (Reg reg) value
 
 -- a variable is added to and exchanged, and a mutex and a semaphore are tried for
 abbrev pub trying : List Statement
-trying = Add 8 0 0 (Number (pos 3)) ∷ Cas 9 1 0 (Number (pos 8)) (Number (pos 9)) ∷ TryLock 10 2 0 ∷ TryDown 11 3 0 ∷ Up 12 0 ∷ Yield 13 ∷ []
+trying =
+    Add 8 0 0 (Number (pos 3)) ∷ Cas 9 1 0 (Number (pos 8)) (Number (pos 9)) ∷ TryLock 10 2 0
+    ∷ TryDown 11 3 0 ∷ Up 12 0 ∷ Yield 13 ∷ []
 
 abbrev pub tried : List Statement
 tried =

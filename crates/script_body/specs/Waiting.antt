@@ -26,7 +26,8 @@ spot_after code at answer = after_act (flat_head code at).1 (last_spot code) ans
 -- the post after these answers of a body that stands here with this post
 abbrev pub pending_at : List Operation → Spot → Post → List ℤ → Post
 pending_at code at post [] = post
-pending_at code at post (answer ∷ answers) = flat_pending_from code (spot_after code at answer) answers
+pending_at code at post (answer ∷ answers) =
+    flat_pending_from code (spot_after code at answer) answers
 
 -- where a thread stands once it has made its local moves
 abbrev pub stand_of : List Operation → Spot → Stand Spot

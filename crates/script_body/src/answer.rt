@@ -15,7 +15,9 @@ use script_tree::Stmt;
 pub(crate) fn take_answer(code: &Code, thread: u32, state: &mut State, value: i64)
     requires thread { thread < length (listing code.now) }
     requires place { state.old.place < length (listing_of (listing code.now) thread) }
-    requires waits { is_waiting (flat_head (listing_of (listing code.now) thread) (spot_of state.old)).1 ≡ true }
+    requires waits { is_waiting
+        (flat_head (listing_of (listing code.now) thread) (spot_of state.old)).1
+        ≡ true }
     ensures goes_on { (answers : List ℤ) →
         flat_pending_from (listing_of (listing code.now) thread) (spot_of state.new) answers
         ≡ flat_pending_from (listing_of (listing code.now) thread)

@@ -39,14 +39,16 @@ impl<'c> ScriptBody<'c> {
     pub fn new(code: &'c Code, thread: u32) -> Self
         requires { thread < length (listing code.now) }
         // What its code posts, after any answers.
-        ensures code { (answers : List ℤ) →
-            pending_of result answers ≡ flat_pending (listing_of (listing code.now) thread) answers }
+        ensures code { (answers : List ℤ)
+            → pending_of result answers
+            ≡ flat_pending (listing_of (listing code.now) thread) answers }
         // Of the code of a script: what the script's thread posts.
-        ensures script { (script : ScriptText) → IsCodeOf script (listing code.now) → (answers : List ℤ) →
-            pending_of result answers ≡ pending script thread answers }
+        ensures script { (script : ScriptText) → IsCodeOf script (listing code.now)
+            → (answers : List ℤ) → pending_of result answers ≡ pending script thread answers }
         // Of the code of a sound script: its posts name only what the script's deal has.
         ensures named { (script : ScriptText) (deal : Deal) → IsCodeOf script (listing code.now)
-            → IsScript script → IsDealOf script deal → (answers : List ℤ) → IsPostOf deal (pending_of result answers) }
+            → IsScript script → IsDealOf script deal → (answers : List ℤ)
+            → IsPostOf deal (pending_of result answers) }
     {
         let mut state = State {
             place: 0,

@@ -18,11 +18,15 @@ use script_tree::Stmt;
 pub(crate) fn make_move(code: &Code, thread: u32, state: &mut State) -> Result<(), FaultKind>
     requires thread { thread < length (listing code.now) }
     requires place { state.old.place < length (listing_of (listing code.now) thread) }
-    requires local { is_move (flat_head (listing_of (listing code.now) thread) (spot_of state.old)).1 ≡ true }
+    requires local { is_move
+        (flat_head (listing_of (listing code.now) thread) (spot_of state.old)).1
+        ≡ true }
     ensures moved { OnOk result
-        ((flat_head (listing_of (listing code.now) thread) (spot_of state.old)).1 ≡ Moves (Ok (spot_of state.new))) }
+        ((flat_head (listing_of (listing code.now) thread) (spot_of state.old)).1
+        ≡ Moves (Ok (spot_of state.new))) }
     ensures fault { IfErr result (λ kind.
-        (flat_head (listing_of (listing code.now) thread) (spot_of state.old)).1 ≡ Moves (Err kind)) }
+        (flat_head (listing_of (listing code.now) thread) (spot_of state.old)).1
+        ≡ Moves (Err kind)) }
     ensures inside { state.new.place < length (listing_of (listing code.now) thread) }
 {
     match code.flat(thread, state.place) {
@@ -44,9 +48,11 @@ pub(crate) fn make_move(code: &Code, thread: u32, state: &mut State) -> Result<(
 // Makes the move of a `set`.
 fn set(stmt: &Stmt, next: u32, state: &mut State) -> Result<(), FaultKind>
     requires lone { is_lone (statement stmt.now) ≡ true }
-    requires local { is_move (act [] state.old.registers state.old.halfway (statement stmt.now)) ≡ true }
+    requires local { is_move (act [] state.old.registers state.old.halfway (statement stmt.now))
+        ≡ true }
     ensures moved { OnOk result
-        (act [] state.old.registers state.old.halfway (statement stmt.now) ≡ Moves (Ok (before [] state.new.registers))) }
+        (act [] state.old.registers state.old.halfway (statement stmt.now)
+        ≡ Moves (Ok (before [] state.new.registers))) }
     ensures next { OnOk result (spot_of state.new ≡ spot next state.new.registers) }
     ensures fault { IfErr result (λ kind.
         act [] state.old.registers state.old.halfway (statement stmt.now) ≡ Moves (Err kind)) }

@@ -56,7 +56,8 @@ fn set(
     left: Expr,
     right: Expr,
 ) -> Result<Stmt, NoMemory>
-    ensures { IfOk result (λ s. statement s ≡ trees.Set line reg (trees.Two op (expression left) (expression right))) }
+    ensures { IfOk result (λ s.
+        statement s ≡ trees.Set line reg (trees.Two op (expression left) (expression right))) }
 {
     let value = two(alloc, op, left, right)?;
     Ok(Stmt::Set { line, reg, value })
@@ -64,14 +65,16 @@ fn set(
 
 #[tactic(auto, using(script_tree::proofs::laws::SeenParts::seen_laws))]
 fn assert(alloc: Global, line: u32, op: Op, left: Expr, right: Expr) -> Result<Stmt, NoMemory>
-    ensures { IfOk result (λ s. statement s ≡ trees.Assert line (trees.Two op (expression left) (expression right))) }
+    ensures { IfOk result (λ s.
+        statement s ≡ trees.Assert line (trees.Two op (expression left) (expression right))) }
 {
     let test = two(alloc, op, left, right)?;
     Ok(Stmt::Assert { line, test })
 }
 
 pub(crate) fn push(stmt: Stmt, stmts: &mut Vec<Stmt>) -> Result<(), NoMemory>
-    ensures { OnOk result (statements stmts.new.items ≡ statements stmts.old.items ++ statement stmt ∷ []) }
+    ensures { OnOk result
+        (statements stmts.new.items ≡ statements stmts.old.items ++ statement stmt ∷ []) }
 {
     Ok(stmts.push(stmt)?)
 }
@@ -289,7 +292,8 @@ fn rounds(alloc: Global, line: u32) -> Result<Stmt, NoMemory>
 #[tactic(auto, using(script_tree::proofs::laws::SeenParts::seen_laws))]
 fn push_counting(alloc: Global, line: u32, stmts: &mut Vec<Stmt>) -> Result<(), NoMemory>
     requires { line < 900 }
-    ensures { OnOk result (statements stmts.new.items ≡ statements stmts.old.items ++ counting line) }
+    ensures { OnOk result
+        (statements stmts.new.items ≡ statements stmts.old.items ++ counting line) }
 {
     push(moving(line), stmts)?;
     push(rounds(alloc, line + 1)?, stmts)?;

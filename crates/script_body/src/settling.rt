@@ -17,7 +17,8 @@ const MOST_MOVES: u32 = 10_000;
 pub(crate) fn settle(code: &Code, thread: u32, state: &mut State) -> Post
     requires thread { thread < length (listing code.now) }
     requires place { state.old.place < length (listing_of (listing code.now) thread) }
-    ensures { Settles (listing_of (listing code.now) thread) (spot_of state.old) (spot_of state.new) result }
+    ensures { Settles (listing_of (listing code.now) thread) (spot_of state.old) (spot_of state.new)
+        result }
 {
     for _ in 0..MOST_MOVES {
         match turn_at(code, thread, state) {
@@ -48,7 +49,8 @@ fn fault(line: u32, kind: FaultKind) -> Post
 fn stop(code: &Code, thread: u32, state: &mut State, post: Post) -> Post
     requires thread { thread < length (listing code.now) }
     ensures post { result ≡ post }
-    ensures stopped { spot_of state.new ≡ stopped (listing_of (listing code.now) thread) post.ask (spot_of state.old) }
+    ensures stopped { spot_of state.new
+        ≡ stopped (listing_of (listing code.now) thread) post.ask (spot_of state.old) }
 {
     if let Some(Ask::Fault { .. }) = post.ask {
         state.go(code.end(thread));

@@ -53,7 +53,9 @@ fn posts(line: u32, ask: Ask) -> Turn
 // What a statement without blocks does first.
 fn lone_turn(stmt: &Stmt, registers: &Registers, halfway: bool) -> Turn
     requires { is_lone (statement stmt.now) ≡ true }
-    ensures { result ≡ turn_of (line_of (statement stmt.now)) (act [] registers.now halfway (statement stmt.now)) }
+    ensures { result
+        ≡ turn_of (line_of (statement stmt.now))
+        (act [] registers.now halfway (statement stmt.now)) }
 {
     match stmt {
         Stmt::Read { line, var, .. } => posts(*line, Ask::Read { var: *var }),

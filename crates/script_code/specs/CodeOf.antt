@@ -14,11 +14,17 @@ goes_on op = true
 
 -- a beginning stands first where the thread is held, with the thread's line, and nowhere else
 abbrev pub BeginsWhereHeld : Bool → (line : ℕ) → List Operation → Type 0
-BeginsWhereHeld true line code = (rest : List Operation) × (next : ℕ) × (code ≡ Begin line next ∷ rest) × (list_all goes_on rest ≡ true)
+BeginsWhereHeld true line code =
+    (rest : List Operation)
+    × (next : ℕ)
+    × (code ≡ Begin line next ∷ rest)
+    × (list_all goes_on rest ≡ true)
 BeginsWhereHeld false line code = list_all goes_on code ≡ true
 
 -- the code has a list for each thread of the script, and each posts what the script's thread does
 pub record IsCodeOf (script : ScriptText) (code : List (List Operation)) : Type 0 where
   pub threads : length code ≡ length script.threads
-  pub posts : (t : ℕ) → t < length script.threads → (answers : List ℤ) → flat_pending (listing_of code t) answers ≡ pending script t answers
-  pub begins : (t : ℕ) → t < length script.threads → BeginsWhereHeld (is_held script t) (thread_of script t).line (listing_of code t)
+  pub posts : (t : ℕ) → t < length script.threads → (answers : List ℤ)
+      → flat_pending (listing_of code t) answers ≡ pending script t answers
+  pub begins : (t : ℕ) → t < length script.threads
+      → BeginsWhereHeld (is_held script t) (thread_of script t).line (listing_of code t)

@@ -11,7 +11,8 @@ use Rattle.script_tree.specs.Posts.{most_moves}
 use Rattle.script_code.specs.Operations.{Operation, Do, Test, End, Begin}
 use Rattle.script_code.specs.Placed.{last_place}
 
--- where a thread stands in its code, with its numbers, and whether it has had the first answer of a `wait` or `arrive`
+-- where a thread stands in its code, with its numbers, and whether it has had the first answer of a
+-- `wait` or `arrive`
 pub record Spot : Type 0 where
   pub place : ℕ
   pub registers : List ℤ
@@ -35,7 +36,11 @@ is_fault ask = false
 -- after a statement that stood alone: where nothing of it remains, the next operation's turn comes
 abbrev pub spot_after : (place next : ℕ) → List Statement → List ℤ → Bool → Spot
 spot_after place next [] registers halfway = spot next registers
-spot_after place next (s ∷ rest) registers halfway = record { place = place; registers = registers; halfway = halfway }
+spot_after place next (s ∷ rest) registers halfway = record {
+  place = place;
+  registers = registers;
+  halfway = halfway;
+}
 
 abbrev pub after_lone : (place next : ℕ) → State → Spot
 after_lone place next state = spot_after place next state.rest state.registers state.halfway
@@ -44,7 +49,8 @@ after_lone place next state = spot_after place next state.rest state.registers s
 abbrev pub lone_move : (State → Spot) → Act State → Spot → Act Spot
 lone_move go (Moves (Ok state)) last = Moves (Ok (go state))
 lone_move go (Moves (Err kind)) last = Moves (Err kind)
-lone_move go (Asks ask after) last = Asks ask (λ answer. if is_fault ask then last else go (after answer))
+lone_move go (Asks ask after) last =
+    Asks ask (λ answer. if is_fault ask then last else go (after answer))
 lone_move go Ends last = Ends
 
 -- a test is a local move, or its fault
@@ -55,18 +61,27 @@ test_move (Err kind) next = Moves (Err kind)
 -- what an operation does, with its line
 abbrev pub flat_act : Option Operation → List Operation → Spot → ℕ × Act Spot
 flat_act None code at = (0, Ends)
-flat_act (Some (Do s next)) code at = (line_of s, lone_move (after_lone at.place next) (act [] at.registers at.halfway s) (last_spot code))
-flat_act (Some (Test line test next otherwise)) code at =
-    (line, test_move (value_of at.registers test) (λ n. spot (if is_zero n then otherwise else next) at.registers))
+flat_act (Some (Do s next)) code at = (
+  line_of s,
+  lone_move (after_lone at.place next) (act [] at.registers at.halfway s)
+      (last_spot code),
+)
+flat_act (Some (Test line test next otherwise)) code at = (
+  line,
+  test_move (value_of at.registers test) (λ n.
+      spot (if is_zero n then otherwise else next) at.registers),
+)
 flat_act (Some (End line)) code at = (line, Ends)
-flat_act (Some (Begin line next)) code at = (line, Asks asks.Begin (λ answer. spot next at.registers))
+flat_act (Some (Begin line next)) code at =
+    (line, Asks asks.Begin (λ answer. spot next at.registers))
 
 abbrev pub flat_head : List Operation → Spot → ℕ × Act Spot
 flat_head code at = flat_act (slice_get code at.place) code at
 
 -- the post after these answers of a thread at this spot
 abbrev pub flat_pending_from : List Operation → Spot → List ℤ → Post
-flat_pending_from code at answers = pending_from (flat_head code) (last_spot code) most_moves at answers
+flat_pending_from code at answers =
+    pending_from (flat_head code) (last_spot code) most_moves at answers
 
 -- the post after these answers of a thread that runs the code from its first operation
 abbrev pub flat_pending : List Operation → List ℤ → Post

@@ -32,7 +32,8 @@ is_lone s = true
 -- an operation of a list of this length: each place that it names is in the list
 abbrev pub is_placed : (length : ℕ) → Operation → Bool
 is_placed n (Do s next) = is_lone s && nat_lt next n
-is_placed n (Test line test next otherwise) = expression_fits test && nat_lt next n && nat_lt otherwise n
+is_placed n (Test line test next otherwise) =
+    expression_fits test && nat_lt next n && nat_lt otherwise n
 is_placed n (End line) = true
 is_placed n (Begin line next) = nat_lt next n
 
@@ -46,7 +47,10 @@ last_place code = length code - 1
 
 -- a thread's list: its last operation is its end
 abbrev pub is_listing : List Operation → Bool
-is_listing code = list_all (is_placed (length code)) code && is_end (slice_get code (last_place code)) && nat_lt (length code) (2 ^ 32)
+is_listing code =
+    list_all (is_placed (length code)) code
+    && is_end (slice_get code (last_place code))
+    && nat_lt (length code) (2 ^ 32)
 
 -- the list of a thread
 abbrev pub listing_of : List (List Operation) → ℕ → List Operation

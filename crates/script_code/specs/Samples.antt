@@ -5,7 +5,15 @@ use Rattle.script_tree.specs.Trees.{Reg, Statement, While, Start, Yield, Stateme
 use Rattle.script_tree.specs.ScriptText.{ScriptText}
 
 abbrev pub starter_names : NameLists
-starter_names = record { threads = codes "A" ∷ codes "B" ∷ []; vars = []; mutexes = []; conds = []; sems = []; barriers = []; rwlocks = [] }
+starter_names = record {
+  threads = codes "A" ∷ codes "B" ∷ [];
+  vars = [];
+  mutexes = [];
+  conds = [];
+  sems = [];
+  barriers = [];
+  rwlocks = [];
+}
 
 abbrev pub starting : Statement
 starting = While 3 (Reg 0) (Then (Start 4 1) (Closed 5))

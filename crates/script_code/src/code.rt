@@ -31,8 +31,11 @@ impl Code {
     pub fn flat(&self, thread: u32, place: u32) -> &Flat
         requires thread { thread < length (listing self.now) }
         requires place { place < length (listing_of (listing self.now) thread) }
-        ensures flat { slice_get (listing_of (listing self.now) thread) place ≡ Some (operation result.now) }
-        ensures placed { is_placed (length (listing_of (listing self.now) thread)) (operation result.now) ≡ true }
+        ensures flat { slice_get (listing_of (listing self.now) thread) place
+            ≡ Some (operation result.now) }
+        ensures placed { is_placed (length (listing_of (listing self.now) thread))
+            (operation result.now)
+            ≡ true }
     {
         &self.threads.as_slice()[thread as usize].as_slice()[place as usize]
     }

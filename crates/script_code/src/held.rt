@@ -8,7 +8,8 @@ use script_tree::{Block, Stmt};
 #[cycle(held)]
 fn mark_started(held: &mut [bool], stmt: &Stmt)
     ensures { (t : ℕ) → t < length held.old
-        → slice_index_or held.new t false ≡ (slice_index_or held.old t false || starts t (statement stmt.now)) }
+        → slice_index_or held.new t false
+        ≡ (slice_index_or held.old t false || starts t (statement stmt.now)) }
 {
     match stmt {
         Stmt::Start { thread, .. } => {
@@ -38,7 +39,8 @@ fn mark_started(held: &mut [bool], stmt: &Stmt)
 #[cycle(held)]
 pub(crate) fn mark_all_started(held: &mut [bool], body: &Block)
     ensures { (t : ℕ) → t < length held.old
-        → slice_index_or held.new t false ≡ (slice_index_or held.old t false || any_starts t (block body.now)) }
+        → slice_index_or held.new t false
+        ≡ (slice_index_or held.old t false || any_starts t (block body.now)) }
 {
     for stmt in &body.stmts {
         mark_started(held, stmt);

@@ -1,4 +1,5 @@
--- What a text is by the grammar and by the rules of faults: one script, or one first fault (this project).
+-- What a text is by the grammar and by the rules of faults: one script, or one first fault (this
+-- project).
 use Rattle.std.specs.Prelude.{◌≡◌, ℕ, ◌⊎◌, true, List, All, FitsSigned}
 use Rattle.std.specs.Int.{w64}
 use Rattle.pct_ask.specs.NameLists.{AreNames}
@@ -33,11 +34,16 @@ FailsOnce bytes = (n : ℕ) × (kind : ScriptFault) × IsOnlyFault bytes n kind
 abbrev pub EachHasOneAnswer : Type 0
 EachHasOneAnswer = (bytes : List ℕ) → SpellsOne bytes ⊎ FailsOnce bytes
 
--- A script's values as the code has them: a variable's is an i64, and a number in an expression is below 2^63.
+-- A script's values as the code has them: a variable's is an i64, and a number in an expression is
+-- below 2^63.
 abbrev pub IsOfCode : ScriptText → Type 0
-IsOfCode script = All (FitsSigned w64) script.vars × (are_ranged (all_thread_lines script.names script.names.threads script.threads) ≡ true)
+IsOfCode script =
+    All (FitsSigned w64) script.vars
+    × (are_ranged (all_thread_lines script.names script.names.threads script.threads) ≡ true)
 
--- The canonical layout of a script, where it is no longer than a script may be, spells the script with the lines of
--- that layout, and nothing else.
+-- The canonical layout of a script, where it is no longer than a script may be, spells the script
+-- with the lines of that layout, and nothing else.
 abbrev pub PrintIsRead : Type 0
-PrintIsRead = (script : ScriptText) → IsScript script → AreNames script.names → IsOfCode script → IsShort (layout script) → IsOnlyScript (layout script) (renumbered script)
+PrintIsRead =
+    (script : ScriptText) → IsScript script → AreNames script.names → IsOfCode script
+    → IsShort (layout script) → IsOnlyScript (layout script) (renumbered script)

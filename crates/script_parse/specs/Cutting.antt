@@ -15,11 +15,13 @@ BeginsPlain (b ∷ bs) = is_blank b ≡ false
 -- the text begins with a piece of n bytes, or with none where n is 0
 abbrev pub BeginsWithPiece : ℕ → List ℕ → Type 0
 BeginsWithPiece zero text = pieces_of text ≡ None
-BeginsWithPiece (suc n) text = pieces_of text ≡ before (take (suc n) text) (pieces_of (drop (suc n) text))
+BeginsWithPiece (suc n) text =
+    pieces_of text ≡ before (take (suc n) text) (pieces_of (drop (suc n) text))
 
 -- what stands next in a line
 abbrev pub IsNext : Next → List ℕ → Type 0
 IsNext next.End line = tokens_of line ≡ Some []
 IsNext next.Bad line = tokens_of line ≡ None
 IsNext (next.Token token others) line =
-    (tokens_of line ≡ option_map (λ tokens. seen token ∷ tokens) (tokens_of others.now)) × (length others.now < length line)
+    (tokens_of line ≡ option_map (λ tokens. seen token ∷ tokens) (tokens_of others.now))
+    × (length others.now < length line)

@@ -10,14 +10,16 @@ use Rattle.script_tree.specs.Trees as trees
 use Rattle.script_tree.specs.Expressions.{strength, left_level}
 use Rattle.script_parse.specs.Registers.{register_in}
 
--- what waits for what follows: a parenthesis for its end, an operator for its part or its right part
+-- what waits for what follows: a parenthesis for its end, an operator for its part or its right
+-- part
 pub data Frame : Type 0 where
   Paren : Frame
   Not : Frame
   Minus : Frame
   Two : (op : Op) (left : Expression) → Frame
 
--- what was read of an expression: what waits, the innermost first, and the value that was read last, if one was
+-- what was read of an expression: what waits, the innermost first, and the value that was read
+-- last, if one was
 pub record Pending : Type 0 where
   pub frames : List Frame
   pub value : Option Expression
@@ -50,7 +52,8 @@ reduced level (Paren ∷ frames) value = (Paren ∷ frames, value)
 reduced level (Not ∷ frames) value = reduced level frames (trees.Not value)
 reduced level (Minus ∷ frames) value = reduced level frames (trees.Minus value)
 reduced level (Two op left ∷ frames) value =
-    if nat_le level (strength op) then reduced level frames (trees.Two op left value) else (Two op left ∷ frames, value)
+    if nat_le level (strength op) then reduced level frames (trees.Two op left value)
+    else (Two op left ∷ frames, value)
 
 -- what waits takes a part of this level
 abbrev pub takes : ℕ → Frame → Bool
@@ -92,7 +95,8 @@ closed_by frames value = let done = reduced 0 frames value in closed done.0 done
 -- a token where a value may begin
 abbrev pub begun : (List ℕ → ℤ) → List Frame → Token → Option Pending
 begun number frames (Number digits) = Some (pending frames (Some (trees.Number (number digits))))
-begun number frames (Word word) = option_map (λ r. pending frames (Some (trees.Reg r))) (register_in word)
+begun number frames (Word word) =
+    option_map (λ r. pending frames (Some (trees.Reg r))) (register_in word)
 begun number frames (Symbol signs) =
     if bytes_eq signs (codes "(") then Some (pending (Paren ∷ frames) None)
     else (if bytes_eq signs (codes "-") then Some (pending (Minus ∷ frames) None)
@@ -131,7 +135,8 @@ finished p = finished_at p.frames p.value
 
 abbrev pub read_from : (List ℕ → ℤ) → Pending → List Token → Option Expression
 read_from number p [] = finished p
-read_from number p (token ∷ tokens) = option_and_then (λ next. read_from number next tokens) (step number p token)
+read_from number p (token ∷ tokens) =
+    option_and_then (λ next. read_from number next tokens) (step number p token)
 
 -- the expression that tokens are read as
 abbrev pub expression_in : (List ℕ → ℤ) → List Token → Option Expression

@@ -7,7 +7,10 @@ use Rattle.pct_ask.specs.Characters.{is_digit}
 -- the number in base ten, where it isn't above the greatest i64
 abbrev pub number_in : List ℕ → Option ℤ
 number_in [] = None
-number_in (d ∷ ds) = if list_all is_digit (d ∷ ds) && nat_lt (digits_value 10 (d ∷ ds)) (2 ^ 63) then Some (pos (digits_value 10 (d ∷ ds))) else None
+number_in (d ∷ ds) =
+    if list_all is_digit (d ∷ ds) && nat_lt (digits_value 10 (d ∷ ds)) (2 ^ 63)
+    then Some (pos (digits_value 10 (d ∷ ds)))
+    else None
 
 -- that number, and the greatest i64 where it is greater
 abbrev pub saturated : List ℕ → ℤ

@@ -4,7 +4,8 @@ use Rattle.pct_ask.specs.NameLists.{NameLists}
 use Rattle.script_tree.specs.Trees.{Expression, Statement, Statements}
 use Rattle.script_tree.specs.ScriptText.{Thread as ThreadTree}
 
--- what a block begins with: a thread, an `if` or a `while` on its line, or an `else` with what stands before it
+-- what a block begins with: a thread, an `if` or a `while` on its line, or an `else` with what
+-- stands before it
 pub data Opening : Type 0 where
   Thread : (line : ℕ) → Opening
   If : (line : ℕ) (test : Expression) → Opening

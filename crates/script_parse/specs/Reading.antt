@@ -39,7 +39,8 @@ may_stand part form = not (is_empty part.open_blocks)
 abbrev pub Finder : Type 0
 Finder = List ℕ → Option ℕ
 
--- Where a name of this kind stands among those of its kind: a thread's among those of the whole file.
+-- Where a name of this kind stands among those of its kind: a thread's among those of the whole
+-- file.
 abbrev pub place_in : NameLists → Finder → NameKind → List ℕ → Option ℕ
 place_in names find kinds.Thread name = find name
 place_in names find kind name = place_of name (list_of kind names)
@@ -49,11 +50,14 @@ is_known names find kind name = is_some (place_in names find kind name)
 
 abbrev pub uses_unknown : Part → Finder → Meant → Bool
 uses_unknown part find (forms.On verb object) = not (is_known part.names find (on_kind verb) object)
-uses_unknown part find (forms.Into verb register object) = not (is_known part.names find (into_kind verb) object)
+uses_unknown part find (forms.Into verb register object) =
+    not (is_known part.names find (into_kind verb) object)
 uses_unknown part find (forms.Write var value) = not (is_known part.names find kinds.Var var)
 uses_unknown part find (forms.Add register var value) = not (is_known part.names find kinds.Var var)
-uses_unknown part find (forms.Cas register var old new) = not (is_known part.names find kinds.Var var)
-uses_unknown part find (forms.Wait cond mutex) = not (is_known part.names find kinds.Cond cond && is_known part.names find kinds.Mutex mutex)
+uses_unknown part find (forms.Cas register var old new) =
+    not (is_known part.names find kinds.Var var)
+uses_unknown part find (forms.Wait cond mutex) =
+    not (is_known part.names find kinds.Cond cond && is_known part.names find kinds.Mutex mutex)
 uses_unknown part find form = false
 
 abbrev pub declares_again : Part → Meant → Bool
@@ -93,7 +97,8 @@ lacks_thread part (forms.Thread name) = false
 lacks_thread part form = is_empty part.names.threads
 
 abbrev pub is_too_many : Part → Meant → Bool
-is_too_many part (forms.Thread name) = nat_le (most_threads part.version) (length part.names.threads)
+is_too_many part (forms.Thread name) =
+    nat_le (most_threads part.version) (length part.names.threads)
 is_too_many part (forms.Plain kind name) = nat_le 64 (length (list_of kind part.names))
 is_too_many part (forms.Valued kind name value) = nat_le 64 (length (list_of kind part.names))
 is_too_many part (forms.If test) = nat_le 33 (length part.open_blocks)
@@ -138,12 +143,19 @@ into_statement forms.TryWrLock line reg place = trees.TryWrLock line reg place
 
 -- the statement on a line, where the names that it uses are known and it opens and closes no block
 abbrev pub statement_on : NameLists → Finder → ℕ → Meant → Option Statement
-statement_on names find line (forms.On verb object) = option_map (on_statement verb line) (place_in names find (on_kind verb) object)
-statement_on names find line (forms.Into verb register object) = option_map (into_statement verb line register) (place_in names find (into_kind verb) object)
-statement_on names find line (forms.Write var value) = option_map (λ x. trees.Write line x value) (place_in names find kinds.Var var)
-statement_on names find line (forms.Add register var value) = option_map (λ x. trees.Add line register x value) (place_in names find kinds.Var var)
-statement_on names find line (forms.Cas register var old new) = option_map (λ x. trees.Cas line register x old new) (place_in names find kinds.Var var)
-statement_on names find line (forms.Wait cond mutex) = option_and_then (λ c. option_map (trees.Wait line c) (place_in names find kinds.Mutex mutex)) (place_in names find kinds.Cond cond)
+statement_on names find line (forms.On verb object) =
+    option_map (on_statement verb line) (place_in names find (on_kind verb) object)
+statement_on names find line (forms.Into verb register object) =
+    option_map (into_statement verb line register) (place_in names find (into_kind verb) object)
+statement_on names find line (forms.Write var value) =
+    option_map (λ x. trees.Write line x value) (place_in names find kinds.Var var)
+statement_on names find line (forms.Add register var value) =
+    option_map (λ x. trees.Add line register x value) (place_in names find kinds.Var var)
+statement_on names find line (forms.Cas register var old new) =
+    option_map (λ x. trees.Cas line register x old new) (place_in names find kinds.Var var)
+statement_on names find line (forms.Wait cond mutex) =
+    option_and_then (λ c. option_map (trees.Wait line c) (place_in names find kinds.Mutex mutex))
+    (place_in names find kinds.Cond cond)
 statement_on names find line forms.Yield = Some (trees.Yield line)
 statement_on names find line (forms.Assert test) = Some (trees.Assert line test)
 statement_on names find line (forms.Set register value) = Some (trees.Set line register value)
@@ -152,28 +164,33 @@ statement_on names find line form = None
 -- the open blocks with one more statement in the innermost
 abbrev pub with_statement : Statement → List Open → List Open
 with_statement statement [] = []
-with_statement statement (block ∷ blocks) = record block { done = block.done ++ statement ∷ [] } ∷ blocks
+with_statement statement (block ∷ blocks) =
+    record block { done = block.done ++ statement ∷ [] } ∷ blocks
 
 abbrev pub said : Part → Option Statement → Part
 said part None = part
 said part (Some statement) = record part { open_blocks = with_statement statement part.open_blocks }
 
 abbrev pub opened : Part → Opening → Part
-opened part opening = record part { open_blocks = record { opening = opening; done = [] } ∷ part.open_blocks }
+opened part opening =
+    record part { open_blocks = record { opening = opening; done = [] } ∷ part.open_blocks }
 
 -- a block that began so is closed
 abbrev pub closed_by : Part → Opening → Statements → Part
-closed_by part (Thread line) block = record part { threads = part.threads ++ record { line = line; body = block } ∷ [] }
+closed_by part (Thread line) block =
+    record part { threads = part.threads ++ record { line = line; body = block } ∷ [] }
 closed_by part (If line test) block = said part (Some (trees.If line test block))
 closed_by part (Else line test first) block = said part (Some (trees.IfElse line test first block))
 closed_by part (While line test) block = said part (Some (trees.While line test block))
 
 abbrev pub ended : Part → List Open → ℕ → Part
 ended part [] line = part
-ended part (block ∷ blocks) line = closed_by (record part { open_blocks = blocks }) block.opening (closed_at line block.done)
+ended part (block ∷ blocks) line =
+    closed_by (record part { open_blocks = blocks }) block.opening (closed_at line block.done)
 
 abbrev pub turned_by : Part → Open → List Open → ℕ → Opening → Part
-turned_by part block blocks end (If line test) = opened (record part { open_blocks = blocks }) (Else line test (closed_at end block.done))
+turned_by part block blocks end (If line test) =
+    opened (record part { open_blocks = blocks }) (Else line test (closed_at end block.done))
 turned_by part block blocks end opening = part
 
 abbrev pub turned : Part → List Open → ℕ → Part
@@ -192,7 +209,8 @@ named part kind name = record part { names = with_name kind name part.names }
 -- what was read, with a line of this form that has no fault
 abbrev pub taken : Part → Finder → ℕ → Meant → Part
 taken part find line (forms.Plain kind name) = named part kind name
-taken part find line (forms.Valued kind name value) = with_value kind (unwrap_or (first_of value) (pos 0)) (named part kind name)
+taken part find line (forms.Valued kind name value) =
+    with_value kind (unwrap_or (first_of value) (pos 0)) (named part kind name)
 taken part find line (forms.Thread name) = opened (named part kinds.Thread name) (Thread line)
 taken part find line (forms.If test) = opened part (If line test)
 taken part find line (forms.While test) = opened part (While line test)
@@ -211,7 +229,15 @@ bytes_fault number line =
     else None))
 
 abbrev pub start : ℕ → Part
-start version = record { version = version; names = no_names; vars = []; sems = []; barriers = []; threads = []; open_blocks = [] }
+start version = record {
+  version = version;
+  names = no_names;
+  vars = [];
+  sems = [];
+  barriers = [];
+  threads = [];
+  open_blocks = [];
+}
 
 abbrev pub after_fault : Option ScriptFault → Part → Result Part ScriptFault
 after_fault None next = Ok next
@@ -223,15 +249,19 @@ blank_fault part last =
     if last && not (is_empty part.open_blocks) then Some NoEnd
     else (if last && is_empty part.names.threads then Some NoThread else None)
 
-abbrev pub form_taken : Part → Finder → ℕ → Bool → List Token → Option Meant → Result Part ScriptFault
+abbrev pub form_taken : Part → Finder → ℕ → Bool → List Token → Option Meant
+    → Result Part ScriptFault
 form_taken part find number last tokens None = Err BadStatement
-form_taken part find number last tokens (Some form) = after_fault (form_fault part find last tokens form) (taken part find number form)
+form_taken part find number last tokens (Some form) =
+    after_fault (form_fault part find last tokens form) (taken part find number form)
 
 -- a line below the header, by its tokens
-abbrev pub tokens_taken : (List ℕ → ℤ) → Part → Finder → ℕ → Bool → Option (List Token) → Result Part ScriptFault
+abbrev pub tokens_taken : (List ℕ → ℤ) → Part → Finder → ℕ → Bool → Option (List Token)
+    → Result Part ScriptFault
 tokens_taken value part find number last None = Err BadToken
 tokens_taken value part find number last (Some []) = after_fault (blank_fault part last) part
-tokens_taken value part find number last (Some (token ∷ tokens)) = form_taken part find number last (token ∷ tokens) (form_in value part.version (token ∷ tokens))
+tokens_taken value part find number last (Some (token ∷ tokens)) =
+    form_taken part find number last (token ∷ tokens) (form_in value part.version (token ∷ tokens))
 
 abbrev pub begun : Bool → Option ℕ → Result Part ScriptFault
 begun last None = Err BadHeader
@@ -247,34 +277,49 @@ header_taken last None = Err BadHeader
 header_taken last (Some []) = Ok None
 header_taken last (Some (token ∷ tokens)) = wrapped (begun last (version_in (token ∷ tokens)))
 
-abbrev pub line_said : (List ℕ → ℤ) → Option Part → Finder → ℕ → Bool → Option (List Token) → Result (Option Part) ScriptFault
+abbrev pub line_said : (List ℕ → ℤ) → Option Part → Finder → ℕ → Bool → Option (List Token)
+    → Result (Option Part) ScriptFault
 line_said value None find number last tokens = header_taken last tokens
-line_said value (Some part) find number last tokens = wrapped (tokens_taken value part find number last tokens)
+line_said value (Some part) find number last tokens =
+    wrapped (tokens_taken value part find number last tokens)
 
-abbrev pub unless : Option ScriptFault → Result (Option Part) ScriptFault → Result (Option Part) ScriptFault
+abbrev pub unless : Option ScriptFault → Result (Option Part) ScriptFault
+    → Result (Option Part) ScriptFault
 unless None next = next
 unless (Some kind) next = Err kind
 
 -- one more line; what was read is none above the header
-abbrev pub line_taken : (List ℕ → ℤ) → Option Part → Finder → ℕ → Bool → List ℕ → Result (Option Part) ScriptFault
-line_taken value part find number last line = unless (bytes_fault number line) (line_said value part find number last (tokens_of line))
+abbrev pub line_taken : (List ℕ → ℤ) → Option Part → Finder → ℕ → Bool → List ℕ
+    → Result (Option Part) ScriptFault
+line_taken value part find number last line =
+    unless (bytes_fault number line) (line_said value part find number last (tokens_of line))
 
 abbrev pub script_of : Part → ScriptText
-script_of part = record { version = part.version; names = part.names; vars = part.vars; sems = part.sems; barriers = part.barriers; threads = part.threads }
+script_of part = record {
+  version = part.version;
+  names = part.names;
+  vars = part.vars;
+  sems = part.sems;
+  barriers = part.barriers;
+  threads = part.threads;
+}
 
 abbrev pub finished : Option Part → Result ScriptText (ℕ × ScriptFault)
 finished None = Err (1, BadHeader)
 finished (Some part) = Ok (script_of part)
 
 -- the script after these lines, of which the first has this number, or the first fault
-abbrev pub then_read : ℕ → Result (Option Part) ScriptFault → (Option Part → Result ScriptText (ℕ × ScriptFault)) → Result ScriptText (ℕ × ScriptFault)
+abbrev pub then_read : ℕ → Result (Option Part) ScriptFault
+    → (Option Part → Result ScriptText (ℕ × ScriptFault)) → Result ScriptText (ℕ × ScriptFault)
 then_read number (Err kind) more = Err (number, kind)
 then_read number (Ok next) more = more next
 
-abbrev pub read_from : (List ℕ → ℤ) → Finder → Option Part → ℕ → List (List ℕ) → Result ScriptText (ℕ × ScriptFault)
+abbrev pub read_from : (List ℕ → ℤ) → Finder → Option Part → ℕ → List (List ℕ)
+    → Result ScriptText (ℕ × ScriptFault)
 read_from value find part number [] = finished part
 read_from value find part number (line ∷ lines) =
-    then_read number (line_taken value part find number (is_empty lines) line) (λ next. read_from value find next (number + 1) lines)
+    then_read number (line_taken value part find number (is_empty lines) line) (λ next.
+    read_from value find next (number + 1) lines)
 
 -- the fault of the first line, where all lines are blank
 abbrev pub blank_text_fault : List (List ℕ) → ScriptFault
@@ -286,4 +331,5 @@ abbrev pub read : (List ℕ → ℤ) → List ℕ → Result ScriptText (ℕ × 
 read value bytes =
     if nat_lt 1048576 (length bytes) then Err (1, TooMany)
     else (if are_blank (lines_of bytes) then Err (1, blank_text_fault (lines_of bytes))
-    else read_from value (λ name. place_of name (threads_in (lines_of bytes))) None 1 (lines_of bytes))
+    else read_from value (λ name. place_of name (threads_in (lines_of bytes))) None 1
+    (lines_of bytes))

@@ -1,5 +1,5 @@
--- What the tokens of a line say, read from the first word on. Digits in expressions stand for the numbers that
--- `number` gives them.
+-- What the tokens of a line say, read from the first word on. Digits in expressions stand for the
+-- numbers that `number` gives them.
 use Rattle.std.specs.Prelude.{ℕ, ℤ, ◌+◌, ◌&&◌, Bool, false, nat_le, if◌then◌else◌, List, [], ◌∷◌, Option, Some, None, take, drop, codes}
 use Rattle.std.specs.List.{position}
 use Rattle.std.specs.Option.{option_map, option_and_then}
@@ -14,7 +14,10 @@ use Rattle.script_parse.specs.Machine.{expression_in}
 use Rattle.script_parse.specs.Words.{on_verb_in, into_verb_in, kind_in}
 
 abbrev pub plain_form : ℕ → NameKind → List ℕ → Option Meant
-plain_form version kind name = if is_plain kind && nat_le (kind_since kind) version && is_name version name then Some (Plain kind name) else None
+plain_form version kind name =
+    if is_plain kind && nat_le (kind_since kind) version && is_name version name
+    then Some (Plain kind name)
+    else None
 
 abbrev pub lone_form : ℕ → NameKind → List ℕ → Option Meant
 lone_form version kinds.Thread name = if is_name version name then Some (Thread name) else None
@@ -26,7 +29,8 @@ is_minus kinds.Var signs = bytes_eq signs (codes "-")
 is_minus kind signs = false
 
 abbrev pub minus_value : NameKind → List ℕ → List ℕ → Option (List Token)
-minus_value kind signs digits = if is_minus kind signs then Some (Symbol signs ∷ Number digits ∷ []) else None
+minus_value kind signs digits =
+    if is_minus kind signs then Some (Symbol signs ∷ Number digits ∷ []) else None
 
 -- the tokens of a first value
 abbrev pub value_parts : NameKind → List Token → Option (List Token)
@@ -36,15 +40,19 @@ value_parts kind tokens = None
 
 abbrev pub valued_form : ℕ → NameKind → List ℕ → List ℕ → List Token → Option Meant
 valued_form version kind name signs value =
-    if has_value kind && bytes_eq signs (codes "=") && is_name version name then option_map (Valued kind name) (value_parts kind value) else None
+    if has_value kind && bytes_eq signs (codes "=") && is_name version name
+    then option_map (Valued kind name) (value_parts kind value)
+    else None
 
 abbrev pub declared_form : ℕ → NameKind → List Token → Option Meant
 declared_form version kind (Word name ∷ []) = lone_form version kind name
-declared_form version kind (Word name ∷ Symbol signs ∷ value) = valued_form version kind name signs value
+declared_form version kind (Word name ∷ Symbol signs ∷ value) =
+    valued_form version kind name signs value
 declared_form version kind tokens = None
 
 abbrev pub on_form : ℕ → OnVerb → List Token → Option Meant
-on_form version verb (Word object ∷ []) = if nat_le (on_since verb) version && is_name version object then Some (On verb object) else None
+on_form version verb (Word object ∷ []) =
+    if nat_le (on_since verb) version && is_name version object then Some (On verb object) else None
 on_form version verb tokens = None
 
 -- a word that stands alone
@@ -54,17 +62,22 @@ lone_word tokens = None
 
 abbrev pub into_object : ℕ → IntoVerb → List ℕ → List ℕ → Option Meant
 into_object version verb register object =
-    if nat_le (into_since verb) version && is_name version object then option_map (λ r. Into verb r object) (register_in register) else None
+    if nat_le (into_since verb) version && is_name version object
+    then option_map (λ r. Into verb r object) (register_in register)
+    else None
 
 abbrev pub into_form : ℕ → IntoVerb → List Token → Option Meant
-into_form version verb (Word register ∷ tokens) = option_and_then (into_object version verb register) (lone_word tokens)
+into_form version verb (Word register ∷ tokens) =
+    option_and_then (into_object version verb register) (lone_word tokens)
 into_form version verb tokens = None
 
 abbrev pub wait_mutex : ℕ → List ℕ → List ℕ → Option Meant
-wait_mutex version cond mutex = if is_name version cond && is_name version mutex then Some (Wait cond mutex) else None
+wait_mutex version cond mutex =
+    if is_name version cond && is_name version mutex then Some (Wait cond mutex) else None
 
 abbrev pub wait_form : ℕ → List Token → Option Meant
-wait_form version (Word cond ∷ tokens) = option_and_then (wait_mutex version cond) (lone_word tokens)
+wait_form version (Word cond ∷ tokens) =
+    option_and_then (wait_mutex version cond) (lone_word tokens)
 wait_form version tokens = None
 
 -- a form that is its word alone
@@ -104,16 +117,22 @@ by_kind (Some kind) version tokens others = declared_form version kind tokens
 
 module _ (number : List ℕ → ℤ) where
   abbrev pub write_form : ℕ → List Token → Option Meant
-  write_form version (Word var ∷ value) = if is_name version var then option_map (Write var) (expression_in number value) else None
+  write_form version (Word var ∷ value) =
+      if is_name version var then option_map (Write var) (expression_in number value) else None
   write_form version tokens = None
 
   abbrev pub add_form : ℕ → List Token → Option Meant
   add_form version (Word register ∷ Word var ∷ value) =
-      if is_name version var then option_and_then (λ r. option_map (Add r var) (expression_in number value)) (register_in register) else None
+      if is_name version var
+      then option_and_then (λ r. option_map (Add r var) (expression_in number value))
+      (register_in register)
+      else None
   add_form version tokens = None
 
   abbrev pub cas_pair : ℕ → List ℕ → List Token → List Token → Option Meant
-  cas_pair register var old new = option_and_then (λ a. option_map (Cas register var a) (expression_in number new)) (expression_in number old)
+  cas_pair register var old new =
+      option_and_then (λ a. option_map (Cas register var a) (expression_in number new))
+      (expression_in number old)
 
   abbrev pub cas_parts : ℕ → List ℕ → Option (List Token × List Token) → Option Meant
   cas_parts register var None = None
@@ -121,11 +140,15 @@ module _ (number : List ℕ → ℤ) where
 
   abbrev pub cas_form : ℕ → List Token → Option Meant
   cas_form version (Word register ∷ Word var ∷ values) =
-      if is_name version var then option_and_then (λ r. cas_parts r var (parts_at (position is_comma values) values)) (register_in register) else None
+      if is_name version var
+      then option_and_then (λ r. cas_parts r var (parts_at (position is_comma values) values))
+      (register_in register)
+      else None
   cas_form version tokens = None
 
   abbrev pub set_form : List Token → Option Meant
-  set_form (Word register ∷ value) = option_and_then (λ r. option_map (Set r) (expression_in number value)) (register_in register)
+  set_form (Word register ∷ value) =
+      option_and_then (λ r. option_map (Set r) (expression_in number value)) (register_in register)
   set_form tokens = None
 
   -- the forms with an expression, and those that remain
@@ -142,7 +165,9 @@ module _ (number : List ℕ → ℤ) where
 
   abbrev pub form_at : ℕ → List ℕ → List Token → Option Meant
   form_at version word tokens =
-      by_on (on_verb_in word) version tokens (by_into (into_verb_in word) version tokens (by_kind (kind_in word) version tokens (other_form version word tokens)))
+      by_on (on_verb_in word) version tokens
+      (by_into (into_verb_in word) version tokens
+      (by_kind (kind_in word) version tokens (other_form version word tokens)))
 
   -- the form of a line, by the version of the language
   abbrev pub form_in : ℕ → List Token → Option Meant

@@ -40,7 +40,8 @@ value_tokens true digits = Symbol (codes "-") ∷ Number digits ∷ []
 -- a form without where its names and expressions lie in memory
 abbrev pub seen_form : Form → Meant
 seen_form (forms.Plain kind name) = language.Plain kind name.now
-seen_form (forms.Valued kind name minus digits) = language.Valued kind name.now (value_tokens minus digits.now)
+seen_form (forms.Valued kind name minus digits) =
+    language.Valued kind name.now (value_tokens minus digits.now)
 seen_form (forms.Thread name) = language.Thread name.now
 seen_form (forms.On verb object) = language.On (seen_on verb) object.now
 seen_form (forms.Into verb reg object) = language.Into (seen_into verb) reg object.now

@@ -22,7 +22,8 @@ abbrev pub seen_step : Step → Result (Option Part) ScriptFault
 seen_step (steps.Next state) = Ok (seen_state state)
 seen_step (steps.Bad kind) = Err kind
 
--- Parsing gives what was read: the script, or the first fault. Want of memory says nothing of a text.
+-- Parsing gives what was read: the script, or the first fault. Want of memory says nothing of a
+-- text.
 abbrev pub Gives : Result Script ScriptError → Result ScriptText (ℕ × ScriptFault) → Type 0
 Gives (Ok script) read = read ≡ Ok (text script)
 Gives (Err (errors.Bad line kind)) read = read ≡ Err (line, kind)

@@ -11,7 +11,10 @@ use Rattle.script_parse.specs.Numbers.{number_in}
 -- the number in base ten, where it has at most 64 bits
 abbrev pub unsigned_in : List ℕ → Option ℕ
 unsigned_in [] = None
-unsigned_in (d ∷ ds) = if list_all is_digit (d ∷ ds) && nat_lt (digits_value 10 (d ∷ ds)) (2 ^ 64) then Some (digits_value 10 (d ∷ ds)) else None
+unsigned_in (d ∷ ds) =
+    if list_all is_digit (d ∷ ds) && nat_lt (digits_value 10 (d ∷ ds)) (2 ^ 64)
+    then Some (digits_value 10 (d ∷ ds))
+    else None
 
 abbrev pub is_two_to_63 : Option ℕ → Bool
 is_two_to_63 None = false
@@ -41,7 +44,8 @@ abbrev pub fits_at : NameKind → Bool → Option ℤ → Bool
 fits_at kind minus None = false
 fits_at kinds.Var minus (Some value) = true
 fits_at kinds.Sem minus (Some value) = not minus && int_le value (pos 2147483647)
-fits_at kinds.Barrier minus (Some value) = not minus && int_le (pos 1) value && int_le value (pos 1000)
+fits_at kinds.Barrier minus (Some value) =
+    not minus && int_le (pos 1) value && int_le value (pos 1000)
 fits_at kind minus (Some value) = false
 
 abbrev pub fits : NameKind → List Token → Bool

@@ -65,7 +65,9 @@ fn note_place<'a>(
     name: &'a [u8],
     place: u32,
 ) -> Result<(), NoMemory>
-    ensures { OnOk result ((names : List (List ℕ)) → place ≡ length names → ArePlaces places.old names → ArePlaces places.new (names ++ name.now ∷ [])) }
+    ensures { OnOk result
+        ((names : List (List ℕ)) → place ≡ length names → ArePlaces places.old names
+        → ArePlaces places.new (names ++ name.now ∷ [])) }
 {
     if places.contains_key(name) {
         return Ok(());
@@ -89,7 +91,9 @@ impl<'a> Ahead<'a> {
     /// Notes a thread's name, the place of which is that of the first line that begins it.
     fn note(&mut self, name: &'a [u8]) -> Result<(), NoMemory>
         requires { self.old.threads < 2 ^ 32 - 1 }
-        ensures places { OnOk result ((names : List (List ℕ)) → HasPlaces self.old names → HasPlaces self.new (names ++ name.now ∷ [])) }
+        ensures places { OnOk result
+            ((names : List (List ℕ)) → HasPlaces self.old names
+            → HasPlaces self.new (names ++ name.now ∷ [])) }
         ensures lines { OnOk result (self.new.lines ≡ self.old.lines) }
         ensures blank { OnOk result (self.new.blank ≡ self.old.blank) }
     {
@@ -102,7 +106,9 @@ impl<'a> Ahead<'a> {
     fn see(&mut self, alloc: Global, line: &'a [u8]) -> Result<(), NoMemory>
         requires lines { self.old.lines < 2 ^ 32 - 1 }
         requires threads { self.old.threads < 2 ^ 32 - 1 }
-        ensures { OnOk result ((texts : List (List ℕ)) → HasSeen self.old texts → HasSeen self.new (texts ++ line.now ∷ [])) }
+        ensures { OnOk result
+            ((texts : List (List ℕ)) → HasSeen self.old texts
+            → HasSeen self.new (texts ++ line.now ∷ [])) }
     {
         self.lines += 1;
         let Some(tokens) = tokens(alloc, line)? else {

@@ -57,7 +57,9 @@ pub fn depth(blocks: &[OpenBlock]) -> usize
 
 /// Adds a statement to the innermost block.
 pub fn push_statement(blocks: &mut Vec<OpenBlock>, stmt: Stmt) -> Result<(), NoMemory>
-    ensures { OnOk result (seen_blocks blocks.new.items ≡ reading.with_statement (statement stmt) (seen_blocks blocks.old.items)) }
+    ensures { OnOk result
+        (seen_blocks blocks.new.items
+        ≡ reading.with_statement (statement stmt) (seen_blocks blocks.old.items)) }
 {
     let Some(block) = blocks.pop() else {
         return Ok(());
@@ -74,7 +76,9 @@ pub fn open_block(
     blocks: &mut Vec<OpenBlock>,
     opening: Opening,
 ) -> Result<(), NoMemory>
-    ensures { OnOk result (seen_blocks blocks.new.items ≡ record { opening = seen_opening opening; done = [] } ∷ seen_blocks blocks.old.items) }
+    ensures { OnOk result
+        (seen_blocks blocks.new.items
+        ≡ record { opening = seen_opening opening; done = [] } ∷ seen_blocks blocks.old.items) }
 {
     blocks.push(OpenBlock {
         opening,

@@ -89,7 +89,8 @@ fn is_minus(kind: NameKind, signs: &[u8]) -> bool
 }
 
 fn minus_value<'a>(kind: NameKind, signs: &[u8], digits: &'a [u8]) -> Option<(bool, &'a [u8])>
-    ensures { option_map (λ v. value_tokens v.0 v.1.now) result ≡ saying.minus_value kind signs.now digits.now }
+    ensures { option_map (λ v. value_tokens v.0 v.1.now) result
+        ≡ saying.minus_value kind signs.now digits.now }
 {
     if is_minus(kind, signs) {
         Some((true, digits))
@@ -100,7 +101,8 @@ fn minus_value<'a>(kind: NameKind, signs: &[u8], digits: &'a [u8]) -> Option<(bo
 
 /// Whether a first value is negative, and its digits.
 fn value_of<'a>(kind: NameKind, tokens: &[Token<'a>]) -> Option<(bool, &'a [u8])>
-    ensures { option_map (λ v. value_tokens v.0 v.1.now) result ≡ saying.value_parts kind (all_seen tokens.now) }
+    ensures { option_map (λ v. value_tokens v.0 v.1.now) result
+        ≡ saying.value_parts kind (all_seen tokens.now) }
 {
     match tokens {
         [Token::Number(digits)] => Some((false, digits)),
@@ -122,7 +124,8 @@ fn valued_form<'a>(
     signs: &[u8],
     value: &[Token<'a>],
 ) -> Option<Form<'a>>
-    ensures { option_map seen_form result ≡ saying.valued_form version kind name.now signs.now (all_seen value.now) }
+    ensures { option_map seen_form result
+        ≡ saying.valued_form version kind name.now signs.now (all_seen value.now) }
 {
     if !has_value(kind) || !says(signs, b"=") || !is_lawful_name(version, name) {
         return None;
@@ -137,7 +140,8 @@ fn valued_form<'a>(
 }
 
 pub fn declared_form<'a>(version: u32, kind: NameKind, tokens: &[Token<'a>]) -> Option<Form<'a>>
-    ensures { option_map seen_form result ≡ saying.declared_form version kind (all_seen tokens.now) }
+    ensures { option_map seen_form result
+        ≡ saying.declared_form version kind (all_seen tokens.now) }
 {
     match tokens {
         [Token::Word(name)] => lone_form(version, kind, name),

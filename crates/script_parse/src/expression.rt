@@ -172,7 +172,10 @@ fn is_taken(frames: &[Frame], level: u32) -> bool
 
 /// The value with all that waits for it at this level or a stronger one.
 fn reduce(alloc: Global, level: u32, frames: &mut Vec<Frame>, value: Expr) -> Result<Expr, NoMemory>
-    ensures { OnOk result (IfOk result (λ e. machine.reduced level (seen_frames frames.old.items) (tree value) ≡ (seen_frames frames.new.items, tree e))) }
+    ensures { OnOk result
+        (IfOk result (λ e.
+        machine.reduced level (seen_frames frames.old.items) (tree value)
+        ≡ (seen_frames frames.new.items, tree e))) }
 {
     let mut value = value;
     'taking: while is_taken(frames, level) {
@@ -195,7 +198,8 @@ fn chains(op: Op, frames: &[Frame]) -> bool
 }
 
 fn waiting(mut frames: Vec<Frame>, frame: Frame) -> Result<Pending, NoMemory>
-    ensures { IfOk result (λ p. seen_pending p ≡ pending (seen_frame frame ∷ seen_frames frames.items) None) }
+    ensures { IfOk result (λ p.
+        seen_pending p ≡ pending (seen_frame frame ∷ seen_frames frames.items) None) }
 {
     frames.push(frame)?;
     Ok(Pending {
@@ -206,7 +210,9 @@ fn waiting(mut frames: Vec<Frame>, frame: Frame) -> Result<Pending, NoMemory>
 
 /// A token where a value may begin.
 fn begun(frames: Vec<Frame>, token: &Token<'_>) -> Result<Option<Pending>, NoMemory>
-    ensures { IfOk result (λ next. option_map seen_pending next ≡ machine.begun saturated (seen_frames frames.items) (seen token.now)) }
+    ensures { IfOk result (λ next.
+        option_map seen_pending next
+        ≡ machine.begun saturated (seen_frames frames.items) (seen token.now)) }
 {
     match token {
         Token::Number(digits) => Ok(Some(Pending {
@@ -241,7 +247,9 @@ fn joined(
     value: Expr,
     op: Op,
 ) -> Result<Option<Pending>, NoMemory>
-    ensures { IfOk result (λ next. option_map seen_pending next ≡ machine.joined_by (Some op) (seen_frames frames.items) (tree value)) }
+    ensures { IfOk result (λ next.
+        option_map seen_pending next
+        ≡ machine.joined_by (Some op) (seen_frames frames.items) (tree value)) }
 {
     let left = reduce(alloc, left_level(op), &mut frames, value)?;
     if chains(op, &frames) {
@@ -252,7 +260,8 @@ fn joined(
 
 /// A `)` behind a value.
 fn closed(alloc: Global, mut frames: Vec<Frame>, value: Expr) -> Result<Option<Pending>, NoMemory>
-    ensures { IfOk result (λ next. option_map seen_pending next ≡ machine.closed_by (seen_frames frames.items) (tree value)) }
+    ensures { IfOk result (λ next.
+        option_map seen_pending next ≡ machine.closed_by (seen_frames frames.items) (tree value)) }
 {
     let value = reduce(alloc, 0, &mut frames, value)?;
     match frames.pop() {
@@ -271,7 +280,9 @@ fn behind(
     value: Expr,
     token: &Token<'_>,
 ) -> Result<Option<Pending>, NoMemory>
-    ensures { IfOk result (λ next. option_map seen_pending next ≡ machine.behind (seen_frames frames.items) (tree value) (seen token.now)) }
+    ensures { IfOk result (λ next.
+        option_map seen_pending next
+        ≡ machine.behind (seen_frames frames.items) (tree value) (seen token.now)) }
 {
     let Token::Symbol(signs) = token else {
         return Ok(None);
@@ -288,7 +299,9 @@ fn behind(
 impl Pending {
     /// Takes the next token. None where no expression goes on with it.
     fn take(self, alloc: Global, token: &Token<'_>) -> Result<Option<Pending>, NoMemory>
-        ensures { IfOk result (λ next. option_map seen_pending next ≡ machine.step saturated (seen_pending self) (seen token.now)) }
+        ensures { IfOk result (λ next.
+            option_map seen_pending next
+            ≡ machine.step saturated (seen_pending self) (seen token.now)) }
     {
         let Pending { frames, value } = self;
         match value {
@@ -299,7 +312,8 @@ impl Pending {
 
     /// The expression, where the last token was read.
     fn finish(self, alloc: Global) -> Result<Option<Expr>, NoMemory>
-        ensures { IfOk result (λ found. option_map tree found ≡ machine.finished (seen_pending self)) }
+        ensures { IfOk result (λ found.
+            option_map tree found ≡ machine.finished (seen_pending self)) }
     {
         let Pending { mut frames, value } = self;
         let Some(value) = value else {
@@ -316,7 +330,8 @@ impl Pending {
 
 /// The expression that tokens spell. A number above the greatest i64 is read as that.
 pub fn expression_of(alloc: Global, tokens: &[Token<'_>]) -> Result<Option<Expr>, NoMemory>
-    ensures { IfOk result (λ found. option_map tree found ≡ expression_in saturated (all_seen tokens.now)) }
+    ensures { IfOk result (λ found.
+        option_map tree found ≡ expression_in saturated (all_seen tokens.now)) }
 {
     let mut pending = Pending {
         frames: Vec::new(alloc),

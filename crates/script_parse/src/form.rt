@@ -106,7 +106,8 @@ pub enum Form<'a> {
 }
 
 fn on_form<'a>(version: u32, verb: OnVerb, tokens: &[Token<'a>]) -> Option<Form<'a>>
-    ensures { option_map seen_form result ≡ saying.on_form version (seen_on verb) (all_seen tokens.now) }
+    ensures { option_map seen_form result
+        ≡ saying.on_form version (seen_on verb) (all_seen tokens.now) }
 {
     let [Token::Word(object)] = tokens else {
         return None;
@@ -134,7 +135,8 @@ fn into_object<'a>(
     register: &[u8],
     object: &'a [u8],
 ) -> Option<Form<'a>>
-    ensures { option_map seen_form result ≡ saying.into_object version (seen_into verb) register.now object.now }
+    ensures { option_map seen_form result
+        ≡ saying.into_object version (seen_into verb) register.now object.now }
 {
     if into_verb_since(verb) > version || !is_lawful_name(version, object) {
         return None;
@@ -144,7 +146,8 @@ fn into_object<'a>(
 }
 
 fn into_form<'a>(version: u32, verb: IntoVerb, tokens: &[Token<'a>]) -> Option<Form<'a>>
-    ensures { option_map seen_form result ≡ saying.into_form version (seen_into verb) (all_seen tokens.now) }
+    ensures { option_map seen_form result
+        ≡ saying.into_form version (seen_into verb) (all_seen tokens.now) }
 {
     let [Token::Word(register), operands @ ..] = tokens else {
         return None;
@@ -175,7 +178,8 @@ fn wait_form<'a>(version: u32, tokens: &[Token<'a>]) -> Option<Form<'a>>
 
 /// A form that is its word alone.
 fn bare_form<'a>(form: Form<'a>, tokens: &[Token<'_>]) -> Option<Form<'a>>
-    ensures { option_map seen_form result ≡ saying.bare_form (seen_form form.entry) (all_seen tokens.now) }
+    ensures { option_map seen_form result
+        ≡ saying.bare_form (seen_form form.entry) (all_seen tokens.now) }
 {
     if tokens.is_empty() { Some(form) } else { None }
 }
@@ -185,7 +189,8 @@ fn write_form<'a>(
     version: u32,
     tokens: &[Token<'a>],
 ) -> Result<Option<Form<'a>>, NoMemory>
-    ensures { IfOk result (λ found. option_map seen_form found ≡ saying.write_form saturated version (all_seen tokens.now)) }
+    ensures { IfOk result (λ found.
+        option_map seen_form found ≡ saying.write_form saturated version (all_seen tokens.now)) }
 {
     let [Token::Word(var), value @ ..] = tokens else {
         return Ok(None);
@@ -204,7 +209,8 @@ fn add_form<'a>(
     version: u32,
     tokens: &[Token<'a>],
 ) -> Result<Option<Form<'a>>, NoMemory>
-    ensures { IfOk result (λ found. option_map seen_form found ≡ saying.add_form saturated version (all_seen tokens.now)) }
+    ensures { IfOk result (λ found.
+        option_map seen_form found ≡ saying.add_form saturated version (all_seen tokens.now)) }
 {
     let [Token::Word(register), operands @ ..] = tokens else {
         return Ok(None);
@@ -246,7 +252,9 @@ fn cas_pair<'a>(
     old: &[Token<'_>],
     new: &[Token<'_>],
 ) -> Result<Option<Form<'a>>, NoMemory>
-    ensures { IfOk result (λ found. option_map seen_form found ≡ saying.cas_pair saturated reg var.now (all_seen old.now) (all_seen new.now)) }
+    ensures { IfOk result (λ found.
+        option_map seen_form found
+        ≡ saying.cas_pair saturated reg var.now (all_seen old.now) (all_seen new.now)) }
 {
     let Some(old) = expression_of(alloc, old)? else {
         return Ok(None);
@@ -263,7 +271,10 @@ fn cas_parts<'a>(
     var: &'a [u8],
     values: &[Token<'_>],
 ) -> Result<Option<Form<'a>>, NoMemory>
-    ensures { IfOk result (λ found. option_map seen_form found ≡ saying.cas_parts saturated reg var.now (saying.parts_at (position saying.is_comma (all_seen values.now)) (all_seen values.now))) }
+    ensures { IfOk result (λ found.
+        option_map seen_form found
+        ≡ saying.cas_parts saturated reg var.now
+        (saying.parts_at (position saying.is_comma (all_seen values.now)) (all_seen values.now))) }
 {
     let Some(place) = comma_in(values) else {
         return Ok(None);
@@ -280,7 +291,8 @@ fn cas_form<'a>(
     version: u32,
     tokens: &[Token<'a>],
 ) -> Result<Option<Form<'a>>, NoMemory>
-    ensures { IfOk result (λ found. option_map seen_form found ≡ saying.cas_form saturated version (all_seen tokens.now)) }
+    ensures { IfOk result (λ found.
+        option_map seen_form found ≡ saying.cas_form saturated version (all_seen tokens.now)) }
 {
     let [Token::Word(register), operands @ ..] = tokens else {
         return Ok(None);
@@ -298,7 +310,8 @@ fn cas_form<'a>(
 }
 
 fn set_form<'a>(alloc: Global, tokens: &[Token<'a>]) -> Result<Option<Form<'a>>, NoMemory>
-    ensures { IfOk result (λ found. option_map seen_form found ≡ saying.set_form saturated (all_seen tokens.now)) }
+    ensures { IfOk result (λ found.
+        option_map seen_form found ≡ saying.set_form saturated (all_seen tokens.now)) }
 {
     let [Token::Word(register), value @ ..] = tokens else {
         return Ok(None);
@@ -319,7 +332,9 @@ fn other_form<'a>(
     word: &[u8],
     tokens: &[Token<'a>],
 ) -> Result<Option<Form<'a>>, NoMemory>
-    ensures { IfOk result (λ found. option_map seen_form found ≡ saying.other_form saturated version word.now (all_seen tokens.now)) }
+    ensures { IfOk result (λ found.
+        option_map seen_form found
+        ≡ saying.other_form saturated version word.now (all_seen tokens.now)) }
 {
     if says(word, b"write") {
         write_form(alloc, version, tokens)
@@ -342,7 +357,8 @@ fn other_form<'a>(
 
 /// The forms that remain, which hold no expression.
 fn quiet_form<'a>(version: u32, word: &[u8], tokens: &[Token<'a>]) -> Option<Form<'a>>
-    ensures { option_map seen_form result ≡ saying.quiet_form version word.now (all_seen tokens.now) }
+    ensures { option_map seen_form result
+        ≡ saying.quiet_form version word.now (all_seen tokens.now) }
 {
     if says(word, b"wait") {
         wait_form(version, tokens)
@@ -363,7 +379,8 @@ pub fn form_of<'a>(
     version: u32,
     tokens: &[Token<'a>],
 ) -> Result<Option<Form<'a>>, NoMemory>
-    ensures { IfOk result (λ found. option_map seen_form found ≡ saying.form_in saturated version (all_seen tokens.now)) }
+    ensures { IfOk result (λ found.
+        option_map seen_form found ≡ saying.form_in saturated version (all_seen tokens.now)) }
 {
     let [Token::Word(word), operands @ ..] = tokens else {
         return Ok(None);

@@ -92,7 +92,11 @@ fn read_below(
     last: bool,
     tokens: &[Token<'_>],
 ) -> Result<Step, NoMemory>
-    ensures { IfOk result (λ step. seen_step step ≡ reading.wrapped (reading.tokens_taken saturated (seen_reader reader) (place_ahead ahead.now) number last (Some (all_seen tokens.now)))) }
+    ensures { IfOk result (λ step.
+        seen_step step
+        ≡ reading.wrapped
+        (reading.tokens_taken saturated (seen_reader reader) (place_ahead ahead.now) number last
+        (Some (all_seen tokens.now)))) }
 {
     if tokens.is_empty() {
         return match reader.blank_fault(last) {
@@ -117,7 +121,10 @@ fn read_line(
     number: u32,
     line: &[u8],
 ) -> Result<Step, NoMemory>
-    ensures { IfOk result (λ step. seen_step step ≡ reading.line_taken saturated (seen_state state) (place_ahead ahead.now) number (number == ahead.now.lines) line.now) }
+    ensures { IfOk result (λ step.
+        seen_step step
+        ≡ reading.line_taken saturated (seen_state state) (place_ahead ahead.now) number
+        (number == ahead.now.lines) line.now) }
 {
     if let Some(kind) = bytes_fault(number, line) {
         return Ok(Step::Bad(kind));
@@ -190,7 +197,8 @@ fn read_text(alloc: Global, bytes: &[u8]) -> Result<Script, ScriptError>
 /// The script that a text spells, or its first fault.
 pub fn parse(alloc: Global, bytes: &[u8]) -> Result<Script, ScriptError>
     ensures found { IfOk result (λ script. Spells bytes.now (text script)) }
-    ensures only { (script : ScriptText) → Spells bytes.now script → IfOk result (λ s. text s ≡ script) }
+    ensures only { (script : ScriptText) → Spells bytes.now script
+        → IfOk result (λ s. text s ≡ script) }
     ensures fault { IfErr result (λ error. TellsFault error bytes.now) }
 {
     read_text(alloc, bytes)

@@ -81,7 +81,9 @@ impl Reader {
     }
 
     fn uses_unknown(&self, ahead: &Ahead<'_>, form: &Form<'_>) -> bool
-        ensures { result ≡ reading.uses_unknown (seen_reader self.now) (place_ahead ahead.now) (seen_form form.now) }
+        ensures { result
+            ≡ reading.uses_unknown (seen_reader self.now) (place_ahead ahead.now)
+            (seen_form form.now) }
     {
         match form {
             Form::On { verb, object } => !self.is_known(ahead, on_kind(*verb), object),
@@ -163,7 +165,9 @@ impl Reader {
         tokens: &[Token<'_>],
         form: &Form<'_>,
     ) -> Option<ScriptFault>
-        ensures { result ≡ reading.form_fault (seen_reader self.now) (place_ahead ahead.now) last (all_seen tokens.now) (seen_form form.now) }
+        ensures { result
+            ≡ reading.form_fault (seen_reader self.now) (place_ahead ahead.now) last
+            (all_seen tokens.now) (seen_form form.now) }
     {
         if !self.may_stand(form) {
             Some(ScriptFault::BadStatement)
@@ -210,7 +214,10 @@ impl Reader {
         requires lawful { names_lawful (seen_form form) ≡ true }
         requires fresh { reading.declares_again (seen_reader self) (seen_form form) ≡ false }
         requires room { reading.is_too_many (seen_reader self) (seen_form form) ≡ false }
-        ensures { IfOk result (λ r. seen_reader r ≡ reading.taken (seen_reader self) (place_ahead ahead.now) line (seen_form form.entry)) }
+        ensures { IfOk result (λ r.
+            seen_reader r
+            ≡ reading.taken (seen_reader self) (place_ahead ahead.now) line
+            (seen_form form.entry)) }
     {
         match form {
             Form::Plain { kind, name } => self.with_name(alloc, kind, name),
@@ -244,14 +251,16 @@ impl Reader {
         requires lawful { is_name 1 name.now ≡ true }
         requires fresh { is_among name.now (all_names self.names) ≡ false }
         requires room { length (list_of kind self.names) < 64 }
-        ensures { IfOk result (λ r. seen_reader r ≡ reading.named (seen_reader self) kind name.now) }
+        ensures { IfOk result (λ r.
+            seen_reader r ≡ reading.named (seen_reader self) kind name.now) }
     {
         self.names.add(alloc, kind, name)?;
         Ok(self)
     }
 
     fn with_value(mut self, kind: NameKind, value: i64) -> Result<Reader, NoMemory>
-        ensures { IfOk result (λ r. seen_reader r ≡ reading.with_value kind value (seen_reader self)) }
+        ensures { IfOk result (λ r.
+            seen_reader r ≡ reading.with_value kind value (seen_reader self)) }
     {
         match kind {
             NameKind::Var => self.vars.try_push(value)?,
@@ -263,7 +272,8 @@ impl Reader {
     }
 
     fn opened(mut self, alloc: Global, opening: Opening) -> Result<Reader, NoMemory>
-        ensures { IfOk result (λ r. seen_reader r ≡ reading.opened (seen_reader self) (seen_opening opening)) }
+        ensures { IfOk result (λ r.
+            seen_reader r ≡ reading.opened (seen_reader self) (seen_opening opening)) }
     {
         open_block(alloc, &mut self.open_blocks, opening)?;
         Ok(self)
@@ -272,7 +282,8 @@ impl Reader {
     /// Closes the innermost block.
     #[tactic(auto, using(script_tree::proofs::laws::SeenParts::seen_laws))]
     fn ended(mut self, line: u32) -> Result<Reader, NoMemory>
-        ensures { IfOk result (λ r. seen_reader r ≡ reading.ended (seen_reader self) (seen_reader self).open_blocks line) }
+        ensures { IfOk result (λ r.
+            seen_reader r ≡ reading.ended (seen_reader self) (seen_reader self).open_blocks line) }
     {
         let Some(block) = self.open_blocks.pop() else {
             return Ok(self);
@@ -289,7 +300,9 @@ impl Reader {
 
     #[tactic(auto, using(script_tree::proofs::laws::SeenParts::seen_laws))]
     fn ended_by(mut self, opening: Opening, block: Block) -> Result<Reader, NoMemory>
-        ensures { IfOk result (λ r. seen_reader r ≡ reading.closed_by (seen_reader self) (seen_opening opening) (tree_of_block block)) }
+        ensures { IfOk result (λ r.
+            seen_reader r
+            ≡ reading.closed_by (seen_reader self) (seen_opening opening) (tree_of_block block)) }
     {
         match opening {
             Opening::Thread { line } => {
@@ -317,7 +330,8 @@ impl Reader {
     }
 
     fn said(mut self, stmt: Stmt) -> Result<Reader, NoMemory>
-        ensures { IfOk result (λ r. seen_reader r ≡ reading.said (seen_reader self) (Some (statement stmt))) }
+        ensures { IfOk result (λ r.
+            seen_reader r ≡ reading.said (seen_reader self) (Some (statement stmt))) }
     {
         push_statement(&mut self.open_blocks, stmt)?;
         Ok(self)
@@ -326,7 +340,8 @@ impl Reader {
     /// Closes the first block of an `if`, and begins its `else`.
     #[tactic(auto, using(script_tree::proofs::laws::SeenParts::seen_laws))]
     fn turned(mut self, alloc: Global, line: u32) -> Result<Reader, NoMemory>
-        ensures { IfOk result (λ r. seen_reader r ≡ reading.turned (seen_reader self) (seen_reader self).open_blocks line) }
+        ensures { IfOk result (λ r.
+            seen_reader r ≡ reading.turned (seen_reader self) (seen_reader self).open_blocks line) }
     {
         let Some(block) = self.open_blocks.pop() else {
             return Ok(self);

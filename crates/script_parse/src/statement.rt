@@ -124,7 +124,8 @@ fn into_statement(verb: IntoVerb, line: u32, reg: u32, place: u32) -> Stmt
 /// The statement on a line, where the names that it uses are known and it opens and closes no block.
 #[tactic(auto, using(script_tree::proofs::laws::SeenParts::seen_laws))]
 pub fn statement_on(names: &Names, ahead: &Ahead<'_>, line: u32, form: Form<'_>) -> Option<Stmt>
-    ensures { option_map statement result ≡ reading.statement_on names.now (place_ahead ahead.now) line (seen_form form.entry) }
+    ensures { option_map statement result
+        ≡ reading.statement_on names.now (place_ahead ahead.now) line (seen_form form.entry) }
 {
     match form {
         Form::On { verb, object } => {

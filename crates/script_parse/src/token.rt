@@ -165,7 +165,8 @@ fn next_token(line: &[u8]) -> Next<'_>
 
 /// The tokens of a line, or None where it can't be cut into tokens.
 pub fn tokens(alloc: Global, line: &[u8]) -> Result<Option<Vec<Token<'_>>>, NoMemory>
-    ensures { IfOk result (λ found. option_map (λ tokens. all_seen tokens.items) found ≡ tokens_of line.now) }
+    ensures { IfOk result (λ found.
+        option_map (λ tokens. all_seen tokens.items) found ≡ tokens_of line.now) }
 {
     let mut tokens = Vec::new(alloc);
     let mut rest = line;

@@ -3,7 +3,8 @@ use Rattle.std.specs.Prelude.{◌≡◌, length}
 use Rattle.pct_ask.specs.declared.deal.Deal.{Deal}
 use Rattle.script_tree.specs.ScriptText.{ScriptText}
 
--- there are as many threads and objects of each kind as the script names, with the first values that it gives
+-- there are as many threads and objects of each kind as the script names, with the first values
+-- that it gives
 pub record IsDealOf (script : ScriptText) (deal : Deal) : Type 0 where
   pub threads : deal.threads ≡ length script.names.threads
   pub vars : deal.vars ≡ script.vars

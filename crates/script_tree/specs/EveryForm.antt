@@ -39,13 +39,15 @@ operations =
     Set 1 0 (Two ops.Or (n 1) (Two ops.And (n 2) (n 3)))
     ∷ Set 2 1 (Two ops.Ne (Two ops.Eq (Reg 0) (n 1)) (Two ops.Lt (Reg 2) (n 3)))
     ∷ Set 3 2 (Two ops.Gt (Two ops.Le (n 4) (Reg 3)) (Two ops.Ge (n 5) (Reg 15)))
-    ∷ Set 4 3 (Two ops.Less (Two ops.Plus (n 6) (n 7)) (Two ops.Over (Two ops.Times (n 8) (n 9)) (Two ops.Rest (n 10) (n 11))))
-    ∷ Set 5 4 (Not (Minus (Reg 5)))
-    ∷ []
+    ∷ Set 4 3
+    (Two ops.Less (Two ops.Plus (n 6) (n 7))
+    (Two ops.Over (Two ops.Times (n 8) (n 9)) (Two ops.Rest (n 10) (n 11))))
+    ∷ Set 5 4 (Not (Minus (Reg 5))) ∷ []
 
 abbrev pub accesses : List Statement
 accesses =
-    Read 6 0 0 ∷ Write 7 1 (Reg 0) ∷ Add 8 6 1 (Minus (n 1)) ∷ Cas 9 7 0 (n 1) (Not (Reg 8)) ∷ Assert 10 (Two ops.Eq (Reg 0) (n 2)) ∷ []
+    Read 6 0 0 ∷ Write 7 1 (Reg 0) ∷ Add 8 6 1 (Minus (n 1)) ∷ Cas 9 7 0 (n 1) (Not (Reg 8))
+    ∷ Assert 10 (Two ops.Eq (Reg 0) (n 2)) ∷ []
 
 abbrev pub waits : List Statement
 waits = Lock 11 0 ∷ TryLock 12 9 0 ∷ Unlock 13 0 ∷ Wait 14 0 0 ∷ Signal 15 0 ∷ Broadcast 16 0 ∷ []
@@ -81,7 +83,9 @@ every_form = record {
   vars = negsuc 9223372036854775807 ∷ pos 9223372036854775807 ∷ [];
   sems = pos 2147483647 ∷ [];
   barriers = pos 1000 ∷ [];
-  threads = record { line = 40; body = closed_at 41 every_statement } ∷ record { line = 42; body = Closed 43 } ∷ [];
+  threads =
+      record { line = 40; body = closed_at 41 every_statement }
+      ∷ record { line = 42; body = Closed 43 } ∷ [];
 }
 
 pub every_form_text : layout every_form ≡

@@ -36,15 +36,18 @@ minus = Symbol (codes "-")
 abbrev pub left_first : Expression
 left_first = Two ops.Less (Two ops.Less (numeral one) (numeral two_)) (numeral three)
 
-pub minus_tokens : tokens_of (codes "1-2-3") ≡ Some (Number one ∷ minus ∷ Number two_ ∷ minus ∷ Number three ∷ [])
+pub minus_tokens : tokens_of (codes "1-2-3")
+    ≡ Some (Number one ∷ minus ∷ Number two_ ∷ minus ∷ Number three ∷ [])
 minus_tokens = refl
 
-pub minus_groups_to_the_left : IsExpression (Number one ∷ minus ∷ Number two_ ∷ minus ∷ Number three ∷ []) left_first
+pub minus_groups_to_the_left : IsExpression
+    (Number one ∷ minus ∷ Number two_ ∷ minus ∷ Number three ∷ []) left_first
 minus_groups_to_the_left =
     let inner : IsSpelled 3 (Number one ∷ minus ∷ Number two_ ∷ []) (Two ops.Less (numeral one) (numeral two_)) =
     two ops.Less (Number one ∷ []) (Number two_ ∷ []) (numeral one) (numeral two_) (number_3 one) (number_4 two_) in
     stronger 0 _ left_first (stronger 1 _ left_first (stronger 2 _ left_first
-    (two ops.Less (Number one ∷ minus ∷ Number two_ ∷ []) (Number three ∷ []) (Two ops.Less (numeral one) (numeral two_)) (numeral three) inner (number_4 three))))
+    (two ops.Less (Number one ∷ minus ∷ Number two_ ∷ []) (Number three ∷ [])
+    (Two ops.Less (numeral one) (numeral two_)) (numeral three) inner (number_4 three))))
 
 -- !1 == 2 is (!1) == 2
 abbrev pub not_first : Expression
@@ -53,10 +56,14 @@ not_first = Two ops.Eq (Not (numeral one)) (numeral two_)
 abbrev not_one : List Token
 not_one = Symbol (codes "!") ∷ Number one ∷ []
 
-pub not_tokens : tokens_of (codes "!1 == 2") ≡ Some (Symbol (codes "!") ∷ Number one ∷ Symbol (codes "==") ∷ Number two_ ∷ [])
+pub not_tokens : tokens_of (codes "!1 == 2")
+    ≡ Some (Symbol (codes "!") ∷ Number one ∷ Symbol (codes "==") ∷ Number two_ ∷ [])
 not_tokens = refl
 
-pub not_is_stronger : IsExpression (Symbol (codes "!") ∷ Number one ∷ Symbol (codes "==") ∷ Number two_ ∷ []) not_first
+pub not_is_stronger : IsExpression
+    (Symbol (codes "!") ∷ Number one ∷ Symbol (codes "==") ∷ Number two_ ∷ []) not_first
 not_is_stronger =
     let left : IsSpelled 3 not_one (Not (numeral one)) = stronger 3 not_one (Not (numeral one)) (stronger 4 not_one (Not (numeral one)) (not (Number one ∷ []) (numeral one) (number_5 one))) in
-    stronger 0 _ not_first (stronger 1 _ not_first (two ops.Eq not_one (Number two_ ∷ []) (Not (numeral one)) (numeral two_) left (number_3 two_)))
+    stronger 0 _ not_first
+    (stronger 1 _ not_first
+    (two ops.Eq not_one (Number two_ ∷ []) (Not (numeral one)) (numeral two_) left (number_3 two_)))

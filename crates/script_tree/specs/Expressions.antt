@@ -1,5 +1,5 @@
--- Expressions, as a relation between tokens and trees by the strength of operators (the levels are C's; a
--- comparison doesn't chain, which is this project's choice).
+-- Expressions, as a relation between tokens and trees by the strength of operators (the levels are
+-- C's; a comparison doesn't chain, which is this project's choice).
 use Rattle.std.specs.Prelude.{ℕ, pos, ◌+◌, ◌<◌, ◌==◌, if◌then◌else◌, List, [], ◌∷◌, ◌++◌, codes, slice_index_or}
 use Rattle.std.specs.Str.Parse.{digits_value}
 use Rattle.pct_ask.specs.Words.{registers}
@@ -40,8 +40,8 @@ strength ops.Times = 4
 strength ops.Over = 4
 strength ops.Rest = 4
 
--- The level of an operator's left part. Operators of one level group to the left, so that it is their own, but a
--- comparison stands in no part of another.
+-- The level of an operator's left part. Operators of one level group to the left, so that it is
+-- their own, but a comparison stands in no part of another.
 abbrev pub left_level : Op → ℕ
 left_level op = if strength op == 2 then 3 else strength op
 
@@ -49,16 +49,23 @@ left_level op = if strength op == 2 then 3 else strength op
 abbrev pub register_word : ℕ → List ℕ
 register_word reg = slice_index_or registers reg []
 
--- The tokens spell the tree at a level: 0 to 4 are the binary operators by their strength, 5 is a sign before its
--- part, and 6 is a number, a register or an expression in parentheses.
+-- The tokens spell the tree at a level: 0 to 4 are the binary operators by their strength, 5 is a
+-- sign before its part, and 6 is a number, a register or an expression in parentheses.
 pub data IsSpelled : ℕ → List Token → Expression → Type 0 where
-  number : (digits : List ℕ) → IsSpelled 6 (Number digits ∷ []) (trees.Number (pos (digits_value 10 digits)))
+  number : (digits : List ℕ)
+      → IsSpelled 6 (Number digits ∷ []) (trees.Number (pos (digits_value 10 digits)))
   register : (reg : ℕ) → reg < 16 → IsSpelled 6 (Word (register_word reg) ∷ []) (trees.Reg reg)
-  enclosed : (tokens : List Token) (tree : Expression) → IsSpelled 0 tokens tree → IsSpelled 6 (Symbol (codes "(") ∷ (tokens ++ Symbol (codes ")") ∷ [])) tree
-  minus : (tokens : List Token) (tree : Expression) → IsSpelled 5 tokens tree → IsSpelled 5 (Symbol (codes "-") ∷ tokens) (trees.Minus tree)
-  not : (tokens : List Token) (tree : Expression) → IsSpelled 5 tokens tree → IsSpelled 5 (Symbol (codes "!") ∷ tokens) (trees.Not tree)
-  two : (op : Op) (lefts rights : List Token) (left right : Expression) → IsSpelled (left_level op) lefts left → IsSpelled (strength op + 1) rights right → IsSpelled (strength op) (lefts ++ Symbol (signs_of op) ∷ rights) (trees.Two op left right)
-  stronger : (level : ℕ) (tokens : List Token) (tree : Expression) → IsSpelled (level + 1) tokens tree → IsSpelled level tokens tree
+  enclosed : (tokens : List Token) (tree : Expression) → IsSpelled 0 tokens tree
+      → IsSpelled 6 (Symbol (codes "(") ∷ (tokens ++ Symbol (codes ")") ∷ [])) tree
+  minus : (tokens : List Token) (tree : Expression) → IsSpelled 5 tokens tree
+      → IsSpelled 5 (Symbol (codes "-") ∷ tokens) (trees.Minus tree)
+  not : (tokens : List Token) (tree : Expression) → IsSpelled 5 tokens tree
+      → IsSpelled 5 (Symbol (codes "!") ∷ tokens) (trees.Not tree)
+  two : (op : Op) (lefts rights : List Token) (left right : Expression)
+      → IsSpelled (left_level op) lefts left → IsSpelled (strength op + 1) rights right
+      → IsSpelled (strength op) (lefts ++ Symbol (signs_of op) ∷ rights) (trees.Two op left right)
+  stronger : (level : ℕ) (tokens : List Token) (tree : Expression)
+      → IsSpelled (level + 1) tokens tree → IsSpelled level tokens tree
 
 -- the tokens are an expression
 abbrev pub IsExpression : List Token → Expression → Type 0

@@ -1,4 +1,5 @@
--- The first faulty line of a text and what is wrong with it: for each kind of fault, which lines have it (this project).
+-- The first faulty line of a text and what is wrong with it: for each kind of fault, which lines
+-- have it (this project).
 use Rattle.std.specs.Prelude.{◌≡◌, ℕ, ◌+◌, ◌<◌, ◌≤◌, ◌⊎◌, ◌==◌, ◌&&◌, nat_le, Bool, true, false, not, List, [], ◌∷◌, ◌++◌, length, map, None, codes, reverse}
 use Rattle.std.specs.List.{list_all}
 use Rattle.std.specs.Str.{is_utf8}
@@ -38,8 +39,8 @@ has_thread lines = not (length (names_of kinds.Thread lines) == 0)
 abbrev pub is_inside : List (List Token) → Bool
 is_inside lines = nat_le 1 (depth lines)
 
--- The form may stand after these lines: a declaration above the first thread, a thread outside threads, a statement
--- inside one, and an `end` or `else` anywhere.
+-- The form may stand after these lines: a declaration above the first thread, a thread outside
+-- threads, a statement inside one, and an `end` or `else` anywhere.
 abbrev pub may_stand : List (List Token) → Cut → Bool
 may_stand lines (Plain kind name) = not (has_thread lines)
 may_stand lines (Valued kind name value) = not (has_thread lines)
@@ -67,7 +68,8 @@ HasFormWith test place = (cut : Cut) × (meant : Meant) × HasForm place cut mea
 
 -- A name of this kind is declared: on a line before, but a thread on any line of the file.
 abbrev pub is_declared : Place → NameKind → List ℕ → Bool
-is_declared place kinds.Thread name = is_among name (threads_in (place.before ++ place.line ∷ place.after))
+is_declared place kinds.Thread name =
+    is_among name (threads_in (place.before ++ place.line ∷ place.after))
 is_declared place kind name = is_among name (names_of kind (earlier place))
 
 -- it uses a name that isn't declared with the kind that is needed
@@ -77,14 +79,19 @@ uses_unknown place (Into verb register object) = not (is_declared place (into_ki
 uses_unknown place (Write var value) = not (is_declared place kinds.Var var)
 uses_unknown place (Add register var value) = not (is_declared place kinds.Var var)
 uses_unknown place (Cas register var old new) = not (is_declared place kinds.Var var)
-uses_unknown place (Wait cond mutex) = not (is_declared place kinds.Cond cond && is_declared place kinds.Mutex mutex)
+uses_unknown place (Wait cond mutex) =
+    not (is_declared place kinds.Cond cond && is_declared place kinds.Mutex mutex)
 uses_unknown place form = false
 
 -- the names of all kinds that the lines declare
 abbrev pub declared_names : List (List Token) → List (List ℕ)
 declared_names lines =
-    names_of kinds.Thread lines ++ (names_of kinds.Var lines ++ (names_of kinds.Mutex lines ++ (names_of kinds.Cond lines
-    ++ (names_of kinds.Sem lines ++ (names_of kinds.Barrier lines ++ names_of kinds.RwLock lines)))))
+    names_of kinds.Thread lines
+    ++ (names_of kinds.Var lines
+    ++ (names_of kinds.Mutex lines
+    ++ (names_of kinds.Cond lines
+    ++ (names_of kinds.Sem lines
+    ++ (names_of kinds.Barrier lines ++ names_of kinds.RwLock lines)))))
 
 -- it declares a name that a line before declares, of whatever kind
 abbrev pub declares_again : Place → Cut → Bool
@@ -95,15 +102,18 @@ declares_again place form = false
 
 -- ---- blocks and limits
 
--- an `end` with no open block, or an `else` where the innermost open block isn't an `if` without `else`
+-- an `end` with no open block, or an `else` where the innermost open block isn't an `if` without
+-- `else`
 abbrev pub closes_nothing : List (List Token) → Cut → Bool
 closes_nothing lines End = depth lines == 0
 closes_nothing lines Else = not (begins (codes "if") (opener 0 (reverse lines)))
 closes_nothing lines form = false
 
--- one thread, object or nested block more than a script may have; the thread isn't counted among the 32 nested blocks
+-- one thread, object or nested block more than a script may have; the thread isn't counted among
+-- the 32 nested blocks
 abbrev pub is_too_many : List (List Token) → Cut → Bool
-is_too_many lines (Thread name) = nat_le (most_threads (version_of lines)) (length (names_of kinds.Thread lines))
+is_too_many lines (Thread name) =
+    nat_le (most_threads (version_of lines)) (length (names_of kinds.Thread lines))
 is_too_many lines (Plain kind name) = nat_le 64 (length (names_of kind lines))
 is_too_many lines (Valued kind name value) = nat_le 64 (length (names_of kind lines))
 is_too_many lines (If test) = nat_le 33 (depth lines)
@@ -124,7 +134,9 @@ TooManyLines place = 4096 ≤ length place.before
 -- it is the first line that isn't blank and no header; or line 1, where all are blank
 abbrev pub BadHeader : Place → Type 0
 BadHeader place =
-    ((are_blank place.before ≡ true) × (is_blank_line place.line ≡ false) × (version_in (tokens_in place.line) ≡ None))
+    ((are_blank place.before ≡ true)
+    × (is_blank_line place.line ≡ false)
+    × (version_in (tokens_in place.line) ≡ None))
     ⊎ ((place.before ≡ []) × (are_blank (place.line ∷ place.after) ≡ true))
 
 abbrev pub BadToken : Place → Type 0
@@ -149,7 +161,8 @@ abbrev pub StrayEnd : Place → Type 0
 StrayEnd place = HasFormWith (closes_nothing (earlier place)) place
 
 abbrev pub NoThread : Place → Type 0
-NoThread place = is_last place × (names_of kinds.Thread (earlier place ++ tokens_in place.line ∷ []) ≡ [])
+NoThread place =
+    is_last place × (names_of kinds.Thread (earlier place ++ tokens_in place.line ∷ []) ≡ [])
 
 abbrev pub TooMany : Place → Type 0
 TooMany place = HasFormWith (is_too_many (earlier place)) place
@@ -195,8 +208,10 @@ pub record IsFirstKind (place : Place) (kind : ScriptFault) : Type 0 where
 -- no line before it is faulty
 abbrev pub IsFirstLine : Place → Type 0
 IsFirstLine place =
-    (front back : List (List ℕ)) (line : List ℕ) (kind : ScriptFault) → place.before ≡ front ++ line ∷ back
-    → ¬ IsFaulty kind (record { before = front; line = line; after = back ++ place.line ∷ place.after })
+    (front back : List (List ℕ)) (line : List ℕ) (kind : ScriptFault)
+    → place.before ≡ front ++ line ∷ back
+    → ¬ IsFaulty kind
+    (record { before = front; line = line; after = back ++ place.line ∷ place.after })
 
 -- the lines of a text, where a text without any is judged as one blank line
 abbrev pub judged_lines : List ℕ → List (List ℕ)
@@ -211,7 +226,8 @@ pub record IsFirstFault (bytes : List ℕ) (number : ℕ) (kind : ScriptFault) :
   pub first_line : IsFirstLine place
   pub first_kind : IsFirstKind place kind
 
--- The fault of a text: one of more bytes than a script may have is refused at line 1, before any line is looked at.
+-- The fault of a text: one of more bytes than a script may have is refused at line 1, before any
+-- line is looked at.
 abbrev pub IsFault : List ℕ → ℕ → ScriptFault → Type 0
 IsFault bytes number kind =
     ((1048576 < length bytes) × (number ≡ 1) × (kind ≡ faults.TooMany))

@@ -1,4 +1,5 @@
--- What holds of every script: its version, its names, its limits, and what its statements may name (this project).
+-- What holds of every script: its version, its names, its limits, and what its statements may name
+-- (this project).
 use Rattle.std.specs.Prelude.{◌≡◌, ℕ, pos, ◌+◌, ◌-◌, ◌≤◌, ◌&&◌, ◌||◌, Bool, true, nat_le, nat_lt, if◌then◌else◌, List, length, int_le, All}
 use Rattle.std.specs.List.{list_all}
 use Rattle.pct_ask.specs.Ranges.{IsSemValue, IsBarrierCount}
@@ -40,37 +41,63 @@ abbrev mutual
   counts_of (Then s rest) = count_of s + counts_of rest
 
 module _ (version : ℕ) (names : NameLists) where
-  -- a statement stands on a line of a script, belongs to the version, and names registers, objects and threads that
-  -- there are. At most `room` more blocks may nest
+  -- a statement stands on a line of a script, belongs to the version, and names registers, objects
+  -- and threads that there are. At most `room` more blocks may nest
   abbrev mutual
     pub statement_fits : ℕ → Statement → Bool
-    statement_fits room (Read line reg var) = line_fits line && reg_fits reg && place_fits names.vars var
-    statement_fits room (Write line var value) = line_fits line && place_fits names.vars var && expression_fits value
-    statement_fits room (Add line reg var value) = line_fits line && reg_fits reg && place_fits names.vars var && expression_fits value
-    statement_fits room (Cas line reg var old new) = line_fits line && reg_fits reg && place_fits names.vars var && expression_fits old && expression_fits new
+    statement_fits room (Read line reg var) =
+        line_fits line && reg_fits reg && place_fits names.vars var
+    statement_fits room (Write line var value) =
+        line_fits line && place_fits names.vars var && expression_fits value
+    statement_fits room (Add line reg var value) =
+        line_fits line && reg_fits reg && place_fits names.vars var && expression_fits value
+    statement_fits room (Cas line reg var old new) =
+        line_fits line
+        && reg_fits reg
+        && place_fits names.vars var
+        && expression_fits old
+        && expression_fits new
     statement_fits room (Lock line mutex) = line_fits line && place_fits names.mutexes mutex
-    statement_fits room (TryLock line reg mutex) = line_fits line && reg_fits reg && place_fits names.mutexes mutex
+    statement_fits room (TryLock line reg mutex) =
+        line_fits line && reg_fits reg && place_fits names.mutexes mutex
     statement_fits room (Unlock line mutex) = line_fits line && place_fits names.mutexes mutex
-    statement_fits room (Wait line cond mutex) = line_fits line && place_fits names.conds cond && place_fits names.mutexes mutex
+    statement_fits room (Wait line cond mutex) =
+        line_fits line && place_fits names.conds cond && place_fits names.mutexes mutex
     statement_fits room (Signal line cond) = line_fits line && place_fits names.conds cond
     statement_fits room (Broadcast line cond) = line_fits line && place_fits names.conds cond
     statement_fits room (Down line sem) = line_fits line && place_fits names.sems sem
-    statement_fits room (TryDown line reg sem) = line_fits line && reg_fits reg && place_fits names.sems sem
+    statement_fits room (TryDown line reg sem) =
+        line_fits line && reg_fits reg && place_fits names.sems sem
     statement_fits room (Up line sem) = line_fits line && place_fits names.sems sem
-    statement_fits room (Arrive line reg barrier) = line_fits line && reg_fits reg && place_fits names.barriers barrier
+    statement_fits room (Arrive line reg barrier) =
+        line_fits line && reg_fits reg && place_fits names.barriers barrier
     statement_fits room (Join line thread) = line_fits line && place_fits names.threads thread
     statement_fits room (Yield line) = line_fits line
     statement_fits room (Assert line test) = line_fits line && expression_fits test
-    statement_fits room (Set line reg value) = line_fits line && reg_fits reg && expression_fits value
-    statement_fits room (If line test first) = line_fits line && expression_fits test && nat_lt 0 room && statements_fit (room - 1) first
-    statement_fits room (IfElse line test first otherwise) = line_fits line && expression_fits test && nat_lt 0 room && statements_fit (room - 1) first && statements_fit (room - 1) otherwise
-    statement_fits room (While line test body) = line_fits line && expression_fits test && nat_lt 0 room && statements_fit (room - 1) body
-    statement_fits room (Start line thread) = line_fits line && nat_le 2 version && place_fits names.threads thread
-    statement_fits room (RdLock line rwlock) = line_fits line && nat_le 3 version && place_fits names.rwlocks rwlock
-    statement_fits room (WrLock line rwlock) = line_fits line && nat_le 3 version && place_fits names.rwlocks rwlock
-    statement_fits room (TryRdLock line reg rwlock) = line_fits line && nat_le 3 version && reg_fits reg && place_fits names.rwlocks rwlock
-    statement_fits room (TryWrLock line reg rwlock) = line_fits line && nat_le 3 version && reg_fits reg && place_fits names.rwlocks rwlock
-    statement_fits room (RwUnlock line rwlock) = line_fits line && nat_le 3 version && place_fits names.rwlocks rwlock
+    statement_fits room (Set line reg value) =
+        line_fits line && reg_fits reg && expression_fits value
+    statement_fits room (If line test first) =
+        line_fits line && expression_fits test && nat_lt 0 room && statements_fit (room - 1) first
+    statement_fits room (IfElse line test first otherwise) =
+        line_fits line
+        && expression_fits test
+        && nat_lt 0 room
+        && statements_fit (room - 1) first
+        && statements_fit (room - 1) otherwise
+    statement_fits room (While line test body) =
+        line_fits line && expression_fits test && nat_lt 0 room && statements_fit (room - 1) body
+    statement_fits room (Start line thread) =
+        line_fits line && nat_le 2 version && place_fits names.threads thread
+    statement_fits room (RdLock line rwlock) =
+        line_fits line && nat_le 3 version && place_fits names.rwlocks rwlock
+    statement_fits room (WrLock line rwlock) =
+        line_fits line && nat_le 3 version && place_fits names.rwlocks rwlock
+    statement_fits room (TryRdLock line reg rwlock) =
+        line_fits line && nat_le 3 version && reg_fits reg && place_fits names.rwlocks rwlock
+    statement_fits room (TryWrLock line reg rwlock) =
+        line_fits line && nat_le 3 version && reg_fits reg && place_fits names.rwlocks rwlock
+    statement_fits room (RwUnlock line rwlock) =
+        line_fits line && nat_le 3 version && place_fits names.rwlocks rwlock
 
     pub statements_fit : ℕ → Statements → Bool
     statements_fit room (Closed line) = line_fits line

@@ -32,8 +32,8 @@ pub data IntoVerb : Type 0 where
   TryRdLock : IntoVerb
   TryWrLock : IntoVerb
 
--- What a line says: above the threads a declaration, with or without a first value; outside a thread the beginning of
--- one; inside a thread a statement, whose expressions are of this type.
+-- What a line says: above the threads a declaration, with or without a first value; outside a
+-- thread the beginning of one; inside a thread a statement, whose expressions are of this type.
 pub data Form (E : Type 0) : Type 0 where
   Plain : (kind : NameKind) (name : List ℕ) → Form E
   Valued : (kind : NameKind) (name : List ℕ) (value : List Token) → Form E
@@ -150,13 +150,18 @@ into_since verb = 1
 -- the tokens of a form
 abbrev pub tokens_of_form : Cut → List Token
 tokens_of_form (Plain kind name) = Word (kind_word kind) ∷ Word name ∷ []
-tokens_of_form (Valued kind name value) = Word (kind_word kind) ∷ Word name ∷ Symbol (codes "=") ∷ value
+tokens_of_form (Valued kind name value) =
+    Word (kind_word kind) ∷ Word name ∷ Symbol (codes "=") ∷ value
 tokens_of_form (Thread name) = Word (codes "thread") ∷ Word name ∷ []
 tokens_of_form (On verb object) = Word (on_word verb) ∷ Word object ∷ []
-tokens_of_form (Into verb register object) = Word (into_word verb) ∷ Word (register_word register) ∷ Word object ∷ []
+tokens_of_form (Into verb register object) =
+    Word (into_word verb) ∷ Word (register_word register) ∷ Word object ∷ []
 tokens_of_form (Write var value) = Word (codes "write") ∷ Word var ∷ value
-tokens_of_form (Add register var value) = Word (codes "add") ∷ Word (register_word register) ∷ Word var ∷ value
-tokens_of_form (Cas register var old new) = Word (codes "cas") ∷ Word (register_word register) ∷ Word var ∷ (old ++ Symbol (codes ",") ∷ new)
+tokens_of_form (Add register var value) =
+    Word (codes "add") ∷ Word (register_word register) ∷ Word var ∷ value
+tokens_of_form (Cas register var old new) =
+    Word (codes "cas") ∷ Word (register_word register) ∷ Word var
+    ∷ (old ++ Symbol (codes ",") ∷ new)
 tokens_of_form (Wait cond mutex) = Word (codes "wait") ∷ Word cond ∷ Word mutex ∷ []
 tokens_of_form Yield = Word (codes "yield") ∷ []
 tokens_of_form (Assert test) = Word (codes "assert") ∷ test
@@ -166,19 +171,29 @@ tokens_of_form (While test) = Word (codes "while") ∷ test
 tokens_of_form End = Word (codes "end") ∷ []
 tokens_of_form Else = Word (codes "else") ∷ []
 
--- the first value that tokens stand for: digits in base ten, for a variable also with a `-` before them
+-- the first value that tokens stand for: digits in base ten, for a variable also with a `-` before
+-- them
 abbrev pub value_in : NameKind → List Token → Option ℤ
 value_in kind (Number digits ∷ []) = Some (pos (digits_value 10 digits))
-value_in kinds.Var (Symbol signs ∷ Number digits ∷ []) = if bytes_eq signs (codes "-") then Some (neg_ℤ (pos (digits_value 10 digits))) else None
+value_in kinds.Var (Symbol signs ∷ Number digits ∷ []) =
+    if bytes_eq signs (codes "-") then Some (neg_ℤ (pos (digits_value 10 digits))) else None
 value_in kind tokens = None
 
 -- A form in a line means this one, whose expressions its tokens spell.
 abbrev pub Means : Cut → Meant → Type 0
-Means (Write var value) meant = (tree : Expression) × IsExpression value tree × (meant ≡ Write var tree)
-Means (Add register var value) meant = (tree : Expression) × IsExpression value tree × (meant ≡ Add register var tree)
-Means (Cas register var old new) meant = (a : Expression) × (b : Expression) × IsExpression old a × IsExpression new b × (meant ≡ Cas register var a b)
+Means (Write var value) meant =
+    (tree : Expression) × IsExpression value tree × (meant ≡ Write var tree)
+Means (Add register var value) meant =
+    (tree : Expression) × IsExpression value tree × (meant ≡ Add register var tree)
+Means (Cas register var old new) meant =
+    (a : Expression)
+    × (b : Expression)
+    × IsExpression old a
+    × IsExpression new b
+    × (meant ≡ Cas register var a b)
 Means (Assert test) meant = (tree : Expression) × IsExpression test tree × (meant ≡ Assert tree)
-Means (Set register value) meant = (tree : Expression) × IsExpression value tree × (meant ≡ Set register tree)
+Means (Set register value) meant =
+    (tree : Expression) × IsExpression value tree × (meant ≡ Set register tree)
 Means (If test) meant = (tree : Expression) × IsExpression test tree × (meant ≡ If tree)
 Means (While test) meant = (tree : Expression) × IsExpression test tree × (meant ≡ While tree)
 Means (Plain kind name) meant = meant ≡ Plain kind name
@@ -196,11 +211,14 @@ IsName version name = is_name version name ≡ true
 
 -- what a version of the language asks of a form: it has the form, and the form's names are names
 abbrev pub IsOf : ℕ → Cut → Type 0
-IsOf version (Plain kind name) = (is_plain kind ≡ true) × (kind_since kind ≤ version) × IsName version name
-IsOf version (Valued kind name value) = (has_value kind ≡ true) × IsName version name × (is_some (value_in kind value) ≡ true)
+IsOf version (Plain kind name) =
+    (is_plain kind ≡ true) × (kind_since kind ≤ version) × IsName version name
+IsOf version (Valued kind name value) =
+    (has_value kind ≡ true) × IsName version name × (is_some (value_in kind value) ≡ true)
 IsOf version (Thread name) = IsName version name
 IsOf version (On verb object) = (on_since verb ≤ version) × IsName version object
-IsOf version (Into verb register object) = (into_since verb ≤ version) × (register < 16) × IsName version object
+IsOf version (Into verb register object) =
+    (into_since verb ≤ version) × (register < 16) × IsName version object
 IsOf version (Write var value) = IsName version var
 IsOf version (Add register var value) = (register < 16) × IsName version var
 IsOf version (Cas register var old new) = (register < 16) × IsName version var

@@ -19,34 +19,43 @@ spaced [] = []
 spaced (word ∷ []) = word
 spaced (word ∷ next ∷ words) = word ++ 32 ∷ spaced (next ∷ words)
 
--- Each operation between two parts stands in parentheses, the outermost too, and `!` and `-` directly before their part.
+-- Each operation between two parts stands in parentheses, the outermost too, and `!` and `-`
+-- directly before their part.
 abbrev pub expression_text : Expression → List ℕ
 expression_text (trees.Number n) = number_text n
 expression_text (trees.Reg reg) = register_word reg
 expression_text (trees.Not a) = codes "!" ++ expression_text a
 expression_text (trees.Minus a) = codes "-" ++ expression_text a
-expression_text (trees.Two op a b) = codes "(" ++ (spaced (expression_text a ∷ signs_of op ∷ expression_text b ∷ []) ++ codes ")")
+expression_text (trees.Two op a b) =
+    codes "(" ++ (spaced (expression_text a ∷ signs_of op ∷ expression_text b ∷ []) ++ codes ")")
 
 abbrev pub token_text : Token → List ℕ
 token_text (Word letters) = letters
 token_text (Number digits) = digits
 token_text (Symbol signs) = signs
 
--- The text of a line: its tokens with one space between them, but none before the comma of `cas`, and none between the
--- `-` and the digits of a first value.
+-- The text of a line: its tokens with one space between them, but none before the comma of `cas`,
+-- and none between the `-` and the digits of a first value.
 abbrev pub form_text : Meant → List ℕ
 form_text (forms.Plain kind name) = spaced (kind_word kind ∷ name ∷ [])
-form_text (forms.Valued kind name value) = spaced (kind_word kind ∷ name ∷ codes "=" ∷ flat_map token_text value ∷ [])
+form_text (forms.Valued kind name value) =
+    spaced (kind_word kind ∷ name ∷ codes "=" ∷ flat_map token_text value ∷ [])
 form_text (forms.Thread name) = spaced (codes "thread" ∷ name ∷ [])
 form_text (forms.On verb object) = spaced (on_word verb ∷ object ∷ [])
-form_text (forms.Into verb register object) = spaced (into_word verb ∷ register_word register ∷ object ∷ [])
+form_text (forms.Into verb register object) =
+    spaced (into_word verb ∷ register_word register ∷ object ∷ [])
 form_text (forms.Write var value) = spaced (codes "write" ∷ var ∷ expression_text value ∷ [])
-form_text (forms.Add register var value) = spaced (codes "add" ∷ register_word register ∷ var ∷ expression_text value ∷ [])
-form_text (forms.Cas register var old new) = spaced (codes "cas" ∷ register_word register ∷ var ∷ (expression_text old ++ codes ",") ∷ expression_text new ∷ [])
+form_text (forms.Add register var value) =
+    spaced (codes "add" ∷ register_word register ∷ var ∷ expression_text value ∷ [])
+form_text (forms.Cas register var old new) =
+    spaced
+    (codes "cas" ∷ register_word register ∷ var ∷ (expression_text old ++ codes ",")
+    ∷ expression_text new ∷ [])
 form_text (forms.Wait cond mutex) = spaced (codes "wait" ∷ cond ∷ mutex ∷ [])
 form_text forms.Yield = codes "yield"
 form_text (forms.Assert test) = spaced (codes "assert" ∷ expression_text test ∷ [])
-form_text (forms.Set register value) = spaced (codes "set" ∷ register_word register ∷ expression_text value ∷ [])
+form_text (forms.Set register value) =
+    spaced (codes "set" ∷ register_word register ∷ expression_text value ∷ [])
 form_text (forms.If test) = spaced (codes "if" ∷ expression_text test ∷ [])
 form_text (forms.While test) = spaced (codes "while" ∷ expression_text test ∷ [])
 form_text forms.End = codes "end"
@@ -63,13 +72,18 @@ plain_forms kind names = map (forms.Plain kind) names
 abbrev pub valued_forms : NameKind → List (List ℕ) → List ℤ → List Meant
 valued_forms kind [] values = []
 valued_forms kind (name ∷ names) [] = []
-valued_forms kind (name ∷ names) (value ∷ values) = forms.Valued kind name (value_tokens value) ∷ valued_forms kind names values
+valued_forms kind (name ∷ names) (value ∷ values) =
+    forms.Valued kind name (value_tokens value) ∷ valued_forms kind names values
 
 -- the declarations of objects, by kinds in this order
 abbrev pub declared_forms : ScriptText → List Meant
 declared_forms script =
-    valued_forms kinds.Var script.names.vars script.vars ++ (plain_forms kinds.Mutex script.names.mutexes ++ (plain_forms kinds.Cond script.names.conds
-    ++ (valued_forms kinds.Sem script.names.sems script.sems ++ (valued_forms kinds.Barrier script.names.barriers script.barriers ++ plain_forms kinds.RwLock script.names.rwlocks))))
+    valued_forms kinds.Var script.names.vars script.vars
+    ++ (plain_forms kinds.Mutex script.names.mutexes
+    ++ (plain_forms kinds.Cond script.names.conds
+    ++ (valued_forms kinds.Sem script.names.sems script.sems
+    ++ (valued_forms kinds.Barrier script.names.barriers script.barriers
+    ++ plain_forms kinds.RwLock script.names.rwlocks))))
 
 -- what lines mean, without their numbers
 abbrev pub meanings : List Line → List Meant
@@ -77,7 +91,9 @@ meanings lines = map (λ line. line.1) lines
 
 -- what the lines below the header mean: the declarations, and then the threads
 abbrev pub forms_of : ScriptText → List Meant
-forms_of script = declared_forms script ++ meanings (all_thread_lines script.names script.names.threads script.threads)
+forms_of script =
+    declared_forms script
+    ++ meanings (all_thread_lines script.names script.names.threads script.threads)
 
 abbrev pub header_text : ℕ → List ℕ
 header_text version = spaced (codes "script" ∷ decimal version ∷ [])
@@ -87,6 +103,7 @@ abbrev pub text_of_lines : List (List ℕ) → List ℕ
 text_of_lines [] = []
 text_of_lines (line ∷ lines) = line ++ 10 ∷ text_of_lines lines
 
--- the canonical layout: the header, and then a line for each declaration, statement, `else` and `end`
+-- the canonical layout: the header, and then a line for each declaration, statement, `else` and
+-- `end`
 abbrev pub layout : ScriptText → List ℕ
 layout script = text_of_lines (header_text script.version ∷ map form_text (forms_of script))

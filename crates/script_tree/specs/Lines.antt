@@ -22,7 +22,8 @@ is_blank_line line = is_nothing (tokens_of line)
 -- The version of the language that the tokens of a header tell, and none where they are no header.
 abbrev pub version_in : List Token → Option ℕ
 version_in (Word word ∷ Number (digit ∷ []) ∷ []) =
-    if bytes_eq word (codes "script") && nat_le 49 digit && nat_le digit 51 then Some (digit - 48) else None
+    if bytes_eq word (codes "script") && nat_le 49 digit && nat_le digit 51 then Some (digit - 48)
+    else None
 version_in tokens = None
 
 -- the version of a script, as the first line with tokens tells it
@@ -38,7 +39,8 @@ begins word tokens = false
 
 -- the name that a line declares, where it declares one of this kind
 abbrev pub named : NameKind → List Token → Option (List ℕ)
-named kind (Word word ∷ Word name ∷ tokens) = if bytes_eq word (kind_word kind) then Some name else None
+named kind (Word word ∷ Word name ∷ tokens) =
+    if bytes_eq word (kind_word kind) then Some name else None
 named kind tokens = None
 
 -- the names of a kind, in the order of their lines
@@ -47,7 +49,8 @@ names_of kind lines = filter_map (named kind) lines
 
 -- the first value that a line declares for an object of this kind
 abbrev pub valued : NameKind → List Token → Option ℤ
-valued kind (Word word ∷ Word name ∷ Symbol signs ∷ value) = if bytes_eq word (kind_word kind) then value_in kind value else None
+valued kind (Word word ∷ Word name ∷ Symbol signs ∷ value) =
+    if bytes_eq word (kind_word kind) then value_in kind value else None
 valued kind tokens = None
 
 abbrev pub values_of : NameKind → List (List Token) → List ℤ
@@ -55,14 +58,17 @@ values_of kind lines = filter_map (valued kind) lines
 
 -- a block begins: a thread, an `if` or a `while`
 abbrev pub opens : List Token → Bool
-opens tokens = begins (codes "thread") tokens || begins (codes "if") tokens || begins (codes "while") tokens
+opens tokens =
+    begins (codes "thread") tokens || begins (codes "if") tokens || begins (codes "while") tokens
 
--- how many blocks are open after these lines, the thread among them: those that began and didn't end
+-- how many blocks are open after these lines, the thread among them: those that began and didn't
+-- end
 abbrev pub depth : List (List Token) → ℕ
 depth lines = count_by opens lines - count_by (begins (codes "end")) lines
 
--- The line that a block which is open after these lines begins with, or its `else`. The lines go backwards, from the
--- last one on, and so many blocks within that block are passed over. Each `end` closes one block more.
+-- The line that a block which is open after these lines begins with, or its `else`. The lines go
+-- backwards, from the last one on, and so many blocks within that block are passed over. Each `end`
+-- closes one block more.
 abbrev pub opener : ℕ → List (List Token) → List Token
 opener inner [] = []
 opener inner (line ∷ before) =
@@ -72,7 +78,8 @@ opener inner (line ∷ before) =
 
 -- the thread that a line begins, where it is text that has just the tokens for that
 abbrev pub just_thread : List Token → Option (List ℕ)
-just_thread (Word word ∷ Word name ∷ []) = if bytes_eq word (codes "thread") then Some name else None
+just_thread (Word word ∷ Word name ∷ []) =
+    if bytes_eq word (codes "thread") then Some name else None
 just_thread tokens = None
 
 abbrev pub thread_in : List ℕ → Option (List ℕ)

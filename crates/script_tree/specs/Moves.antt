@@ -1,4 +1,5 @@
--- What a thread does by itself, and what it asks, by the first of its statements that remain (this project).
+-- What a thread does by itself, and what it asks, by the first of its statements that remain (this
+-- project).
 use Rattle.std.specs.Prelude.{ℕ, ℤ, pos, not, Bool, true, false, if◌then◌else◌, List, [], ◌∷◌, ◌++◌, replicate, Ok, Err, slice_set}
 use Rattle.pct_ask.specs.declared.ask.Ask.{Ask}
 use Rattle.pct_ask.specs.declared.ask.Ask.TheVariants as asks
@@ -6,8 +7,8 @@ use Rattle.script_tree.specs.Trees.{Statement, Statements, Read, Write, Add, Cas
 use Rattle.script_tree.specs.Machine.{Act, Moves, Asks, Ends}
 use Rattle.script_tree.specs.Values.{Value, is_zero, value_of}
 
--- a thread between two moves: the statements that remain, its sixteen numbers, and whether it has had the first answer
--- of the `wait` or `arrive` at the head
+-- a thread between two moves: the statements that remain, its sixteen numbers, and whether it has
+-- had the first answer of the `wait` or `arrive` at the head
 pub record State : Type 0 where
   pub rest : List Statement
   pub registers : List ℤ
@@ -57,31 +58,40 @@ module _ (rest : List Statement) (registers : List ℤ) where
   -- what a statement does before the rest
   abbrev pub act : Bool → Statement → Act State
   act halfway (Read line reg var) = asks_into reg (asks.Read var)
-  act halfway (Write line var value) = asks_by (value_of registers value) (λ n. asks_only (asks.Write var n))
-  act halfway (Add line reg var value) = asks_by (value_of registers value) (λ n. asks_into reg (asks.Add var n))
+  act halfway (Write line var value) =
+      asks_by (value_of registers value) (λ n. asks_only (asks.Write var n))
+  act halfway (Add line reg var value) =
+      asks_by (value_of registers value) (λ n. asks_into reg (asks.Add var n))
   act halfway (Cas line reg var old new) =
-      asks_by (value_of registers old) (λ m. asks_by (value_of registers new) (λ n. asks_into reg (asks.Cas var m n)))
+      asks_by (value_of registers old) (λ m.
+      asks_by (value_of registers new) (λ n. asks_into reg (asks.Cas var m n)))
   act halfway (Lock line mutex) = asks_only (asks.Lock mutex)
   act halfway (TryLock line reg mutex) = asks_into reg (asks.TryLock mutex)
   act halfway (Unlock line mutex) = asks_only (asks.Unlock mutex)
-  act false (Wait line cond mutex) = Asks (asks.Release cond mutex) (λ answer. between (Wait line cond mutex))
+  act false (Wait line cond mutex) =
+      Asks (asks.Release cond mutex) (λ answer. between (Wait line cond mutex))
   act true (Wait line cond mutex) = asks_only (asks.Regain cond mutex)
   act halfway (Signal line cond) = asks_only (asks.Signal cond)
   act halfway (Broadcast line cond) = asks_only (asks.Broadcast cond)
   act halfway (Down line sem) = asks_only (asks.Down sem)
   act halfway (TryDown line reg sem) = asks_into reg (asks.TryDown sem)
   act halfway (Up line sem) = asks_only (asks.Up sem)
-  act false (Arrive line reg barrier) = Asks (asks.Arrive barrier) (λ answer. between (Arrive line reg barrier))
+  act false (Arrive line reg barrier) =
+      Asks (asks.Arrive barrier) (λ answer. between (Arrive line reg barrier))
   act true (Arrive line reg barrier) = asks_into reg (asks.Leave barrier)
   act halfway (Join line thread) = asks_only (asks.Join thread)
   act halfway (Yield line) = asks_only asks.Yield
-  act halfway (Assert line test) = asks_by (value_of registers test) (λ n. asks_only (asks.Check (not (is_zero n))))
+  act halfway (Assert line test) =
+      asks_by (value_of registers test) (λ n. asks_only (asks.Check (not (is_zero n))))
   act halfway (Set line reg value) = moves (value_of registers value) (keeps reg)
-  act halfway (If line test first) = moves (value_of registers test) (λ n. before (chosen n (list first ++ rest) rest) registers)
+  act halfway (If line test first) =
+      moves (value_of registers test) (λ n. before (chosen n (list first ++ rest) rest) registers)
   act halfway (IfElse line test first otherwise) =
-      moves (value_of registers test) (λ n. before (chosen n (list first ++ rest) (list otherwise ++ rest)) registers)
+      moves (value_of registers test) (λ n.
+      before (chosen n (list first ++ rest) (list otherwise ++ rest)) registers)
   act halfway (While line test body) =
-      moves (value_of registers test) (λ n. before (chosen n (list body ++ While line test body ∷ rest) rest) registers)
+      moves (value_of registers test) (λ n.
+      before (chosen n (list body ++ While line test body ∷ rest) rest) registers)
   act halfway (Start line thread) = asks_only (asks.Start thread)
   act halfway (RdLock line rwlock) = asks_only (asks.RdLock rwlock)
   act halfway (WrLock line rwlock) = asks_only (asks.WrLock rwlock)
@@ -89,7 +99,8 @@ module _ (rest : List Statement) (registers : List ℤ) where
   act halfway (TryWrLock line reg rwlock) = asks_into reg (asks.TryWrLock rwlock)
   act halfway (RwUnlock line rwlock) = asks_only (asks.RwUnlock rwlock)
 
--- the first of the statements that remain, on its line; at its end, on the line `end`, a thread asks nothing
+-- the first of the statements that remain, on its line; at its end, on the line `end`, a thread
+-- asks nothing
 abbrev pub head : (end : ℕ) → State → ℕ × Act State
 head end state = head_of state.rest state.registers state.halfway
   where

@@ -10,7 +10,8 @@ use Rattle.script_tree.specs.Moves.{head, ended, at_start}
 
 -- the post of a thread that begins with these statements
 abbrev pub body_pending : (limit : ℕ) → Statements → List ℤ → Post
-body_pending limit body answers = pending_from (head (end_line body)) ended limit (at_start body) answers
+body_pending limit body answers =
+    pending_from (head (end_line body)) ended limit (at_start body) answers
 
 -- a thread that is held asks first to begin, on its first line
 abbrev pub held_pending : Bool → (limit : ℕ) → Thread → List ℤ → Post
@@ -42,7 +43,8 @@ thread_of script t = slice_index_or script.threads t no_thread
 
 -- where a thread makes at most `limit` local moves between two asks
 abbrev pub pending_within : (limit : ℕ) → ScriptText → ℕ → List ℤ → Post
-pending_within limit script t answers = held_pending (is_held script t) limit (thread_of script t) answers
+pending_within limit script t answers =
+    held_pending (is_held script t) limit (thread_of script t) answers
 
 -- how many local moves a thread makes between two asks at most
 unfoldable pub most_moves : ℕ

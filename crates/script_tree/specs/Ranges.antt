@@ -15,12 +15,14 @@ is_great token = false
 abbrev pub has_great : List Token → Bool
 has_great tokens = list_any is_great tokens
 
--- First values that an object may have: an i64 for a variable, 0 to 2147483647 for a semaphore, 1 to 1000 for a barrier.
+-- First values that an object may have: an i64 for a variable, 0 to 2147483647 for a semaphore, 1
+-- to 1000 for a barrier.
 abbrev pub value_fits : NameKind → List Token → Bool
 value_fits kinds.Var (Number digits ∷ []) = nat_lt (digits_value 10 digits) (2 ^ 63)
 value_fits kinds.Var (Symbol minus ∷ Number digits ∷ []) = nat_le (digits_value 10 digits) (2 ^ 63)
 value_fits kinds.Sem (Number digits ∷ []) = nat_le (digits_value 10 digits) 2147483647
-value_fits kinds.Barrier (Number digits ∷ []) = nat_le 1 (digits_value 10 digits) && nat_le (digits_value 10 digits) 1000
+value_fits kinds.Barrier (Number digits ∷ []) =
+    nat_le 1 (digits_value 10 digits) && nat_le (digits_value 10 digits) 1000
 value_fits kind tokens = false
 
 abbrev pub is_out_of_range : Cut → Bool

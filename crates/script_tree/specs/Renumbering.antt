@@ -39,7 +39,9 @@ abbrev mutual
   renumbered_statement n (Assert line test) = Assert n test
   renumbered_statement n (Set line reg value) = Set n reg value
   renumbered_statement n (If line test first) = If n test (renumbered_block (n + 1) first)
-  renumbered_statement n (IfElse line test first otherwise) = IfElse n test (renumbered_block (n + 1) first) (renumbered_block (n + 1 + lines_count first) otherwise)
+  renumbered_statement n (IfElse line test first otherwise) =
+      IfElse n test (renumbered_block (n + 1) first)
+      (renumbered_block (n + 1 + lines_count first) otherwise)
   renumbered_statement n (While line test body) = While n test (renumbered_block (n + 1) body)
   renumbered_statement n (Start line thread) = Start n thread
   renumbered_statement n (RdLock line rwlock) = RdLock n rwlock
@@ -50,19 +52,25 @@ abbrev mutual
 
   pub renumbered_block : ℕ → Statements → Statements
   renumbered_block n (Closed line) = Closed n
-  renumbered_block n (Then s rest) = Then (renumbered_statement n s) (renumbered_block (n + line_count s) rest)
+  renumbered_block n (Then s rest) =
+      Then (renumbered_statement n s) (renumbered_block (n + line_count s) rest)
 
 -- threads one after another, of which the first begins on this line
 abbrev pub renumbered_threads : ℕ → List Thread → List Thread
 renumbered_threads n [] = []
-renumbered_threads n (t ∷ ts) = record { line = n; body = renumbered_block (n + 1) t.body } ∷ renumbered_threads (n + 1 + lines_count t.body) ts
+renumbered_threads n (t ∷ ts) =
+    record { line = n; body = renumbered_block (n + 1) t.body }
+    ∷ renumbered_threads (n + 1 + lines_count t.body) ts
 
--- The same script with each line number replaced by that of its line in the canonical layout, which has the header on
--- line 1, then a line for each object, and then the threads.
+-- The same script with each line number replaced by that of its line in the canonical layout, which
+-- has the header on line 1, then a line for each object, and then the threads.
 abbrev pub renumbered : ScriptText → ScriptText
-renumbered script = record script { threads = renumbered_threads (2 + length (declared_forms script)) script.threads }
+renumbered script =
+    record script
+    { threads = renumbered_threads (2 + length (declared_forms script)) script.threads }
 
--- A text within the limits of scripts: at most 1,048,576 bytes, and 4,096 lines of at most 256 bytes.
+-- A text within the limits of scripts: at most 1,048,576 bytes, and 4,096 lines of at most 256
+-- bytes.
 pub record IsShort (bytes : List ℕ) : Type 0 where
   pub small : length bytes ≤ 1048576
   pub few_lines : length (lines_of bytes) ≤ 4096

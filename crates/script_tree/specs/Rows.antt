@@ -14,13 +14,25 @@ use Rattle.script_tree.specs.Posts.{pending, pending_within, most_moves}
 abbrev pub adder : ℕ → Thread
 adder line = record {
   line = line;
-  body = Then (Read (suc line) 0 0) (Then (Write (suc (suc line)) 0 (Two ops.Plus (Reg 0) (Number (pos 1)))) (Closed (suc (suc (suc line)))));
+  body =
+      Then (Read (suc line) 0 0)
+      (Then (Write (suc (suc line)) 0 (Two ops.Plus (Reg 0) (Number (pos 1))))
+      (Closed (suc (suc (suc line)))));
 }
 
 abbrev pub two_adders : ScriptText
 two_adders = record {
   version = 1;
-  names = record { threads = codes "A" ∷ codes "B" ∷ codes "C" ∷ []; vars = codes "x" ∷ []; mutexes = []; conds = []; sems = []; barriers = []; rwlocks = [] };
+  names =
+      record {
+        threads = codes "A" ∷ codes "B" ∷ codes "C" ∷ [];
+        vars = codes "x" ∷ [];
+        mutexes = [];
+        conds = [];
+        sems = [];
+        barriers = [];
+        rwlocks = [];
+      };
   vars = pos 0 ∷ [];
   sems = [];
   barriers = [];
@@ -28,7 +40,11 @@ two_adders = record {
       adder 3 ∷ adder 7
       ∷ record {
         line = 11;
-        body = Then (Join 12 0) (Then (Join 13 1) (Then (Read 14 0 0) (Then (Assert 15 (Two ops.Eq (Reg 0) (Number (pos 2)))) (Closed 16))));
+        body =
+            Then (Join 12 0)
+            (Then (Join 13 1)
+            (Then (Read 14 0 0)
+            (Then (Assert 15 (Two ops.Eq (Reg 0) (Number (pos 2)))) (Closed 16))));
       }
       ∷ [];
 }
@@ -41,7 +57,8 @@ pub first_post : pending two_adders 0 [] ≡ record { ask = Some (asks.Read 0); 
 unfolding most_moves
 first_post = refl
 
-pub second_post : pending two_adders 0 (pos 0 ∷ []) ≡ record { ask = Some (asks.Write 0 (pos 1)); line = 5 }
+pub second_post : pending two_adders 0 (pos 0 ∷ [])
+    ≡ record { ask = Some (asks.Write 0 (pos 1)); line = 5 }
 unfolding most_moves
 second_post = refl
 
@@ -50,11 +67,13 @@ unfolding most_moves
 third_post = refl
 
 -- the second adder reads what the first one wrote
-pub later_write : pending two_adders 1 (pos 1 ∷ []) ≡ record { ask = Some (asks.Write 0 (pos 2)); line = 9 }
+pub later_write : pending two_adders 1 (pos 1 ∷ [])
+    ≡ record { ask = Some (asks.Write 0 (pos 2)); line = 9 }
 unfolding most_moves
 later_write = refl
 
-pub check_holds : pending two_adders 2 (pos 0 ∷ pos 0 ∷ pos 2 ∷ []) ≡ record { ask = Some (asks.Check true); line = 15 }
+pub check_holds : pending two_adders 2 (pos 0 ∷ pos 0 ∷ pos 2 ∷ [])
+    ≡ record { ask = Some (asks.Check true); line = 15 }
 unfolding most_moves
 check_holds = refl
 
@@ -62,7 +81,16 @@ check_holds = refl
 abbrev pub spinner : ScriptText
 spinner = record {
   version = 1;
-  names = record { threads = codes "A" ∷ []; vars = []; mutexes = []; conds = []; sems = []; barriers = []; rwlocks = [] };
+  names =
+      record {
+        threads = codes "A" ∷ [];
+        vars = [];
+        mutexes = [];
+        conds = [];
+        sems = [];
+        barriers = [];
+        rwlocks = [];
+      };
   vars = [];
   sems = [];
   barriers = [];
@@ -70,7 +98,8 @@ spinner = record {
 }
 
 -- it spins, however many moves it may make
-pub spins_within : (limit : ℕ) → pending_within limit spinner 0 [] ≡ record { ask = Some (asks.Fault Spin); line = 3 }
+pub spins_within : (limit : ℕ)
+    → pending_within limit spinner 0 [] ≡ record { ask = Some (asks.Fault Spin); line = 3 }
 spins_within zero = refl
 spins_within (suc limit) = spins_within limit
 
@@ -82,14 +111,25 @@ spins = spins_within 10000
 abbrev pub starter : ScriptText
 starter = record {
   version = 2;
-  names = record { threads = codes "A" ∷ codes "B" ∷ []; vars = []; mutexes = []; conds = []; sems = []; barriers = []; rwlocks = [] };
+  names =
+      record {
+        threads = codes "A" ∷ codes "B" ∷ [];
+        vars = [];
+        mutexes = [];
+        conds = [];
+        sems = [];
+        barriers = [];
+        rwlocks = [];
+      };
   vars = [];
   sems = [];
   barriers = [];
   threads =
-      record { line = 2; body = Then (If 3 (Number (pos 0)) (Then (Start 4 1) (Closed 5))) (Closed 6) }
-      ∷ record { line = 7; body = Then (Yield 8) (Closed 9) }
-      ∷ [];
+      record {
+        line = 2;
+        body = Then (If 3 (Number (pos 0)) (Then (Start 4 1) (Closed 5))) (Closed 6);
+      }
+      ∷ record { line = 7; body = Then (Yield 8) (Closed 9) } ∷ [];
 }
 
 pub first_thread_ends : pending starter 0 [] ≡ record { ask = None; line = 6 }
@@ -105,21 +145,32 @@ unfolding most_moves
 held_thread_yields = refl
 
 -- a quotient is truncated toward zero, and the remainder has the sign of the dividend
-pub quotient_of_minus_seven : value_of [] (Two ops.Over (Minus (Number (pos 7))) (Number (pos 2))) ≡ Ok (negsuc 2)
+pub quotient_of_minus_seven : value_of [] (Two ops.Over (Minus (Number (pos 7))) (Number (pos 2)))
+    ≡ Ok (negsuc 2)
 quotient_of_minus_seven = refl
 
-pub remainder_of_minus_seven : value_of [] (Two ops.Rest (Minus (Number (pos 7))) (Number (pos 2))) ≡ Ok (negsuc 0)
+pub remainder_of_minus_seven : value_of [] (Two ops.Rest (Minus (Number (pos 7))) (Number (pos 2)))
+    ≡ Ok (negsuc 0)
 remainder_of_minus_seven = refl
 
-pub least_by_minus_one : value_of (negsuc 9223372036854775807 ∷ []) (Two ops.Over (Reg 0) (Minus (Number (pos 1)))) ≡ Err Overflow
+pub least_by_minus_one : value_of (negsuc 9223372036854775807 ∷ [])
+    (Two ops.Over (Reg 0) (Minus (Number (pos 1))))
+    ≡ Err Overflow
 least_by_minus_one = refl
 
-pub least_rest_minus_one : value_of (negsuc 9223372036854775807 ∷ []) (Two ops.Rest (Reg 0) (Minus (Number (pos 1)))) ≡ Err Overflow
+pub least_rest_minus_one : value_of (negsuc 9223372036854775807 ∷ [])
+    (Two ops.Rest (Reg 0) (Minus (Number (pos 1))))
+    ≡ Err Overflow
 least_rest_minus_one = refl
 
 -- the left part's fault is the fault, and a part that doesn't count has none
-pub left_fault : value_of [] (Two ops.Plus (Two ops.Over (Number (pos 1)) (Number (pos 0))) (Two ops.Plus (Number (pos 9223372036854775807)) (Number (pos 1)))) ≡ Err ZeroDivisor
+pub left_fault : value_of []
+    (Two ops.Plus (Two ops.Over (Number (pos 1)) (Number (pos 0)))
+    (Two ops.Plus (Number (pos 9223372036854775807)) (Number (pos 1))))
+    ≡ Err ZeroDivisor
 left_fault = refl
 
-pub unread_part : value_of [] (Two ops.And (Number (pos 0)) (Two ops.Over (Number (pos 1)) (Number (pos 0)))) ≡ Ok (pos 0)
+pub unread_part : value_of []
+    (Two ops.And (Number (pos 0)) (Two ops.Over (Number (pos 1)) (Number (pos 0))))
+    ≡ Ok (pos 0)
 unread_part = refl

@@ -1,4 +1,5 @@
--- A script as its names, the first values of its objects, and its threads' statements (this project).
+-- A script as its names, the first values of its objects, and its threads' statements (this
+-- project).
 use Rattle.std.specs.Prelude.{ℕ, ℤ, List}
 use Rattle.pct_ask.specs.NameLists.{NameLists}
 use Rattle.script_tree.specs.Trees.{Statements}

@@ -26,7 +26,8 @@ abbrev pub statement_step : Stmt-F Statement Statements → Statement
 statement_step (Stmt-F.Read line reg var) = trees.Read line reg var
 statement_step (Stmt-F.Write line var value) = trees.Write line var (expression value)
 statement_step (Stmt-F.Add line reg var value) = trees.Add line reg var (expression value)
-statement_step (Stmt-F.Cas line reg var old new) = trees.Cas line reg var (expression old) (expression new)
+statement_step (Stmt-F.Cas line reg var old new) =
+    trees.Cas line reg var (expression old) (expression new)
 statement_step (Stmt-F.Lock line mutex) = trees.Lock line mutex
 statement_step (Stmt-F.TryLock line reg mutex) = trees.TryLock line reg mutex
 statement_step (Stmt-F.Unlock line mutex) = trees.Unlock line mutex
@@ -41,7 +42,8 @@ statement_step (Stmt-F.Join line thread) = trees.Join line thread
 statement_step (Stmt-F.Yield line) = trees.Yield line
 statement_step (Stmt-F.Assert line test) = trees.Assert line (expression test)
 statement_step (Stmt-F.Set line reg value) = trees.Set line reg (expression value)
-statement_step (Stmt-F.If line test first otherwise) = if_step line (expression test) first otherwise
+statement_step (Stmt-F.If line test first otherwise) =
+    if_step line (expression test) first otherwise
 statement_step (Stmt-F.While line test body) = trees.While line (expression test) body
 statement_step (Stmt-F.Start line thread) = trees.Start line thread
 statement_step (Stmt-F.RdLock line rwlock) = trees.RdLock line rwlock

@@ -1,4 +1,5 @@
--- The statements and expressions of a script as trees, without where they lie in memory (this project).
+-- The statements and expressions of a script as trees, without where they lie in memory (this
+-- project).
 use Rattle.std.specs.Prelude.{ℕ, ℤ, List, [], ◌∷◌}
 use Rattle.script_tree.specs.declared.expr.Op.{Op}
 

@@ -1,4 +1,5 @@
--- What an expression comes to (two's complement of 64 bits, as i64 of Rust; faults are this project's).
+-- What an expression comes to (two's complement of 64 bits, as i64 of Rust; faults are this
+-- project's).
 use Rattle.std.specs.Prelude.{ℤ, pos, negsuc, ◌^◌, ◌+ℤ◌, ◌-ℤ◌, ◌*ℤ◌, neg_ℤ, Bool, true, false, not, nat_lt, int_lt, int_le, int_div, int_rem, if◌then◌else◌, List, Result, Ok, Err, slice_index_or}
 use Rattle.std.specs.Ordering.{int_eq}
 use Rattle.pct_ask.specs.declared.ask.FaultKind.{FaultKind}

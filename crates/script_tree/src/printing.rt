@@ -22,7 +22,8 @@ use std::alloc::{AllocError as NoMemory, Global};
 /// a text of the same script, with the lines that its statements have in it.
 pub fn print_script(alloc: Global, script: &Script) -> Result<Vec<u8>, NoMemory>
     ensures layout { IfOk result (λ bytes. bytes.items ≡ layout (text script.now)) }
-    ensures spelled { IfOk result (λ bytes. IsShort bytes.items → Spells bytes.items (renumbered (text script.now))) }
+    ensures spelled { IfOk result (λ bytes.
+        IsShort bytes.items → Spells bytes.items (renumbered (text script.now))) }
 {
     // The names are lawful, and so what is printed can be read.
     let _ = script.names.count(NameKind::Thread);
@@ -37,7 +38,9 @@ pub fn print_script(alloc: Global, script: &Script) -> Result<Vec<u8>, NoMemory>
 
 // By kinds in this order.
 fn push_declarations(script: &Script, out: &mut Vec<u8>) -> Result<(), NoMemory>
-    ensures written { OnOk result (out.new.items ≡ out.old.items ++ text_of_lines (map form_text (declared_forms (text script.now)))) }
+    ensures written { OnOk result
+        (out.new.items
+        ≡ out.old.items ++ text_of_lines (map form_text (declared_forms (text script.now)))) }
     ensures ranged { OnOk result (All (FitsSigned w64) script.now.vars) }
 {
     let names = &script.names;
@@ -50,7 +53,10 @@ fn push_declarations(script: &Script, out: &mut Vec<u8>) -> Result<(), NoMemory>
 }
 
 fn push_plain(kind: NameKind, names: &Names, out: &mut Vec<u8>) -> Result<(), NoMemory>
-    ensures { OnOk result (out.new.items ≡ out.old.items ++ text_of_lines (map form_text (plain_forms kind (list_of kind names.now)))) }
+    ensures { OnOk result
+        (out.new.items
+        ≡ out.old.items
+        ++ text_of_lines (map form_text (plain_forms kind (list_of kind names.now)))) }
 {
     for place in 0..names.count(kind) {
         push_spaced(kind_word(kind), out)?;
@@ -66,7 +72,10 @@ fn push_valued(
     out: &mut Vec<u8>,
 ) -> Result<(), NoMemory>
     requires { length values.now ≡ length (list_of kind names.now) }
-    ensures written { OnOk result (out.new.items ≡ out.old.items ++ text_of_lines (map form_text (valued_forms kind (list_of kind names.now) values.now))) }
+    ensures written { OnOk result
+        (out.new.items
+        ≡ out.old.items
+        ++ text_of_lines (map form_text (valued_forms kind (list_of kind names.now) values.now))) }
     ensures ranged { OnOk result (All (FitsSigned w64) values.now) }
 {
     let firsts = values.as_slice();
@@ -82,7 +91,8 @@ fn push_valued(
 
 // A first value, which ends its line.
 fn push_value(value: i64, out: &mut Vec<u8>) -> Result<(), NoMemory>
-    ensures written { OnOk result (out.new.items ≡ out.old.items ++ (number_text value ++ 10 ∷ [])) }
+    ensures written { OnOk result
+        (out.new.items ≡ out.old.items ++ (number_text value ++ 10 ∷ [])) }
     ensures ranged { FitsSigned w64 value }
 {
     write_number(i128::from(value), out)?;
@@ -91,8 +101,13 @@ fn push_value(value: i64, out: &mut Vec<u8>) -> Result<(), NoMemory>
 
 fn push_threads(threads: &[ThreadText], names: &Names, out: &mut Vec<u8>) -> Result<(), NoMemory>
     requires { length threads.now ≡ length names.now.threads }
-    ensures written { OnOk result (out.new.items ≡ out.old.items ++ printed (all_thread_lines names.now names.now.threads (map thread threads.now))) }
-    ensures ranged { OnOk result (are_ranged (all_thread_lines names.now names.now.threads (map thread threads.now)) ≡ true) }
+    ensures written { OnOk result
+        (out.new.items
+        ≡ out.old.items
+        ++ printed (all_thread_lines names.now names.now.threads (map thread threads.now))) }
+    ensures ranged { OnOk result
+        (are_ranged (all_thread_lines names.now names.now.threads (map thread threads.now))
+        ≡ true) }
 {
     for place in 0..names.count(NameKind::Thread) {
         push_spaced(b"thread", out)?;

@@ -22,8 +22,11 @@ pub(crate) fn push_statements(
     names: &Names,
     out: &mut Vec<u8>,
 ) -> Result<(), NoMemory>
-    ensures written { OnOk result (out.new.items ≡ out.old.items ++ printed (flat_map (statement_lines names.now) (list (block body.now)))) }
-    ensures ranged { OnOk result (are_ranged (flat_map (statement_lines names.now) (list (block body.now))) ≡ true) }
+    ensures written { OnOk result
+        (out.new.items
+        ≡ out.old.items ++ printed (flat_map (statement_lines names.now) (list (block body.now)))) }
+    ensures ranged { OnOk result
+        (are_ranged (flat_map (statement_lines names.now) (list (block body.now))) ≡ true) }
 {
     for stmt in &body.stmts {
         push_statement(stmt, names, out)?;
@@ -33,8 +36,11 @@ pub(crate) fn push_statements(
 
 #[cycle(printing)]
 fn push_statement(stmt: &Stmt, names: &Names, out: &mut Vec<u8>) -> Result<(), NoMemory>
-    ensures written { OnOk result (out.new.items ≡ out.old.items ++ printed (statement_lines names.now (statement stmt.now))) }
-    ensures ranged { OnOk result (are_ranged (statement_lines names.now (statement stmt.now)) ≡ true) }
+    ensures written { OnOk result
+        (out.new.items
+        ≡ out.old.items ++ printed (statement_lines names.now (statement stmt.now))) }
+    ensures ranged { OnOk result
+        (are_ranged (statement_lines names.now (statement stmt.now)) ≡ true) }
 {
     match stmt {
         Stmt::Read { reg, var, .. } => push_into(b"read", *reg, NameKind::Var, *var, names, out),
@@ -117,7 +123,10 @@ fn push_on(
     names: &Names,
     out: &mut Vec<u8>,
 ) -> Result<(), NoMemory>
-    ensures { OnOk result (out.new.items ≡ out.old.items ++ (spaced (verb.now ∷ name_at (list_of kind names.now) place ∷ []) ++ 10 ∷ [])) }
+    ensures { OnOk result
+        (out.new.items
+        ≡ out.old.items
+        ++ (spaced (verb.now ∷ name_at (list_of kind names.now) place ∷ []) ++ 10 ∷ [])) }
 {
     push_spaced(verb, out)?;
     push_last(name_at(names, kind, place), out)
@@ -132,14 +141,23 @@ fn push_into(
     names: &Names,
     out: &mut Vec<u8>,
 ) -> Result<(), NoMemory>
-    ensures { OnOk result (out.new.items ≡ out.old.items ++ (spaced (verb.now ∷ register_word register ∷ name_at (list_of kind names.now) place ∷ []) ++ 10 ∷ [])) }
+    ensures { OnOk result
+        (out.new.items
+        ≡ out.old.items
+        ++ (spaced (verb.now ∷ register_word register ∷ name_at (list_of kind names.now) place ∷ [])
+        ++ 10 ∷ [])) }
 {
     push_spaced(verb, out)?;
     push_on(register_word(register), kind, place, names, out)
 }
 
 fn push_write(var: u32, value: &Expr, names: &Names, out: &mut Vec<u8>) -> Result<(), NoMemory>
-    ensures written { OnOk result (out.new.items ≡ out.old.items ++ (spaced (codes "write" ∷ name_at names.now.vars var ∷ expression_text (expression value.now) ∷ []) ++ 10 ∷ [])) }
+    ensures written { OnOk result
+        (out.new.items
+        ≡ out.old.items
+        ++ (spaced
+        (codes "write" ∷ name_at names.now.vars var ∷ expression_text (expression value.now) ∷ [])
+        ++ 10 ∷ [])) }
     ensures ranged { OnOk result (is_ranged (expression value.now) ≡ true) }
 {
     push_spaced(b"write", out)?;
@@ -153,7 +171,13 @@ fn push_add(
     names: &Names,
     out: &mut Vec<u8>,
 ) -> Result<(), NoMemory>
-    ensures written { OnOk result (out.new.items ≡ out.old.items ++ (spaced (codes "add" ∷ register_word register ∷ name_at names.now.vars var ∷ expression_text (expression value.now) ∷ []) ++ 10 ∷ [])) }
+    ensures written { OnOk result
+        (out.new.items
+        ≡ out.old.items
+        ++ (spaced
+        (codes "add" ∷ register_word register ∷ name_at names.now.vars var
+        ∷ expression_text (expression value.now) ∷ [])
+        ++ 10 ∷ [])) }
     ensures ranged { OnOk result (is_ranged (expression value.now) ≡ true) }
 {
     push_spaced(b"add", out)?;
@@ -169,8 +193,16 @@ fn push_cas(
     names: &Names,
     out: &mut Vec<u8>,
 ) -> Result<(), NoMemory>
-    ensures written { OnOk result (out.new.items ≡ out.old.items ++ (spaced (codes "cas" ∷ register_word register ∷ name_at names.now.vars var ∷ (expression_text (expression old.now) ++ codes ",") ∷ expression_text (expression new.now) ∷ []) ++ 10 ∷ [])) }
-    ensures ranged { OnOk result ((is_ranged (expression old.now) && is_ranged (expression new.now)) ≡ true) }
+    ensures written { OnOk result
+        (out.new.items
+        ≡ out.old.items
+        ++ (spaced
+        (codes "cas" ∷ register_word register ∷ name_at names.now.vars var
+        ∷ (expression_text (expression old.now) ++ codes ",") ∷ expression_text (expression new.now)
+        ∷ [])
+        ++ 10 ∷ [])) }
+    ensures ranged { OnOk result
+        ((is_ranged (expression old.now) && is_ranged (expression new.now)) ≡ true) }
 {
     push_spaced(b"cas", out)?;
     push_spaced(register_word(register), out)?;
@@ -180,7 +212,12 @@ fn push_cas(
 }
 
 fn push_wait(cond: u32, mutex: u32, names: &Names, out: &mut Vec<u8>) -> Result<(), NoMemory>
-    ensures { OnOk result (out.new.items ≡ out.old.items ++ (spaced (codes "wait" ∷ name_at names.now.conds cond ∷ name_at names.now.mutexes mutex ∷ []) ++ 10 ∷ [])) }
+    ensures { OnOk result
+        (out.new.items
+        ≡ out.old.items
+        ++ (spaced
+        (codes "wait" ∷ name_at names.now.conds cond ∷ name_at names.now.mutexes mutex ∷ [])
+        ++ 10 ∷ [])) }
 {
     push_spaced(b"wait", out)?;
     push_spaced(name_at(names, NameKind::Cond, cond), out)?;
@@ -189,7 +226,10 @@ fn push_wait(cond: u32, mutex: u32, names: &Names, out: &mut Vec<u8>) -> Result<
 
 // A word and the expression that ends its line.
 fn push_test(word: &[u8], expr: &Expr, out: &mut Vec<u8>) -> Result<(), NoMemory>
-    ensures written { OnOk result (out.new.items ≡ out.old.items ++ (spaced (word.now ∷ expression_text (expression expr.now) ∷ []) ++ 10 ∷ [])) }
+    ensures written { OnOk result
+        (out.new.items
+        ≡ out.old.items
+        ++ (spaced (word.now ∷ expression_text (expression expr.now) ∷ []) ++ 10 ∷ [])) }
     ensures ranged { OnOk result (is_ranged (expression expr.now) ≡ true) }
 {
     push_spaced(word, out)?;

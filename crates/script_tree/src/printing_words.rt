@@ -83,7 +83,8 @@ fn signs_of(op: Op) -> &'static [u8]
 }
 
 pub(crate) fn push_expression(expr: &Expr, out: &mut Vec<u8>) -> Result<(), NoMemory>
-    ensures written { OnOk result (out.new.items ≡ out.old.items ++ expression_text (expression expr.now)) }
+    ensures written { OnOk result
+        (out.new.items ≡ out.old.items ++ expression_text (expression expr.now)) }
     ensures ranged { OnOk result (is_ranged (expression expr.now) ≡ true) }
 {
     match expr {

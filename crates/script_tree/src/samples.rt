@@ -45,7 +45,8 @@ fn two(alloc: Global, op: Op, left: Expr, right: Expr) -> Result<Expr, NoMemory>
 }
 
 fn push(stmt: Stmt, stmts: &mut Vec<Stmt>) -> Result<(), NoMemory>
-    ensures { OnOk result (statements stmts.new.items ≡ statements stmts.old.items ++ statement stmt ∷ []) }
+    ensures { OnOk result
+        (statements stmts.new.items ≡ statements stmts.old.items ++ statement stmt ∷ []) }
 {
     Ok(stmts.push(stmt)?)
 }
@@ -266,7 +267,8 @@ fn push_shares(stmts: &mut Vec<Stmt>) -> Result<(), NoMemory>
 
 // A block of at most one statement.
 fn small(alloc: Global, stmt: Option<Stmt>, end_line: u32) -> Result<Block, NoMemory>
-    ensures { IfOk result (λ b. block b ≡ closed_at end_line (map statement (option_to_list stmt))) }
+    ensures { IfOk result (λ b.
+        block b ≡ closed_at end_line (map statement (option_to_list stmt))) }
 {
     let mut stmts = Vec::new(alloc);
     if let Some(stmt) = stmt {
@@ -466,7 +468,8 @@ fn lost_update_names(alloc: Global) -> Result<Names, NoMemory>
 }
 
 fn lost_update_threads(alloc: Global) -> Result<Vec<ThreadText>, NoMemory>
-    ensures { IfOk result (λ threads. map thread threads.items ≡ adder 3 4 5 6 ∷ adder 7 8 9 10 ∷ checker ∷ []) }
+    ensures { IfOk result (λ threads.
+        map thread threads.items ≡ adder 3 4 5 6 ∷ adder 7 8 9 10 ∷ checker ∷ []) }
 {
     let first = adder(alloc, 3)?;
     let second = adder(alloc, 7)?;
@@ -480,7 +483,8 @@ fn lost_update_threads(alloc: Global) -> Result<Vec<ThreadText>, NoMemory>
 
 /// Two threads each add one to x, and the third, which waits for both, wants 2.
 pub(crate) fn lost_update(alloc: Global) -> Result<Script, NoMemory>
-    ensures { IfOk result (λ script. text script ≡ lost_update (adder 3 4 5 6) (adder 7 8 9 10) checker) }
+    ensures { IfOk result (λ script.
+        text script ≡ lost_update (adder 3 4 5 6) (adder 7 8 9 10) checker) }
 {
     Ok(Script {
         version: 1,

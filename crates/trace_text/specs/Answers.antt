@@ -8,7 +8,8 @@ use Rattle.trace_text.specs.declared.fault.TraceFault.{TraceFault}
 use Rattle.trace_text.specs.declared.fault.TraceError.{TraceError}
 use Rattle.trace_text.specs.declared.fault.TraceError.TheVariants.{Bad, NoMemory}
 
--- A file is answered of a text that is its trace, and a fault of a text that has it. Want of memory says nothing of a text.
+-- A file is answered of a text that is its trace, and a fault of a text that has it. Want of memory
+-- says nothing of a text.
 abbrev pub Answers : List ℕ → NameLists → Result TraceFile TraceError → Type 0
 Answers bytes names (Ok file) = IsTrace bytes names file
 Answers bytes names (Err (Bad line kind)) = IsTraceFault bytes names line kind
@@ -21,7 +22,8 @@ pub record IsOnlyTrace (bytes : List ℕ) (names : NameLists) (file : TraceFile)
   pub faultless : (line : ℕ) (kind : TraceFault) → ¬ IsTraceFault bytes names line kind
 
 -- the text has this first fault and no other, and is no trace
-pub record IsOnlyFault (bytes : List ℕ) (names : NameLists) (line : ℕ) (kind : TraceFault) : Type 0 where
+pub record IsOnlyFault (bytes : List ℕ) (names : NameLists) (line : ℕ) (kind : TraceFault)
+    : Type 0 where
   pub fault : IsTraceFault bytes names line kind
   pub only : (l : ℕ) (k : TraceFault) → IsTraceFault bytes names l k → (l ≡ line) × (k ≡ kind)
   pub no_trace : (file : TraceFile) → ¬ IsTrace bytes names file
@@ -32,6 +34,8 @@ HasOneAnswer bytes names =
     ((file : TraceFile) × IsOnlyTrace bytes names file)
     ⊎ ((line : ℕ) × (kind : TraceFault) × IsOnlyFault bytes names line kind)
 
--- Each text is, under the names of a test, the trace of exactly one file or has exactly one first fault, and never both.
+-- Each text is, under the names of a test, the trace of exactly one file or has exactly one first
+-- fault, and never both.
 abbrev pub EachHasOneAnswer : Type 0
-EachHasOneAnswer = (names : NameLists) → AreNames names → (bytes : List ℕ) → HasOneAnswer bytes names
+EachHasOneAnswer =
+    (names : NameLists) → AreNames names → (bytes : List ℕ) → HasOneAnswer bytes names

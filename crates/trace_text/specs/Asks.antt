@@ -1,5 +1,5 @@
--- The forms of an ask, by its words (this project). An ask is none where its words are no form, and otherwise the ask, or
--- none where some name isn't declared with the kind that its place needs.
+-- The forms of an ask, by its words (this project). An ask is none where its words are no form, and
+-- otherwise the ask, or none where some name isn't declared with the kind that its place needs.
 use Rattle.std.specs.Prelude.{ℕ, ℤ, ◌==◌, ◌&&◌, Bool, true, false, if◌then◌else◌, List, [], ◌∷◌, Option, Some, None, codes}
 use Rattle.std.specs.Option.{option_map}
 use Rattle.std.specs.Str.{bytes_eq}
@@ -12,7 +12,8 @@ use Rattle.pct_ask.specs.declared.ask.Ask.{Ask}
 use Rattle.pct_ask.specs.declared.ask.Ask.TheVariants.{Read, Write, Add, Cas, Lock, TryLock, Unlock, Release, Regain, Signal, Broadcast, Down, TryDown, Up, Arrive, Leave, Join, Yield, Check, Fault, Start, Begin, RdLock, WrLock, TryRdLock, TryWrLock, RwUnlock}
 use Rattle.trace_text.specs.Numbers.{value_of}
 
--- A name as an object of a kind: none where it is no lawful name, and otherwise its place, if it is declared so.
+-- A name as an object of a kind: none where it is no lawful name, and otherwise its place, if it is
+-- declared so.
 abbrev pub object : NameLists → NameKind → List ℕ → Option (Option ℕ)
 object names kind word = if is_name 1 word then Some (place_of word (list_of kind names)) else None
 
@@ -24,9 +25,11 @@ object_words Mutex = codes "lock" ∷ codes "trylock" ∷ codes "unlock" ∷ []
 object_words Cond = codes "signal" ∷ codes "broadcast" ∷ []
 object_words Sem = codes "down" ∷ codes "trydown" ∷ codes "up" ∷ []
 object_words Barrier = codes "arrive" ∷ codes "leave" ∷ []
-object_words RwLock = codes "rdlock" ∷ codes "wrlock" ∷ codes "tryrdlock" ∷ codes "trywrlock" ∷ codes "rwunlock" ∷ []
+object_words RwLock =
+    codes "rdlock" ∷ codes "wrlock" ∷ codes "tryrdlock" ∷ codes "trywrlock" ∷ codes "rwunlock" ∷ []
 
--- the kind of object that a word asks something of: the first version of traces has no read-write locks
+-- the kind of object that a word asks something of: the first version of traces has no read-write
+-- locks
 abbrev pub kind_of : ℕ → List ℕ → Option NameKind
 kind_of version word =
     if is_among word (object_words Thread) then Some Thread
@@ -42,9 +45,12 @@ abbrev pub ask_of : NameKind → List ℕ → ℕ → Ask
 ask_of Thread word id = if bytes_eq word (codes "join") then Join id else Start id
 ask_of Var word id = Read id
 ask_of Mutex word id =
-    if bytes_eq word (codes "lock") then Lock id else (if bytes_eq word (codes "trylock") then TryLock id else Unlock id)
+    if bytes_eq word (codes "lock") then Lock id
+    else (if bytes_eq word (codes "trylock") then TryLock id else Unlock id)
 ask_of Cond word id = if bytes_eq word (codes "signal") then Signal id else Broadcast id
-ask_of Sem word id = if bytes_eq word (codes "down") then Down id else (if bytes_eq word (codes "trydown") then TryDown id else Up id)
+ask_of Sem word id =
+    if bytes_eq word (codes "down") then Down id
+    else (if bytes_eq word (codes "trydown") then TryDown id else Up id)
 ask_of Barrier word id = if bytes_eq word (codes "arrive") then Arrive id else Leave id
 ask_of RwLock word id =
     if bytes_eq word (codes "rdlock") then RdLock id
@@ -59,17 +65,23 @@ bare_ask word =
     else (if bytes_eq word (codes "begin") then Some (Some Begin) else None)
 
 abbrev pub holds_of : List ℕ → Option Bool
-holds_of word = if bytes_eq word (codes "1") then Some true else (if bytes_eq word (codes "0") then Some false else None)
+holds_of word =
+    if bytes_eq word (codes "1") then Some true
+    else (if bytes_eq word (codes "0") then Some false else None)
 
 -- check 1, check 0, fault overflow, fault zerodivisor, fault spin
 abbrev pub plain_ask : List ℕ → List ℕ → Option (Option Ask)
 plain_ask word operand =
-    if bytes_eq word (codes "check") then option_map (λ holds. Some (Check holds)) (holds_of operand)
-    else (if bytes_eq word (codes "fault") then option_map (λ kind. Some (Fault kind)) (fault_kind operand) else None)
+    if bytes_eq word (codes "check")
+    then option_map (λ holds. Some (Check holds)) (holds_of operand)
+    else (if bytes_eq word (codes "fault")
+    then option_map (λ kind. Some (Fault kind)) (fault_kind operand)
+    else None)
 
 abbrev pub ask_by : NameLists → Option NameKind → List ℕ → List ℕ → Option (Option Ask)
 ask_by names None word operand = plain_ask word operand
-ask_by names (Some kind) word operand = option_map (λ found. option_map (ask_of kind word) found) (object names kind operand)
+ask_by names (Some kind) word operand =
+    option_map (λ found. option_map (ask_of kind word) found) (object names kind operand)
 
 -- an ask of two words
 unfoldable pub ask_on_one : NameLists → ℕ → List ℕ → List ℕ → Option (Option Ask)
@@ -95,8 +107,11 @@ unfoldable pub ask_on_two : NameLists → List ℕ → List ℕ → List ℕ →
 ask_on_two names word a b =
     if bytes_eq word (codes "write") then with_value Write (object names Var a) (value_of b)
     else (if bytes_eq word (codes "add") then with_value Add (object names Var a) (value_of b)
-    else (if bytes_eq word (codes "release") then waiting Release (object names Cond a) (object names Mutex b)
-    else (if bytes_eq word (codes "regain") then waiting Regain (object names Cond a) (object names Mutex b) else None)))
+    else (if bytes_eq word (codes "release")
+    then waiting Release (object names Cond a) (object names Mutex b)
+    else (if bytes_eq word (codes "regain")
+    then waiting Regain (object names Cond a) (object names Mutex b)
+    else None)))
 
 abbrev pub exchange : Option (Option ℕ) → Option ℤ → Option ℤ → Option (Option Ask)
 exchange None old new = None
@@ -107,4 +122,5 @@ exchange (Some found) (Some old) (Some new) = Some (option_map (λ x. Cas x old 
 -- an ask of four words: cas X OLD NEW
 unfoldable pub ask_on_three : NameLists → List ℕ → List ℕ → List ℕ → List ℕ → Option (Option Ask)
 ask_on_three names word a b c =
-    if bytes_eq word (codes "cas") then exchange (object names Var a) (value_of b) (value_of c) else None
+    if bytes_eq word (codes "cas") then exchange (object names Var a) (value_of b) (value_of c)
+    else None

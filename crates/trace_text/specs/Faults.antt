@@ -1,4 +1,5 @@
--- The fault of a text that is no trace: its first faulty line, and the first kind by which that line is faulty (this project).
+-- The fault of a text that is no trace: its first faulty line, and the first kind by which that
+-- line is faulty (this project).
 use Rattle.std.specs.Prelude.{◌≡◌, ℕ, ◌+◌, ◌-◌, ◌<◌, zero, suc, ◌==◌, ◌&&◌, ◌||◌, Bool, true, false, not, nat_le, nat_lt, if◌then◌else◌, List, length, Option, Some, None, is_some, is_none}
 use Rattle.std.specs.Option.{unwrap_or}
 use Rattle.pct_ask.specs.NameLists.{NameLists}
@@ -34,7 +35,8 @@ is_verdict (Some (End verdict)) = true
 -- one of so many lines after the head is a verdict line by form
 abbrev pub has_verdict : NameLists → List (List ℕ) → ℕ → Bool
 has_verdict names pieces zero = false
-has_verdict names pieces (suc n) = has_verdict names pieces n || is_verdict (row_at names pieces (n + 5))
+has_verdict names pieces (suc n) =
+    has_verdict names pieces n || is_verdict (row_at names pieces (n + 5))
 
 -- line k stands after the head, and no verdict line before it
 abbrev pub is_in_body : NameLists → List (List ℕ) → ℕ → Bool
@@ -70,7 +72,8 @@ abbrev pub is_head_line : NameLists → List (List ℕ) → ℕ → Bool
 is_head_line names pieces k =
     if k == 1 then is_some (version_in (text_in (line_at pieces k)))
     else (if k == 2 then is_some (order_in names (text_in (line_at pieces k)))
-    else (if k == 3 then is_some (points_in (text_in (line_at pieces k))) else is_some (limit_in (text_in (line_at pieces k)))))
+    else (if k == 3 then is_some (points_in (text_in (line_at pieces k)))
+    else is_some (limit_in (text_in (line_at pieces k)))))
 
 abbrev pub has_unknown_thread : NameLists → Option (List (List ℕ)) → Bool
 has_unknown_thread names None = false
@@ -78,19 +81,24 @@ has_unknown_thread names (Some words) = is_none (threads_of names words)
 
 -- ---- when line k is faulty by a kind
 
--- The file has more than 16,777,216 bytes, which is said of line 1; or a step line's number is above the limit.
+-- The file has more than 16,777,216 bytes, which is said of line 1; or a step line's number is
+-- above the limit.
 abbrev pub is_too_long : ℕ → NameLists → List (List ℕ) → ℕ → Bool
 is_too_long size names pieces k =
-    (k == 1) && nat_lt 16777216 size || is_in_body names pieces k && is_past (limit_of pieces) (row_at names pieces k)
+    (k == 1) && nat_lt 16777216 size
+    || is_in_body names pieces k && is_past (limit_of pieces) (row_at names pieces k)
 
 -- One of the lines 1 to 4 is missing, lacks its LF or isn't of its form.
 abbrev pub is_bad_header : NameLists → List (List ℕ) → ℕ → Bool
-is_bad_header names pieces k = nat_le 1 k && nat_le k 4 && not (is_whole (line_at pieces k) && is_head_line names pieces k)
+is_bad_header names pieces k =
+    nat_le 1 k && nat_le k 4 && not (is_whole (line_at pieces k) && is_head_line names pieces k)
 
 -- A later line is neither a step line nor a verdict line by form, or lacks its LF.
 abbrev pub is_bad_line : NameLists → List (List ℕ) → ℕ → Bool
 is_bad_line names pieces k =
-    is_in_body names pieces k && is_there pieces k && not (is_whole (line_at pieces k) && is_some (row_at names pieces k))
+    is_in_body names pieces k
+    && is_there pieces k
+    && not (is_whole (line_at pieces k) && is_some (row_at names pieces k))
 
 -- A name isn't declared with the kind that its place needs.
 abbrev pub is_unknown_name : NameLists → List (List ℕ) → ℕ → Bool
@@ -101,7 +109,8 @@ is_unknown_name names pieces k =
 -- A step line's number isn't one more than that of the step before it, or not 1 for the first step.
 abbrev pub is_out_of_order : NameLists → List (List ℕ) → ℕ → Bool
 is_out_of_order names pieces k =
-    is_in_body names pieces k && is_other_number (number_before names pieces k + 1) (row_at names pieces k)
+    is_in_body names pieces k
+    && is_other_number (number_before names pieces k + 1) (row_at names pieces k)
 
 -- The file ends where a line should follow, and no line is the verdict's.
 abbrev pub is_no_verdict : NameLists → List (List ℕ) → ℕ → Bool
@@ -109,7 +118,8 @@ is_no_verdict names pieces k = is_in_body names pieces k && not (is_there pieces
 
 -- A byte stands after the verdict line, which is the line before.
 abbrev pub is_more_after_verdict : NameLists → List (List ℕ) → ℕ → Bool
-is_more_after_verdict names pieces k = nat_le 6 k && is_verdict (row_at names pieces (k - 1)) && is_there pieces k
+is_more_after_verdict names pieces k =
+    nat_le 6 k && is_verdict (row_at names pieces (k - 1)) && is_there pieces k
 
 -- a text of so many bytes and of these pieces: whether its line k is faulty by a kind
 abbrev pub is_faulty : ℕ → NameLists → List (List ℕ) → ℕ → TraceFault → Bool
@@ -134,10 +144,13 @@ rank NoVerdict = 5
 rank MoreAfterVerdict = 6
 
 -- The line is faulty by the kind and by none before it, and no line before is faulty.
-pub record IsFirstFault (size : ℕ) (names : NameLists) (pieces : List (List ℕ)) (line : ℕ) (kind : TraceFault) : Type 0 where
+pub record IsFirstFault (size : ℕ) (names : NameLists) (pieces : List (List ℕ)) (line : ℕ)
+    (kind : TraceFault) : Type 0 where
   pub faulty : is_faulty size names pieces line kind ≡ true
-  pub first_kind : (other : TraceFault) → rank other < rank kind → is_faulty size names pieces line other ≡ false
-  pub first_line : (before : ℕ) (other : TraceFault) → before < line → is_faulty size names pieces before other ≡ false
+  pub first_kind : (other : TraceFault) → rank other < rank kind
+      → is_faulty size names pieces line other ≡ false
+  pub first_line : (before : ℕ) (other : TraceFault) → before < line
+      → is_faulty size names pieces before other ≡ false
 
 -- the text's fault
 abbrev pub IsTraceFault : List ℕ → NameLists → ℕ → TraceFault → Type 0

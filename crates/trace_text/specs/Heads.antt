@@ -11,7 +11,8 @@ use Rattle.trace_text.specs.Numbers.{count_of}
 -- trace 1, trace 2
 abbrev pub version_in : List ℕ → Option ℕ
 version_in text =
-    if bytes_eq text (codes "trace 1") then Some 1 else (if bytes_eq text (codes "trace 2") then Some 2 else None)
+    if bytes_eq text (codes "trace 1") then Some 1
+    else (if bytes_eq text (codes "trace 2") then Some 2 else None)
 
 -- no word stands twice
 abbrev pub are_different : List (List ℕ) → Bool
@@ -19,11 +20,13 @@ are_different [] = true
 are_different (word ∷ words) = not (is_among word words) && are_different words
 
 abbrev pub are_order_names : NameLists → List (List ℕ) → Bool
-are_order_names names words = (length words == length names.threads) && list_all (is_name 1) words && are_different words
+are_order_names names words =
+    (length words == length names.threads) && list_all (is_name 1) words && are_different words
 
 abbrev pub order_words : NameLists → List (List ℕ) → Option (List (List ℕ))
 order_words names [] = None
-order_words names (head ∷ words) = if bytes_eq head (codes "order") && are_order_names names words then Some words else None
+order_words names (head ∷ words) =
+    if bytes_eq head (codes "order") && are_order_names names words then Some words else None
 
 -- order NAME NAME ..: as many different lawful names as there are threads
 abbrev pub order_in : NameLists → List ℕ → Option (List (List ℕ))
@@ -48,14 +51,16 @@ step_counts words = all_of (count_of 1 100000) words
 
 abbrev pub point_words : List (List ℕ) → Option (List ℕ)
 point_words [] = None
-point_words (head ∷ words) = if bytes_eq head (codes "points") && nat_le (length words) 7 then step_counts words else None
+point_words (head ∷ words) =
+    if bytes_eq head (codes "points") && nat_le (length words) 7 then step_counts words else None
 
 -- points NUMBER NUMBER ..: none to 7 numbers in 1..100000
 abbrev pub points_in : List ℕ → Option (List ℕ)
 points_in text = point_words (words_of text)
 
 abbrev pub limit_words : List (List ℕ) → Option ℕ
-limit_words (head ∷ number ∷ []) = if bytes_eq head (codes "limit") then count_of 1 100000 number else None
+limit_words (head ∷ number ∷ []) =
+    if bytes_eq head (codes "limit") then count_of 1 100000 number else None
 limit_words words = None
 
 -- limit NUMBER: a number in 1..100000

@@ -16,7 +16,8 @@ use Rattle.pct_ask.specs.TraceText.{TraceHead}
 abbrev pub IsValue : ℤ → Type 0
 IsValue z = FitsSigned w64 z
 
--- The objects and threads that an ask names are there, and in the first version it asks nothing of a read-write lock.
+-- The objects and threads that an ask names are there, and in the first version it asks nothing of
+-- a read-write lock.
 abbrev pub HasObjects : NameLists → ℕ → Ask → Type 0
 HasObjects names version (Read x) = x < length names.vars
 HasObjects names version (Write x value) = x < length names.vars
@@ -78,8 +79,9 @@ is_of_second (Misuse thread line TooManyReads) = true
 is_of_second (VerdictFault thread line kind) = false
 is_of_second Cut = false
 
--- A verdict of a test in a trace of a version: its threads have names, its lines are a test's, a list of blocked threads
--- rises and isn't empty, and the first version has no misuse of a read-write lock.
+-- A verdict of a test in a trace of a version: its threads have names, its lines are a test's, a
+-- list of blocked threads rises and isn't empty, and the first version has no misuse of a
+-- read-write lock.
 pub record IsEnd (names : NameLists) (version : ℕ) (verdict : Verdict) : Type 0 where
   pub threads : HasNames names verdict
   pub form : IsForm names (named names verdict)
@@ -88,8 +90,8 @@ pub record IsEnd (names : NameLists) (version : ℕ) (verdict : Verdict) : Type 
 abbrev pub IsStepCount : ℕ → Type 0
 IsStepCount n = (1 ≤ n) × (n ≤ 100000)
 
--- The head of a trace: its version is 1 or 2, its order names every thread once, it has at most 7 points, and each point
--- and the limit is in 1..100000.
+-- The head of a trace: its version is 1 or 2, its order names every thread once, it has at most 7
+-- points, and each point and the limit is in 1..100000.
 pub record IsHead (names : NameLists) (head : TraceHead) : Type 0 where
   pub version : (head.version ≡ 1) ⊎ (head.version ≡ 2)
   pub threads : All (λ thread. thread < length names.threads) head.order

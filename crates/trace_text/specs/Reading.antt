@@ -25,13 +25,15 @@ abbrev pub ◌>>=◌ : {A B : Type 0} → Result A Fault → (A → Result B Fau
 -- ---- the head
 
 -- a line of the head: its value, and the pieces after it
-abbrev pub head_value : {A : Type 0} → ℕ → Option A → List (List ℕ) → Result (A × List (List ℕ)) Fault
+abbrev pub head_value : {A : Type 0} → ℕ → Option A → List (List ℕ)
+    → Result (A × List (List ℕ)) Fault
 head_value line value [] = Err (line, BadHeader)
 head_value line None (piece ∷ pieces) = Err (line, BadHeader)
 head_value line (Some x) (piece ∷ pieces) = Ok (x, piece ∷ pieces)
 
 -- a line of the head, which says something by its text
-abbrev pub head_line : {A : Type 0} → ℕ → (List ℕ → Option A) → List (List ℕ) → Result (A × List (List ℕ)) Fault
+abbrev pub head_line : {A : Type 0} → ℕ → (List ℕ → Option A) → List (List ℕ)
+    → Result (A × List (List ℕ)) Fault
 head_line line says [] = Err (line, BadHeader)
 head_line line says (piece ∷ pieces) = head_value line (says piece) pieces
 
@@ -51,17 +53,20 @@ order_line names pieces = do
 -- the fault of a line with no LF
 abbrev pub unended_fault : ℕ → Option Row → List ℕ → TraceFault
 unended_fault limit None text = if is_empty text then NoVerdict else BadLine
-unended_fault limit (Some (Step number event)) text = if nat_lt limit number then TooLong else BadLine
+unended_fault limit (Some (Step number event)) text =
+    if nat_lt limit number then TooLong else BadLine
 unended_fault limit (Some (End verdict)) text = BadLine
 
 abbrev pub judged_event : ℕ → ℕ → Option Event → Result Sound TraceFault
 judged_event next number None = Err UnknownName
-judged_event next number (Some event) = if number == next then Ok (sound.Step event) else Err OutOfOrder
+judged_event next number (Some event) =
+    if number == next then Ok (sound.Step event) else Err OutOfOrder
 
 -- what a line with its LF is, where the next step has this number, or its fault
 abbrev pub judged : ℕ → ℕ → Option Row → Result Sound TraceFault
 judged limit next None = Err BadLine
-judged limit next (Some (Step number event)) = if nat_lt limit number then Err TooLong else judged_event next number event
+judged limit next (Some (Step number event)) =
+    if nat_lt limit number then Err TooLong else judged_event next number event
 judged limit next (Some (End None)) = Err UnknownName
 judged limit next (Some (End (Some verdict))) = Ok (sound.Last verdict)
 
@@ -78,23 +83,30 @@ closed line verdict [] [] = Ok ([], verdict)
 closed line verdict [] (piece ∷ pieces) = Err (line, MoreAfterVerdict)
 closed line verdict (b ∷ bs) pieces = Err (line, MoreAfterVerdict)
 
-abbrev pub after_line : ℕ → Result Sound TraceFault → List ℕ → List (List ℕ) → Result Body Fault → Result Body Fault
+abbrev pub after_line : ℕ → Result Sound TraceFault → List ℕ → List (List ℕ) → Result Body Fault
+    → Result Body Fault
 after_line line (Err kind) piece pieces others = Err (line, kind)
 after_line line (Ok (sound.Step event)) piece pieces others = with_event event others
-after_line line (Ok (sound.Last verdict)) piece pieces others = closed (line + 1) verdict piece pieces
+after_line line (Ok (sound.Last verdict)) piece pieces others =
+    closed (line + 1) verdict piece pieces
 
 -- the steps and the verdict, where the next step has this number
 abbrev pub body_of : NameLists → ℕ → ℕ → ℕ → List (List ℕ) → Result Body Fault
 body_of names version limit next [] = Err (next + 4, NoVerdict)
-body_of names version limit next (piece ∷ []) = Err (next + 4, unended_fault limit (row_of names version piece) piece)
+body_of names version limit next (piece ∷ []) =
+    Err (next + 4, unended_fault limit (row_of names version piece) piece)
 body_of names version limit next (piece ∷ after ∷ pieces) =
-    after_line (next + 4) (judged limit next (row_of names version piece)) after pieces (body_of names version limit (next + 1) (after ∷ pieces))
+    after_line (next + 4) (judged limit next (row_of names version piece)) after pieces
+    (body_of names version limit (next + 1) (after ∷ pieces))
 
 -- ---- the whole
 
 abbrev pub file_of : ℕ → List ℕ → List ℕ → ℕ → Body → TraceFile
-file_of version order points limit body =
-    record { header = record { version = version; order = order; points = points; limit = limit }; events = body.0; verdict = body.1 }
+file_of version order points limit body = record {
+  header = record { version = version; order = order; points = points; limit = limit };
+  events = body.0;
+  verdict = body.1;
+}
 
 -- the file that the pieces tell, or the fault
 abbrev pub file_in : NameLists → List (List ℕ) → Result TraceFile Fault
@@ -108,4 +120,5 @@ file_in names pieces = do
 
 -- the file that a text is read as, or its fault
 abbrev pub read : NameLists → List ℕ → Result TraceFile Fault
-read names bytes = if nat_lt 16777216 (length bytes) then Err (1, TooLong) else file_in names (pieces_of bytes)
+read names bytes =
+    if nat_lt 16777216 (length bytes) then Err (1, TooLong) else file_in names (pieces_of bytes)

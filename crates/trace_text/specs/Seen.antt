@@ -30,7 +30,8 @@ Gives view (Ok x) read = read ≡ Ok (view x)
 Gives view (Err error) read = Fails error read
 
 -- A line of the head: what its words say, and the pieces after its LF, where there was one.
-abbrev pub cut_value : {A : Type 0} → ℕ → Option A → Option (Bor (List ℕ)) → Result (A × List (List ℕ)) Fault
+abbrev pub cut_value : {A : Type 0} → ℕ → Option A → Option (Bor (List ℕ))
+    → Result (A × List (List ℕ)) Fault
 cut_value line value None = Err (line, BadHeader)
 cut_value line None (Some rest) = Err (line, BadHeader)
 cut_value line (Some x) (Some rest) = Ok (x, pieces_of rest.now)

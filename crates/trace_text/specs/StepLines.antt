@@ -19,21 +19,26 @@ use Rattle.trace_text.specs.declared.row.Row.TheVariants.{Step, End}
 abbrev pub event_of : Option ℕ → ℕ → Option Ask → ℤ → Option Event
 event_of None line ask answer = None
 event_of (Some thread) line None answer = None
-event_of (Some thread) line (Some ask) answer = Some (record { thread = thread; line = line; ask = ask; answer = answer })
+event_of (Some thread) line (Some ask) answer =
+    Some (record { thread = thread; line = line; ask = ask; answer = answer })
 
-abbrev pub step_of_parts : Option ℕ → Option (Option ℕ) → Option ℕ → Option (Option Ask) → Bool → Option ℤ → Option Row
+abbrev pub step_of_parts : Option ℕ → Option (Option ℕ) → Option ℕ → Option (Option Ask) → Bool
+    → Option ℤ → Option Row
 step_of_parts None thread line ask sign answer = None
 step_of_parts (Some n) None line ask sign answer = None
 step_of_parts (Some n) (Some thread) None ask sign answer = None
 step_of_parts (Some n) (Some thread) (Some line) None sign answer = None
 step_of_parts (Some n) (Some thread) (Some line) (Some ask) false answer = None
 step_of_parts (Some n) (Some thread) (Some line) (Some ask) true None = None
-step_of_parts (Some n) (Some thread) (Some line) (Some ask) true (Some answer) = Some (Step n (event_of thread line ask answer))
+step_of_parts (Some n) (Some thread) (Some line) (Some ask) true (Some answer) =
+    Some (Step n (event_of thread line ask answer))
 
 -- the parts of a step line, but for its ask
-unfoldable pub step_of : NameLists → List ℕ → List ℕ → List ℕ → Option (Option Ask) → List ℕ → List ℕ → Option Row
+unfoldable pub step_of : NameLists → List ℕ → List ℕ → List ℕ → Option (Option Ask) → List ℕ
+    → List ℕ → Option Row
 step_of names number thread line ask sign answer =
-    step_of_parts (natural_of number) (object names Thread thread) (count_of 1 4096 line) ask (bytes_eq sign (codes "=")) (value_of answer)
+    step_of_parts (natural_of number) (object names Thread thread) (count_of 1 4096 line) ask
+    (bytes_eq sign (codes "=")) (value_of answer)
 
 -- STEP THREAD LINE ASK = ANSWER, where ASK has one word to four
 abbrev pub step_of_words : NameLists → ℕ → List (List ℕ) → Option Row
@@ -54,11 +59,13 @@ tells_reads text = ends_with nat_eq text (codes " toomanyreads")
 abbrev pub end_of : ℕ → List ℕ → VerdictRead → Option Row
 end_of version text NoForm = None
 end_of version text UnknownName = if version == 1 && tells_reads text then None else Some (End None)
-end_of version text (Is verdict) = if version == 1 && is_of_second verdict then None else Some (End (Some verdict))
+end_of version text (Is verdict) =
+    if version == 1 && is_of_second verdict then None else Some (End (Some verdict))
 
--- What a line says: a step, by its number and its event, or a verdict; none of them where a name isn't declared with the
--- kind that its place needs. Nothing where the line has neither form.
+-- What a line says: a step, by its number and its event, or a verdict; none of them where a name
+-- isn't declared with the kind that its place needs. Nothing where the line has neither form.
 unfoldable pub row_of : NameLists → ℕ → List ℕ → Option Row
 row_of names version text =
-    if bytes_eq (take 8 text) (codes "verdict ") then end_of version (drop 8 text) (verdict_of_words names (words_of (drop 8 text)))
+    if bytes_eq (take 8 text) (codes "verdict ")
+    then end_of version (drop 8 text) (verdict_of_words names (words_of (drop 8 text)))
     else step_of_words names version (words_of text)

@@ -1,4 +1,5 @@
--- The grammar of trace files, as a relation between a text and the run that it tells (this project).
+-- The grammar of trace files, as a relation between a text and the run that it tells (this
+-- project).
 use Rattle.std.specs.Prelude.{◌≡◌, ℕ, ◌≤◌, List, length, All}
 use Rattle.pct_ask.specs.NameLists.{NameLists}
 use Rattle.pct_ask.specs.TraceText.{TraceHead, trace_text}
@@ -9,7 +10,12 @@ use Rattle.trace_text.specs.declared.file.Header.{Header}
 use Rattle.trace_text.specs.declared.file.TraceFile.{TraceFile}
 
 abbrev pub head_of : Header → TraceHead
-head_of header = record { version = header.version; order = header.order; points = header.points; limit = header.limit }
+head_of header = record {
+  version = header.version;
+  order = header.order;
+  points = header.points;
+  limit = header.limit;
+}
 
 abbrev pub told : Header → List Event → Verdict → TraceFile
 told header events verdict = record { header = header; events = events; verdict = verdict }
@@ -21,8 +27,9 @@ pub record IsRun (names : NameLists) (file : TraceFile) : Type 0 where
   pub steps : All (IsStep names file.header.version) file.events
   pub end : IsEnd names file.header.version file.verdict
 
--- The text is a trace of the run: it is made, line by line, of the head, of one line for each step, numbered from 1, and
--- of the verdict, each value in its one spelling; and it has at most 16,777,216 bytes.
+-- The text is a trace of the run: it is made, line by line, of the head, of one line for each step,
+-- numbered from 1, and of the verdict, each value in its one spelling; and it has at most
+-- 16,777,216 bytes.
 pub record IsTrace (bytes : List ℕ) (names : NameLists) (file : TraceFile) : Type 0 where
   pub run : IsRun names file
   pub small : length bytes ≤ 16777216

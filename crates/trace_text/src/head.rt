@@ -67,7 +67,8 @@ fn version_in(text: &[u8]) -> Option<u32>
 
 /// The version of a trace, and what follows its first line.
 pub fn read_version(text: &[u8]) -> Result<(u32, &[u8]), TraceError>
-    ensures { Gives (λ x. (x.0, pieces_of x.1.now)) result (reading.head_line 1 heads.version_in (pieces_of text.now)) }
+    ensures { Gives (λ x. (x.0, pieces_of x.1.now)) result
+        (reading.head_line 1 heads.version_in (pieces_of text.now)) }
 {
     let (line, after) = cut_line(text);
     head_value(1, version_in(line), after)
@@ -102,7 +103,8 @@ fn are_order_names(names: &Names, words: &[&[u8]]) -> bool
 }
 
 fn order_names<'a, 'b>(names: &Names, words: &'b [&'a [u8]]) -> Option<&'b [&'a [u8]]>
-    ensures { option_map (λ found. seen found.now) result ≡ heads.order_words names.now (seen words.now) }
+    ensures { option_map (λ found. seen found.now) result
+        ≡ heads.order_words names.now (seen words.now) }
 {
     let (head, others) = words.split_first()?;
     if *head == ORDER && are_order_names(names, others) {
@@ -134,7 +136,8 @@ pub fn read_order<'a>(
     names: &Names,
     text: &'a [u8],
 ) -> Result<(OrderList, &'a [u8]), TraceError>
-    ensures { Gives (λ x. (x.0, pieces_of x.1.now)) result (reading.order_line names.now (pieces_of text.now)) }
+    ensures { Gives (λ x. (x.0, pieces_of x.1.now)) result
+        (reading.order_line names.now (pieces_of text.now)) }
 {
     let (line, after) = cut_line(text);
     let most = names.count(NameKind::Thread) as usize + 2;
@@ -179,7 +182,8 @@ fn points_in(alloc: Global, words: &[&[u8]]) -> Result<Option<PointList>, NoMemo
 
 /// The change points of a trace, and what follows their line.
 pub fn read_points(alloc: Global, text: &[u8]) -> Result<(PointList, &[u8]), TraceError>
-    ensures { Gives (λ x. (x.0, pieces_of x.1.now)) result (reading.head_line 3 heads.points_in (pieces_of text.now)) }
+    ensures { Gives (λ x. (x.0, pieces_of x.1.now)) result
+        (reading.head_line 3 heads.points_in (pieces_of text.now)) }
 {
     let (line, after) = cut_line(text);
     let words = first_words(alloc, line, 9)?;
@@ -197,7 +201,8 @@ fn limit_in(words: &[&[u8]]) -> Option<u32>
 
 /// The limit of a trace, and what follows its line.
 pub fn read_limit(alloc: Global, text: &[u8]) -> Result<(u32, &[u8]), TraceError>
-    ensures { Gives (λ x. (x.0, pieces_of x.1.now)) result (reading.head_line 4 heads.limit_in (pieces_of text.now)) }
+    ensures { Gives (λ x. (x.0, pieces_of x.1.now)) result
+        (reading.head_line 4 heads.limit_in (pieces_of text.now)) }
 {
     let (line, after) = cut_line(text);
     let words = first_words(alloc, line, 3)?;

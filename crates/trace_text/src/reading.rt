@@ -44,7 +44,8 @@ fn read_body(
     text: &[u8],
 ) -> Result<Body, TraceError>
     requires { limit ≤ 100000 }
-    ensures { Gives (λ body. (body.events, body.verdict)) result (reading.body_of names.now version limit 1 (pieces_of text.now)) }
+    ensures { Gives (λ body. (body.events, body.verdict)) result
+        (reading.body_of names.now version limit 1 (pieces_of text.now)) }
 {
     let mut events = EventList::new(alloc);
     let mut next = 1;
@@ -109,8 +110,10 @@ pub fn read_trace(alloc: Global, bytes: &[u8], names: &Names) -> Result<TraceFil
     ensures answer { Answers bytes.now names.now result }
 
     // A trace gives its file, and a fault itself, unless there is no memory.
-    ensures trace { (file : TraceFile) → IsTrace bytes.now names.now file → (result ≡ Ok file) ⊎ (result ≡ Err TraceError.NoMemory) }
-    ensures fault { (line : ℕ) (kind : TraceFault) → IsTraceFault bytes.now names.now line kind → (result ≡ Err (TraceError.Bad line kind)) ⊎ (result ≡ Err TraceError.NoMemory) }
+    ensures trace { (file : TraceFile) → IsTrace bytes.now names.now file
+        → (result ≡ Ok file) ⊎ (result ≡ Err TraceError.NoMemory) }
+    ensures fault { (line : ℕ) (kind : TraceFault) → IsTraceFault bytes.now names.now line kind
+        → (result ≡ Err (TraceError.Bad line kind)) ⊎ (result ≡ Err TraceError.NoMemory) }
 {
     read(alloc, bytes, names)
 }

@@ -70,7 +70,9 @@ fn is_sign(word: &[u8]) -> bool
 
 #[tactic(auto, unfolding(crate::specs::StepLines::step_of))]
 fn step_of(names: &Names, around: &Around<'_>, ask: Option<Option<Ask>>) -> Option<Row>
-    ensures { result ≡ lines.step_of names.now around.now.number.now around.now.thread.now around.now.line.now ask around.now.sign.now around.now.answer.now }
+    ensures { result
+        ≡ lines.step_of names.now around.now.number.now around.now.thread.now around.now.line.now
+        ask around.now.sign.now around.now.answer.now }
 {
     let number = natural_of(around.number)?;
     let thread = object(names, NameKind::Thread, around.thread)?;
@@ -87,7 +89,8 @@ fn step_of(names: &Names, around: &Around<'_>, ask: Option<Option<Ask>>) -> Opti
 }
 
 fn bare_step(names: &Names, words: &[&[u8]]) -> Option<Row>
-    ensures { (version : ℕ) → length words.now ≡ 6 → result ≡ lines.step_of_words names.now version (seen words.now) }
+    ensures { (version : ℕ) → length words.now ≡ 6
+        → result ≡ lines.step_of_words names.now version (seen words.now) }
 {
     let [number, thread, line, word, sign, answer] = words else {
         return None;
@@ -103,7 +106,8 @@ fn bare_step(names: &Names, words: &[&[u8]]) -> Option<Row>
 }
 
 fn step_on_one(names: &Names, version: u32, words: &[&[u8]]) -> Option<Row>
-    ensures { length words.now ≡ 7 → result ≡ lines.step_of_words names.now version (seen words.now) }
+    ensures { length words.now ≡ 7
+        → result ≡ lines.step_of_words names.now version (seen words.now) }
 {
     let [number, thread, line, word, a, sign, answer] = words else {
         return None;
@@ -119,7 +123,8 @@ fn step_on_one(names: &Names, version: u32, words: &[&[u8]]) -> Option<Row>
 }
 
 fn step_on_two(names: &Names, words: &[&[u8]]) -> Option<Row>
-    ensures { (version : ℕ) → length words.now ≡ 8 → result ≡ lines.step_of_words names.now version (seen words.now) }
+    ensures { (version : ℕ) → length words.now ≡ 8
+        → result ≡ lines.step_of_words names.now version (seen words.now) }
 {
     let [number, thread, line, word, a, b, sign, answer] = words else {
         return None;
@@ -135,7 +140,8 @@ fn step_on_two(names: &Names, words: &[&[u8]]) -> Option<Row>
 }
 
 fn step_on_three(names: &Names, words: &[&[u8]]) -> Option<Row>
-    ensures { (version : ℕ) → length words.now ≡ 9 → result ≡ lines.step_of_words names.now version (seen words.now) }
+    ensures { (version : ℕ) → length words.now ≡ 9
+        → result ≡ lines.step_of_words names.now version (seen words.now) }
 {
     let [number, thread, line, word, a, b, c, sign, answer] = words else {
         return None;
@@ -187,7 +193,8 @@ fn is_of_second(verdict: &Verdict) -> bool
 }
 
 fn read_end(names: &Names, version: u32, text: &[u8]) -> Option<Row>
-    ensures { result ≡ lines.end_of version text.now (verdict_of_words names.now (words_of text.now)) }
+    ensures { result
+        ≡ lines.end_of version text.now (verdict_of_words names.now (words_of text.now)) }
 {
     match read_verdict(text, names) {
         VerdictRead::NoForm => None,

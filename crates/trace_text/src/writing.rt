@@ -48,7 +48,9 @@ fn push_count(out: &mut Vec<u8>, count: u32) -> Result<(), NoMemory>
 /// The name of a thread or an object.
 fn push_name(out: &mut Vec<u8>, names: &Names, kind: NameKind, id: u32) -> Result<(), NoMemory>
     requires { id < length (list_of kind names.now) }
-    ensures { OnOk result (out.new.items ≡ out.old.items ++ spaced (slice_index_or (list_of kind names.now) id [] ∷ [])) }
+    ensures { OnOk result
+        (out.new.items
+        ≡ out.old.items ++ spaced (slice_index_or (list_of kind names.now) id [] ∷ [])) }
 {
     push_word(out, names.name(kind, id).unwrap())
 }
@@ -62,7 +64,9 @@ fn push_object(
     id: u32,
 ) -> Result<(), NoMemory>
     requires { id < length (list_of kind names.now) }
-    ensures { OnOk result (out.new.items ≡ out.old.items ++ spaced (word.now ∷ slice_index_or (list_of kind names.now) id [] ∷ [])) }
+    ensures { OnOk result
+        (out.new.items
+        ≡ out.old.items ++ spaced (word.now ∷ slice_index_or (list_of kind names.now) id [] ∷ [])) }
 {
     push_word(out, word)?;
     push_name(out, names, kind, id)
@@ -78,7 +82,12 @@ fn push_wait(
 ) -> Result<(), NoMemory>
     requires cond { cond < length names.now.conds }
     requires mutex { mutex < length names.now.mutexes }
-    ensures { OnOk result (out.new.items ≡ out.old.items ++ spaced (word.now ∷ slice_index_or names.now.conds cond [] ∷ slice_index_or names.now.mutexes mutex [] ∷ [])) }
+    ensures { OnOk result
+        (out.new.items
+        ≡ out.old.items
+        ++ spaced
+        (word.now ∷ slice_index_or names.now.conds cond []
+        ∷ slice_index_or names.now.mutexes mutex [] ∷ [])) }
 {
     push_object(out, names, word, NameKind::Cond, cond)?;
     push_name(out, names, NameKind::Mutex, mutex)
@@ -93,7 +102,10 @@ fn push_change(
     value: i64,
 ) -> Result<(), NoMemory>
     requires { var < length names.now.vars }
-    ensures { OnOk result (out.new.items ≡ out.old.items ++ spaced (word.now ∷ slice_index_or names.now.vars var [] ∷ signed_decimal value ∷ [])) }
+    ensures { OnOk result
+        (out.new.items
+        ≡ out.old.items
+        ++ spaced (word.now ∷ slice_index_or names.now.vars var [] ∷ signed_decimal value ∷ [])) }
 {
     push_object(out, names, word, NameKind::Var, var)?;
     push_value(out, value)
@@ -124,7 +136,12 @@ fn fault_word(kind: FaultKind) -> &'static [u8]
 
 fn push_cas(out: &mut Vec<u8>, names: &Names, var: u32, old: i64, new: i64) -> Result<(), NoMemory>
     requires { var < length names.now.vars }
-    ensures { OnOk result (out.new.items ≡ out.old.items ++ spaced (codes "cas" ∷ slice_index_or names.now.vars var [] ∷ signed_decimal old ∷ signed_decimal new ∷ [])) }
+    ensures { OnOk result
+        (out.new.items
+        ≡ out.old.items
+        ++ spaced
+        (codes "cas" ∷ slice_index_or names.now.vars var [] ∷ signed_decimal old
+        ∷ signed_decimal new ∷ [])) }
 {
     push_change(out, names, CAS, var, old)?;
     push_value(out, new)
@@ -174,7 +191,9 @@ fn push_step(out: &mut Vec<u8>, step: usize) -> Result<(), NoMemory>
 
 fn push_answer(out: &mut Vec<u8>, event: &Event) -> Result<(), NoMemory>
     ensures value { OnOk result (IsValue event.now.answer) }
-    ensures text { OnOk result (out.new.items ≡ out.old.items ++ (spaced (codes "=" ∷ signed_decimal event.now.answer ∷ []) ++ 10 ∷ [])) }
+    ensures text { OnOk result
+        (out.new.items
+        ≡ out.old.items ++ (spaced (codes "=" ∷ signed_decimal event.now.answer ∷ []) ++ 10 ∷ [])) }
 {
     push_word(out, b"=")?;
     push_value(out, event.answer)?;
@@ -191,7 +210,8 @@ fn push_event(
 ) -> Result<(), NoMemory>
     requires { NamesKnown names.now version event.now }
     ensures lawful { OnOk result (IsStep names.now version event.now) }
-    ensures text { OnOk result (out.new.items ≡ out.old.items ++ line_text (event_words names.now step event.now)) }
+    ensures text { OnOk result
+        (out.new.items ≡ out.old.items ++ line_text (event_words names.now step event.now)) }
 {
     push_step(out, step)?;
     push_name(out, names, NameKind::Thread, event.thread)?;
@@ -209,7 +229,8 @@ pub fn write_step(
     out: &mut Vec<u8>,
 ) -> Result<(), NoMemory>
     requires { NamesKnown names.now 2 event.now }
-    ensures written { OnOk result (out.new.items ≡ out.old.items ++ line_text (event_words names.now step event.now)) }
+    ensures written { OnOk result
+        (out.new.items ≡ out.old.items ++ line_text (event_words names.now step event.now)) }
     ensures unchanged { OnErr result (out.new.items ≡ out.old.items) }
 {
     let mut line = Vec::new(*out.allocator());
@@ -225,7 +246,8 @@ fn push_steps(
 ) -> Result<(), NoMemory>
     requires { All (NamesKnown names.now version) events.now }
     ensures lawful { OnOk result (All (IsStep names.now version) events.now) }
-    ensures text { OnOk result (out.new.items ≡ out.old.items ++ flat_map line_text (step_lines names.now 1 events.now)) }
+    ensures text { OnOk result
+        (out.new.items ≡ out.old.items ++ flat_map line_text (step_lines names.now 1 events.now)) }
 {
     for (index, event) in events.iter().enumerate() {
         push_event(out, names, version, index + 1, event)?;
@@ -235,7 +257,9 @@ fn push_steps(
 
 fn push_order(out: &mut Vec<u8>, names: &Names, order: &[u32]) -> Result<(), NoMemory>
     requires { All (λ thread. thread < length names.now.threads) order.now }
-    ensures { OnOk result (out.new.items ≡ out.old.items ++ (codes "order" ++ spaced (map (thread_name names.now) order.now))) }
+    ensures { OnOk result
+        (out.new.items
+        ≡ out.old.items ++ (codes "order" ++ spaced (map (thread_name names.now) order.now))) }
 {
     out.extend_from_slice(b"order")?;
     for thread in order {
@@ -245,7 +269,8 @@ fn push_order(out: &mut Vec<u8>, names: &Names, order: &[u32]) -> Result<(), NoM
 }
 
 fn push_points(out: &mut Vec<u8>, points: &[u32]) -> Result<(), NoMemory>
-    ensures { OnOk result (out.new.items ≡ out.old.items ++ (codes "points" ++ spaced (map decimal points.now))) }
+    ensures { OnOk result
+        (out.new.items ≡ out.old.items ++ (codes "points" ++ spaced (map decimal points.now))) }
 {
     out.extend_from_slice(b"points")?;
     for point in points {
@@ -255,7 +280,9 @@ fn push_points(out: &mut Vec<u8>, points: &[u32]) -> Result<(), NoMemory>
 }
 
 fn push_version(out: &mut Vec<u8>, version: u32) -> Result<(), NoMemory>
-    ensures { OnOk result (out.new.items ≡ out.old.items ++ (codes "trace" ++ spaced (decimal version ∷ []) ++ 10 ∷ [])) }
+    ensures { OnOk result
+        (out.new.items
+        ≡ out.old.items ++ (codes "trace" ++ spaced (decimal version ∷ []) ++ 10 ∷ [])) }
 {
     out.extend_from_slice(b"trace")?;
     push_count(out, version)?;
@@ -264,7 +291,9 @@ fn push_version(out: &mut Vec<u8>, version: u32) -> Result<(), NoMemory>
 }
 
 fn push_limit(out: &mut Vec<u8>, limit: u32) -> Result<(), NoMemory>
-    ensures { OnOk result (out.new.items ≡ out.old.items ++ (codes "limit" ++ spaced (decimal limit ∷ []) ++ 10 ∷ [])) }
+    ensures { OnOk result
+        (out.new.items
+        ≡ out.old.items ++ (codes "limit" ++ spaced (decimal limit ∷ []) ++ 10 ∷ [])) }
 {
     out.extend_from_slice(b"limit")?;
     push_count(out, limit)?;
@@ -274,7 +303,9 @@ fn push_limit(out: &mut Vec<u8>, limit: u32) -> Result<(), NoMemory>
 
 fn push_head(out: &mut Vec<u8>, names: &Names, header: &Header) -> Result<(), NoMemory>
     requires { All (λ thread. thread < length names.now.threads) header.now.order }
-    ensures { OnOk result (out.new.items ≡ out.old.items ++ flat_map line_text (head_lines names.now (head_of header.now))) }
+    ensures { OnOk result
+        (out.new.items
+        ≡ out.old.items ++ flat_map line_text (head_lines names.now (head_of header.now))) }
 {
     push_version(out, header.version)?;
     push_order(out, names, header.order.as_slice())?;
@@ -287,7 +318,8 @@ fn push_head(out: &mut Vec<u8>, names: &Names, header: &Header) -> Result<(), No
 fn push_verdict(out: &mut Vec<u8>, names: &Names, verdict: &Verdict) -> Result<(), NoMemory>
     requires threads { HasNames names.now verdict.now }
     requires whole { IsWhole verdict.now }
-    ensures text { OnOk result (out.new.items ≡ out.old.items ++ line_text (verdict_line names.now verdict.now)) }
+    ensures text { OnOk result
+        (out.new.items ≡ out.old.items ++ line_text (verdict_line names.now verdict.now)) }
     ensures form { OnOk result (IsForm names.now (named names.now verdict.now)) }
 {
     out.extend_from_slice(b"verdict ")?;
@@ -310,11 +342,16 @@ pub fn write_trace(
     requires threads { HasNames names.now verdict.now }
     requires whole { IsWhole verdict.now }
     requires version { (is_of_second verdict.now ≡ false) ⊎ (header.now.version ≡ 2) }
-    ensures text { IfOk result (λ text. text.items ≡ trace_text (head_of header.now) names.now events.now verdict.now) }
-    ensures trace { IfOk result (λ text. IsTrace text.items names.now (told header.now events.now verdict.now)) }
+    ensures text { IfOk result (λ text.
+        text.items ≡ trace_text (head_of header.now) names.now events.now verdict.now) }
+    ensures trace { IfOk result (λ text.
+        IsTrace text.items names.now (told header.now events.now verdict.now)) }
 
     // Whatever may be answered of the text, want of memory aside, is what was written.
-    ensures read_back { IfOk result (λ text. (answer : Result TraceFile TraceError) → Answers text.items names.now answer → (answer ≡ Ok (told header.now events.now verdict.now)) ⊎ (answer ≡ Err TraceError.NoMemory)) }
+    ensures read_back { IfOk result (λ text.
+        (answer : Result TraceFile TraceError) → Answers text.items names.now answer
+        → (answer ≡ Ok (told header.now events.now verdict.now))
+        ⊎ (answer ≡ Err TraceError.NoMemory)) }
 {
     // The names are lawful, and so what is written can be read.
     let _ = names.count(NameKind::Thread);
