@@ -1,4 +1,3 @@
 pub mod Meetings
 pub mod FileLemmas
-pub mod CounterLaws
 pub mod laws

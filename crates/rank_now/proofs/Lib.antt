@@ -1,4 +1,3 @@
-pub mod Distinct
 pub mod Orders
 pub mod Places
 pub mod laws

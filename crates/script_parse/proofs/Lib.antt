@@ -5,7 +5,6 @@ pub mod Choices
 pub mod Operators
 pub mod ExpressionWhole
 pub mod ExpressionSound
-pub mod Reducing
 pub mod FirstValues
 pub mod FormWhole
 pub mod FormSound

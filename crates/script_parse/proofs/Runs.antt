@@ -12,7 +12,8 @@ use Rattle.script_tree.specs.Trees as trees
 use Rattle.script_tree.specs.Forms.{Meant}
 use Rattle.script_tree.specs.Forms as forms
 use Rattle.script_tree.specs.Fitting.{line_fits, reg_fits, place_fits, expression_fits, statement_fits, statements_fit}
-use Rattle.script_tree.specs.Grammar.{Line, name_at, statement_lines, block_lines}
+use Rattle.pct_ask.specs.TraceText.{name_at}
+use Rattle.script_tree.specs.Grammar.{Line, statement_lines, block_lines}
 use Rattle.script_parse.specs.Part.{Opening, If, Else, While, Open, Part}
 use Rattle.script_parse.specs.Reading as reading
 use Rattle.script_parse.specs.Reading.{Finder, is_empty, taken, place_in, on_statement, into_statement, with_statement}

@@ -12,7 +12,8 @@ use Rattle.pct_ask.proofs.laws.Names.{place_of-Some}
 use Rattle.script_tree.specs.Trees.{Expression, Statement}
 use Rattle.script_tree.specs.Trees as trees
 use Rattle.script_tree.specs.Fitting.{line_fits, place_fits, expression_fits, statement_fits, count_of}
-use Rattle.script_tree.specs.Grammar.{name_at, statement_lines}
+use Rattle.pct_ask.specs.TraceText.{name_at}
+use Rattle.script_tree.specs.Grammar.{statement_lines}
 use Rattle.script_tree.specs.Expressions.{IsSpelled, number, register, enclosed, minus, not as negated, two, stronger}
 use Rattle.script_tree.specs.Forms.{OnVerb, Lock, Unlock, Signal, Broadcast, Down, Up, Join, Start, RdLock, WrLock, RwUnlock, IntoVerb, Read, TryLock, TryDown, Arrive, TryRdLock, TryWrLock, Cut, Meant, Plain, Valued, Thread, On, Into, Write, Add, Cas, Wait, Yield, Assert, Set, If, While, End, Else, on_kind, into_kind, on_since, into_since, IsOf, Means}
 use Rattle.script_parse.specs.Reading.{Finder, place_in, on_statement, into_statement, statement_on}

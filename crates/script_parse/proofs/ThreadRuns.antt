@@ -12,7 +12,8 @@ use Rattle.script_tree.specs.Trees.{Statements}
 use Rattle.script_tree.specs.ScriptText.{Thread as ThreadTree}
 use Rattle.script_tree.specs.Forms as forms
 use Rattle.script_tree.specs.Fitting.{line_fits, place_fits, statements_fit, thread_fits, most_threads, counts_of}
-use Rattle.script_tree.specs.Grammar.{name_at, all_thread_lines}
+use Rattle.pct_ask.specs.TraceText.{name_at}
+use Rattle.script_tree.specs.Grammar.{all_thread_lines}
 use Rattle.script_parse.specs.Part.{Thread, Open, Part}
 use Rattle.script_parse.specs.Reading.{Finder, place_in}
 use Rattle.script_parse.proofs.Fresh.{place_at, apart, among_parts, among-append, distinct_back}

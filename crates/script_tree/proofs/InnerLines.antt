@@ -14,7 +14,8 @@ use Rattle.script_tree.specs.ScriptText.{Thread}
 use Rattle.script_tree.specs.Forms.{Meant, IsName}
 use Rattle.script_tree.specs.Forms as forms
 use Rattle.script_tree.specs.Fitting.{line_fits, reg_fits, place_fits, expression_fits, counts_of, statement_fits, statements_fit, thread_fits}
-use Rattle.script_tree.specs.Grammar.{Line, name_at, statement_lines, block_lines, thread_lines, all_thread_lines}
+use Rattle.pct_ask.specs.TraceText.{name_at}
+use Rattle.script_tree.specs.Grammar.{Line, statement_lines, block_lines, thread_lines, all_thread_lines}
 use Rattle.script_tree.specs.Layout.{meanings}
 use Rattle.script_tree.specs.Printing.{is_ranged, is_ranged_form, are_ranged}
 use Rattle.script_tree.proofs.ExpressionCuts.{IsGood}

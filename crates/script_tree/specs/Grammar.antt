@@ -1,9 +1,10 @@
 -- The grammar of scripts, as a relation between a text and the script that it spells (this
 -- project).
-use Rattle.std.specs.Prelude.{◌≡◌, ℕ, ◌+◌, ◌≤◌, ◌⊎◌, Bool, true, false, All, List, [], ◌∷◌, ◌++◌, length, map, Some, slice_index_or}
+use Rattle.std.specs.Prelude.{◌≡◌, ℕ, ◌+◌, ◌≤◌, ◌⊎◌, Bool, true, false, All, List, [], ◌∷◌, ◌++◌, length, map, Some}
 use Rattle.std.specs.Str.{is_utf8}
 use Rattle.pct_ask.specs.Lines.{lines_of}
 use Rattle.pct_ask.specs.NameLists.{NameLists, AreNames, list_of}
+use Rattle.pct_ask.specs.TraceText.{name_at}
 use Rattle.pct_ask.specs.declared.names.NameKind.{NameKind}
 use Rattle.pct_ask.specs.declared.names.NameKind.TheVariants as kinds
 use Rattle.script_tree.specs.Trees.{Statement, Statements, Closed, Then}
@@ -18,9 +19,6 @@ use Rattle.script_tree.specs.Lines.{tokens_in, is_blank_line, version_in, names_
 -- a line that says something: its number, and what it means
 abbrev pub Line : Type 0
 Line = ℕ × Meant
-
-abbrev pub name_at : List (List ℕ) → ℕ → List ℕ
-name_at names place = slice_index_or names place []
 
 abbrev mutual
   -- the lines of a statement; those of an `if` or a `while` are its first one and those of its

@@ -1,6 +1,6 @@
 -- The canonical layout of a script: each script has just one (this project).
 use Rattle.std.specs.Prelude.{ℕ, ℤ, pos, negsuc, suc, List, [], ◌∷◌, ◌++◌, map, codes, decimal}
-use Rattle.std.specs.List.{flat_map}
+use Rattle.std.specs.List.{flat_map, join_with_byte}
 use Rattle.pct_ask.specs.Numbers.{number_text}
 use Rattle.pct_ask.specs.Tokens.{Token, Word, Number, Symbol}
 use Rattle.pct_ask.specs.declared.names.NameKind.{NameKind}
@@ -15,9 +15,7 @@ use Rattle.script_tree.specs.ScriptText.{ScriptText}
 
 -- words with one space between them
 abbrev pub spaced : List (List ℕ) → List ℕ
-spaced [] = []
-spaced (word ∷ []) = word
-spaced (word ∷ next ∷ words) = word ++ 32 ∷ spaced (next ∷ words)
+spaced words = join_with_byte 32 words
 
 -- Each operation between two parts stands in parentheses, the outermost too, and `!` and `-`
 -- directly before their part.

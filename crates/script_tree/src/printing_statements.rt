@@ -6,7 +6,8 @@ ghost use Rattle.pct_ask.specs.NameLists.{list_of};
 ghost use Rattle.script_tree.specs.Trees.{list};
 ghost use Rattle.script_tree.specs.Seen.{expression, statement, block};
 ghost use Rattle.script_tree.specs.Expressions.{register_word};
-ghost use Rattle.script_tree.specs.Grammar.{name_at, statement_lines};
+ghost use Rattle.pct_ask.specs.TraceText.{name_at};
+ghost use Rattle.script_tree.specs.Grammar.{statement_lines};
 ghost use Rattle.script_tree.specs.Layout.{spaced, expression_text};
 ghost use Rattle.script_tree.specs.Printing.{printed, are_ranged, is_ranged};
 

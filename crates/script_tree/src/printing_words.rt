@@ -3,7 +3,7 @@
 ghost use Rattle.std.specs.Prelude.{◌≡◌, ◌++◌, [], ◌∷◌, true, OnOk};
 ghost use Rattle.pct_ask.specs.NameLists.{list_of};
 ghost use Rattle.script_tree.specs.Forms.{kind_word};
-ghost use Rattle.script_tree.specs.Grammar.{name_at};
+ghost use Rattle.pct_ask.specs.TraceText.{name_at};
 ghost use Rattle.script_tree.specs.Expressions.{signs_of, register_word};
 ghost use Rattle.script_tree.specs.Seen.{expression};
 ghost use Rattle.script_tree.specs.Layout.{expression_text};
