@@ -3,7 +3,7 @@ use Rattle.std.proofs.Common.{◌≡◌, ℕ, List, [], ◌∷◌, inl, inr, Opt
 use Rattle.pct_outside.specs.Piece.{Appended, AppendedPart}
 use Rattle.pct_outside.proofs.laws.Pieces.{Appended-nil, AppendedPart-nil}
 use Rattle.pct_top.specs.declared.refusal.Refusal.{Refusal}
-use Rattle.pct_top.specs.declared.refusal.Refusal.TheVariants.{Usage, Script, Trace, Read, Write, Memory}
+use Rattle.pct_top.specs.declared.refusal.Refusal.TheVariants.{Usage, Script, Trace, Directive, Read, Write, Memory}
 use Rattle.pct_top.specs.declared.settings.Settings.{Settings}
 use Rattle.pct_top.specs.declared.outcome.Outcome.{Outcome}
 use Rattle.pct_top.specs.declared.status.Status.{Status}
@@ -26,6 +26,7 @@ module _ (taken : Taken) (shelf shelf' : ShelfTold) where
   answers_refused stream (Usage word) h = (refl, h)
   answers_refused stream (Script line kind) h = (refl, h)
   answers_refused stream (Trace line kind) h = (refl, h)
+  answers_refused stream (Directive line kind) h = (refl, h)
   answers_refused stream Read h = (refl, h)
   answers_refused stream Write h = absurd h
   answers_refused stream Memory h = inl refl
@@ -35,6 +36,7 @@ module _ (taken : Taken) (shelf shelf' : ShelfTold) where
   answers_put before after outcome (Err (Usage word)) h p = absurd p
   answers_put before after outcome (Err (Script line kind)) h p = absurd p
   answers_put before after outcome (Err (Trace line kind)) h p = absurd p
+  answers_put before after outcome (Err (Directive line kind)) h p = absurd p
   answers_put before after outcome (Err Read) h p = absurd p
   answers_put before after outcome (Err Write) h p = (p.0, λ files e. (printed_of outcome, h files e, (refl, p.1)))
   answers_put before after outcome (Err Memory) h p = inr (λ files e. (printed_of outcome, h files e, (refl, p)))
@@ -60,6 +62,7 @@ refused_said (Ok asked) refusal h = tt
 refused_said (Err number) (Usage word) h = tt
 refused_said (Err number) (Script line kind) h = absurd h
 refused_said (Err number) (Trace line kind) h = absurd h
+refused_said (Err number) (Directive line kind) h = absurd h
 refused_said (Err number) Read h = absurd h
 refused_said (Err number) Write h = absurd h
 refused_said (Err number) Memory h = tt
@@ -104,6 +107,7 @@ module _ (words : List (List ℕ)) (found left : Outside) where
   ends_said (Usage word) p says = refuses (Usage word) p.0 p.1 says
   ends_said (Script line kind) p says = refuses (Script line kind) p.0 p.1 says
   ends_said (Trace line kind) p says = refuses (Trace line kind) p.0 p.1 says
+  ends_said (Directive line kind) p says = refuses (Directive line kind) p.0 p.1 says
   ends_said Read p says = (p.0, p.1, says)
   ends_said Write p says = (p.0, p.1, says)
   ends_said Memory p says = (p, says)
@@ -122,7 +126,7 @@ module _ (words : List (List ℕ)) (found left : Outside) where
   exact statuses.Usage h = exact_whole statuses.Usage h.1
   exact statuses.BadScript h = exact_whole statuses.BadScript h.1
   exact statuses.BadTrace h = exact_whole statuses.BadTrace h.1
-  exact statuses.BadDirective h = absurd h
+  exact statuses.BadDirective h = exact_whole statuses.BadDirective h.1
   exact statuses.ReadFault h = λ files is printed may. h.0
   exact statuses.WriteFault h = λ files is printed may. (part _ h.1 files is printed may).1
   exact statuses.NoMemory h = λ files is printed may. elim h.0 [
@@ -141,7 +145,7 @@ module _ (words : List (List ℕ)) (found left : Outside) where
   completes statuses.Usage h = λ files is can unread unfaulted. inl (made statuses.Usage h.1 files is can)
   completes statuses.BadScript h = λ files is can unread unfaulted. inl (made statuses.BadScript h.1 files is can)
   completes statuses.BadTrace h = λ files is can unread unfaulted. inl (made statuses.BadTrace h.1 files is can)
-  completes statuses.BadDirective h = absurd h
+  completes statuses.BadDirective h = λ files is can unread unfaulted. inl (made statuses.BadDirective h.1 files is can)
   completes statuses.ReadFault h = λ files is can unread unfaulted. let read = h.1 in absurd (elim read.2 [
     | inl script ↦ unread read.0 (inl script) read.1
     | inr second ↦ unread read.0 (inr second.0) read.1

@@ -7,20 +7,21 @@ use Rattle.pct_outside.specs.Reading.{FirstOf, with_name}
 use Rattle.script_tree.specs.ScriptText.{ScriptText}
 use Rattle.script_tree.specs.ScriptSeen.{text}
 use Rattle.script_tree.specs.Grammar.{Spells}
+use Rattle.directive.specs.declared.directive.Directive.{Directive}
 use Rattle.trace_text.specs.Trace.{IsTrace}
 use Rattle.trace_text.specs.declared.file.TraceFile.{TraceFile}
 use Rattle.pct_top.specs.declared.refusal.Refusal.{Refusal}
-use Rattle.pct_top.specs.declared.refusal.Refusal.TheVariants.{Usage, Script, Trace, Read, Write, Memory}
+use Rattle.pct_top.specs.declared.refusal.Refusal.TheVariants.{Usage, Script, Trace, Directive as BadDirective, Read, Write, Memory}
 use Rattle.pct_top.specs.declared.outcome.Outcome.{Outcome}
 use Rattle.pct_top.specs.declared.settings.Settings.{Settings}
 use Rattle.pct_top.specs.declared.test.Test.{Test}
 use Rattle.pct_top.specs.Ready.{IsReady}
-use Rattle.pct_top.specs.Ordered.{OrderFits}
-use Rattle.pct_top.specs.Printed.{Files, Printed, refused, trace_bytes, OfScript, OfOrder, OfTrace}
+use Rattle.pct_top.specs.Ordered.{NamesAll, OrderFits}
+use Rattle.pct_top.specs.Printed.{Files, Printed, refused, trace_bytes, directive_bytes, OfScript, OfOrder, OfTrace, OfDirective}
 use Rattle.pct_top.specs.Priorities.{GivesOrder}
 use Rattle.pct_top.specs.Output.{script_file, script_text, order_given, second_file}
 use Rattle.pct_top.specs.Outcome.{printed_of, Gives, Shows, Comes}
-use Rattle.pct_top.specs.Files.{HasText, KeepsNames, Misses, GivesTest, GivesTrace, HasTrace}
+use Rattle.pct_top.specs.Files.{HasText, KeepsNames, Misses, GivesTest, GivesTrace, HasTrace, GivesDirective, HasDirective}
 use Rattle.pct_top.specs.Outside.{ShelfTold}
 use Rattle.pct_top.specs.Call.{Gained, MissesSecond, ReadFailed}
 
@@ -50,6 +51,7 @@ comes_plain of told missed (Ok outcome) h = λ files e. h
 comes_plain of told missed (Err (Usage word)) h = λ files e. h
 comes_plain of told missed (Err (Script line kind)) h = λ files e. h
 comes_plain of told missed (Err (Trace line kind)) h = λ files e. h
+comes_plain of told missed (Err (BadDirective line kind)) h = λ files e. h
 comes_plain of told missed (Err Read) h = absurd h
 comes_plain of told missed (Err Write) h = absurd h
 comes_plain of told missed (Err Memory) h = tt
@@ -60,6 +62,7 @@ comes_as of told missed other therefore (Ok outcome) h = h
 comes_as of told missed other therefore (Err (Usage word)) h = h
 comes_as of told missed other therefore (Err (Script line kind)) h = h
 comes_as of told missed other therefore (Err (Trace line kind)) h = h
+comes_as of told missed other therefore (Err (BadDirective line kind)) h = h
 comes_as of told missed other therefore (Err Read) h = therefore h
 comes_as of told missed other therefore (Err Write) h = h
 comes_as of told missed other therefore (Err Memory) h = h
@@ -69,6 +72,7 @@ pub order_refused : (names : NameLists) (items : List (List ℕ)) (word : ℕ) (
 order_refused names items word of (Usage n) h = inr (h.1, ap (λ w. refused (Usage w)) h.0)
 order_refused names items word of (Script line kind) h = absurd h
 order_refused names items word of (Trace line kind) h = absurd h
+order_refused names items word of (BadDirective line kind) h = absurd h
 order_refused names items word of Read h = absurd h
 order_refused names items word of Write h = absurd h
 order_refused names items word of Memory h = tt
@@ -82,6 +86,7 @@ module _ (told : Option Files) (file : List ℕ) (names : NameLists) (of : Trace
   trace_refused (Usage word) h = absurd h
   trace_refused (Script line kind) h = absurd h
   trace_refused (Trace line kind) h = λ files e. inr (line, kind, h files e, refl)
+  trace_refused (BadDirective line kind) h = absurd h
   trace_refused Read h = h
   trace_refused Write h = absurd h
   trace_refused Memory h = tt
@@ -89,6 +94,64 @@ module _ (told : Option Files) (file : List ℕ) (names : NameLists) (of : Trace
   -- what is printed of the trace
   pub trace_shown : (trace : TraceFile) (printed : Printed) → HasTrace told file names trace → of trace printed → Shows OfFile told printed
   trace_shown trace printed has h = λ files e. inl (trace, has.1 files e, h)
+
+module _ (told : Option Files) (file : List ℕ) (names : NameLists)
+    (of : Directive → Printed → Type 0) (missed : Type 0) where
+  abbrev OfPlan : Files → Printed → Type 0
+  OfPlan files printed = OfDirective (take directive_bytes (files file)) names of printed
+
+  -- there is no directive
+  pub directive_refused : (refusal : Refusal) → GivesDirective told file names missed (Err refusal)
+      → Comes OfPlan told missed (Err refusal)
+  directive_refused (Usage word) h = absurd h
+  directive_refused (Script line kind) h = absurd h
+  directive_refused (Trace line kind) h = absurd h
+  directive_refused (BadDirective line kind) h = λ files e. inr (line, kind, h files e, refl)
+  directive_refused Read h = h
+  directive_refused Write h = absurd h
+  directive_refused Memory h = tt
+
+  -- what is printed of the directive
+  pub directive_shown : (directive : Directive) (printed : Printed)
+      → HasDirective told file names directive → of directive printed → Shows OfPlan told printed
+  directive_shown directive printed has h = λ files e. inl (directive, has.1 files e, h)
+
+-- ---- an order, and what comes after it
+
+module _ (told : Option Files) (names : NameLists) (items : List (List ℕ)) (word : ℕ)
+    (of : Files → List ℕ → Printed → Type 0) (missed : Type 0) where
+  abbrev OfOrdered : Files → Printed → Type 0
+  OfOrdered files printed = OfOrder names items word (of files) printed
+
+  -- the names give no order
+  pub unordered : (refusal : Refusal) → GivesOrder names items word (Err refusal)
+      → Comes OfOrdered told missed (Err refusal)
+  unordered (Usage n) h = λ files e. inr (h.1, ap (λ w. refused (Usage w)) h.0)
+  unordered (Script line kind) h = absurd h
+  unordered (Trace line kind) h = absurd h
+  unordered (BadDirective line kind) h = absurd h
+  unordered Read h = absurd h
+  unordered Write h = absurd h
+  unordered Memory h = tt
+
+  module _ (order : List ℕ) (gives : NamesAll names items order) where
+    -- this may be printed of the order
+    pub ordered_shown : (printed : Printed) → Shows (λ files. of files order) told printed
+        → Shows OfOrdered told printed
+    ordered_shown printed h = λ files e. inl (order, gives, h files e)
+
+    -- what comes of the order
+    pub ordered : (missed_second : Type 0) → (missed_second → missed) → (r : Result Outcome Refusal)
+        → Comes (λ files. of files order) told missed_second r → Comes OfOrdered told missed r
+    ordered m therefore (Ok outcome) h = ordered_shown (printed_of outcome) h
+    ordered m therefore (Err (Usage n)) h = ordered_shown (refused (Usage n)) h
+    ordered m therefore (Err (Script line kind)) h = ordered_shown (refused (Script line kind)) h
+    ordered m therefore (Err (Trace line kind)) h = ordered_shown (refused (Trace line kind)) h
+    ordered m therefore (Err (BadDirective line kind)) h =
+        ordered_shown (refused (BadDirective line kind)) h
+    ordered m therefore (Err Read) h = therefore h
+    ordered m therefore (Err Write) h = absurd h
+    ordered m therefore (Err Memory) h = tt
 
 -- ---- a command over its script
 
@@ -101,6 +164,7 @@ module _ (told : Option Files) (source : Files → List ℕ) (over : Files → S
   comes_untested m therefore (Usage word) h = absurd h
   comes_untested m therefore (Script line kind) h = λ files e. inr (line, kind, h files e, refl)
   comes_untested m therefore (Trace line kind) h = absurd h
+  comes_untested m therefore (BadDirective line kind) h = absurd h
   comes_untested m therefore Read h = therefore h
   comes_untested m therefore Write h = absurd h
   comes_untested m therefore Memory h = tt
@@ -114,6 +178,7 @@ module _ (told : Option Files) (source : Files → List ℕ) (over : Files → S
     comes_tested m therefore (Err (Usage word)) h = shown (refused (Usage word)) h
     comes_tested m therefore (Err (Script line kind)) h = shown (refused (Script line kind)) h
     comes_tested m therefore (Err (Trace line kind)) h = shown (refused (Trace line kind)) h
+    comes_tested m therefore (Err (BadDirective line kind)) h = shown (refused (BadDirective line kind)) h
     comes_tested m therefore (Err Read) h = therefore h
     comes_tested m therefore (Err Write) h = absurd h
     comes_tested m therefore (Err Memory) h = tt

@@ -1,6 +1,6 @@
 -- What a run prints whole is confirmed by its replay.
-use Rattle.std.proofs.Common.{◌≡◌, ℕ, ◌<◌, inl, inr, List, length, Ok, Err, Some, None, Option, refl, sym, subst, ap, take, ◌∙◌, arith}
-use Rattle.std.specs.Prelude.{All, true, codes, ◌∷◌}
+use Rattle.std.proofs.Common.{◌≡◌, ◌⊎◌, ℕ, ◌<◌, inl, inr, List, length, Ok, Err, Some, None, Option, refl, sym, subst, ap, take, ◌∙◌, arith}
+use Rattle.std.specs.Prelude.{All, Bool, true, codes, ◌∷◌}
 use Rattle.std.proofs.lemmas.List.{take_all, append-nil}
 use Rattle.std.proofs.lemmas.List.Elements.{All-map}
 use Rattle.pct_ask.specs.VerdictText.{named, verdict_words}
@@ -23,31 +23,35 @@ use Rattle.replay_run.specs.declared.answer.Replayed.TheVariants.{Confirmed}
 use Rattle.replay_run.specs.Replay.{IsReplay}
 use Rattle.replay_run.proofs.laws.ListedRuns.{listed_again}
 use Rattle.pct_top.specs.declared.refusal.Refusal.{Refusal}
-use Rattle.pct_top.specs.declared.refusal.Refusal.TheVariants.{Usage, Script}
+use Rattle.pct_top.specs.declared.refusal.Refusal.TheVariants.{Usage, Script, Directive as BadDirective}
 use Rattle.pct_top.specs.declared.settings.Report.TheVariants.{Trace}
-use Rattle.pct_top.specs.declared.settings.Settings.TheVariants.{RunOrder, RunSeed}
+use Rattle.pct_top.specs.declared.settings.Settings.TheVariants.{RunOrder, RunSeed, Expose}
 use Rattle.pct_top.specs.Settings.{Taken, settings}
 use Rattle.pct_top.specs.Printed.{Files, Printed, refused, told, script_bytes, trace_bytes}
-use Rattle.pct_top.specs.Runs.{file_of, traced, told_trace, TellsRun}
+use Rattle.pct_top.specs.Runs.{run_of, is_passed, file_of, traced, told_trace, TellsRun}
 use Rattle.pct_top.specs.commands.Run.{PrintsTrace}
 use Rattle.pct_top.specs.commands.Replay.{replied}
+use Rattle.pct_top.specs.commands.Expose.{TellsExposed}
+use Rattle.directive_run.specs.Counting.{same_verdict}
+use Rattle.directive_run.specs.declared.answers.Exposed.{Exposed}
+use Rattle.directive_run.specs.declared.answers.Exposed.TheVariants.{Points, TooLong}
 use Rattle.pct_top.specs.Output.{OfTaken}
 use Rattle.pct_top.specs.Call.{IsAnswer}
-use Rattle.pct_top.specs.Confirmed.{RunsFile, TellsVerdict, confirmed, IsConfirmed, RunsAreConfirmed}
+use Rattle.pct_top.specs.Confirmed.{RunsFile, TellsVerdict, confirmed, IsConfirmed, IsConfirmedTrace, RunsAreConfirmed, ExposesFile, TellsLong, ExposedAreConfirmed}
 
 -- what the law says of one output
 abbrev IsSo : Files → List ℕ → Printed → Type 0
-IsSo files file printed = (script : ScriptText) × (verdict : Verdict) × Spells (take script_bytes (files file)) script × TellsVerdict printed.out script verdict × IsConfirmed files file printed.out script verdict
+IsSo files file printed = IsConfirmedTrace files file printed.out
 
-module _ (script : ScriptText) (deal : Deal) (of : IsDealOf script deal) (order points : List ℕ) (limit : ℕ) (printed : Printed) (prints : PrintsTrace script deal order points limit printed) where
-  abbrev ended : Run
-  ended = prints.0
-
+module _ (script : ScriptText) (deal : Deal) (of : IsDealOf script deal) (order points : List ℕ)
+    (limit : ℕ) (printed : Printed) (ended : Run) (done : Bool)
+    (runs : run_of script deal order points limit ≡ Some ended)
+    (tells : TellsRun script order points limit ended done printed) where
   abbrev file : TraceFile
   file = file_of script order points limit ended
 
   abbrev whole : IsTrace (traced script order points limit ended) script.names file
-  whole = (prints.2).whole
+  whole = tells.whole
 
   -- the trace's list of threads runs as the trace tells
   replayed : IsReplay deal (bodies_of script) file (Confirmed file.verdict)
@@ -56,7 +60,7 @@ module _ (script : ScriptText) (deal : Deal) (of : IsDealOf script deal) (order 
       let known : All (λ (e : Event). e.thread < deal.threads) file.events = λ k d within. omega (arith, ((run.steps) k d within).thread, of.threads) in
       let threads : deal.threads ≡ length order = of.threads ∙ sym (run.head).every in
       let listed = All-map (λ t. t < deal.threads) (λ (e : Event). e.thread) file.events known in
-      let made = run-played deal (bodies_of script) order points limit ended.0 ended.1 threads prints.1 in
+      let made = run-played deal (bodies_of script) order points limit ended.0 ended.1 threads runs in
       record {
         made = ended.0;
         outcome = Ends ended.1;
@@ -65,7 +69,7 @@ module _ (script : ScriptText) (deal : Deal) (of : IsDealOf script deal) (order 
       }
 
   out_is : printed.out ≡ traced script order points limit ended
-  out_is = ap (λ (p : Printed). p.out) (prints.2).is
+  out_is = ap (λ (p : Printed). p.out) tells.is
 
   one_line : confirmed script.names ended.1 ≡ replied script (Confirmed ended.1)
   one_line = ap (λ (text : List ℕ). told text true) (sym (append-nil (line_text (codes "confirmed" ∷ verdict_words (named script.names ended.1)))))
@@ -76,9 +80,9 @@ module _ (script : ScriptText) (deal : Deal) (of : IsDealOf script deal) (order 
     ended.1,
     spells,
     (file, subst (λ text. IsTrace text script.names file) (sym out_is) whole, refl),
-    λ later trace same tells.
+    λ later trace same written.
         let text : take trace_bytes (later trace) ≡ traced script order points limit ended =
-        ap (take trace_bytes) (tells ∙ out_is) ∙ take_all trace_bytes (traced script order points limit ended) (omega (arith, whole.small)) in
+        ap (take trace_bytes) (written ∙ out_is) ∙ take_all trace_bytes (traced script order points limit ended) (omega (arith, whole.small)) in
         inl (
           script,
           subst (λ bytes. Spells (take script_bytes bytes) script) (sym same) spells,
@@ -86,19 +90,60 @@ module _ (script : ScriptText) (deal : Deal) (of : IsDealOf script deal) (order 
         ),
   )
 
+traced_so : (script : ScriptText) (deal : Deal) → IsDealOf script deal → (order points : List ℕ)
+    (limit : ℕ) (printed : Printed) → PrintsTrace script deal order points limit printed
+    → (files : Files) (name : List ℕ) → Spells (take script_bytes (files name)) script
+    → IsSo files name printed
+traced_so script deal of order points limit printed prints =
+    confirms script deal of order points limit printed prints.0 (is_passed (prints.0).1) prints.1
+    prints.2
+
 -- a refusal is no answer
 refused_not : (refusal : Refusal) (printed : Printed) → printed ≡ refused refusal → (IsAnswer (refused refusal).status → ⊥) → IsAnswer printed.status → ⊥
 refused_not refusal printed is never answers = never (subst (λ (p : Printed). IsAnswer p.status) is answers)
 
 by_taken : (taken : Taken) (files : Files) (printed : Printed) (name : List ℕ) → RunsFile taken name → OfTaken taken files printed → IsAnswer printed.status → IsSo files name printed
 by_taken (Ok (RunOrder file order word points limit Trace)) files printed name same (inl of) answers = elim of.2.2 [
-  | inl given ↦ subst (λ n. IsSo files n printed) (sym same) (confirms of.0 of.2.0 of.2.1 given.0 points limit printed given.2 files file of.1)
+  | inl given ↦ subst (λ n. IsSo files n printed) (sym same) (traced_so of.0 of.2.0 of.2.1 given.0 points limit printed given.2 files file of.1)
   | inr none ↦ absurd (refused_not (Usage word) printed none.1 (λ h. h) answers)
 ]
 by_taken (Ok (RunOrder file order word points limit Trace)) files printed name same (inr bad) answers = absurd (refused_not (Script bad.0 bad.1) printed bad.3 (λ h. h) answers)
-by_taken (Ok (RunSeed file seed depth steps limit Trace)) files printed name same (inl of) answers = subst (λ n. IsSo files n printed) (sym same) (confirms of.0 of.2.0 of.2.1 _ _ limit printed of.2.2.2 files file of.1)
+by_taken (Ok (RunSeed file seed depth steps limit Trace)) files printed name same (inl of) answers = subst (λ n. IsSo files n printed) (sym same) (traced_so of.0 of.2.0 of.2.1 _ _ limit printed of.2.2.2 files file of.1)
 by_taken (Ok (RunSeed file seed depth steps limit Trace)) files printed name same (inr bad) answers = absurd (refused_not (Script bad.0 bad.1) printed bad.3 (λ h. h) answers)
 by_taken taken files printed name same of answers = absurd same
 
 pub runs_confirmed : RunsAreConfirmed
 runs_confirmed words files printed name same of answers = by_taken (settings words) files printed name same of answers
+
+-- ---- what a directive exposes
+
+exposed_so : (script : ScriptText) (deal : Deal) → IsDealOf script deal → (order : List ℕ)
+    (limit : ℕ) (verdict : Verdict) (exposed : Exposed) (printed : Printed)
+    → TellsExposed script deal order limit verdict exposed printed → (files : Files)
+    (name : List ℕ) → Spells (take script_bytes (files name)) script
+    → TellsLong printed ⊎ IsSo files name printed
+exposed_so script deal of order limit verdict (Points points played) printed tells files name spells =
+    inr (confirms script deal of order points limit printed tells.0
+    (same_verdict (tells.0).1 verdict) tells.1 tells.2 files name spells)
+exposed_so script deal of order limit verdict (TooLong many) printed tells files name spells =
+    inl (many, tells)
+
+exposed_by : (taken : Taken) (files : Files) (printed : Printed) (name : List ℕ)
+    → ExposesFile taken name → OfTaken taken files printed → IsAnswer printed.status
+    → TellsLong printed ⊎ IsSo files name printed
+exposed_by (Ok (Expose file directive order word steps limit)) files printed name same (inl of) answers = elim of.2.2 [
+  | inl given ↦ elim given.2 [
+    | inl plan ↦ subst (λ n. TellsLong printed ⊎ IsSo files n printed) (sym same)
+        (exposed_so of.0 of.2.0 of.2.1 given.0 limit (plan.0).verdict (plan.2).0 printed (plan.2).2
+        files file of.1)
+    | inr bad ↦ absurd (refused_not (BadDirective bad.0 bad.1) printed bad.3 (λ h. h) answers)
+  ]
+  | inr none ↦ absurd (refused_not (Usage word) printed none.1 (λ h. h) answers)
+]
+exposed_by (Ok (Expose file directive order word steps limit)) files printed name same (inr bad) answers =
+    absurd (refused_not (Script bad.0 bad.1) printed bad.3 (λ h. h) answers)
+exposed_by taken files printed name same of answers = absurd same
+
+pub exposed_confirmed : ExposedAreConfirmed
+exposed_confirmed words files printed file same of answers =
+    exposed_by (settings words) files printed file same of answers

@@ -13,7 +13,12 @@ mod OneReport
 mod OneBig
 mod OneCampaign
 mod OneReply
+mod OneExposed
+mod OneCertificate
+mod KnownDirected
 mod OnePrinted
 mod Comes
 mod Calls
 mod Confirms
+mod Counts
+mod Takes

@@ -4,10 +4,10 @@ use Rattle.pct_ask.specs.declared.Deal.{Deal}
 use Rattle.pct_ask.specs.NameLists.{AreNames}
 use Rattle.script_tree.specs.ScriptText.{ScriptText}
 use Rattle.pct_top.specs.declared.settings.Settings.{Settings}
-use Rattle.pct_top.specs.declared.settings.Settings.TheVariants.{RunOrder, RunSeed, Campaign, Big, Replay}
+use Rattle.pct_top.specs.declared.settings.Settings.TheVariants.{RunOrder, RunSeed, Campaign, Big, Replay, Expose, Certify}
 use Rattle.pct_top.specs.Settings.{Taken}
 use Rattle.pct_top.specs.Ordered.{OrderFits}
-use Rattle.pct_top.specs.Printed.{Files, Printed, trace_bytes}
+use Rattle.pct_top.specs.Printed.{Files, Printed, trace_bytes, directive_bytes}
 use Rattle.pct_top.specs.Output.{script_text, order_given, SecondFits, OfCommand, OfTaken}
 use Rattle.pct_top.specs.Call.{IsAnswer, CanRun}
 use Rattle.pct_top.proofs.Work.{one_of_script, script_fits}
@@ -15,6 +15,8 @@ use Rattle.pct_top.proofs.OneReport.{one_ordered, ordered_answers, one_seed, see
 use Rattle.pct_top.proofs.OneCampaign.{campaign_once, campaign_answers}
 use Rattle.pct_top.proofs.OneBig.{big_once, big_answers}
 use Rattle.pct_top.proofs.OneReply.{one_reply, reply_answers}
+use Rattle.pct_top.proofs.OneExposed.{expose_once, expose_answers}
+use Rattle.pct_top.proofs.OneCertificate.{certify_once, certify_answers}
 
 -- ---- the commands
 
@@ -24,6 +26,10 @@ one_command (RunSeed file seed depth steps limit report) files script deal p q a
 one_command (Campaign file first count depth steps limit json) files script deal p q are = campaign_once script deal first count depth steps limit json p q
 one_command (Big pieces) files script deal p q are = big_once script deal pieces p q
 one_command (Replay file trace) files script deal p q are = one_reply (take trace_bytes (files trace)) script deal are p q
+one_command (Expose file directive order word steps limit) files script deal p q are =
+    expose_once script deal limit steps (take directive_bytes (files directive)) order word are p q
+one_command (Certify file directive steps limit) files script deal p q are =
+    certify_once script deal steps limit (take directive_bytes (files directive)) are p q
 
 -- what fits is carried out
 command_answers : (settings : Settings) (files : Files) (script : ScriptText) (deal : Deal) (p : Printed) → AreNames script.names → OrderFits script.names (order_given settings) → SecondFits settings files script → OfCommand settings files script deal p → IsAnswer p.status
@@ -32,6 +38,11 @@ command_answers (RunSeed file seed depth steps limit report) files script deal p
 command_answers (Campaign file first count depth steps limit json) files script deal p are fits second = campaign_answers script deal first count depth steps limit json p
 command_answers (Big pieces) files script deal p are fits second = big_answers script deal pieces p
 command_answers (Replay file trace) files script deal p are fits second = reply_answers (take trace_bytes (files trace)) script deal are p second
+command_answers (Expose file directive order word steps limit) files script deal p are fits second =
+    expose_answers script deal limit steps (take directive_bytes (files directive)) order word are p
+    fits second
+command_answers (Certify file directive steps limit) files script deal p are fits second =
+    certify_answers script deal steps limit (take directive_bytes (files directive)) are p second
 
 -- ---- a call
 

@@ -38,7 +38,8 @@ module _ (script : ScriptText) (deal : Deal) (limit : ℕ) where
   -- ---- the trace
 
   one_trace : (order points : List ℕ) (p q : Printed) → PrintsTrace script deal order points limit p → PrintsTrace script deal order points limit q → p ≡ q
-  one_trace order points p q a b = (a.2).is ∙ ap (told_trace script order points limit) (some_same a.0 b.0 (sym a.1 ∙ b.1)) ∙ sym (b.2).is
+  one_trace order points p q a b =
+      (a.2).is ∙ ap (λ (ended : Run). told_trace script order points limit ended (is_passed ended.1)) (some_same a.0 b.0 (sym a.1 ∙ b.1)) ∙ sym (b.2).is
 
   -- ---- the races
 
@@ -60,7 +61,7 @@ module _ (script : ScriptText) (deal : Deal) (limit : ℕ) where
 
   one_found : (order points : List ℕ) (p q : Printed) → PrintsFound script deal order points limit p → PrintsFound script deal order points limit q → p ≡ q
   one_found order points p q a b =
-      a.2 ∙ ap (told_found script.names order) (one_finding deal (bodies_of script) order limit points a.0 b.0 a.1 b.1) ∙ sym b.2
+      a.3 ∙ ap (told_found script.names order) (one_finding deal (bodies_of script) order limit points a.0 b.0 a.1 b.1) ∙ sym b.3
 
   -- ---- any report
 
@@ -74,7 +75,7 @@ module _ (script : ScriptText) (deal : Deal) (limit : ℕ) where
   report_answers Trace order points p a = answers_as p (traced script order points limit a.0) (is_passed (a.0).1) (a.2).is
   report_answers Races order points p a = answers_as p (race_text script.names (a.2).0) (length (a.2).0 == 0) (a.2).2
   report_answers Locks order points p a = answers_as p (lock_text script.names (a.2).0) (is_order (a.2).0) (a.2).2
-  report_answers Find order points p a = answers_as p (found_text script.names order a.0) (passes a.0) a.2
+  report_answers Find order points p a = answers_as p (found_text script.names order a.0) (passes a.0) a.3
 
   -- ---- by an order that is given
 

@@ -17,12 +17,12 @@ use Rattle.pct_top.specs.declared.options.Options.{Options}
 use Rattle.pct_top.specs.declared.options.NamedOrder.{NamedOrder}
 use Rattle.pct_top.specs.declared.settings.Report.{Report}
 use Rattle.pct_top.specs.declared.settings.Settings.{Settings}
-use Rattle.pct_top.specs.declared.settings.Settings.TheVariants.{RunOrder, RunSeed, Campaign, Big, Replay}
+use Rattle.pct_top.specs.declared.settings.Settings.TheVariants.{RunOrder, RunSeed, Campaign, Big, Replay, Expose, Certify}
 use Rattle.pct_top.specs.declared.settings.WordsError.{WordsError}
 use Rattle.pct_top.specs.Values.{items_of, order_in, within, number_in, step_count, step_counts, points_in, seed_in, depth_in, is_json, pieces_in}
 use Rattle.pct_top.specs.Options.{none, is_new, with_value, next_option, option_named, Given, lawful_or, with_option, without_value, and_then, options_from, one_if, count}
 use Rattle.pct_top.specs.Table.{takes}
-use Rattle.pct_top.specs.Settings.{default_limit, Taken, taken_or, made_of, limit_of, ordered, seeded, run_by, run_with, run_settings, campaign_by, campaign_with, campaign_settings, big_with, big_by, big_settings, replay_with, replay_settings, settings_of, settings_by, settings, ReadsAs, ArePoints, IsDepth, AreLawful}
+use Rattle.pct_top.specs.Settings.{default_limit, Taken, taken_or, made_of, limit_of, ordered, seeded, run_by, run_with, run_settings, campaign_by, campaign_with, campaign_settings, big_with, big_by, big_settings, replay_with, replay_settings, expose_by, expose_with, expose_settings, certify_with, certify_settings, settings_of, settings_by, settings, ReadsAs, ArePoints, IsDepth, AreLawful}
 
 -- ---- one option
 
@@ -300,6 +300,21 @@ replay-made : (file trace : List ℕ) → AreMade (replay_with file trace)
 unfolding AreMade
 replay-made file trace = λ o s r is. let same : Replay file trace ≡ s = cc in subst AreLawful same tt
 
+expose-made : (file directive : List ℕ) → AreMade (expose_with file directive)
+unfolding AreMade
+expose-made file directive = λ o s r is.
+    option_and_then_some (λ order. option_map (expose_by file directive o order) o.steps) o.order s is (λ order at made.
+    let parts = map_parts (expose_by file directive o order) o.steps s made in
+    let steps : IfSome (Some parts.0) IsStepCount = subst (λ x. IfSome x IsStepCount) parts.1 r.steps in
+    subst AreLawful parts.2 (steps, limit-fits o r))
+
+certify-made : (file directive : List ℕ) → AreMade (certify_with file directive)
+unfolding AreMade
+certify-made file directive = λ o s r is.
+    let parts = map_parts (λ steps. Certify file directive steps (limit_of o)) o.steps s is in
+    let steps : IfSome (Some parts.0) IsStepCount = subst (λ x. IfSome x IsStepCount) parts.1 r.steps in
+    subst AreLawful parts.2 (steps, limit-fits o r)
+
 taken-lawful : (next : ℕ) (made : Option Settings) (s : Settings) → ((t : Settings) → made ≡ Some t → AreLawful t) → taken_or next made ≡ Ok s → AreLawful s
 taken-lawful next None s lawful is = absurd cc
 taken-lawful next (Some t) s lawful is = let same : t ≡ s = cc in subst AreLawful same (lawful t refl)
@@ -328,6 +343,16 @@ command-lawful commands.Big (word ∷ words) s is = by (pieces_in word) refl is
 command-lawful commands.Replay [] s is = absurd cc
 command-lawful commands.Replay (file ∷ []) s is = absurd cc
 command-lawful commands.Replay (file ∷ trace ∷ words) s is = made-lawful (replay_with file trace) (length words + 4) commands.Replay 4 words s (replay-made file trace) is
+command-lawful commands.Expose [] s is = absurd cc
+command-lawful commands.Expose (file ∷ []) s is = absurd cc
+command-lawful commands.Expose (file ∷ directive ∷ words) s is =
+    made-lawful (expose_with file directive) (length words + 4) commands.Expose 4 words s
+    (expose-made file directive) is
+command-lawful commands.Certify [] s is = absurd cc
+command-lawful commands.Certify (file ∷ []) s is = absurd cc
+command-lawful commands.Certify (file ∷ directive ∷ words) s is =
+    made-lawful (certify_with file directive) (length words + 4) commands.Certify 4 words s
+    (certify-made file directive) is
 
 -- what was read of the words of a command keeps to the ranges
 pub reads_lawful : (r : Result Settings WordsError) (command : Command) (words : List (List ℕ)) → ReadsAs r (settings_of command words) → IfOk r AreLawful
@@ -358,6 +383,23 @@ campaign_is file o first many depth limit json from counted deep limited form =
     ∙ ap (option_and_then (λ m. option_map (campaign_by file o first m) o.depth)) counted ∙ ap (option_map (campaign_by file o first many)) deep
     ∙ ap (λ (n : ℕ). Some (Campaign file first many depth o.steps n (unwrap_or o.json false))) (sym limited)
     ∙ ap (λ (j : Bool). Some (Campaign file first many depth o.steps limit j)) (sym form))
+
+pub exposed_is : (file directive : List ℕ) (o : Options) (order : NamedOrder) (steps limit : ℕ)
+    → o.order ≡ Some order → o.steps ≡ Some steps → limit ≡ unwrap_or o.limit 10000
+    → Some (Expose file directive order.items order.word steps limit) ≡ expose_with file directive o
+unfolding default_limit
+exposed_is file directive o order steps limit given counted limited =
+    sym (ap (option_and_then (λ g. option_map (expose_by file directive o g) o.steps)) given
+    ∙ ap (option_map (expose_by file directive o order)) counted
+    ∙ ap (λ (n : ℕ). Some (Expose file directive order.items order.word steps n)) (sym limited))
+
+pub certified_is : (file directive : List ℕ) (o : Options) (steps limit : ℕ)
+    → o.steps ≡ Some steps → limit ≡ unwrap_or o.limit 10000
+    → Some (Certify file directive steps limit) ≡ certify_with file directive o
+unfolding default_limit
+certified_is file directive o steps limit counted limited =
+    sym (ap (option_map (λ k. Certify file directive k (limit_of o))) counted
+    ∙ ap (λ (n : ℕ). Some (Certify file directive steps n)) (sym limited))
 
 -- ---- what is read of the words of a command
 

@@ -25,3 +25,37 @@ pub line-of-all : {X : Type 0} (f : X → List ℕ) (old word now after : List �
     → after ≡ old ++ line_text (word ∷ map f xs)
 line-of-all f old word now after xs i past is ends =
     ends ∙ ap (λ (line : List ℕ). line ++ 10 ∷ []) (is ∙ ap (λ (ys : List _). old ++ (word ++ spaced (map f ys))) (take_all i xs past)) ∙ line-spaced old word (map f xs)
+
+-- the words behind an order's names, joined to its line
+spaced-append : (words more : List (List ℕ)) → spaced (words ++ more) ≡ spaced words ++ spaced more
+spaced-append [] more = refl
+spaced-append (word ∷ words) more =
+    ap (λ (rest : List ℕ). (32 ∷ word) ++ rest) (spaced-append words more)
+    ∙ sym (append_assoc (32 ∷ word) (spaced words) (spaced more))
+
+five-parts : (old word words head more : List ℕ)
+    → (((old ++ word) ++ words) ++ 32 ∷ []) ++ ((head ++ more) ++ 10 ∷ [])
+    ≡ (old ++ (word ++ (words ++ ((32 ∷ head) ++ more)))) ++ 10 ∷ []
+five-parts old word words head more = simp append_assoc
+
+pub line-of-two : (old word : List ℕ) (words : List (List ℕ)) (head : List ℕ) (more : List (List ℕ))
+    → (((old ++ word) ++ spaced words) ++ 32 ∷ []) ++ line_text (head ∷ more)
+    ≡ old ++ line_text (word ∷ (words ++ head ∷ more))
+line-of-two old word words head more =
+    ap (λ (line : List ℕ). (((old ++ word) ++ spaced words) ++ 32 ∷ []) ++ (line ++ 10 ∷ []))
+    (join-spaced head more)
+    ∙ five-parts old word (spaced words) head (spaced more)
+    ∙ ap (λ (rest : List ℕ). (old ++ (word ++ rest)) ++ 10 ∷ [])
+    (sym (spaced-append words (head ∷ more)))
+    ∙ line-spaced old word (words ++ head ∷ more)
+
+-- the same where two words stand at its head
+pub two-words : (old first second rest : List ℕ)
+    → (old ++ (first ++ 32 ∷ second)) ++ rest ≡ (old ++ first) ++ ((32 ∷ second) ++ rest)
+two-words old first second rest = simp append_assoc
+
+-- a list that was gone through to its end
+pub all-spaced : {X : Type 0} (f : X → List ℕ) (old now : List ℕ) (xs : List X) (i : ℕ)
+    → length xs ≤ i → now ≡ old ++ spaced (map f (take i xs)) → now ≡ old ++ spaced (map f xs)
+all-spaced f old now xs i past is =
+    is ∙ ap (λ (ys : List _). old ++ spaced (map f ys)) (take_all i xs past)

@@ -16,9 +16,16 @@ use Rattle.trace_text.specs.Faults.{IsTraceFault}
 use Rattle.trace_text.proofs.laws.Faults.{one-fault}
 use Rattle.trace_text.proofs.laws.Answers.{written-answer}
 use Rattle.trace_text.specs.Lines.{pieces_of}
-use Rattle.pct_top.specs.declared.refusal.Refusal.TheVariants.{Script, Trace}
+use Rattle.directive.specs.declared.directive.Directive.{Directive}
+use Rattle.directive.specs.declared.fault.DirectiveFault.{DirectiveFault}
+use Rattle.directive.specs.DirectiveText.{DirectiveText}
+use Rattle.directive.specs.Directive.{IsDirective}
+use Rattle.directive.specs.Faults.{IsDirectiveFault}
+use Rattle.directive.specs.Answers.{told as plain, TellsOne, FailsOnce}
+use Rattle.directive.proofs.Laws.{each-has-one}
+use Rattle.pct_top.specs.declared.refusal.Refusal.TheVariants.{Script, Trace, Directive as BadDirective}
 use Rattle.pct_top.specs.Ordered.{NamesAll, OrderFits}
-use Rattle.pct_top.specs.Printed.{Printed, refused, OfScript, OfOrder, OfTrace}
+use Rattle.pct_top.specs.Printed.{Printed, refused, OfScript, OfOrder, OfTrace, OfDirective}
 use Rattle.pct_top.proofs.Deals.{one_deal}
 
 given_or : {A : Type 0} → A → Option A → A
@@ -44,6 +51,13 @@ module _ (names : NameLists) (items : List (List ℕ)) (word : ℕ) (of : List �
   pub order_fits : (P : Printed → Type 0) → ((order : List ℕ) (p : Printed) → of order p → P p) → (p : Printed) → OrderFits names (Some items) → OfOrder names items word of p → P p
   order_fits P has p fits (inl a) = has a.0 p a.2
   order_fits P has p fits (inr a) = absurd (a.0 fits.0 fits.1)
+
+  -- where the names give this order, this is printed of it
+  pub named_order : (order : List ℕ) → NamesAll names items order → (p : Printed)
+      → OfOrder names items word of p → of order p
+  named_order order gives p (inl a) =
+      subst (λ (o : List ℕ). of o p) (some_same a.0 order (sym (a.1).named ∙ gives.named)) a.2
+  named_order order gives p (inr a) = absurd (a.0 order gives)
 
 -- ---- a trace
 
@@ -76,6 +90,62 @@ module _ (bytes : List ℕ) (names : NameLists) (are : AreNames names) where
     trace_fits P has p fits (inl a) = has a.0 p a.2
     trace_fits P has p fits (inr a) = absurd (traced_no_fault fits.0 a.0 a.1 fits.1 a.2)
 
+-- ---- a directive
+
+module _ (bytes : List ℕ) (names : NameLists) (are : AreNames names) where
+  one_plan : (a b : DirectiveText) → IsDirective bytes names a → IsDirective bytes names b → a ≡ b
+  one_plan a b is other = elim (each-has-one bytes names are) [
+    | inl one ↦ sym ((one.1).only a is) ∙ (one.1).only b other
+    | inr fault ↦ absurd ((fault.2).no_directive a is)
+  ]
+
+  directive_no_fault : (a : DirectiveText) (line : ℕ) (kind : DirectiveFault)
+      → IsDirective bytes names a → ¬ IsDirectiveFault bytes names line kind
+  directive_no_fault a line kind is bad = elim (each-has-one bytes names are) [
+    | inl one ↦ (one.1).faultless line kind bad
+    | inr fault ↦ (fault.2).no_directive a is
+  ]
+
+  one_directive_fault : (line other : ℕ) (kind more : DirectiveFault)
+      → IsDirectiveFault bytes names line kind → IsDirectiveFault bytes names other more
+      → (line ≡ other) × (kind ≡ more)
+  one_directive_fault line other kind more a b = elim (each-has-one bytes names are) [
+    | inl one ↦ absurd ((one.1).faultless line kind a)
+    | inr fault ↦
+        let first = (fault.2).only line kind a in
+        let second = (fault.2).only other more b in
+        (sym first.0 ∙ second.0, sym first.1 ∙ second.1)
+  ]
+
+  module _ (of : Directive → Printed → Type 0) where
+    pub one_of_directive :
+        ((a b : Directive) (p q : Printed) → plain a ≡ plain b → of a p → of b q → p ≡ q)
+        → (p q : Printed) → OfDirective bytes names of p → OfDirective bytes names of q → p ≡ q
+    one_of_directive one p q (inl a) (inl b) =
+        one a.0 b.0 p q (one_plan (plain a.0) (plain b.0) a.1 b.1) a.2 b.2
+    one_of_directive one p q (inl a) (inr b) = absurd (directive_no_fault (plain a.0) b.0 b.1 a.1 b.2)
+    one_of_directive one p q (inr a) (inl b) = absurd (directive_no_fault (plain b.0) a.0 a.1 b.1 a.2)
+    one_of_directive one p q (inr a) (inr b) =
+        let same = one_directive_fault a.0 b.0 a.1 b.1 a.2 b.2 in
+        a.3 ∙ ap (λ n. refused (BadDirective n a.1)) same.0
+        ∙ ap (λ (k : DirectiveFault). refused (BadDirective b.0 k)) same.1 ∙ sym b.3
+
+    -- a directive isn't refused
+    pub directive_fits : (P : Printed → Type 0)
+        → ((directive : Directive) (p : Printed) → of directive p → P p) → (p : Printed)
+        → (directive : Directive) × IsDirective bytes names (plain directive)
+        → OfDirective bytes names of p → P p
+    directive_fits P has p fits (inl a) = has a.0 p a.2
+    directive_fits P has p fits (inr a) =
+        absurd (directive_no_fault (plain fits.0) a.0 a.1 fits.1 a.2)
+
+    -- where the bytes are this directive, this is printed of it
+    pub named_directive : (plan : DirectiveText) → IsDirective bytes names plan → (p : Printed)
+        → OfDirective bytes names of p
+        → (directive : Directive) × (plain directive ≡ plan) × of directive p
+    named_directive plan is p (inl a) = (a.0, one_plan (plain a.0) plan a.1 is, a.2)
+    named_directive plan is p (inr a) = absurd (directive_no_fault plan a.0 a.1 is a.2)
+
 -- ---- a script
 
 module _ (bytes : List ℕ) (of : ScriptText → Deal → Printed → Type 0) where
@@ -101,3 +171,15 @@ module _ (bytes : List ℕ) (of : ScriptText → Deal → Printed → Type 0) wh
       let moved : T script = subst T same a.2 in
       has moved.0 p spells.names moved.2
   script_fits P script spells has p (inr a) = absurd (spelled_no_fault bytes script a.0 a.1 spells a.2)
+
+  -- where the bytes spell this script, this is printed of it and of what its threads share
+  pub named_script : (script : ScriptText) (deal : Deal) → Spells bytes script
+      → IsDealOf script deal → (p : Printed) → OfScript bytes of p → of script deal p
+  named_script script deal spells deals p (inl a) =
+      let same = one_script bytes a.0 script a.1 spells in
+      let T : ScriptText → Type 0 = λ s. (d : Deal) × IsDealOf s d × of s d p in
+      let moved : T script = subst T same a.2 in
+      let own = one_deal script moved.0 deal moved.1 deals in
+      subst (λ (d : Deal). of script d p) own moved.2
+  named_script script deal spells deals p (inr a) =
+      absurd (spelled_no_fault bytes script a.0 a.1 spells a.2)

@@ -6,7 +6,7 @@ use Rattle.pct_outside.specs.Piece.{Appended, AppendedPart}
 use Rattle.script_tree.specs.ScriptText.{ScriptText}
 use Rattle.script_tree.specs.Grammar.{Spells}
 use Rattle.pct_top.specs.declared.refusal.Refusal.{Refusal}
-use Rattle.pct_top.specs.declared.refusal.Refusal.TheVariants.{Usage, Script, Trace, Read, Write, Memory}
+use Rattle.pct_top.specs.declared.refusal.Refusal.TheVariants.{Usage, Script, Trace, Directive, Read, Write, Memory}
 use Rattle.pct_top.specs.declared.settings.Settings.{Settings}
 use Rattle.pct_top.specs.declared.status.Status.{Status}
 use Rattle.pct_top.specs.declared.status.Status.TheVariants as statuses
@@ -120,6 +120,8 @@ Answers taken shelf shelf' before after (Err (Script line kind)) =
     ShowsRefusal taken shelf.files before after (Script line kind)
 Answers taken shelf shelf' before after (Err (Trace line kind)) =
     ShowsRefusal taken shelf.files before after (Trace line kind)
+Answers taken shelf shelf' before after (Err (Directive line kind)) =
+    ShowsRefusal taken shelf.files before after (Directive line kind)
 Answers taken shelf shelf' before after (Err Read) =
     (after ≡ before) × ReadFailed taken shelf shelf'
 Answers taken shelf shelf' before after (Err Write) =
@@ -193,7 +195,7 @@ Ends words found left statuses.Found =
 Ends words found left statuses.Usage = Refuses words found left statuses.Usage
 Ends words found left statuses.BadScript = Refuses words found left statuses.BadScript
 Ends words found left statuses.BadTrace = Refuses words found left statuses.BadTrace
-Ends words found left statuses.BadDirective = ⊥
+Ends words found left statuses.BadDirective = Refuses words found left statuses.BadDirective
 Ends words found left statuses.ReadFault =
     (left.output ≡ found.output) × ReadFailed (settings words) found.shelf left.shelf
     × Says (refusal_line Read) found.errors left.errors

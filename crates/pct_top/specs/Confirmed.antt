@@ -1,5 +1,5 @@
 -- Replaying a written trace gives its verdict, said of the program: what `run` prints whole, `replay` confirms (this project).
-use Rattle.std.specs.Prelude.{◌≡◌, ℕ, true, List, [], ◌∷◌, Ok, Err, codes, take}
+use Rattle.std.specs.Prelude.{◌≡◌, ◌⊎◌, ℕ, true, false, List, [], ◌∷◌, Ok, Err, codes, take}
 use Rattle.pct_ask.specs.NameLists.{NameLists}
 use Rattle.pct_ask.specs.VerdictText.{named, verdict_words}
 use Rattle.pct_ask.specs.TraceText.{line_text}
@@ -9,10 +9,11 @@ use Rattle.script_tree.specs.Grammar.{Spells}
 use Rattle.trace_text.specs.declared.file.TraceFile.{TraceFile}
 use Rattle.trace_text.specs.Trace.{IsTrace}
 use Rattle.pct_top.specs.declared.settings.Report.TheVariants.{Trace}
-use Rattle.pct_top.specs.declared.settings.Settings.TheVariants.{RunOrder, RunSeed}
+use Rattle.pct_top.specs.declared.settings.Settings.TheVariants.{RunOrder, RunSeed, Expose}
 use Rattle.pct_top.specs.Settings.{Taken, settings}
 use Rattle.pct_top.specs.Printed.{Files, Printed, script_bytes, told}
 use Rattle.pct_top.specs.Output.{Output}
+use Rattle.pct_top.specs.commands.Expose.{long_text}
 use Rattle.pct_top.specs.Call.{IsAnswer}
 
 -- the words ask for the trace of a run of the script in this file
@@ -40,11 +41,33 @@ IsConfirmed files file text script verdict =
     (later : Files) (trace : List ℕ) → later file ≡ files file → later trace ≡ text
     → Output (replay_of file trace) later (confirmed script.names verdict)
 
--- For all words and files: what `run` may print, unless it is a refusal, is a whole trace of the script with one verdict, and
--- its replay over the script is confirmed with it.
+-- The text is a whole trace of the script in this file with one verdict, and its replay over the
+-- script is confirmed with it.
+abbrev pub IsConfirmedTrace : Files → List ℕ → List ℕ → Type 0
+IsConfirmedTrace files file text =
+    (script : ScriptText) × (verdict : Verdict) × Spells (take script_bytes (files file)) script
+    × TellsVerdict text script verdict × IsConfirmed files file text script verdict
+
+-- For all words and files: what `run` may print, unless it is a refusal, is such a trace.
 abbrev pub RunsAreConfirmed : Type 0
 RunsAreConfirmed =
     (words : List (List ℕ)) (files : Files) (printed : Printed) (file : List ℕ)
     → RunsFile (settings words) file → Output words files printed → IsAnswer printed.status
-    → (script : ScriptText) × (verdict : Verdict) × Spells (take script_bytes (files file)) script
-    × TellsVerdict printed.out script verdict × IsConfirmed files file printed.out script verdict
+    → IsConfirmedTrace files file printed.out
+
+-- the words ask for what a directive exposes in the script in this file
+abbrev pub ExposesFile : Taken → List ℕ → Type 0
+ExposesFile (Ok (Expose file directive order word steps limit)) name = name ≡ file
+ExposesFile taken name = ⊥
+
+-- the run has more steps than there may be
+abbrev pub TellsLong : Printed → Type 0
+TellsLong printed = (many : ℕ) × (printed ≡ told (long_text many) false)
+
+-- And so is what `expose` may print, unless it is a refusal or the run has more steps than there
+-- may be.
+abbrev pub ExposedAreConfirmed : Type 0
+ExposedAreConfirmed =
+    (words : List (List ℕ)) (files : Files) (printed : Printed) (file : List ℕ)
+    → ExposesFile (settings words) file → Output words files printed → IsAnswer printed.status
+    → TellsLong printed ⊎ IsConfirmedTrace files file printed.out

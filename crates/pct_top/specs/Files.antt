@@ -8,10 +8,14 @@ use Rattle.script_tree.specs.Faults.{IsFault}
 use Rattle.trace_text.specs.declared.file.TraceFile.{TraceFile}
 use Rattle.trace_text.specs.Trace.{IsTrace}
 use Rattle.trace_text.specs.Faults.{IsTraceFault}
+use Rattle.directive.specs.declared.directive.Directive.{Directive}
+use Rattle.directive.specs.Directive.{IsDirective}
+use Rattle.directive.specs.Faults.{IsDirectiveFault}
+use Rattle.directive.specs.Answers.{told as plain}
 use Rattle.pct_top.specs.declared.refusal.Refusal.{Refusal}
-use Rattle.pct_top.specs.declared.refusal.Refusal.TheVariants.{Script, Trace, Read, Memory}
+use Rattle.pct_top.specs.declared.refusal.Refusal.TheVariants.{Script, Trace, Directive as BadDirective, Read, Memory}
 use Rattle.pct_top.specs.declared.test.Test.{Test}
-use Rattle.pct_top.specs.Printed.{Files, script_bytes, trace_bytes}
+use Rattle.pct_top.specs.Printed.{Files, script_bytes, trace_bytes, directive_bytes}
 
 -- where the files are told, this text of them has that
 abbrev pub HasText : Option Files → (Files → List ℕ) → (List ℕ → Type 0) → Type 0
@@ -60,3 +64,21 @@ GivesTrace told file names missed (Err (Trace line kind)) =
 GivesTrace told file names missed (Err Read) = missed
 GivesTrace told file names missed (Err Memory) = Unit {0}
 GivesTrace told file names missed (Err refusal) = ⊥
+
+-- Some bytes are the directive: those of the file, where the files are told.
+abbrev pub HasDirective : Option Files → List ℕ → NameLists → Directive → Type 0
+HasDirective told file names directive =
+    ((bytes : List ℕ) × IsDirective bytes names (plain directive))
+    × HasText told (λ files. take directive_bytes (files file))
+    (λ bytes. IsDirective bytes names (plain directive))
+
+-- the directive of the file, or its fault, or the read failed
+abbrev pub GivesDirective :
+    Option Files → List ℕ → NameLists → Type 0 → Result Directive Refusal → Type 0
+GivesDirective told file names missed (Ok directive) = HasDirective told file names directive
+GivesDirective told file names missed (Err (BadDirective line kind)) =
+    HasText told (λ files. take directive_bytes (files file))
+    (λ bytes. IsDirectiveFault bytes names line kind)
+GivesDirective told file names missed (Err Read) = missed
+GivesDirective told file names missed (Err Memory) = Unit {0}
+GivesDirective told file names missed (Err refusal) = ⊥

@@ -18,3 +18,5 @@ pub mod Outcome
 pub mod Files
 pub mod Call
 pub mod Confirmed
+pub mod Counted
+pub mod TakenUp

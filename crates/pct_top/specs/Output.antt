@@ -1,20 +1,26 @@
 -- What a call of the program writes, and how it ends (this project).
 use Rattle.std.specs.Prelude.{◌≡◌, ℕ, List, take, Option, Some, None, Ok, Err}
 use Rattle.pct_ask.specs.declared.Deal.{Deal}
+use Rattle.pct_ask.specs.NameLists.{NameLists}
 use Rattle.script_tree.specs.ScriptText.{ScriptText}
 use Rattle.script_tree.specs.Layout.{layout}
 use Rattle.large_script.specs.Large.{large_script}
 use Rattle.trace_text.specs.declared.file.TraceFile.{TraceFile}
 use Rattle.trace_text.specs.Trace.{IsTrace}
+use Rattle.directive.specs.declared.directive.Directive.{Directive}
+use Rattle.directive.specs.Directive.{IsDirective}
+use Rattle.directive.specs.Answers.{told as plain}
 use Rattle.pct_top.specs.declared.refusal.Refusal.TheVariants.{Usage}
 use Rattle.pct_top.specs.declared.settings.Settings.{Settings}
-use Rattle.pct_top.specs.declared.settings.Settings.TheVariants.{RunOrder, RunSeed, Campaign, Big, Replay}
+use Rattle.pct_top.specs.declared.settings.Settings.TheVariants.{RunOrder, RunSeed, Campaign, Big, Replay, Expose, Certify}
 use Rattle.pct_top.specs.Settings.{Taken, settings}
-use Rattle.pct_top.specs.Printed.{Files, Printed, refused, script_bytes, trace_bytes, OfScript}
+use Rattle.pct_top.specs.Printed.{Files, Printed, refused, script_bytes, trace_bytes, directive_bytes, OfScript}
 use Rattle.pct_top.specs.Reports.{OfOrdered, OfSeed}
 use Rattle.pct_top.specs.commands.Campaign.{OfCampaign}
 use Rattle.pct_top.specs.commands.Big.{OfBig}
 use Rattle.pct_top.specs.commands.Replay.{OfReplay}
+use Rattle.pct_top.specs.commands.Expose.{OfExpose}
+use Rattle.pct_top.specs.commands.Certify.{OfCertify}
 
 -- ---- the commands: what each reads and prints
 
@@ -25,6 +31,8 @@ script_file (RunSeed file seed depth steps limit report) = Some file
 script_file (Campaign file first count depth steps limit json) = Some file
 script_file (Big pieces) = None
 script_file (Replay file trace) = Some file
+script_file (Expose file directive order word steps limit) = Some file
+script_file (Certify file directive steps limit) = Some file
 
 -- the text of the command's script
 abbrev pub script_text : Settings → Files → List ℕ
@@ -34,6 +42,9 @@ script_text (Campaign file first count depth steps limit json) files =
     take script_bytes (files file)
 script_text (Big pieces) files = layout (large_script pieces)
 script_text (Replay file trace) files = take script_bytes (files file)
+script_text (Expose file directive order word steps limit) files =
+    take script_bytes (files file)
+script_text (Certify file directive steps limit) files = take script_bytes (files file)
 
 -- the names of an order, where the words give one
 abbrev pub order_given : Settings → Option (List (List ℕ))
@@ -42,6 +53,8 @@ order_given (RunSeed file seed depth steps limit report) = None
 order_given (Campaign file first count depth steps limit json) = None
 order_given (Big pieces) = None
 order_given (Replay file trace) = None
+order_given (Expose file directive order word steps limit) = Some order
+order_given (Certify file directive steps limit) = None
 
 -- the second file
 abbrev pub second_file : Settings → Option (List ℕ)
@@ -50,6 +63,13 @@ second_file (RunSeed file seed depth steps limit report) = None
 second_file (Campaign file first count depth steps limit json) = None
 second_file (Big pieces) = None
 second_file (Replay file trace) = Some trace
+second_file (Expose file directive order word steps limit) = Some directive
+second_file (Certify file directive steps limit) = Some directive
+
+-- the file is a directive's under these names
+abbrev pub FitsDirective : Files → List ℕ → NameLists → Type 0
+FitsDirective files file names =
+    (directive : Directive) × IsDirective (take directive_bytes (files file)) names (plain directive)
 
 -- the second file is in its grammar
 abbrev pub SecondFits : Settings → Files → ScriptText → Type 0
@@ -59,6 +79,10 @@ SecondFits (Campaign file first count depth steps limit json) files script = Uni
 SecondFits (Big pieces) files script = Unit {0}
 SecondFits (Replay file trace) files script =
     (told : TraceFile) × IsTrace (take trace_bytes (files trace)) script.names told
+SecondFits (Expose file directive order word steps limit) files script =
+    FitsDirective files directive script.names
+SecondFits (Certify file directive steps limit) files script =
+    FitsDirective files directive script.names
 
 -- what is printed of the script
 abbrev pub OfCommand : Settings → Files → ScriptText → Deal → Printed → Type 0
@@ -69,6 +93,10 @@ OfCommand (Campaign file first count depth steps limit json) files =
     OfCampaign first count depth steps limit json
 OfCommand (Big pieces) files = OfBig pieces
 OfCommand (Replay file trace) files = OfReplay (take trace_bytes (files trace))
+OfCommand (Expose file directive order word steps limit) files =
+    OfExpose (take directive_bytes (files directive)) order word steps limit
+OfCommand (Certify file directive steps limit) files =
+    OfCertify (take directive_bytes (files directive)) steps limit
 
 -- ---- the call
 

@@ -12,8 +12,13 @@ use Rattle.trace_text.specs.declared.file.TraceFile.{TraceFile}
 use Rattle.trace_text.specs.declared.fault.TraceFault.{TraceFault}
 use Rattle.trace_text.specs.Trace.{IsTrace}
 use Rattle.trace_text.specs.Faults.{IsTraceFault}
+use Rattle.directive.specs.declared.directive.Directive.{Directive}
+use Rattle.directive.specs.declared.fault.DirectiveFault.{DirectiveFault}
+use Rattle.directive.specs.Directive.{IsDirective}
+use Rattle.directive.specs.Faults.{IsDirectiveFault}
+use Rattle.directive.specs.Answers.{told as plain}
 use Rattle.pct_top.specs.declared.refusal.Refusal.{Refusal}
-use Rattle.pct_top.specs.declared.refusal.Refusal.TheVariants.{Usage, Script, Trace}
+use Rattle.pct_top.specs.declared.refusal.Refusal.TheVariants.{Usage, Script, Trace, Directive as BadDirective}
 use Rattle.pct_top.specs.declared.status.Status.{Status}
 use Rattle.pct_top.specs.declared.status.Status.TheVariants.{Done, Found}
 use Rattle.pct_top.specs.Refusing.{status_of_refusal, refusal_line}
@@ -38,12 +43,15 @@ refused refusal =
 abbrev pub told : List ℕ → Bool → Printed
 told text done = record { out = text; status = if done then Done else Found; err = [] }
 
--- as many bytes of a script and of a trace as are read
+-- as many bytes of a script, of a trace and of a directive as are read
 abbrev pub script_bytes : ℕ
 script_bytes = 1048577
 
 abbrev pub trace_bytes : ℕ
 trace_bytes = 16777217
+
+abbrev pub directive_bytes : ℕ
+directive_bytes = 65537
 
 -- The bytes spell a script, of which, with what its threads share, this is printed; or they have a fault.
 abbrev pub OfScript : List ℕ → (ScriptText → Deal → Printed → Type 0) → Printed → Type 0
@@ -66,3 +74,10 @@ OfTrace bytes names of printed =
     ((file : TraceFile) × IsTrace bytes names file × of file printed)
     ⊎ ((line : ℕ) × (kind : TraceFault) × IsTraceFault bytes names line kind
     × (printed ≡ refused (Trace line kind)))
+
+-- The bytes are a directive under these names, of which this is printed; or they have a fault.
+abbrev pub OfDirective : List ℕ → NameLists → (Directive → Printed → Type 0) → Printed → Type 0
+OfDirective bytes names of printed =
+    ((directive : Directive) × IsDirective bytes names (plain directive) × of directive printed)
+    ⊎ ((line : ℕ) × (kind : DirectiveFault) × IsDirectiveFault bytes names line kind
+    × (printed ≡ refused (BadDirective line kind)))

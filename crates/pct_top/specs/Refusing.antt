@@ -12,10 +12,14 @@ use Rattle.trace_text.specs.declared.fault.TraceFault.{TraceFault}
 use Rattle.trace_text.specs.declared.fault.TraceFault.TheVariants as trace_faults
 use Rattle.trace_text.specs.declared.fault.TraceError.{TraceError}
 use Rattle.trace_text.specs.declared.fault.TraceError.TheVariants as traces
+use Rattle.directive.specs.declared.fault.DirectiveFault.{DirectiveFault}
+use Rattle.directive.specs.declared.fault.DirectiveFault.TheVariants as directive_faults
+use Rattle.directive.specs.declared.fault.DirectiveError.{DirectiveError}
+use Rattle.directive.specs.declared.fault.DirectiveError.TheVariants as directives
 use Rattle.pct_top.specs.declared.settings.WordsError.{WordsError}
 use Rattle.pct_top.specs.declared.settings.WordsError.TheVariants as words
 use Rattle.pct_top.specs.declared.refusal.Refusal.{Refusal}
-use Rattle.pct_top.specs.declared.refusal.Refusal.TheVariants.{Usage, Script, Trace, Read, Write, Memory}
+use Rattle.pct_top.specs.declared.refusal.Refusal.TheVariants.{Usage, Script, Trace, Directive, Read, Write, Memory}
 use Rattle.pct_top.specs.declared.status.Status.{Status}
 use Rattle.pct_top.specs.declared.status.Status.TheVariants as statuses
 
@@ -31,6 +35,10 @@ abbrev pub IsOfTrace : TraceError → Refusal → Type 0
 IsOfTrace (traces.Bad line kind) refusal = refusal ≡ Trace line kind
 IsOfTrace traces.NoMemory refusal = refusal ≡ Memory
 
+abbrev pub IsOfDirective : DirectiveError → Refusal → Type 0
+IsOfDirective (directives.Bad line kind) refusal = refusal ≡ Directive line kind
+IsOfDirective directives.NoMemory refusal = refusal ≡ Memory
+
 abbrev pub IsOfShelf : ShelfError → Refusal → Type 0
 IsOfShelf shelves.Failed refusal = refusal ≡ Read
 IsOfShelf shelves.NoMemory refusal = refusal ≡ Memory
@@ -43,6 +51,7 @@ abbrev pub status_of_refusal : Refusal → Status
 status_of_refusal (Usage word) = statuses.Usage
 status_of_refusal (Script line kind) = statuses.BadScript
 status_of_refusal (Trace line kind) = statuses.BadTrace
+status_of_refusal (Directive line kind) = statuses.BadDirective
 status_of_refusal Read = statuses.ReadFault
 status_of_refusal Write = statuses.WriteFault
 status_of_refusal Memory = statuses.NoMemory
@@ -71,6 +80,14 @@ trace_fault_name trace_faults.OutOfOrder = codes "OutOfOrder"
 trace_fault_name trace_faults.NoVerdict = codes "NoVerdict"
 trace_fault_name trace_faults.MoreAfterVerdict = codes "MoreAfterVerdict"
 
+abbrev pub directive_fault_name : DirectiveFault → List ℕ
+directive_fault_name directive_faults.TooLong = codes "TooLong"
+directive_fault_name directive_faults.BadHeader = codes "BadHeader"
+directive_fault_name directive_faults.BadLine = codes "BadLine"
+directive_fault_name directive_faults.UnknownName = codes "UnknownName"
+directive_fault_name directive_faults.NoVerdict = codes "NoVerdict"
+directive_fault_name directive_faults.MoreAfterVerdict = codes "MoreAfterVerdict"
+
 -- the line on the error stream, with its LF (this project)
 abbrev pub refusal_line : Refusal → List ℕ
 refusal_line (Usage word) = codes "usage: word " ++ decimal word ++ 10 ∷ []
@@ -78,6 +95,8 @@ refusal_line (Script line kind) =
     codes "script: line " ++ decimal line ++ 32 ∷ script_fault_name kind ++ 10 ∷ []
 refusal_line (Trace line kind) =
     codes "trace: line " ++ decimal line ++ 32 ∷ trace_fault_name kind ++ 10 ∷ []
+refusal_line (Directive line kind) =
+    codes "directive: line " ++ decimal line ++ 32 ∷ directive_fault_name kind ++ 10 ∷ []
 refusal_line Read = codes "read fault\n"
 refusal_line Write = codes "write fault\n"
 refusal_line Memory = codes "no memory\n"

@@ -45,10 +45,10 @@ abbrev pub traced : ScriptText → List ℕ → List ℕ → ℕ → Run → Lis
 traced script order points limit ended =
     trace_text (head_of script order points limit) script.names ended.0 ended.1
 
--- The trace of a run is printed. It is done where the run passes.
-abbrev pub told_trace : ScriptText → List ℕ → List ℕ → ℕ → Run → Printed
-told_trace script order points limit ended =
-    told (traced script order points limit ended) (is_passed ended.1)
+-- The trace of a run is printed, and it is done or something is found.
+abbrev pub told_trace : ScriptText → List ℕ → List ℕ → ℕ → Run → Bool → Printed
+told_trace script order points limit ended done =
+    told (traced script order points limit ended) done
 
 -- the run as a trace file tells it
 abbrev pub file_of : ScriptText → List ℕ → List ℕ → ℕ → Run → TraceFile
@@ -60,8 +60,8 @@ file_of script order points limit ended = record {
 
 -- The trace of a run is printed, and it is one by the grammar of trace files.
 pub record TellsRun (script : ScriptText) (order points : List ℕ) (limit : ℕ) (ended : Run)
-    (printed : Printed) : Type 0 where
-  pub is : printed ≡ told_trace script order points limit ended
+    (done : Bool) (printed : Printed) : Type 0 where
+  pub is : printed ≡ told_trace script order points limit ended done
   pub whole :
       IsTrace (traced script order points limit ended) script.names
       (file_of script order points limit ended)

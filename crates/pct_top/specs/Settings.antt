@@ -8,7 +8,7 @@ use Rattle.pct_top.specs.declared.options.Options.{Options}
 use Rattle.pct_top.specs.declared.options.NamedOrder.{NamedOrder}
 use Rattle.pct_top.specs.declared.settings.Report.{Report}
 use Rattle.pct_top.specs.declared.settings.Settings.{Settings}
-use Rattle.pct_top.specs.declared.settings.Settings.TheVariants.{RunOrder, RunSeed, Campaign, Big, Replay}
+use Rattle.pct_top.specs.declared.settings.Settings.TheVariants.{RunOrder, RunSeed, Campaign, Big, Replay, Expose, Certify}
 use Rattle.pct_top.specs.declared.settings.WordsError.{WordsError}
 use Rattle.pct_top.specs.declared.settings.WordsError.TheVariants.{Word, NoMemory}
 use Rattle.pct_top.specs.Table.{command_named}
@@ -105,6 +105,36 @@ replay_settings (file ∷ []) = Err 3
 replay_settings (file ∷ trace ∷ words) =
     made_of (replay_with file trace) (length words + 4) (options_from commands.Replay none 4 words)
 
+-- ---- a directive
+
+abbrev pub expose_by : List ℕ → List ℕ → Options → NamedOrder → ℕ → Settings
+expose_by file directive o order steps =
+    Expose file directive order.items order.word steps (limit_of o)
+
+-- an order and a number of steps are asked for
+abbrev pub expose_with : List ℕ → List ℕ → Options → Option Settings
+expose_with file directive o =
+    option_and_then (λ order. option_map (expose_by file directive o order) o.steps) o.order
+
+abbrev pub expose_settings : List (List ℕ) → Taken
+expose_settings [] = Err 2
+expose_settings (file ∷ []) = Err 3
+expose_settings (file ∷ directive ∷ words) =
+    made_of (expose_with file directive) (length words + 4)
+    (options_from commands.Expose none 4 words)
+
+-- a number of steps is asked for
+abbrev pub certify_with : List ℕ → List ℕ → Options → Option Settings
+certify_with file directive o =
+    option_map (λ steps. Certify file directive steps (limit_of o)) o.steps
+
+abbrev pub certify_settings : List (List ℕ) → Taken
+certify_settings [] = Err 2
+certify_settings (file ∷ []) = Err 3
+certify_settings (file ∷ directive ∷ words) =
+    made_of (certify_with file directive) (length words + 4)
+    (options_from commands.Certify none 4 words)
+
 -- ---- all words
 
 -- after a command's word
@@ -113,6 +143,8 @@ settings_of (commands.Run report) words = run_settings report words
 settings_of commands.Campaign words = campaign_settings words
 settings_of commands.Big words = big_settings words
 settings_of commands.Replay words = replay_settings words
+settings_of commands.Expose words = expose_settings words
+settings_of commands.Certify words = certify_settings words
 
 abbrev pub settings_by : Option Command → List (List ℕ) → Taken
 settings_by None words = Err 1
@@ -145,3 +177,5 @@ AreLawful (Campaign file first count depth steps limit json) =
     IsStepCount count × IsDepth depth × IfSome steps IsStepCount × IsStepCount limit
 AreLawful (Big pieces) = (1 ≤ pieces) × (pieces ≤ 100)
 AreLawful (Replay file trace) = Unit {0}
+AreLawful (Expose file directive order word steps limit) = IsStepCount steps × IsStepCount limit
+AreLawful (Certify file directive steps limit) = IsStepCount steps × IsStepCount limit

@@ -2,7 +2,7 @@
 use Rattle.std.specs.Prelude.{ℕ, ◌||◌, not, Bool, true, false, if◌then◌else◌, List, Option, Some, None, is_some, codes}
 use Rattle.std.specs.Str.{bytes_eq}
 use Rattle.pct_top.specs.declared.command.Command.{Command}
-use Rattle.pct_top.specs.declared.command.Command.TheVariants.{Run, Campaign, Big, Replay}
+use Rattle.pct_top.specs.declared.command.Command.TheVariants.{Run, Campaign, Big, Replay, Expose, Certify}
 use Rattle.pct_top.specs.declared.options.OptionName.{OptionName}
 use Rattle.pct_top.specs.declared.options.OptionName.TheVariants.{Order, Points, Limit, Seed, Depth, Steps, From, Count, Form}
 use Rattle.pct_top.specs.declared.options.Options.{Options}
@@ -17,7 +17,9 @@ command_named word =
     else (if bytes_eq word (codes "find") then Some (Run Find)
     else (if bytes_eq word (codes "campaign") then Some Campaign
     else (if bytes_eq word (codes "big") then Some Big
-    else (if bytes_eq word (codes "replay") then Some Replay else None))))))
+    else (if bytes_eq word (codes "replay") then Some Replay
+    else (if bytes_eq word (codes "expose") then Some Expose
+    else (if bytes_eq word (codes "certify") then Some Certify else None))))))))
 
 -- ---- the options of a run, in its two forms
 
@@ -53,6 +55,30 @@ campaign_takes Order = false
 campaign_takes Points = false
 campaign_takes Seed = false
 
+-- the option belongs to the exposing of a directive
+abbrev pub expose_takes : OptionName → Bool
+expose_takes Order = true
+expose_takes Steps = true
+expose_takes Limit = true
+expose_takes Points = false
+expose_takes Seed = false
+expose_takes Depth = false
+expose_takes From = false
+expose_takes Count = false
+expose_takes Form = false
+
+-- the option belongs to the certifying of a directive
+abbrev pub certify_takes : OptionName → Bool
+certify_takes Steps = true
+certify_takes Limit = true
+certify_takes Order = false
+certify_takes Points = false
+certify_takes Seed = false
+certify_takes Depth = false
+certify_takes From = false
+certify_takes Count = false
+certify_takes Form = false
+
 -- ---- all commands
 
 -- the command takes the option, beside those that were given
@@ -61,3 +87,5 @@ takes (Run report) o name = run_takes o name
 takes Campaign o name = campaign_takes name
 takes Big o name = false
 takes Replay o name = false
+takes Expose o name = expose_takes name
+takes Certify o name = certify_takes name

@@ -8,3 +8,6 @@ pub mod Big
 pub mod KnownFinding
 pub mod Replay
 pub mod KnownReply
+pub mod Expose
+pub mod Certify
+pub mod KnownCertificate

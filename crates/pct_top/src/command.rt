@@ -14,6 +14,8 @@ pub enum Command {
     Campaign,
     Big,
     Replay,
+    Expose,
+    Certify,
 }
 
 impl Command {
@@ -29,6 +31,8 @@ impl Command {
             "campaign" => Some(Command::Campaign),
             "big" => Some(Command::Big),
             "replay" => Some(Command::Replay),
+            "expose" => Some(Command::Expose),
+            "certify" => Some(Command::Certify),
             _ => None,
         }
     }
@@ -40,6 +44,8 @@ impl Command {
         match self {
             Command::Run(_) => run_takes(given, name),
             Command::Campaign => campaign_takes(name),
+            Command::Expose => expose_takes(name),
+            Command::Certify => certify_takes(name),
             Command::Big | Command::Replay => false,
         }
     }
@@ -83,5 +89,36 @@ fn campaign_takes(name: OptionName) -> bool
         | OptionName::Limit
         | OptionName::Form => true,
         OptionName::Order | OptionName::Points | OptionName::Seed => false,
+    }
+}
+
+/// Whether the option belongs to the exposing of a directive.
+fn expose_takes(name: OptionName) -> bool
+    ensures { result ≡ table.expose_takes name }
+{
+    match name {
+        OptionName::Order | OptionName::Steps | OptionName::Limit => true,
+        OptionName::Points
+        | OptionName::Seed
+        | OptionName::Depth
+        | OptionName::From
+        | OptionName::Count
+        | OptionName::Form => false,
+    }
+}
+
+/// Whether the option belongs to the certifying of a directive.
+fn certify_takes(name: OptionName) -> bool
+    ensures { result ≡ table.certify_takes name }
+{
+    match name {
+        OptionName::Steps | OptionName::Limit => true,
+        OptionName::Order
+        | OptionName::Points
+        | OptionName::Seed
+        | OptionName::Depth
+        | OptionName::From
+        | OptionName::Count
+        | OptionName::Form => false,
     }
 }

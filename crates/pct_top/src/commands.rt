@@ -1,6 +1,8 @@
 //! The commands, each in a module of its own.
 
 pub mod big;
+pub mod certify;
+pub mod expose;
 pub mod find;
 pub mod locks;
 pub mod races;

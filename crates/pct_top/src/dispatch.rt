@@ -9,7 +9,7 @@ ghost use Rattle.pct_top.specs.Outcome.{Comes};
 ghost use Rattle.pct_top.specs.Files.{GivesTest, KeepsNames, Misses};
 ghost use Rattle.pct_top.specs.Call.{MissesSecond, ReadFailed};
 
-use crate::commands::{big, replay, seeds};
+use crate::commands::{big, certify, expose, replay, seeds};
 use crate::files::{large_test, read_test};
 use crate::outcome::Outcome;
 use crate::refusal::Refusal;
@@ -36,6 +36,8 @@ fn test_of<H: Shelf>(alloc: Global, settings: &Settings, shelf: &mut H) -> Resul
         Settings::Campaign { file, .. } => read_test(alloc, file.as_str(), shelf),
         Settings::Big { pieces } => large_test(alloc, *pieces),
         Settings::Replay { file, .. } => read_test(alloc, file.as_str(), shelf),
+        Settings::Expose { file, .. } => read_test(alloc, file.as_str(), shelf),
+        Settings::Certify { file, .. } => read_test(alloc, file.as_str(), shelf),
     }
 }
 
@@ -88,6 +90,28 @@ fn command_outcome<R: Threads + Wait + Sync, H: Shelf, G: Gate>(
         Settings::Big { pieces } => Ok(big::big_of(rt, alloc, test, *pieces, gate)?),
         Settings::Replay { trace, .. } => {
             replay::reply_to_file(rt, alloc, test, trace.as_str(), shelf, gate)
+        }
+        Settings::Expose {
+            directive,
+            order,
+            word,
+            steps,
+            limit,
+            ..
+        } => {
+            let directive = directive.as_str();
+            expose::expose_file(
+                rt, alloc, test, directive, order, *word, *steps, *limit, shelf, gate,
+            )
+        }
+        Settings::Certify {
+            directive,
+            steps,
+            limit,
+            ..
+        } => {
+            let directive = directive.as_str();
+            certify::certify_file(rt, alloc, test, directive, *steps, *limit, shelf, gate)
         }
     }
 }

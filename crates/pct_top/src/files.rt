@@ -5,10 +5,11 @@ ghost use Rattle.script_tree.specs.Layout.{layout};
 ghost use Rattle.large_script.specs.Large.{large_script};
 ghost use Rattle.pct_top.specs.Ready.{IsReady};
 ghost use Rattle.pct_top.specs.Printed.{script_bytes};
-ghost use Rattle.pct_top.specs.Files.{GivesTest, GivesText, GivesTrace, KeepsNames, Misses};
+ghost use Rattle.pct_top.specs.Files.{GivesTest, GivesText, GivesTrace, GivesDirective, KeepsNames, Misses};
 
 use crate::refusal::Refusal;
 use crate::test::Test;
+use directive::{Directive, read_directive};
 use large_script::print_large;
 use pct_ask::Names;
 use pct_outside::Shelf;
@@ -21,6 +22,9 @@ const SCRIPT_BYTES: u64 = 1_048_577;
 
 /// One byte more than a trace may have.
 const TRACE_BYTES: u64 = 16_777_217;
+
+/// One byte more than a directive may have.
+const DIRECTIVE_BYTES: u64 = 65_537;
 
 /// The script of a file, ready to be run.
 pub fn read_test<H: Shelf>(alloc: Global, file: &str, shelf: &mut H) -> Result<Test, Refusal>
@@ -58,4 +62,18 @@ pub fn read_told<H: Shelf>(
 {
     let bytes = shelf.read_up_to(file, TRACE_BYTES)?;
     Ok(read_trace(alloc, &bytes, names)?)
+}
+
+/// The directive of a file.
+pub fn read_directed<H: Shelf>(
+    alloc: Global,
+    file: &str,
+    names: &Names,
+    shelf: &mut H,
+) -> Result<Directive, Refusal>
+    ensures { GivesDirective (H.files shelf.old) file.now names.now
+        (Misses (Some file.now) (H.failed shelf.old) (H.failed shelf.new)) result }
+{
+    let bytes = shelf.read_up_to(file, DIRECTIVE_BYTES)?;
+    Ok(read_directive(alloc, &bytes, names)?)
 }

@@ -24,7 +24,9 @@ mod traces;
 mod values;
 mod words;
 
-pub use confirmed::runs_are_confirmed;
+pub use confirmed::{
+    certified_are_counted, exposed_are_confirmed, found_are_taken_up, runs_are_confirmed,
+};
 pub use printing::say;
 pub use refusal::Refusal;
 pub use settings::{Report, Settings, WordsError};

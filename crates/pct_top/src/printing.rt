@@ -10,6 +10,7 @@ ghost use Rattle.pct_outside.specs.Piece.{Appended, AppendedPart};
 
 use crate::refusal::Refusal;
 use arrayvec::ArrayString;
+use directive::DirectiveFault;
 use itoa::Buffer;
 use pct_outside::{Sink, SinkError};
 use script_parse::ScriptFault;
@@ -105,6 +106,20 @@ fn trace_fault_name(kind: TraceFault) -> &'static str
     }
 }
 
+fn directive_fault_name(kind: DirectiveFault) -> &'static str
+    ensures name { result.now ≡ refusing.directive_fault_name kind }
+    ensures short { length result.now ≤ 20 }
+{
+    match kind {
+        DirectiveFault::TooLong => "TooLong",
+        DirectiveFault::BadHeader => "BadHeader",
+        DirectiveFault::BadLine => "BadLine",
+        DirectiveFault::UnknownName => "UnknownName",
+        DirectiveFault::NoVerdict => "NoVerdict",
+        DirectiveFault::MoreAfterVerdict => "MoreAfterVerdict",
+    }
+}
+
 /// Which line of a file is faulty, and how.
 fn fault_line(file: &str, number: u32, name: &str) -> Line
     requires file { length file.now ≤ 20 }
@@ -139,6 +154,9 @@ fn line_of(refusal: &Refusal) -> Line
         Refusal::Usage { word } => usage_line(*word),
         Refusal::Script { line, kind } => fault_line("script", *line, script_fault_name(*kind)),
         Refusal::Trace { line, kind } => fault_line("trace", *line, trace_fault_name(*kind)),
+        Refusal::Directive { line, kind } => {
+            fault_line("directive", *line, directive_fault_name(*kind))
+        }
         Refusal::Read => plain_line("read fault\n"),
         Refusal::Write => plain_line("write fault\n"),
         Refusal::Memory => plain_line("no memory\n"),

@@ -1,11 +1,12 @@
 //! Why a call gives no output.
 
 ghost use Rattle.std.specs.Prelude.{◌≡◌};
-ghost use Rattle.pct_top.specs.Refusing.{IsOfScript, IsOfTrace, IsOfShelf, IsOfSink, IsOfWords};
+ghost use Rattle.pct_top.specs.Refusing.{IsOfScript, IsOfTrace, IsOfDirective, IsOfShelf, IsOfSink, IsOfWords};
 ghost use Rattle.pct_top.specs.declared.refusal.Refusal.TheVariants as refusals;
 
 use crate::settings::WordsError;
 use crate::status::Status;
+use directive::{DirectiveError, DirectiveFault};
 use pct_outside::{ShelfError, SinkError};
 use script_parse::{ScriptError, ScriptFault};
 use std::alloc::AllocError;
@@ -20,6 +21,8 @@ pub enum Refusal {
     Script { line: u32, kind: ScriptFault },
     /// The first line of the trace that is faulty, from 1, and its fault.
     Trace { line: u32, kind: TraceFault },
+    /// The first line of the directive that is faulty, from 1, and its fault.
+    Directive { line: u32, kind: DirectiveFault },
     Read,
     Write,
     Memory,
@@ -66,6 +69,17 @@ impl From<TraceError> for Refusal {
     }
 }
 
+impl From<DirectiveError> for Refusal {
+    ghost from_gives = { IsOfDirective };
+
+    fn from(error: DirectiveError) -> Refusal {
+        match error {
+            DirectiveError::Bad { line, kind } => Refusal::Directive { line, kind },
+            DirectiveError::NoMemory => Refusal::Memory,
+        }
+    }
+}
+
 impl From<ShelfError> for Refusal {
     ghost from_gives = { IsOfShelf };
 
@@ -98,6 +112,7 @@ impl Refusal {
             Refusal::Usage { .. } => Status::Usage,
             Refusal::Script { .. } => Status::BadScript,
             Refusal::Trace { .. } => Status::BadTrace,
+            Refusal::Directive { .. } => Status::BadDirective,
             Refusal::Read => Status::ReadFault,
             Refusal::Write => Status::WriteFault,
             Refusal::Memory => Status::NoMemory,

@@ -64,6 +64,23 @@ pub enum Settings {
         file: Text,
         trace: Text,
     },
+    /// The run of a script that a directive exposes under an order of its threads, which stands in the word of this
+    /// number. It has at most `limit` steps, and points stand for the directive's moments where it has at most `steps`.
+    Expose {
+        file: Text,
+        directive: Text,
+        order: TextList,
+        word: u32,
+        steps: u32,
+        limit: u32,
+    },
+    /// The certificate of a directive over a script, for runs of at most `steps` steps.
+    Certify {
+        file: Text,
+        directive: Text,
+        steps: u32,
+        limit: u32,
+    },
 }
 
 #[derive(Debug, Drop, Error)]

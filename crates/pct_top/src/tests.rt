@@ -41,6 +41,15 @@ const LOST: &str =
 
 const REPLAY: &str = "replay s.pct t.txt";
 
+/// The directive by which the second adder's update is lost, whichever of the others is first.
+const DIRECTIVE: &str = "directive 1\nlow B\nafter A 1\nverdict failed C 15\n";
+
+/// The trace that it exposes under the order A, C, B.
+const EXPOSED: &str =
+    "trace 1\norder A C B\npoints 1\nlimit 10000\n1 A 4 read x = 0\n2 B 8 read x = 0\n3 B 9 write x 1 = 0\n4 A 5 write x 1 = 0\n5 C 12 join A = 0\n6 C 13 join B = 0\n7 C 14 read x = 1\n8 C 15 check 0 = 0\nverdict failed C 15\n";
+
+const CERTIFICATE: &str = "order A C B points 1\norder C A B points 1\ncertified 1 in 24\n";
+
 /// The number of the call that fails, from 1, of the shelf and of each stream. With 0 none does.
 #[derive(Clone, Copy)]
 struct Fails {
@@ -203,6 +212,61 @@ fn faults_are_told(rt: HostRuntime) -> Result<(), Fail> {
         err: 1,
     };
     expect_call(&rt, alloc, LOST.as_bytes(), fails, IN_ORDER, unsaid)
+}
+
+// A campaign puts its first line, and nothing after the put that was refused.
+#[test]
+fn campaign_fails_at_its_second_line(rt: HostRuntime) -> Result<(), Fail> {
+    let want = Given {
+        status: Status::WriteFault,
+        out: "campaign 1\n",
+        err: "write fault\n",
+    };
+    let fails = Fails { out: 2, ..SOUND };
+    let line = "campaign s.pct --from 7 --count 2 --depth 2";
+    expect_call(&rt, rt.alloc(), SUM.as_bytes(), fails, line, want)
+}
+
+#[test]
+fn directives_are_told(rt: HostRuntime) -> Result<(), Fail> {
+    let alloc = rt.alloc();
+    for (status, line, out) in [
+        (Status::Done, "certify s.pct t.txt --steps 8", CERTIFICATE),
+        (
+            Status::Found,
+            "certify s.pct t.txt --steps 7",
+            "toolong order A C B steps 8\n",
+        ),
+        (
+            Status::Done,
+            "expose s.pct t.txt --order A,C,B --steps 8",
+            EXPOSED,
+        ),
+        (
+            Status::Found,
+            "expose s.pct t.txt --order A,C,B --steps 7",
+            "toolong 8\n",
+        ),
+    ] {
+        let want = Given {
+            status,
+            out,
+            err: "",
+        };
+        expect_call(&rt, alloc, DIRECTIVE.as_bytes(), SOUND, line, want)?;
+    }
+    Ok(())
+}
+
+#[test]
+fn no_directive_is_told(rt: HostRuntime) -> Result<(), Fail> {
+    let want = Given {
+        status: Status::BadDirective,
+        out: "",
+        err: "directive: line 1 BadHeader\n",
+    };
+    let line = "certify s.pct t.txt --steps 8";
+    expect_call(&rt, rt.alloc(), SUM.as_bytes(), SOUND, line, want)
 }
 
 /// The word that isn't taken of each line.

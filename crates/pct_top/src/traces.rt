@@ -30,20 +30,21 @@ fn trace_version(script: &Script) -> u32
     if script.version >= 3 { 2 } else { 1 }
 }
 
-/// The trace of a run, which is done where it passes.
+/// The trace of a run.
 pub fn told_trace(
     alloc: Global,
     script: &Script,
     priorities: Priorities,
     limit: u32,
     run: &WholeRun,
+    done: bool,
 ) -> Result<Outcome, NoMemory>
     requires priorities { ArePriorities (length script.now.names.threads) priorities }
     requires limit { IsStepCount limit }
     requires known { AreKnown (text script.now) limit run.now.events run.now.verdict }
     ensures { IfOk result (λ outcome.
         TellsRun (text script.now) priorities.order priorities.points limit
-        (run.now.events, run.now.verdict) (printed_of outcome)) }
+        (run.now.events, run.now.verdict) done (printed_of outcome)) }
 {
     let header = Header {
         version: trace_version(script),
@@ -58,6 +59,5 @@ pub fn told_trace(
         run.events.as_slice(),
         &run.verdict,
     )?;
-    let done = is_passed(&run.verdict);
     Ok(Outcome { text, done })
 }

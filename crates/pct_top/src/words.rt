@@ -116,6 +116,63 @@ fn replay_words(alloc: Global, words: &[String]) -> Result<Settings, WordsError>
     }
 }
 
+/// What is to be exposed of a directive, where the options are all there.
+fn expose_with(file: Text, directive: Text, options: Options) -> Option<Settings>
+    ensures { result ≡ settings.expose_with file directive options }
+{
+    let NamedOrder { items, word } = options.order?;
+    Some(Settings::Expose {
+        file,
+        directive,
+        order: items,
+        word,
+        steps: options.steps?,
+        limit: options.limit.unwrap_or(DEFAULT_LIMIT),
+    })
+}
+
+fn expose_words(alloc: Global, words: &[String]) -> Result<Settings, WordsError>
+    ensures { ReadsAs result (settings.expose_settings (texts_of words.now)) }
+{
+    match words {
+        [] => Err(WordsError::Word(2)),
+        [_] => Err(WordsError::Word(3)),
+        [file, directive, others @ ..] => {
+            let (options, next) = options_in(alloc, Command::Expose, 4, others)?;
+            let file = Text::copy_of(alloc, file.as_str())?;
+            let directive = Text::copy_of(alloc, directive.as_str())?;
+            expose_with(file, directive, options).ok_or(WordsError::Word(next))
+        }
+    }
+}
+
+/// What is to be certified of a directive, where the options are all there.
+fn certify_with(file: Text, directive: Text, options: Options) -> Option<Settings>
+    ensures { result ≡ settings.certify_with file directive options }
+{
+    Some(Settings::Certify {
+        file,
+        directive,
+        steps: options.steps?,
+        limit: options.limit.unwrap_or(DEFAULT_LIMIT),
+    })
+}
+
+fn certify_words(alloc: Global, words: &[String]) -> Result<Settings, WordsError>
+    ensures { ReadsAs result (settings.certify_settings (texts_of words.now)) }
+{
+    match words {
+        [] => Err(WordsError::Word(2)),
+        [_] => Err(WordsError::Word(3)),
+        [file, directive, others @ ..] => {
+            let (options, next) = options_in(alloc, Command::Certify, 4, others)?;
+            let file = Text::copy_of(alloc, file.as_str())?;
+            let directive = Text::copy_of(alloc, directive.as_str())?;
+            certify_with(file, directive, options).ok_or(WordsError::Word(next))
+        }
+    }
+}
+
 /// What the words after a command's ask for.
 fn command_words(alloc: Global, command: Command, words: &[String]) -> Result<Settings, WordsError>
     ensures { ReadsAs result (settings.settings_of command (texts_of words.now)) }
@@ -125,6 +182,8 @@ fn command_words(alloc: Global, command: Command, words: &[String]) -> Result<Se
         Command::Campaign => campaign_words(alloc, words),
         Command::Big => big_words(alloc, words),
         Command::Replay => replay_words(alloc, words),
+        Command::Expose => expose_words(alloc, words),
+        Command::Certify => certify_words(alloc, words),
     }
 }
 

@@ -6,7 +6,7 @@ ghost use Rattle.trace_text.specs.Lawful.{IsStepCount};
 ghost use Rattle.pct_top.specs.Ready.{IsReady};
 ghost use Rattle.pct_top.specs.Priorities.{ArePriorities};
 ghost use Rattle.pct_top.specs.Outcome.{printed_of};
-ghost use Rattle.pct_top.specs.commands.Find.{last_of, found_text, passes as passes_by, PrintsFound};
+ghost use Rattle.pct_top.specs.commands.Find.{last_of, found_text, IsWellFormed, passes as passes_by, PrintsFound};
 ghost use Rattle.pct_top.specs.commands.KnownFinding.{IsKnownFinding};
 
 use crate::lines::push_count;
@@ -37,7 +37,8 @@ fn write_found(
     requires some { 1 ≤ length order.now }
     requires low { last_of order.now < length names.now.threads }
     requires known { IsKnownFinding names.now found }
-    ensures { IfOk result (λ text. text.items ≡ found_text names.now order.now found) }
+    ensures text { IfOk result (λ text. text.items ≡ found_text names.now order.now found) }
+    ensures form { IfOk result (λ text. IsWellFormed names.now order.now found) }
 {
     match found {
         FoundOut::Events {

@@ -12,7 +12,7 @@ use crate::outcome::Outcome;
 use crate::playing::play;
 use crate::priorities::Priorities;
 use crate::test::Test;
-use crate::traces::told_trace;
+use crate::traces::{is_passed, told_trace};
 use pct_outside::Gate;
 use std::alloc::{AllocError as NoMemory, Global};
 use std::sync::Wait;
@@ -36,5 +36,6 @@ pub fn trace_of<R: Threads + Wait + Sync, G: Gate>(
     let order = priorities.order.as_slice();
     let points = priorities.points.as_slice();
     let run = play(rt, alloc, test, order, points, limit, gate)?;
-    told_trace(alloc, &test.script, priorities, limit, &run)
+    let done = is_passed(&run.verdict);
+    told_trace(alloc, &test.script, priorities, limit, &run, done)
 }

@@ -7,7 +7,7 @@ use Rattle.script_body.specs.Bodies.{bodies_of}
 use Rattle.trace_text.specs.Lawful.{IsStepCount}
 use Rattle.directive_find.specs.Found.{Finds}
 use Rattle.pct_top.specs.Printed.{told}
-use Rattle.pct_top.specs.commands.Find.{last_of, found_text}
+use Rattle.pct_top.specs.commands.Find.{last_of, found_text, IsWellFormed}
 use Rattle.pct_top.specs.commands.KnownFinding.{IsKnownFinding}
 use Rattle.pct_top.proofs.KnownFindings.{known-finding}
 use Rattle.pct_top.proofs.commands.find.directive_of.Goals as goal
@@ -60,7 +60,10 @@ returns g c =
     let O : List ℕ → Type 0 = λ o. Finds test.deal (bodies_of script) o c.as_slice-points.result.now c.args.limit found in
     let P : List ℕ → Type 0 = λ p. Finds test.deal (bodies_of script) c.args.priorities.order p c.args.limit found in
     let finds = subst P c.as_slice-points.ensures (subst O c.as_slice-order.ensures (c.in_ok-found.ensures script c.requires.ready)) in
-    let written = c.in_ok-text.ensures ∙ ap (λ (names : NameLists). found_text names c.as_slice-order.result.now found) c.names.ensures
+    let written = c.in_ok-text.ensures.text ∙ ap (λ (names : NameLists). found_text names c.as_slice-order.result.now found) c.names.ensures
     ∙ ap (λ (order : List ℕ). found_text script.names order found) c.as_slice-order.ensures in
     let done = c.passes-done.ensures in
-    (found, finds, λ i. told (written i) (done i))
+    let N : NameLists → Type 0 = λ names. IsWellFormed names c.as_slice-order.result.now found in
+    let W : List ℕ → Type 0 = λ order. IsWellFormed script.names order found in
+    let form = subst W c.as_slice-order.ensures (subst N c.names.ensures c.in_ok-text.ensures.form) in
+    (found, finds, form, λ i. told (written i) (done i))

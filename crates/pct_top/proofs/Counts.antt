@@ -1,0 +1,78 @@
+-- Where `certify` is done, its directive is counted.
+use Rattle.std.proofs.Common.{◌≡◌, ◌≢◌, ℕ, ◌*◌, ◌^◌, ◌≤◌, inl, inr, List, length, Ok, Err, take, sym, ap, subst, ◌∙◌}
+use Rattle.pct_ask.specs.declared.Deal.{Deal}
+use Rattle.script_tree.specs.ScriptText.{ScriptText}
+use Rattle.script_tree.specs.DealOf.{IsDealOf}
+use Rattle.script_body.specs.Bodies.{bodies_of}
+use Rattle.directive.specs.declared.directive.Directive.{Directive}
+use Rattle.directive.specs.Answers.{told as plain}
+use Rattle.directive_run.specs.Orders.{factorial}
+use Rattle.directive_run.specs.Counting.{hits}
+use Rattle.directive_run.specs.Certifying.{Certifies}
+use Rattle.directive_run.specs.declared.answers.Certified.{Certified}
+use Rattle.directive_run.specs.declared.answers.Certified.TheVariants.{Yes, Refuted, TooLong, TooManyThreads}
+use Rattle.pct_top.specs.declared.refusal.Refusal.{Refusal}
+use Rattle.pct_top.specs.declared.refusal.Refusal.TheVariants.{Script, Directive as BadDirective}
+use Rattle.pct_top.specs.declared.settings.Settings.TheVariants.{Certify}
+use Rattle.pct_top.specs.declared.status.Status.{Status}
+use Rattle.pct_top.specs.declared.status.Status.TheVariants.{Done}
+use Rattle.pct_top.specs.Settings.{Taken, settings}
+use Rattle.pct_top.specs.Refusing.{status_of_refusal}
+use Rattle.pct_top.specs.Printed.{Files, Printed, refused}
+use Rattle.pct_top.specs.Output.{OfTaken}
+use Rattle.pct_top.specs.commands.Certify.{told_certificate}
+use Rattle.pct_top.specs.Counted.{CertifiesFile, IsOneIn, IsCounted, CertifiedAreCounted}
+
+-- only a certified directive is done
+counted_by : (script : ScriptText) (deal : Deal) → IsDealOf script deal → (directive : Directive)
+    (steps limit : ℕ) (certified : Certified)
+    → Certifies deal (bodies_of script) directive steps limit certified
+    → (told_certificate script.names certified).status ≡ Done
+    → IsOneIn script deal (plain directive) steps limit
+counted_by script deal of directive steps limit (Yes bound rows) is done =
+    let m = length directive.events in
+    let N : ℕ → Type 0 = λ n. factorial n * steps ^ m
+        ≤ hits deal (bodies_of script) n steps m directive.verdict limit * (n * steps ^ m) in
+    let B : ℕ → Type 0 = λ b. factorial deal.threads * steps ^ m
+        ≤ hits deal (bodies_of script) deal.threads steps m directive.verdict limit * b in
+    subst N of.threads (subst B is.bound_is is.counted)
+counted_by script deal of directive steps limit (Refuted order verdict) is done = absurd cc
+counted_by script deal of directive steps limit (TooLong order many) is done = absurd cc
+counted_by script deal of directive steps limit (TooManyThreads threads) is done = absurd cc
+
+-- a refusal isn't done
+refused_not_done : (refusal : Refusal) (printed : Printed) → printed ≡ refused refusal
+    → status_of_refusal refusal ≢ Done → printed.status ≢ Done
+refused_not_done refusal printed is never done =
+    never (sym (ap (λ (p : Printed). p.status) is) ∙ done)
+
+by_taken : (taken : Taken) (files : Files) (printed : Printed) (file directive : List ℕ)
+    (k limit : ℕ) → CertifiesFile taken file directive k limit → OfTaken taken files printed
+    → printed.status ≡ Done → IsCounted files file directive k limit
+by_taken (Ok (Certify name other steps most)) files printed file directive k limit same (inl of) done = elim of.2.2 [
+  | inl plan ↦
+      let script = of.0 in
+      let is_done = sym (ap (λ (p : Printed). p.status) (plan.2).2) ∙ done in
+      let counted = counted_by script of.2.0 of.2.1 plan.0 steps most (plan.2).0 (plan.2).1 is_done in
+      let whole : IsCounted files name other steps most = record {
+        script = script;
+        deal = of.2.0;
+        plan = plain plan.0;
+        spelled = of.1;
+        deals = of.2.1;
+        told = plan.1;
+        counted = counted;
+      } in
+      subst (λ f. IsCounted files f directive k limit) (sym same.0)
+      (subst (λ d. IsCounted files name d k limit) (sym same.1)
+      (subst (λ s. IsCounted files name other s limit) (sym same.2)
+      (subst (λ l. IsCounted files name other steps l) (sym same.3) whole)))
+  | inr bad ↦ absurd (refused_not_done (BadDirective bad.0 bad.1) printed bad.3 (λ e. cc) done)
+]
+by_taken (Ok (Certify name other steps most)) files printed file directive k limit same (inr bad) done =
+    absurd (refused_not_done (Script bad.0 bad.1) printed bad.3 (λ e. cc) done)
+by_taken taken files printed file directive k limit same of done = absurd same
+
+pub certified_counted : CertifiedAreCounted
+certified_counted words files printed file directive k limit same of done =
+    by_taken (settings words) files printed file directive k limit same of done

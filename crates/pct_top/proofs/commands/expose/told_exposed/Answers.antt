@@ -1,0 +1,30 @@
+use Rattle.std.proofs.Common.{◌≡◌, ℕ, List, sym, subst, ◌∙◌}
+use Rattle.pct_ask.specs.declared.event.Event.{Event}
+use Rattle.pct_ask.specs.declared.verdict.Outcome.TheVariants.{Verdict as Ends}
+use Rattle.pct_ask.specs.declared.verdict.Verdict.{Verdict}
+use Rattle.script_tree.specs.ScriptSeen.{text}
+use Rattle.script_body.specs.Bodies.{bodies_of}
+use Rattle.directive_run.specs.Exposing.{Exposes}
+use Rattle.directive_run.specs.declared.answers.Exposed.{Exposed}
+use Rattle.pct_top.specs.Known.{AreKnown}
+use Rattle.pct_top.proofs.KnownDirected.{known-exposed}
+use Rattle.pct_top.proofs.commands.expose.told_exposed.Goals as goal
+
+pub told_trace-requires-clause-known : goal.told_trace-requires-clause-known
+told_trace-requires-clause-known c =
+    let test = c.args.test.now in
+    let ready = c.requires.ready in
+    let script = text test.script in
+    let events = c.args.directive.now.events in
+    let X : Exposed → Type 0 = λ exposed.
+        Exposes test.deal (bodies_of script) c.args.order events c.args.steps c.args.limit exposed in
+    let is = subst X c.in-Points.is c.requires.exposed in
+    let known = known-exposed script test.deal ready.sound ready.is_deal c.args.order events
+        c.args.steps c.args.limit c.in-Points.points c.in-Points.played is (sym c.requires.whole) in
+    let run = c.into_whole-run.result in
+    let ends : Ends is.verdict ≡ Ends run.verdict =
+        sym is.ends ∙ c.into_whole-run.ensures.verdict in
+    let verdict : is.verdict ≡ run.verdict = cc in
+    let E : List Event → Type 0 = λ made. AreKnown script c.args.limit made is.verdict in
+    let V : Verdict → Type 0 = λ v. AreKnown script c.args.limit run.events v in
+    subst V verdict (subst E (sym c.into_whole-run.ensures.events) known)

@@ -1,0 +1,51 @@
+-- The count of a certified directive, said of the program: where `certify` is done, so many of the
+-- choices of an order and points lead to the directive's verdict (this project).
+use Rattle.std.specs.Prelude.{◌≡◌, ℕ, ◌*◌, ◌^◌, ◌≤◌, List, length, Ok, Err, take}
+use Rattle.pct_ask.specs.declared.Deal.{Deal}
+use Rattle.script_tree.specs.ScriptText.{ScriptText}
+use Rattle.script_tree.specs.DealOf.{IsDealOf}
+use Rattle.script_tree.specs.Grammar.{Spells}
+use Rattle.script_body.specs.Bodies.{bodies_of}
+use Rattle.directive.specs.DirectiveText.{DirectiveText}
+use Rattle.directive.specs.Directive.{IsDirective}
+use Rattle.directive_run.specs.Orders.{factorial}
+use Rattle.directive_run.specs.Counting.{hits}
+use Rattle.pct_top.specs.declared.settings.Settings.TheVariants.{Certify}
+use Rattle.pct_top.specs.declared.status.Status.TheVariants.{Done}
+use Rattle.pct_top.specs.Settings.{Taken, settings}
+use Rattle.pct_top.specs.Printed.{Files, Printed, script_bytes, directive_bytes}
+use Rattle.pct_top.specs.Output.{Output}
+
+-- the words ask for the certificate of the directive in this file over the script in that one
+abbrev pub CertifiesFile : Taken → List ℕ → List ℕ → ℕ → ℕ → Type 0
+CertifiesFile (Ok (Certify file directive steps limit)) name other k most =
+    (name ≡ file) × (other ≡ directive) × (k ≡ steps) × (most ≡ limit)
+CertifiesFile taken name other k most = ⊥
+
+-- Of the n! k^m choices of an order of a script's n threads and of m points in 1..k, so many have
+-- the directive's verdict that it is at least one in n k^m, where the directive has m moments.
+abbrev pub IsOneIn : ScriptText → Deal → DirectiveText → ℕ → ℕ → Type 0
+IsOneIn script deal directive k limit =
+    let n = length script.names.threads in
+    let m = length directive.events in
+    factorial n * k ^ m
+    ≤ hits deal (bodies_of script) n k m directive.verdict limit * (n * k ^ m)
+
+-- The files have a script, with what its threads share, and a directive under its names, and this
+-- is its count.
+pub record IsCounted (files : Files) (file directive : List ℕ) (k limit : ℕ) : Type 0 where
+  pub script : ScriptText
+  pub deal : Deal
+  pub plan : DirectiveText
+  pub spelled : Spells (take script_bytes (files file)) script
+  pub deals : IsDealOf script deal
+  pub told : IsDirective (take directive_bytes (files directive)) script.names plan
+  pub counted : IsOneIn script deal plan k limit
+
+-- For all words and files: where `certify` may be done, its directive is so counted.
+abbrev pub CertifiedAreCounted : Type 0
+CertifiedAreCounted =
+    (words : List (List ℕ)) (files : Files) (printed : Printed) (file directive : List ℕ)
+    (k limit : ℕ)
+    → CertifiesFile (settings words) file directive k limit → Output words files printed
+    → printed.status ≡ Done → IsCounted files file directive k limit

@@ -1,0 +1,198 @@
+//! `certify`: whether every order that places a directive's thread last leads to its verdict.
+
+ghost use Rattle.std.specs.Prelude.{◌≡◌, ℕ, [], ◌∷◌, ◌++◌, List, map, OnOk, IfOk, Some, take, codes, decimal};
+ghost use Rattle.directive.specs.Answers.{told as plain};
+ghost use Rattle.directive.specs.Directive.{IsDirective};
+ghost use Rattle.pct_ask.specs.TraceText.{line_text};
+ghost use Rattle.pct_ask.specs.VerdictText.{thread_name, named, verdict_words, HasNames, IsWhole};
+ghost use Rattle.script_tree.specs.ScriptSeen.{text};
+ghost use Rattle.trace_text.specs.Lawful.{IsStepCount};
+ghost use Rattle.trace_text.specs.Spaced.{spaced};
+ghost use Rattle.pct_top.specs.Printed.{directive_bytes};
+ghost use Rattle.pct_top.specs.Ready.{IsReady};
+ghost use Rattle.pct_top.specs.Files.{Misses};
+ghost use Rattle.pct_top.specs.Outcome.{printed_of, Comes};
+ghost use Rattle.pct_top.specs.commands.Certify.{order_words, row_words, bound_words, certificate_text, is_certified as is_certified_by, PrintsCertificate, OfCertify};
+ghost use Rattle.pct_top.specs.commands.KnownCertificate.{IsKnownCertificate};
+
+use crate::files::read_directed;
+use crate::lines::{name_of, push_count, push_number, push_verdict, push_word};
+use crate::outcome::Outcome;
+use crate::refusal::Refusal;
+use crate::test::Test;
+use directive::Directive;
+use directive_run::{Certified, CertifyRow, certify};
+use itoa::Buffer;
+use pct_ask::{NameKind, Names, Verdict};
+use pct_outside::{Gate, Shelf};
+use std::alloc::{AllocError as NoMemory, Global};
+use std::sync::Wait;
+use std::thread::Threads;
+
+/// An order's names, each behind a space.
+fn push_names(out: &mut Vec<u8>, names: &Names, order: &[u32]) -> Result<(), NoMemory>
+    ensures { OnOk result (out.new.items
+        ≡ out.old.items ++ spaced (map (thread_name names.now) order.now)) }
+{
+    for thread in order {
+        push_word(out, name_of(names, NameKind::Thread, *thread))?;
+    }
+    Ok(())
+}
+
+/// The end of a row's line: its points.
+fn push_points(out: &mut Vec<u8>, points: &[u32]) -> Result<(), NoMemory>
+    ensures { OnOk result (out.new.items
+        ≡ out.old.items ++ line_text (codes "points" ∷ map decimal points.now)) }
+{
+    out.extend_from_slice(b"points")?;
+    for point in points {
+        push_number(out, *point)?;
+    }
+    out.push(b'\n')?;
+    Ok(())
+}
+
+/// The line of an order and its points.
+fn push_row(out: &mut Vec<u8>, names: &Names, row: &CertifyRow) -> Result<(), NoMemory>
+    ensures { OnOk result (out.new.items
+        ≡ out.old.items ++ line_text (row_words names.now row.now)) }
+{
+    out.extend_from_slice(b"order")?;
+    push_names(out, names, row.order.as_slice())?;
+    out.push(b' ')?;
+    push_points(out, row.points.as_slice())
+}
+
+/// The line of the bound.
+fn push_bound(out: &mut Vec<u8>, bound: u128) -> Result<(), NoMemory>
+    ensures { OnOk result (out.new.items ≡ out.old.items ++ line_text (bound_words bound)) }
+{
+    let mut buffer = Buffer::new();
+    out.extend_from_slice(b"certified 1 in ")?;
+    out.extend_from_slice(buffer.format(bound).as_bytes())?;
+    out.push(b'\n')?;
+    Ok(())
+}
+
+/// The line of an order that leads to another verdict.
+fn push_refuted(
+    out: &mut Vec<u8>,
+    names: &Names,
+    order: &[u32],
+    verdict: &Verdict,
+) -> Result<(), NoMemory>
+    requires threads { HasNames names.now verdict.now }
+    requires whole { IsWhole verdict.now }
+    ensures { OnOk result (out.new.items ≡ out.old.items
+        ++ line_text (codes "refuted" ∷ order_words names.now order.now
+        ++ codes "verdict" ∷ verdict_words (named names.now verdict.now))) }
+{
+    out.extend_from_slice(b"refuted order")?;
+    push_names(out, names, order)?;
+    out.push(b' ')?;
+    push_verdict(out, names, "verdict", verdict)
+}
+
+/// The line of an order under which the run has too many steps.
+fn push_long(
+    out: &mut Vec<u8>,
+    names: &Names,
+    order: &[u32],
+    steps: u32,
+) -> Result<(), NoMemory>
+    ensures { OnOk result (out.new.items ≡ out.old.items
+        ++ line_text (codes "toolong" ∷ order_words names.now order.now
+        ++ codes "steps" ∷ decimal steps ∷ [])) }
+{
+    out.extend_from_slice(b"toolong order")?;
+    push_names(out, names, order)?;
+    out.push(b' ')?;
+    push_count(out, "steps", steps)
+}
+
+/// The lines of a certificate.
+fn write_certificate(
+    alloc: Global,
+    names: &Names,
+    certified: &Certified,
+) -> Result<Vec<u8>, NoMemory>
+    requires { IsKnownCertificate names.now certified.now }
+    ensures { IfOk result (λ text. text.items ≡ certificate_text names.now certified.now) }
+{
+    let mut text = Vec::new(alloc);
+    match certified {
+        Certified::Yes { bound, rows } => {
+            for row in rows.as_slice() {
+                push_row(&mut text, names, row)?;
+            }
+            push_bound(&mut text, *bound)?;
+        }
+        Certified::Refuted { order, verdict } => {
+            push_refuted(&mut text, names, order.as_slice(), verdict)?;
+        }
+        Certified::TooLong { order, steps } => {
+            push_long(&mut text, names, order.as_slice(), *steps)?;
+        }
+        Certified::TooManyThreads { threads } => push_count(&mut text, "toomany", *threads)?,
+    }
+    Ok(text)
+}
+
+fn is_certified(certified: &Certified) -> bool
+    ensures { result ≡ is_certified_by certified.now }
+{
+    matches!(certified, Certified::Yes { .. })
+}
+
+/// The certificate of a directive over a test.
+fn certificate_of<R: Threads + Wait + Sync, G: Gate>(
+    rt: &R,
+    alloc: Global,
+    test: &Test,
+    directive: &Directive,
+    steps: u32,
+    limit: u32,
+    gate: &G,
+) -> Result<Outcome, NoMemory>
+    requires ready { IsReady test.now }
+    requires directive { (bytes : List ℕ)
+        × IsDirective bytes (text test.now.script).names (plain directive.now) }
+    requires steps { IsStepCount steps }
+    requires limit { IsStepCount limit }
+    ensures { IfOk result (λ outcome. PrintsCertificate (text test.now.script) test.now.deal
+        steps limit directive.now (printed_of outcome)) }
+{
+    let certified = certify(
+        rt, alloc, &test.code, &test.deal, directive, steps, limit, gate,
+    )?;
+    let text = write_certificate(alloc, test.script.names(), &certified)?;
+    let done = is_certified(&certified);
+    Ok(Outcome { text, done })
+}
+
+/// The certificate of the directive of a file over a test.
+pub fn certify_file<R: Threads + Wait + Sync, H: Shelf, G: Gate>(
+    rt: &R,
+    alloc: Global,
+    test: &Test,
+    directive: &str,
+    steps: u32,
+    limit: u32,
+    shelf: &mut H,
+    gate: &G,
+) -> Result<Outcome, Refusal>
+    requires ready { IsReady test.now }
+    requires steps { IsStepCount steps }
+    requires limit { IsStepCount limit }
+    ensures { Comes
+        (λ files. OfCertify (take directive_bytes (files directive.now)) steps limit
+        (text test.now.script) test.now.deal)
+        (H.files shelf.old)
+        (Misses (Some directive.now) (H.failed shelf.old) (H.failed shelf.new)) result }
+{
+    match read_directed(alloc, directive, test.script.names(), shelf) {
+        Err(refusal) => Err(refusal),
+        Ok(plan) => Ok(certificate_of(rt, alloc, test, &plan, steps, limit, gate)?),
+    }
+}

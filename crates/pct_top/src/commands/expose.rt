@@ -1,0 +1,144 @@
+//! `expose`: the run that a directive exposes under an order.
+
+ghost use Rattle.std.specs.Prelude.{◌≡◌, ℕ, List, length, IfOk, Some, take};
+ghost use Rattle.rank_now.specs.Order.{IsOrder};
+ghost use Rattle.directive.specs.Answers.{told as plain};
+ghost use Rattle.directive.specs.Directive.{IsDirective};
+ghost use Rattle.directive_run.specs.Exposing.{Exposes};
+ghost use Rattle.script_body.specs.Bodies.{bodies_of};
+ghost use Rattle.script_tree.specs.ScriptSeen.{text};
+ghost use Rattle.trace_text.specs.Lawful.{IsStepCount};
+ghost use Rattle.pct_top.specs.Ordered.{OrderFits};
+ghost use Rattle.pct_top.specs.Printed.{directive_bytes};
+ghost use Rattle.pct_top.specs.Ready.{IsReady};
+ghost use Rattle.pct_top.specs.Files.{Misses};
+ghost use Rattle.pct_top.specs.Outcome.{printed_of, Comes};
+ghost use Rattle.pct_top.specs.commands.Expose.{long_text, TellsExposed, PrintsExposed, OfExpose};
+
+use crate::files::read_directed;
+use crate::lines::push_count;
+use crate::order::order_given;
+use crate::outcome::Outcome;
+use crate::priorities::Priorities;
+use crate::refusal::Refusal;
+use crate::test::Test;
+use crate::text::TextList;
+use crate::traces::told_trace;
+use directive::Directive;
+use directive_run::{Exposed, expose};
+use pct_ask::OrderList;
+use pct_outside::{Gate, Shelf};
+use std::alloc::{AllocError as NoMemory, Global};
+use std::sync::Wait;
+use std::thread::Threads;
+
+/// How many steps the run has, where there are more than there may be.
+fn write_long(alloc: Global, steps: u32) -> Result<Vec<u8>, NoMemory>
+    ensures { IfOk result (λ text. text.items ≡ long_text steps) }
+{
+    let mut text = Vec::new(alloc);
+    push_count(&mut text, "toolong", steps)?;
+    Ok(text)
+}
+
+/// What is written of what was exposed under this order.
+fn told_exposed(
+    alloc: Global,
+    test: &Test,
+    order: OrderList,
+    directive: &Directive,
+    steps: u32,
+    limit: u32,
+    exposed: Exposed,
+) -> Result<Outcome, NoMemory>
+    requires ready { IsReady test.now }
+    requires order { IsOrder order }
+    requires whole { length order ≡ test.now.deal.threads }
+    requires steps { IsStepCount steps }
+    requires limit { IsStepCount limit }
+    requires exposed { Exposes test.now.deal (bodies_of (text test.now.script)) order
+        directive.now.events steps limit exposed }
+    ensures { IfOk result (λ outcome. TellsExposed (text test.now.script) test.now.deal order limit
+        directive.now.verdict exposed (printed_of outcome)) }
+{
+    match exposed {
+        Exposed::Points { points, played } => {
+            let run = played.into_whole();
+            let done = run.verdict == directive.verdict;
+            let priorities = Priorities { order, points };
+            told_trace(alloc, &test.script, priorities, limit, &run, done)
+        }
+        Exposed::TooLong { steps } => Ok(Outcome {
+            text: write_long(alloc, steps)?,
+            done: false,
+        }),
+    }
+}
+
+/// What a directive exposes over a test, under this order.
+fn exposed_by<R: Threads + Wait + Sync, G: Gate>(
+    rt: &R,
+    alloc: Global,
+    test: &Test,
+    order: OrderList,
+    directive: &Directive,
+    steps: u32,
+    limit: u32,
+    gate: &G,
+) -> Result<Outcome, NoMemory>
+    requires ready { IsReady test.now }
+    requires order { IsOrder order }
+    requires whole { length order ≡ test.now.deal.threads }
+    requires steps { IsStepCount steps }
+    requires limit { IsStepCount limit }
+    ensures { IfOk result (λ outcome. PrintsExposed (text test.now.script) test.now.deal order
+        steps limit directive.now (printed_of outcome)) }
+{
+    let exposed = expose(
+        rt,
+        alloc,
+        &test.code,
+        &test.deal,
+        order.as_slice(),
+        directive,
+        steps,
+        limit,
+        gate,
+    )?;
+    told_exposed(alloc, test, order, directive, steps, limit, exposed)
+}
+
+/// What the directive of a file exposes over a test, under the order that names give, which stand in the word of this
+/// number.
+pub fn expose_file<R: Threads + Wait + Sync, H: Shelf, G: Gate>(
+    rt: &R,
+    alloc: Global,
+    test: &Test,
+    directive: &str,
+    order: &TextList,
+    word: u32,
+    steps: u32,
+    limit: u32,
+    shelf: &mut H,
+    gate: &G,
+) -> Result<Outcome, Refusal>
+    requires ready { IsReady test.now }
+    requires steps { IsStepCount steps }
+    requires limit { IsStepCount limit }
+    ensures { Comes
+        (λ files. OfExpose (take directive_bytes (files directive.now)) order.now word steps limit
+        (text test.now.script) test.now.deal)
+        (H.files shelf.old)
+        (Misses (Some directive.now) (H.failed shelf.old) (H.failed shelf.new)
+        × OrderFits (text test.now.script).names (Some order.now)) result }
+{
+    let names = test.script.names();
+    let order = match order_given(alloc, names, order.as_slice(), word) {
+        Ok(order) => order,
+        Err(refusal) => return Err(refusal),
+    };
+    match read_directed(alloc, directive, names, shelf) {
+        Err(refusal) => Err(refusal),
+        Ok(plan) => Ok(exposed_by(rt, alloc, test, order, &plan, steps, limit, gate)?),
+    }
+}
