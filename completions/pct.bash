@@ -12,6 +12,8 @@ _pct() {
     COMPREPLY=()
     case $command in
     run | races | locks | find) words='--order --points --seed --depth --steps --limit' ;;
+    expose) words='--order --steps --limit' ;;
+    certify) words='--steps --limit' ;;
     campaign) words='--from --count --depth --steps --limit --form' ;;
     esac
     case $before in
@@ -20,9 +22,9 @@ _pct() {
     --*) return ;;
     esac
     case $COMP_CWORD,$command in
-    1,*) words='run races locks find campaign replay big --help --version' ;;
+    1,*) words='run races locks find expose certify campaign replay big --help --version' ;;
     2,big) return ;;
-    2,* | 3,replay)
+    2,* | 3,replay | 3,expose | 3,certify)
         mapfile -t COMPREPLY < <(compgen -f -- "$current")
         compopt -o filenames 2>/dev/null
         return

@@ -20,7 +20,7 @@ function __pct_wants_file
         case 2
             test $words[2] != big
         case 3
-            test $words[2] = replay
+            contains -- $words[2] replay expose certify
         case '*'
             false
     end
@@ -28,14 +28,14 @@ end
 
 set -l of_run run races locks find
 complete -c pct -f
-complete -c pct -n 'test (count (commandline -opc)) -eq 1' -a 'run races locks find campaign replay big --help --version'
+complete -c pct -n 'test (count (commandline -opc)) -eq 1' -a 'run races locks find expose certify campaign replay big --help --version'
 complete -c pct -n __pct_wants_file -F
-complete -c pct -n "__pct_has_file_of $of_run" -l order -x -a '(__pct_threads)' -d 'all threads, the highest first'
+complete -c pct -n "__pct_has_file_of $of_run expose" -l order -x -a '(__pct_threads)' -d 'all threads, the highest first'
 complete -c pct -n "__pct_has_file_of $of_run" -l points -x -d 'after which steps threads are lowered'
 complete -c pct -n "__pct_has_file_of $of_run" -l seed -x -d 'draws the order and the points'
 complete -c pct -n '__pct_has_file_of campaign' -l from -x -d 'the first seed'
 complete -c pct -n '__pct_has_file_of campaign' -l count -x -d 'how many seeds'
 complete -c pct -n "__pct_has_file_of $of_run campaign" -l depth -x -d 'one more than the points'
-complete -c pct -n "__pct_has_file_of $of_run campaign" -l steps -x -d 'from how many steps points are drawn'
-complete -c pct -n "__pct_has_file_of $of_run campaign" -l limit -x -d 'how many steps a run may have'
+complete -c pct -n "__pct_has_file_of $of_run campaign expose certify" -l steps -x -d 'from how many steps points are drawn'
+complete -c pct -n "__pct_has_file_of $of_run campaign expose certify" -l limit -x -d 'how many steps a run may have'
 complete -c pct -n '__pct_has_file_of campaign' -l form -x -a 'text json' -d 'the form of the report'
