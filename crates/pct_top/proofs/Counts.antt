@@ -32,9 +32,9 @@ counted_by : (script : ScriptText) (deal : Deal) → IsDealOf script deal → (d
 counted_by script deal of directive steps limit (Yes bound rows) is done =
     let m = length directive.events in
     let N : ℕ → Type 0 = λ n. factorial n * steps ^ m
-        ≤ hits deal (bodies_of script) n steps m directive.verdict limit * (n * steps ^ m) in
+    ≤ hits deal (bodies_of script) n steps m directive.verdict limit * (n * steps ^ m) in
     let B : ℕ → Type 0 = λ b. factorial deal.threads * steps ^ m
-        ≤ hits deal (bodies_of script) deal.threads steps m directive.verdict limit * b in
+    ≤ hits deal (bodies_of script) deal.threads steps m directive.verdict limit * b in
     subst N of.threads (subst B is.bound_is is.counted)
 counted_by script deal of directive steps limit (Refuted order verdict) is done = absurd cc
 counted_by script deal of directive steps limit (TooLong order many) is done = absurd cc

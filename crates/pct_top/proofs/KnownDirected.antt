@@ -41,9 +41,9 @@ module _ (script : ScriptText) (deal : Deal) (sound : IsScript script) (of : IsD
   known-certificate directive steps limit (Yes bound rows) is = tt
   known-certificate directive steps limit (Refuted order verdict) is =
       let played = directed-played deal (bodies_of script) order directive.events limit is.made
-          verdict (sym is.whole) is.is_directed in
+      verdict (sym is.whole) is.is_directed in
       let known = known-run script deal sound of (ByEvents order directive.events) limit is.made
-          verdict (Ends verdict) refl played in
+      verdict (Ends verdict) refl played in
       ((known.end).threads, (known.end).whole)
   known-certificate directive steps limit (TooLong order many) is = tt
   known-certificate directive steps limit (TooManyThreads threads) is = tt
@@ -56,7 +56,7 @@ module _ (script : ScriptText) (deal : Deal) (sound : IsScript script) (of : IsD
     pub known-exposed : deal.threads ≡ length order → AreKnown script limit played.events is.verdict
     known-exposed whole =
         let runs = run-played deal (bodies_of script) order points limit played.events is.verdict
-            whole is.is_run in
+        whole is.is_run in
         known-run script deal sound of (ByPoints order points) limit played.events is.verdict
         (Ends is.verdict) refl runs
 

@@ -31,10 +31,10 @@ certifies_as : (deal : Deal) (bodies : List Pending) (one other : Directive) (st
     → Certifies deal bodies other steps limit certified
 certifies_as deal bodies one other steps limit certified same is =
     let P : DirectiveText → Type 0 = λ text. (few : length text.events ≤ 7)
-        → Certifies deal bodies (made text few) steps limit certified in
+    → Certifies deal bodies (made text few) steps limit certified in
     let first : P (plain one) = λ few.
-        subst (λ f. Certifies deal bodies (made (plain one) f) steps limit certified)
-        (le_prop one.few few) is in
+    subst (λ f. Certifies deal bodies (made (plain one) f) steps limit certified)
+    (le_prop one.few few) is in
     (subst P same first) other.few
 
 module _ (script : ScriptText) (deal : Deal) (steps limit : ℕ) where
@@ -44,7 +44,7 @@ module _ (script : ScriptText) (deal : Deal) (steps limit : ℕ) where
   prints_once one other p q same a b =
       let moved = certifies_as deal (bodies_of script) one other steps limit a.0 same a.1 in
       let is : a.0 ≡ b.0 =
-          certified-once deal (bodies_of script) other steps limit a.0 b.0 moved b.1 in
+      certified-once deal (bodies_of script) other steps limit a.0 b.0 moved b.1 in
       a.2 ∙ ap (told_certificate script.names) is ∙ sym b.2
 
   module _ (bytes : List ℕ) (are : AreNames script.names) where

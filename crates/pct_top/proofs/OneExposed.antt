@@ -31,7 +31,7 @@ module _ (script : ScriptText) (deal : Deal) (limit : ℕ) where
   tells_once order verdict (Points points played) p q a b =
       let same = some_same a.0 b.0 (sym a.1 ∙ b.1) in
       let printed : Run → Printed = λ ended.
-          told_trace script order points limit ended (same_verdict ended.1 verdict) in
+      told_trace script order points limit ended (same_verdict ended.1 verdict) in
       (a.2).is ∙ ap printed same ∙ sym (b.2).is
   tells_once order verdict (TooLong many) p q a b = a ∙ sym b
 
@@ -49,10 +49,10 @@ module _ (script : ScriptText) (deal : Deal) (limit : ℕ) where
         let events : one.events ≡ other.events = ap (λ (d : DirectiveText). d.events) same in
         let verdicts : one.verdict ≡ other.verdict = ap (λ (d : DirectiveText). d.verdict) same in
         let E : List Moment → Type 0 = λ es.
-            Exposes deal (bodies_of script) order es steps limit a.0 in
+        Exposes deal (bodies_of script) order es steps limit a.0 in
         let exposed : a.0 ≡ b.0 =
-            exposed-once deal (bodies_of script) order other.events steps limit a.0 b.0
-            (subst E events a.1) b.1 in
+        exposed-once deal (bodies_of script) order other.events steps limit a.0 b.0
+        (subst E events a.1) b.1 in
         let V : Verdict → Type 0 = λ v. TellsExposed script deal order limit v a.0 p in
         let X : Exposed → Type 0 = λ x. TellsExposed script deal order limit other.verdict x p in
         tells_once order other.verdict b.0 p q (subst X exposed (subst V verdicts a.2)) b.2

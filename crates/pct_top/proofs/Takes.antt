@@ -83,7 +83,7 @@ module _ (script : ScriptText) (deal : Deal) (of : IsDealOf script deal) (order 
       → printed.status ≡ Done
   exposed_done directive same printed (Points points played) is tells =
       let D : DirectiveText → Type 0 = λ d.
-          directed deal (bodies_of script) order d.events limit ≡ Some (made, d.verdict) in
+      directed deal (bodies_of script) order d.events limit ≡ Some (made, d.verdict) in
       let led : D (plain directive) = subst D (sym same) leads in
       let first : Run = (played.events, is.verdict) in
       let second : Run = (made, directive.verdict) in
@@ -91,12 +91,12 @@ module _ (script : ScriptText) (deal : Deal) (of : IsDealOf script deal) (order 
       let both : first ≡ second = some_same first second (sym is.is_directed ∙ led) in
       let verdict : (tells.0).1 ≡ directive.verdict = ap (λ (r : Run). r.1) (ends ∙ both) in
       let found : same_verdict (tells.0).1 directive.verdict ≡ true =
-          (verdict-Decides (tells.0).1 directive.verdict).1 verdict in
+      (verdict-Decides (tells.0).1 directive.verdict).1 verdict in
       let status : Bool → Status = λ b. (told_trace script order points limit tells.0 b).status in
       ap (λ (p : Printed). p.status) (tells.2).is ∙ ap status found
   exposed_done directive same printed (TooLong many) is tells =
       let D : DirectiveText → Type 0 = λ d.
-          directed deal (bodies_of script) order d.events limit ≡ Some (made, d.verdict) in
+      directed deal (bodies_of script) order d.events limit ≡ Some (made, d.verdict) in
       let led : D (plain directive) = subst D (sym same) leads in
       let first : Run = (is.made, is.verdict) in
       let second : Run = (made, directive.verdict) in
@@ -111,8 +111,8 @@ module _ (script : ScriptText) (deal : Deal) (of : IsDealOf script deal) (order 
       let names = script.names in
       let Prints : Directive → Printed → Type 0 = PrintsExposed script deal order k limit in
       let ordered = named_order names (map (thread_name names) order) word
-          (λ o. OfDirective bytes names (PrintsExposed script deal o k limit)) order
-          (names-all names order are once whole) printed prints in
+      (λ o. OfDirective bytes names (PrintsExposed script deal o k limit)) order
+      (names-all names order are once whole) printed prints in
       let by = named_directive bytes names are Prints plan told printed ordered in
       exposed_done by.0 by.1 printed (by.2).0 (by.2).1 (by.2).2
 
@@ -125,22 +125,22 @@ module _ (script : ScriptText) (deal : Deal) (of : IsDealOf script deal) (order 
   later_done files file text spells told (Ok (Expose name directive items word steps most)) later other asks here there printed prints =
       let names = script.names in
       let bytes : take directive_bytes (later directive) ≡ text =
-          ap (λ n. take directive_bytes (later n)) (sym asks.1)
-          ∙ ap (take directive_bytes) there
-          ∙ take_all directive_bytes text (omega (arith, told.small)) in
+      ap (λ n. take directive_bytes (later n)) (sym asks.1)
+      ∙ ap (take directive_bytes) there
+      ∙ take_all directive_bytes text (omega (arith, told.small)) in
       let read : Spells (take script_bytes (later name)) script =
-          subst (λ n. Spells (take script_bytes (later n)) script) asks.0
-          (subst (λ b. Spells (take script_bytes b) script) (sym here) spells) in
+      subst (λ n. Spells (take script_bytes (later n)) script) asks.0
+      (subst (λ b. Spells (take script_bytes b) script) (sym here) spells) in
       let shown = named_script (take script_bytes (later name))
-          (OfCommand (Expose name directive items word steps most) later) script deal read of printed
-          prints in
+      (OfCommand (Expose name directive items word steps most) later) script deal read of printed
+      prints in
       let mine = map (thread_name names) order in
       let I : List (List ℕ) → Type 0 = λ i.
-          OfExpose (take directive_bytes (later directive)) i word steps most script deal printed in
+      OfExpose (take directive_bytes (later directive)) i word steps most script deal printed in
       let K : ℕ → Type 0 = λ s.
-          OfExpose (take directive_bytes (later directive)) mine word s most script deal printed in
+      OfExpose (take directive_bytes (later directive)) mine word s most script deal printed in
       let L : ℕ → Type 0 = λ l.
-          OfExpose (take directive_bytes (later directive)) mine word k l script deal printed in
+      OfExpose (take directive_bytes (later directive)) mine word k l script deal printed in
       let B : List ℕ → Type 0 = λ b. OfExpose b mine word k limit script deal printed in
       of_expose spells.names text told word printed
       (subst B bytes (subst L (sym asks.4) (subst K (sym asks.3) (subst I (sym asks.2) shown))))
@@ -161,7 +161,7 @@ module _ (taken : Taken) (files : Files) (file : List ℕ) (limit : ℕ) (script
       let plan = plan_of order events verdict in
       let leads = finds.leads in
       let told : IsDirective printed.out script.names plan =
-          subst (λ t. IsDirective t script.names plan) (sym (ap (λ (p : Printed). p.out) is)) form in
+      subst (λ t. IsDirective t script.names plan) (sym (ap (λ (p : Printed). p.out) is)) form in
       record {
         script = script;
         deal = deal;
@@ -193,7 +193,7 @@ by_taken (Ok (RunOrder name items word points most Find)) files printed file lim
       let here : Taken = Ok (RunOrder name items word points most Find) in
       let prints = given.2 in
       let up = found_up here files name most of.0 of.2.0 of.2.1 of.1 given.0 (given.1).once
-          (given.1).whole given.1 points printed status prints.0 prints.1 prints.2 prints.3 in
+      (given.1).whole given.1 points printed status prints.0 prints.1 prints.2 prints.3 in
       subst (λ f. IsTakenUp here files f printed.out limit) (sym same.0)
       (subst (λ l. IsTakenUp here files name printed.out l) (sym same.1) up)
   | inr none ↦ absurd (refused_not (Usage word) printed none.1 (λ e. cc) status)
@@ -209,7 +209,7 @@ by_taken (Ok (RunSeed name seed depth steps most Find)) files printed file limit
     let is = order-of-is n (drawn_places seed 0 n) (drawn-are seed 0 n) in
     let prints = of.2.2.2 in
     let up = found_up here files name most script of.2.0 of.2.1 of.1 own.order
-        (drawn_order n own.order is) is.whole (k, of.2.2.1, refl) own.points printed status prints.0 prints.1 prints.2 prints.3 in
+    (drawn_order n own.order is) is.whole (k, of.2.2.1, refl) own.points printed status prints.0 prints.1 prints.2 prints.3 in
     subst (λ f. IsTakenUp here files f printed.out limit) (sym same.0)
     (subst (λ l. IsTakenUp here files name printed.out l) (sym same.1) up)
 by_taken (Ok (RunSeed name seed depth steps most Find)) files printed file limit same (inr bad) status =

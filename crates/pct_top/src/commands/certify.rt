@@ -95,12 +95,7 @@ fn push_refuted(
 }
 
 /// The line of an order under which the run has too many steps.
-fn push_long(
-    out: &mut Vec<u8>,
-    names: &Names,
-    order: &[u32],
-    steps: u32,
-) -> Result<(), NoMemory>
+fn push_long(out: &mut Vec<u8>, names: &Names, order: &[u32], steps: u32) -> Result<(), NoMemory>
     ensures { OnOk result (out.new.items ≡ out.old.items
         ++ line_text (codes "toolong" ∷ order_words names.now order.now
         ++ codes "steps" ∷ decimal steps ∷ [])) }

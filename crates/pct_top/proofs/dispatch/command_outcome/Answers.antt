@@ -35,10 +35,10 @@ returns-in-Expose g c =
     let failed' = g.H.Shelf.failed c.expose_file.new.shelf in
     let asked = c.in-Expose in
     let P : List ℕ → Type 0 = λ name. Comes
-        (λ files. OfExpose (take directive_bytes (files name)) asked.order asked.word asked.steps
-        asked.limit script test.deal)
-        told (Misses (Some name) failed failed' × OrderFits script.names (Some asked.order))
-        c.expose_file.result in
+    (λ files. OfExpose (take directive_bytes (files name)) asked.order asked.word asked.steps
+    asked.limit script test.deal)
+    told (Misses (Some name) failed failed' × OrderFits script.names (Some asked.order))
+    c.expose_file.result in
     rw c.in-Expose.is (subst P c.as_str-directive.ensures c.expose_file.ensures)
 
 pub returns-in-Certify : goal.returns-in-Certify
@@ -50,9 +50,9 @@ returns-in-Certify g c =
     let failed' = g.H.Shelf.failed c.certify_file.new.shelf in
     let asked = c.in-Certify in
     let Of : List ℕ → Files → Printed → Type 0 = λ name files.
-        OfCertify (take directive_bytes (files name)) asked.steps asked.limit script test.deal in
+    OfCertify (take directive_bytes (files name)) asked.steps asked.limit script test.deal in
     let P : List ℕ → Type 0 = λ name.
-        Comes (Of name) told (Misses (Some name) failed failed') c.certify_file.result in
+    Comes (Of name) told (Misses (Some name) failed failed') c.certify_file.result in
     let missed : Type 0 = Misses (Some asked.directive) failed failed' in
     rw c.in-Certify.is (comes_as (Of asked.directive) told missed (missed × Unit {0})
     (λ m. (m, tt)) c.certify_file.result

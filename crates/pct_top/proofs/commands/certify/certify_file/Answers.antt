@@ -16,7 +16,7 @@ returns-in-Err g c =
     let failed = g.H.Shelf.failed c.args.shelf.now in
     let missed : Type 0 = Misses (Some file) failed (g.H.Shelf.failed c.read_directed.new.shelf) in
     let G : NameLists → Type 0 = λ names.
-        GivesDirective told file names missed (Err c.in-Err.refusal) in
+    GivesDirective told file names missed (Err c.in-Err.refusal) in
     directive_refused told file script.names
     (PrintsCertificate script test.deal c.args.steps c.args.limit) missed c.in-Err.refusal
     (subst G c.names.ensures c.in-Err.ensures)

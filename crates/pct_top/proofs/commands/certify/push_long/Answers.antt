@@ -15,11 +15,11 @@ returns c =
     let more : List (List ℕ) = decimal c.args.steps ∷ [] in
     let begun = old ++ codes "toolong" in
     let listed : c.push_names.new.out.items ≡ begun ++ spaced words =
-        c.in_ok-push_names.ensures
-        ∙ ap (λ (t : List ℕ). t ++ spaced named) c.in_ok-extend_from_slice.ensures.items
-        ∙ two-words old (codes "toolong") (codes "order") (spaced named) in
+    c.in_ok-push_names.ensures
+    ∙ ap (λ (t : List ℕ). t ++ spaced named) c.in_ok-extend_from_slice.ensures.items
+    ∙ two-words old (codes "toolong") (codes "order") (spaced named) in
     let whole : c.push.new.self.items ≡ (begun ++ spaced words) ++ 32 ∷ [] =
-        c.in_ok-push.ensures.items ∙ ap (λ (t : List ℕ). t ++ 32 ∷ []) listed in
+    c.in_ok-push.ensures.items ∙ ap (λ (t : List ℕ). t ++ 32 ∷ []) listed in
     let P : List ℕ → Type 0 = λ t. OnOk c.push_count.result (c.push_count.new.out.items ≡ t) in
     subst P
     (ap (λ (t : List ℕ). t ++ line_text (codes "steps" ∷ more)) whole

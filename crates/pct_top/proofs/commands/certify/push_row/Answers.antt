@@ -13,12 +13,12 @@ returns c =
     let named : List ℕ → List (List ℕ) = map (thread_name c.args.names.now) in
     let begun = old ++ codes "order" in
     let listed : c.push_names.new.out.items ≡ begun ++ spaced (named row.order) =
-        c.in_ok-push_names.ensures
-        ∙ ap (λ (t : List ℕ). t ++ spaced (named c.as_slice.result.now))
-        c.in_ok-extend_from_slice.ensures.items
-        ∙ ap (λ (order : List ℕ). begun ++ spaced (named order)) c.as_slice.ensures in
+    c.in_ok-push_names.ensures
+    ∙ ap (λ (t : List ℕ). t ++ spaced (named c.as_slice.result.now))
+    c.in_ok-extend_from_slice.ensures.items
+    ∙ ap (λ (order : List ℕ). begun ++ spaced (named order)) c.as_slice.ensures in
     let whole : c.push.new.self.items ≡ (begun ++ spaced (named row.order)) ++ 32 ∷ [] =
-        c.in_ok-push.ensures.items ∙ ap (λ (t : List ℕ). t ++ 32 ∷ []) listed in
+    c.in_ok-push.ensures.items ∙ ap (λ (t : List ℕ). t ++ 32 ∷ []) listed in
     let line : List ℕ → List ℕ = λ points. line_text (codes "points" ∷ map decimal points) in
     let P : List ℕ → Type 0 = λ t. OnOk c.push_points.result (c.push_points.new.out.items ≡ t) in
     subst P

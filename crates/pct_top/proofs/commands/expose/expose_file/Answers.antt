@@ -24,9 +24,9 @@ returns-in-Err-read_directed g c =
     let I : List (List ℕ) → Type 0 = λ its. NamesAll names its order in
     let gives = subst I c.as_slice.ensures (subst N c.names-names.ensures c.in-Ok.ensures) in
     let Of : List ℕ → Directive → Printed → Type 0 = λ o.
-        PrintsExposed (text test.script) test.deal o c.args.steps c.args.limit in
+    PrintsExposed (text test.script) test.deal o c.args.steps c.args.limit in
     let over : Files → List ℕ → Printed → Type 0 = λ files o.
-        OfDirective (take directive_bytes (files file)) names (Of o) in
+    OfDirective (take directive_bytes (files file)) names (Of o) in
     let refusal = c.in-Err-read_directed.refusal in
     let G : NameLists → Type 0 = λ known. GivesDirective told file known missed (Err refusal) in
     ordered told names items c.args.word over (missed × OrderFits names (Some items)) order gives
@@ -48,9 +48,9 @@ returns-in_ok-exposed_by-in-Ok-read_directed g c =
     let I : List (List ℕ) → Type 0 = λ its. NamesAll names its order in
     let gives = subst I c.as_slice.ensures (subst N c.names-names.ensures c.in-Ok.ensures) in
     let Of : List ℕ → Directive → Printed → Type 0 = λ o.
-        PrintsExposed (text test.script) test.deal o c.args.steps c.args.limit in
+    PrintsExposed (text test.script) test.deal o c.args.steps c.args.limit in
     let over : Files → List ℕ → Printed → Type 0 = λ files o.
-        OfDirective (take directive_bytes (files file)) names (Of o) in
+    OfDirective (take directive_bytes (files file)) names (Of o) in
     let plan = c.in-Ok-read_directed.plan in
     let H : NameLists → Type 0 = λ known. HasDirective told file known plan in
     let printed = printed_of c.in_ok-exposed_by-in-Ok-read_directed.field-0 in

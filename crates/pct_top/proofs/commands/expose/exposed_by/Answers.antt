@@ -17,7 +17,7 @@ told_exposed-requires-clause-exposed g c =
     let test = c.args.test.now in
     let script = text test.script in
     let O : List ℕ → Type 0 = λ order. Exposes test.deal (bodies_of script) order
-        c.args.directive.now.events c.args.steps c.args.limit c.in_ok-exposed.exposed in
+    c.args.directive.now.events c.args.steps c.args.limit c.in_ok-exposed.exposed in
     subst O c.as_slice.ensures (c.in_ok-exposed.ensures script c.requires.ready)
 
 told : {E : Type 0} (script : ScriptText) (deal : Deal) (order : List ℕ) (steps limit : ℕ)
@@ -34,7 +34,7 @@ returns g c =
     let script = text test.script in
     let exposed = c.in_ok-exposed.exposed in
     let O : List ℕ → Type 0 = λ order. Exposes test.deal (bodies_of script) order
-        c.args.directive.now.events c.args.steps c.args.limit exposed in
+    c.args.directive.now.events c.args.steps c.args.limit exposed in
     told script test.deal c.args.order c.args.steps c.args.limit c.args.directive.now exposed
     c.told_exposed.result
     (subst O c.as_slice.ensures (c.in_ok-exposed.ensures script c.requires.ready))

@@ -17,13 +17,13 @@ told_trace-requires-clause-known c =
     let script = text test.script in
     let events = c.args.directive.now.events in
     let X : Exposed → Type 0 = λ exposed.
-        Exposes test.deal (bodies_of script) c.args.order events c.args.steps c.args.limit exposed in
+    Exposes test.deal (bodies_of script) c.args.order events c.args.steps c.args.limit exposed in
     let is = subst X c.in-Points.is c.requires.exposed in
     let known = known-exposed script test.deal ready.sound ready.is_deal c.args.order events
-        c.args.steps c.args.limit c.in-Points.points c.in-Points.played is (sym c.requires.whole) in
+    c.args.steps c.args.limit c.in-Points.points c.in-Points.played is (sym c.requires.whole) in
     let run = c.into_whole-run.result in
     let ends : Ends is.verdict ≡ Ends run.verdict =
-        sym is.ends ∙ c.into_whole-run.ensures.verdict in
+    sym is.ends ∙ c.into_whole-run.ensures.verdict in
     let verdict : is.verdict ≡ run.verdict = cc in
     let E : List Event → Type 0 = λ made. AreKnown script c.args.limit made is.verdict in
     let V : Verdict → Type 0 = λ v. AreKnown script c.args.limit run.events v in
