@@ -198,14 +198,23 @@ def say(line):
         pass
 
 
+def text_of_case(name):
+    """What a case of the program's own options wants, or none where there is no such case."""
+    out = os.path.join(os.path.dirname(os.path.abspath(__file__)), "cases", name, "out")
+    if not os.path.exists(out):
+        return None
+    with open(out, encoding="ascii") as text:
+        return text.read().splitlines()
+
+
 def own_answer(words):
-    """The lines of the program's own options, which stand alone; none for other words. Its help is the case's text."""
+    """The lines of the program's own options; none for other words. Its help and its explanations are the cases' texts."""
     if words == ["--version"]:
         return ["pct 0.1.0"]
     if words == ["--help"]:
-        case = os.path.join(os.path.dirname(os.path.abspath(__file__)), "cases", "own_help", "out")
-        with open(case, encoding="ascii") as text:
-            return text.read().splitlines()
+        return text_of_case("own_help")
+    if len(words) == 2 and words[0] == "--explain" and words[1].isalnum():
+        return text_of_case(f"explain_{words[1]}")
     return None
 
 

@@ -1,5 +1,7 @@
 -- The options of the program itself, apart from those of its commands (this project).
-use Rattle.std.specs.Prelude.{◌≡◌, ℕ, if◌then◌else◌, List, [], ◌∷◌, Option, Some, None, codes}
+use Rattle.std.specs.Prelude.{◌≡◌, ℕ, if◌then◌else◌, List, [], ◌∷◌, map, Option, Some, None, codes}
+use Rattle.std.specs.List.{find}
+use Rattle.std.specs.Option.{option_map}
 use Rattle.std.specs.Str.{bytes_eq}
 use Rattle.pct_outside.specs.Counter.{Rose}
 use Rattle.pct_outside.specs.Piece.{Appended, AppendedPart}
@@ -9,16 +11,38 @@ use Rattle.pct_top.specs.declared.status.Status.TheVariants.{Done, WriteFault, N
 use Rattle.pct_top.specs.Outside.{StreamTold}
 use Rattle.pct_top.specs.Refusing.{refusal_line}
 use Rattle.pct_top.specs.Saying.{Says}
+use Rattle.pct_main.specs.declared.explanations.TheConstants.{EXPLANATIONS}
 use Rattle.pct_main.specs.declared.own.Own.{Own}
-use Rattle.pct_main.specs.declared.own.Own.TheVariants.{Help, Version}
+use Rattle.pct_main.specs.declared.own.Own.TheVariants.{Help, Version, Explanation}
+use Rattle.pct_main.specs.declared.own.TheConstants.{HELP, VERSION}
 
--- the option that is the only word
-abbrev pub own_of : List (List ℕ) → Option Own
-own_of [] = None
-own_of (word ∷ []) =
-    if bytes_eq word (codes "--help") then Some Help
-    else (if bytes_eq word (codes "--version") then Some Version else None)
-own_of (word ∷ other ∷ words) = None
+-- each word that is explained, with its text
+unfoldable pub explanations : List (List ℕ × List ℕ)
+explanations = map (λ e. (e.0.now, e.1.now)) EXPLANATIONS.now
+
+-- the text beside the first place of a word, where it has one
+abbrev pub text_among : List (List ℕ × List ℕ) → List ℕ → Option (List ℕ)
+text_among entries word = option_map (λ e. e.1) (find (λ e. bytes_eq e.0 word) entries)
+
+-- the text of a word's explanation, where it has one
+abbrev pub explanation_of : List ℕ → Option (List ℕ)
+explanation_of word = text_among explanations word
+
+-- the text that an option is answered by
+abbrev pub text_of : Own → List ℕ
+text_of Help = HELP.now
+text_of Version = VERSION.now
+text_of (Explanation text) = text.now
+
+-- the text that the program answers words by, where it answers them by itself
+abbrev pub answer_to : List (List ℕ) → Option (List ℕ)
+answer_to [] = None
+answer_to (word ∷ []) =
+    if bytes_eq word (codes "--help") then Some HELP.now
+    else (if bytes_eq word (codes "--version") then Some VERSION.now else None)
+answer_to (option ∷ word ∷ []) =
+    if bytes_eq option (codes "--explain") then explanation_of word else None
+answer_to (word ∷ other ∷ another ∷ words) = None
 
 -- The text was put on the output whole, and nothing was said. Where the output refused it, or there
 -- was no memory, a part of it may be there, and that is said on the error stream.

@@ -6,6 +6,7 @@ ghost use Rattle.pct_top.specs.Refusing.{status_of_refusal, refusal_line};
 ghost use Rattle.pct_top.specs.Saying.{Says};
 ghost use Rattle.pct_main.specs.Own.{IsPut};
 
+mod explanations;
 mod own;
 
 use own::Own;

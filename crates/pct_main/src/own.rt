@@ -1,8 +1,11 @@
 //! The options of the program itself, apart from those of its commands.
 
-ghost use Rattle.std.specs.Prelude.{◌≡◌};
+ghost use Rattle.std.specs.Prelude.{◌≡◌, map};
+ghost use Rattle.std.specs.Option.{option_map};
 ghost use Rattle.pct_outside.specs.Reading.{texts_of};
 ghost use Rattle.pct_main.specs.Own as own;
+
+use crate::explanations::EXPLANATIONS;
 
 /// What `pct --help` answers.
 const HELP: &str = "\
@@ -22,6 +25,7 @@ usage: pct run FILE --order NAMES [--points STEPS] [--limit STEPS]
        pct big PIECES
        pct --help
        pct --version
+       pct --explain WORD
 
 FILE is the script. NAMES are all its threads, joined by commas, the highest priority first, and
 the points are the numbers of the steps after which the thread that took the step is lowered. A
@@ -33,6 +37,16 @@ The status is 0 where each run passes, there are no races, there is a lock order
 confirmed, what is exposed has the directive's verdict or the directive is certified, 1 where not,
 2 for a word that isn't taken, 3, 4 and 5 for files that are no script, no trace and no directive,
 6 and 7 for files and output that can't be read or written, and 8 where there is no memory.
+
+WORD is one of those below, as the program prints it. What --explain says of it is what it means,
+what it usually comes from and what mends it.
+  of a script      NotUtf8 LineTooLong TooManyLines BadHeader BadToken BadStatement UnknownName
+                   TwiceNamed NumberRange NoEnd StrayEnd NoThread TooMany
+  of other files   TooLong BadHeader BadLine UnknownName OutOfOrder NoVerdict MoreAfterVerdict
+  of a verdict     passed failed stuck misuse fault cut
+  of a misuse      notowner semfull alreadystarted toomanyreads
+  of a fault       overflow zerodivisor spin
+  of the status    0 1 2 3 4 5 6 7 8
 ";
 
 /// What `pct --version` answers.
@@ -43,32 +57,47 @@ const VERSION: &str = "pct 0.1.0\n";
 pub enum Own {
     Help,
     Version,
+    /// What a word means that the program prints.
+    Explanation(&'static str),
 }
 
 impl Own {
-    /// The option that is the only word.
+    /// The option that the words are: one word, or `--explain` and a word that is explained.
     pub fn of_words(words: &[String]) -> Option<Own>
-        ensures { result ≡ own.own_of (texts_of words.now) }
+        ensures { option_map own.text_of result ≡ own.answer_to (texts_of words.now) }
     {
-        let Some((word, others)) = words.split_first() else {
-            return None;
-        };
-        if !others.is_empty() {
-            return None;
+        match words {
+            [word] if word.as_str() == "--help" => Some(Own::Help),
+            [word] if word.as_str() == "--version" => Some(Own::Version),
+            [option, word] if option.as_str() == "--explain" => {
+                explanation_of(word.as_str()).map(Own::Explanation)
+            }
+            _ => None,
         }
-        if word.as_str() == "--help" {
-            return Some(Own::Help);
-        }
-        if word.as_str() == "--version" {
-            return Some(Own::Version);
-        }
-        None
     }
 
-    pub fn text(self) -> &'static str {
+    pub fn text(self) -> &'static str
+        ensures { result.now ≡ own.text_of self }
+    {
         match self {
             Own::Help => HELP,
             Own::Version => VERSION,
+            Own::Explanation(text) => text,
         }
     }
+}
+
+fn explanation_of(word: &str) -> Option<&'static str>
+    ensures { option_map (λ text. text.now) result ≡ own.explanation_of word.now }
+{
+    text_among(EXPLANATIONS, word)
+}
+
+/// The text beside the word's first place in the table.
+fn text_among(entries: &[(&str, &'static str)], word: &str) -> Option<&'static str>
+    ensures { option_map (λ text. text.now) result
+        ≡ own.text_among (map (λ e. (e.0.now, e.1.now)) entries.now) word.now }
+{
+    let entry = entries.iter().find(|entry| entry.0 == word)?;
+    Some(entry.1)
 }
