@@ -19,11 +19,17 @@ _pct() {
     case $before in
     --order) words=$(_pct_threads "${COMP_WORDS[2]}") ;;
     --form) words='text json' ;;
+    --explain) ;;
     --*) return ;;
     esac
     case $COMP_CWORD,$command in
-    1,*) words='run races locks find expose certify campaign replay big --help --version' ;;
-    2,big) return ;;
+    1,*) words='run races locks find expose certify campaign replay big --help --version
+        --explain' ;;
+    2,--explain) words='NotUtf8 LineTooLong TooManyLines BadHeader BadToken BadStatement
+        UnknownName TwiceNamed NumberRange NoEnd StrayEnd NoThread TooMany TooLong BadLine
+        OutOfOrder NoVerdict MoreAfterVerdict passed failed stuck misuse fault cut notowner semfull
+        alreadystarted toomanyreads overflow zerodivisor spin 0 1 2 3 4 5 6 7 8' ;;
+    2,big | *,--explain) return ;;
     2,* | 3,replay | 3,expose | 3,certify)
         mapfile -t COMPREPLY < <(compgen -f -- "$current")
         compopt -o filenames 2>/dev/null

@@ -18,7 +18,7 @@ function __pct_wants_file
     set -l words (commandline -opc)
     switch (count $words)
         case 2
-            test $words[2] != big
+            not contains -- $words[2] big --explain
         case 3
             contains -- $words[2] replay expose certify
         case '*'
@@ -26,9 +26,22 @@ function __pct_wants_file
     end
 end
 
+# Whether the next word is one that is explained.
+function __pct_wants_explained
+    set -l words (commandline -opc)
+    test (count $words) -eq 2; and test $words[2] = --explain
+end
+
+# The words that --explain takes.
+set -l explained \
+    NotUtf8 LineTooLong TooManyLines BadHeader BadToken BadStatement UnknownName TwiceNamed \
+    NumberRange NoEnd StrayEnd NoThread TooMany TooLong BadLine OutOfOrder NoVerdict \
+    MoreAfterVerdict passed failed stuck misuse fault cut notowner semfull alreadystarted \
+    toomanyreads overflow zerodivisor spin 0 1 2 3 4 5 6 7 8
 set -l of_run run races locks find
 complete -c pct -f
-complete -c pct -n 'test (count (commandline -opc)) -eq 1' -a 'run races locks find expose certify campaign replay big --help --version'
+complete -c pct -n 'test (count (commandline -opc)) -eq 1' -a 'run races locks find expose certify campaign replay big --help --version --explain'
+complete -c pct -n __pct_wants_explained -a "$explained"
 complete -c pct -n __pct_wants_file -F
 complete -c pct -n "__pct_has_file_of $of_run expose" -l order -x -a '(__pct_threads)' -d 'all threads, the highest first'
 complete -c pct -n "__pct_has_file_of $of_run" -l points -x -d 'after which steps threads are lowered'
