@@ -1,4 +1,5 @@
--- What a call of the program does to what is outside of it, by its status. No clause here knows a command.
+-- What a call of the program does to what is outside of it, by its status. No clause here knows a
+-- command.
 use Rattle.std.specs.Prelude.{◌≡◌, ℕ, ◌⊎◌, List, [], ◌++◌, Option, Some, Result, Ok, Err}
 use Rattle.std.specs.List.{Contains}
 use Rattle.pct_outside.specs.Counter.{Rose}
@@ -138,8 +139,8 @@ CanRun (Ok settings) files =
     × OrderFits script.names (order_given settings) × SecondFits settings files script
 CanRun (Err number) files = ⊥
 
--- Words that are taken, files in their grammars, an order that fits, no failed read of these files and no fault of the
--- output give a whole answer, want of memory aside.
+-- Words that are taken, files in their grammars, an order that fits, no failed read of these files
+-- and no fault of the output give a whole answer, want of memory aside.
 abbrev pub Completes : List (List ℕ) → Outside → Outside → Status → Type 0
 Completes words found left status =
     (files : Files) → found.shelf.files ≡ Some files → CanRun (settings words) files
@@ -147,7 +148,8 @@ Completes words found left status =
     → ¬ Gained name found.shelf.failed left.shelf.failed)
     → ¬ IsRefusing found.output left.output → IsAnswer status ⊎ (status ≡ statuses.NoMemory)
 
--- Where the words aren't taken, the status says so, want of memory aside. This holds where no files are told.
+-- Where the words aren't taken, the status says so, want of memory aside. This holds where no files
+-- are told.
 abbrev pub RefusedWords : Taken → Status → Type 0
 RefusedWords (Ok settings) status = Unit {0}
 RefusedWords (Err number) statuses.Usage = Unit {0}
@@ -160,8 +162,8 @@ PrintsAll found left status printed =
     (status ≡ printed.status) × Appended printed.out found.output.written left.output.written
     × Says printed.err found.errors left.errors
 
--- By the status, how much of what may be printed is on the streams: all, nothing after a read that failed, or a part of
--- the output after a write that failed and where there was no memory.
+-- By the status, how much of what may be printed is on the streams: all, nothing after a read that
+-- failed, or a part of the output after a write that failed and where there was no memory.
 abbrev pub Prints : Outside → Outside → Status → Printed → Type 0
 Prints found left statuses.ReadFault printed = left.output ≡ found.output
 Prints found left statuses.WriteFault printed =
@@ -176,7 +178,8 @@ IsExact words found left status =
     (files : Files) → found.shelf.files ≡ Some files
     → (printed : Printed) → Output words files printed → Prints found left status printed
 
--- there is something that *Output* may print for the words and the files, and it is put and said whole
+-- there is something that *Output* may print for the words and the files, and it is put and said
+-- whole
 abbrev pub PrintsWhole : List (List ℕ) → Outside → Outside → Status → Type 0
 PrintsWhole words found left status =
     (files : Files) → found.shelf.files ≡ Some files

@@ -1,4 +1,5 @@
--- Replaying a written trace gives its verdict, said of the program: what `run` prints whole, `replay` confirms (this project).
+-- Replaying a written trace gives its verdict, said of the program: what `run` prints whole,
+-- `replay` confirms (this project).
 use Rattle.std.specs.Prelude.{◌≡◌, ◌⊎◌, ℕ, true, false, List, [], ◌∷◌, Ok, Err, codes, take}
 use Rattle.pct_ask.specs.NameLists.{NameLists}
 use Rattle.pct_ask.specs.VerdictText.{named, verdict_words}
@@ -35,7 +36,8 @@ confirmed names verdict =
 abbrev pub replay_of : List ℕ → List ℕ → List (List ℕ)
 replay_of file trace = codes "replay" ∷ file ∷ trace ∷ []
 
--- in any files in which the script's name has the same bytes and another name those that were printed, replaying them is confirmed
+-- in any files in which the script's name has the same bytes and another name those that were
+-- printed, replaying them is confirmed
 abbrev pub IsConfirmed : Files → List ℕ → List ℕ → ScriptText → Verdict → Type 0
 IsConfirmed files file text script verdict =
     (later : Files) (trace : List ℕ) → later file ≡ files file → later trace ≡ text

@@ -50,7 +50,8 @@ is_new o From = is_none o.from
 is_new o Count = is_none o.count
 is_new o Form = is_none o.json
 
--- the options with one more, whose value is the word of this number; none where the value isn't lawful
+-- the options with one more, whose value is the word of this number; none where the value isn't
+-- lawful
 abbrev pub with_value : Options → ℕ → OptionName → List ℕ → Option Options
 with_value o word Order value =
     option_map (λ items. record o { order = Some (record { items = items; word = word }) })

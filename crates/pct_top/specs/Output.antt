@@ -69,7 +69,8 @@ second_file (Certify file directive steps limit) = Some directive
 -- the file is a directive's under these names
 abbrev pub FitsDirective : Files → List ℕ → NameLists → Type 0
 FitsDirective files file names =
-    (directive : Directive) × IsDirective (take directive_bytes (files file)) names (plain directive)
+    (directive : Directive)
+    × IsDirective (take directive_bytes (files file)) names (plain directive)
 
 -- the second file is in its grammar
 abbrev pub SecondFits : Settings → Files → ScriptText → Type 0

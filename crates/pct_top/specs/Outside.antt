@@ -1,4 +1,5 @@
--- What is outside of a call, as far as it is told: the shelf of files, the output and the error stream (this project).
+-- What is outside of a call, as far as it is told: the shelf of files, the output and the error
+-- stream (this project).
 use Rattle.std.specs.Prelude.{ℕ, ◌⊎◌, List, Option}
 use Rattle.pct_outside.specs.Counter.{Rose}
 
@@ -7,7 +8,8 @@ pub record ShelfTold : Type 0 where
   pub files : Option (List ℕ → List ℕ)
   pub failed : List (List ℕ)
 
--- a stream: the bytes that were put on it, where it tells them, and how often it refused a put and there was no memory for one
+-- a stream: the bytes that were put on it, where it tells them, and how often it refused a put and
+-- there was no memory for one
 pub record StreamTold : Type 0 where
   pub written : Option (List ℕ)
   pub faults : ℕ

@@ -1,5 +1,6 @@
--- What a call puts on the output and says on the error stream, and how it ends, by the order of work: the script is read
--- and parsed, then an order is looked up, then a second file is read and parsed, and then the runs are made (this project).
+-- What a call puts on the output and says on the error stream, and how it ends, by the order of
+-- work: the script is read and parsed, then an order is looked up, then a second file is read and
+-- parsed, and then the runs are made (this project).
 use Rattle.std.specs.Prelude.{◌≡◌, ℕ, ◌⊎◌, Bool, if◌then◌else◌, List, [], Option, Some, None}
 use Rattle.pct_ask.specs.NameLists.{NameLists}
 use Rattle.pct_ask.specs.declared.Deal.{Deal}
@@ -53,7 +54,8 @@ trace_bytes = 16777217
 abbrev pub directive_bytes : ℕ
 directive_bytes = 65537
 
--- The bytes spell a script, of which, with what its threads share, this is printed; or they have a fault.
+-- The bytes spell a script, of which, with what its threads share, this is printed; or they have a
+-- fault.
 abbrev pub OfScript : List ℕ → (ScriptText → Deal → Printed → Type 0) → Printed → Type 0
 OfScript bytes of printed =
     ((script : ScriptText) × Spells bytes script
@@ -61,8 +63,8 @@ OfScript bytes of printed =
     ⊎ ((line : ℕ) × (kind : ScriptFault) × IsFault bytes line kind
     × (printed ≡ refused (Script line kind)))
 
--- The names, which stand in the word of this number, list every thread once, and this is printed of their order; or the
--- word is refused.
+-- The names, which stand in the word of this number, list every thread once, and this is printed of
+-- their order; or the word is refused.
 abbrev pub OfOrder : NameLists → List (List ℕ) → ℕ → (List ℕ → Printed → Type 0) → Printed → Type 0
 OfOrder names items word of printed =
     ((order : List ℕ) × NamesAll names items order × of order printed)

@@ -26,7 +26,8 @@ OfOrdered items word points limit report script deal printed =
     OfOrder script.names items word
     (λ order. OfReport report script deal order points limit) printed
 
--- the report on the run under the order and the points that a seed gives, whose points are drawn from k steps
+-- the report on the run under the order and the points that a seed gives, whose points are drawn
+-- from k steps
 abbrev pub OfDrawn : ℕ → ℕ → ℕ → ℕ → Report → ScriptText → Deal → Printed → Type 0
 OfDrawn seed depth k limit report script deal printed =
     let own = drawn seed (length script.names.threads) k depth in

@@ -20,8 +20,8 @@ run_of script deal order points limit = run deal (bodies_of script) order points
 abbrev pub declared : ScriptText → List ℕ
 declared script = range_with_len 0 (length script.names.threads)
 
--- From how many steps points are drawn: those that are given, or else as many as the run in declared order has, and at
--- least one.
+-- From how many steps points are drawn: those that are given, or else as many as the run in
+-- declared order has, and at least one.
 abbrev pub DrawsFrom : ScriptText → Deal → ℕ → Option ℕ → ℕ → Type 0
 DrawsFrom script deal limit (Some steps) k = k ≡ steps
 DrawsFrom script deal limit None k =

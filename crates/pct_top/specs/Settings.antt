@@ -27,7 +27,8 @@ abbrev pub taken_or : ℕ → Option Settings → Taken
 taken_or next None = Err next
 taken_or next (Some settings) = Ok settings
 
--- What options make, after which a word would have this number: it is missing where they make nothing.
+-- What options make, after which a word would have this number: it is missing where they make
+-- nothing.
 abbrev pub made_of : (Options → Option Settings) → ℕ → Given → Taken
 made_of make next (Err number) = Err number
 made_of make next (Ok o) = taken_or next (make o)
@@ -72,7 +73,8 @@ campaign_by file o first count depth =
 abbrev pub campaign_with : List ℕ → Options → Option Settings
 campaign_with file o =
     option_and_then
-    (λ first. option_and_then (λ count. option_map (campaign_by file o first count) o.depth) o.count)
+    (λ first.
+    option_and_then (λ count. option_map (campaign_by file o first count) o.depth) o.count)
     o.from
 
 abbrev pub campaign_settings : List (List ℕ) → Taken

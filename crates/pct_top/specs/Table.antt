@@ -1,4 +1,5 @@
--- The table of the program's commands: the word of each, and the options that it takes (this project).
+-- The table of the program's commands: the word of each, and the options that it takes (this
+-- project).
 use Rattle.std.specs.Prelude.{ℕ, ◌||◌, not, Bool, true, false, if◌then◌else◌, List, Option, Some, None, is_some, codes}
 use Rattle.std.specs.Str.{bytes_eq}
 use Rattle.pct_top.specs.declared.command.Command.{Command}
@@ -31,7 +32,8 @@ is_ordered o = is_some o.order || is_some o.points
 abbrev pub is_seeded : Options → Bool
 is_seeded o = is_some o.seed || is_some o.depth || is_some o.steps
 
--- The option belongs to a run, and none of the other form was given. The limit belongs to both forms.
+-- The option belongs to a run, and none of the other form was given. The limit belongs to both
+-- forms.
 abbrev pub run_takes : Options → OptionName → Bool
 run_takes o Order = not (is_seeded o)
 run_takes o Points = not (is_seeded o)

@@ -4,21 +4,21 @@ ghost use Rattle.pct_top.specs.Confirmed.{RunsAreConfirmed, ExposedAreConfirmed}
 ghost use Rattle.pct_top.specs.Counted.{CertifiedAreCounted};
 ghost use Rattle.pct_top.specs.TakenUp.{FoundAreTakenUp};
 
-/// A law of the program, and no work: what `run` writes whole is a trace whose replay over the same script is confirmed with
-/// the verdict that it states.
+/// A law of the program, and no work: what `run` writes whole is a trace whose replay over the same
+/// script is confirmed with the verdict that it states.
 pub fn runs_are_confirmed()
     ensures { RunsAreConfirmed }
 {}
 
-/// The same law of a directive: what `expose` writes, where its run isn't too long, is a trace whose
-/// replay over the same script is confirmed with the verdict that it states.
+/// The same law of a directive: what `expose` writes, where its run isn't too long, is a trace
+/// whose replay over the same script is confirmed with the verdict that it states.
 pub fn exposed_are_confirmed()
     ensures { ExposedAreConfirmed }
 {}
 
 /// A law of the program, and no work: where `certify` is done, of the `n! k^m` choices of an order
-/// of the script's `n` threads and of `m` points in `1..=k`, where the directive has `m` moments and
-/// the words give `k`, at least one in `n k^m` leads to the directive's verdict.
+/// of the script's `n` threads and of `m` points in `1..=k`, where the directive has `m` moments
+/// and the words give `k`, at least one in `n k^m` leads to the directive's verdict.
 pub fn certified_are_counted()
     ensures { CertifiedAreCounted }
 {}

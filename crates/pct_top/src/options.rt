@@ -233,7 +233,8 @@ impl Options {
         }
     }
 
-    /// Takes the option that a word begins, which is the word of this number, and gives the words behind its value.
+    /// Takes the option that a word begins, which is the word of this number, and gives the words
+    /// behind its value.
     fn take_next<'a>(
         &mut self,
         alloc: Global,
@@ -260,8 +261,8 @@ impl Options {
     }
 }
 
-/// The options that words give a command, of which the first has this number, and the number of the word that would
-/// follow them.
+/// The options that words give a command, of which the first has this number, and the number of the
+/// word that would follow them.
 pub fn options_in(
     alloc: Global,
     command: Command,

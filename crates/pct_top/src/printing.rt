@@ -163,7 +163,8 @@ fn line_of(refusal: &Refusal) -> Line
     }
 }
 
-/// Says on the error stream why a call gives no output. A put that is refused there changes nothing else.
+/// Says on the error stream why a call gives no output. A put that is refused there changes nothing
+/// else.
 pub fn say<E: Sink>(err: &mut E, refusal: &Refusal)
     ensures { Says (refusal_line refusal.now)
         (record {

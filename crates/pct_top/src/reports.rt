@@ -47,7 +47,8 @@ fn report_of<R: Threads + Wait + Sync, G: Gate>(
     }
 }
 
-/// The report on a test's run under the order that names give, which stand in the word of this number.
+/// The report on a test's run under the order that names give, which stand in the word of this
+/// number.
 pub fn report_ordered<R: Threads + Wait + Sync, G: Gate>(
     rt: &R,
     alloc: Global,

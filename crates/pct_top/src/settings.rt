@@ -24,8 +24,8 @@ pub enum Report {
 /// A command with its values.
 #[derive(Debug, Drop)]
 pub enum Settings {
-    /// The run of a script under an order of its threads, the highest priority first, which stands in the word of this
-    /// number, and change points. It has at most `limit` steps.
+    /// The run of a script under an order of its threads, the highest priority first, which stands
+    /// in the word of this number, and change points. It has at most `limit` steps.
     RunOrder {
         file: Text,
         order: TextList,
@@ -34,8 +34,9 @@ pub enum Settings {
         limit: u32,
         report: Report,
     },
-    /// The run of a script under an order and `depth - 1` change points that are drawn from a seed. The points are drawn
-    /// from so many steps, or where none are given from as many as the run in declared order has.
+    /// The run of a script under an order and `depth - 1` change points that are drawn from a seed.
+    /// The points are drawn from so many steps, or where none are given from as many as the run in
+    /// declared order has.
     RunSeed {
         file: Text,
         seed: u64,
@@ -44,8 +45,8 @@ pub enum Settings {
         limit: u32,
         report: Report,
     },
-    /// A campaign: the runs of a script for each of `count` seeds from `first` on, after whose last comes 0, and the report
-    /// on them, as JSON or as a text.
+    /// A campaign: the runs of a script for each of `count` seeds from `first` on, after whose last
+    /// comes 0, and the report on them, as JSON or as a text.
     Campaign {
         file: Text,
         first: u64,
@@ -64,8 +65,9 @@ pub enum Settings {
         file: Text,
         trace: Text,
     },
-    /// The run of a script that a directive exposes under an order of its threads, which stands in the word of this
-    /// number. It has at most `limit` steps, and points stand for the directive's moments where it has at most `steps`.
+    /// The run of a script that a directive exposes under an order of its threads, which stands in
+    /// the word of this number. It has at most `limit` steps, and points stand for the directive's
+    /// moments where it has at most `steps`.
     Expose {
         file: Text,
         directive: Text,

@@ -98,8 +98,8 @@ fn answer<R: Threads + Wait + Sync, H: Shelf, O: Sink, G: Gate>(
     }
 }
 
-/// A call of the program with these words, its own name left out: what they ask for is put on the output, or the line that
-/// says why not on the error stream.
+/// A call of the program with these words, its own name left out: what they ask for is put on the
+/// output, or the line that says why not on the error stream.
 pub fn pct<R: Threads + Wait + Sync, H: Shelf, O: Sink, E: Sink, G: Gate>(
     rt: &R,
     alloc: Global,

@@ -20,7 +20,8 @@ failures rows = count_by (λ row. not (is_passed row.verdict)) rows
 abbrev pub counted : List ℕ → ℕ → List (List ℕ)
 counted word count = word ∷ decimal count ∷ []
 
--- the lines of the script, the steps of its run in declared order, the runs, and their failures and groups
+-- the lines of the script, the steps of its run in declared order, the runs, and their failures and
+-- groups
 abbrev pub big_lines : ℕ → ℕ → List Row → List Group → List (List (List ℕ))
 big_lines lines steps rows groups =
     counted (codes "lines") lines ∷ counted (codes "steps") steps

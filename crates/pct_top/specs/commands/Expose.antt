@@ -18,8 +18,8 @@ use Rattle.pct_top.specs.Runs.{run_of, TellsRun}
 abbrev pub long_text : ℕ → List ℕ
 long_text many = line_text (codes "toolong" ∷ decimal many ∷ [])
 
--- The trace of the run under the order and the points that stand for the directive's moments. It is done where it has the
--- directive's verdict. Or the run has more steps than there may be.
+-- The trace of the run under the order and the points that stand for the directive's moments. It is
+-- done where it has the directive's verdict. Or the run has more steps than there may be.
 abbrev pub TellsExposed :
     ScriptText → Deal → List ℕ → ℕ → Verdict → Exposed → Printed → Type 0
 TellsExposed script deal order limit verdict (Points points played) printed =
@@ -36,8 +36,8 @@ PrintsExposed script deal order steps limit directive printed =
     × Exposes deal (bodies_of script) order directive.events steps limit exposed
     × TellsExposed script deal order limit directive.verdict exposed printed
 
--- The same of the directive that these bytes are, or their fault, under the order that the names give, which stand in the
--- word of this number.
+-- The same of the directive that these bytes are, or their fault, under the order that the names
+-- give, which stand in the word of this number.
 abbrev pub OfExpose :
     List ℕ → List (List ℕ) → ℕ → ℕ → ℕ → ScriptText → Deal → Printed → Type 0
 OfExpose bytes items word steps limit script deal printed =

@@ -9,7 +9,8 @@ use Rattle.directive_find.specs.declared.finding.FoundOut.{FoundOut}
 use Rattle.directive_find.specs.declared.finding.FoundOut.TheVariants.{Events, Passes}
 
 -- at most seven moments of the script's threads, and a verdict of theirs
-pub record AreKnownMoments (names : NameLists) (events : List Moment) (verdict : Verdict) : Type 0 where
+pub record AreKnownMoments (names : NameLists) (events : List Moment) (verdict : Verdict) :
+    Type 0 where
   pub few : length events ≤ 7
   pub moments : All (IsMoment names) events
   pub threads : HasNames names verdict

@@ -108,8 +108,8 @@ fn exposed_by<R: Threads + Wait + Sync, G: Gate>(
     told_exposed(alloc, test, order, directive, steps, limit, exposed)
 }
 
-/// What the directive of a file exposes over a test, under the order that names give, which stand in the word of this
-/// number.
+/// What the directive of a file exposes over a test, under the order that names give, which stand
+/// in the word of this number.
 pub fn expose_file<R: Threads + Wait + Sync, H: Shelf, G: Gate>(
     rt: &R,
     alloc: Global,

@@ -27,7 +27,8 @@ fn passes(found: &FoundOut) -> bool
     matches!(found, FoundOut::Passes { .. })
 }
 
-/// The directive of what was found, with this thread as the lowest, or how many steps the run has that passes.
+/// The directive of what was found, with this thread as the lowest, or how many steps the run has
+/// that passes.
 fn write_found(
     alloc: Global,
     names: &Names,

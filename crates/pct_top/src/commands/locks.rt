@@ -23,7 +23,8 @@ use std::thread::Threads;
 
 /// The line of a nesting.
 fn push_nesting(out: &mut Vec<u8>, names: &Names, nesting: &Nesting) -> Result<(), NoMemory>
-    ensures { OnOk result (out.new.items ≡ out.old.items ++ line_text (nesting_words names.now nesting.now)) }
+    ensures { OnOk result (out.new.items
+        ≡ out.old.items ++ line_text (nesting_words names.now nesting.now)) }
 {
     out.extend_from_slice(b"nest")?;
     push_number(out, nesting.step)?;
@@ -36,7 +37,8 @@ fn push_nesting(out: &mut Vec<u8>, names: &Names, nesting: &Nesting) -> Result<(
 
 /// The line of an order.
 fn push_order(out: &mut Vec<u8>, names: &Names, mutexes: &[u32]) -> Result<(), NoMemory>
-    ensures { OnOk result (out.new.items ≡ out.old.items ++ line_text (codes "order" ∷ map (name_at names.now.mutexes) mutexes.now)) }
+    ensures { OnOk result (out.new.items ≡ out.old.items
+        ++ line_text (codes "order" ∷ map (name_at names.now.mutexes) mutexes.now)) }
 {
     out.extend_from_slice(b"order")?;
     for mutex in mutexes {

@@ -24,7 +24,8 @@ use worker_run::Played;
 
 /// The line of a race.
 fn push_race(out: &mut Vec<u8>, names: &Names, race: &Race) -> Result<(), NoMemory>
-    ensures { OnOk result (out.new.items ≡ out.old.items ++ line_text (race_words names.now race.now)) }
+    ensures { OnOk result (out.new.items
+        ≡ out.old.items ++ line_text (race_words names.now race.now)) }
 {
     out.extend_from_slice(b"race")?;
     push_word(out, name_of(names, NameKind::Var, race.var))?;
