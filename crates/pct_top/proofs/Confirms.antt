@@ -22,12 +22,11 @@ use Rattle.worker_run.proofs.laws.WholeRuns.{run-played}
 use Rattle.replay_run.specs.declared.answer.Replayed.TheVariants.{Confirmed}
 use Rattle.replay_run.specs.Replay.{IsReplay}
 use Rattle.replay_run.proofs.laws.ListedRuns.{listed_again}
-use Rattle.pct_top.specs.declared.refusal.Refusal.{Refusal}
 use Rattle.pct_top.specs.declared.refusal.Refusal.TheVariants.{Usage, Script, Directive as BadDirective}
 use Rattle.pct_top.specs.declared.settings.Report.TheVariants.{Trace}
 use Rattle.pct_top.specs.declared.settings.Settings.TheVariants.{RunOrder, RunSeed, Expose}
 use Rattle.pct_top.specs.Settings.{Taken, settings}
-use Rattle.pct_top.specs.Printed.{Files, Printed, refused, told, script_bytes, trace_bytes}
+use Rattle.pct_top.specs.Printed.{Files, Printed, told, script_bytes, trace_bytes}
 use Rattle.pct_top.specs.Runs.{run_of, is_passed, file_of, traced, told_trace, TellsRun}
 use Rattle.pct_top.specs.commands.Run.{PrintsTrace}
 use Rattle.pct_top.specs.commands.Replay.{replied}
@@ -38,6 +37,7 @@ use Rattle.directive_run.specs.declared.answers.Exposed.TheVariants.{Points, Too
 use Rattle.pct_top.specs.Output.{OfTaken}
 use Rattle.pct_top.specs.Call.{IsAnswer}
 use Rattle.pct_top.specs.Confirmed.{RunsFile, TellsVerdict, confirmed, IsConfirmed, IsConfirmedTrace, RunsAreConfirmed, ExposesFile, TellsLong, ExposedAreConfirmed}
+use Rattle.pct_top.proofs.Refusals.{not_refused}
 
 -- what the law says of one output
 abbrev IsSo : Files → List ℕ → Printed → Type 0
@@ -98,18 +98,14 @@ traced_so script deal of order points limit printed prints =
     confirms script deal of order points limit printed prints.0 (is_passed (prints.0).1) prints.1
     prints.2
 
--- a refusal is no answer
-refused_not : (refusal : Refusal) (printed : Printed) → printed ≡ refused refusal → (IsAnswer (refused refusal).status → ⊥) → IsAnswer printed.status → ⊥
-refused_not refusal printed is never answers = never (subst (λ (p : Printed). IsAnswer p.status) is answers)
-
 by_taken : (taken : Taken) (files : Files) (printed : Printed) (name : List ℕ) → RunsFile taken name → OfTaken taken files printed → IsAnswer printed.status → IsSo files name printed
 by_taken (Ok (RunOrder file order word points limit Trace)) files printed name same (inl of) answers = elim of.2.2 [
   | inl given ↦ subst (λ n. IsSo files n printed) (sym same) (traced_so of.0 of.2.0 of.2.1 given.0 points limit printed given.2 files file of.1)
-  | inr none ↦ absurd (refused_not (Usage word) printed none.1 (λ h. h) answers)
+  | inr none ↦ absurd (not_refused IsAnswer (Usage word) printed none.1 (λ h. h) answers)
 ]
-by_taken (Ok (RunOrder file order word points limit Trace)) files printed name same (inr bad) answers = absurd (refused_not (Script bad.0 bad.1) printed bad.3 (λ h. h) answers)
+by_taken (Ok (RunOrder file order word points limit Trace)) files printed name same (inr bad) answers = absurd (not_refused IsAnswer (Script bad.0 bad.1) printed bad.3 (λ h. h) answers)
 by_taken (Ok (RunSeed file seed depth steps limit Trace)) files printed name same (inl of) answers = subst (λ n. IsSo files n printed) (sym same) (traced_so of.0 of.2.0 of.2.1 _ _ limit printed of.2.2.2 files file of.1)
-by_taken (Ok (RunSeed file seed depth steps limit Trace)) files printed name same (inr bad) answers = absurd (refused_not (Script bad.0 bad.1) printed bad.3 (λ h. h) answers)
+by_taken (Ok (RunSeed file seed depth steps limit Trace)) files printed name same (inr bad) answers = absurd (not_refused IsAnswer (Script bad.0 bad.1) printed bad.3 (λ h. h) answers)
 by_taken taken files printed name same of answers = absurd same
 
 pub runs_confirmed : RunsAreConfirmed
@@ -136,12 +132,12 @@ exposed_by (Ok (Expose file directive order word steps limit)) files printed nam
     | inl plan ↦ subst (λ n. TellsLong printed ⊎ IsSo files n printed) (sym same)
         (exposed_so of.0 of.2.0 of.2.1 given.0 limit (plan.0).verdict (plan.2).0 printed (plan.2).2
         files file of.1)
-    | inr bad ↦ absurd (refused_not (BadDirective bad.0 bad.1) printed bad.3 (λ h. h) answers)
+    | inr bad ↦ absurd (not_refused IsAnswer (BadDirective bad.0 bad.1) printed bad.3 (λ h. h) answers)
   ]
-  | inr none ↦ absurd (refused_not (Usage word) printed none.1 (λ h. h) answers)
+  | inr none ↦ absurd (not_refused IsAnswer (Usage word) printed none.1 (λ h. h) answers)
 ]
 exposed_by (Ok (Expose file directive order word steps limit)) files printed name same (inr bad) answers =
-    absurd (refused_not (Script bad.0 bad.1) printed bad.3 (λ h. h) answers)
+    absurd (not_refused IsAnswer (Script bad.0 bad.1) printed bad.3 (λ h. h) answers)
 exposed_by taken files printed name same of answers = absurd same
 
 pub exposed_confirmed : ExposedAreConfirmed

@@ -1,5 +1,5 @@
 -- Where `certify` is done, its directive is counted.
-use Rattle.std.proofs.Common.{◌≡◌, ◌≢◌, ℕ, ◌*◌, ◌^◌, ◌≤◌, inl, inr, List, length, Ok, Err, take, sym, ap, subst, ◌∙◌}
+use Rattle.std.proofs.Common.{◌≡◌, ℕ, ◌*◌, ◌^◌, ◌≤◌, inl, inr, List, length, Ok, Err, take, sym, ap, subst, ◌∙◌}
 use Rattle.pct_ask.specs.declared.Deal.{Deal}
 use Rattle.script_tree.specs.ScriptText.{ScriptText}
 use Rattle.script_tree.specs.DealOf.{IsDealOf}
@@ -11,17 +11,16 @@ use Rattle.directive_run.specs.Counting.{hits}
 use Rattle.directive_run.specs.Certifying.{Certifies}
 use Rattle.directive_run.specs.declared.answers.Certified.{Certified}
 use Rattle.directive_run.specs.declared.answers.Certified.TheVariants.{Yes, Refuted, TooLong, TooManyThreads}
-use Rattle.pct_top.specs.declared.refusal.Refusal.{Refusal}
 use Rattle.pct_top.specs.declared.refusal.Refusal.TheVariants.{Script, Directive as BadDirective}
 use Rattle.pct_top.specs.declared.settings.Settings.TheVariants.{Certify}
 use Rattle.pct_top.specs.declared.status.Status.{Status}
 use Rattle.pct_top.specs.declared.status.Status.TheVariants.{Done}
 use Rattle.pct_top.specs.Settings.{Taken, settings}
-use Rattle.pct_top.specs.Refusing.{status_of_refusal}
-use Rattle.pct_top.specs.Printed.{Files, Printed, refused}
+use Rattle.pct_top.specs.Printed.{Files, Printed}
 use Rattle.pct_top.specs.Output.{OfTaken}
 use Rattle.pct_top.specs.commands.Certify.{told_certificate}
 use Rattle.pct_top.specs.Counted.{CertifiesFile, IsOneIn, IsCounted, CertifiedAreCounted}
+use Rattle.pct_top.proofs.Refusals.{not_refused}
 
 -- only a certified directive is done
 counted_by : (script : ScriptText) (deal : Deal) → IsDealOf script deal → (directive : Directive)
@@ -40,11 +39,9 @@ counted_by script deal of directive steps limit (Refuted order verdict) is done 
 counted_by script deal of directive steps limit (TooLong order many) is done = absurd cc
 counted_by script deal of directive steps limit (TooManyThreads threads) is done = absurd cc
 
--- a refusal isn't done
-refused_not_done : (refusal : Refusal) (printed : Printed) → printed ≡ refused refusal
-    → status_of_refusal refusal ≢ Done → printed.status ≢ Done
-refused_not_done refusal printed is never done =
-    never (sym (ap (λ (p : Printed). p.status) is) ∙ done)
+-- done and nothing else
+abbrev IsDone : Status → Type 0
+IsDone status = status ≡ Done
 
 by_taken : (taken : Taken) (files : Files) (printed : Printed) (file directive : List ℕ)
     (k limit : ℕ) → CertifiesFile taken file directive k limit → OfTaken taken files printed
@@ -67,10 +64,10 @@ by_taken (Ok (Certify name other steps most)) files printed file directive k lim
       (subst (λ d. IsCounted files name d k limit) (sym same.1)
       (subst (λ s. IsCounted files name other s limit) (sym same.2)
       (subst (λ l. IsCounted files name other steps l) (sym same.3) whole)))
-  | inr bad ↦ absurd (refused_not_done (BadDirective bad.0 bad.1) printed bad.3 (λ e. cc) done)
+  | inr bad ↦ absurd (not_refused IsDone (BadDirective bad.0 bad.1) printed bad.3 (λ e. cc) done)
 ]
 by_taken (Ok (Certify name other steps most)) files printed file directive k limit same (inr bad) done =
-    absurd (refused_not_done (Script bad.0 bad.1) printed bad.3 (λ e. cc) done)
+    absurd (not_refused IsDone (Script bad.0 bad.1) printed bad.3 (λ e. cc) done)
 by_taken taken files printed file directive k limit same of done = absurd same
 
 pub certified_counted : CertifiedAreCounted

@@ -19,6 +19,7 @@ mod KnownDirected
 mod OnePrinted
 mod Comes
 mod Calls
+mod Refusals
 mod Confirms
 mod Counts
 mod Takes

@@ -1,5 +1,5 @@
 -- What `find` finds is taken up by `expose`.
-use Rattle.std.proofs.Common.{◌≡◌, ◌≢◌, ℕ, suc, ◌≤◌, ◌<◌, inl, inr, List, [], ◌∷◌, length, map, Option, Some, Ok, Err, Bool, true, take, refl, sym, ap, subst, ◌∙◌, arith}
+use Rattle.std.proofs.Common.{◌≡◌, ℕ, suc, ◌≤◌, ◌<◌, inl, inr, List, [], ◌∷◌, length, map, Option, Some, Ok, Err, Bool, true, take, refl, sym, ap, subst, ◌∙◌, arith}
 use Rattle.std.specs.Prelude.{slice_index}
 use Rattle.std.specs.Option.{option_map, option_and_then}
 use Rattle.std.proofs.lemmas.List.{take_all}
@@ -30,22 +30,21 @@ use Rattle.directive_run.specs.Counting.{same_verdict}
 use Rattle.directive_run.specs.Exposing.{Exposes}
 use Rattle.directive_run.specs.declared.answers.Exposed.{Exposed}
 use Rattle.directive_run.specs.declared.answers.Exposed.TheVariants.{Points, TooLong}
-use Rattle.pct_top.specs.declared.refusal.Refusal.{Refusal}
 use Rattle.pct_top.specs.declared.refusal.Refusal.TheVariants.{Usage, Script}
 use Rattle.pct_top.specs.declared.settings.Report.TheVariants.{Find}
 use Rattle.pct_top.specs.declared.settings.Settings.TheVariants.{RunOrder, RunSeed, Expose}
 use Rattle.pct_top.specs.declared.status.Status.{Status}
 use Rattle.pct_top.specs.declared.status.Status.TheVariants.{Done, Found}
 use Rattle.pct_top.specs.Settings.{Taken, settings}
-use Rattle.pct_top.specs.Refusing.{status_of_refusal}
 use Rattle.pct_top.specs.Ordered.{threads_named, NamesAll}
 use Rattle.pct_top.specs.Runs.{told_trace}
-use Rattle.pct_top.specs.Printed.{Files, Printed, refused, script_bytes, directive_bytes, OfDirective}
+use Rattle.pct_top.specs.Printed.{Files, Printed, script_bytes, directive_bytes, OfDirective}
 use Rattle.pct_top.specs.Output.{OfTaken, OfCommand}
 use Rattle.pct_top.specs.commands.Find.{plan_of, IsWellFormed, told_found, PrintsFound}
 use Rattle.pct_top.specs.commands.Expose.{TellsExposed, PrintsExposed, OfExpose}
 use Rattle.pct_top.specs.TakenUp.{FindsIn, IsOrderOf, ExposesIn, IsTakenUp, FoundAreTakenUp}
 use Rattle.pct_top.proofs.Work.{some_same, named_order, named_directive, named_script}
+use Rattle.pct_top.proofs.Refusals.{not_refused}
 use Rattle.pct_top.proofs.Draws.{drawn_order}
 
 -- ---- an order by its names
@@ -180,10 +179,9 @@ module _ (taken : Taken) (files : Files) (file : List ℕ) (limit : ℕ) (script
   found_up (Passes steps) finds form is =
       let done : Done ≡ Found = sym (ap (λ (p : Printed). p.status) is) ∙ status in absurd cc
 
-refused_not : (refusal : Refusal) (printed : Printed) → printed ≡ refused refusal
-    → status_of_refusal refusal ≢ Found → printed.status ≢ Found
-refused_not refusal printed is never found =
-    never (sym (ap (λ (p : Printed). p.status) is) ∙ found)
+-- found and nothing else
+abbrev IsFinding : Status → Type 0
+IsFinding status = status ≡ Found
 
 by_taken : (taken : Taken) (files : Files) (printed : Printed) (file : List ℕ) (limit : ℕ)
     → FindsIn taken file limit → OfTaken taken files printed → printed.status ≡ Found
@@ -196,10 +194,10 @@ by_taken (Ok (RunOrder name items word points most Find)) files printed file lim
       (given.1).whole given.1 points printed status prints.0 prints.1 prints.2 prints.3 in
       subst (λ f. IsTakenUp here files f printed.out limit) (sym same.0)
       (subst (λ l. IsTakenUp here files name printed.out l) (sym same.1) up)
-  | inr none ↦ absurd (refused_not (Usage word) printed none.1 (λ e. cc) status)
+  | inr none ↦ absurd (not_refused IsFinding (Usage word) printed none.1 (λ e. cc) status)
 ]
 by_taken (Ok (RunOrder name items word points most Find)) files printed file limit same (inr bad) status =
-    absurd (refused_not (Script bad.0 bad.1) printed bad.3 (λ e. cc) status)
+    absurd (not_refused IsFinding (Script bad.0 bad.1) printed bad.3 (λ e. cc) status)
 by_taken (Ok (RunSeed name seed depth steps most Find)) files printed file limit same (inl of) status =
     let here : Taken = Ok (RunSeed name seed depth steps most Find) in
     let script = of.0 in
@@ -213,7 +211,7 @@ by_taken (Ok (RunSeed name seed depth steps most Find)) files printed file limit
     subst (λ f. IsTakenUp here files f printed.out limit) (sym same.0)
     (subst (λ l. IsTakenUp here files name printed.out l) (sym same.1) up)
 by_taken (Ok (RunSeed name seed depth steps most Find)) files printed file limit same (inr bad) status =
-    absurd (refused_not (Script bad.0 bad.1) printed bad.3 (λ e. cc) status)
+    absurd (not_refused IsFinding (Script bad.0 bad.1) printed bad.3 (λ e. cc) status)
 by_taken taken files printed file limit same of status = absurd same
 
 pub found_taken : FoundAreTakenUp
