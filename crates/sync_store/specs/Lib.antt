@@ -8,3 +8,4 @@ pub mod ThreadList
 pub mod ReleaseList
 pub mod Kept
 pub mod World
+pub mod Stepped

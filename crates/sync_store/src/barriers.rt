@@ -3,7 +3,7 @@ ghost use Rattle.sync_store.specs.Store.{new_barrier, barrier_of, with_barrier};
 ghost use Rattle.sync_store.specs.Enabled.{is_released};
 ghost use Rattle.sync_store.specs.Effect.{arrived_at, left_by, is_serial};
 
-use crate::applied::Applied;
+use crate::applied::Stepped;
 use crate::release_list::ReleaseList;
 use crate::store::Store;
 use crate::thread_list::ThreadList;
@@ -89,12 +89,12 @@ impl Store {
         self.barriers[barrier as usize].arrive(thread);
     }
 
-    pub(crate) fn leave(&mut self, thread: u32, barrier: u32) -> Applied
+    pub(crate) fn leave(&mut self, thread: u32, barrier: u32) -> Stepped
         requires there { thread < self.old.threads }
         requires barrier { barrier < length self.old.barriers }
         ensures store { self.new ≡ with_barrier self.old barrier (left_by thread (barrier_of self.old barrier)) }
-        ensures applied { result ≡ Applied.Answer (if is_serial thread (barrier_of self.old barrier).released then pos 1 else pos 0) }
+        ensures applied { result ≡ Stepped.Answer (if is_serial thread (barrier_of self.old barrier).released then pos 1 else pos 0) }
     {
-        Applied::truth(self.barriers[barrier as usize].leave(thread))
+        Stepped::truth(self.barriers[barrier as usize].leave(thread))
     }
 }

@@ -1,8 +1,9 @@
 ghost use Rattle.std.specs.Prelude.{◌≡◌, ◌<◌, ◌≤◌, [], ◌∷◌, pos, min, length, replicate, IfOk};
 ghost use Rattle.sync_store.specs.Store.{is_on, new_condition, condition_of, with_condition, with_owner};
 ghost use Rattle.sync_store.specs.Effect.{onto, without, all_onto, signalled, effect, store_after, applied_of};
+ghost use Rattle.sync_store.specs.Stepped.{applied_by};
 
-use crate::applied::{Applied, not_owner};
+use crate::applied::{Stepped, not_owner};
 use crate::store::Store;
 use crate::thread_list::ThreadList;
 use pct_ask::Ask;
@@ -94,18 +95,18 @@ impl Condition {
 }
 
 impl Store {
-    pub(crate) fn release(&mut self, thread: u32, line: u32, cond: u32, mutex: u32) -> Applied
+    pub(crate) fn release(&mut self, thread: u32, line: u32, cond: u32, mutex: u32) -> Stepped
         requires there { thread < self.old.threads }
         requires cond { cond < length self.old.conditions }
         requires mutex { mutex < length self.old.owners }
         ensures store { self.new ≡ store_after self.old (effect self.old thread line (Ask.Release cond mutex)) }
-        ensures applied { result ≡ applied_of (effect self.old thread line (Ask.Release cond mutex)) }
+        ensures applied { applied_by result ≡ applied_of (effect self.old thread line (Ask.Release cond mutex)) }
     {
         if !self.mutexes.unlock(mutex, thread) {
-            return Applied::Ends(not_owner(thread, line));
+            return not_owner(thread, line);
         }
         self.conditions[cond as usize].wait(thread);
-        Applied::Answer(0)
+        Stepped::Answer(0)
     }
 
     pub(crate) fn regain(&mut self, thread: u32, cond: u32, mutex: u32)
@@ -118,19 +119,19 @@ impl Store {
         self.conditions[cond as usize].go_on(thread);
     }
 
-    pub(crate) fn signal(&mut self, cond: u32) -> Applied
+    pub(crate) fn signal(&mut self, cond: u32) -> Stepped
         requires { cond < length self.old.conditions }
         ensures store { self.new ≡ with_condition self.old cond (signalled (condition_of self.old cond).waiting (condition_of self.old cond).woken) }
-        ensures applied { result ≡ Applied.Answer (pos (min 1 (length (condition_of self.old cond).waiting))) }
+        ensures applied { result ≡ Stepped.Answer (pos (min 1 (length (condition_of self.old cond).waiting))) }
     {
-        Applied::Answer(self.conditions[cond as usize].signal() as i64)
+        Stepped::Answer(self.conditions[cond as usize].signal() as i64)
     }
 
-    pub(crate) fn broadcast(&mut self, cond: u32) -> Applied
+    pub(crate) fn broadcast(&mut self, cond: u32) -> Stepped
         requires { cond < length self.old.conditions }
         ensures store { self.new ≡ with_condition self.old cond (record { waiting = []; woken = all_onto (condition_of self.old cond).waiting (condition_of self.old cond).woken }) }
-        ensures applied { result ≡ Applied.Answer (pos (length (condition_of self.old cond).waiting)) }
+        ensures applied { result ≡ Stepped.Answer (pos (length (condition_of self.old cond).waiting)) }
     {
-        Applied::Answer(self.conditions[cond as usize].broadcast() as i64)
+        Stepped::Answer(self.conditions[cond as usize].broadcast() as i64)
     }
 }

@@ -18,7 +18,7 @@ mod thread_list;
 mod touched;
 mod variables;
 
-pub use applied::Applied;
+pub use applied::{Applied, Stepped};
 pub use ready::Ready;
 pub use store::Store;
 pub use touched::Touched;

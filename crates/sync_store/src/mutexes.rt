@@ -1,8 +1,9 @@
 ghost use Rattle.std.specs.Prelude.{◌≡◌, ◌<◌, if◌then◌else◌, is_none, pos, length, replicate, slice_index_or, slice_set, IfOk};
 ghost use Rattle.sync_store.specs.Store.{owner_of, with_owner};
 ghost use Rattle.sync_store.specs.Effect.{is_thread, effect, store_after, applied_of};
+ghost use Rattle.sync_store.specs.Stepped.{applied_by};
 
-use crate::applied::{Applied, not_owner};
+use crate::applied::{Stepped, not_owner};
 use crate::store::Store;
 use pct_ask::Ask;
 use std::alloc::{AllocError as NoMemory, Global};
@@ -75,23 +76,23 @@ impl Store {
         self.mutexes.lock(mutex, thread);
     }
 
-    pub(crate) fn try_lock(&mut self, thread: u32, mutex: u32) -> Applied
+    pub(crate) fn try_lock(&mut self, thread: u32, mutex: u32) -> Stepped
         requires { mutex < length self.old.owners }
         ensures store { self.new ≡ (if is_none (owner_of self.old mutex) then with_owner self.old mutex (Some thread) else self.old) }
-        ensures applied { result ≡ Applied.Answer (if is_none (owner_of self.old mutex) then pos 1 else pos 0) }
+        ensures applied { result ≡ Stepped.Answer (if is_none (owner_of self.old mutex) then pos 1 else pos 0) }
     {
         let free = self.mutexes.is_free(mutex);
         if free {
             self.mutexes.lock(mutex, thread);
         }
-        Applied::truth(free)
+        Stepped::truth(free)
     }
 
-    pub(crate) fn unlock(&mut self, thread: u32, line: u32, mutex: u32) -> Applied
+    pub(crate) fn unlock(&mut self, thread: u32, line: u32, mutex: u32) -> Stepped
         requires { mutex < length self.old.owners }
         ensures store { self.new ≡ store_after self.old (effect self.old thread line (Ask.Unlock mutex)) }
-        ensures applied { result ≡ applied_of (effect self.old thread line (Ask.Unlock mutex)) }
+        ensures applied { applied_by result ≡ applied_of (effect self.old thread line (Ask.Unlock mutex)) }
     {
-        Applied::done_or(self.mutexes.unlock(mutex, thread), not_owner(thread, line))
+        Stepped::done_or(self.mutexes.unlock(mutex, thread), not_owner(thread, line))
     }
 }

@@ -2,10 +2,11 @@ ghost use Rattle.std.specs.Prelude.{◌≡◌, ◌<◌, ◌+◌, ◌-◌, if◌t
 ghost use Rattle.sync_store.specs.Store.{new_rwlock, rwlock_of, with_rwlock};
 ghost use Rattle.sync_store.specs.Enabled.{is_unread};
 ghost use Rattle.sync_store.specs.Effect.{max_reads, with_writer, with_reads, unlocked, effect, store_after, applied_of};
+ghost use Rattle.sync_store.specs.Stepped.{applied_by};
 
-use crate::applied::{Applied, not_owner};
+use crate::applied::{Stepped, not_owner};
 use crate::store::Store;
-use pct_ask::{Ask, MisuseKind, Verdict};
+use pct_ask::{Ask, MisuseKind};
 use std::alloc::{AllocError as NoMemory, Global};
 use std::marker::Model;
 
@@ -108,15 +109,15 @@ impl ReadWriteLock {
 }
 
 impl Store {
-    pub(crate) fn read_lock(&mut self, thread: u32, line: u32, rwlock: u32) -> Applied
+    pub(crate) fn read_lock(&mut self, thread: u32, line: u32, rwlock: u32) -> Stepped
         requires there { thread < self.old.threads }
         requires rwlock { rwlock < length self.old.rwlocks }
         ensures store { self.new ≡ store_after self.old (effect self.old thread line (Ask.RdLock rwlock)) }
-        ensures applied { result ≡ applied_of (effect self.old thread line (Ask.RdLock rwlock)) }
+        ensures applied { applied_by result ≡ applied_of (effect self.old thread line (Ask.RdLock rwlock)) }
     {
-        Applied::done_or(
+        Stepped::done_or(
             self.rwlocks[rwlock as usize].read(thread),
-            Verdict::Misuse {
+            Stepped::Misuse {
                 thread,
                 line,
                 kind: MisuseKind::TooManyReads,
@@ -131,37 +132,37 @@ impl Store {
         self.rwlocks[rwlock as usize].write(thread);
     }
 
-    pub(crate) fn try_read_lock(&mut self, thread: u32, rwlock: u32) -> Applied
+    pub(crate) fn try_read_lock(&mut self, thread: u32, rwlock: u32) -> Stepped
         requires there { thread < self.old.threads }
         requires rwlock { rwlock < length self.old.rwlocks }
         ensures store { self.new ≡ store_after self.old (effect self.old thread 0 (Ask.TryRdLock rwlock)) }
-        ensures applied { result ≡ applied_of (effect self.old thread 0 (Ask.TryRdLock rwlock)) }
+        ensures applied { applied_by result ≡ applied_of (effect self.old thread 0 (Ask.TryRdLock rwlock)) }
     {
         let lock = &mut self.rwlocks[rwlock as usize];
         let held = lock.has_no_writer() && lock.read(thread);
-        Applied::truth(held)
+        Stepped::truth(held)
     }
 
-    pub(crate) fn try_write_lock(&mut self, thread: u32, rwlock: u32) -> Applied
+    pub(crate) fn try_write_lock(&mut self, thread: u32, rwlock: u32) -> Stepped
         requires { rwlock < length self.old.rwlocks }
         ensures store { self.new ≡ store_after self.old (effect self.old thread 0 (Ask.TryWrLock rwlock)) }
-        ensures applied { result ≡ applied_of (effect self.old thread 0 (Ask.TryWrLock rwlock)) }
+        ensures applied { applied_by result ≡ applied_of (effect self.old thread 0 (Ask.TryWrLock rwlock)) }
     {
         let lock = &mut self.rwlocks[rwlock as usize];
         let free = lock.has_no_writer() && lock.is_unread();
         if free {
             lock.write(thread);
         }
-        Applied::truth(free)
+        Stepped::truth(free)
     }
 
-    pub(crate) fn read_write_unlock(&mut self, thread: u32, line: u32, rwlock: u32) -> Applied
+    pub(crate) fn read_write_unlock(&mut self, thread: u32, line: u32, rwlock: u32) -> Stepped
         requires there { thread < self.old.threads }
         requires rwlock { rwlock < length self.old.rwlocks }
         ensures store { self.new ≡ store_after self.old (effect self.old thread line (Ask.RwUnlock rwlock)) }
-        ensures applied { result ≡ applied_of (effect self.old thread line (Ask.RwUnlock rwlock)) }
+        ensures applied { applied_by result ≡ applied_of (effect self.old thread line (Ask.RwUnlock rwlock)) }
     {
-        Applied::done_or(
+        Stepped::done_or(
             self.rwlocks[rwlock as usize].unlock(thread),
             not_owner(thread, line),
         )

@@ -1,10 +1,11 @@
 ghost use Rattle.std.specs.Prelude.{◌≡◌, ◌<◌, ◌+ℤ◌, ◌-ℤ◌, pos, int_lt, IsTrue, if◌then◌else◌, length, slice_index_or, slice_set, IfOk};
 ghost use Rattle.sync_store.specs.Store.{number_of, with_number};
 ghost use Rattle.sync_store.specs.Effect.{sem_max, effect, store_after, applied_of};
+ghost use Rattle.sync_store.specs.Stepped.{applied_by};
 
-use crate::applied::Applied;
+use crate::applied::Stepped;
 use crate::store::Store;
-use pct_ask::{Ask, MisuseKind, NumberList, Verdict};
+use pct_ask::{Ask, MisuseKind, NumberList};
 use std::alloc::{AllocError as NoMemory, Global};
 use std::marker::Model;
 
@@ -74,26 +75,26 @@ impl Store {
         self.semaphores.down(sem);
     }
 
-    pub(crate) fn try_down(&mut self, sem: u32) -> Applied
+    pub(crate) fn try_down(&mut self, sem: u32) -> Stepped
         requires { sem < length self.old.numbers }
         ensures store { self.new ≡ (if int_lt (pos 0) (number_of self.old sem) then with_number self.old sem (number_of self.old sem -ℤ pos 1) else self.old) }
-        ensures applied { result ≡ Applied.Answer (if int_lt (pos 0) (number_of self.old sem) then pos 1 else pos 0) }
+        ensures applied { result ≡ Stepped.Answer (if int_lt (pos 0) (number_of self.old sem) then pos 1 else pos 0) }
     {
         let open = self.semaphores.is_open(sem);
         if open {
             self.semaphores.down(sem);
         }
-        Applied::truth(open)
+        Stepped::truth(open)
     }
 
-    pub(crate) fn up(&mut self, thread: u32, line: u32, sem: u32) -> Applied
+    pub(crate) fn up(&mut self, thread: u32, line: u32, sem: u32) -> Stepped
         requires { sem < length self.old.numbers }
         ensures store { self.new ≡ store_after self.old (effect self.old thread line (Ask.Up sem)) }
-        ensures applied { result ≡ applied_of (effect self.old thread line (Ask.Up sem)) }
+        ensures applied { applied_by result ≡ applied_of (effect self.old thread line (Ask.Up sem)) }
     {
-        Applied::done_or(
+        Stepped::done_or(
             self.semaphores.up(sem),
-            Verdict::Misuse {
+            Stepped::Misuse {
                 thread,
                 line,
                 kind: MisuseKind::SemFull,

@@ -1,8 +1,9 @@
 ghost use Rattle.std.specs.Prelude.{◌≡◌, ◌<◌, length, IfOk};
 ghost use Rattle.sync_store.specs.Store.{first, is_on, sizes_of, sizes_of_deal};
 ghost use Rattle.sync_store.specs.Effect.{effect, store_after, applied_of};
+ghost use Rattle.sync_store.specs.Stepped.{applied_by};
 
-use crate::applied::Applied;
+use crate::applied::Stepped;
 use crate::barriers::Barrier;
 use crate::conditions::Condition;
 use crate::mutexes::Mutexes;
@@ -10,7 +11,7 @@ use crate::rwlocks::ReadWriteLock;
 use crate::semaphores::Semaphores;
 use crate::thread_list::ThreadList;
 use crate::variables::Variables;
-use pct_ask::{Ask, Deal, MisuseKind, Verdict};
+use pct_ask::{Ask, Deal, MisuseKind};
 use std::alloc::{AllocError as NoMemory, Global};
 use std::marker::Model;
 
@@ -64,18 +65,18 @@ impl Store {
         self.started.has(thread)
     }
 
-    pub(crate) fn start(&mut self, thread: u32, line: u32, target: u32) -> Applied
+    pub(crate) fn start(&mut self, thread: u32, line: u32, target: u32) -> Stepped
         requires { target < self.old.threads }
         ensures store { self.new ≡ store_after self.old (effect self.old thread line (Ask.Start target)) }
-        ensures applied { result ≡ applied_of (effect self.old thread line (Ask.Start target)) }
+        ensures applied { applied_by result ≡ applied_of (effect self.old thread line (Ask.Start target)) }
     {
         let fresh = !self.started.has(target);
         if fresh {
             self.started.add(target);
         }
-        Applied::done_or(
+        Stepped::done_or(
             fresh,
-            Verdict::Misuse {
+            Stepped::Misuse {
                 thread,
                 line,
                 kind: MisuseKind::AlreadyStarted,

@@ -2,10 +2,11 @@ ghost use Rattle.std.specs.Prelude.{◌≡◌, ◌<◌, ◌+ℤ◌, pos, if◌th
 ghost use Rattle.std.specs.Ordering.{int_eq};
 ghost use Rattle.sync_store.specs.Store.{value_of, with_value};
 ghost use Rattle.sync_store.specs.Effect.{is_i64, effect, store_after, applied_of};
+ghost use Rattle.sync_store.specs.Stepped.{applied_by};
 
-use crate::applied::Applied;
+use crate::applied::Stepped;
 use crate::store::Store;
-use pct_ask::{Ask, FaultKind, NumberList, Verdict};
+use pct_ask::{Ask, FaultKind, NumberList};
 use std::alloc::{AllocError as NoMemory, Global};
 use std::marker::Model;
 
@@ -81,26 +82,26 @@ impl Store {
         self.variables.write(var, value);
     }
 
-    pub(crate) fn add(&mut self, thread: u32, line: u32, var: u32, value: i64) -> Applied
+    pub(crate) fn add(&mut self, thread: u32, line: u32, var: u32, value: i64) -> Stepped
         requires { var < length self.old.values }
         ensures store { self.new ≡ store_after self.old (effect self.old thread line (Ask.Add var value)) }
-        ensures applied { result ≡ applied_of (effect self.old thread line (Ask.Add var value)) }
+        ensures applied { applied_by result ≡ applied_of (effect self.old thread line (Ask.Add var value)) }
     {
         match self.variables.add(var, value) {
-            Some(old) => Applied::Answer(old),
-            None => Applied::Ends(Verdict::Fault {
+            Some(old) => Stepped::Answer(old),
+            None => Stepped::Fault {
                 thread,
                 line,
                 kind: FaultKind::Overflow,
-            }),
+            },
         }
     }
 
-    pub(crate) fn compare_exchange(&mut self, var: u32, old: i64, new: i64) -> Applied
+    pub(crate) fn compare_exchange(&mut self, var: u32, old: i64, new: i64) -> Stepped
         requires { var < length self.old.values }
         ensures store { self.new ≡ (if int_eq (value_of self.old var) old then with_value self.old var new else self.old) }
-        ensures applied { result ≡ Applied.Answer (if int_eq (value_of self.old var) old then pos 1 else pos 0) }
+        ensures applied { result ≡ Stepped.Answer (if int_eq (value_of self.old var) old then pos 1 else pos 0) }
     {
-        Applied::truth(self.variables.compare_exchange(var, old, new))
+        Stepped::truth(self.variables.compare_exchange(var, old, new))
     }
 }

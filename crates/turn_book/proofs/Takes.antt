@@ -1,7 +1,7 @@
 -- When a thread gets which answer.
-use Rattle.std.proofs.Common.{◌≡◌, ◌≢◌, ℕ, ℤ, Bool, true, false, cond, eqb, Some, None, length, refl, sym, ap, ◌∙◌, inl, inr, eq-eqb, ne_eqb}
-use Rattle.std.specs.Prelude.{◌↔◌}
-use Rattle.std.proofs.lemmas.Bool.{cases_eq}
+use Rattle.std.proofs.Common.{◌≡◌, ◌≢◌, ℕ, ℤ, Bool, true, false, cond, eqb, Option, Some, None, length, refl, sym, ap, ◌∙◌, inl, inr, eq-eqb, ne_eqb}
+use Rattle.std.specs.Prelude.{◌↔◌, is_some}
+use Rattle.std.proofs.lemmas.Bool.{cases_eq, false≢true}
 use Rattle.pct_ask.specs.declared.verdict.Verdict.{Verdict}
 use Rattle.pct_ask.specs.declared.verdict.Outcome.{Outcome}
 use Rattle.policy_pick.specs.declared.chance.Pick.{Pick}
@@ -9,9 +9,10 @@ use Rattle.policy_pick.specs.declared.chance.Pick.TheVariants.{Thread, Waits, No
 use Rattle.turn_book.specs.declared.taken.Because.{Because}
 use Rattle.turn_book.specs.declared.taken.Because.TheVariants.{Turn, Away}
 use Rattle.turn_book.specs.declared.taken.Taken.TheVariants.{Answer, NotYet, Over}
+use Rattle.turn_book.specs.declared.taken.Reply.TheVariants as replies
 use Rattle.turn_book.specs.Obeys.{outcome_by_pick}
 use Rattle.turn_book.specs.Told.{Told, choice_of, IsAnswered}
-use Rattle.turn_book.specs.Answers.{IsAnswer, MayWait, because_of}
+use Rattle.turn_book.specs.Answers.{IsAnswer, MayWait, because_of, IsBecause}
 
 -- where no outcome stands, the choice is a thread's or waits
 pub may-wait : (rest : Verdict) (full : Bool) (pick : Pick) → outcome_by_pick rest full pick ≡ None → MayWait pick
@@ -117,3 +118,15 @@ module _ (book : Told) (t : ℕ) (pick : Pick) (running : book.outcome ≡ None)
 
     pub not_yet-answered : (answer : ℤ) → NotYet n because ≡ Answer answer → IsAnswered book t answer book
     not_yet-answered answer e = absurd cc
+
+-- ---- without the outcome
+pub none-by : (outcome : Option Outcome) (says : Bool) → says ≡ is_some outcome → says ≡ false → outcome ≡ None
+none-by None says is not = refl
+none-by (Some outcome) says is not = absurd (false≢true (sym not ∙ is))
+
+pub same-answer : (one other : ℤ) → replies.Answer one ≡ replies.Answer other → one ≡ other
+same-answer one other e = cc
+
+pub because-is : (book : Told) (t : ℕ) (pick : Pick) → choice_of book ≡ Some pick → (because : Because) → because_of pick t ≡ Some because → IsBecause book t because
+because-is book t pick chosen (Turn u) why = let w = other-turn pick u t why in (chosen ∙ ap Some w.0, w.1)
+because-is book t pick chosen (Away u) why = chosen ∙ ap Some (waited pick u t why)

@@ -1,7 +1,8 @@
 -- The answers to a thread that asks for its turn.
-use Rattle.std.specs.Prelude.{ℕ, ◌==◌, if◌then◌else◌, Option, Some, None}
+use Rattle.std.specs.Prelude.{◌≡◌, ◌≢◌, ℕ, ◌==◌, if◌then◌else◌, Option, Some, None}
 use Rattle.policy_pick.specs.declared.chance.Pick.{Pick}
 use Rattle.policy_pick.specs.declared.chance.Pick.TheVariants.{Thread, Waits, Nobody, Departs}
+use Rattle.turn_book.specs.Told.{Told, choice_of}
 use Rattle.turn_book.specs.declared.taken.Because.{Because}
 use Rattle.turn_book.specs.declared.taken.Because.TheVariants.{Turn, Away}
 use Rattle.turn_book.specs.declared.taken.Taken.{Taken}
@@ -26,3 +27,8 @@ because_of (Thread u) t = if u == t then None else Some (Turn u)
 because_of (Waits u) t = Some (Away u)
 because_of Nobody t = None
 because_of (Departs u) t = None
+
+-- whose turn it is, or whom that depends on
+abbrev pub IsBecause : Told → ℕ → Because → Type 0
+IsBecause book t (Turn u) = (choice_of book ≡ Some (Thread u)) × (u ≢ t)
+IsBecause book t (Away u) = choice_of book ≡ Some (Waits u)

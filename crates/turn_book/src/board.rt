@@ -92,7 +92,7 @@ impl Board {
         let place = thread as usize;
         match asked(self.posts[place]) {
             Some((line, ask)) => {
-                let applied = self.store.apply(thread, line, &ask);
+                let stepped = self.store.take_step(thread, line, &ask);
                 self.posts[place] = None;
                 self.standings[place] = Standing::Away;
                 look_again(
@@ -103,7 +103,7 @@ impl Board {
                     Store::touched(&ask),
                     self.chances.as_mut_slice(),
                 );
-                step_of(thread, line, ask, &applied, outcome)
+                step_of(thread, line, ask, stepped, outcome)
             }
             None => unreachable!(),
         }

@@ -1,4 +1,4 @@
-ghost use Rattle.std.specs.Prelude.{◌≡◌, ◌≢◌, ◌<◌, ◌≤◌, ◌↔◌, ℕ, ℤ, [], ◌++◌, List, length, Some, None, IfOk, IsSome};
+ghost use Rattle.std.specs.Prelude.{◌≡◌, ◌≢◌, ◌<◌, ◌≤◌, ◌↔◌, ℕ, ℤ, [], ◌++◌, List, length, Some, None, IfOk, IsSome, is_some};
 ghost use Rattle.pct_ask.specs.declared.ask.Post.{Post};
 ghost use Rattle.pct_ask.specs.declared.event.Event.{Event};
 ghost use Rattle.pct_ask.specs.declared.event.Standing.{Standing};
@@ -7,11 +7,12 @@ ghost use Rattle.sync_store.specs.Store.{sizes_of_deal};
 ghost use Rattle.policy_pick.specs.declared.chance.Pick.{Pick};
 ghost use Rattle.policy_pick.specs.Plan.{SpeaksOf};
 ghost use Rattle.turn_book.specs.Told.{new_book, standing_of, choice_of, PostIsInRange, IsLawful, IsPosted, IsAnswered, IsRunOver};
-ghost use Rattle.turn_book.specs.Answers.{IsAnswer};
+ghost use Rattle.turn_book.specs.declared.taken.Because.{Because};
+ghost use Rattle.turn_book.specs.Answers.{IsAnswer, IsBecause};
 
 use crate::board::Board;
 use crate::settle::settle;
-use crate::taken::{Because, Taken, reason};
+use crate::taken::{Because, Reply, Taken, reason};
 use pct_ask::{Deal, Event, EventList, Outcome, Post, Sequence, Standing};
 use policy_pick::{Pick, Policy};
 use std::alloc::{AllocError as NoMemory, Global};
@@ -110,6 +111,26 @@ impl<P: Policy> TurnBook<P> {
         }
     }
 
+    /// As `take`, without the outcome of a run that is over.
+    pub fn take_turn(&mut self, thread: u32) -> Reply
+        requires { self.old.outcome ≡ None → standing_of self.old thread ≡ Standing.Asks }
+        ensures over { result ≡ Reply.Over → IsSome self.old.outcome × (self.new ≡ self.old) }
+        ensures answer { (answer : ℤ) → result ≡ Reply.Answer answer → (self.old.outcome ≡ None) × (choice_of self.old ≡ Some (Pick.Thread thread)) × IsAnswered self.old thread answer self.new }
+        ensures not_yet { (at : ℕ) (because : Because) → result ≡ Reply.NotYet at because → (self.old.outcome ≡ None) × (at ≡ length self.old.trace) × IsBecause self.old thread because × (self.new ≡ self.old) }
+        ensures lawful { IsLawful self.new }
+    {
+        if self.outcome.is_some() {
+            return Reply::Over;
+        }
+        match reason(self.next, thread) {
+            None => Reply::Answer(self.step(thread)),
+            Some(because) => Reply::NotYet {
+                at: self.trace.len() as u32,
+                because,
+            },
+        }
+    }
+
     /// The thread takes the step that it asks.
     fn step(&mut self, thread: u32) -> i64
         requires running { self.old.outcome ≡ None }
@@ -129,8 +150,11 @@ impl<P: Policy> TurnBook<P> {
     pub fn granted(&self) -> Option<u32>
         ensures { (u : ℕ) → (result ≡ Some u) ↔ ((self.now.outcome ≡ None) × (choice_of self.now ≡ Some (Pick.Thread u))) }
     {
-        match (self.outcome, self.next) {
-            (None, Pick::Thread(thread)) => Some(thread),
+        if self.outcome.is_some() {
+            return None;
+        }
+        match self.next {
+            Pick::Thread(thread) => Some(thread),
             _ => None,
         }
     }
@@ -152,6 +176,13 @@ impl<P: Policy> TurnBook<P> {
         ensures lawful { IsLawful self.now }
     {
         self.outcome
+    }
+
+    /// Whether the run is over.
+    pub fn is_over(&self) -> bool
+        ensures { result ≡ is_some self.now.outcome }
+    {
+        self.outcome.is_some()
     }
 
     /// What is known of a thread's next post.

@@ -3,6 +3,7 @@ ghost use Rattle.std.specs.Option.{option_map};
 ghost use Rattle.pct_ask.specs.declared.ask.Post.{Post};
 ghost use Rattle.sync_store.specs.Store.{sizes_of};
 ghost use Rattle.sync_store.specs.Effect.{Effect, applied_of};
+ghost use Rattle.sync_store.specs.Stepped.{applied_by};
 ghost use Rattle.sync_store.specs.Ready.{away_by, ended_by};
 ghost use Rattle.policy_pick.specs.Choice.{chance_of};
 ghost use Rattle.turn_book.specs.Chances.{chance, chance_by, chance_of_post, chances, is_ended, is_unknown, blocked_by_post};
@@ -13,7 +14,7 @@ ghost use Rattle.turn_book.specs.Board.{AreInRange, ask_of_post, answer_of, verd
 use crate::objects::{is_object, joins, named};
 use pct_ask::{Ask, Event, Outcome, Post, Standing};
 use policy_pick::Chance;
-use sync_store::{Applied, Ready, Store, Touched};
+use sync_store::{Applied, Ready, Stepped, Store, Touched};
 
 /// What is known of a thread with this next post.
 pub fn standing_of(post: Option<Post>) -> Standing
@@ -46,19 +47,19 @@ pub fn step_of(
     thread: u32,
     line: u32,
     ask: Ask,
-    applied: &Applied,
+    stepped: Stepped,
     outcome: &mut Option<Outcome>,
 ) -> Event
     ensures thread { result.thread ≡ thread }
     ensures line { result.line ≡ line }
     ensures ask { result.ask ≡ ask }
-    ensures answer { (step : Effect) → applied.now ≡ applied_of step → result.answer ≡ answer_of step }
-    ensures outcome { (step : Effect) → applied.now ≡ applied_of step → outcome.new ≡ outcome_by (verdict_of step) outcome.old }
+    ensures answer { (step : Effect) → applied_by stepped ≡ applied_of step → result.answer ≡ answer_of step }
+    ensures outcome { (step : Effect) → applied_by stepped ≡ applied_of step → outcome.new ≡ outcome_by (verdict_of step) outcome.old }
 {
-    let answer = match applied {
-        Applied::Answer(answer) => *answer,
-        Applied::Ends(verdict) => {
-            *outcome = Some(Outcome::Verdict(*verdict));
+    let answer = match stepped {
+        Stepped::Answer(answer) => answer,
+        Stepped::Failed { .. } | Stepped::Misuse { .. } | Stepped::Fault { .. } => {
+            note_verdict(stepped, outcome);
             0
         }
     };
@@ -67,6 +68,17 @@ pub fn step_of(
         line,
         ask,
         answer,
+    }
+}
+
+/// Notes the verdict of a step, where that ends the run. It has room for 64 threads, and stands apart from the steps after
+/// which the run goes on.
+#[inline(never)]
+fn note_verdict(stepped: Stepped, outcome: &mut Option<Outcome>)
+    ensures { (step : Effect) → applied_by stepped ≡ applied_of step → outcome.new ≡ outcome_by (verdict_of step) outcome.old }
+{
+    if let Applied::Ends(verdict) = stepped.applied() {
+        *outcome = Some(Outcome::Verdict(verdict));
     }
 }
 

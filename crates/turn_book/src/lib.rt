@@ -11,4 +11,4 @@ mod taken;
 mod tests;
 
 pub use book::TurnBook;
-pub use taken::{Because, Taken};
+pub use taken::{Because, Reply, Taken};

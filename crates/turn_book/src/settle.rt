@@ -1,4 +1,4 @@
-ghost use Rattle.std.specs.Prelude.{◌≡◌, ℕ, List, Option, None};
+ghost use Rattle.std.specs.Prelude.{◌≡◌, ℕ, false, List, Option, None};
 ghost use Rattle.pct_ask.specs.declared.verdict.Verdict.{Verdict};
 ghost use Rattle.policy_pick.specs.Plan.{SpeaksOf};
 ghost use Rattle.policy_pick.specs.Choice.{choice};
@@ -24,13 +24,25 @@ pub fn settle<P: Policy>(
     ensures outcome { (verdict : Option Verdict) → outcome.old ≡ outcome_by verdict None → outcome.new ≡ outcome_by verdict (outcome_by_pick (rest_verdict board.now.store.threads board.now.store (listed board.now.posts)) full result) }
 {
     let next = policy.pick(board.chances());
-    if outcome.is_none() {
+    if outcome.is_none() && may_end(next, full) {
         note_end(next, board, full, outcome);
     }
     next
 }
 
+/// Whether a run may end by who goes next.
+fn may_end(next: Pick, full: bool) -> bool
+    ensures { result ≡ false → (rest : Verdict) → outcome_by_pick rest full next ≡ None }
+{
+    match next {
+        Pick::Nobody | Pick::Departs(_) => true,
+        Pick::Waits(_) => false,
+        Pick::Thread(_) => full,
+    }
+}
+
 /// Notes what became of the run by who goes next, where it doesn't go on.
+#[inline(never)]
 fn note_end(next: Pick, board: &Board, full: bool, outcome: &mut Option<Outcome>)
     requires { outcome.old ≡ None }
     ensures { outcome.new ≡ outcome_by_pick (rest_verdict board.now.store.threads board.now.store (listed board.now.posts)) full next }

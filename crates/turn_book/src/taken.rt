@@ -24,6 +24,14 @@ pub enum Taken {
     Over(Outcome),
 }
 
+/// The same without the outcome of a run that is over, which has room for 64 threads.
+#[derive(Clone, Copy, Debug, PartialEq, Eq)]
+pub enum Reply {
+    Answer(i64),
+    NotYet { at: u32, because: Because },
+    Over,
+}
+
 /// Why a thread doesn't have its turn, or nothing where it has it.
 pub fn reason(next: Pick, thread: u32) -> Option<Because>
     requires { MayWait next }

@@ -1,19 +1,8 @@
-use Rattle.std.proofs.Common.{◌∙◌, ap, sym, subst}
-use Rattle.sync_store.specs.Store.{StoreState, sizes_of}
+use Rattle.std.proofs.Common.{◌∙◌, sym}
 use Rattle.sync_store.specs.Effect.{effect}
-use Rattle.sync_store.specs.Touched.{KeepsOthers, touched_of}
-use Rattle.sync_store.proofs.AfterStep.{sizes_after, others_after, unchanged_after}
+use Rattle.sync_store.proofs.AfterStep.{unchanged_after}
 use Rattle.sync_store.proofs.store.Store.apply.Goals as goal
 
 pub returns-clause-unchanged : goal.returns-clause-unchanged
 returns-clause-unchanged c = λ verdict e.
-    c.step.ensures.store ∙ unchanged_after c.args.self.now (effect c.args.self.now c.args.thread c.args.line c.args.ask.now) verdict (sym c.step.ensures.applied ∙ e)
-
-pub returns-clause-sizes : goal.returns-clause-sizes
-returns-clause-sizes c =
-    ap sizes_of c.step.ensures.store ∙ sizes_after c.args.thread c.args.line c.args.self.now c.args.ask.now
-
-pub returns-clause-others : goal.returns-clause-others
-returns-clause-others c =
-    let P : StoreState → Type 0 = λ after. KeepsOthers c.args.thread (touched_of c.args.ask.now) c.args.self.now after in
-    subst P (sym c.step.ensures.store) (others_after c.args.thread c.args.line c.args.self.now c.args.ask.now)
+    c.take_step.ensures.store ∙ unchanged_after c.args.self.now (effect c.args.self.now c.args.thread c.args.line c.args.ask.now) verdict (sym c.take_step.ensures.applied ∙ sym c.applied.ensures ∙ e)

@@ -19,21 +19,21 @@ look_again-requires-clause-standings c =
 pub look_again-requires-clause-as_many : goal.look_again-requires-clause-as_many
 look_again-requires-clause-as_many c =
     let f = c.self.inside in
-    ap length c.as_mut_slice.ensures.value ∙ length-known f.store f.posts.items f.standings.items f.chances.items c.self.invariant ∙ sym (ap (λ (s : Sizes). s.threads) c.apply-applied.ensures.sizes)
+    ap length c.as_mut_slice.ensures.value ∙ length-known f.store f.posts.items f.standings.items f.chances.items c.self.invariant ∙ sym (ap (λ (s : Sizes). s.threads) c.take_step-stepped.ensures.sizes)
 
 pub look_again-requires-clause-others : goal.look_again-requires-clause-others
 look_again-requires-clause-others c = λ u within none.
     let f = c.self.inside in
-    let after = c.apply-applied.new.self in
+    let after = c.take_step-stepped.new.self in
     let P : List (Option Post) → Type 0 = λ ps. concerns c.args.thread c.touched.result u (listed ps u) ≡ false → chance_of f.chances.items u ≡ chance after (listed ps) u in
     let K : Touched → Type 0 = λ o. KeepsOthers c.args.thread o f.store after in
     ap (λ cs. chance_of cs u) c.as_mut_slice.ensures.value
-    ∙ subst P (sym c.as_slice.ensures.value) (others-kept f.store f.posts.items f.standings.items f.chances.items c.self.invariant after c.args.thread None c.touched.result (ap (λ (s : Sizes). s.threads) c.apply-applied.ensures.sizes) (subst K (sym c.touched.ensures) c.apply-applied.ensures.others) u within) none
+    ∙ subst P (sym c.as_slice.ensures.value) (others-kept f.store f.posts.items f.standings.items f.chances.items c.self.invariant after c.args.thread None c.touched.result (ap (λ (s : Sizes). s.threads) c.take_step-stepped.ensures.sizes) (subst K (sym c.touched.ensures) c.take_step-stepped.ensures.others) u within) none
 
 pub invariant_of-self : goal.invariant_of-self
 invariant_of-self c =
     let f = c.self.inside in
-    let after = c.apply-applied.new.self in
+    let after = c.take_step-stepped.new.self in
     let looked : c.look_again.new.known ≡ chances after.threads after (listed (set f.posts.items c.args.thread None)) = c.look_again.ensures ∙ ap (λ ps. chances after.threads after (listed ps)) c.as_slice.ensures.value in
-    let long : f.chances.len ≡ length c.look_again.new.known = f.chances.ok.0 ∙ length-known f.store f.posts.items f.standings.items f.chances.items c.self.invariant ∙ sym (ap length looked ∙ length-chances after.threads after (listed (set f.posts.items c.args.thread None)) ∙ ap (λ (s : Sizes). s.threads) c.apply-applied.ensures.sizes) in
-    board-set f.store f.posts.items f.standings.items f.chances.items c.self.invariant after c.args.thread None Away _ c.apply-applied.ensures.sizes tt refl (front-taken _ _ _ long ∙ looked)
+    let long : f.chances.len ≡ length c.look_again.new.known = f.chances.ok.0 ∙ length-known f.store f.posts.items f.standings.items f.chances.items c.self.invariant ∙ sym (ap length looked ∙ length-chances after.threads after (listed (set f.posts.items c.args.thread None)) ∙ ap (λ (s : Sizes). s.threads) c.take_step-stepped.ensures.sizes) in
+    board-set f.store f.posts.items f.standings.items f.chances.items c.self.invariant after c.args.thread None Away _ c.take_step-stepped.ensures.sizes tt refl (front-taken _ _ _ long ∙ looked)
