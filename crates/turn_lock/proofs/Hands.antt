@@ -1,5 +1,5 @@
 -- A call that took the slot: what it may do with it, and what it leaves with its seat.
-use Rattle.std.proofs.Common.{◌≡◌, ◌≢◌, ℕ, ◌<◌, ◌≤◌, Bool, true, false, List, [], ◌∷◌, length, Option, Some, None, get_or, set, sym, refl, ap, ◌∙◌, subst, arith, get_or-set_same, get_or-set_other}
+use Rattle.std.proofs.Common.{◌≡◌, ◌≢◌, ℕ, ◌-◌, ◌<◌, ◌≤◌, Bool, true, false, List, [], ◌∷◌, length, Option, Some, None, get_or, set, sym, refl, ap, ◌∙◌, subst, arith, get_or-set_same, get_or-set_other}
 use mathlib.Core.Logic.{dite}
 use native.Mathlib.Decide.{ℕ_discrete}
 use Rattle.pct_ask.specs.declared.Deal.{Deal}
@@ -9,8 +9,8 @@ use Rattle.turn_book.specs.Told.{Told, SameMaking, Within, PostIsInRange}
 use Rattle.turn_lock.specs.Seen.{SameOf, owes_of}
 use Rattle.turn_lock.specs.Slots.{Slot, NotesBelow}
 use Rattle.turn_lock.specs.Rule.{Has, Serves}
-use Rattle.turn_lock.specs.Plays.{Seated, with_gate, with_book, IsTaken}
-use Rattle.turn_lock.specs.Turns.{GivenInRange, IsOwed, TookOnce, Gives}
+use Rattle.turn_lock.specs.Plays.{Seated, with_gate, with_book, IsTaken, IsTurnedAway}
+use Rattle.turn_lock.specs.Turns.{GivenInRange, IsOwed, TurnsTo, TookOnce, IsBusy, Gives}
 use Rattle.turn_lock.specs.Hands.{HasInHand, IsReady, IsReadyForAny, GoesOn, Stays, IsWork, IsPassed, IsSwept}
 use Rattle.turn_lock.specs.Wakes.{WakesBelow}
 use Rattle.turn_lock.specs.declared.turn.Turn.{Turn}
@@ -81,22 +81,28 @@ module _ (m n k : Seated) (slot : Slot) (is : n ≡ hand_of m slot) (same : k.0 
 
   -- after a turn
   module _ (t : ℕ) (post : Option Post) (done : Work) (after : Slot) (serves : Serves m.0 t) (inside : t < m.0.seen.deal.threads) (work : IsWork n.0.base t post done after) where
-    work-at : IsWork slot t post done after
-    work-at = subst (λ (s : Slot). IsWork s t post done after) base-is work
+    tells-at : TurnsTo slot.book t post work.turn after.book
+    tells-at = subst (λ (s : Slot). TurnsTo s.book t post work.turn after.book) base-is work.tells
+
+    notes-at : NotesBelow slot.book.deal.threads after.board
+    notes-at = subst (λ (s : Slot). NotesBelow s.book.deal.threads after.board) base-is work.notes
+
+    wakes-at : WakesBelow slot.book.deal.threads done.wakes
+    wakes-at = subst (λ (s : Slot). WakesBelow s.book.deal.threads done.wakes) base-is work.wakes
 
     pub work-goes : GoesOn k.0 k.0.base after
-    work-goes = goes-at after (goes (with_gate m.0 slot) t slot post done.turn after serves (long slot m.0 t taken inside) work-at.turn work-at.notes)
+    work-goes = goes-at after (goes (with_gate m.0 slot) t slot post work.turn after serves (long slot m.0 t taken inside) tells-at notes-at)
 
     pub wakes-below : (made : Told) → SameMaking made m.0.seen → WakesBelow made.deal.threads done.wakes
-    wakes-below made making = subst (λ (d : Deal). WakesBelow d.threads done.wakes) (taken.ties.within.making.deal ∙ making.deal) work-at.wakes
+    wakes-below made making = subst (λ (d : Deal). WakesBelow d.threads done.wakes) (taken.ties.within.making.deal ∙ making.deal) wakes-at
 
-    pub turned : (l : Seated) → l ≡ (with_book k.0 after.book, []) → TookOnce m.0 t post done.turn l.0
+    pub turned : (l : Seated) → l ≡ (with_book k.0 after.book, []) → TookOnce m.0 t post work.turn l.0
     turned l opened =
         let e : l.0 ≡ with_book (with_gate m.0 slot) after.book = ap (λ (x : Seated). x.0) opened ∙ ap (λ (v : View). with_book v after.book) view-is in
-        subst (TookOnce m.0 t post done.turn) (sym e) record { took = took m.0 t slot post done.turn after.book serves taken (long slot m.0 t taken inside) work-at.turn; takes = refl; turned = refl }
+        subst (TookOnce m.0 t post work.turn) (sym e) record { took = took m.0 t slot post work.turn after.book serves taken (long slot m.0 t taken inside) tells-at; takes = refl; turned = refl }
 
     pub owes-after : (l : Seated) → l ≡ (with_book k.0 after.book, []) → done.owes ≡ owes_of l.0.seen t
-    owes-after l opened = work-at.owes ∙ ap (λ (x : Seated). owes_of x.0.seen t) (sym opened)
+    owes-after l opened = work.owes ∙ ap (λ (x : Seated). owes_of x.0.seen t) (sym opened)
 
   -- after none of the threads had its turn
   module _ (after : Slot) (passed : IsPassed n.0.base after) where
@@ -130,6 +136,12 @@ gives v t post Ended w k = k
 gives v t post (NotYet at because) w k = k
 gives v t post (Busy holder) w k = absurd k.took.turn.row
 gives v t post (Over outcome) w k = k
+
+-- a failed exchange, by the number that it found
+pub busy : (m n : Seated) (found : ℕ) → IsTurnedAway m found n → IsBusy m.0 (found - 1) n.0
+busy m n found away =
+    let same : found - 1 ≡ away.holder = omega (arith, away.found_is) in
+    subst (λ (holder : ℕ). IsBusy m.0 holder n.0) (sym same) record { after = ap (λ (x : Seated). x.0) away.after; other = away.other; thread = away.thread }
 
 -- ---- what the seat's flags tell
 pub threads-after : (serves : List Bool) (seen later : Told) → Within seen later → ((t : ℕ) → Has serves t → t < seen.deal.threads) → (t : ℕ) → Has serves t → t < later.deal.threads

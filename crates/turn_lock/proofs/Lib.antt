@@ -11,3 +11,4 @@ pub mod Waiting
 pub mod Growth
 pub mod Waking
 pub mod laws
+pub mod Briefly

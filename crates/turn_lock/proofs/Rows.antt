@@ -1,33 +1,39 @@
 -- The rows of the answers, from what the book's calls say.
-use Rattle.std.proofs.Common.{◌≡◌, ◌≢◌, ◌↔◌, ℕ, ℤ, zero, suc, ◌<◌, Bool, true, false, List, length, Some, None, set, replicate, get_or-set_other, sym, refl, ◌∙◌, subst}
+use Rattle.std.proofs.Common.{◌≡◌, ◌≢◌, ◌↔◌, ℕ, ℤ, zero, suc, ◌<◌, Bool, true, false, List, length, Option, Some, None, set, replicate, get_or-set_other, sym, refl, ◌∙◌, subst}
 use Rattle.std.proofs.lemmas.Bool.{false≢true}
+use Rattle.std.specs.Prelude.{IsSome}
 use mathlib.Core.Logic.{dite}
 use native.Mathlib.Decide.{ℕ_discrete}
 use Rattle.pct_ask.specs.declared.event.Standing.TheVariants as standings
 use Rattle.pct_ask.specs.declared.verdict.Outcome.{Outcome}
 use Rattle.policy_pick.specs.declared.chance.Pick.TheVariants as picks
-use Rattle.turn_book.specs.Answers.{IsAnswer}
+use Rattle.turn_book.specs.Answers.{IsBecause}
 use Rattle.turn_book.specs.Told.{Told, IsAnswered, choice_of, standing_of}
-use Rattle.turn_book.specs.declared.taken.Because.TheVariants.{Turn, Away}
-use Rattle.turn_book.specs.declared.taken.Taken.{Taken}
-use Rattle.turn_book.specs.declared.taken.Taken.TheVariants.{Answer, NotYet, Over}
-use Rattle.turn_lock.specs.Turns.{Row, as_turn}
+use Rattle.turn_book.specs.declared.taken.Because.{Because}
+use Rattle.turn_book.specs.declared.taken.Reply.{Reply}
+use Rattle.turn_book.specs.declared.taken.Reply.TheVariants.{Answer, NotYet, Over}
+use Rattle.turn_lock.specs.Turns.{Row}
+use Rattle.turn_lock.specs.Briefs.{InBrief, as_brief}
+use Rattle.turn_lock.specs.declared.brief.Brief.TheVariants as briefs
+use Rattle.turn_lock.specs.declared.turn.Turn.TheVariants as turns
 use Rattle.turn_lock.specs.Rule.{Has}
 use Rattle.turn_lock.specs.Wakes.{AreBelow}
 
+over-row : (b : Told) (t : ℕ) (c : Told) (last : Option Outcome) → b.outcome ≡ last → IsSome last → c ≡ b → InBrief (λ turn. Row b t turn c) briefs.Over
+over-row b t c None is some same = absurd (false≢true some)
+over-row b t c (Some outcome) is some same = record { turn = turns.Over outcome; brief = refl; said = (is, same) }
+
 module _ (b : Told) (t : ℕ) (c : Told) (asks : b.outcome ≡ None → standing_of b t ≡ standings.Asks) where
-  pub row-of : (taken : Taken)
-      → ((outcome : Outcome) → (taken ≡ Over outcome) ↔ (b.outcome ≡ Some outcome))
-      → (IsAnswer taken ↔ ((b.outcome ≡ None) × (choice_of b ≡ Some (picks.Thread t))))
-      → ((at u : ℕ) → (taken ≡ NotYet at (Turn u)) ↔ ((b.outcome ≡ None) × (choice_of b ≡ Some (picks.Thread u)) × (u ≢ t) × (at ≡ length b.trace)))
-      → ((at u : ℕ) → (taken ≡ NotYet at (Away u)) ↔ ((b.outcome ≡ None) × (choice_of b ≡ Some (picks.Waits u)) × (at ≡ length b.trace)))
-      → ((answer : ℤ) → taken ≡ Answer answer → IsAnswered b t answer c)
-      → (¬ IsAnswer taken → c ≡ b)
-      → Row b t (as_turn taken) c
-  row-of (Answer answer) over answers turn away answered unchanged = let k = answers.0 tt in (k.0, k.1, answered answer refl)
-  row-of (NotYet at (Turn u)) over answers turn away answered unchanged = let k = (turn at u).0 refl in (k.0, asks k.0, k.3, (k.1, k.2), unchanged (λ h. h))
-  row-of (NotYet at (Away u)) over answers turn away answered unchanged = let k = (away at u).0 refl in (k.0, asks k.0, k.2, k.1, unchanged (λ h. h))
-  row-of (Over outcome) over answers turn away answered unchanged = ((over outcome).0 refl, unchanged (λ h. h))
+  pub row-of : (reply : Reply)
+      → (reply ≡ Over → IsSome b.outcome × (c ≡ b))
+      → ((answer : ℤ) → reply ≡ Answer answer → (b.outcome ≡ None) × (choice_of b ≡ Some (picks.Thread t)) × IsAnswered b t answer c)
+      → ((at : ℕ) (because : Because) → reply ≡ NotYet at because → (b.outcome ≡ None) × (at ≡ length b.trace) × IsBecause b t because × (c ≡ b))
+      → InBrief (λ turn. Row b t turn c) (as_brief reply)
+  row-of (Answer answer) over answers not_yet = record { turn = turns.Answer answer; brief = refl; said = answers answer refl }
+  row-of (NotYet at because) over answers not_yet =
+      let k = not_yet at because refl in
+      record { turn = turns.NotYet at because; brief = refl; said = (k.0, asks k.0, k.1, k.2, k.3) }
+  row-of Over over answers not_yet = let k = over refl in over-row b t c b.outcome refl k.0 k.1
 
 -- one more word of a thread
 pub below-set : (threads word : ℕ) (words : List Bool) → word < threads → AreBelow threads words → AreBelow threads (set words word true)

@@ -6,7 +6,7 @@ use Rattle.turn_book.specs.Told.{Told}
 use Rattle.turn_lock.specs.Seen.{Begins, SameOf, owes_of}
 use Rattle.turn_lock.specs.Rule.{Has, Serves}
 use Rattle.turn_lock.specs.Plays.{turned_away}
-use Rattle.turn_lock.specs.Turns.{GainsPair, TookTurn, TookOnce, TookAtLast, IsBusy, Gives}
+use Rattle.turn_lock.specs.Turns.{GainsPair, TookTurn, TookOnce, TookAtLast, IsBusy, Gives, TellsEnd}
 use Rattle.turn_lock.specs.Hands.{Stays}
 use Rattle.turn_lock.specs.declared.turn.Turn.{Turn}
 use Rattle.turn_lock.specs.declared.turn.Turn.TheVariants.{Answer, Ended, NotYet, Busy, Over}
@@ -81,3 +81,7 @@ serves-on v w t s h = subst (λ (l : List Bool). Has l t) (sym s.serves) h
 
 pub serves-back : (v w : View) (t : ℕ) → Stays v w → Serves w t → Serves v t
 serves-back v w t s h = subst (λ (l : List Bool). Has l t) s.serves h
+
+-- the end is told of the threads that the seat served at first
+pub tells-back : (v u : View) (t : ℕ) (turn : Turn) (seen : Told) → Stays v u → TellsEnd u.serves t turn seen → TellsEnd v.serves t turn seen
+tells-back v u t turn seen s tells = subst (λ (l : List Bool). TellsEnd l t turn seen) s.serves tells

@@ -1,5 +1,5 @@
 -- The words that were noted, and those that a call changes.
-use Rattle.std.proofs.Common.{◌≡◌, ℕ, ◌+◌, ◌<◌, Bool, true, false, Option, List, length, Some, None, set, replicate, sym, ap, ◌∙◌, arith, inl, inr}
+use Rattle.std.proofs.Common.{◌≡◌, ℕ, ◌+◌, ◌<◌, Bool, true, false, Option, List, length, Some, None, set, replicate, refl, sym, ap, ◌∙◌, arith, inl, inr}
 use Rattle.std.specs.Prelude.{◌↔◌, is_some}
 use Rattle.std.proofs.lemmas.Bool.{cases_eq, false≢true}
 use Rattle.std.proofs.lemmas.Grind.{get_or-set_at}
@@ -56,9 +56,9 @@ noted-none board threads n words was is = record {
 }
 
 -- no outcome stands, by a look
-pub not-over : (last found : Option Outcome) (says : Bool) → says ≡ is_some found → found ≡ last → says ≡ false → last ≡ None
-not-over last None says is same not = sym same
-not-over last (Some outcome) says is same not = absurd (false≢true (sym not ∙ is))
+pub not-over : (last : Option Outcome) (says : Bool) → says ≡ is_some last → says ≡ false → last ≡ None
+not-over None says is not = refl
+not-over (Some outcome) says is not = absurd (false≢true (sym not ∙ is))
 
 module _ (book : Told) (granted : Option ℕ) (iff : (u : ℕ) → (granted ≡ Some u) ↔ HasTurn book u) where
   pub nobodys-turn : granted ≡ None → (u : ℕ) → HasTurn book u → ⊥

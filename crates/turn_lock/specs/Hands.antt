@@ -8,6 +8,8 @@ use Rattle.turn_lock.specs.Rule.{Has, Serves}
 use Rattle.turn_lock.specs.Plays.{Seated}
 use Rattle.turn_lock.specs.Turns.{GivenInRange, IsOwed, TurnsTo, TellsEnd}
 use Rattle.turn_lock.specs.Wakes.{WakesBelow}
+use Rattle.turn_lock.specs.Briefs.{brief}
+use Rattle.turn_lock.specs.declared.turn.Turn.{Turn}
 use Rattle.turn_lock.specs.declared.view.View.{View}
 use Rattle.turn_lock.specs.declared.work.Work.{Work}
 
@@ -53,7 +55,9 @@ pub record Stays (v w : View) : Type 0 where
 
 -- a turn of the thread, with what is told of it and who is woken
 pub record IsWork (slot : Slot) (t : ℕ) (post : Option Post) (work : Work) (after : Slot) : Type 0 where
-  pub turn : TurnsTo slot.book t post work.turn after.book
+  pub turn : Turn
+  pub brief : work.brief ≡ brief turn
+  pub tells : TurnsTo slot.book t post turn after.book
   pub owes : work.owes ≡ owes_of after.book t
   pub wakes : WakesBelow slot.book.deal.threads work.wakes
   pub notes : NotesBelow slot.book.deal.threads after.board
@@ -67,7 +71,7 @@ pub record IsPassed (slot after : Slot) : Type 0 where
 pub record IsFound (threads : List Bool) (slot : Slot) (t : ℕ) (done : Work) (after : Slot) : Type 0 where
   pub serves : Has threads t
   pub work : IsWork slot t None done after
-  pub tells : TellsEnd threads t done.turn after.book
+  pub tells : TellsEnd threads t work.turn after.book
 
 abbrev pub IsSwept : List Bool → Slot → Option (ℕ × Work) → Slot → Type 0
 IsSwept serves slot found after = MatchOption found (IsPassed slot after) (λ r. IsFound serves slot r.0 r.1 after)

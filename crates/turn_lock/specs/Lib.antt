@@ -9,3 +9,4 @@ pub mod Rounds
 pub mod Calls
 pub mod Views
 pub mod Wakes
+pub mod Briefs

@@ -3,6 +3,7 @@ use Rattle.std.specs.Prelude.{ℕ, None}
 use Rattle.turn_lock.specs.Rule.{Serves}
 use Rattle.turn_lock.specs.Turns.{TookOnce, TellsEnd}
 use Rattle.turn_lock.specs.Hands.{Stays}
+use Rattle.turn_lock.specs.Briefs.{InBrief}
 use Rattle.turn_lock.specs.declared.round.Round.{Round}
 use Rattle.turn_lock.specs.declared.round.Round.TheVariants.{Busy, Found, Wait}
 use Rattle.turn_lock.specs.declared.turn.Turn.{Turn}
@@ -16,5 +17,5 @@ pub record IsAnsweredRound (v : View) (t : ℕ) (turn : Turn) (w : View) : Type 
 
 abbrev pub RoundTells : View → Round → View → Type 0
 RoundTells v Busy w = Stays v w
-RoundTells v (Found t turn) w = IsAnsweredRound v t turn w
+RoundTells v (Found t words) w = InBrief (λ turn. IsAnsweredRound v t turn w) words
 RoundTells v (Wait word) w = Stays v w

@@ -6,10 +6,7 @@ use Rattle.pct_ask.specs.declared.event.Standing.TheVariants as standings
 use Rattle.policy_pick.specs.declared.chance.Pick.TheVariants as picks
 use Rattle.sync_store.specs.Store.{sizes_of_deal}
 use Rattle.turn_book.specs.Told.{Told, PostIsInRange, standing_of, choice_of, IsPosted, IsAnswered, IsLawful, Within}
-use Rattle.turn_book.specs.declared.taken.Because.{Because}
-use Rattle.turn_book.specs.declared.taken.Because.TheVariants as becauses
-use Rattle.turn_book.specs.declared.taken.Taken.{Taken}
-use Rattle.turn_book.specs.declared.taken.Taken.TheVariants as takens
+use Rattle.turn_book.specs.Answers.{IsBecause}
 use Rattle.turn_lock.specs.Seen.{Begins, SameOf, pairs_of, posted_by, owes_of}
 use Rattle.turn_lock.specs.Rule.{Has, Serves}
 use Rattle.turn_lock.specs.Plays.{turned_away}
@@ -31,11 +28,6 @@ GivenInRange book (Some post) = PostIsInRange (sizes_of_deal book.deal) post.ask
 abbrev pub IsOwed : Told → ℕ → Option Post → Type 0
 IsOwed seen t None = owes_of seen t ≡ false
 IsOwed seen t (Some post) = owes_of seen t ≡ true
-
--- whose turn it is, or whom that depends on
-abbrev pub IsBecause : Told → ℕ → Because → Type 0
-IsBecause book t (becauses.Turn u) = (choice_of book ≡ Some (picks.Thread u)) × (u ≢ t)
-IsBecause book t (becauses.Away u) = choice_of book ≡ Some (picks.Waits u)
 
 -- each answer to a thread, by the book after the post; `after` is the book that is given back
 abbrev pub Row : Told → ℕ → Turn → Told → Type 0
@@ -98,14 +90,3 @@ abbrev pub TellsEnd : List Bool → ℕ → Turn → Told → Type 0
 TellsEnd serves t Ended book = ((u : ℕ) → Has serves u → standing_of book u ≡ standings.Ended) × ((u : ℕ) → Has serves u → t ≤ u)
 TellsEnd serves t (NotYet at because) book = ⊥
 TellsEnd serves t answer book = Unit {0}
-
-abbrev pub as_turn : Taken → Turn
-as_turn (takens.Answer answer) = Answer answer
-as_turn (takens.NotYet at because) = NotYet at because
-as_turn (takens.Over outcome) = Over outcome
-
--- an answer that ends a wait for the turn
-abbrev pub settles : Turn → Bool
-settles (Answer answer) = true
-settles (Over outcome) = true
-settles turn = false

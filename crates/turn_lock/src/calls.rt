@@ -4,17 +4,21 @@ ghost use Rattle.turn_book.specs.Told.{standing_of, IsLawful, SameMaking, Within
 ghost use Rattle.turn_lock.specs.Seen.{ObeysPlan, SameOf};
 ghost use Rattle.turn_lock.specs.Rule.{Serves, first_view};
 ghost use Rattle.turn_lock.specs.Turns.{GivenInRange, IsOwed, Gives};
+ghost use Rattle.turn_lock.specs.Briefs.{InBrief};
 ghost use Rattle.turn_lock.specs.Calls.{made, ServesAll};
 ghost use Rattle.turn_lock.specs.Seats.{without, alone, joined};
 ghost use Rattle.turn_lock.specs.Views.{view, IsOf};
 ghost use Rattle.pct_ask.specs.declared.event.Standing.TheVariants as standings;
 
+use crate::brief::Brief;
 use crate::flags::{chosen, either};
 use crate::held::TurnLock;
+use crate::keep::Keep;
 use crate::rule::Both;
 use crate::seat::Seat;
 use crate::slot::Slot;
 use crate::turn::Turn;
+use crate::turning::turn_of;
 use atomic_table::{Refused, Table};
 use pct_ask::Post;
 use policy_pick::Policy;
@@ -121,16 +125,38 @@ impl<P: Policy> TurnLock<P> {
         ensures gives { Gives (view seat.old) thread post result (view seat.new) }
         ensures obeys { ObeysPlan (view seat.new).seen }
     {
+        let mut outcome = None;
+        let words = self.try_in_brief(seat, thread, post, &mut outcome);
+        turn_of(words, outcome)
+    }
+
+    /// As `try_turn`, in brief. The outcome is kept where the run is over.
+    pub(crate) fn try_in_brief<K: Keep>(
+        &self,
+        seat: &mut Seat<P>,
+        thread: u32,
+        post: Option<Post>,
+        place: &mut K,
+    ) -> Brief
+        requires of { IsOf self.now seat.old }
+        requires serves { Serves (view seat.old) thread }
+        requires owed { IsOwed (view seat.old).seen thread post }
+        requires in_range { GivenInRange (made self.now) post }
+        ensures of { IsOf self.now seat.new }
+        ensures gives { InBrief (λ turn. Gives (view seat.old) thread post turn (view seat.new)) result }
+        ensures obeys { ObeysPlan (view seat.new).seen }
+        ensures kept { result ≡ Brief.Over → K.kept (view seat.new).seen.outcome place.new }
+    {
         let found = self.grab(&mut seat.seat, thread);
         if found != 0 {
-            return Turn::Busy {
+            return Brief::Busy {
                 holder: (found - 1) as u32,
             };
         }
-        let work = self.work(&mut seat.seat, thread, post);
+        let work = self.work(&mut seat.seat, thread, post, place);
         self.open_gate(&mut seat.seat);
         self.wake(&mut seat.seat, &work.wakes);
         seat.owes[thread as usize] = work.owes;
-        work.turn
+        work.brief
     }
 }

@@ -2,9 +2,11 @@
 #![tactic(auto)]
 
 mod board;
+mod brief;
 mod calls;
 mod flags;
 mod held;
+mod keep;
 mod round;
 mod rule;
 mod seat;
@@ -20,6 +22,7 @@ mod waits;
 mod work;
 
 pub use board::WaitBoard;
+pub use brief::Brief;
 pub use held::TurnLock;
 pub use seat::Seat;
 pub use turn::Turn;

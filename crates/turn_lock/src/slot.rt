@@ -5,11 +5,13 @@ ghost use Rattle.turn_lock.specs.Slots.{NotesBelow, new_slot, word_noted};
 ghost use Rattle.turn_lock.specs.Rule.{Has};
 ghost use Rattle.turn_lock.specs.Turns.{GivenInRange, IsOwed, TurnsTo};
 ghost use Rattle.turn_lock.specs.Hands.{IsWork, IsSwept};
+ghost use Rattle.turn_lock.specs.Briefs.{InBrief};
 ghost use Rattle.turn_lock.specs.Wakes.{AreBelow, WakesBelow, AreDue};
 ghost use Rattle.pct_ask.specs.declared.event.Standing.TheVariants as standings;
 
 use crate::board::WaitBoard;
-use crate::turn::Turn;
+use crate::brief::Brief;
+use crate::keep::Keep;
 use crate::turning::{answer, ask, is_away, settles};
 use crate::work::{Wakes, Work};
 use pct_ask::{Post, Standing};
@@ -38,7 +40,7 @@ impl<P: Policy> Slot<P> {
         ensures lawful { IsLawful book }
     {
         // Any look at a book tells that it is lawful.
-        let _outcome = book.outcome();
+        let _steps = book.trace();
         Slot {
             book,
             board: WaitBoard::new(),
@@ -53,12 +55,12 @@ impl<P: Policy> Slot<P> {
     }
 
     /// The post, where one is given, and the thread's turn.
-    fn turn(&mut self, thread: u32, post: Option<Post>) -> Turn
+    fn turn(&mut self, thread: u32, post: Option<Post>) -> Brief
         requires thread { thread < self.old.book.deal.threads }
         requires lawful { IsLawful self.old.book }
         requires owed { IsOwed self.old.book thread post }
         requires in_range { GivenInRange self.old.book post }
-        ensures turn { TurnsTo self.old.book thread post result self.new.book }
+        ensures turn { InBrief (λ turn. TurnsTo self.old.book thread post turn self.new.book) result }
         ensures board { self.new.board ≡ self.old.board }
     {
         ask(&mut self.book, thread, post);
@@ -99,7 +101,7 @@ impl<P: Policy> Slot<P> {
         ensures due { AreDue self.now result }
         ensures below { WakesBelow self.now.book.deal.threads result }
     {
-        if self.book.outcome().is_some() {
+        if self.book.is_over() {
             return Wakes::All {
                 words: self.all_noted(),
             };
@@ -113,8 +115,25 @@ impl<P: Policy> Slot<P> {
         }
     }
 
+    /// Keeps the outcome of a run that is over. It stands apart from the steps after which the run goes on.
+    #[inline(never)]
+    fn keep_outcome<K: Keep>(&self, place: &mut K)
+        ensures { K.kept self.now.book.outcome place.new }
+    {
+        place.keep(self.book.outcome());
+    }
+
+    /// Keeps the outcome where the run is over.
+    fn keep<K: Keep>(&self, words: Brief, place: &mut K)
+        ensures { words ≡ Brief.Over → K.kept self.now.book.outcome place.new }
+    {
+        if let Brief::Over = words {
+            self.keep_outcome(place);
+        }
+    }
+
     /// A turn, with what is told of it.
-    pub fn work(&mut self, thread: u32, post: Option<Post>) -> Work
+    pub fn work<K: Keep>(&mut self, thread: u32, post: Option<Post>, place: &mut K) -> Work
         requires thread { thread < self.old.book.deal.threads }
         requires lawful { IsLawful self.old.book }
         requires notes { NotesBelow self.old.book.deal.threads self.old.board }
@@ -122,10 +141,12 @@ impl<P: Policy> Slot<P> {
         requires in_range { GivenInRange self.old.book post }
         ensures work { IsWork self.old thread post result self.new }
         ensures due { AreDue self.new result.wakes }
+        ensures kept { result.brief ≡ Brief.Over → K.kept self.new.book.outcome place.new }
     {
-        let turn = self.turn(thread, post);
+        let brief = self.turn(thread, post);
+        self.keep(brief, place);
         Work {
-            turn,
+            brief,
             owes: is_away(&self.book, thread),
             wakes: self.wakes(),
         }
@@ -170,17 +191,23 @@ impl<P: Policy> Slot<P> {
     }
 
     /// A turn of one of these threads, if one is answered. Else the lowest one's word is noted for all.
-    pub fn sweep(&mut self, serves: &[bool; 64], lowest: u32) -> Option<(u32, Work)>
+    pub fn sweep<K: Keep>(
+        &mut self,
+        serves: &[bool; 64],
+        lowest: u32,
+        place: &mut K,
+    ) -> Option<(u32, Work)>
         requires lowest { Has serves.now lowest × ((t : ℕ) → Has serves.now t → lowest ≤ t) }
         requires threads { (t : ℕ) → Has serves.now t → t < self.old.book.deal.threads }
         requires posted { (t : ℕ) → Has serves.now t → owes_of self.old.book t ≡ false }
         requires lawful { IsLawful self.old.book }
         requires notes { NotesBelow self.old.book.deal.threads self.old.board }
-        ensures { IsSwept serves.now self.old result self.new }
+        ensures swept { IsSwept serves.now self.old result self.new }
+        ensures kept { IfSome result (λ found. found.1.brief ≡ Brief.Over → K.kept self.new.book.outcome place.new) }
     {
         let thread = self.candidate(serves, lowest);
-        let work = self.work(thread, None);
-        if settles(&work.turn) {
+        let work = self.work(thread, None, place);
+        if settles(&work.brief) {
             return Some((thread, work));
         }
         if self.all_ended(serves) {

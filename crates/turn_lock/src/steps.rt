@@ -1,5 +1,5 @@
 // The single steps on the table, each with what it tells.
-ghost use Rattle.std.specs.Prelude.{◌≡◌, ◌<◌, ◌+◌, [], ◌∷◌};
+ghost use Rattle.std.specs.Prelude.{◌≡◌, ◌<◌, ◌+◌, [], ◌∷◌, IfSome};
 ghost use Rattle.atomic_table.specs.Table.{step};
 ghost use Rattle.turn_lock.specs.Slots.{Slot};
 ghost use Rattle.turn_lock.specs.Rule.{Serves};
@@ -10,7 +10,9 @@ ghost use Rattle.turn_lock.specs.Seats.{without, alone};
 ghost use Rattle.turn_lock.specs.Calls.{IsTableSeatOf, SameSeat, Idle, made};
 ghost use mathlib.Core.Option.{none};
 
+use crate::brief::Brief;
 use crate::held::TurnLock;
+use crate::keep::Keep;
 use crate::rule::{Grab, Look, Mark, Open, Part, TableSeat, Which};
 use crate::work::{Wakes, Work};
 use pct_ask::Post;
@@ -32,30 +34,37 @@ impl<P: Policy> TurnLock<P> {
     }
 
     /// The post and the turn, on the book in the seat's hand.
-    pub(crate) fn work(&self, seat: &mut TableSeat<P>, thread: u32, post: Option<Post>) -> Work
+    pub(crate) fn work<K: Keep>(
+        &self,
+        seat: &mut TableSeat<P>,
+        thread: u32,
+        post: Option<Post>,
+        place: &mut K,
+    ) -> Work
         requires of { seat.old.table_id ≡ self.now.table.shared.table_id }
         requires ready { IsReady seat.old.me thread post }
         ensures same { SameSeat seat.old seat.new × (seat.new.me.0 ≡ seat.old.me.0) }
-        ensures work { (after : Slot) × HasInHand seat.new.me after × IsWork seat.old.me.0.base thread post result after }
+        ensures work { (after : Slot) × HasInHand seat.new.me after × IsWork seat.old.me.0.base thread post result after × (result.brief ≡ Brief.Over → K.kept after.book.outcome place.new) }
     {
         let slot = seat.slot_mut(&self.table.shared, 0);
-        slot.work(thread, post)
+        slot.work(thread, post, place)
     }
 
     /// The turn of one of these threads, on the book in the seat's hand.
-    pub(crate) fn sweep(
+    pub(crate) fn sweep<K: Keep>(
         &self,
         seat: &mut TableSeat<P>,
         threads: &[bool; 64],
         lowest: u32,
+        place: &mut K,
     ) -> Option<(u32, Work)>
         requires of { seat.old.table_id ≡ self.now.table.shared.table_id }
         requires ready { IsReadyForAny seat.old.me threads.now lowest }
         ensures same { SameSeat seat.old seat.new × (seat.new.me.0 ≡ seat.old.me.0) }
-        ensures swept { (after : Slot) × HasInHand seat.new.me after × IsSwept threads.now seat.old.me.0.base result after }
+        ensures swept { (after : Slot) × HasInHand seat.new.me after × IsSwept threads.now seat.old.me.0.base result after × IfSome result (λ found. found.1.brief ≡ Brief.Over → K.kept after.book.outcome place.new) }
     {
         let slot = seat.slot_mut(&self.table.shared, 0);
-        slot.sweep(threads, lowest)
+        slot.sweep(threads, lowest, place)
     }
 
     /// Gives the slot back, and opens the gate.

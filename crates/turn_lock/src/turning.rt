@@ -1,29 +1,49 @@
 // What a call does with the book while it has it.
 ghost use Rattle.std.specs.Prelude.{◌≡◌, ◌≢◌, ◌<◌, ◌↔◌, true, None};
 ghost use Rattle.turn_book.specs.Told.{IsLawful, standing_of};
-ghost use Rattle.turn_lock.specs.Turns.{GivenInRange, IsAsked, IsOwed, Row, as_turn, settles};
+ghost use Rattle.turn_lock.specs.Turns.{GivenInRange, IsAsked, IsOwed, Row};
+ghost use Rattle.turn_lock.specs.Briefs.{InBrief, IsWith, as_brief, brief, settles};
+ghost use Rattle.turn_lock.specs.declared.turn.Turn.{Turn};
 ghost use Rattle.pct_ask.specs.declared.event.Standing.TheVariants as standings;
 
+use crate::brief::Brief;
 use crate::turn::Turn;
-use pct_ask::{Post, Standing};
+use pct_ask::{Outcome, Post, Standing};
 use policy_pick::Policy;
-use turn_book::{Taken, TurnBook};
+use turn_book::{Reply, TurnBook};
 
-fn as_turn(taken: Taken) -> Turn
-    ensures { result ≡ as_turn taken }
+fn as_brief(reply: Reply) -> Brief
+    ensures { result ≡ as_brief reply }
 {
-    match taken {
-        Taken::Answer(answer) => Turn::Answer(answer),
-        Taken::NotYet { at, because } => Turn::NotYet { at, because },
-        Taken::Over(outcome) => Turn::Over(outcome),
+    match reply {
+        Reply::Answer(answer) => Brief::Answer(answer),
+        Reply::NotYet { at, because } => Brief::NotYet { at, because },
+        Reply::Over => Brief::Over,
+    }
+}
+
+/// The turn that was told in brief, where an outcome stands if the run is over.
+pub fn turn_of(words: Brief, outcome: Option<Outcome>) -> Turn
+    requires { InBrief (IsWith outcome) words }
+    ensures { (turn : Turn) → IsWith outcome turn → words ≡ brief turn → result ≡ turn }
+{
+    match words {
+        Brief::Answer(answer) => Turn::Answer(answer),
+        Brief::Ended => Turn::Ended,
+        Brief::NotYet { at, because } => Turn::NotYet { at, because },
+        Brief::Busy { holder } => Turn::Busy { holder },
+        Brief::Over => match outcome {
+            Some(outcome) => Turn::Over(outcome),
+            None => unreachable!(),
+        },
     }
 }
 
 /// Whether a thread that asked for its turn has been answered.
-pub fn settles(turn: &Turn) -> bool
-    ensures { result ≡ settles turn.now }
+pub fn settles(words: &Brief) -> bool
+    ensures { result ≡ settles words.now }
 {
-    matches!(turn, Turn::Answer(_) | Turn::Over(_))
+    matches!(words, Brief::Answer(_) | Brief::Over)
 }
 
 /// The post, where one is given.
@@ -46,21 +66,21 @@ fn has_ended<P: Policy>(book: &TurnBook<P>, thread: u32) -> bool
     requires { thread < book.now.deal.threads }
     ensures { (result ≡ true) ↔ ((book.now.outcome ≡ None) × (standing_of book.now thread ≡ standings.Ended)) }
 {
-    book.outcome().is_none() && book.standing(thread) == Standing::Ended
+    !book.is_over() && book.standing(thread) == Standing::Ended
 }
 
 /// The thread's turn.
-pub fn answer<P: Policy>(book: &mut TurnBook<P>, thread: u32) -> Turn
+pub fn answer<P: Policy>(book: &mut TurnBook<P>, thread: u32) -> Brief
     requires thread { thread < book.old.deal.threads }
     requires lawful { IsLawful book.old }
     requires here { book.old.outcome ≡ None → standing_of book.old thread ≢ standings.Away }
-    ensures row { Row book.old thread result book.new }
+    ensures row { InBrief (λ turn. Row book.old thread turn book.new) result }
     ensures lawful { IsLawful book.new }
 {
     if has_ended(book, thread) {
-        return Turn::Ended;
+        return Brief::Ended;
     }
-    as_turn(book.take(thread))
+    as_brief(book.take_turn(thread))
 }
 
 /// The thread's next post is not known.

@@ -5,15 +5,19 @@ ghost use Rattle.turn_book.specs.Told.{PostIsInRange};
 ghost use Rattle.turn_lock.specs.Seen.{ObeysPlan, owes_of};
 ghost use Rattle.turn_lock.specs.Rule.{Serves};
 ghost use Rattle.turn_lock.specs.Turns.{TookAtLast, TellsEnd};
+ghost use Rattle.turn_lock.specs.Briefs.{InBrief};
 ghost use Rattle.turn_lock.specs.Rounds.{RoundTells};
 ghost use Rattle.turn_lock.specs.Calls.{made, WaitsForTurn};
 ghost use Rattle.turn_lock.specs.Views.{view, IsOf};
 
+use crate::brief::Brief;
 use crate::flags::lowest;
 use crate::held::TurnLock;
+use crate::keep::{Keep, Nothing};
 use crate::round::Round;
 use crate::seat::Seat;
 use crate::turn::Turn;
+use crate::turning::turn_of;
 use pct_ask::Post;
 use policy_pick::Policy;
 use std::sync::Wait;
@@ -37,10 +41,46 @@ impl<P: Policy> TurnLock<P> {
         ensures turn { TookAtLast (view seat.old) thread (Some post) result (view seat.new) }
         ensures obeys { ObeysPlan (view seat.new).seen }
     {
+        let mut outcome = None;
+        let words = self.post_in_brief(rt, seat, thread, post, &mut outcome);
+        turn_of(words, outcome)
+    }
+
+    /// As `post_wait`, without the outcome of a run that is over.
+    pub fn post_brief<R: Wait>(&self, rt: &R, seat: &mut Seat<P>, thread: u32, post: Post) -> Brief
+        requires of { IsOf self.now seat.old }
+        requires serves { Serves (view seat.old) thread }
+        requires owed { owes_of (view seat.old).seen thread ≡ true }
+        requires in_range { PostIsInRange (sizes_of_deal (made self.now).deal) post.ask }
+        ensures of { IsOf self.now seat.new }
+        ensures turn { InBrief (λ turn. TookAtLast (view seat.old) thread (Some post) turn (view seat.new)) result }
+        ensures obeys { ObeysPlan (view seat.new).seen }
+    {
+        self.post_in_brief(rt, seat, thread, post, &mut Nothing)
+    }
+
+    /// As `post_wait`, in brief. The outcome is kept where the run is over.
+    fn post_in_brief<R: Wait, K: Keep>(
+        &self,
+        rt: &R,
+        seat: &mut Seat<P>,
+        thread: u32,
+        post: Post,
+        place: &mut K,
+    ) -> Brief
+        requires of { IsOf self.now seat.old }
+        requires serves { Serves (view seat.old) thread }
+        requires owed { owes_of (view seat.old).seen thread ≡ true }
+        requires in_range { PostIsInRange (sizes_of_deal (made self.now).deal) post.ask }
+        ensures of { IsOf self.now seat.new }
+        ensures turn { InBrief (λ turn. TookAtLast (view seat.old) thread (Some post) turn (view seat.new)) result }
+        ensures obeys { ObeysPlan (view seat.new).seen }
+        ensures kept { result ≡ Brief.Over → K.kept (view seat.new).seen.outcome place.new }
+    {
         for _ in rt.forever() {
-            match self.try_turn(seat, thread, Some(post)) {
-                Turn::Busy { holder: _ } => yield_now(),
-                turn => return turn,
+            match self.try_in_brief(seat, thread, Some(post), place) {
+                Brief::Busy { holder: _ } => yield_now(),
+                words => return words,
             }
         }
         unreachable!()
@@ -48,7 +88,7 @@ impl<P: Policy> TurnLock<P> {
 
     /// Takes the book once, where the gate is free, and gives a thread of the seat its turn. Where none has it, the turn word
     /// of the lowest is noted for all of them, and read before the gate is opened.
-    fn round(&self, seat: &mut Seat<P>, lowest: u32) -> Round
+    fn round<K: Keep>(&self, seat: &mut Seat<P>, lowest: u32, place: &mut K) -> Round
         requires of { IsOf self.now seat.old }
         requires here { Serves (view seat.old) lowest }
         requires least { (t : ℕ) → Serves (view seat.old) t → lowest ≤ t }
@@ -56,12 +96,13 @@ impl<P: Policy> TurnLock<P> {
         ensures of { IsOf self.now seat.new }
         ensures round { RoundTells (view seat.old) result (view seat.new) }
         ensures obeys { ObeysPlan (view seat.new).seen }
+        ensures kept { (thread : ℕ) → result ≡ Round.Found thread Brief.Over → K.kept (view seat.new).seen.outcome place.new }
     {
         let found = self.grab(&mut seat.seat, lowest);
         if found != 0 {
             return Round::Busy;
         }
-        let swept = self.sweep(&mut seat.seat, &seat.serves, lowest);
+        let swept = self.sweep(&mut seat.seat, &seat.serves, lowest, place);
         let word = self.turn_word(lowest);
         self.open_gate(&mut seat.seat);
         match swept {
@@ -70,7 +111,7 @@ impl<P: Policy> TurnLock<P> {
                 seat.owes[thread as usize] = work.owes;
                 Round::Found {
                     thread,
-                    turn: work.turn,
+                    brief: work.brief,
                 }
             }
             None => Round::Wait { word },
@@ -109,11 +150,43 @@ impl<P: Policy> TurnLock<P> {
         ensures tells { TellsEnd (view seat.old).serves result.0 result.1 (view seat.new).seen }
         ensures obeys { ObeysPlan (view seat.new).seen }
     {
+        let mut outcome = None;
+        let (thread, words) = self.turn_in_brief(rt, seat, &mut outcome);
+        (thread, turn_of(words, outcome))
+    }
+
+    /// As `turn_any`, without the outcome of a run that is over.
+    pub fn turn_brief<R: Wait>(&self, rt: &R, seat: &mut Seat<P>) -> (u32, Brief)
+        requires of { IsOf self.now seat.old }
+        requires waits { WaitsForTurn (view seat.old) }
+        ensures of { IsOf self.now seat.new }
+        ensures serves { Serves (view seat.old) result.0 }
+        ensures turn { InBrief (λ turn. TookAtLast (view seat.old) result.0 None turn (view seat.new) × TellsEnd (view seat.old).serves result.0 turn (view seat.new).seen) result.1 }
+        ensures obeys { ObeysPlan (view seat.new).seen }
+    {
+        self.turn_in_brief(rt, seat, &mut Nothing)
+    }
+
+    /// As `turn_any`, in brief. The outcome is kept where the run is over.
+    fn turn_in_brief<R: Wait, K: Keep>(
+        &self,
+        rt: &R,
+        seat: &mut Seat<P>,
+        place: &mut K,
+    ) -> (u32, Brief)
+        requires of { IsOf self.now seat.old }
+        requires waits { WaitsForTurn (view seat.old) }
+        ensures of { IsOf self.now seat.new }
+        ensures serves { Serves (view seat.old) result.0 }
+        ensures turn { InBrief (λ turn. TookAtLast (view seat.old) result.0 None turn (view seat.new) × TellsEnd (view seat.old).serves result.0 turn (view seat.new).seen) result.1 }
+        ensures obeys { ObeysPlan (view seat.new).seen }
+        ensures kept { result.1 ≡ Brief.Over → K.kept (view seat.new).seen.outcome place.new }
+    {
         let lowest = lowest(&seat.serves);
         for _ in rt.forever() {
-            match self.round(seat, lowest) {
+            match self.round(seat, lowest, place) {
                 Round::Busy => yield_now(),
-                Round::Found { thread, turn } => return (thread, turn),
+                Round::Found { thread, brief } => return (thread, brief),
                 Round::Wait { word } => self.look_or_park(rt, lowest, word),
             }
         }

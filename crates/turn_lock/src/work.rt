@@ -1,6 +1,6 @@
 ghost use Rattle.std.specs.Prelude.{◌≡◌, false};
 
-use crate::turn::Turn;
+use crate::brief::Brief;
 
 /// The turn words that a call changes after it opened the gate, and whose waiters it wakes.
 #[derive(Clone, Copy, Debug)]
@@ -16,7 +16,7 @@ pub enum Wakes {
 /// What a call made of the book while it had it.
 #[derive(Clone, Copy, Debug)]
 pub struct Work {
-    pub turn: Turn,
+    pub brief: Brief,
     /// The thread's next post is owed afterwards.
     pub owes: bool,
     pub wakes: Wakes,
@@ -25,12 +25,12 @@ pub struct Work {
 impl Work {
     /// The thread has ended, and nothing changed.
     pub fn ended() -> Work
-        ensures turn { result.turn ≡ Turn.Ended }
+        ensures brief { result.brief ≡ Brief.Ended }
         ensures owes { result.owes ≡ false }
         ensures wakes { result.wakes ≡ Wakes.Nobody }
     {
         Work {
-            turn: Turn::Ended,
+            brief: Brief::Ended,
             owes: false,
             wakes: Wakes::Nobody,
         }

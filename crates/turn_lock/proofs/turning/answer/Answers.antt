@@ -1,13 +1,20 @@
-use Rattle.std.proofs.Common.{sym, ◌∙◌, subst}
+use Rattle.std.proofs.Common.{sym, refl, ◌∙◌, subst}
 use Rattle.std.proofs.lemmas.Bool.{false≢true}
 use Rattle.turn_lock.specs.Turns.{Row}
-use Rattle.turn_lock.specs.declared.turn.Turn.{Turn}
+use Rattle.turn_lock.specs.Briefs.{InBrief}
+use Rattle.turn_lock.specs.declared.brief.Brief.{Brief}
+use Rattle.turn_lock.specs.declared.turn.Turn.TheVariants as turns
 use Rattle.turn_lock.proofs.Rows.{row-of}
 use Rattle.turn_lock.proofs.laws.Standings.{asks-or-ended}
 use Rattle.turn_lock.proofs.turning.answer.Goals as goal
 
+pub returns-then-has_ended-clause-row : goal.returns-then-has_ended-clause-row
+returns-then-has_ended-clause-row g c =
+    let ended = c.has_ended.ensures.0 c.if-has_ended.true in
+    record { turn = turns.Ended; brief = refl; said = (ended.0, ended.1, refl) }
+
 pub returns-clause-row : goal.returns-clause-row
 returns-clause-row g c =
-    let e = c.take.ensures in
-    subst (λ (turn : Turn). Row c.args.book.now c.args.thread turn c.take.new.self) (sym c.as_turn.ensures)
-    (row-of _ _ _ (λ none. asks-or-ended _ (c.requires.here none) (λ ended. false≢true (sym c.if-has_ended.false ∙ c.has_ended.ensures.1 (none, ended)))) _ e.over e.answer e.turn e.away e.answered e.unchanged)
+    let e = c.take_turn.ensures in
+    subst (λ (words : Brief). InBrief (λ turn. Row c.args.book.now c.args.thread turn c.take_turn.new.self) words) (sym c.as_brief.ensures)
+    (row-of _ _ _ (λ none. asks-or-ended _ (c.requires.here none) (λ ended. false≢true (sym c.if-has_ended.false ∙ c.has_ended.ensures.1 (none, ended)))) _ e.over e.answer e.not_yet)

@@ -1,19 +1,17 @@
-use Rattle.std.proofs.Common.{subst, Some}
-use Rattle.turn_lock.specs.Turns.{Gives}
+use Rattle.std.proofs.Common.{sym, ◌∙◌, subst, Some}
+use Rattle.turn_lock.specs.Turns.{TookAtLast}
 use Rattle.turn_lock.specs.Views.{view}
 use Rattle.turn_lock.specs.declared.turn.Turn.{Turn}
-use Rattle.turn_lock.proofs.Waiting.{stays-self, stays-along, busy-stays, took-once, took-at-last}
+use Rattle.turn_lock.proofs.Briefly.{with-took}
 use Rattle.turn_lock.proofs.held.TurnLock.post_wait.Goals as goal
 
-pub loop-init : goal.loop-init
-loop-init g c = (c.requires.of, stays-self (view c.args.seat.now))
+pub turn_of-requires : goal.turn_of-requires
+turn_of-requires g c =
+    let e = c.post_in_brief-words.ensures in
+    record { turn = e.turn.turn; brief = e.turn.brief; said = with-took _ _ _ e.turn.turn _ _ e.turn.said.took (λ over. e.kept (e.turn.brief ∙ over)) }
 
-pub loop-preserved : goal.loop-preserved
-loop-preserved g c = (c.try_turn.ensures.of, stays-along _ _ _ c.loop.invariant.1 (busy-stays _ _ _ (subst (λ (x : Turn). Gives (view c.loop.seat) c.args.thread (Some c.args.post) x (view c.try_turn.new.seat)) c.in-Busy.is c.try_turn.ensures.gives)))
-
-pub returns-in_default : goal.returns-in_default
-returns-in_default g c = record {
-  of = c.try_turn.ensures.of;
-  turn = took-at-last _ _ _ _ _ _ c.requires.serves c.loop.invariant.1 (took-once _ _ _ _ _ c.in_default.not-Busy c.try_turn.ensures.gives);
-  obeys = c.try_turn.ensures.obeys;
-}
+pub returns-clause-turn : goal.returns-clause-turn
+returns-clause-turn g c =
+    let e = c.post_in_brief-words.ensures in
+    let told = with-took _ _ _ e.turn.turn _ _ e.turn.said.took (λ over. e.kept (e.turn.brief ∙ over)) in
+    subst (λ (turn : Turn). TookAtLast (view c.args.seat.now) c.args.thread (Some c.args.post) turn (view c.post_in_brief-words.new.seat)) (sym (c.turn_of.ensures e.turn.turn told e.turn.brief)) e.turn.said

@@ -1,53 +1,17 @@
-use Rattle.std.proofs.Common.{ap, sym, ◌∙◌, arith, length-set}
-use Rattle.turn_lock.specs.Plays.{Seated}
-use Rattle.turn_lock.proofs.laws.SeenBooks.{making-along}
-use Rattle.turn_lock.proofs.Hands.{work-goes, turned, owes-after, gives, threads-after, owed-after}
-use Rattle.turn_lock.proofs.laws.SeatedThreads.{inside}
-use Rattle.turn_lock.proofs.Seating.{from-flag}
+use Rattle.std.proofs.Common.{sym, ◌∙◌, subst}
+use Rattle.turn_lock.specs.Turns.{Gives}
+use Rattle.turn_lock.specs.Views.{view}
+use Rattle.turn_lock.specs.declared.turn.Turn.{Turn}
+use Rattle.turn_lock.proofs.Briefly.{with-gives}
 use Rattle.turn_lock.proofs.held.TurnLock.try_turn.Goals as goal
 
-pub open_gate-requires-clause-goes : goal.open_gate-requires-clause-goes
-open_gate-requires-clause-goes g c κs within =
-    let got = c.grab-found.ensures.grabs.0 c.if-found-ne0.false in
-    let k = c.work-work.ensures.work in
-    (k.0, k.1, work-goes c.args.seat.now.seat.me c.grab-found.new.seat.me c.work-work.new.seat.me _ got.1 c.work-work.ensures.same.1 got.2 _ _ _ _ c.requires.serves (inside c.args.seat.now _ c.requires.serves) k.2)
-
-pub invariant_of-seat-2 : goal.invariant_of-seat-2
-invariant_of-seat-2 g c =
-    let got = c.grab-found.ensures.grabs.0 c.if-found-ne0.false in
-    let k = c.work-work.ensures.work in
-    let opened = c.wake.ensures.view ∙ c.open_gate.ensures.opened k.0 k.1 in
-    let t = turned c.args.seat.now.seat.me c.grab-found.new.seat.me c.work-work.new.seat.me _ got.1 c.work-work.ensures.same.1 got.2 _ _ _ _ c.requires.serves (inside c.args.seat.now _ c.requires.serves) k.2 c.wake.new.seat.me opened in
-    let owes = owes-after c.args.seat.now.seat.me c.grab-found.new.seat.me c.work-work.new.seat.me _ got.1 c.work-work.ensures.same.1 got.2 _ _ _ _ c.requires.serves (inside c.args.seat.now _ c.requires.serves) k.2 c.wake.new.seat.me opened in
-    let old = c.args.seat.now in
-    record {
-      flags = length-set old.owes c.args.thread c.work-work.result.owes ∙ old.flags;
-      live = ap (λ (x : Seated). x.0.live) opened ∙ k.1.live;
-      idle = ap (λ (x : Seated). x.0.held) opened;
-      none = ap (λ (x : Seated). x.1) opened;
-      served = old.served ∙ sym t.took.serves;
-      threads = threads-after old.serves _ _ t.took.grown old.threads;
-      owed = owed-after old.serves old.owes _ _ c.args.thread _ (omega (arith, old.flags, inside old _ c.requires.serves)) old.owed (λ u h ne. t.took.others u (from-flag old u h) ne) owes;
-    }
-
-pub returns-clause-of : goal.returns-clause-of
-returns-clause-of g c =
-    let got = c.grab-found.ensures.grabs.0 c.if-found-ne0.false in
-    let k = c.work-work.ensures.work in
-    let opened = c.wake.ensures.view ∙ c.open_gate.ensures.opened k.0 k.1 in
-    let t = turned c.args.seat.now.seat.me c.grab-found.new.seat.me c.work-work.new.seat.me _ got.1 c.work-work.ensures.same.1 got.2 _ _ _ _ c.requires.serves (inside c.args.seat.now _ c.requires.serves) k.2 c.wake.new.seat.me opened in
-    (c.wake.ensures.same.table ∙ c.open_gate.ensures.same.table ∙ c.work-work.ensures.same.0.table ∙ c.grab-found.ensures.same.table ∙ c.requires.of.0, making-along _ _ _ c.requires.of.1 t.took.grown.making)
+pub turn_of-requires : goal.turn_of-requires
+turn_of-requires g c =
+    let e = c.try_in_brief-words.ensures in
+    record { turn = e.gives.turn; brief = e.gives.brief; said = with-gives _ _ _ e.gives.turn _ _ e.gives.said (λ over. e.kept (e.gives.brief ∙ over)) }
 
 pub returns-clause-gives : goal.returns-clause-gives
 returns-clause-gives g c =
-    let got = c.grab-found.ensures.grabs.0 c.if-found-ne0.false in
-    let k = c.work-work.ensures.work in
-    let opened = c.wake.ensures.view ∙ c.open_gate.ensures.opened k.0 k.1 in
-    gives _ _ _ _ _ (turned c.args.seat.now.seat.me c.grab-found.new.seat.me c.work-work.new.seat.me _ got.1 c.work-work.ensures.same.1 got.2 _ _ _ _ c.requires.serves (inside c.args.seat.now _ c.requires.serves) k.2 c.wake.new.seat.me opened)
-
-pub returns-clause-obeys : goal.returns-clause-obeys
-returns-clause-obeys g c =
-    let got = c.grab-found.ensures.grabs.0 c.if-found-ne0.false in
-    let k = c.work-work.ensures.work in
-    let opened = c.wake.ensures.view ∙ c.open_gate.ensures.opened k.0 k.1 in
-    (turned c.args.seat.now.seat.me c.grab-found.new.seat.me c.work-work.new.seat.me _ got.1 c.work-work.ensures.same.1 got.2 _ _ _ _ c.requires.serves (inside c.args.seat.now _ c.requires.serves) k.2 c.wake.new.seat.me opened).took.turn.lawful.obeys
+    let e = c.try_in_brief-words.ensures in
+    let told = with-gives _ _ _ e.gives.turn _ _ e.gives.said (λ over. e.kept (e.gives.brief ∙ over)) in
+    subst (λ (turn : Turn). Gives (view c.args.seat.now) c.args.thread c.args.post turn (view c.try_in_brief-words.new.seat)) (sym (c.turn_of.ensures e.gives.turn told e.gives.brief)) e.gives.said

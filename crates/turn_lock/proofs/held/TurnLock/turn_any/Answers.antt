@@ -1,17 +1,23 @@
-use Rattle.std.proofs.Common.{subst}
-use Rattle.turn_lock.specs.Rounds.{RoundTells}
+use Rattle.std.proofs.Common.{sym, ◌∙◌, subst, None}
+use Rattle.turn_lock.specs.Turns.{TookAtLast, TellsEnd}
 use Rattle.turn_lock.specs.Views.{view}
-use Rattle.turn_lock.specs.declared.round.Round.{Round}
-use Rattle.turn_lock.proofs.Waiting.{stays-along, took-at-last, serves-back}
+use Rattle.turn_lock.specs.declared.turn.Turn.{Turn}
+use Rattle.turn_lock.proofs.Briefly.{with-took}
 use Rattle.turn_lock.proofs.held.TurnLock.turn_any.Goals as goal
 
-pub loop-preserved-in-Busy : goal.loop-preserved-in-Busy
-loop-preserved-in-Busy g c = (c.round.ensures.of, stays-along _ _ _ c.loop.invariant.1 (subst (λ (x : Round). RoundTells (view c.loop.seat) x (view c.round.new.seat)) c.in-Busy.is c.round.ensures.round))
+pub turn_of-requires : goal.turn_of-requires
+turn_of-requires g c =
+    let e = c.turn_in_brief-thread.ensures in
+    record { turn = e.turn.turn; brief = e.turn.brief; said = with-took _ _ _ e.turn.turn _ _ e.turn.said.0.took (λ over. e.kept (e.turn.brief ∙ over)) }
 
-pub loop-preserved : goal.loop-preserved
-loop-preserved g c = (c.round.ensures.of, stays-along _ _ _ c.loop.invariant.1 (subst (λ (x : Round). RoundTells (view c.loop.seat) x (view c.round.new.seat)) c.in-Wait.is c.round.ensures.round))
+pub returns-clause-turn : goal.returns-clause-turn
+returns-clause-turn g c =
+    let e = c.turn_in_brief-thread.ensures in
+    let told = with-took _ _ _ e.turn.turn _ _ e.turn.said.0.took (λ over. e.kept (e.turn.brief ∙ over)) in
+    subst (λ (turn : Turn). TookAtLast (view c.args.seat.now) c.turn_in_brief-thread.result.0 None turn (view c.turn_in_brief-thread.new.seat)) (sym (c.turn_of.ensures e.turn.turn told e.turn.brief)) e.turn.said.0
 
-pub returns-in-Found-clause-turn : goal.returns-in-Found-clause-turn
-returns-in-Found-clause-turn g c =
-    let found = subst (λ (x : Round). RoundTells (view c.loop.seat) x (view c.round.new.seat)) c.in-Found.is c.round.ensures.round in
-    took-at-last _ _ _ _ _ _ (serves-back _ _ _ c.loop.invariant.1 found.serves) c.loop.invariant.1 found.took
+pub returns-clause-tells : goal.returns-clause-tells
+returns-clause-tells g c =
+    let e = c.turn_in_brief-thread.ensures in
+    let told = with-took _ _ _ e.turn.turn _ _ e.turn.said.0.took (λ over. e.kept (e.turn.brief ∙ over)) in
+    subst (λ (turn : Turn). TellsEnd (view c.args.seat.now).serves c.turn_in_brief-thread.result.0 turn (view c.turn_in_brief-thread.new.seat).seen) (sym (c.turn_of.ensures e.turn.turn told e.turn.brief)) e.turn.said.1

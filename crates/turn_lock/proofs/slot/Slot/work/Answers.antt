@@ -9,4 +9,4 @@ use Rattle.turn_lock.proofs.slot.Slot.work.Goals as goal
 pub returns-clause-work : goal.returns-clause-work
 returns-clause-work g c =
     let away = subst (λ (s : Slot). (c.is_away.result ≡ true) ↔ (standing_of s.book c.args.thread ≡ standings.Away)) c.self.view_is c.is_away.ensures in
-    is-work _ _ _ _ _ c.requires.thread c.requires.lawful c.requires.notes c.turn-turn.ensures.board c.turn-turn.ensures.turn away c.wakes.ensures.below
+    is-work _ _ _ _ _ c.requires.thread c.requires.lawful c.requires.notes c.turn-brief.ensures.board c.turn-brief.ensures.turn away c.wakes.ensures.below
