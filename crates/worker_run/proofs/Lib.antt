@@ -8,3 +8,4 @@ pub mod Ranges
 pub mod Again
 pub mod Wholes
 pub mod laws
+pub mod Words

@@ -14,7 +14,7 @@ use pct_ask::Body;
 use pct_outside::Gate;
 use policy_pick::Policy;
 use std::sync::Wait;
-use turn_lock::{Seat, Turn, TurnLock};
+use turn_lock::{Brief, Seat, TurnLock};
 
 /// Whether there is a runner.
 fn has_runner<B: Body>(runners: &[Option<Runner<B>>]) -> bool
@@ -77,8 +77,8 @@ fn take_turns<R: Wait, P: Policy, B: Body, G: Gate>(
     ensures lawful { IsLawful (view seat.new).seen }
 {
     for _ in rt.forever() {
-        let (thread, turn) = lock.turn_any(rt, seat);
-        let Turn::Answer(value) = turn else {
+        let (thread, words) = lock.turn_brief(rt, seat);
+        let Brief::Answer(value) = words else {
             return;
         };
         let Some(runner) = &mut runners[thread as usize] else {

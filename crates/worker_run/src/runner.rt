@@ -5,6 +5,8 @@ ghost use Rattle.turn_lock.specs.Seen.{owes_of};
 ghost use Rattle.turn_lock.specs.Rule.{Serves};
 ghost use Rattle.turn_lock.specs.Calls.{made};
 ghost use Rattle.turn_lock.specs.Views.{view, IsOf};
+ghost use Rattle.turn_lock.specs.Briefs.{brief};
+ghost use Rattle.turn_lock.specs.declared.turn.Turn.{Turn};
 ghost use Rattle.worker_run.specs.Bodies.{Pending, IsInRangeBody};
 ghost use Rattle.worker_run.specs.Served.{IsRunning, Moves, IsOver, is_over};
 
@@ -12,13 +14,13 @@ use pct_ask::Body;
 use pct_outside::Gate;
 use policy_pick::Policy;
 use std::sync::Wait;
-use turn_lock::{Seat, Turn, TurnLock};
+use turn_lock::{Brief, Seat, TurnLock};
 
 /// Whether the run is over.
-fn is_over(turn: Turn) -> bool
-    ensures { result ≡ is_over turn }
+fn is_over(words: Brief) -> bool
+    ensures { (turn : Turn) → words ≡ brief turn → result ≡ is_over turn }
 {
-    matches!(turn, Turn::Over(_))
+    matches!(words, Brief::Over)
 }
 
 /// A body, and how many answers it has had.
@@ -69,9 +71,9 @@ impl<B: Body> Runner<B> {
         for _ in rt.forever() {
             gate.arrive(thread, self.answered);
             let post = self.body.post();
-            match lock.post_wait(rt, seat, thread, post) {
-                Turn::Answer(value) => self.hear(value),
-                turn => return is_over(turn),
+            match lock.post_brief(rt, seat, thread, post) {
+                Brief::Answer(value) => self.hear(value),
+                words => return is_over(words),
             }
         }
         unreachable!()

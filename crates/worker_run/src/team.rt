@@ -19,7 +19,7 @@ use std::sync::Wait;
 use std::sync::atomic::{AtomicBool, Ordering};
 use std::thread;
 use std::thread::{Promise, Threads};
-use turn_lock::{Seat, Turn, TurnLock};
+use turn_lock::{Brief, Seat, TurnLock};
 
 /// What a thread was given.
 #[derive(Drop)]
@@ -68,8 +68,8 @@ fn serve<R: Wait, P: Policy, B: Body, G: Gate>(
         return seat;
     }
     for _ in rt.forever() {
-        let (_, turn) = lock.turn_any(rt, &mut seat);
-        let Turn::Answer(value) = turn else {
+        let (_, words) = lock.turn_brief(rt, &mut seat);
+        let Brief::Answer(value) = words else {
             return seat;
         };
         runner.hear(value);

@@ -5,11 +5,14 @@ use Rattle.std.proofs.lemmas.Int.{to_z-of_z}
 use Rattle.std.proofs.lemmas.List.{length-set}
 use Rattle.turn_lock.specs.Seen.{owes_of}
 use Rattle.turn_lock.specs.Turns.{TookTurn}
+use Rattle.turn_lock.specs.Briefs.{brief}
 use Rattle.turn_lock.specs.Views.{view}
 use Rattle.turn_lock.specs.declared.turn.Turn.{Turn}
+use Rattle.turn_lock.specs.declared.turn.Turn.TheVariants.{Answer}
 use Rattle.turn_lock.proofs.laws.Standings.{same-owes}
 use Rattle.worker_run.specs.Served.{IsRunning}
 use Rattle.worker_run.proofs.Running.{answer-asks, answer-counts, answer-running, answer-owes, other-running, moves-is, ended-told, answers-few, none-owed}
+use Rattle.worker_run.proofs.Words.{answer-turn}
 use Rattle.worker_run.proofs.Crews.{on-self, on-along, serves-back, moves-along, runner-within, crew-moved, crew-served, place-read}
 use Rattle.worker_run.proofs.crew.take_turns.Goals as goal
 
@@ -20,21 +23,21 @@ pub returns-in_default : goal.returns-in_default
 returns-in_default g c =
     let first = view c.args.seat.now in
     let v = view c.loop.seat in
-    let w = view c.turn_any-thread.new.seat in
-    let t = c.turn_any-thread.result.0 in
-    let turn = c.turn_any-thread.result.1 in
-    let mine = c.turn_any-thread.ensures.serves in
-    let took = c.turn_any-thread.ensures.turn.took in
-    let not = c.in_default.not-Answer in
+    let w = view c.turn_brief-thread.new.seat in
+    let t = c.turn_brief-thread.result.0 in
+    let turn = c.turn_brief-thread.ensures.turn.turn in
+    let mine = c.turn_brief-thread.ensures.serves in
+    let took = c.turn_brief-thread.ensures.turn.said.0.took in
+    let not : (value : ℤ) → c.turn_brief-thread.ensures.turn.turn ≡ Answer value → ⊥ = λ value is. c.in_default.not-Answer value (c.turn_brief-thread.ensures.turn.brief ∙ ap brief is) in
     let moves = moves-is v w t mine None turn took in
     record {
-      of = c.turn_any-thread.ensures.of;
+      of = c.turn_brief-thread.ensures.of;
       served = λ start start_crew.
           let crew = c.loop.invariant.crew start start_crew in
           let at = crew.place t mine in
           let running = other-running v w t mine None turn not took (start t) (g.B.Body.pending at.1.body) at.1.answered (crew.running t at.0 at.1 at.2 at.3).1 (λ q is. none-owed q is) in
           let after = crew-moved g.B.Body.pending start 0 c.loop.runners v w crew t at.0 at.2 at.1 at.3 moves at.1 running in
-          let done = ended-told v w t mine None v.serves turn not took c.turn_any-thread.ensures.tells in
+          let done = ended-told v w t mine None v.serves turn not took c.turn_brief-thread.ensures.turn.said.1 in
           crew-served g.B.Body.pending start (set c.loop.runners at.0 (Some at.1)) first w (on-along first v w c.loop.invariant.on moves.on) took.turn.lawful after (elim done [
             | inl over ↦ inl over
             | inr ended ↦ inr (λ u here. ended u (serves-back v w u moves.on here))
@@ -44,25 +47,25 @@ returns-in_default g c =
 
 pub bounds-runners-thread : goal.bounds-runners-thread
 bounds-runners-thread g c =
-    let t = c.turn_any-thread.result.0 in
-    let at = (c.loop.invariant.crew c.requires.crew.0 c.requires.crew.2).place t c.turn_any-thread.ensures.serves in
+    let t = c.turn_brief-thread.result.0 in
+    let at = (c.loop.invariant.crew c.requires.crew.0 c.requires.crew.2).place t c.turn_brief-thread.ensures.serves in
     let within = runner-within c.loop.runners at.0 at.1 at.3 in
     omega (arith, at.2)
 
 pub offset_bounds-runners-thread : goal.offset_bounds-runners-thread
 offset_bounds-runners-thread g c =
-    let t = c.turn_any-thread.result.0 in
-    let at = (c.loop.invariant.crew c.requires.crew.0 c.requires.crew.2).place t c.turn_any-thread.ensures.serves in
+    let t = c.turn_brief-thread.result.0 in
+    let at = (c.loop.invariant.crew c.requires.crew.0 c.requires.crew.2).place t c.turn_brief-thread.ensures.serves in
     let inside = runner-within c.loop.runners at.0 at.1 at.3 in
     scaled_Fits t (length c.args.runners.now) _ (omega (arith, at.2, c.loop.auto.runners)) c.well_formed.1.1.1.0.1
 
 pub hear-requires-clause-asks : goal.hear-requires-clause-asks
 hear-requires-clause-asks g c = λ κs lives.
     let v = view c.loop.seat in
-    let w = view c.turn_any-thread.new.seat in
-    let t = c.turn_any-thread.result.0 in
-    let mine = c.turn_any-thread.ensures.serves in
-    let took = subst (λ (x : Turn). TookTurn v t None x w) c.in-Answer.is c.turn_any-thread.ensures.turn.took in
+    let w = view c.turn_brief-thread.new.seat in
+    let t = c.turn_brief-thread.result.0 in
+    let mine = c.turn_brief-thread.ensures.serves in
+    let took = subst (λ (x : Turn). TookTurn v t None x w) (answer-turn c.turn_brief-thread.ensures.turn.turn c.in-Answer.value (sym c.turn_brief-thread.ensures.turn.brief ∙ c.in-Answer.is)) c.turn_brief-thread.ensures.turn.said.0.took in
     let r = c.in-Some-runners.runner in
     let now = g.B.Body.pending r.body in
     let here = place-read g.B.Body.pending c.requires.crew.0 c.loop.runners v (c.loop.invariant.crew c.requires.crew.0 c.requires.crew.2) t mine c.index-runners-thread.result r c.in-Some-runners.is in
@@ -71,10 +74,10 @@ hear-requires-clause-asks g c = λ κs lives.
 pub hear-requires-clause-few : goal.hear-requires-clause-few
 hear-requires-clause-few g c = λ κs lives.
     let v = view c.loop.seat in
-    let w = view c.turn_any-thread.new.seat in
-    let t = c.turn_any-thread.result.0 in
-    let mine = c.turn_any-thread.ensures.serves in
-    let took = subst (λ (x : Turn). TookTurn v t None x w) c.in-Answer.is c.turn_any-thread.ensures.turn.took in
+    let w = view c.turn_brief-thread.new.seat in
+    let t = c.turn_brief-thread.result.0 in
+    let mine = c.turn_brief-thread.ensures.serves in
+    let took = subst (λ (x : Turn). TookTurn v t None x w) (answer-turn c.turn_brief-thread.ensures.turn.turn c.in-Answer.value (sym c.turn_brief-thread.ensures.turn.brief ∙ c.in-Answer.is)) c.turn_brief-thread.ensures.turn.said.0.took in
     let r = c.in-Some-runners.runner in
     let now = g.B.Body.pending r.body in
     let here = place-read g.B.Body.pending c.requires.crew.0 c.loop.runners v (c.loop.invariant.crew c.requires.crew.0 c.requires.crew.2) t mine c.index-runners-thread.result r c.in-Some-runners.is in
@@ -85,10 +88,10 @@ hear-requires-clause-few g c = λ κs lives.
 pub speak-requires-clause-owes : goal.speak-requires-clause-owes
 speak-requires-clause-owes g c = λ κs lives.
     let v = view c.loop.seat in
-    let w = view c.turn_any-thread.new.seat in
-    let t = c.turn_any-thread.result.0 in
-    let mine = c.turn_any-thread.ensures.serves in
-    let took = subst (λ (x : Turn). TookTurn v t None x w) c.in-Answer.is c.turn_any-thread.ensures.turn.took in
+    let w = view c.turn_brief-thread.new.seat in
+    let t = c.turn_brief-thread.result.0 in
+    let mine = c.turn_brief-thread.ensures.serves in
+    let took = subst (λ (x : Turn). TookTurn v t None x w) (answer-turn c.turn_brief-thread.ensures.turn.turn c.in-Answer.value (sym c.turn_brief-thread.ensures.turn.brief ∙ c.in-Answer.is)) c.turn_brief-thread.ensures.turn.said.0.took in
     let r = c.in-Some-runners.runner in
     let now = g.B.Body.pending r.body in
     let here = place-read g.B.Body.pending c.requires.crew.0 c.loop.runners v (c.loop.invariant.crew c.requires.crew.0 c.requires.crew.2) t mine c.index-runners-thread.result r c.in-Some-runners.is in
@@ -97,10 +100,10 @@ speak-requires-clause-owes g c = λ κs lives.
 pub speak-requires-clause-runs : goal.speak-requires-clause-runs
 speak-requires-clause-runs g c = λ κs lives.
     let v = view c.loop.seat in
-    let w = view c.turn_any-thread.new.seat in
-    let t = c.turn_any-thread.result.0 in
-    let mine = c.turn_any-thread.ensures.serves in
-    let took = subst (λ (x : Turn). TookTurn v t None x w) c.in-Answer.is c.turn_any-thread.ensures.turn.took in
+    let w = view c.turn_brief-thread.new.seat in
+    let t = c.turn_brief-thread.result.0 in
+    let mine = c.turn_brief-thread.ensures.serves in
+    let took = subst (λ (x : Turn). TookTurn v t None x w) (answer-turn c.turn_brief-thread.ensures.turn.turn c.in-Answer.value (sym c.turn_brief-thread.ensures.turn.brief ∙ c.in-Answer.is)) c.turn_brief-thread.ensures.turn.said.0.took in
     let r = c.in-Some-runners.runner in
     let now = g.B.Body.pending r.body in
     let here = place-read g.B.Body.pending c.requires.crew.0 c.loop.runners v (c.loop.invariant.crew c.requires.crew.0 c.requires.crew.2) t mine c.index-runners-thread.result r c.in-Some-runners.is in
@@ -113,10 +116,10 @@ pub returns-then-speak-clause-served : goal.returns-then-speak-clause-served
 returns-then-speak-clause-served g c = λ start start_crew.
     let first = view c.args.seat.now in
     let v = view c.loop.seat in
-    let w = view c.turn_any-thread.new.seat in
-    let t = c.turn_any-thread.result.0 in
-    let mine = c.turn_any-thread.ensures.serves in
-    let took = subst (λ (x : Turn). TookTurn v t None x w) c.in-Answer.is c.turn_any-thread.ensures.turn.took in
+    let w = view c.turn_brief-thread.new.seat in
+    let t = c.turn_brief-thread.result.0 in
+    let mine = c.turn_brief-thread.ensures.serves in
+    let took = subst (λ (x : Turn). TookTurn v t None x w) (answer-turn c.turn_brief-thread.ensures.turn.turn c.in-Answer.value (sym c.turn_brief-thread.ensures.turn.brief ∙ c.in-Answer.is)) c.turn_brief-thread.ensures.turn.said.0.took in
     let r = c.in-Some-runners.runner in
     let now = g.B.Body.pending r.body in
     let here = place-read g.B.Body.pending c.requires.crew.0 c.loop.runners v (c.loop.invariant.crew c.requires.crew.0 c.requires.crew.2) t mine c.index-runners-thread.result r c.in-Some-runners.is in
@@ -127,7 +130,7 @@ returns-then-speak-clause-served g c = λ start start_crew.
     let crew = c.loop.invariant.crew start start_crew in
     let was = place-read g.B.Body.pending start c.loop.runners v crew t mine c.index-runners-thread.result r c.in-Some-runners.is in
     let told = subst N (sym c.hear.ensures.answered) (answer-running v w t mine None c.in-Answer.value took (start t) now r.answered was.1 (λ q is. none-owed q is) then next) in
-    let moves = moves-along t v w x (moves-is v w t mine None c.turn_any-thread.result.1 c.turn_any-thread.ensures.turn.took) c.speak.ensures.moves in
+    let moves = moves-along t v w x (moves-is v w t mine None c.turn_brief-thread.ensures.turn.turn c.turn_brief-thread.ensures.turn.said.0.took) c.speak.ensures.moves in
     let after = crew-moved g.B.Body.pending start 0 c.loop.runners v x crew t t (omega arith) r was.0 moves c.speak.new.self (c.speak.ensures.runs (start t) told) in
     crew-served g.B.Body.pending start (set c.loop.runners t (Some c.speak.new.self)) first x (on-along first v x c.loop.invariant.on moves.on) c.speak.ensures.lawful after (inl (c.speak.ensures.over c.if-speak.true))
 
@@ -135,17 +138,17 @@ pub loop-preserved : goal.loop-preserved
 loop-preserved g c =
     let first = view c.args.seat.now in
     let v = view c.loop.seat in
-    let w = view c.turn_any-thread.new.seat in
-    let t = c.turn_any-thread.result.0 in
-    let mine = c.turn_any-thread.ensures.serves in
-    let took = subst (λ (x : Turn). TookTurn v t None x w) c.in-Answer.is c.turn_any-thread.ensures.turn.took in
+    let w = view c.turn_brief-thread.new.seat in
+    let t = c.turn_brief-thread.result.0 in
+    let mine = c.turn_brief-thread.ensures.serves in
+    let took = subst (λ (x : Turn). TookTurn v t None x w) (answer-turn c.turn_brief-thread.ensures.turn.turn c.in-Answer.value (sym c.turn_brief-thread.ensures.turn.brief ∙ c.in-Answer.is)) c.turn_brief-thread.ensures.turn.said.0.took in
     let r = c.in-Some-runners.runner in
     let now = g.B.Body.pending r.body in
     let here = place-read g.B.Body.pending c.requires.crew.0 c.loop.runners v (c.loop.invariant.crew c.requires.crew.0 c.requires.crew.2) t mine c.index-runners-thread.result r c.in-Some-runners.is in
     let x = view c.speak.new.seat in
     let then = g.B.Body.pending c.hear.new.self.body in
     let next : (answers : List ℤ) → then answers ≡ now (c.in-Answer.value ∷ answers) = λ answers. c.hear.ensures.body answers ∙ ap (λ a. now (a ∷ answers)) (to_z-of_z w64 c.in-Answer.value (search rules)) in
-    let moves = moves-along t v w x (moves-is v w t mine None c.turn_any-thread.result.1 c.turn_any-thread.ensures.turn.took) c.speak.ensures.moves in
+    let moves = moves-along t v w x (moves-is v w t mine None c.turn_brief-thread.ensures.turn.turn c.turn_brief-thread.ensures.turn.said.0.took) c.speak.ensures.moves in
     record {
       of = c.speak.ensures.of;
       crew = λ start start_crew.

@@ -2,10 +2,13 @@ use Rattle.std.proofs.Common.{◌≡◌, ◌+◌, ℕ, ℤ, List, None, ◌∷�
 use Rattle.std.proofs.lemmas.Int.{to_z-of_z}
 use Rattle.turn_lock.specs.Seen.{owes_of}
 use Rattle.turn_lock.specs.Turns.{TookTurn}
+use Rattle.turn_lock.specs.Briefs.{brief}
 use Rattle.turn_lock.specs.Views.{view}
 use Rattle.turn_lock.specs.declared.turn.Turn.{Turn}
+use Rattle.turn_lock.specs.declared.turn.Turn.TheVariants.{Answer}
 use Rattle.worker_run.specs.Served.{IsRunning}
 use Rattle.worker_run.proofs.Running.{answer-asks, answer-counts, answer-running, answer-owes, other-running, moves-is, ended-told, answers-few, none-owed}
+use Rattle.worker_run.proofs.Words.{answer-turn}
 use Rattle.worker_run.proofs.Crews.{serves-on, serves-back, moves-along, own-serves, own-running, own-thread, own-served}
 use Rattle.worker_run.proofs.team.serve.Goals as goal
 
@@ -27,8 +30,8 @@ returns-then-speak-clause-served g c = record {
       own-served g.B.Body.pending start c.args.thread c.args.runner first own (view c.speak.new.seat) (g.B.Body.pending c.speak.new.self.body) c.speak.new.self.answered c.speak.ensures.moves.on c.speak.ensures.lawful (c.speak.ensures.runs (start c.args.thread) running) (inl (c.speak.ensures.over c.if-speak.true));
 }
 
-pub turn_any-turn-requires-clause-waits : goal.turn_any-turn-requires-clause-waits
-turn_any-turn-requires-clause-waits g c = λ κs lives.
+pub turn_brief-words-requires-clause-waits : goal.turn_brief-words-requires-clause-waits
+turn_brief-words-requires-clause-waits g c = λ κs lives.
     let v = view c.loop.seat in
     let first = view c.args.seat in
     let own = c.requires.crew.2 in
@@ -42,25 +45,25 @@ turn_any-turn-requires-clause-waits g c = λ κs lives.
 pub returns-in_default : goal.returns-in_default
 returns-in_default g c =
     let v = view c.loop.seat in
-    let w = view c.turn_any-turn.new.seat in
+    let w = view c.turn_brief-words.new.seat in
     let t = c.args.thread in
     let first = view c.args.seat in
     let own = c.requires.crew.2 in
     let start = c.requires.crew.0 in
     let mine = serves-on first v t c.loop.invariant.moves.on (own-serves g.B.Body.pending start t c.args.runner first own) in
-    let same : c.turn_any-turn.result.0 ≡ t = own-thread g.B.Body.pending start t c.args.runner first own c.turn_any-turn.result.0 (serves-back first v c.turn_any-turn.result.0 c.loop.invariant.moves.on c.turn_any-turn.ensures.serves) in
-    let turned = subst (λ (n : ℕ). TookTurn v n None c.turn_any-turn.result.1 w) same c.turn_any-turn.ensures.turn.took in
-    let moves = moves-is v w t mine None c.turn_any-turn.result.1 turned in
-    let not = c.in_default.not-Answer in
-    let done = ended-told v w c.turn_any-turn.result.0 c.turn_any-turn.ensures.serves None v.serves c.turn_any-turn.result.1 not c.turn_any-turn.ensures.turn.took c.turn_any-turn.ensures.tells in
+    let same : c.turn_brief-words.result.0 ≡ t = own-thread g.B.Body.pending start t c.args.runner first own c.turn_brief-words.result.0 (serves-back first v c.turn_brief-words.result.0 c.loop.invariant.moves.on c.turn_brief-words.ensures.serves) in
+    let turned = subst (λ (n : ℕ). TookTurn v n None c.turn_brief-words.ensures.turn.turn w) same c.turn_brief-words.ensures.turn.said.0.took in
+    let moves = moves-is v w t mine None c.turn_brief-words.ensures.turn.turn turned in
+    let not : (value : ℤ) → c.turn_brief-words.ensures.turn.turn ≡ Answer value → ⊥ = λ value is. c.in_default.not-Answer value (c.turn_brief-words.ensures.turn.brief ∙ ap brief is) in
+    let done = ended-told v w c.turn_brief-words.result.0 c.turn_brief-words.ensures.serves None v.serves c.turn_brief-words.ensures.turn.turn not c.turn_brief-words.ensures.turn.said.0.took c.turn_brief-words.ensures.turn.said.1 in
     record {
-      of = c.turn_any-turn.ensures.of;
+      of = c.turn_brief-words.ensures.of;
       served = record {
-        table = c.turn_any-turn.ensures.of.0 ∙ sym c.requires.of.0;
+        table = c.turn_brief-words.ensures.of.0 ∙ sym c.requires.of.0;
         served = λ start own.
             let running = c.loop.invariant.runs (start t) (own-running g.B.Body.pending start t c.args.runner first own) in
             own-served g.B.Body.pending start t c.args.runner first own w (g.B.Body.pending c.loop.runner.body) c.loop.runner.answered (moves-along t first v w c.loop.invariant.moves moves).on turned.turn.lawful
-            (other-running v w t mine None c.turn_any-turn.result.1 not turned (start t) (g.B.Body.pending c.loop.runner.body) c.loop.runner.answered running (λ q is. none-owed q is)) (elim done [
+            (other-running v w t mine None c.turn_brief-words.ensures.turn.turn not turned (start t) (g.B.Body.pending c.loop.runner.body) c.loop.runner.answered running (λ q is. none-owed q is)) (elim done [
               | inl over ↦ inl over
               | inr ended ↦ inr (λ u here. ended u (serves-on first v u c.loop.invariant.moves.on here))
             ]);
@@ -70,15 +73,15 @@ returns-in_default g c =
 pub hear-requires-clause-asks : goal.hear-requires-clause-asks
 hear-requires-clause-asks g c = λ κs lives.
     let v = view c.loop.seat in
-    let w = view c.turn_any-turn.new.seat in
+    let w = view c.turn_brief-words.new.seat in
     let t = c.args.thread in
     let first = view c.args.seat in
     let own = c.requires.crew.2 in
     let start = c.requires.crew.0 in
     let mine = serves-on first v t c.loop.invariant.moves.on (own-serves g.B.Body.pending start t c.args.runner first own) in
-    let same : c.turn_any-turn.result.0 ≡ t = own-thread g.B.Body.pending start t c.args.runner first own c.turn_any-turn.result.0 (serves-back first v c.turn_any-turn.result.0 c.loop.invariant.moves.on c.turn_any-turn.ensures.serves) in
-    let turned = subst (λ (n : ℕ). TookTurn v n None c.turn_any-turn.result.1 w) same c.turn_any-turn.ensures.turn.took in
-    let took = subst (λ (x : Turn). TookTurn v t None x w) c.in-Answer.is turned in
+    let same : c.turn_brief-words.result.0 ≡ t = own-thread g.B.Body.pending start t c.args.runner first own c.turn_brief-words.result.0 (serves-back first v c.turn_brief-words.result.0 c.loop.invariant.moves.on c.turn_brief-words.ensures.serves) in
+    let turned = subst (λ (n : ℕ). TookTurn v n None c.turn_brief-words.ensures.turn.turn w) same c.turn_brief-words.ensures.turn.said.0.took in
+    let took = subst (λ (x : Turn). TookTurn v t None x w) (answer-turn c.turn_brief-words.ensures.turn.turn c.in-Answer.value (sym c.turn_brief-words.ensures.turn.brief ∙ c.in-Answer.is)) turned in
     let r = c.loop.runner in
     let now = g.B.Body.pending r.body in
     let running = c.loop.invariant.runs (start t) (own-running g.B.Body.pending start t c.args.runner first own) in
@@ -87,15 +90,15 @@ hear-requires-clause-asks g c = λ κs lives.
 pub hear-requires-clause-few : goal.hear-requires-clause-few
 hear-requires-clause-few g c = λ κs lives.
     let v = view c.loop.seat in
-    let w = view c.turn_any-turn.new.seat in
+    let w = view c.turn_brief-words.new.seat in
     let t = c.args.thread in
     let first = view c.args.seat in
     let own = c.requires.crew.2 in
     let start = c.requires.crew.0 in
     let mine = serves-on first v t c.loop.invariant.moves.on (own-serves g.B.Body.pending start t c.args.runner first own) in
-    let same : c.turn_any-turn.result.0 ≡ t = own-thread g.B.Body.pending start t c.args.runner first own c.turn_any-turn.result.0 (serves-back first v c.turn_any-turn.result.0 c.loop.invariant.moves.on c.turn_any-turn.ensures.serves) in
-    let turned = subst (λ (n : ℕ). TookTurn v n None c.turn_any-turn.result.1 w) same c.turn_any-turn.ensures.turn.took in
-    let took = subst (λ (x : Turn). TookTurn v t None x w) c.in-Answer.is turned in
+    let same : c.turn_brief-words.result.0 ≡ t = own-thread g.B.Body.pending start t c.args.runner first own c.turn_brief-words.result.0 (serves-back first v c.turn_brief-words.result.0 c.loop.invariant.moves.on c.turn_brief-words.ensures.serves) in
+    let turned = subst (λ (n : ℕ). TookTurn v n None c.turn_brief-words.ensures.turn.turn w) same c.turn_brief-words.ensures.turn.said.0.took in
+    let took = subst (λ (x : Turn). TookTurn v t None x w) (answer-turn c.turn_brief-words.ensures.turn.turn c.in-Answer.value (sym c.turn_brief-words.ensures.turn.brief ∙ c.in-Answer.is)) turned in
     let r = c.loop.runner in
     let now = g.B.Body.pending r.body in
     let running = c.loop.invariant.runs (start t) (own-running g.B.Body.pending start t c.args.runner first own) in
@@ -106,15 +109,15 @@ hear-requires-clause-few g c = λ κs lives.
 pub speak-requires-in-loop-clause-owes : goal.speak-requires-in-loop-clause-owes
 speak-requires-in-loop-clause-owes g c = λ κs lives.
     let v = view c.loop.seat in
-    let w = view c.turn_any-turn.new.seat in
+    let w = view c.turn_brief-words.new.seat in
     let t = c.args.thread in
     let first = view c.args.seat in
     let own = c.requires.crew.2 in
     let start = c.requires.crew.0 in
     let mine = serves-on first v t c.loop.invariant.moves.on (own-serves g.B.Body.pending start t c.args.runner first own) in
-    let same : c.turn_any-turn.result.0 ≡ t = own-thread g.B.Body.pending start t c.args.runner first own c.turn_any-turn.result.0 (serves-back first v c.turn_any-turn.result.0 c.loop.invariant.moves.on c.turn_any-turn.ensures.serves) in
-    let turned = subst (λ (n : ℕ). TookTurn v n None c.turn_any-turn.result.1 w) same c.turn_any-turn.ensures.turn.took in
-    let took = subst (λ (x : Turn). TookTurn v t None x w) c.in-Answer.is turned in
+    let same : c.turn_brief-words.result.0 ≡ t = own-thread g.B.Body.pending start t c.args.runner first own c.turn_brief-words.result.0 (serves-back first v c.turn_brief-words.result.0 c.loop.invariant.moves.on c.turn_brief-words.ensures.serves) in
+    let turned = subst (λ (n : ℕ). TookTurn v n None c.turn_brief-words.ensures.turn.turn w) same c.turn_brief-words.ensures.turn.said.0.took in
+    let took = subst (λ (x : Turn). TookTurn v t None x w) (answer-turn c.turn_brief-words.ensures.turn.turn c.in-Answer.value (sym c.turn_brief-words.ensures.turn.brief ∙ c.in-Answer.is)) turned in
     let r = c.loop.runner in
     let now = g.B.Body.pending r.body in
     let running = c.loop.invariant.runs (start t) (own-running g.B.Body.pending start t c.args.runner first own) in
@@ -123,15 +126,15 @@ speak-requires-in-loop-clause-owes g c = λ κs lives.
 pub speak-requires-in-loop-clause-runs : goal.speak-requires-in-loop-clause-runs
 speak-requires-in-loop-clause-runs g c = λ κs lives.
     let v = view c.loop.seat in
-    let w = view c.turn_any-turn.new.seat in
+    let w = view c.turn_brief-words.new.seat in
     let t = c.args.thread in
     let first = view c.args.seat in
     let own = c.requires.crew.2 in
     let start = c.requires.crew.0 in
     let mine = serves-on first v t c.loop.invariant.moves.on (own-serves g.B.Body.pending start t c.args.runner first own) in
-    let same : c.turn_any-turn.result.0 ≡ t = own-thread g.B.Body.pending start t c.args.runner first own c.turn_any-turn.result.0 (serves-back first v c.turn_any-turn.result.0 c.loop.invariant.moves.on c.turn_any-turn.ensures.serves) in
-    let turned = subst (λ (n : ℕ). TookTurn v n None c.turn_any-turn.result.1 w) same c.turn_any-turn.ensures.turn.took in
-    let took = subst (λ (x : Turn). TookTurn v t None x w) c.in-Answer.is turned in
+    let same : c.turn_brief-words.result.0 ≡ t = own-thread g.B.Body.pending start t c.args.runner first own c.turn_brief-words.result.0 (serves-back first v c.turn_brief-words.result.0 c.loop.invariant.moves.on c.turn_brief-words.ensures.serves) in
+    let turned = subst (λ (n : ℕ). TookTurn v n None c.turn_brief-words.ensures.turn.turn w) same c.turn_brief-words.ensures.turn.said.0.took in
+    let took = subst (λ (x : Turn). TookTurn v t None x w) (answer-turn c.turn_brief-words.ensures.turn.turn c.in-Answer.value (sym c.turn_brief-words.ensures.turn.brief ∙ c.in-Answer.is)) turned in
     let r = c.loop.runner in
     let now = g.B.Body.pending r.body in
     let running = c.loop.invariant.runs (start t) (own-running g.B.Body.pending start t c.args.runner first own) in
@@ -143,22 +146,22 @@ speak-requires-in-loop-clause-runs g c = λ κs lives.
 pub returns-then-speak-2-clause-served : goal.returns-then-speak-2-clause-served
 returns-then-speak-2-clause-served g c =
     let v = view c.loop.seat in
-    let w = view c.turn_any-turn.new.seat in
+    let w = view c.turn_brief-words.new.seat in
     let t = c.args.thread in
     let first = view c.args.seat in
     let own = c.requires.crew.2 in
     let start = c.requires.crew.0 in
     let mine = serves-on first v t c.loop.invariant.moves.on (own-serves g.B.Body.pending start t c.args.runner first own) in
-    let same : c.turn_any-turn.result.0 ≡ t = own-thread g.B.Body.pending start t c.args.runner first own c.turn_any-turn.result.0 (serves-back first v c.turn_any-turn.result.0 c.loop.invariant.moves.on c.turn_any-turn.ensures.serves) in
-    let turned = subst (λ (n : ℕ). TookTurn v n None c.turn_any-turn.result.1 w) same c.turn_any-turn.ensures.turn.took in
-    let took = subst (λ (x : Turn). TookTurn v t None x w) c.in-Answer.is turned in
+    let same : c.turn_brief-words.result.0 ≡ t = own-thread g.B.Body.pending start t c.args.runner first own c.turn_brief-words.result.0 (serves-back first v c.turn_brief-words.result.0 c.loop.invariant.moves.on c.turn_brief-words.ensures.serves) in
+    let turned = subst (λ (n : ℕ). TookTurn v n None c.turn_brief-words.ensures.turn.turn w) same c.turn_brief-words.ensures.turn.said.0.took in
+    let took = subst (λ (x : Turn). TookTurn v t None x w) (answer-turn c.turn_brief-words.ensures.turn.turn c.in-Answer.value (sym c.turn_brief-words.ensures.turn.brief ∙ c.in-Answer.is)) turned in
     let r = c.loop.runner in
     let now = g.B.Body.pending r.body in
     let running = c.loop.invariant.runs (start t) (own-running g.B.Body.pending start t c.args.runner first own) in
     let then = g.B.Body.pending c.hear.new.self.body in
     let next : (answers : List ℤ) → then answers ≡ now (c.in-Answer.value ∷ answers) = λ answers. c.hear.ensures.body answers ∙ ap (λ a. now (a ∷ answers)) (to_z-of_z w64 c.in-Answer.value (search rules)) in
     let x = view c.speak-in-loop.new.seat in
-    let moves = moves-along t first v x c.loop.invariant.moves (moves-along t v w x (moves-is v w t mine None c.turn_any-turn.result.1 turned) c.speak-in-loop.ensures.moves) in
+    let moves = moves-along t first v x c.loop.invariant.moves (moves-along t v w x (moves-is v w t mine None c.turn_brief-words.ensures.turn.turn turned) c.speak-in-loop.ensures.moves) in
     record {
       table = c.speak-in-loop.ensures.of.0 ∙ sym c.requires.of.0;
       served = λ begun own.
@@ -171,15 +174,15 @@ returns-then-speak-2-clause-served g c =
 pub loop-preserved : goal.loop-preserved
 loop-preserved g c =
     let v = view c.loop.seat in
-    let w = view c.turn_any-turn.new.seat in
+    let w = view c.turn_brief-words.new.seat in
     let t = c.args.thread in
     let first = view c.args.seat in
     let own = c.requires.crew.2 in
     let start = c.requires.crew.0 in
     let mine = serves-on first v t c.loop.invariant.moves.on (own-serves g.B.Body.pending start t c.args.runner first own) in
-    let same : c.turn_any-turn.result.0 ≡ t = own-thread g.B.Body.pending start t c.args.runner first own c.turn_any-turn.result.0 (serves-back first v c.turn_any-turn.result.0 c.loop.invariant.moves.on c.turn_any-turn.ensures.serves) in
-    let turned = subst (λ (n : ℕ). TookTurn v n None c.turn_any-turn.result.1 w) same c.turn_any-turn.ensures.turn.took in
-    let took = subst (λ (x : Turn). TookTurn v t None x w) c.in-Answer.is turned in
+    let same : c.turn_brief-words.result.0 ≡ t = own-thread g.B.Body.pending start t c.args.runner first own c.turn_brief-words.result.0 (serves-back first v c.turn_brief-words.result.0 c.loop.invariant.moves.on c.turn_brief-words.ensures.serves) in
+    let turned = subst (λ (n : ℕ). TookTurn v n None c.turn_brief-words.ensures.turn.turn w) same c.turn_brief-words.ensures.turn.said.0.took in
+    let took = subst (λ (x : Turn). TookTurn v t None x w) (answer-turn c.turn_brief-words.ensures.turn.turn c.in-Answer.value (sym c.turn_brief-words.ensures.turn.brief ∙ c.in-Answer.is)) turned in
     let r = c.loop.runner in
     let now = g.B.Body.pending r.body in
     let running = c.loop.invariant.runs (start t) (own-running g.B.Body.pending start t c.args.runner first own) in
@@ -191,6 +194,6 @@ loop-preserved g c =
       runs = λ begun was.
           let N : ℕ → Type 0 = λ n. IsRunning begun then n t w.seen in
           c.speak-in-loop.ensures.runs begun (subst N (sym c.hear.ensures.answered) (answer-running v w t mine None c.in-Answer.value took begun now r.answered (c.loop.invariant.runs begun was) (λ q is. none-owed q is) then next));
-      moves = moves-along t first v x c.loop.invariant.moves (moves-along t v w x (moves-is v w t mine None c.turn_any-turn.result.1 turned) c.speak-in-loop.ensures.moves);
+      moves = moves-along t first v x c.loop.invariant.moves (moves-along t v w x (moves-is v w t mine None c.turn_brief-words.ensures.turn.turn turned) c.speak-in-loop.ensures.moves);
       posted = c.speak-in-loop.ensures.posted c.if-speak-2.false;
     }

@@ -5,9 +5,10 @@ use Rattle.turn_lock.specs.Hands.{IsSwept}
 use Rattle.turn_lock.specs.declared.work.Work.{Work}
 use Rattle.turn_lock.specs.declared.brief.Brief.TheVariants.{Over}
 use Rattle.std.specs.Prelude.{IfSome}
-use Rattle.turn_lock.proofs.Orders.{making-along}
+use Rattle.turn_lock.proofs.laws.SeenBooks.{making-along}
 use Rattle.turn_lock.proofs.Hands.{swept-goes, turned, stays, owes-after, threads-after, owed-after}
-use Rattle.turn_lock.proofs.Seating.{inside, from-flag}
+use Rattle.turn_lock.proofs.laws.SeatedThreads.{inside}
+use Rattle.turn_lock.proofs.Seating.{from-flag}
 use Rattle.turn_lock.proofs.Waiting.{stays-owes}
 use Rattle.turn_lock.proofs.held.TurnLock.round.Goals as goal
 

@@ -1,8 +1,9 @@
 use Rattle.std.proofs.Common.{ap, sym, refl, ◌∙◌, subst, arith, length-set}
 use Rattle.turn_lock.specs.Plays.{Seated}
-use Rattle.turn_lock.proofs.Orders.{making-along}
+use Rattle.turn_lock.proofs.laws.SeenBooks.{making-along}
 use Rattle.turn_lock.proofs.Hands.{work-goes, turned, owes-after, gives, busy, threads-after, owed-after}
-use Rattle.turn_lock.proofs.Seating.{inside, from-flag}
+use Rattle.turn_lock.proofs.laws.SeatedThreads.{inside}
+use Rattle.turn_lock.proofs.Seating.{from-flag}
 use Rattle.turn_lock.specs.declared.turn.Turn.TheVariants.{Busy}
 use Rattle.turn_lock.proofs.held.TurnLock.try_in_brief.Goals as goal
 
