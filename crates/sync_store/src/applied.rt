@@ -17,7 +17,8 @@ pub enum Applied {
 pub enum Stepped {
     /// What the thread is told.
     Answer(i64),
-    /// An assertion doesn't hold. Here and in the cases below the run ends, and the store is as it was.
+    /// An assertion doesn't hold. Here and in the cases below the run ends, and the store is as
+    /// it was.
     Failed {
         thread: u32,
         line: u32,

@@ -115,8 +115,12 @@ impl<P: Policy> TurnBook<P> {
     pub fn take_turn(&mut self, thread: u32) -> Reply
         requires { self.old.outcome ≡ None → standing_of self.old thread ≡ Standing.Asks }
         ensures over { result ≡ Reply.Over → IsSome self.old.outcome × (self.new ≡ self.old) }
-        ensures answer { (answer : ℤ) → result ≡ Reply.Answer answer → (self.old.outcome ≡ None) × (choice_of self.old ≡ Some (Pick.Thread thread)) × IsAnswered self.old thread answer self.new }
-        ensures not_yet { (at : ℕ) (because : Because) → result ≡ Reply.NotYet at because → (self.old.outcome ≡ None) × (at ≡ length self.old.trace) × IsBecause self.old thread because × (self.new ≡ self.old) }
+        ensures answer { (answer : ℤ) → result ≡ Reply.Answer answer
+            → (self.old.outcome ≡ None) × (choice_of self.old ≡ Some (Pick.Thread thread))
+            × IsAnswered self.old thread answer self.new }
+        ensures not_yet { (at : ℕ) (because : Because) → result ≡ Reply.NotYet at because
+            → (self.old.outcome ≡ None) × (at ≡ length self.old.trace)
+            × IsBecause self.old thread because × (self.new ≡ self.old) }
         ensures lawful { IsLawful self.new }
     {
         if self.outcome.is_some() {

@@ -54,7 +54,8 @@ pub fn step_of(
     ensures line { result.line ≡ line }
     ensures ask { result.ask ≡ ask }
     ensures answer { (step : Effect) → applied_by stepped ≡ applied_of step → result.answer ≡ answer_of step }
-    ensures outcome { (step : Effect) → applied_by stepped ≡ applied_of step → outcome.new ≡ outcome_by (verdict_of step) outcome.old }
+    ensures outcome { (step : Effect) → applied_by stepped ≡ applied_of step
+        → outcome.new ≡ outcome_by (verdict_of step) outcome.old }
 {
     let answer = match stepped {
         Stepped::Answer(answer) => answer,
@@ -71,11 +72,12 @@ pub fn step_of(
     }
 }
 
-/// Notes the verdict of a step, where that ends the run. It has room for 64 threads, and stands apart from the steps after
-/// which the run goes on.
+/// Notes the verdict of a step, where that ends the run. It has room for 64 threads, and stands
+/// apart from the steps after which the run goes on.
 #[inline(never)]
 fn note_verdict(stepped: Stepped, outcome: &mut Option<Outcome>)
-    ensures { (step : Effect) → applied_by stepped ≡ applied_of step → outcome.new ≡ outcome_by (verdict_of step) outcome.old }
+    ensures { (step : Effect) → applied_by stepped ≡ applied_of step
+        → outcome.new ≡ outcome_by (verdict_of step) outcome.old }
 {
     if let Applied::Ends(verdict) = stepped.applied() {
         *outcome = Some(Outcome::Verdict(verdict));

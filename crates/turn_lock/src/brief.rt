@@ -1,6 +1,7 @@
 use turn_book::Because;
 
-/// What a call answers, in brief: without the outcome of a run that is over, which has room for 64 threads.
+/// What a call answers, in brief: without the outcome of a run that is over, which has room for
+/// 64 threads.
 #[derive(Clone, Copy, Debug, PartialEq, Eq)]
 pub enum Brief {
     Answer(i64),

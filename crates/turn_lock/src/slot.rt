@@ -115,7 +115,8 @@ impl<P: Policy> Slot<P> {
         }
     }
 
-    /// Keeps the outcome of a run that is over. It stands apart from the steps after which the run goes on.
+    /// Keeps the outcome of a run that is over. It stands apart from the steps after which the run
+    /// goes on.
     #[inline(never)]
     fn keep_outcome<K: Keep>(&self, place: &mut K)
         ensures { K.kept self.now.book.outcome place.new }
@@ -203,7 +204,8 @@ impl<P: Policy> Slot<P> {
         requires lawful { IsLawful self.old.book }
         requires notes { NotesBelow self.old.book.deal.threads self.old.board }
         ensures swept { IsSwept serves.now self.old result self.new }
-        ensures kept { IfSome result (λ found. found.1.brief ≡ Brief.Over → K.kept self.new.book.outcome place.new) }
+        ensures kept { IfSome result (λ found.
+            found.1.brief ≡ Brief.Over → K.kept self.new.book.outcome place.new) }
     {
         let thread = self.candidate(serves, lowest);
         let work = self.work(thread, None, place);

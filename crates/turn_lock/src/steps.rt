@@ -44,7 +44,9 @@ impl<P: Policy> TurnLock<P> {
         requires of { seat.old.table_id ≡ self.now.table.shared.table_id }
         requires ready { IsReady seat.old.me thread post }
         ensures same { SameSeat seat.old seat.new × (seat.new.me.0 ≡ seat.old.me.0) }
-        ensures work { (after : Slot) × HasInHand seat.new.me after × IsWork seat.old.me.0.base thread post result after × (result.brief ≡ Brief.Over → K.kept after.book.outcome place.new) }
+        ensures work { (after : Slot) × HasInHand seat.new.me after
+            × IsWork seat.old.me.0.base thread post result after
+            × (result.brief ≡ Brief.Over → K.kept after.book.outcome place.new) }
     {
         let slot = seat.slot_mut(&self.table.shared, 0);
         slot.work(thread, post, place)
@@ -61,7 +63,10 @@ impl<P: Policy> TurnLock<P> {
         requires of { seat.old.table_id ≡ self.now.table.shared.table_id }
         requires ready { IsReadyForAny seat.old.me threads.now lowest }
         ensures same { SameSeat seat.old seat.new × (seat.new.me.0 ≡ seat.old.me.0) }
-        ensures swept { (after : Slot) × HasInHand seat.new.me after × IsSwept threads.now seat.old.me.0.base result after × IfSome result (λ found. found.1.brief ≡ Brief.Over → K.kept after.book.outcome place.new) }
+        ensures swept { (after : Slot) × HasInHand seat.new.me after
+            × IsSwept threads.now seat.old.me.0.base result after
+            × IfSome result (λ found.
+            found.1.brief ≡ Brief.Over → K.kept after.book.outcome place.new) }
     {
         let slot = seat.slot_mut(&self.table.shared, 0);
         slot.sweep(threads, lowest, place)

@@ -53,7 +53,8 @@ impl<P: Policy> TurnLock<P> {
         requires owed { owes_of (view seat.old).seen thread ≡ true }
         requires in_range { PostIsInRange (sizes_of_deal (made self.now).deal) post.ask }
         ensures of { IsOf self.now seat.new }
-        ensures turn { InBrief (λ turn. TookAtLast (view seat.old) thread (Some post) turn (view seat.new)) result }
+        ensures turn { InBrief (λ turn. TookAtLast (view seat.old) thread (Some post) turn (view seat.new))
+            result }
         ensures obeys { ObeysPlan (view seat.new).seen }
     {
         self.post_in_brief(rt, seat, thread, post, &mut Nothing)
@@ -73,7 +74,8 @@ impl<P: Policy> TurnLock<P> {
         requires owed { owes_of (view seat.old).seen thread ≡ true }
         requires in_range { PostIsInRange (sizes_of_deal (made self.now).deal) post.ask }
         ensures of { IsOf self.now seat.new }
-        ensures turn { InBrief (λ turn. TookAtLast (view seat.old) thread (Some post) turn (view seat.new)) result }
+        ensures turn { InBrief (λ turn. TookAtLast (view seat.old) thread (Some post) turn (view seat.new))
+            result }
         ensures obeys { ObeysPlan (view seat.new).seen }
         ensures kept { result ≡ Brief.Over → K.kept (view seat.new).seen.outcome place.new }
     {
@@ -96,7 +98,8 @@ impl<P: Policy> TurnLock<P> {
         ensures of { IsOf self.now seat.new }
         ensures round { RoundTells (view seat.old) result (view seat.new) }
         ensures obeys { ObeysPlan (view seat.new).seen }
-        ensures kept { (thread : ℕ) → result ≡ Round.Found thread Brief.Over → K.kept (view seat.new).seen.outcome place.new }
+        ensures kept { (thread : ℕ) → result ≡ Round.Found thread Brief.Over
+            → K.kept (view seat.new).seen.outcome place.new }
     {
         let found = self.grab(&mut seat.seat, lowest);
         if found != 0 {
@@ -161,7 +164,10 @@ impl<P: Policy> TurnLock<P> {
         requires waits { WaitsForTurn (view seat.old) }
         ensures of { IsOf self.now seat.new }
         ensures serves { Serves (view seat.old) result.0 }
-        ensures turn { InBrief (λ turn. TookAtLast (view seat.old) result.0 None turn (view seat.new) × TellsEnd (view seat.old).serves result.0 turn (view seat.new).seen) result.1 }
+        ensures turn { InBrief (λ turn.
+            TookAtLast (view seat.old) result.0 None turn (view seat.new)
+            × TellsEnd (view seat.old).serves result.0 turn (view seat.new).seen)
+            result.1 }
         ensures obeys { ObeysPlan (view seat.new).seen }
     {
         self.turn_in_brief(rt, seat, &mut Nothing)
@@ -178,7 +184,10 @@ impl<P: Policy> TurnLock<P> {
         requires waits { WaitsForTurn (view seat.old) }
         ensures of { IsOf self.now seat.new }
         ensures serves { Serves (view seat.old) result.0 }
-        ensures turn { InBrief (λ turn. TookAtLast (view seat.old) result.0 None turn (view seat.new) × TellsEnd (view seat.old).serves result.0 turn (view seat.new).seen) result.1 }
+        ensures turn { InBrief (λ turn.
+            TookAtLast (view seat.old) result.0 None turn (view seat.new)
+            × TellsEnd (view seat.old).serves result.0 turn (view seat.new).seen)
+            result.1 }
         ensures obeys { ObeysPlan (view seat.new).seen }
         ensures kept { result.1 ≡ Brief.Over → K.kept (view seat.new).seen.outcome place.new }
     {
