@@ -1,5 +1,3 @@
 -- Laws on campaigns, made for other crates too: each speaks of definitions alone.
 -- a campaign has one list of rows
 pub mod OneCampaign
--- an order that is drawn is one
-pub mod DrawnOrders

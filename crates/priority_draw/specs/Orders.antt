@@ -1,18 +1,16 @@
 -- Orders of n threads, and the list of places of each.
-use Rattle.std.specs.Prelude.{◌≡◌, ◌≢◌, ℕ, ◌-◌, ◌<◌, nat_lt, List, [], ◌∷◌, length, slice_index, remove}
-use Rattle.std.specs.List.{Contains, count_by, range_with_len}
+use Rattle.std.specs.Prelude.{◌≡◌, ℕ, ◌-◌, ◌<◌, nat_lt, List, [], ◌∷◌, length, slice_index, remove}
+use Rattle.std.specs.List.{count_by, range_with_len}
+use Rattle.rank_now.specs.Order.{IsOrder}
 
 -- the threads as they are declared
 abbrev pub declared_order : ℕ → List ℕ
 declared_order threads = range_with_len 0 threads
 
--- an order names each of the threads once
-pub record IsOrder (threads : ℕ) (order : List ℕ) : Type 0 where
+-- an order of so many threads
+pub record IsOrderOf (threads : ℕ) (order : List ℕ) : Type 0 where
   pub whole : length order ≡ threads
-  pub below : (place : ℕ) → place < threads → slice_index order place < threads
-  pub once : (first second : ℕ) → first < second → second < threads
-      → slice_index order first ≢ slice_index order second
-  pub all : (thread : ℕ) → thread < threads → Contains order thread
+  pub is_order : IsOrder order
 
 -- places, from 0, with the bounds n, n-1, .., 1
 pub record ArePlaces (threads : ℕ) (places : List ℕ) : Type 0 where

@@ -1,6 +1,6 @@
 ghost use Rattle.std.specs.Prelude.{◌≡◌, ℕ, ◌+◌, ◌*◌, ◌<◌, ◌≤◌, [], ◌∷◌, List, All, length, slice_index, remove, IfOk, OnOk, OnErr};
 ghost use Rattle.priority_draw.specs.Words.{after, first_words};
-ghost use Rattle.priority_draw.specs.Orders.{declared_order, order_of, places_of, IsOrder, ArePlaces, AreOnlyPlaces};
+ghost use Rattle.priority_draw.specs.Orders.{declared_order, order_of, places_of, IsOrderOf, ArePlaces, AreOnlyPlaces};
 ghost use Rattle.priority_draw.specs.Drawing.{scale, draw, drawn_places, drawn_order, drawn_points, drawn, IsStep};
 
 use pct_ask::{OrderList, PointList};
@@ -61,7 +61,7 @@ impl Words {
         requires few_threads { threads ≤ 64 }
         ensures value { IfOk result (λ order.
             order ≡ drawn_order self.old.seed self.old.place threads) }
-        ensures order { IfOk result (IsOrder threads) }
+        ensures order { IfOk result (IsOrderOf threads) }
         ensures words { OnOk result (self.new ≡ after self.old (2 * threads)) }
         ensures no_memory { OnErr result (self.new ≡ self.old) }
 
@@ -73,8 +73,8 @@ impl Words {
         // The places are in bounds. Each list of places in bounds gives an order, and each order is given by exactly one.
         ensures places { ArePlaces threads (drawn_places self.old.seed self.old.place threads) }
         ensures each_list { (places : List ℕ) → ArePlaces threads places
-            → IsOrder threads (order_of places) }
-        ensures each_order { (order : List ℕ) → IsOrder threads order
+            → IsOrderOf threads (order_of places) }
+        ensures each_order { (order : List ℕ) → IsOrderOf threads order
             → AreOnlyPlaces threads order (places_of order) }
     {
         let mut order = declared_order(alloc, threads)?;

@@ -5,7 +5,7 @@ use Rattle.std.proofs.lemmas.Bool.{cases_lt}
 use Rattle.std.proofs.lemmas.List.{get_or_default}
 use Rattle.std.proofs.lemmas.List.Edits.{length-remove, get_or-remove_below}
 use Rattle.std.proofs.lemmas.List.FromFn.{length-range_with_len, get_or-range_with_len}
-use Rattle.priority_draw.specs.Orders.{declared_order, IsOrder, ArePlaces, taken_from, order_of, places_of, AreOnlyPlaces}
+use Rattle.priority_draw.specs.Orders.{declared_order, IsOrderOf, ArePlaces, taken_from, order_of, places_of, AreOnlyPlaces}
 use Rattle.priority_draw.proofs.CountLemmas.{one_if, count_of, count-remove, count-none, count-all, count-some, located, count-once}
 use Rattle.priority_draw.proofs.PlaceLemmas.{IsRising, taken-same, places-of-taken, places-are}
 
@@ -28,14 +28,14 @@ declared-none threads thread past =
     count-none (λ y. eqb y thread) (declared_order threads) (λ k p. ne_eqb (get_or (declared_order threads) k 0) thread (λ e. omega (arith, long threads, at threads k (omega (arith, long threads)))))
 
 -- an order has each thread as often as the declared one
-order-counts : (threads : ℕ) (order : List ℕ) → IsOrder threads order → (thread : ℕ) → count_of thread (declared_order threads) ≡ count_of thread order
+order-counts : (threads : ℕ) (order : List ℕ) → IsOrderOf threads order → (thread : ℕ) → count_of thread (declared_order threads) ≡ count_of thread order
 order-counts threads order is thread =
     elim (cases_lt thread threads) [
       | inl small ↦
-          let w = is.all thread small in
-          declared-once threads thread small ∙ sym (count-once thread order w.0 w.1 (get_or_default order w.0 0 thread w.1 ∙ w.2) (λ i j lt p. is.once i j lt (omega (arith, is.whole))))
+          let w = is.is_order.all thread (omega (arith, small, is.whole)) in
+          declared-once threads thread small ∙ sym (count-once thread order w.0 w.1 (get_or_default order w.0 0 thread w.1 ∙ w.2) (λ i j lt p. is.is_order.once i j lt p))
       | inr past ↦
-          declared-none threads thread past ∙ sym (count-none (λ y. eqb y thread) order (λ k p. ne_eqb (get_or order k 0) thread (λ e. omega (arith, is.below k (omega (arith, is.whole))))))
+          declared-none threads thread past ∙ sym (count-none (λ y. eqb y thread) order (λ k p. ne_eqb (get_or order k 0) thread (λ e. omega (arith, is.is_order.below k p, is.whole))))
     ]
 
 order-of-taken : (threads : ℕ) (places : List ℕ) → ArePlaces threads places → order_of places ≡ taken_from (declared_order threads) places
@@ -46,7 +46,7 @@ as-long : (threads : ℕ) (places : List ℕ) → ArePlaces threads places → A
 as-long threads places are = let P : ℕ → Type 0 = λ n. ArePlaces n places in subst P (sym (long threads)) are
 
 -- the places of an order are the only ones in bounds that give it
-pub only-places : (threads : ℕ) (order : List ℕ) → IsOrder threads order → AreOnlyPlaces threads order (places_of order)
+pub only-places : (threads : ℕ) (order : List ℕ) → IsOrderOf threads order → AreOnlyPlaces threads order (places_of order)
 only-places threads order is =
     let both = places-are order (declared_order threads) (rising threads) (is.whole ∙ sym (long threads)) (order-counts threads order is) in
     let P : ℕ → Type 0 = λ n. ArePlaces n (places_of order) in
@@ -86,11 +86,18 @@ module _ (threads : ℕ) (order : List ℕ) (same : (p : ℕ → Bool) → count
       let w = located thread order (omega (arith, same (λ y. eqb y thread), declared-once threads thread small)) in
       (w.0, w.1, get_or_default order w.0 thread 0 w.1 ∙ w.2)
 
-  is-order : IsOrder threads order
-  is-order = record { whole = whole; below = below; once = once; all = all }
+  is-order : IsOrderOf threads order
+  is-order = record {
+    whole = whole;
+    is_order = record {
+      below = λ place within. omega (arith, below place (omega (arith, within, whole)), whole);
+      once = λ first second before within. once first second before (omega (arith, within, whole));
+      all = λ thread within. all thread (omega (arith, within, whole));
+    };
+  }
 
 -- places in bounds give an order
-pub order-of-is : (threads : ℕ) (places : List ℕ) → ArePlaces threads places → IsOrder threads (order_of places)
+pub order-of-is : (threads : ℕ) (places : List ℕ) → ArePlaces threads places → IsOrderOf threads (order_of places)
 order-of-is threads places are =
     let taken = order-of-taken threads places are in
     is-order threads (order_of places) (λ p. ap (λ xs. count_by p xs) taken ∙ taken-same p places (declared_order threads) (as-long threads places are))

@@ -4,12 +4,11 @@ use Rattle.rank_now.specs.Order.{IsOrder}
 use Rattle.sync_store.specs.Store.{sizes_of_deal}
 use Rattle.script_body.specs.BodyPosts.{pending_of}
 use Rattle.script_body.specs.Bodies.{AskInRange}
-use Rattle.campaign.proofs.laws.DrawnOrders.{order_of_threads}
 use Rattle.campaign.proofs.seeds.row_of_seed.Goals as goal
 
 pub run_by_points-requires-clause-order : goal.run_by_points-requires-clause-order
 run_by_points-requires-clause-order g c κs within =
-    subst IsOrder (sym c.as_slice.ensures) (order_of_threads c.args.deal.now.threads c.in_ok-order.order c.in_ok-order.ensures.order)
+    subst IsOrder (sym c.as_slice.ensures) c.in_ok-order.ensures.order.is_order
 
 pub run_by_points-requires-clause-in_range : goal.run_by_points-requires-clause-in_range
 run_by_points-requires-clause-in_range g c κs within =

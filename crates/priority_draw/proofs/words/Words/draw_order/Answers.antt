@@ -2,7 +2,7 @@ use Rattle.std.proofs.Common.{◌≡◌, ℕ, ◌*◌, List, length, ap, ◌∙�
 use Rattle.std.proofs.lemmas.Grind.{common_steps}
 use Rattle.std.proofs.lemmas.List.FromFn.{length-range_with_len}
 use Rattle.priority_draw.specs.Words.{SeedWords, after}
-use Rattle.priority_draw.specs.Orders.{IsOrder, declared_order}
+use Rattle.priority_draw.specs.Orders.{IsOrderOf, declared_order}
 use Rattle.priority_draw.specs.Drawing.{drawn_order, drawn_places}
 use Rattle.priority_draw.proofs.laws.Orders.{only-places, order-of-is}
 use Rattle.priority_draw.proofs.laws.Draws.{drawn-are}
@@ -35,7 +35,7 @@ returns-clause-value c = value c
 
 pub returns-clause-order : goal.returns-clause-order
 returns-clause-order c =
-    let P : List ℕ → Type 0 = λ order. IsOrder c.args.threads order in
+    let P : List ℕ → Type 0 = λ order. IsOrderOf c.args.threads order in
     subst P (sym (value c)) (order-of-is c.args.threads (drawn_places c.args.self.now.seed c.args.self.now.place c.args.threads) (drawn-are c.args.self.now.seed c.args.self.now.place c.args.threads))
 
 pub returns-clause-words : goal.returns-clause-words
