@@ -1,9 +1,15 @@
 -- Small theorems that read the definitions on known lists.
-use Rattle.std.specs.Prelude.{◌≡◌, ℕ, [], ◌∷◌, refl}
+use Rattle.std.specs.Prelude.{◌≡◌, ℕ, pos, List, [], ◌∷◌, refl}
+use native.Mathlib.Nat.{not-suc-le-zero}
+use Prim.Native.Nat.{suc-le-suc, zero-le}
+use Rattle.pct_ask.specs.declared.Deal.{Deal}
+use Rattle.pct_ask.specs.declared.verdict.Verdict.TheVariants.{Failed}
 use Rattle.rank_now.specs.declared.moment.Moment.{Moment}
+use Rattle.worker_run.specs.Bodies.{Pending}
+use Rattle.worker_run.specs.Samples.{sample_pending}
 use Rattle.directive_run.specs.Points.{points_of}
 use Rattle.directive_run.specs.Orders.{orders, threads_below, low_orders}
-use Rattle.directive_run.specs.Counting.{pointlists}
+use Rattle.directive_run.specs.Counting.{pointlists, hits}
 
 abbrev pub at : ℕ → ℕ → Moment
 at thread number = record { thread = thread; number = number }
@@ -37,3 +43,33 @@ four_lists = refl
 
 pub no_points : pointlists 5 0 ≡ [] ∷ []
 no_points = refl
+
+-- what the two adders and the thread that checks share: a variable
+abbrev pub adders_deal : Deal
+adders_deal = record {
+  threads = 3;
+  vars = pos 0 ∷ [];
+  mutexes = 0;
+  conds = 0;
+  sems = [];
+  barriers = [];
+  rwlocks = 0;
+  some_thread = suc-le-suc zero-le;
+  few_threads = suc-le-suc (suc-le-suc (suc-le-suc zero-le));
+  few_vars = suc-le-suc zero-le;
+  few_mutexes = zero-le;
+  few_conds = zero-le;
+  few_sems = zero-le;
+  few_barriers = zero-le;
+  few_rwlocks = zero-le;
+  sem_values = λ k d h. absurd (not-suc-le-zero h);
+  barrier_counts = λ k d h. absurd (not-suc-le-zero h);
+}
+
+abbrev pub adders : List Pending
+adders = sample_pending 0 0 (pos 0) ∷ sample_pending 1 0 (pos 0) ∷ sample_pending 2 0 (pos 0) ∷ []
+
+-- A point after the first step loses an update under each of the six orders, and one after the
+-- second step under none.
+pub six_hits : hits adders_deal adders 3 2 1 (Failed 2 15) 9 ≡ 6
+six_hits = refl
