@@ -16,6 +16,7 @@ pub record NameLists : Type 0 where
   pub barriers : List (List ℕ)
   pub rwlocks : List (List ℕ)
 
+-- the lists before anything is declared: all of them are empty
 abbrev pub no_names : NameLists
 no_names = record {
   threads = [];
@@ -27,6 +28,7 @@ no_names = record {
   rwlocks = [];
 }
 
+-- the names of one kind
 abbrev pub list_of : NameKind → NameLists → List (List ℕ)
 list_of Thread names = names.threads
 list_of Var names = names.vars

@@ -1,4 +1,4 @@
--- Threads with a line of the test for each: those of a run in which nobody can go on.
+-- Threads, each with a line of the test (this project): those of a run in which nobody can go on.
 use Rattle.std.specs.Prelude.{ℕ, ◌+◌, ◌<◌, ◌==◌, ◌&&◌, Bool, if◌then◌else◌, Option, Some, None, List, [], ◌∷◌, map, All, zero, suc}
 use Rattle.std.specs.List.Sorted.{IsStrictlyIncreasing}
 use Rattle.std.specs.Cmp.Lexicographic.{pointwise}
@@ -27,6 +27,7 @@ lines_from thread (suc n) (place ∷ places) =
     if place.0 == thread then Some place.1 ∷ lines_from (thread + 1) n places
     else None ∷ lines_from (thread + 1) n (place ∷ places)
 
+-- whether two places have the same thread and the same line
 abbrev pub same_place : ℕ × ℕ → ℕ × ℕ → Bool
 same_place a b = a.0 == b.0 && a.1 == b.1
 

@@ -4,6 +4,7 @@ use Rattle.std.specs.List.{list_all}
 use Rattle.std.specs.Option.{option_map}
 use Rattle.pct_ask.specs.Characters.{is_blank, is_digit, is_letter, is_word_byte}
 
+-- a piece of a line by its kind, with its bytes: a word, a number or a symbol
 pub data Token : Type 0 where
   Word : (letters : List ℕ) → Token
   Number : (digits : List ℕ) → Token
@@ -62,10 +63,12 @@ abbrev pub token_before : Option Token → Option (List Token) → Option (List 
 token_before None tokens = None
 token_before (Some token) tokens = option_map (λ others. token ∷ others) tokens
 
+-- the token of each piece; None where some piece is no token
 abbrev pub tokens_from : List (List ℕ) → Option (List Token)
 tokens_from [] = Some []
 tokens_from (piece ∷ pieces) = token_before (token_of piece) (tokens_from pieces)
 
+-- the same of the pieces of a line, where it could be cut into pieces
 abbrev pub tokens_of_pieces : Option (List (List ℕ)) → Option (List Token)
 tokens_of_pieces None = None
 tokens_of_pieces (Some pieces) = tokens_from pieces

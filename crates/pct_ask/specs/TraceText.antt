@@ -9,9 +9,11 @@ use Rattle.pct_ask.specs.declared.ask.Ask.{Ask}
 use Rattle.pct_ask.specs.declared.ask.Ask.TheVariants.{Read, Write, Add, Cas, Lock, TryLock, Unlock, Release, Regain, Signal, Broadcast, Down, TryDown, Up, Arrive, Leave, Join, Yield, Check, Fault, Start, Begin, RdLock, WrLock, TryRdLock, TryWrLock, RwUnlock}
 use Rattle.pct_ask.specs.declared.verdict.Verdict.{Verdict}
 
+-- the name that stands at a place of a list, and no bytes past its end
 abbrev pub name_at : List (List ℕ) → ℕ → List ℕ
 name_at names place = slice_index_or names place []
 
+-- whether a check's condition held, as a digit: 1 where it did, 0 where it didn't
 abbrev pub check_word : Bool → List ℕ
 check_word true = codes "1"
 check_word false = codes "0"
@@ -68,12 +70,15 @@ pub record TraceHead : Type 0 where
   pub points : List ℕ
   pub limit : ℕ
 
+-- the head in four lines: `trace` and the version, `order` and the threads' names in that order,
+-- `points` and the change points, `limit` and the greatest length
 abbrev pub head_lines : NameLists → TraceHead → List (List (List ℕ))
 head_lines names head =
     (codes "trace" ∷ decimal head.version ∷ [])
     ∷ (codes "order" ∷ map (thread_name names) head.order)
     ∷ (codes "points" ∷ map decimal head.points) ∷ (codes "limit" ∷ decimal head.limit ∷ []) ∷ []
 
+-- the last line: how the run ended, after the word `verdict`
 abbrev pub verdict_line : NameLists → Verdict → List (List ℕ)
 verdict_line names verdict = codes "verdict" ∷ verdict_words (named names verdict)
 

@@ -21,20 +21,25 @@ pub data NamedVerdict : Type 0 where
   NamedFault : (name : List ℕ) (line : ℕ) (kind : FaultKind) → NamedVerdict
   NamedCut : NamedVerdict
 
+-- the word for what a thread did that its object forbids
 abbrev pub misuse_word : MisuseKind → List ℕ
 misuse_word NotOwner = codes "notowner"
 misuse_word SemFull = codes "semfull"
 misuse_word AlreadyStarted = codes "alreadystarted"
 misuse_word TooManyReads = codes "toomanyreads"
 
+-- the word for why a thread couldn't go on by itself
 abbrev pub fault_word : FaultKind → List ℕ
 fault_word Overflow = codes "overflow"
 fault_word ZeroDivisor = codes "zerodivisor"
 fault_word Spin = codes "spin"
 
+-- a thread's name, and its line in decimal
 abbrev pub place_words : List ℕ × ℕ → List (List ℕ)
 place_words place = place.0 ∷ decimal place.1 ∷ []
 
+-- a verdict as words: the first says how the run ended; where threads belong to that, each follows
+-- with its line, and a misuse or a fault ends with the word of its kind
 abbrev pub verdict_words : NamedVerdict → List (List ℕ)
 verdict_words NamedPassed = codes "passed" ∷ []
 verdict_words (NamedFailed name line) = codes "failed" ∷ name ∷ decimal line ∷ []
@@ -45,9 +50,11 @@ verdict_words (NamedFault name line kind) =
     codes "fault" ∷ name ∷ decimal line ∷ fault_word kind ∷ []
 verdict_words NamedCut = codes "cut" ∷ []
 
+-- a verdict's words, with one space between them
 abbrev pub named_text : NamedVerdict → List ℕ
 named_text verdict = join_with_byte 32 (verdict_words verdict)
 
+-- a thread's name, and no bytes where there is no such thread
 abbrev pub thread_name : NameLists → ℕ → List ℕ
 thread_name names thread = slice_index_or names.threads thread []
 
@@ -60,9 +67,11 @@ named names (Misuse thread line kind) = NamedMisuse (thread_name names thread) l
 named names (Fault thread line kind) = NamedFault (thread_name names thread) line kind
 named names Cut = NamedCut
 
+-- the text of a verdict, by the names that the test gives to its threads
 abbrev pub verdict_text : NameLists → Verdict → List ℕ
 verdict_text names verdict = named_text (named names verdict)
 
+-- a line number that a test may have
 abbrev pub IsLine : ℕ → Type 0
 IsLine line = (1 ≤ line) × (line ≤ 4096)
 
@@ -85,6 +94,7 @@ IsForm names (NamedMisuse name line kind) = IsPlace (name, line)
 IsForm names (NamedFault name line kind) = IsPlace (name, line)
 IsForm names NamedCut = ⊤
 
+-- the names in a verdict, in its order
 abbrev pub names_in : NamedVerdict → List (List ℕ)
 names_in NamedPassed = []
 names_in (NamedFailed name line) = name ∷ []
@@ -97,6 +107,7 @@ names_in NamedCut = []
 abbrev pub HasUnknown : NameLists → NamedVerdict → Type 0
 HasUnknown names verdict = Any (λ name. place_of name names.threads ≡ None) (names_in verdict)
 
+-- the threads in a verdict, in its order
 abbrev pub threads_in : Verdict → List ℕ
 threads_in Passed = []
 threads_in (Failed thread line) = thread ∷ []

@@ -1,4 +1,4 @@
--- How the words of a text are read as a verdict, one after another.
+-- How the words of a text are read as a verdict, one after another (this project).
 use Rattle.std.specs.Prelude.{ℕ, ℤ, pos, negsuc, ◌+◌, Bool, true, false, ◌&&◌, ◌==◌, nat_le, if◌then◌else◌, Option, Some, None, List, [], ◌∷◌, ◌++◌, codes, decimal, length}
 use Rattle.std.proofs.Common.{Bor}
 use Rattle.std.specs.List.{slice_split}
@@ -46,6 +46,8 @@ line_number word =
     then Some (digits_value 10 word)
     else None
 
+-- a place and the words after it, where its name is lawful and its line is a test's; its name may
+-- be no thread's
 abbrev pub place_by : Bool → Option ℕ → Option ℕ → List (List ℕ)
     → Option (Option ℕ × ℕ × List (List ℕ))
 place_by false thread line rest = None
@@ -60,6 +62,7 @@ first_place names (name ∷ []) = None
 first_place names (name ∷ line ∷ rest) =
     place_by (is_name 1 name) (place_of name names.threads) (line_number line) rest
 
+-- the misuse that a word stands for
 abbrev pub misuse_kind : List ℕ → Option MisuseKind
 misuse_kind word =
     if bytes_eq word (codes "notowner") then Some NotOwner
@@ -67,6 +70,7 @@ misuse_kind word =
     else (if bytes_eq word (codes "alreadystarted") then Some AlreadyStarted
     else (if bytes_eq word (codes "toomanyreads") then Some TooManyReads else None)))
 
+-- the fault that a word stands for
 abbrev pub fault_kind : List ℕ → Option FaultKind
 fault_kind word =
     if bytes_eq word (codes "overflow") then Some Overflow
@@ -82,24 +86,30 @@ placed_kind head (word ∷ []) =
     else None)
 placed_kind head (word ∷ other ∷ rest) = None
 
+-- the verdict of this kind, of a thread at a line
 abbrev pub verdict_at : PlacedKind → ℕ → ℕ → Verdict
 verdict_at Failure thread line = Failed thread line
 verdict_at (Misused kind) thread line = Misuse thread line kind
 verdict_at (Faulted kind) thread line = Fault thread line kind
 
+-- no form where there is no kind, and an unknown name where the name is no thread's
 abbrev pub placed_read : Option PlacedKind → Option ℕ → ℕ → VerdictRead
 placed_read None thread line = NoForm
 placed_read (Some kind) None line = UnknownName
 placed_read (Some kind) (Some thread) line = Is (verdict_at kind thread line)
 
+-- a verdict at one place, by its first word, and the place with the words after it, if there is one
 abbrev pub placed_words : List ℕ → Option (Option ℕ × ℕ × List (List ℕ)) → VerdictRead
 placed_words head None = NoForm
 placed_words head (Some place) = placed_read (placed_kind head place.2) place.0 place.1
 
+-- places that were all read: a run is stuck at them, unless some name was no thread's
 abbrev pub stuck_read : Bool → List (ℕ × ℕ) → VerdictRead
 stuck_read true blocked = UnknownName
 stuck_read false blocked = Is (Stuck blocked)
 
+-- One place, and `next` for those after it. The name and the line must be lawful. A thread's name
+-- must be of none below the least one, and any other name is noted as unknown.
 abbrev pub stuck_step : Bool → Option ℕ → Option ℕ → ℕ → List (ℕ × ℕ) → Bool
     → (ℕ → List (ℕ × ℕ) → Bool → VerdictRead) → VerdictRead
 stuck_step false thread line least blocked unknown next = NoForm
@@ -118,11 +128,14 @@ stuck_words names least blocked unknown (name ∷ line ∷ rest) =
     (λ least_later blocked_later unknown_later.
     stuck_words names least_later blocked_later unknown_later rest)
 
+-- a verdict of one word: the run has passed, or was cut
 abbrev pub bare_word : List ℕ → VerdictRead
 bare_word head =
     if bytes_eq head (codes "passed") then Is Passed
     else (if bytes_eq head (codes "cut") then Is Cut else NoForm)
 
+-- the verdict that all words of a text spell: places follow `stuck`, and one place or nothing
+-- follows another first word
 abbrev pub verdict_of_words : NameLists → List (List ℕ) → VerdictRead
 verdict_of_words names [] = NoForm
 verdict_of_words names (head ∷ []) = bare_word head

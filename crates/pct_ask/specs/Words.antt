@@ -10,9 +10,11 @@ abbrev pub is_word : List ℕ → Bool
 is_word [] = false
 is_word (b ∷ bs) = is_letter b && list_all is_word_byte bs && nat_le (length bs) 31
 
+-- whether a list of words has this one
 abbrev pub is_among : List ℕ → List (List ℕ) → Bool
 is_among word words = list_any (bytes_eq word) words
 
+-- the keywords of the language's version 1
 abbrev pub first_keywords : List (List ℕ)
 first_keywords =
     codes "script" ∷ codes "var" ∷ codes "mutex" ∷ codes "cond" ∷ codes "sem" ∷ codes "barrier"
