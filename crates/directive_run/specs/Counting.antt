@@ -3,7 +3,7 @@ use Rattle.std.specs.Prelude.{ℕ, zero, suc, Bool, false, List, [], ◌∷◌, 
 use Rattle.std.specs.List.{flat_map, range_with_len}
 use Rattle.pct_ask.specs.declared.Deal.{Deal}
 use Rattle.pct_ask.specs.declared.verdict.Verdict.{Verdict}
-use Rattle.pct_ask.specs.contracts.verdict.VerdictPartialEq.TheImpl as verdict_eq
+use Rattle.pct_ask.specs.SameVerdict.{same_verdict}
 use Rattle.worker_run.specs.Bodies.{Pending}
 use Rattle.worker_run.specs.Run.{Run, run}
 use Rattle.directive_run.specs.Orders.{orders, threads_below}
@@ -13,10 +13,6 @@ abbrev pub pointlists : ℕ → ℕ → List (List ℕ)
 pointlists k zero = [] ∷ []
 pointlists k (suc many) =
     flat_map (λ point. map (λ points. point ∷ points) (pointlists k many)) (range_with_len 1 k)
-
--- whether two verdicts are the same, threads and lines too, as `==` tells
-abbrev pub same_verdict : Verdict → Verdict → Bool
-same_verdict a b = (verdict_eq.ghosts).eq a b
 
 abbrev pub has_verdict : Verdict → Option Run → Bool
 has_verdict verdict None = false

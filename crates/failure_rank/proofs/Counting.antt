@@ -10,7 +10,8 @@ use Rattle.indexmap.specs.IndexMap.{insert_entry}
 use Rattle.pct_ask.specs.declared.event.Row.{Row}
 use Rattle.pct_ask.specs.declared.verdict.Verdict.{Verdict}
 use Rattle.pct_ask.specs.declared.verdict.Verdict.TheVariants.{Passed}
-use Rattle.failure_rank.specs.Groups.{same_verdict, rows_with, earliest, IsGroup}
+use Rattle.pct_ask.specs.SameVerdict.{same_verdict}
+use Rattle.failure_rank.specs.Groups.{rows_with, earliest, IsGroup}
 use Rattle.failure_rank.specs.Growing.{group_of, with_row, grown, IsEntry, IsCounted}
 use Rattle.failure_rank.specs.declared.group.Group.{Group}
 use Rattle.failure_rank.proofs.RowLemmas.{same-true, equal, same-false, rows_with-other, earliest-kept, earliest-new, place-none, IsGroup-other, IsGroup-more, IsGroup-new, earliest-group}

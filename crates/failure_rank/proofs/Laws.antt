@@ -4,7 +4,8 @@ use Rattle.std.specs.List.{All}
 use Rattle.std.proofs.lemmas.List.Elements.{All-filter, filter_passes, Contains-get_or}
 use Rattle.pct_ask.specs.declared.event.Row.{Row}
 use Rattle.pct_ask.specs.declared.verdict.Verdict.{Verdict}
-use Rattle.failure_rank.specs.Groups.{same_verdict, rows_with, IsGroup, IsRanking, StandsBefore}
+use Rattle.pct_ask.specs.SameVerdict.{same_verdict}
+use Rattle.failure_rank.specs.Groups.{rows_with, IsGroup, IsRanking, StandsBefore}
 use Rattle.failure_rank.specs.declared.group.Group.{Group}
 use Rattle.failure_rank.proofs.RowLemmas.{equal}
 use Rattle.failure_rank.proofs.Unique.{not_both, same_lists}

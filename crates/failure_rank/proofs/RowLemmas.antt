@@ -11,7 +11,8 @@ use Rattle.pct_ask.specs.declared.event.Row.{Row}
 use Rattle.pct_ask.specs.declared.verdict.Verdict.{Verdict}
 use Rattle.pct_ask.specs.declared.verdict.Verdict.TheVariants.{Passed}
 use Rattle.pct_ask.proofs.laws.SameVerdicts.{verdict-Decides}
-use Rattle.failure_rank.specs.Groups.{same_verdict, rows_with, earliest, SumsUp, IsGroup}
+use Rattle.pct_ask.specs.SameVerdict.{same_verdict}
+use Rattle.failure_rank.specs.Groups.{rows_with, earliest, SumsUp, IsGroup}
 use Rattle.failure_rank.specs.Growing.{group_of, with_row}
 use Rattle.failure_rank.specs.declared.group.Group.{Group}
 

@@ -3,7 +3,8 @@ use Rattle.std.proofs.Common.{◌≡◌, ◌≤◌, false, [], ◌∷◌, refl, 
 use Rattle.std.proofs.lemmas.List.Elements.{All-cons, All-nil}
 use Rattle.pct_ask.specs.declared.event.Row.{Row}
 use Rattle.pct_ask.specs.declared.verdict.Verdict.TheVariants.{Failed, Stuck}
-use Rattle.failure_rank.specs.Groups.{same_verdict, earliest, IsGroup}
+use Rattle.pct_ask.specs.SameVerdict.{same_verdict}
+use Rattle.failure_rank.specs.Groups.{earliest, IsGroup}
 use Rattle.failure_rank.specs.declared.group.Group.{Group}
 
 abbrev failing : Row

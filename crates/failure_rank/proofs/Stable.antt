@@ -15,7 +15,8 @@ use Rattle.std.proofs.lemmas.Option.{same_Some}
 use Rattle.std.specs.declared.cmp.Ordering.TheVariants.{Less, Equal}
 use Rattle.pct_ask.specs.declared.event.Row.{Row}
 use Rattle.pct_ask.specs.declared.verdict.Verdict.{Verdict}
-use Rattle.failure_rank.specs.Groups.{same_verdict, rows_with, earliest, SumsUp, IsGroup, IsRanking, StandsBefore, MoreOften, Shorter, Lower, Earlier}
+use Rattle.pct_ask.specs.SameVerdict.{same_verdict}
+use Rattle.failure_rank.specs.Groups.{rows_with, earliest, SumsUp, IsGroup, IsRanking, StandsBefore, MoreOften, Shorter, Lower, Earlier}
 use Rattle.failure_rank.specs.Growing.{IsEntry, IsCounted}
 use Rattle.failure_rank.specs.declared.group.Group.{Group}
 use Rattle.failure_rank.proofs.RowLemmas.{some_rows}

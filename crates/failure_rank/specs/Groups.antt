@@ -5,13 +5,8 @@ use Rattle.std.specs.Option.{option_map}
 use Rattle.pct_ask.specs.declared.event.Row.{Row}
 use Rattle.pct_ask.specs.declared.verdict.Verdict.{Verdict}
 use Rattle.pct_ask.specs.declared.verdict.Verdict.TheVariants.{Passed}
-use Rattle.pct_ask.specs.contracts.verdict.VerdictPartialEq.TheImpl as verdict_eq
+use Rattle.pct_ask.specs.SameVerdict.{same_verdict}
 use Rattle.failure_rank.specs.declared.group.Group.{Group}
-
--- `==` of verdicts, which is equality: that of threads, lines and kinds, and of whole lists of
--- blocked threads
-abbrev pub same_verdict : Verdict → Verdict → Bool
-same_verdict = (verdict_eq.ghosts).eq
 
 -- the rows that end with a verdict
 abbrev pub rows_with : Verdict → List Row → List Row

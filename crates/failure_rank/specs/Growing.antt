@@ -4,7 +4,8 @@ use Rattle.std.specs.Map.{lookup, keys_of}
 use Rattle.pct_ask.specs.declared.event.Row.{Row}
 use Rattle.pct_ask.specs.declared.verdict.Verdict.{Verdict}
 use Rattle.pct_ask.specs.declared.verdict.Verdict.TheVariants.{Passed}
-use Rattle.failure_rank.specs.Groups.{same_verdict, rows_with, earliest, IsGroup}
+use Rattle.pct_ask.specs.SameVerdict.{same_verdict}
+use Rattle.failure_rank.specs.Groups.{rows_with, earliest, IsGroup}
 use Rattle.failure_rank.specs.declared.group.Group.{Group}
 
 -- of one row

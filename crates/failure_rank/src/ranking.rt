@@ -2,7 +2,8 @@
 
 ghost use Rattle.std.specs.Prelude.{◌≡◌, ◌+◌, ◌<◌, ◌≤◌, ◌^◌, List, length, IfOk, OnOk, All};
 ghost use Rattle.indexmap.specs.IndexMap.{get, insert_entry};
-ghost use Rattle.failure_rank.specs.Groups.{IsRanking, same_verdict};
+ghost use Rattle.pct_ask.specs.SameVerdict.{same_verdict};
+ghost use Rattle.failure_rank.specs.Groups.{IsRanking};
 ghost use Rattle.failure_rank.specs.Growing.{IsCounted, grown};
 ghost use Rattle.failure_rank.specs.declared.group.Group.{Group};
 

@@ -12,4 +12,5 @@ pub mod VerdictWords
 pub mod VerdictRead
 pub mod Places
 pub mod PlaceLaws
+pub mod SameVerdict
 pub mod TraceText

@@ -31,7 +31,7 @@ use Rattle.pct_top.specs.Runs.{run_of, is_passed, file_of, traced, told_trace, T
 use Rattle.pct_top.specs.commands.Run.{PrintsTrace}
 use Rattle.pct_top.specs.commands.Replay.{replied}
 use Rattle.pct_top.specs.commands.Expose.{TellsExposed}
-use Rattle.directive_run.specs.Counting.{same_verdict}
+use Rattle.pct_ask.specs.SameVerdict.{same_verdict}
 use Rattle.directive_run.specs.declared.answers.Exposed.{Exposed}
 use Rattle.directive_run.specs.declared.answers.Exposed.TheVariants.{Points, TooLong}
 use Rattle.pct_top.specs.Output.{OfTaken}

@@ -11,7 +11,7 @@ use Rattle.directive.specs.declared.directive.Directive.{Directive}
 use Rattle.directive.specs.Directive.{IsDirective}
 use Rattle.directive.specs.DirectiveText.{DirectiveText}
 use Rattle.directive.specs.Answers.{told as plain}
-use Rattle.directive_run.specs.Counting.{same_verdict}
+use Rattle.pct_ask.specs.SameVerdict.{same_verdict}
 use Rattle.directive_run.specs.Exposing.{Exposes}
 use Rattle.directive_run.specs.declared.answers.Exposed.{Exposed}
 use Rattle.directive_run.specs.declared.answers.Exposed.TheVariants.{Points, TooLong}

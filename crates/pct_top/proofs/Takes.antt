@@ -26,7 +26,7 @@ use Rattle.directive.specs.Answers.{told as plain}
 use Rattle.directive_find.specs.Found.{Finds}
 use Rattle.directive_find.specs.declared.finding.FoundOut.{FoundOut}
 use Rattle.directive_find.specs.declared.finding.FoundOut.TheVariants.{Events, Passes}
-use Rattle.directive_run.specs.Counting.{same_verdict}
+use Rattle.pct_ask.specs.SameVerdict.{same_verdict}
 use Rattle.directive_run.specs.Exposing.{Exposes}
 use Rattle.directive_run.specs.declared.answers.Exposed.{Exposed}
 use Rattle.directive_run.specs.declared.answers.Exposed.TheVariants.{Points, TooLong}

@@ -7,7 +7,7 @@ use Rattle.script_tree.specs.ScriptText.{ScriptText}
 use Rattle.script_body.specs.Bodies.{bodies_of}
 use Rattle.worker_run.specs.Run.{Run}
 use Rattle.directive.specs.declared.directive.Directive.{Directive}
-use Rattle.directive_run.specs.Counting.{same_verdict}
+use Rattle.pct_ask.specs.SameVerdict.{same_verdict}
 use Rattle.directive_run.specs.Exposing.{Exposes}
 use Rattle.directive_run.specs.declared.answers.Exposed.{Exposed}
 use Rattle.directive_run.specs.declared.answers.Exposed.TheVariants.{Points, TooLong}

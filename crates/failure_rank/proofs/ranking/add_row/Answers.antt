@@ -3,7 +3,7 @@ use Rattle.std.proofs.Common.{◌+◌, ◌<◌, ◌^◌, sym}
 use Rattle.std.specs.Bool.{⊤}
 use Rattle.std.proofs.lemmas.Option.{MatchOption-at_some}
 use Rattle.std.proofs.lemmas.Map.Entries.{All-lookup}
-use Rattle.failure_rank.specs.Groups.{same_verdict}
+use Rattle.pct_ask.specs.SameVerdict.{same_verdict}
 use Rattle.failure_rank.specs.declared.group.Group.{Group}
 use Rattle.failure_rank.proofs.ranking.add_row.Goals as goal
 
