@@ -9,6 +9,7 @@ use Rattle.script_tree.specs.declared.expr.Op.TheVariants as ops
 use Rattle.script_tree.specs.Trees.{Expression}
 use Rattle.script_tree.specs.Trees as trees
 
+-- the symbol that an operator is written with
 abbrev pub signs_of : Op → List ℕ
 signs_of ops.Or = codes "||"
 signs_of ops.And = codes "&&"

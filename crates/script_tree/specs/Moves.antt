@@ -18,6 +18,7 @@ pub record State : Type 0 where
 abbrev pub before : List Statement → List ℤ → State
 before rest registers = record { rest = rest; registers = registers; halfway = false }
 
+-- a thread at its beginning: all its statements remain, and each register has 0
 abbrev pub at_start : Statements → State
 at_start body = before (list body) (replicate 16 (pos 0))
 
@@ -44,10 +45,11 @@ module _ (rest : List Statement) (registers : List ℤ) where
   abbrev pub keeps : ℕ → ℤ → State
   keeps reg n = before rest (slice_set registers reg n)
 
-  -- an ask whose answer goes into a register, and one whose answer tells nothing
+  -- an ask whose answer goes into a register
   abbrev pub asks_into : ℕ → Ask → Act State
   asks_into reg ask = Asks ask (keeps reg)
 
+  -- an ask whose answer tells nothing: the registers stay as they are
   abbrev pub asks_only : Ask → Act State
   asks_only ask = Asks ask (λ answer. before rest registers)
 

@@ -35,6 +35,7 @@ NamesOnly deal (TryRdLock l) = l < deal.rwlocks
 NamesOnly deal (TryWrLock l) = l < deal.rwlocks
 NamesOnly deal (RwUnlock l) = l < deal.rwlocks
 
+-- an ask, where there is one, names only threads and objects of the deal
 abbrev pub AsksOnly : Deal → Option Ask → Type 0
 AsksOnly deal None = Unit {0}
 AsksOnly deal (Some ask) = NamesOnly deal ask

@@ -32,12 +32,15 @@ abbrev mutual
   any_starts t (Closed line) = false
   any_starts t (Then s rest) = starts t s || any_starts t rest
 
+-- whether some `start` of the script names the thread t, which waits for it before it begins
 abbrev pub is_held : ScriptText → ℕ → Bool
 is_held script t = list_any (λ thread. any_starts t thread.body) script.threads
 
+-- a thread without statements, in the place of one that there isn't
 abbrev pub no_thread : Thread
 no_thread = record { line = 0; body = Closed 0 }
 
+-- the thread t of the script, and one without statements where there is none
 abbrev pub thread_of : ScriptText → ℕ → Thread
 thread_of script t = slice_index_or script.threads t no_thread
 
