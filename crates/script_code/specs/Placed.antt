@@ -37,6 +37,7 @@ is_placed n (Test line test next otherwise) =
 is_placed n (End line) = true
 is_placed n (Begin line next) = nat_lt next n
 
+-- an operation with which its thread ends
 abbrev pub is_end : Option Operation → Bool
 is_end (Some (End line)) = true
 is_end op = false
