@@ -20,6 +20,7 @@ after_act (Asks ask after) last answer = after answer
 after_act (Moves next) last answer = last
 after_act Ends last answer = last
 
+-- where a thread that waits at a spot goes on after this answer
 abbrev pub spot_after : List Operation → Spot → ℤ → Spot
 spot_after code at answer = after_act (flat_head code at).1 (last_spot code) answer
 
