@@ -1,9 +1,11 @@
 -- The large script of so many pieces a thread: eight threads that add one to eight variables, and a
 -- last one that adds the variables up (this project).
-use Rattle.std.specs.Prelude.{ℕ, zero, suc, pos, ◌+◌, ◌*◌, ◌%◌, ◌==◌, if◌then◌else◌, List, [], ◌∷◌, ◌++◌, codes}
+use Rattle.std.specs.Prelude.{ℕ, zero, suc, pos, ◌+◌, ◌*◌, ◌%◌, ◌==◌, if◌then◌else◌, List, [], ◌∷◌}
+use Rattle.std.specs.Prelude.{◌++◌, codes}
 use Rattle.pct_ask.specs.NameLists.{NameLists, no_names}
 use Rattle.script_tree.specs.declared.expr.Op.TheVariants as ops
-use Rattle.script_tree.specs.Trees.{Expression, Number, Reg, Two, Statement, closed_at, Read, Write, Lock, Unlock, Join, Yield, Assert, Set}
+use Rattle.script_tree.specs.Trees.{Expression, Number, Reg, Two, Statement, closed_at, Read, Write}
+use Rattle.script_tree.specs.Trees.{Lock, Unlock, Join, Yield, Assert, Set}
 use Rattle.script_tree.specs.ScriptText.{Thread, ScriptText}
 
 -- the eight threads that add

@@ -1,6 +1,7 @@
 -- Expressions, as a relation between tokens and trees by the strength of operators (the levels are
 -- C's; a comparison doesn't chain, which is this project's choice).
-use Rattle.std.specs.Prelude.{ℕ, pos, ◌+◌, ◌<◌, ◌==◌, if◌then◌else◌, List, [], ◌∷◌, ◌++◌, codes, slice_index_or}
+use Rattle.std.specs.Prelude.{ℕ, pos, ◌+◌, ◌<◌, ◌==◌, if◌then◌else◌, List, [], ◌∷◌, ◌++◌, codes}
+use Rattle.std.specs.Prelude.{slice_index_or}
 use Rattle.std.specs.Str.Parse.{digits_value}
 use Rattle.pct_ask.specs.Words.{registers}
 use Rattle.pct_ask.specs.Tokens.{Token, Word, Number, Symbol}

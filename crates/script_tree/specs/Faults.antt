@@ -1,6 +1,7 @@
 -- The first faulty line of a text and what is wrong with it: for each kind of fault, which lines
 -- have it (this project).
-use Rattle.std.specs.Prelude.{◌≡◌, ℕ, ◌+◌, ◌<◌, ◌≤◌, ◌⊎◌, ◌==◌, ◌&&◌, nat_le, Bool, true, false, not, List, [], ◌∷◌, ◌++◌, length, map, None, codes, reverse}
+use Rattle.std.specs.Prelude.{◌≡◌, ℕ, ◌+◌, ◌<◌, ◌≤◌, ◌⊎◌, ◌==◌, ◌&&◌, nat_le, Bool, true, false}
+use Rattle.std.specs.Prelude.{not, List, [], ◌∷◌, ◌++◌, length, map, None, codes, reverse}
 use Rattle.std.specs.List.{list_all}
 use Rattle.std.specs.Str.{is_utf8}
 use Rattle.pct_ask.specs.Lines.{lines_of}
@@ -10,10 +11,12 @@ use Rattle.pct_ask.specs.declared.names.NameKind.{NameKind}
 use Rattle.pct_ask.specs.declared.names.NameKind.TheVariants as kinds
 use Rattle.script_tree.specs.declared.fault.ScriptFault.{ScriptFault}
 use Rattle.script_tree.specs.declared.fault.ScriptFault.TheVariants as faults
-use Rattle.script_tree.specs.Forms.{Cut, Meant, Plain, Valued, Thread, On, Into, Write, Add, Cas, Wait, If, While, End, Else, IsForm, on_kind, into_kind}
+use Rattle.script_tree.specs.Forms.{Cut, Meant, Plain, Valued, Thread, On, Into, Write, Add, Cas}
+use Rattle.script_tree.specs.Forms.{Wait, If, While, End, Else, IsForm, on_kind, into_kind}
 use Rattle.script_tree.specs.Ranges.{is_out_of_range}
 use Rattle.script_tree.specs.Fitting.{most_threads}
-use Rattle.script_tree.specs.Lines.{tokens_in, is_blank_line, version_in, version_of, begins, names_of, depth, opener, threads_in}
+use Rattle.script_tree.specs.Lines.{tokens_in, is_blank_line, version_in, version_of, begins}
+use Rattle.script_tree.specs.Lines.{names_of, depth, opener, threads_in}
 
 -- a line in its text, with the lines before it and those after it
 pub record Place : Type 0 where

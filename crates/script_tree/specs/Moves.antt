@@ -1,9 +1,13 @@
 -- What a thread does by itself, and what it asks, by the first of its statements that remain (this
 -- project).
-use Rattle.std.specs.Prelude.{ℕ, ℤ, pos, not, Bool, true, false, if◌then◌else◌, List, [], ◌∷◌, ◌++◌, replicate, Ok, Err, slice_set}
+use Rattle.std.specs.Prelude.{ℕ, ℤ, pos, not, Bool, true, false, if◌then◌else◌, List, [], ◌∷◌, ◌++◌}
+use Rattle.std.specs.Prelude.{replicate, Ok, Err, slice_set}
 use Rattle.pct_ask.specs.declared.ask.Ask.{Ask}
 use Rattle.pct_ask.specs.declared.ask.Ask.TheVariants as asks
-use Rattle.script_tree.specs.Trees.{Statement, Statements, Read, Write, Add, Cas, Lock, TryLock, Unlock, Wait, Signal, Broadcast, Down, TryDown, Up, Arrive, Join, Yield, Assert, Set, If, IfElse, While, Start, RdLock, WrLock, TryRdLock, TryWrLock, RwUnlock, list, line_of}
+use Rattle.script_tree.specs.Trees.{Statement, Statements, Read, Write, Add, Cas, Lock, TryLock}
+use Rattle.script_tree.specs.Trees.{Unlock, Wait, Signal, Broadcast, Down, TryDown, Up, Arrive}
+use Rattle.script_tree.specs.Trees.{Join, Yield, Assert, Set, If, IfElse, While, Start, RdLock}
+use Rattle.script_tree.specs.Trees.{WrLock, TryRdLock, TryWrLock, RwUnlock, list, line_of}
 use Rattle.script_tree.specs.Machine.{Act, Moves, Asks, Ends}
 use Rattle.script_tree.specs.Values.{Value, is_zero, value_of}
 

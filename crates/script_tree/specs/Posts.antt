@@ -1,9 +1,11 @@
 -- What a thread of a script posts after the answers that it has had (this project).
-use Rattle.std.specs.Prelude.{ℕ, ◌==◌, ◌||◌, ℤ, Bool, true, false, List, [], ◌∷◌, Some, slice_index_or}
+use Rattle.std.specs.Prelude.{ℕ, ◌==◌, ◌||◌, ℤ, Bool, true, false, List, [], ◌∷◌, Some}
+use Rattle.std.specs.Prelude.{slice_index_or}
 use Rattle.std.specs.List.{list_any}
 use Rattle.pct_ask.specs.declared.ask.Ask.TheVariants.{Begin}
 use Rattle.pct_ask.specs.declared.ask.Post.{Post}
-use Rattle.script_tree.specs.Trees.{Statement, Statements, Closed, Then, Start, If, IfElse, While, end_line}
+use Rattle.script_tree.specs.Trees.{Statement, Statements, Closed, Then, Start, If, IfElse, While}
+use Rattle.script_tree.specs.Trees.{end_line}
 use Rattle.script_tree.specs.ScriptText.{Thread, ScriptText}
 use Rattle.script_tree.specs.Machine.{pending_from}
 use Rattle.script_tree.specs.Moves.{head, ended, at_start}

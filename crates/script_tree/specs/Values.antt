@@ -1,12 +1,15 @@
 -- What an expression comes to (two's complement of 64 bits, as i64 of Rust; faults are this
 -- project's).
-use Rattle.std.specs.Prelude.{ℤ, pos, negsuc, ◌^◌, ◌+ℤ◌, ◌-ℤ◌, ◌*ℤ◌, neg_ℤ, Bool, true, false, not, nat_lt, int_lt, int_le, int_div, int_rem, if◌then◌else◌, List, Result, Ok, Err, slice_index_or}
+use Rattle.std.specs.Prelude.{ℤ, pos, negsuc, ◌^◌, ◌+ℤ◌, ◌-ℤ◌, ◌*ℤ◌, neg_ℤ, Bool, true, false, not}
+use Rattle.std.specs.Prelude.{nat_lt, int_lt, int_le, int_div, int_rem, if◌then◌else◌, List, Result}
+use Rattle.std.specs.Prelude.{Ok, Err, slice_index_or}
 use Rattle.std.specs.Ordering.{int_eq}
 use Rattle.pct_ask.specs.declared.ask.FaultKind.{FaultKind}
 use Rattle.pct_ask.specs.declared.ask.FaultKind.TheVariants.{Overflow, ZeroDivisor}
 use Rattle.script_tree.specs.Trees.{Expression, Number, Reg, Not, Minus, Two}
 use Rattle.script_tree.specs.declared.expr.Op.{Op}
-use Rattle.script_tree.specs.declared.expr.Op.TheVariants.{Or, And, Eq, Ne, Lt, Le, Gt, Ge, Plus, Less, Times, Over, Rest}
+use Rattle.script_tree.specs.declared.expr.Op.TheVariants.{Or, And, Eq, Ne, Lt, Le, Gt, Ge, Plus}
+use Rattle.script_tree.specs.declared.expr.Op.TheVariants.{Less, Times, Over, Rest}
 
 -- a number, or why there is none
 abbrev pub Value : Type 0
