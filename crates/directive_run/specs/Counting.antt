@@ -18,6 +18,7 @@ pointlists k (suc many) =
 abbrev pub same_verdict : Verdict → Verdict → Bool
 same_verdict a b = (verdict_eq.ghosts).eq a b
 
+-- whether a run was made and ended with the verdict
 abbrev pub has_verdict : Verdict → Option Run → Bool
 has_verdict verdict None = false
 has_verdict verdict (Some run) = same_verdict run.1 verdict
