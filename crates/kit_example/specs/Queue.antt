@@ -20,6 +20,7 @@ ask_at w Tell = Some (asks.Signal w.tells)
 ask_at w Unlock = Some (asks.Unlock 0)
 ask_at w End = None
 
+-- the line on which a step stands, from 1; the two halves of a wait stand on one
 abbrev pub line_at : Step → ℕ
 line_at Lock = 1
 line_at Look = 2
@@ -30,6 +31,7 @@ line_at Tell = 5
 line_at Unlock = 6
 line_at End = 7
 
+-- what a worker posts at its step: what it asks, or that it has ended, and the line
 abbrev pub post_of : Worker → Post
 post_of w = record { ask = ask_at w w.at; line = line_at w.at }
 
@@ -50,6 +52,7 @@ abbrev pub left_after : Worker → Step → ℕ
 left_after w Unlock = w.left - 1
 left_after w step = w.left
 
+-- a worker once an answer has come: at its next step, and with one round less to go after an unlock
 abbrev pub worker_after : Worker → ℤ → Worker
 worker_after w value = record {
   sets = w.sets;
