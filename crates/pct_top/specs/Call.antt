@@ -1,5 +1,5 @@
--- What a call of the program does to what is outside of it, by its status. No clause here knows a
--- command.
+-- What a call of the program does to what is outside of it, by its status (this project). No
+-- clause here knows a command.
 use Rattle.std.specs.Prelude.{◌≡◌, ℕ, ◌⊎◌, List, [], ◌++◌, Option, Some, Result, Ok, Err}
 use Rattle.std.specs.List.{Contains}
 use Rattle.pct_outside.specs.Counter.{Rose}

@@ -101,6 +101,8 @@ OfCommand (Certify file directive steps limit) files =
 
 -- ---- the call
 
+-- what is printed for the settings, over the script of their command; where a word isn't taken, the
+-- refusal that tells its number
 abbrev pub OfTaken : Taken → Files → Printed → Type 0
 OfTaken (Ok settings) files printed =
     OfScript (script_text settings files) (OfCommand settings files) printed

@@ -44,13 +44,15 @@ refused refusal =
 abbrev pub told : List ℕ → Bool → Printed
 told text done = record { out = text; status = if done then Done else Found; err = [] }
 
--- as many bytes of a script, of a trace and of a directive as are read
+-- how many bytes of a script are read: one more than a script may have
 abbrev pub script_bytes : ℕ
 script_bytes = 1048577
 
+-- how many bytes of a trace are read: one more than a trace may have
 abbrev pub trace_bytes : ℕ
 trace_bytes = 16777217
 
+-- how many bytes of a directive are read: one more than a directive may have
 abbrev pub directive_bytes : ℕ
 directive_bytes = 65537
 

@@ -16,6 +16,7 @@ order_in value =
     if nat_le (length (items_of value)) 64 && list_all (is_name 1) (items_of value)
     then Some (items_of value) else None
 
+-- the number, where it is at least `low` and at most `high`
 abbrev pub within : ℕ → ℕ → ℕ → Option ℕ
 within low high n = if nat_le low n && nat_le n high then Some n else None
 
@@ -47,6 +48,7 @@ points_in value = if nat_le (length (items_of value)) 7 then step_counts (items_
 abbrev pub seed_in : List ℕ → Option ℕ
 seed_in word = number_in 0 18446744073709551615 word
 
+-- a depth, in 1..8
 abbrev pub depth_in : List ℕ → Option ℕ
 depth_in word = number_in 1 8 word
 
