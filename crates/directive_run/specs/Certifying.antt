@@ -16,7 +16,8 @@ use Rattle.directive_run.specs.Counting.{hits}
 use Rattle.directive_run.specs.Guarantees.{EndsIn, IsLed, Guarantees}
 use Rattle.directive_run.specs.declared.answers.CertifyRow.{CertifyRow}
 use Rattle.directive_run.specs.declared.answers.Certified.{Certified}
-use Rattle.directive_run.specs.declared.answers.Certified.TheVariants.{Yes, Refuted, TooLong, TooManyThreads}
+use Rattle.directive_run.specs.declared.answers.Certified.TheVariants.{Yes, Refuted, TooLong}
+use Rattle.directive_run.specs.declared.answers.Certified.TheVariants.{TooManyThreads}
 
 -- The order's directed run has the verdict and at most so many steps; the points are those of its
 -- moments, and the run of the order and these points has the same steps and the verdict.

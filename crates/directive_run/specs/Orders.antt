@@ -1,5 +1,6 @@
 -- The orders of some threads, listed (this project).
-use Rattle.std.specs.Prelude.{ℕ, zero, suc, ◌*◌, List, [], ◌∷◌, ◌++◌, length, map, remove, slice_index}
+use Rattle.std.specs.Prelude.{ℕ, zero, suc, ◌*◌, List, [], ◌∷◌, ◌++◌, length, map, remove}
+use Rattle.std.specs.Prelude.{slice_index}
 use Rattle.std.specs.List.{range_with_len}
 
 -- n!, the product of the numbers 1 to n: how many orders n threads have

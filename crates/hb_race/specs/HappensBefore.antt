@@ -1,10 +1,14 @@
 -- Which steps of a run happen before which: the happens-before of Lamport, with the edges that the
 -- operations of POSIX threads make (this project's profile). Steps are named by their places in the
 -- list, from 0.
-use Rattle.std.specs.Prelude.{◌≡◌, ℕ, ℤ, pos, zero, suc, ◌<◌, int_lt, if◌then◌else◌, List, Option, Some, None, slice_get}
+use Rattle.std.specs.Prelude.{◌≡◌, ℕ, ℤ, pos, zero, suc, ◌<◌, int_lt, if◌then◌else◌, List, Option}
+use Rattle.std.specs.Prelude.{Some, None, slice_get}
 use Rattle.std.specs.Ordering.{int_eq}
 use Rattle.pct_ask.specs.declared.ask.Ask.{Ask}
-use Rattle.pct_ask.specs.declared.ask.Ask.TheVariants.{Add, Cas, Lock, TryLock, Unlock, Release, Regain, Signal, Broadcast, Down, TryDown, Up, Arrive, Leave, Join, Start, RdLock, WrLock, TryRdLock, TryWrLock, RwUnlock}
+use Rattle.pct_ask.specs.declared.ask.Ask.TheVariants.{Add, Cas, Lock, TryLock, Unlock, Release}
+use Rattle.pct_ask.specs.declared.ask.Ask.TheVariants.{Regain, Signal, Broadcast, Down, TryDown, Up}
+use Rattle.pct_ask.specs.declared.ask.Ask.TheVariants.{Arrive, Leave, Join, Start, RdLock, WrLock}
+use Rattle.pct_ask.specs.declared.ask.Ask.TheVariants.{TryRdLock, TryWrLock, RwUnlock}
 use Rattle.pct_ask.specs.declared.event.Event.{Event}
 
 -- where an attempt was answered 1, and so took what it asked for

@@ -1,12 +1,14 @@
 -- A queue with one place, and the threads that put and take (the monitor's textbook form: a mutex,
 -- and conditions to wait on). The variable 0 is 1 where the place is full.
-use Rattle.std.specs.Prelude.{ℕ, ◌-◌, ℤ, pos, nat_le, if◌then◌else◌, List, [], ◌∷◌, Option, Some, None}
+use Rattle.std.specs.Prelude.{ℕ, ◌-◌, ℤ, pos, nat_le, if◌then◌else◌, List, [], ◌∷◌, Option, Some}
+use Rattle.std.specs.Prelude.{None}
 use Rattle.std.specs.Ordering.{int_eq}
 use Rattle.pct_ask.specs.declared.ask.Ask.{Ask}
 use Rattle.pct_ask.specs.declared.ask.Ask.TheVariants as asks
 use Rattle.pct_ask.specs.declared.ask.Post.{Post}
 use Rattle.kit_example.specs.declared.worker.Step.{Step}
-use Rattle.kit_example.specs.declared.worker.Step.TheVariants.{Lock, Look, Release, Regain, Change, Tell, Unlock, End}
+use Rattle.kit_example.specs.declared.worker.Step.TheVariants.{Lock, Look, Release, Regain, Change}
+use Rattle.kit_example.specs.declared.worker.Step.TheVariants.{Tell, Unlock, End}
 use Rattle.kit_example.specs.declared.worker.Worker.{Worker}
 
 -- what a worker asks at a step

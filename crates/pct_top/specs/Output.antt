@@ -12,9 +12,11 @@ use Rattle.directive.specs.Directive.{IsDirective}
 use Rattle.directive.specs.Answers.{told as plain}
 use Rattle.pct_top.specs.declared.refusal.Refusal.TheVariants.{Usage}
 use Rattle.pct_top.specs.declared.settings.Settings.{Settings}
-use Rattle.pct_top.specs.declared.settings.Settings.TheVariants.{RunOrder, RunSeed, Campaign, Big, Replay, Expose, Certify}
+use Rattle.pct_top.specs.declared.settings.Settings.TheVariants.{RunOrder, RunSeed, Campaign, Big}
+use Rattle.pct_top.specs.declared.settings.Settings.TheVariants.{Replay, Expose, Certify}
 use Rattle.pct_top.specs.Settings.{Taken, settings}
-use Rattle.pct_top.specs.Printed.{Files, Printed, refused, script_bytes, trace_bytes, directive_bytes, OfScript}
+use Rattle.pct_top.specs.Printed.{Files, Printed, refused, script_bytes, trace_bytes}
+use Rattle.pct_top.specs.Printed.{directive_bytes, OfScript}
 use Rattle.pct_top.specs.Reports.{OfOrdered, OfSeed}
 use Rattle.pct_top.specs.commands.Campaign.{OfCampaign}
 use Rattle.pct_top.specs.commands.Big.{OfBig}

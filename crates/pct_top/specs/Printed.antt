@@ -19,7 +19,8 @@ use Rattle.directive.specs.Directive.{IsDirective}
 use Rattle.directive.specs.Faults.{IsDirectiveFault}
 use Rattle.directive.specs.Answers.{told as plain}
 use Rattle.pct_top.specs.declared.refusal.Refusal.{Refusal}
-use Rattle.pct_top.specs.declared.refusal.Refusal.TheVariants.{Usage, Script, Trace, Directive as BadDirective}
+use Rattle.pct_top.specs.declared.refusal.Refusal.TheVariants.{Usage, Script, Trace}
+use Rattle.pct_top.specs.declared.refusal.Refusal.TheVariants.{Directive as BadDirective}
 use Rattle.pct_top.specs.declared.status.Status.{Status}
 use Rattle.pct_top.specs.declared.status.Status.TheVariants.{Done, Found}
 use Rattle.pct_top.specs.Refusing.{status_of_refusal, refusal_line}

@@ -1,5 +1,6 @@
 -- Runs of a script, and their traces as they are written (this project).
-use Rattle.std.specs.Prelude.{◌≡◌, ℕ, max, Bool, true, false, nat_le, if◌then◌else◌, List, [], length, Option, Some, None}
+use Rattle.std.specs.Prelude.{◌≡◌, ℕ, max, Bool, true, false, nat_le, if◌then◌else◌, List, []}
+use Rattle.std.specs.Prelude.{length, Option, Some, None}
 use Rattle.std.specs.List.{range_with_len}
 use Rattle.pct_ask.specs.declared.Deal.{Deal}
 use Rattle.pct_ask.specs.declared.verdict.Verdict.{Verdict}
