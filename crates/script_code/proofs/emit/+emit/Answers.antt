@@ -46,7 +46,7 @@ emit_stmt-returns-in_ok-push-in-None t c =
     on_ok c.emit_block.result
     (λ m. emit_if c.args.ops.now.items c.push.new.self.items c.emit_block.new.ops.items _ a.line c.args.next c.entry-first.result (expression a.test) (block a.then) (statement c.args.stmt.now)
     c.in_ok-push-in-None.ensures.items
-    (ap (λ e. Test a.line e c.entry-first.result c.args.next) c.in_ok-copy_expr-in-None.ensures)
+    c.in_ok-test_of-in-None.ensures
     (c.entry-first.ensures ∙ ap (entry (c.len-at.result + 1) c.args.next) (from_start a.then) ∙ ap (λ (k : ℕ). entry (k + 1) c.args.next (block a.then)) at)
     m
     s)
@@ -61,7 +61,7 @@ emit_stmt-returns-in_ok-emit_block-in-Some t c =
     on_ok c.emit_block-in-Some-2.result
     (λ m. emit_if_else c.args.ops.now.items c.push-in-Some.new.self.items c.emit_block-in-Some.new.ops.items c.emit_block-in-Some-2.new.ops.items _ a.line c.args.next c.entry-first.result c.entry.result (expression a.test) (block a.then) (block b) (statement c.args.stmt.now)
     c.in_ok-push-in-Some.ensures.items
-    (ap (λ e. Test a.line e c.entry-first.result c.entry.result) c.in_ok-copy_expr-in-Some.ensures)
+    c.in_ok-test_of-in-Some.ensures
     (c.entry-first.ensures ∙ ap (entry (c.len-at.result + 1) c.args.next) (from_start a.then) ∙ ap (λ (k : ℕ). entry (k + 1) c.args.next (block a.then)) at)
     (c.entry.ensures ∙ ap (entry (c.len-at.result + 1 + c.counts_of.result) c.args.next) (from_start b) ∙ ap₂ (λ (k n : ℕ). entry (k + 1 + n) c.args.next (block b)) at c.counts_of.ensures)
     c.in_ok-emit_block-in-Some.ensures
@@ -77,7 +77,7 @@ emit_stmt-returns-in_ok-push-in-While t c =
     on_ok c.emit_block-in-While.result
     (λ m. emit_while c.args.ops.now.items c.push-in-While.new.self.items c.emit_block-in-While.new.ops.items _ a.line c.args.next c.entry-in-While.result (expression a.test) (block a.body) (statement c.args.stmt.now)
     c.in_ok-push-in-While.ensures.items
-    (ap (λ e. Test a.line e c.entry-in-While.result c.args.next) c.in_ok-copy_expr-in-While.ensures)
+    c.in_ok-test_of-in-While.ensures
     (c.entry-in-While.ensures ∙ ap (entry (c.len-at.result + 1) c.len-at.result) (from_start a.body) ∙ ap (λ (k : ℕ). entry (k + 1) k (block a.body)) at)
     (m ∙ ap (λ (k : ℕ). operations c.push-in-While.new.self.items ++ codes_of (length c.push-in-While.new.self.items) k (block a.body)) at)
     s)
