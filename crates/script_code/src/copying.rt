@@ -53,7 +53,9 @@ fn copy_plain(stmt: &Stmt) -> Stmt
         Stmt::TryRdLock { line, reg, rwlock } => Stmt::TryRdLock { line, reg, rwlock },
         Stmt::TryWrLock { line, reg, rwlock } => Stmt::TryWrLock { line, reg, rwlock },
         Stmt::RwUnlock { line, rwlock } => Stmt::RwUnlock { line, rwlock },
-        _ => unreachable!(),
+        Stmt::Write { .. } | Stmt::Add { .. } | Stmt::Cas { .. } => unreachable!(),
+        Stmt::Assert { .. } | Stmt::Set { .. } => unreachable!(),
+        Stmt::If { .. } | Stmt::While { .. } => unreachable!(),
     }
 }
 
