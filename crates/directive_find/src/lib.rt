@@ -3,6 +3,7 @@
 #![tactic(auto)]
 
 mod finding;
+mod found;
 mod moments;
 mod reducing;
 mod running;
@@ -12,3 +13,4 @@ mod samples;
 mod tests;
 
 pub use finding::{FoundOut, find};
+pub use found::one_finding;

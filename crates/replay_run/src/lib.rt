@@ -4,6 +4,7 @@
 mod answer;
 mod compare;
 mod replaying;
+mod reply;
 mod same;
 #[cfg(test)]
 mod samples;
@@ -12,3 +13,4 @@ mod tests;
 
 pub use answer::{Found, Replayed, Written};
 pub use replaying::replay;
+pub use reply::one_reply;
