@@ -1,5 +1,5 @@
-//! A short directive from a failing run: the moments of the run by an order and change points, without those that its
-//! verdict doesn't need.
+//! A short directive from a failing run: the moments of the run by an order and change points,
+//! without those that its verdict doesn't need.
 #![tactic(auto)]
 
 mod finding;

@@ -1,4 +1,5 @@
-//! Replay of traces: a trace's list of threads is run again, and the run is compared with the trace.
+//! Replay of traces: a trace's list of threads is run again, and the run is compared with the
+//! trace.
 #![tactic(auto)]
 
 mod answer;

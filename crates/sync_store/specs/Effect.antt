@@ -1,16 +1,26 @@
 -- What an enabled step does (POSIX threads; where POSIX leaves a case open, this project).
-use Rattle.std.specs.Prelude.{ℕ, ◌+◌, ◌-◌, min, ◌==◌, ◌&&◌, nat_lt, ℤ, pos, negsuc, ◌+ℤ◌, ◌-ℤ◌, int_lt, int_le, Bool, false, not, if◌then◌else◌, List, [], ◌∷◌, ◌++◌, length, filter, Option, is_none, Some, None, slice_index, slice_set}
+use Rattle.std.specs.Prelude.{ℕ, ◌+◌, ◌-◌, min, ◌==◌, ◌&&◌, nat_lt, ℤ, pos, negsuc, ◌+ℤ◌, ◌-ℤ◌}
+use Rattle.std.specs.Prelude.{int_lt, int_le, Bool, false, not, if◌then◌else◌, List, [], ◌∷◌, ◌++◌}
+use Rattle.std.specs.Prelude.{length, filter, Option, is_none, Some, None, slice_index, slice_set}
 use Rattle.std.specs.Ordering.{int_eq}
 use Rattle.std.specs.List.{list_any}
 use Rattle.pct_ask.specs.declared.Ask.{Ask}
-use Rattle.pct_ask.specs.declared.Ask.TheVariants.{Read, Write, Add, Cas, Lock, TryLock, Unlock, Release, Regain, Signal, Broadcast, Down, TryDown, Up, Arrive, Leave, Join, Yield, Check, Fault, Start, Begin, RdLock, WrLock, TryRdLock, TryWrLock, RwUnlock}
+use Rattle.pct_ask.specs.declared.Ask.TheVariants.{Read, Write, Add, Cas, Lock, TryLock, Unlock}
+use Rattle.pct_ask.specs.declared.Ask.TheVariants.{Release, Regain, Signal, Broadcast, Down}
+use Rattle.pct_ask.specs.declared.Ask.TheVariants.{TryDown, Up, Arrive, Leave, Join, Yield, Check}
+use Rattle.pct_ask.specs.declared.Ask.TheVariants.{Fault, Start, Begin, RdLock, WrLock, TryRdLock}
+use Rattle.pct_ask.specs.declared.Ask.TheVariants.{TryWrLock, RwUnlock}
 use Rattle.pct_ask.specs.declared.FaultKind.TheVariants.{Overflow}
-use Rattle.pct_ask.specs.declared.MisuseKind.TheVariants.{NotOwner, SemFull, AlreadyStarted, TooManyReads}
+use Rattle.pct_ask.specs.declared.MisuseKind.TheVariants.{NotOwner, SemFull, AlreadyStarted}
+use Rattle.pct_ask.specs.declared.MisuseKind.TheVariants.{TooManyReads}
 use Rattle.pct_ask.specs.declared.Verdict.{Verdict}
 use Rattle.pct_ask.specs.declared.Verdict.TheVariants.{Failed, Misuse, Fault as Faulted}
 use Rattle.sync_store.specs.declared.applied.Applied.{Applied}
 use Rattle.sync_store.specs.declared.applied.Applied.TheVariants.{Answer, Ends}
-use Rattle.sync_store.specs.Store.{Release as Released, ConditionState, BarrierState, RwLockState, StoreState, is_on, value_of, owner_of, condition_of, number_of, barrier_of, rwlock_of, with_value, with_owner, with_condition, with_number, with_barrier, with_rwlock}
+use Rattle.sync_store.specs.Store.{Release as Released, ConditionState, BarrierState, RwLockState}
+use Rattle.sync_store.specs.Store.{StoreState, is_on, value_of, owner_of, condition_of, number_of}
+use Rattle.sync_store.specs.Store.{barrier_of, rwlock_of, with_value, with_owner, with_condition}
+use Rattle.sync_store.specs.Store.{with_number, with_barrier, with_rwlock}
 use Rattle.sync_store.specs.Enabled.{is_released, is_unread}
 
 -- what comes of a step: the store after it and the thread's answer, or the verdict that ends the

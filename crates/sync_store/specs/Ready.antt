@@ -1,5 +1,6 @@
 -- What is known of a thread's ask while some threads haven't posted (this project).
-use Rattle.std.specs.Prelude.{ℕ, Bool, true, false, if◌then◌else◌, List, Option, Some, None, slice_get}
+use Rattle.std.specs.Prelude.{ℕ, Bool, true, false, if◌then◌else◌, List, Option, Some, None}
+use Rattle.std.specs.Prelude.{slice_get}
 use Rattle.pct_ask.specs.declared.Ask.{Ask}
 use Rattle.pct_ask.specs.declared.Ask.TheVariants.{Join}
 use Rattle.pct_ask.specs.declared.Standing.{Standing}

@@ -1,6 +1,8 @@
 -- Small theorems that read the definitions on known steps.
 use Rattle.std.specs.Prelude.{◌≡◌, pos, true, false, [], ◌∷◌, Some, None, refl}
-use Rattle.pct_ask.specs.declared.Ask.TheVariants.{Add, Cas, Lock, TryLock, Unlock, Release, Regain, Signal, TryDown, Up, Arrive, Leave, RdLock, WrLock}
+use Rattle.pct_ask.specs.declared.Ask.TheVariants.{Add, Cas, Lock, TryLock, Unlock, Release, Regain}
+use Rattle.pct_ask.specs.declared.Ask.TheVariants.{Signal, TryDown, Up, Arrive, Leave, RdLock}
+use Rattle.pct_ask.specs.declared.Ask.TheVariants.{WrLock}
 use Rattle.pct_ask.specs.declared.MisuseKind.TheVariants.{NotOwner}
 use Rattle.pct_ask.specs.declared.Verdict.TheVariants.{Misuse}
 use Rattle.sync_store.specs.Store.{StoreState, new_condition, new_barrier}
@@ -9,7 +11,16 @@ use Rattle.sync_store.specs.Effect.{Goes, Stops, effect}
 
 -- a store of two threads without objects
 abbrev bare : StoreState
-bare = record { threads = 2; values = []; owners = []; conditions = []; numbers = []; barriers = []; started = []; rwlocks = [] }
+bare = record {
+  threads = 2;
+  values = [];
+  owners = [];
+  conditions = [];
+  numbers = [];
+  barriers = [];
+  started = [];
+  rwlocks = [];
+}
 
 -- a mutex that nobody owns and a condition that nobody waits for
 abbrev at_rest : StoreState
@@ -19,10 +30,12 @@ abbrev owned : StoreState
 owned = record bare { owners = Some 0 ∷ []; conditions = new_condition ∷ [] }
 
 abbrev awaited : StoreState
-awaited = record bare { owners = None ∷ []; conditions = record { waiting = 0 ∷ []; woken = [] } ∷ [] }
+awaited =
+    record bare { owners = None ∷ []; conditions = record { waiting = 0 ∷ []; woken = [] } ∷ [] }
 
 abbrev woken : StoreState
-woken = record bare { owners = None ∷ []; conditions = record { waiting = []; woken = 0 ∷ [] } ∷ [] }
+woken =
+    record bare { owners = None ∷ []; conditions = record { waiting = []; woken = 0 ∷ [] } ∷ [] }
 
 -- a signal that nobody waits for is lost
 pub signal_lost : effect at_rest 1 10 (Signal 0) ≡ Goes at_rest (pos 0)
@@ -59,18 +72,38 @@ unlock_of_nobody = refl
 
 -- two threads meet twice at a barrier for two, and the last to arrive is the serial one
 abbrev one_arrived : StoreState
-one_arrived = record bare { barriers = record { count = pos 2; arrived = 0 ∷ []; released = [] } ∷ [] }
+one_arrived =
+    record bare { barriers = record { count = pos 2; arrived = 0 ∷ []; released = [] } ∷ [] }
 
 abbrev both_released : StoreState
-both_released = record bare { barriers = record { count = pos 2; arrived = []; released = record { thread = 0; serial = false } ∷ record { thread = 1; serial = true } ∷ [] } ∷ [] }
+both_released = record bare {
+  barriers = record {
+    count = pos 2;
+    arrived = [];
+    released = record { thread = 0; serial = false } ∷ record { thread = 1; serial = true } ∷ [];
+  } ∷ [];
+}
 
 abbrev one_left : StoreState
-one_left = record bare { barriers = record { count = pos 2; arrived = []; released = record { thread = 1; serial = true } ∷ [] } ∷ [] }
+one_left = record bare {
+  barriers = record {
+    count = pos 2;
+    arrived = [];
+    released = record { thread = 1; serial = true } ∷ [];
+  } ∷ [];
+}
 
 abbrev arrived_again : StoreState
-arrived_again = record bare { barriers = record { count = pos 2; arrived = 0 ∷ []; released = record { thread = 1; serial = true } ∷ [] } ∷ [] }
+arrived_again = record bare {
+  barriers = record {
+    count = pos 2;
+    arrived = 0 ∷ [];
+    released = record { thread = 1; serial = true } ∷ [];
+  } ∷ [];
+}
 
-pub first_arrives : effect (record bare { barriers = new_barrier (pos 2) ∷ [] }) 0 4 (Arrive 0) ≡ Goes one_arrived (pos 0)
+pub first_arrives : effect (record bare { barriers = new_barrier (pos 2) ∷ [] }) 0 4 (Arrive 0)
+    ≡ Goes one_arrived (pos 0)
 first_arrives = refl
 
 pub first_stays : enabled one_arrived (others_ended 0) 0 (Leave 0) ≡ false
@@ -95,22 +128,28 @@ atomics = record bare { values = pos 5 ∷ []; owners = None ∷ []; numbers = p
 pub add : effect atomics 0 6 (Add 0 (pos 3)) ≡ Goes (record atomics { values = pos 8 ∷ [] }) (pos 5)
 add = refl
 
-pub exchange : effect (record atomics { values = pos 8 ∷ [] }) 0 7 (Cas 0 (pos 8) (pos 9)) ≡ Goes (record atomics { values = pos 9 ∷ [] }) (pos 1)
+pub exchange : effect (record atomics { values = pos 8 ∷ [] }) 0 7 (Cas 0 (pos 8) (pos 9))
+    ≡ Goes (record atomics { values = pos 9 ∷ [] }) (pos 1)
 exchange = refl
 
-pub no_exchange : effect (record atomics { values = pos 9 ∷ [] }) 0 8 (Cas 0 (pos 8) (pos 1)) ≡ Goes (record atomics { values = pos 9 ∷ [] }) (pos 0)
+pub no_exchange : effect (record atomics { values = pos 9 ∷ [] }) 0 8 (Cas 0 (pos 8) (pos 1))
+    ≡ Goes (record atomics { values = pos 9 ∷ [] }) (pos 0)
 no_exchange = refl
 
-pub try_lock : effect atomics 0 9 (TryLock 0) ≡ Goes (record atomics { owners = Some 0 ∷ [] }) (pos 1)
+pub try_lock : effect atomics 0 9 (TryLock 0)
+    ≡ Goes (record atomics { owners = Some 0 ∷ [] }) (pos 1)
 try_lock = refl
 
-pub try_lock_again : effect (record atomics { owners = Some 0 ∷ [] }) 0 10 (TryLock 0) ≡ Goes (record atomics { owners = Some 0 ∷ [] }) (pos 0)
+pub try_lock_again : effect (record atomics { owners = Some 0 ∷ [] }) 0 10 (TryLock 0)
+    ≡ Goes (record atomics { owners = Some 0 ∷ [] }) (pos 0)
 try_lock_again = refl
 
-pub try_down : effect atomics 0 11 (TryDown 0) ≡ Goes (record atomics { numbers = pos 0 ∷ [] }) (pos 1)
+pub try_down : effect atomics 0 11 (TryDown 0)
+    ≡ Goes (record atomics { numbers = pos 0 ∷ [] }) (pos 1)
 try_down = refl
 
-pub try_down_again : effect (record atomics { numbers = pos 0 ∷ [] }) 0 12 (TryDown 0) ≡ Goes (record atomics { numbers = pos 0 ∷ [] }) (pos 0)
+pub try_down_again : effect (record atomics { numbers = pos 0 ∷ [] }) 0 12 (TryDown 0)
+    ≡ Goes (record atomics { numbers = pos 0 ∷ [] }) (pos 0)
 try_down_again = refl
 
 pub up : effect (record atomics { numbers = pos 0 ∷ [] }) 0 13 (Up 0) ≡ Goes atomics (pos 0)
@@ -118,7 +157,8 @@ up = refl
 
 -- a read-write lock that two readers hold has room for a third and none for a writer
 abbrev read_by_two : StoreState
-read_by_two = record bare { threads = 3; rwlocks = record { writer = None; reads = 1 ∷ 1 ∷ 0 ∷ [] } ∷ [] }
+read_by_two =
+    record bare { threads = 3; rwlocks = record { writer = None; reads = 1 ∷ 1 ∷ 0 ∷ [] } ∷ [] }
 
 pub no_writer_beside_readers : enabled read_by_two (others_ended 2) 2 (WrLock 0) ≡ false
 no_writer_beside_readers = refl

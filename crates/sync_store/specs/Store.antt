@@ -1,6 +1,7 @@
 -- What the threads of a test share, between two steps (POSIX threads' objects, as this project sees
 -- them).
-use Rattle.std.specs.Prelude.{ℕ, ℤ, pos, Bool, List, [], length, map, replicate, Option, None, slice_index_or, slice_set, nat_eq}
+use Rattle.std.specs.Prelude.{ℕ, ℤ, pos, Bool, List, [], length, map, replicate, Option, None}
+use Rattle.std.specs.Prelude.{slice_index_or, slice_set, nat_eq}
 use Rattle.std.specs.Set.{is_member}
 use Rattle.pct_ask.specs.declared.Deal.{Deal}
 

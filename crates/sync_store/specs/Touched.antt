@@ -2,9 +2,14 @@
 -- project).
 use Rattle.std.specs.Prelude.{◌≡◌, ◌≢◌, ℕ, ◌==◌, ◌||◌, Bool, false}
 use Rattle.pct_ask.specs.declared.Ask.{Ask}
-use Rattle.pct_ask.specs.declared.Ask.TheVariants.{Read, Write, Add, Cas, Lock, TryLock, Unlock, Release, Regain, Signal, Broadcast, Down, TryDown, Up, Arrive, Leave, Join, Yield, Check, Fault, Start, Begin, RdLock, WrLock, TryRdLock, TryWrLock, RwUnlock}
+use Rattle.pct_ask.specs.declared.Ask.TheVariants.{Read, Write, Add, Cas, Lock, TryLock, Unlock}
+use Rattle.pct_ask.specs.declared.Ask.TheVariants.{Release, Regain, Signal, Broadcast, Down}
+use Rattle.pct_ask.specs.declared.Ask.TheVariants.{TryDown, Up, Arrive, Leave, Join, Yield, Check}
+use Rattle.pct_ask.specs.declared.Ask.TheVariants.{Fault, Start, Begin, RdLock, WrLock, TryRdLock}
+use Rattle.pct_ask.specs.declared.Ask.TheVariants.{TryWrLock, RwUnlock}
 use Rattle.sync_store.specs.declared.touched.Touched.{Touched}
-use Rattle.sync_store.specs.declared.touched.Touched.TheVariants.{Nothing, Mutex, Cond, Sem, Barrier, Thread, RwLock}
+use Rattle.sync_store.specs.declared.touched.Touched.TheVariants.{Nothing, Mutex, Cond, Sem}
+use Rattle.sync_store.specs.declared.touched.Touched.TheVariants.{Barrier, Thread, RwLock}
 use Rattle.sync_store.specs.Store.{StoreState}
 use Rattle.sync_store.specs.Enabled.{enabled}
 

@@ -1,7 +1,8 @@
 -- What is known of each thread's next step, from the store and the next posts that are known, and
 -- how a run ends where nobody may go on (this project; an idle thread is one that nobody has
 -- started).
-use Rattle.std.specs.Prelude.{ℕ, Bool, true, false, ◌&&◌, not, if◌then◌else◌, List, [], ◌∷◌, map, Option, Some, None, is_none}
+use Rattle.std.specs.Prelude.{ℕ, Bool, true, false, ◌&&◌, not, if◌then◌else◌, List, [], ◌∷◌, map}
+use Rattle.std.specs.Prelude.{Option, Some, None, is_none}
 use Rattle.std.specs.Option.{option_map_or}
 use Rattle.std.specs.List.{filter_map, range_with_len}
 use Rattle.pct_ask.specs.declared.ask.Ask.{Ask}
@@ -14,7 +15,8 @@ use Rattle.sync_store.specs.declared.ready.Ready.TheVariants.{Yes, No, Unknown a
 use Rattle.sync_store.specs.Store.{StoreState, is_on}
 use Rattle.sync_store.specs.Ready.{readiness}
 use Rattle.policy_pick.specs.declared.chance.Chance.{Chance}
-use Rattle.policy_pick.specs.declared.chance.Chance.TheVariants.{Away, Ready as Goes, Blocked, Unknown, Ended}
+use Rattle.policy_pick.specs.declared.chance.Chance.TheVariants.{Away, Ready as Goes, Blocked}
+use Rattle.policy_pick.specs.declared.chance.Chance.TheVariants.{Unknown, Ended}
 
 -- each thread's next post, where it is known
 abbrev pub NextPosts : Type 0

@@ -8,7 +8,8 @@ use sync_store::Touched;
 
 /// The objects that an ask of a thread names. Where it names one, that is the second.
 pub fn named(thread: u32, ask: &Ask) -> (Touched, Touched)
-    ensures { (object : Touched) → names thread ask.now object ≡ (is_object result.0 object || is_object result.1 object) }
+    ensures { (object : Touched)
+        → names thread ask.now object ≡ (is_object result.0 object || is_object result.1 object) }
 {
     match *ask {
         Ask::Lock { mutex } | Ask::TryLock { mutex } | Ask::Unlock { mutex } => {

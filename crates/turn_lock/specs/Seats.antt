@@ -1,5 +1,6 @@
 -- How a seat is cut in two, and how two seats are made one (this project).
-use Rattle.std.specs.Prelude.{ℕ, Bool, true, false, ◌||◌, nat_lt, if◌then◌else◌, List, [], ◌∷◌, length, replicate, slice_set}
+use Rattle.std.specs.Prelude.{ℕ, Bool, true, false, ◌||◌, nat_lt, if◌then◌else◌, List, [], ◌∷◌}
+use Rattle.std.specs.Prelude.{length, replicate, slice_set}
 use Rattle.pct_ask.specs.declared.ask.Post.{Post}
 use Rattle.turn_book.specs.Posts.{source_of}
 use Rattle.turn_book.specs.Obeys.{settled}

@@ -1,11 +1,13 @@
 -- What a call makes of the book that it took, and what it leaves with its seat (this project).
-use Rattle.std.specs.Prelude.{◌≡◌, ◌≢◌, ◌<◌, ◌≤◌, ◌+◌, ℕ, Bool, true, false, List, [], ◌∷◌, ◌++◌, length, Option, Some, None, option_to_list, IsSome}
+use Rattle.std.specs.Prelude.{◌≡◌, ◌≢◌, ◌<◌, ◌≤◌, ◌+◌, ℕ, Bool, true, false, List, [], ◌∷◌, ◌++◌}
+use Rattle.std.specs.Prelude.{length, Option, Some, None, option_to_list, IsSome}
 use Rattle.pct_ask.specs.declared.ask.Post.{Post}
 use Rattle.pct_ask.specs.declared.event.Event.{Event}
 use Rattle.pct_ask.specs.declared.event.Standing.TheVariants as standings
 use Rattle.policy_pick.specs.declared.chance.Pick.TheVariants as picks
 use Rattle.sync_store.specs.Store.{sizes_of_deal}
-use Rattle.turn_book.specs.Told.{Told, PostIsInRange, standing_of, choice_of, IsPosted, IsAnswered, IsLawful, Within}
+use Rattle.turn_book.specs.Told.{Told, PostIsInRange, standing_of, choice_of, IsPosted, IsAnswered}
+use Rattle.turn_book.specs.Told.{IsLawful, Within}
 use Rattle.turn_book.specs.Answers.{IsBecause}
 use Rattle.turn_lock.specs.Seen.{Begins, SameOf, pairs_of, posted_by, owes_of}
 use Rattle.turn_lock.specs.Rule.{Has, Serves}
