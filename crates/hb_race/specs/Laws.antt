@@ -5,6 +5,7 @@ use Rattle.hb_race.specs.declared.race.Race.{Race}
 use Rattle.hb_race.specs.HappensBefore.{IsEdge, HappensBefore}
 use Rattle.hb_race.specs.Races.{AreRaces}
 
+-- what is related by a middle one is related
 abbrev pub IsTransitive : (ℕ → ℕ → Type 0) → Type 0
 IsTransitive relation =
     (first middle last : ℕ) → relation first middle → relation middle last → relation first last
