@@ -12,13 +12,12 @@ use Rattle.pct_ask.specs.declared.names.NameKind.{NameKind}
 use Rattle.pct_ask.specs.declared.names.NameKind.TheVariants as kinds
 use Rattle.script_tree.specs.Expressions.{register_word}
 use Rattle.std.proofs.lemmas.Bool.{le-leb, lt-ltb}
-use Rattle.script_tree.specs.Forms.{Cut, Meant, Thread, Yield, Assert, Set, If, While, kind_word, on_kind, into_kind, has_value, is_plain, tokens_of_form, IsOf, Means}
+use Rattle.script_tree.specs.Forms.{Cut, Meant, Thread, Yield, Assert, Set, If, While, kind_word, on_kind, into_kind, has_value, is_plain, value_in, tokens_of_form, IsOf, Means}
 use Rattle.script_tree.specs.Lines.{version_of, begins, named, names_of, opens, depth, opener, threads_in}
 use Rattle.script_tree.specs.Faults as faults
 use Rattle.script_tree.specs.Faults.{Place, earlier, is_declared}
 use Rattle.script_parse.specs.Part.{Open, Part}
 use Rattle.script_parse.specs.Part as parts
-use Rattle.script_parse.specs.Values.{first_of}
 use Rattle.script_parse.specs.Reading as reading
 use Rattle.script_parse.specs.Reading.{Finder, is_empty, is_if, is_in_if, taken}
 use Rattle.script_parse.proofs.Meanings.{by_meaning}
@@ -99,7 +98,7 @@ unfolding open_opening
 taken_stands version part find n lines s =
     by_meaning (λ cut meant. IsOf version cut → reading.closes_nothing part meant ≡ false → Stands (taken part find n meant) (lines ++ tokens_of_form cut ∷ [])) (record {
       plain = λ kind name of c. plain_stands part lines kind name of.0 s;
-      valued = λ kind name value of c. valued_stands part lines kind name (unwrap_or (first_of value) (pos 0)) (Symbol (codes "=") ∷ value) of.0 s;
+      valued = λ kind name value of c. valued_stands part lines kind name (unwrap_or (value_in kind value) (pos 0)) (Symbol (codes "=") ∷ value) of.0 s;
       thread = λ name of c. opens_stands part (taken part find n (Thread name)) lines (Word (codes "thread") ∷ Word name ∷ []) (open_opening (parts.Thread n)) refl refl refl refl (λ kind. declared_names part lines kinds.Thread kind name [] s) refl s;
       on = λ verb object of c. said_stands part _ lines _ (on_quiet verb (Word object ∷ [])) s;
       into = λ verb reg object of c. said_stands part _ lines _ (into_quiet verb _) s;

@@ -13,7 +13,7 @@ use Rattle.script_parse.specs.Reading.{Finder, is_empty, form_fault, taken, toke
 use Rattle.script_parse.specs.Saying.{form_in}
 use Rattle.script_parse.proofs.ExpressionWhole.{exact}
 use Rattle.script_parse.proofs.FormWhole.{form_read}
-use Rattle.script_parse.proofs.NumberLaws.{line_numerals, range_same, are_numerals}
+use Rattle.script_parse.proofs.NumberLaws.{range_same}
 use Rattle.script_parse.proofs.Standing.{Stands, depth_is}
 use Rattle.script_parse.proofs.Agreeing.{taken_stands, leaves_open_same, lacks_thread_same}
 use Rattle.script_parse.proofs.Runs.{IsFree}
@@ -57,11 +57,11 @@ module _ (part : Part) (find : Finder) (n : ℕ) (last : Bool) (lines : List (Li
   none_some : (m : Meant) → None ≡ Some m → ⊥
   none_some m e = absurd cc
 
-  in_range : (tokens : List Token) → tokens_of text ≡ Some tokens → tokens_in text ≡ tokens → reading.is_out_of_range tokens meant ≡ false
-  in_range tokens e here =
+  in_range : (tokens : List Token) → tokens_in text ≡ tokens → reading.is_out_of_range tokens meant ≡ false
+  in_range tokens here =
       let form = formed tokens here in
       subst (λ (ts : List Token). reading.is_out_of_range ts meant ≡ false) (sym form.spelled)
-      (sym (range_same part.version says.0 meant form.means form.of (subst (λ (ts : List Token). are_numerals ts ≡ true) form.spelled (line_numerals text tokens e))) ∙ says.2)
+      (sym (range_same says.0 meant form.means) ∙ says.2)
 
   pub said_taken : (tokens : Option (List Token)) → tokens_of text ≡ tokens → tokens_taken exact part find n last tokens ≡ Ok (taken part find n meant)
   said_taken None e = absurd (none_some meant (read_form [] (ap (λ (ts : Option (List Token)). unwrap_or ts []) e)))
@@ -69,4 +69,4 @@ module _ (part : Part) (find : Finder) (n : ℕ) (last : Bool) (lines : List (Li
   said_taken (Some (token ∷ tokens)) e =
       let here : tokens_in text ≡ token ∷ tokens = ap (λ (ts : Option (List Token)). unwrap_or ts []) e in
       let form = formed (token ∷ tokens) here in
-      rw (read_form (token ∷ tokens) here, no_form_fault part.version part find n last lines s says.0 meant form.means form.of free whole (token ∷ tokens) (in_range (token ∷ tokens) e here)) refl
+      rw (read_form (token ∷ tokens) here, no_form_fault part.version part find n last lines s says.0 meant form.means form.of free whole (token ∷ tokens) (in_range (token ∷ tokens) here)) refl

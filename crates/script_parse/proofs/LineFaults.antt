@@ -19,7 +19,7 @@ use Rattle.script_parse.proofs.FormWhole.{form_read}
 use Rattle.script_parse.proofs.FirstKinds.{Tells}
 use Rattle.script_parse.proofs.Standing.{Lines, Stands}
 use Rattle.script_parse.proofs.Agreeing.{may_stand_same, too_many_same, closes_nothing_same, found, uses_unknown_same, declares_again_same, leaves_open_same, lacks_thread_same}
-use Rattle.script_parse.proofs.NumberLaws.{are_numerals, range_same}
+use Rattle.script_parse.proofs.NumberLaws.{range_same}
 
 and_left : (a b : Bool) → a ≡ true → (a && b) ≡ false → b ≡ false
 and_left true b h e = e
@@ -56,7 +56,7 @@ both_hold false b e h k = clash h
 
 -- ---- a line below the header, of some form
 
-module _ (part : Part) (place : Place) (s : Stands part (earlier place)) (below : IsBelow place) (cut : Cut) (meant : Meant) (is_form : IsForm part.version (tokens_in place.line) cut meant) (numerals : are_numerals (tokens_in place.line) ≡ true) where
+module _ (part : Part) (place : Place) (s : Stands part (earlier place)) (below : IsBelow place) (cut : Cut) (meant : Meant) (is_form : IsForm part.version (tokens_in place.line) cut meant) where
   spoken_version : version_of (earlier place) ≡ part.version
   spoken_version = ap version_of (sym (append-nil (earlier place))) ∙ s.version []
 
@@ -120,7 +120,7 @@ module _ (part : Part) (place : Place) (s : Stands part (earlier place)) (below 
 
   pub tells_range : Tells (reading.may_stand part meant && reading.is_out_of_range (tokens_in place.line) meant) (faults.NumberRange place)
   tells_range = tells_if ranges.is_out_of_range (reading.is_out_of_range (tokens_in place.line)) (λ c m means of spelled.
-      range_same part.version c m means of (subst (λ (ts : List Token). are_numerals ts ≡ true) spelled numerals) ∙ ap (λ (ts : List Token). reading.is_out_of_range ts m) (sym spelled))
+      range_same c m means ∙ ap (λ (ts : List Token). reading.is_out_of_range ts m) (sym spelled))
 
   pub tells_stray : Tells (reading.may_stand part meant && reading.closes_nothing part meant) (faults.StrayEnd place)
   tells_stray = tells_if (faults.closes_nothing (earlier place)) (reading.closes_nothing part) (λ c m means of spelled. closes_nothing_same part (earlier place) s c m means)

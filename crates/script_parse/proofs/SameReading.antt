@@ -15,7 +15,7 @@ use Rattle.script_tree.specs.ScriptText.{ScriptText}
 use Rattle.script_tree.specs.Trees.{Expression}
 use Rattle.script_tree.specs.Forms.{OnVerb, IntoVerb, Meant, Plain, Valued, Thread, On, Into, Write, Add, Cas, Wait, Yield, Assert, Set, If, While, End, Else}
 use Rattle.script_parse.specs.Numbers.{saturated}
-use Rattle.script_parse.specs.Values.{has_great, is_great}
+use Rattle.script_tree.specs.Ranges.{has_great, is_great}
 use Rattle.script_parse.specs.Registers.{register_in}
 use Rattle.script_parse.specs.Machine.{expression_in}
 use Rattle.script_parse.specs.Words.{on_verb_in, into_verb_in, kind_in}

@@ -14,13 +14,13 @@ use Rattle.script_tree.specs.ScriptText.{ScriptText}
 use Rattle.script_tree.specs.declared.fault.ScriptFault.{ScriptFault}
 use Rattle.script_tree.specs.declared.fault.ScriptFault.TheVariants.{NotUtf8, LineTooLong, TooManyLines, BadHeader, BadToken, BadStatement, UnknownName, TwiceNamed, NumberRange, NoEnd, StrayEnd, NoThread, TooMany}
 use Rattle.script_tree.specs.Fitting.{most_threads}
-use Rattle.script_tree.specs.Forms.{Meant, OnVerb, IntoVerb, on_kind, into_kind}
+use Rattle.script_tree.specs.Forms.{Meant, OnVerb, IntoVerb, on_kind, into_kind, value_in}
 use Rattle.script_tree.specs.Forms as forms
 use Rattle.script_tree.specs.Lines.{version_in, threads_in}
+use Rattle.script_tree.specs.Ranges.{value_fits, has_great}
 use Rattle.script_tree.specs.Faults.{are_blank}
 use Rattle.script_parse.specs.Part.{Opening, Thread, If, Else, While, Open, Part}
 use Rattle.script_parse.specs.Saying.{form_in}
-use Rattle.script_parse.specs.Values.{first_of, fits, has_great}
 
 -- ---- what a form asks of what was read
 
@@ -67,7 +67,7 @@ declares_again part (forms.Thread name) = is_among name (all_names part.names)
 declares_again part form = false
 
 abbrev pub is_out_of_range : List Token → Meant → Bool
-is_out_of_range tokens (forms.Valued kind name value) = not (fits kind value)
+is_out_of_range tokens (forms.Valued kind name value) = not (value_fits kind value)
 is_out_of_range tokens form = has_great tokens
 
 -- blocks are open behind the line
@@ -210,7 +210,7 @@ named part kind name = record part { names = with_name kind name part.names }
 abbrev pub taken : Part → Finder → ℕ → Meant → Part
 taken part find line (forms.Plain kind name) = named part kind name
 taken part find line (forms.Valued kind name value) =
-    with_value kind (unwrap_or (first_of value) (pos 0)) (named part kind name)
+    with_value kind (unwrap_or (value_in kind value) (pos 0)) (named part kind name)
 taken part find line (forms.Thread name) = opened (named part kinds.Thread name) (Thread line)
 taken part find line (forms.If test) = opened part (If line test)
 taken part find line (forms.While test) = opened part (While line test)

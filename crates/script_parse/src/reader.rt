@@ -11,13 +11,14 @@ ghost use Rattle.script_parse.specs.Ahead.{place_ahead};
 ghost use Rattle.script_parse.specs.Seen.{all_seen};
 ghost use Rattle.script_parse.specs.SeenForms.{seen_form};
 ghost use Rattle.script_parse.specs.SeenParts.{seen_opening, seen_reader};
-ghost use Rattle.script_parse.specs.Lawful.{names_lawful};
+ghost use Rattle.script_parse.specs.Lawful.{names_lawful, value_lawful};
 ghost use Rattle.script_parse.specs.Reading as reading;
 
 use crate::ahead::Ahead;
 use crate::blocks::{OpenBlock, Opening, depth, is_closed, is_in_if, open_block, push_statement};
 use crate::form::Form;
-use crate::range::{is_out_of_range, value_in};
+use crate::number::first_value;
+use crate::range::is_out_of_range;
 use crate::statement::{into_kind, on_kind, place_in, statement_on};
 use crate::token::Token;
 use pct_ask::{NameKind, Names, NumberList};
@@ -212,6 +213,7 @@ impl Reader {
         form: Form<'_>,
     ) -> Result<Reader, NoMemory>
         requires lawful { names_lawful (seen_form form) ≡ true }
+        requires fits { value_lawful (seen_form form) ≡ true }
         requires fresh { reading.declares_again (seen_reader self) (seen_form form) ≡ false }
         requires room { reading.is_too_many (seen_reader self) (seen_form form) ≡ false }
         ensures { IfOk result (λ r.
@@ -227,7 +229,7 @@ impl Reader {
                 minus,
                 digits,
             } => {
-                let value = value_in(minus, digits).unwrap_or(0);
+                let value = first_value(kind, minus, digits);
                 self.with_name(alloc, kind, name)?.with_value(kind, value)
             }
             Form::Thread { name } => self
