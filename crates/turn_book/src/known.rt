@@ -14,7 +14,7 @@ ghost use Rattle.turn_book.specs.Told.{PostIsInRange, standing_by};
 ghost use Rattle.turn_book.specs.Board.{AreInRange, ask_of_post, answer_of, verdict_of, concerns};
 ghost use Rattle.turn_book.specs.Board.{listed};
 
-use crate::objects::{is_object, joins, named};
+use crate::objects::{is_named, joins};
 use pct_ask::{Ask, Event, Outcome, Post, Standing};
 use policy_pick::Chance;
 use sync_store::{Applied, Ready, Stepped, Store, Touched};
@@ -138,10 +138,7 @@ fn concerns(thread: u32, touched: Touched, other: u32, post: Option<Post>) -> bo
     }
     match asked(post) {
         None => false,
-        Some((_, ask)) => {
-            let (first, second) = named(other, &ask);
-            is_object(first, touched) || is_object(second, touched) || joins(thread, &ask)
-        }
+        Some((_, ask)) => is_named(other, &ask, touched) || joins(thread, &ask),
     }
 }
 
