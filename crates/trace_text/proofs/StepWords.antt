@@ -96,7 +96,7 @@ abbrev pub step_words : List ℕ → List ℕ → List ℕ → List (List ℕ) �
 step_words number thread line ask sign answer = number ∷ thread ∷ line ∷ (ask ++ sign ∷ answer ∷ [])
 
 -- how the words are read: its ask by itself
-read-words : (names : NameLists) (version : ℕ) (number thread line : List ℕ) (ask : List (List ℕ)) (sign answer : List ℕ) → HasFewWords ask → step_of_words names version (step_words number thread line ask sign answer) ≡ step_of names number thread line (ask_in names version ask) sign answer
+pub read-words : (names : NameLists) (version : ℕ) (number thread line : List ℕ) (ask : List (List ℕ)) (sign answer : List ℕ) → HasFewWords ask → step_of_words names version (step_words number thread line ask sign answer) ≡ step_of names number thread line (ask_in names version ask) sign answer
 read-words names version number thread line [] sign answer few = absurd few
 read-words names version number thread line (a ∷ []) sign answer few = refl
 read-words names version number thread line (a ∷ b ∷ []) sign answer few = refl

@@ -5,6 +5,7 @@ pub mod Numbers
 pub mod Asks
 pub mod StepLines
 pub mod Heads
+pub mod Forms
 pub mod Faults
 pub mod Answers
 pub mod Reading
