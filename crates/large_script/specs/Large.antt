@@ -1,26 +1,32 @@
 -- The large script of so many pieces a thread: eight threads that add one to eight variables, and a
 -- last one that adds the variables up (this project).
-use Rattle.std.specs.Prelude.{ℕ, zero, suc, pos, ◌+◌, ◌*◌, ◌%◌, ◌==◌, if◌then◌else◌, List, [], ◌∷◌, ◌++◌, codes}
+use Rattle.std.specs.Prelude.{ℕ, zero, suc, pos, ◌+◌, ◌*◌, ◌%◌, ◌==◌, if◌then◌else◌, List, [], ◌∷◌}
+use Rattle.std.specs.Prelude.{◌++◌, codes}
 use Rattle.pct_ask.specs.NameLists.{NameLists, no_names}
 use Rattle.script_tree.specs.declared.expr.Op.TheVariants as ops
-use Rattle.script_tree.specs.Trees.{Expression, Number, Reg, Two, Statement, closed_at, Read, Write, Lock, Unlock, Join, Yield, Assert, Set}
+use Rattle.script_tree.specs.Trees.{Expression, Number, Reg, Two, Statement, closed_at, Read, Write}
+use Rattle.script_tree.specs.Trees.{Lock, Unlock, Join, Yield, Assert, Set}
 use Rattle.script_tree.specs.ScriptText.{Thread, ScriptText}
 
+-- the eight threads that add
 abbrev pub worker_names : List (List ℕ)
 worker_names =
     codes "T0" ∷ codes "T1" ∷ codes "T2" ∷ codes "T3" ∷ codes "T4" ∷ codes "T5" ∷ codes "T6"
     ∷ codes "T7" ∷ []
 
+-- the eight variables that they add to
 abbrev pub var_names : List (List ℕ)
 var_names =
     codes "v0" ∷ codes "v1" ∷ codes "v2" ∷ codes "v3" ∷ codes "v4" ∷ codes "v5" ∷ codes "v6"
     ∷ codes "v7" ∷ []
 
+-- the mutexes, one for each variable
 abbrev pub mutex_names : List (List ℕ)
 mutex_names =
     codes "m0" ∷ codes "m1" ∷ codes "m2" ∷ codes "m3" ∷ codes "m4" ∷ codes "m5" ∷ codes "m6"
     ∷ codes "m7" ∷ []
 
+-- the names of the script: its last thread is `Z`
 abbrev pub large_names : NameLists
 large_names = record no_names {
   threads = worker_names ++ codes "Z" ∷ [];
@@ -75,6 +81,7 @@ sums (suc var) = sums var ++ Read unprinted 0 var ∷ Set unprinted 1 (plus (Reg
 abbrev pub is_whole : ℕ → Statement
 is_whole many = Assert unprinted (Two ops.Eq (Reg 1) (Number (pos (8 * many))))
 
+-- a thread of these statements, before it is printed
 abbrev pub thread_of : List Statement → Thread
 thread_of statements = record { line = unprinted; body = closed_at unprinted statements }
 
@@ -87,6 +94,7 @@ workers many (suc thread) = workers many thread ++ thread_of (pieces thread many
 abbrev pub checks : ℕ → List Statement
 checks many = joins 8 ++ sums 8 ++ is_whole many ∷ []
 
+-- the script with so many pieces in each of the eight threads, where every variable begins with 0
 abbrev pub large_script : ℕ → ScriptText
 large_script many = record {
   version = 1;

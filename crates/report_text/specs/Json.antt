@@ -24,11 +24,13 @@ member_text key value = string_text key ++ 58 ∷ value
 abbrev pub object_text : List (List ℕ) → List ℕ
 object_text members = 123 ∷ (join_with_byte 44 members ++ 125 ∷ [])
 
+-- a run as an array: its seed, its steps and how it ended
 abbrev pub row_text : NameLists → Row → List ℕ
 row_text names row =
     array_text
     (decimal row.seed ∷ decimal row.steps ∷ string_text (verdict_text names row.verdict) ∷ [])
 
+-- a failure as an object: how often it came, its first seed, its fewest steps and what it is
 abbrev pub group_text : NameLists → Group → List ℕ
 group_text names group =
     object_text
@@ -37,6 +39,8 @@ group_text names group =
     ∷ member_text (codes "steps") (decimal group.steps)
     ∷ member_text (codes "verdict") (string_text (verdict_text names group.verdict)) ∷ [])
 
+-- the report as an object, with its keys in alphabetical order: what the campaign was run with,
+-- its failures and its runs
 abbrev pub report_object : Frame → List Row → List Group → NameLists → List ℕ
 report_object frame rows groups names =
     object_text
@@ -47,5 +51,6 @@ report_object frame rows groups names =
     ∷ member_text (codes "steps") (decimal frame.steps)
     ∷ member_text (codes "threads") (decimal frame.threads) ∷ [])
 
+-- the report in one line, which ends with LF
 abbrev pub json_of : Frame → List Row → List Group → NameLists → List ℕ
 json_of frame rows groups names = report_object frame rows groups names ++ 10 ∷ []

@@ -1,4 +1,4 @@
--- What the body of a thread posts.
+-- What the body of a thread posts (this project).
 use Rattle.std.specs.Prelude.{ℤ, List}
 use Rattle.pct_ask.specs.declared.ask.Post.{Post}
 use Rattle.script_code.specs.Operations.{Operation}

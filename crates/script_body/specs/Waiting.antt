@@ -1,12 +1,14 @@
 -- What the body of a thread posts that stands somewhere in its code (this project).
-use Rattle.std.specs.Prelude.{◌≡◌, ◌<◌, ℤ, Bool, true, false, not, if◌then◌else◌, Option, Some, None, List, [], ◌∷◌, length}
+use Rattle.std.specs.Prelude.{◌≡◌, ◌<◌, ℤ, Bool, true, false, not, if◌then◌else◌, Option, Some}
+use Rattle.std.specs.Prelude.{None, List, [], ◌∷◌, length}
 use Rattle.pct_ask.specs.declared.ask.Ask.{Ask}
 use Rattle.pct_ask.specs.declared.ask.Post.{Post}
 use Rattle.script_tree.specs.Machine.{Act, Moves, Asks, Ends, Stand, stand}
 use Rattle.script_tree.specs.Posts.{most_moves}
 use Rattle.script_code.specs.Operations.{Operation}
 use Rattle.script_code.specs.Placed.{last_place}
-use Rattle.script_code.specs.FlatPosts.{Spot, spot, last_spot, is_fault, flat_head, flat_pending_from}
+use Rattle.script_code.specs.FlatPosts.{Spot, spot, last_spot, is_fault, flat_head}
+use Rattle.script_code.specs.FlatPosts.{flat_pending_from}
 
 -- a body waits at an ask other than a fault, or at its end
 abbrev pub is_waiting : Act Spot → Bool
@@ -20,6 +22,7 @@ after_act (Asks ask after) last answer = after answer
 after_act (Moves next) last answer = last
 after_act Ends last answer = last
 
+-- where a thread that waits at a spot goes on after this answer
 abbrev pub spot_after : List Operation → Spot → ℤ → Spot
 spot_after code at answer = after_act (flat_head code at).1 (last_spot code) answer
 

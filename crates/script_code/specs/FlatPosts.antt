@@ -1,5 +1,6 @@
 -- What a thread posts that runs flat code (this project).
-use Rattle.std.specs.Prelude.{ℕ, ℤ, pos, Bool, true, false, if◌then◌else◌, List, [], ◌∷◌, replicate, Option, Some, None, Ok, Err, slice_get}
+use Rattle.std.specs.Prelude.{ℕ, ℤ, pos, Bool, true, false, if◌then◌else◌, List, [], ◌∷◌, replicate}
+use Rattle.std.specs.Prelude.{Option, Some, None, Ok, Err, slice_get}
 use Rattle.pct_ask.specs.declared.ask.Ask.{Ask}
 use Rattle.pct_ask.specs.declared.ask.Ask.TheVariants as asks
 use Rattle.pct_ask.specs.declared.ask.Post.{Post}
@@ -18,9 +19,11 @@ pub record Spot : Type 0 where
   pub registers : List ℤ
   pub halfway : Bool
 
+-- before the operation at this place, with these numbers in the registers
 abbrev pub spot : ℕ → List ℤ → Spot
 spot place registers = record { place = place; registers = registers; halfway = false }
 
+-- where a thread begins: at the first operation, with 0 in each register
 abbrev pub first_spot : Spot
 first_spot = spot 0 (replicate 16 (pos 0))
 
@@ -42,6 +45,7 @@ spot_after place next (s ∷ rest) registers halfway = record {
   halfway = halfway;
 }
 
+-- where a thread goes on in its code, by the state in which a statement that stood alone leaves it
 abbrev pub after_lone : (place next : ℕ) → State → Spot
 after_lone place next state = spot_after place next state.rest state.registers state.halfway
 
@@ -75,6 +79,7 @@ flat_act (Some (End line)) code at = (line, Ends)
 flat_act (Some (Begin line next)) code at =
     (line, Asks asks.Begin (λ answer. spot next at.registers))
 
+-- what comes first at a spot of the code, with its line
 abbrev pub flat_head : List Operation → Spot → ℕ × Act Spot
 flat_head code at = flat_act (slice_get code at.place) code at
 

@@ -1,4 +1,4 @@
--- How the code of a script is seen.
+-- How the code of a script is seen (this project).
 use Rattle.std.specs.Prelude.{List}
 use Rattle.script_code.specs.Operations.{Operation, listings}
 use Rattle.script_code.specs.declared.code.Code.{Code}

@@ -12,12 +12,14 @@ pub data Operation : Type 0 where
   End : (line : ℕ) → Operation
   Begin : (line next : ℕ) → Operation
 
+-- an operation of the code, with its statement or its test as a tree
 abbrev pub operation : Flat → Operation
 operation (flats.Do stmt next) = Do (statement stmt) next
 operation (flats.Test line test next otherwise) = Test line (expression test) next otherwise
 operation (flats.End line) = End line
 operation (flats.Begin line next) = Begin line next
 
+-- the operations of one thread, in order
 abbrev pub operations : List Flat → List Operation
 operations flats = map operation flats
 

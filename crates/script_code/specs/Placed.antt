@@ -1,7 +1,9 @@
 -- What holds of all flat code (this project).
-use Rattle.std.specs.Prelude.{ℕ, ◌-◌, ◌^◌, ◌&&◌, Bool, true, false, nat_lt, List, [], length, Option, Some, slice_get, slice_index_or}
+use Rattle.std.specs.Prelude.{ℕ, ◌-◌, ◌^◌, ◌&&◌, Bool, true, false, nat_lt, List, [], length}
+use Rattle.std.specs.Prelude.{Option, Some, slice_get, slice_index_or}
 use Rattle.std.specs.List.{list_all}
-use Rattle.script_tree.specs.Trees.{Statement, Read, Write, Add, Cas, TryLock, TryDown, Arrive, Assert, Set, If, IfElse, While, TryRdLock, TryWrLock}
+use Rattle.script_tree.specs.Trees.{Statement, Read, Write, Add, Cas, TryLock, TryDown, Arrive}
+use Rattle.script_tree.specs.Trees.{Assert, Set, If, IfElse, While, TryRdLock, TryWrLock}
 use Rattle.script_tree.specs.Fitting.{reg_fits, expression_fits}
 use Rattle.script_code.specs.Operations.{Operation, Do, Test, End, Begin}
 
@@ -37,6 +39,7 @@ is_placed n (Test line test next otherwise) =
 is_placed n (End line) = true
 is_placed n (Begin line next) = nat_lt next n
 
+-- an operation with which its thread ends
 abbrev pub is_end : Option Operation → Bool
 is_end (Some (End line)) = true
 is_end op = false

@@ -24,9 +24,11 @@ pub record IsOnlyFault (bytes : List ℕ) (n : ℕ) (kind : ScriptFault) : Type 
   pub only : (m : ℕ) (other : ScriptFault) → IsFault bytes m other → (n ≡ m) × (kind ≡ other)
   pub no_script : (script : ScriptText) → ¬ Spells bytes script
 
+-- the text spells just one script, and has no fault
 abbrev pub SpellsOne : List ℕ → Type 0
 SpellsOne bytes = (script : ScriptText) × IsOnlyScript bytes script
 
+-- the text has just one first fault, and spells no script
 abbrev pub FailsOnce : List ℕ → Type 0
 FailsOnce bytes = (n : ℕ) × (kind : ScriptFault) × IsOnlyFault bytes n kind
 

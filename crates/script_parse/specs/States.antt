@@ -1,4 +1,4 @@
--- How what the code keeps between lines stands for what was read.
+-- How what the code keeps between lines stands for what was read (this project).
 use Rattle.std.specs.Prelude.{◌≡◌, ℕ, List, Option, Some, None, Result, Ok, Err}
 use Rattle.script_tree.specs.ScriptText.{ScriptText}
 use Rattle.script_tree.specs.ScriptSeen.{text}

@@ -1,4 +1,4 @@
--- What the threads of a script share.
+-- What the threads of a script share (this project).
 use Rattle.std.specs.Prelude.{◌≡◌, length}
 use Rattle.pct_ask.specs.declared.deal.Deal.{Deal}
 use Rattle.script_tree.specs.ScriptText.{ScriptText}

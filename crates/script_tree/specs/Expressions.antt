@@ -1,6 +1,7 @@
 -- Expressions, as a relation between tokens and trees by the strength of operators (the levels are
 -- C's; a comparison doesn't chain, which is this project's choice).
-use Rattle.std.specs.Prelude.{ℕ, pos, ◌+◌, ◌<◌, ◌==◌, if◌then◌else◌, List, [], ◌∷◌, ◌++◌, codes, slice_index_or}
+use Rattle.std.specs.Prelude.{ℕ, pos, ◌+◌, ◌<◌, ◌==◌, if◌then◌else◌, List, [], ◌∷◌, ◌++◌, codes}
+use Rattle.std.specs.Prelude.{slice_index_or}
 use Rattle.std.specs.Str.Parse.{digits_value}
 use Rattle.pct_ask.specs.Words.{registers}
 use Rattle.pct_ask.specs.Tokens.{Token, Word, Number, Symbol}
@@ -9,6 +10,7 @@ use Rattle.script_tree.specs.declared.expr.Op.TheVariants as ops
 use Rattle.script_tree.specs.Trees.{Expression}
 use Rattle.script_tree.specs.Trees as trees
 
+-- the symbol that an operator is written with
 abbrev pub signs_of : Op → List ℕ
 signs_of ops.Or = codes "||"
 signs_of ops.And = codes "&&"

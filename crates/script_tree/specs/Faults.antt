@@ -1,6 +1,7 @@
 -- The first faulty line of a text and what is wrong with it: for each kind of fault, which lines
 -- have it (this project).
-use Rattle.std.specs.Prelude.{◌≡◌, ℕ, ◌+◌, ◌<◌, ◌≤◌, ◌⊎◌, ◌==◌, ◌&&◌, nat_le, Bool, true, false, not, List, [], ◌∷◌, ◌++◌, length, map, None, codes, reverse}
+use Rattle.std.specs.Prelude.{◌≡◌, ℕ, ◌+◌, ◌<◌, ◌≤◌, ◌⊎◌, ◌==◌, ◌&&◌, nat_le, Bool, true, false}
+use Rattle.std.specs.Prelude.{not, List, [], ◌∷◌, ◌++◌, length, map, None, codes, reverse}
 use Rattle.std.specs.List.{list_all}
 use Rattle.std.specs.Str.{is_utf8}
 use Rattle.pct_ask.specs.Lines.{lines_of}
@@ -10,10 +11,12 @@ use Rattle.pct_ask.specs.declared.names.NameKind.{NameKind}
 use Rattle.pct_ask.specs.declared.names.NameKind.TheVariants as kinds
 use Rattle.script_tree.specs.declared.fault.ScriptFault.{ScriptFault}
 use Rattle.script_tree.specs.declared.fault.ScriptFault.TheVariants as faults
-use Rattle.script_tree.specs.Forms.{Cut, Meant, Plain, Valued, Thread, On, Into, Write, Add, Cas, Wait, If, While, End, Else, IsForm, on_kind, into_kind}
+use Rattle.script_tree.specs.Forms.{Cut, Meant, Plain, Valued, Thread, On, Into, Write, Add, Cas}
+use Rattle.script_tree.specs.Forms.{Wait, If, While, End, Else, IsForm, on_kind, into_kind}
 use Rattle.script_tree.specs.Ranges.{is_out_of_range}
 use Rattle.script_tree.specs.Fitting.{most_threads}
-use Rattle.script_tree.specs.Lines.{tokens_in, is_blank_line, version_in, version_of, begins, names_of, depth, opener, threads_in}
+use Rattle.script_tree.specs.Lines.{tokens_in, is_blank_line, version_in, version_of, begins}
+use Rattle.script_tree.specs.Lines.{names_of, depth, opener, threads_in}
 
 -- a line in its text, with the lines before it and those after it
 pub record Place : Type 0 where
@@ -25,17 +28,21 @@ pub record Place : Type 0 where
 abbrev pub earlier : Place → List (List Token)
 earlier place = map tokens_in place.before
 
+-- each of these lines has only space, tab and CR, and perhaps a comment
 abbrev pub are_blank : List (List ℕ) → Bool
 are_blank lines = list_all is_blank_line lines
 
+-- no line comes after it
 abbrev pub is_last : Place → Type 0
 is_last place = place.after ≡ []
 
 -- ---- where a form may stand
 
+-- one of these lines begins a thread
 abbrev pub has_thread : List (List Token) → Bool
 has_thread lines = not (length (names_of kinds.Thread lines) == 0)
 
+-- a block is open after these lines: a thread, an `if` or a `while`
 abbrev pub is_inside : List (List Token) → Bool
 is_inside lines = nat_le 1 (depth lines)
 
@@ -122,12 +129,15 @@ is_too_many lines form = false
 
 -- ---- the kinds of fault
 
+-- its bytes aren't text in UTF-8
 abbrev pub NotUtf8 : Place → Type 0
 NotUtf8 place = is_utf8 place.line ≡ false
 
+-- it has more than 256 bytes, its LF not counted
 abbrev pub LineTooLong : Place → Type 0
 LineTooLong place = 256 < length place.line
 
+-- at least 4,096 lines stand before it
 abbrev pub TooManyLines : Place → Type 0
 TooManyLines place = 4096 ≤ length place.before
 
@@ -139,34 +149,45 @@ BadHeader place =
     × (version_in (tokens_in place.line) ≡ None))
     ⊎ ((place.before ≡ []) × (are_blank (place.line ∷ place.after) ≡ true))
 
+-- it can't be cut into words, numbers and symbols
 abbrev pub BadToken : Place → Type 0
 BadToken place = tokens_of place.line ≡ None
 
+-- it stands below the header and isn't blank, but it has no form that its version has and that may
+-- stand there
 abbrev pub BadStatement : Place → Type 0
 BadStatement place = IsBelow place × ((cut : Cut) (meant : Meant) → ¬ HasForm place cut meant)
 
+-- it has a form, with a name that isn't declared with the kind that is needed
 abbrev pub UnknownName : Place → Type 0
 UnknownName place = HasFormWith (uses_unknown place) place
 
+-- it declares a name that a line before declares, of whatever kind
 abbrev pub TwiceNamed : Place → Type 0
 TwiceNamed place = HasFormWith (declares_again place) place
 
+-- it has a form, in which a first value or another number is out of range
 abbrev pub NumberRange : Place → Type 0
 NumberRange place = HasFormWith is_out_of_range place
 
+-- it is the last line, and a block is open after it
 abbrev pub NoEnd : Place → Type 0
 NoEnd place = is_last place × (1 ≤ depth (earlier place ++ tokens_in place.line ∷ []))
 
+-- it is an `end` with no open block, or an `else` with no `if` that it could belong to
 abbrev pub StrayEnd : Place → Type 0
 StrayEnd place = HasFormWith (closes_nothing (earlier place)) place
 
+-- it is the last line, and no line of the text begins a thread
 abbrev pub NoThread : Place → Type 0
 NoThread place =
     is_last place × (names_of kinds.Thread (earlier place ++ tokens_in place.line ∷ []) ≡ [])
 
+-- it begins one thread or nested block more than a script may have, or declares such an object
 abbrev pub TooMany : Place → Type 0
 TooMany place = HasFormWith (is_too_many (earlier place)) place
 
+-- the line has a fault of this kind
 abbrev pub IsFaulty : ScriptFault → Place → Type 0
 IsFaulty faults.NotUtf8 = NotUtf8
 IsFaulty faults.LineTooLong = LineTooLong

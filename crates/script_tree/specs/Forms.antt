@@ -1,5 +1,6 @@
 -- The forms that a line may have, each with its tokens (this project).
-use Rattle.std.specs.Prelude.{◌≡◌, ℕ, ℤ, pos, neg_ℤ, ◌<◌, ◌≤◌, Bool, true, false, if◌then◌else◌, List, [], ◌∷◌, ◌++◌, Option, Some, None, is_some, codes}
+use Rattle.std.specs.Prelude.{◌≡◌, ℕ, ℤ, pos, neg_ℤ, ◌<◌, ◌≤◌, Bool, true, false, if◌then◌else◌}
+use Rattle.std.specs.Prelude.{List, [], ◌∷◌, ◌++◌, Option, Some, None, is_some, codes}
 use Rattle.std.specs.Str.{bytes_eq}
 use Rattle.std.specs.Str.Parse.{digits_value}
 use Rattle.pct_ask.specs.Words.{is_name}
@@ -60,6 +61,7 @@ Cut = Form (List Token)
 abbrev pub Meant : Type 0
 Meant = Form Expression
 
+-- the keyword of a statement on one object
 abbrev pub on_word : OnVerb → List ℕ
 on_word Lock = codes "lock"
 on_word Unlock = codes "unlock"
@@ -73,6 +75,7 @@ on_word RdLock = codes "rdlock"
 on_word WrLock = codes "wrlock"
 on_word RwUnlock = codes "rwunlock"
 
+-- the kind of the one object, or thread, that the statement names
 abbrev pub on_kind : OnVerb → NameKind
 on_kind Lock = kinds.Mutex
 on_kind Unlock = kinds.Mutex
@@ -86,6 +89,7 @@ on_kind RdLock = kinds.RwLock
 on_kind WrLock = kinds.RwLock
 on_kind RwUnlock = kinds.RwLock
 
+-- the keyword of a statement whose answer goes into a register
 abbrev pub into_word : IntoVerb → List ℕ
 into_word Read = codes "read"
 into_word TryLock = codes "trylock"
@@ -94,6 +98,7 @@ into_word Arrive = codes "arrive"
 into_word TryRdLock = codes "tryrdlock"
 into_word TryWrLock = codes "trywrlock"
 
+-- the kind of the object whose answer goes into the register
 abbrev pub into_kind : IntoVerb → NameKind
 into_kind Read = kinds.Var
 into_kind TryLock = kinds.Mutex
@@ -102,6 +107,7 @@ into_kind Arrive = kinds.Barrier
 into_kind TryRdLock = kinds.RwLock
 into_kind TryWrLock = kinds.RwLock
 
+-- the keyword that declares a name of this kind
 abbrev pub kind_word : NameKind → List ℕ
 kind_word kinds.Thread = codes "thread"
 kind_word kinds.Var = codes "var"
@@ -111,7 +117,7 @@ kind_word kinds.Sem = codes "sem"
 kind_word kinds.Barrier = codes "barrier"
 kind_word kinds.RwLock = codes "rwlock"
 
--- the kinds that are declared with a first value, and those without
+-- the kinds of objects that are declared with a first value
 abbrev pub has_value : NameKind → Bool
 has_value kinds.Thread = false
 has_value kinds.Var = true
@@ -121,6 +127,7 @@ has_value kinds.Sem = true
 has_value kinds.Barrier = true
 has_value kinds.RwLock = false
 
+-- the kinds of objects that are declared by their name alone
 abbrev pub is_plain : NameKind → Bool
 is_plain kinds.Thread = false
 is_plain kinds.Var = false
@@ -130,11 +137,12 @@ is_plain kinds.Sem = false
 is_plain kinds.Barrier = false
 is_plain kinds.RwLock = true
 
--- the first version of the language that has a kind, or a statement
+-- the first version of the language that has this kind
 abbrev pub kind_since : NameKind → ℕ
 kind_since kinds.RwLock = 3
 kind_since kind = 1
 
+-- the first version of the language that has a statement on one object
 abbrev pub on_since : OnVerb → ℕ
 on_since Start = 2
 on_since RdLock = 3
@@ -142,6 +150,7 @@ on_since WrLock = 3
 on_since RwUnlock = 3
 on_since verb = 1
 
+-- the first version of the language that has a statement into a register
 abbrev pub into_since : IntoVerb → ℕ
 into_since TryRdLock = 3
 into_since TryWrLock = 3
@@ -206,6 +215,7 @@ Means Yield meant = meant ≡ Yield
 Means End meant = meant ≡ End
 Means Else meant = meant ≡ Else
 
+-- the word may be a name in this version of the language
 abbrev pub IsName : ℕ → List ℕ → Type 0
 IsName version name = is_name version name ≡ true
 

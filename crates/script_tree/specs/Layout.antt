@@ -27,6 +27,7 @@ expression_text (trees.Minus a) = codes "-" ++ expression_text a
 expression_text (trees.Two op a b) =
     codes "(" ++ (spaced (expression_text a ∷ signs_of op ∷ expression_text b ∷ []) ++ codes ")")
 
+-- a token as it is written
 abbrev pub token_text : Token → List ℕ
 token_text (Word letters) = letters
 token_text (Number digits) = digits
@@ -64,9 +65,11 @@ abbrev pub value_tokens : ℤ → List Token
 value_tokens (pos n) = Number (decimal n) ∷ []
 value_tokens (negsuc n) = Symbol (codes "-") ∷ Number (decimal (suc n)) ∷ []
 
+-- declarations of these names, without first values
 abbrev pub plain_forms : NameKind → List (List ℕ) → List Meant
 plain_forms kind names = map (forms.Plain kind) names
 
+-- declarations of these names, each with its first value
 abbrev pub valued_forms : NameKind → List (List ℕ) → List ℤ → List Meant
 valued_forms kind [] values = []
 valued_forms kind (name ∷ names) [] = []
@@ -93,6 +96,7 @@ forms_of script =
     declared_forms script
     ++ meanings (all_thread_lines script.names script.names.threads script.threads)
 
+-- the first line: `script` and the version of the language
 abbrev pub header_text : ℕ → List ℕ
 header_text version = spaced (codes "script" ∷ decimal version ∷ [])
 

@@ -1,5 +1,6 @@
 -- What the lines of a script say, by their tokens (this project).
-use Rattle.std.specs.Prelude.{ℕ, ℤ, ◌+◌, ◌-◌, ◌==◌, ◌&&◌, ◌||◌, nat_le, if◌then◌else◌, Bool, true, false, List, [], ◌∷◌, count_by, Option, Some, None, codes, unwrap_or}
+use Rattle.std.specs.Prelude.{ℕ, ℤ, ◌+◌, ◌-◌, ◌==◌, ◌&&◌, ◌||◌, nat_le, if◌then◌else◌, Bool, true}
+use Rattle.std.specs.Prelude.{false, List, [], ◌∷◌, count_by, Option, Some, None, codes, unwrap_or}
 use Rattle.std.specs.List.{filter_map}
 use Rattle.std.specs.Str.{bytes_eq, is_utf8}
 use Rattle.pct_ask.specs.Tokens.{Token, Word, Number, Symbol, tokens_of}
@@ -10,6 +11,7 @@ use Rattle.script_tree.specs.Forms.{kind_word, value_in}
 abbrev pub tokens_in : List ℕ → List Token
 tokens_in line = unwrap_or (tokens_of line) []
 
+-- a line that was cut into tokens, of which there are none
 abbrev pub is_nothing : Option (List Token) → Bool
 is_nothing None = false
 is_nothing (Some []) = true
@@ -53,6 +55,7 @@ valued kind (Word word ∷ Word name ∷ Symbol signs ∷ value) =
     if bytes_eq word (kind_word kind) then value_in kind value else None
 valued kind tokens = None
 
+-- the first values of a kind's objects, in the order of their lines
 abbrev pub values_of : NameKind → List (List Token) → List ℤ
 values_of kind lines = filter_map (valued kind) lines
 
@@ -76,12 +79,13 @@ opener inner (line ∷ before) =
     else (if opens line then (if inner == 0 then line else opener (inner - 1) before)
     else (if begins (codes "else") line && inner == 0 then line else opener inner before))
 
--- the thread that a line begins, where it is text that has just the tokens for that
+-- the name in `thread NAME`, where the tokens are these two words and no more
 abbrev pub just_thread : List Token → Option (List ℕ)
 just_thread (Word word ∷ Word name ∷ []) =
     if bytes_eq word (codes "thread") then Some name else None
 just_thread tokens = None
 
+-- the thread that a line begins, where it is text that has just the tokens for that
 abbrev pub thread_in : List ℕ → Option (List ℕ)
 thread_in line = if is_utf8 line then just_thread (tokens_in line) else None
 

@@ -1,9 +1,13 @@
 -- What a thread does by itself, and what it asks, by the first of its statements that remain (this
 -- project).
-use Rattle.std.specs.Prelude.{ℕ, ℤ, pos, not, Bool, true, false, if◌then◌else◌, List, [], ◌∷◌, ◌++◌, replicate, Ok, Err, slice_set}
+use Rattle.std.specs.Prelude.{ℕ, ℤ, pos, not, Bool, true, false, if◌then◌else◌, List, [], ◌∷◌, ◌++◌}
+use Rattle.std.specs.Prelude.{replicate, Ok, Err, slice_set}
 use Rattle.pct_ask.specs.declared.ask.Ask.{Ask}
 use Rattle.pct_ask.specs.declared.ask.Ask.TheVariants as asks
-use Rattle.script_tree.specs.Trees.{Statement, Statements, Read, Write, Add, Cas, Lock, TryLock, Unlock, Wait, Signal, Broadcast, Down, TryDown, Up, Arrive, Join, Yield, Assert, Set, If, IfElse, While, Start, RdLock, WrLock, TryRdLock, TryWrLock, RwUnlock, list, line_of}
+use Rattle.script_tree.specs.Trees.{Statement, Statements, Read, Write, Add, Cas, Lock, TryLock}
+use Rattle.script_tree.specs.Trees.{Unlock, Wait, Signal, Broadcast, Down, TryDown, Up, Arrive}
+use Rattle.script_tree.specs.Trees.{Join, Yield, Assert, Set, If, IfElse, While, Start, RdLock}
+use Rattle.script_tree.specs.Trees.{WrLock, TryRdLock, TryWrLock, RwUnlock, list, line_of}
 use Rattle.script_tree.specs.Machine.{Act, Moves, Asks, Ends}
 use Rattle.script_tree.specs.Values.{Value, is_zero, value_of}
 
@@ -18,6 +22,7 @@ pub record State : Type 0 where
 abbrev pub before : List Statement → List ℤ → State
 before rest registers = record { rest = rest; registers = registers; halfway = false }
 
+-- a thread at its beginning: all its statements remain, and each register has 0
 abbrev pub at_start : Statements → State
 at_start body = before (list body) (replicate 16 (pos 0))
 
@@ -44,10 +49,11 @@ module _ (rest : List Statement) (registers : List ℤ) where
   abbrev pub keeps : ℕ → ℤ → State
   keeps reg n = before rest (slice_set registers reg n)
 
-  -- an ask whose answer goes into a register, and one whose answer tells nothing
+  -- an ask whose answer goes into a register
   abbrev pub asks_into : ℕ → Ask → Act State
   asks_into reg ask = Asks ask (keeps reg)
 
+  -- an ask whose answer tells nothing: the registers stay as they are
   abbrev pub asks_only : Ask → Act State
   asks_only ask = Asks ask (λ answer. before rest registers)
 

@@ -1,7 +1,11 @@
 -- Posts that name only what the threads of a script share (this project).
 use Rattle.std.specs.Prelude.{◌<◌, ◌≤◌, Option, Some, None, length}
 use Rattle.pct_ask.specs.declared.ask.Ask.{Ask}
-use Rattle.pct_ask.specs.declared.ask.Ask.TheVariants.{Read, Write, Add, Cas, Lock, TryLock, Unlock, Release, Regain, Signal, Broadcast, Down, TryDown, Up, Arrive, Leave, Join, Yield, Check, Fault, Start, Begin, RdLock, WrLock, TryRdLock, TryWrLock, RwUnlock}
+use Rattle.pct_ask.specs.declared.ask.Ask.TheVariants.{Read, Write, Add, Cas, Lock, TryLock, Unlock}
+use Rattle.pct_ask.specs.declared.ask.Ask.TheVariants.{Release, Regain, Signal, Broadcast, Down}
+use Rattle.pct_ask.specs.declared.ask.Ask.TheVariants.{TryDown, Up, Arrive, Leave, Join, Yield}
+use Rattle.pct_ask.specs.declared.ask.Ask.TheVariants.{Check, Fault, Start, Begin, RdLock, WrLock}
+use Rattle.pct_ask.specs.declared.ask.Ask.TheVariants.{TryRdLock, TryWrLock, RwUnlock}
 use Rattle.pct_ask.specs.declared.ask.Post.{Post}
 use Rattle.pct_ask.specs.declared.deal.Deal.{Deal}
 
@@ -35,6 +39,7 @@ NamesOnly deal (TryRdLock l) = l < deal.rwlocks
 NamesOnly deal (TryWrLock l) = l < deal.rwlocks
 NamesOnly deal (RwUnlock l) = l < deal.rwlocks
 
+-- an ask, where there is one, names only threads and objects of the deal
 abbrev pub AsksOnly : Deal → Option Ask → Type 0
 AsksOnly deal None = Unit {0}
 AsksOnly deal (Some ask) = NamesOnly deal ask

@@ -1,9 +1,11 @@
 -- What a thread of a script posts after the answers that it has had (this project).
-use Rattle.std.specs.Prelude.{ℕ, ◌==◌, ◌||◌, ℤ, Bool, true, false, List, [], ◌∷◌, Some, slice_index_or}
+use Rattle.std.specs.Prelude.{ℕ, ◌==◌, ◌||◌, ℤ, Bool, true, false, List, [], ◌∷◌, Some}
+use Rattle.std.specs.Prelude.{slice_index_or}
 use Rattle.std.specs.List.{list_any}
 use Rattle.pct_ask.specs.declared.ask.Ask.TheVariants.{Begin}
 use Rattle.pct_ask.specs.declared.ask.Post.{Post}
-use Rattle.script_tree.specs.Trees.{Statement, Statements, Closed, Then, Start, If, IfElse, While, end_line}
+use Rattle.script_tree.specs.Trees.{Statement, Statements, Closed, Then, Start, If, IfElse, While}
+use Rattle.script_tree.specs.Trees.{end_line}
 use Rattle.script_tree.specs.ScriptText.{Thread, ScriptText}
 use Rattle.script_tree.specs.Machine.{pending_from}
 use Rattle.script_tree.specs.Moves.{head, ended, at_start}
@@ -32,12 +34,15 @@ abbrev mutual
   any_starts t (Closed line) = false
   any_starts t (Then s rest) = starts t s || any_starts t rest
 
+-- whether some `start` of the script names the thread t, which waits for it before it begins
 abbrev pub is_held : ScriptText → ℕ → Bool
 is_held script t = list_any (λ thread. any_starts t thread.body) script.threads
 
+-- a thread without statements, in the place of one that there isn't
 abbrev pub no_thread : Thread
 no_thread = record { line = 0; body = Closed 0 }
 
+-- the thread t of the script, and one without statements where there is none
 abbrev pub thread_of : ScriptText → ℕ → Thread
 thread_of script t = slice_index_or script.threads t no_thread
 

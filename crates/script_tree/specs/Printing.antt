@@ -1,4 +1,4 @@
--- What has been printed, and that its numbers are those of the code.
+-- What has been printed, and that its numbers are those of the code (this project).
 use Rattle.std.specs.Prelude.{ℕ, pos, ◌^◌, ◌&&◌, Bool, true, int_lt, List, map}
 use Rattle.std.specs.List.{list_all}
 use Rattle.script_tree.specs.Trees.{Expression, Number, Reg, Not, Minus, Two}
@@ -18,6 +18,7 @@ is_ranged (Not a) = is_ranged a
 is_ranged (Minus a) = is_ranged a
 is_ranged (Two op a b) = is_ranged a && is_ranged b
 
+-- the numbers in the form's expressions are below 2^63
 abbrev pub is_ranged_form : Meant → Bool
 is_ranged_form (Write var value) = is_ranged value
 is_ranged_form (Add register var value) = is_ranged value

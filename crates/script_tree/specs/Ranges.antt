@@ -12,6 +12,7 @@ abbrev pub is_great : Token → Bool
 is_great (Number digits) = nat_le (2 ^ 63) (digits_value 10 digits)
 is_great token = false
 
+-- one of the tokens is a number above the greatest i64
 abbrev pub has_great : List Token → Bool
 has_great tokens = list_any is_great tokens
 
@@ -25,6 +26,8 @@ value_fits kinds.Barrier (Number digits ∷ []) =
     nat_le 1 (digits_value 10 digits) && nat_le (digits_value 10 digits) 1000
 value_fits kind tokens = false
 
+-- the form has a first value that its object may not have, or an expression with a number above
+-- the greatest i64
 abbrev pub is_out_of_range : Cut → Bool
 is_out_of_range (Valued kind name value) = not (value_fits kind value)
 is_out_of_range (Write var value) = has_great value

@@ -1,10 +1,11 @@
--- A script of the code by its parts.
+-- A script of the code by its parts (this project).
 use Rattle.std.specs.Prelude.{ℕ, ℤ, List, map}
 use Rattle.pct_ask.specs.NameLists.{NameLists}
 use Rattle.script_tree.specs.ScriptText.{Thread, ScriptText}
 use Rattle.script_tree.specs.Seen.{block}
 use Rattle.script_tree.specs.declared.stmt.ThreadText.{ThreadText}
 
+-- a thread of the code: its line, and its statements as trees
 abbrev pub thread : ThreadText → Thread
 thread t = record { line = t.line; body = block t.body }
 

@@ -1,4 +1,4 @@
--- How a script of the code stands for a script's text.
+-- How a script of the code stands for a script's text (this project).
 use Rattle.script_tree.specs.ScriptText.{ScriptText}
 use Rattle.script_tree.specs.ScriptParts.{text_of}
 use Rattle.script_tree.specs.declared.script.Script.{Script}

@@ -9,6 +9,8 @@ pub record Thread : Type 0 where
   pub line : ℕ
   pub body : Statements
 
+-- a script: the version of its language and its names; in the order of the names the first values
+-- of variables, semaphores and barriers, and the threads
 pub record ScriptText : Type 0 where
   pub version : ℕ
   pub names : NameLists

@@ -1,4 +1,4 @@
--- How the code's statements and expressions stand for trees.
+-- How the code's statements and expressions stand for trees (this project).
 use Rattle.std.specs.Prelude.{ℕ, List, Option, Some, None, map}
 use Rattle.script_tree.specs.declared.expr.Expr.{Expr, Expr-F, fold-Expr}
 use Rattle.script_tree.specs.declared.stmt.Stmt.{Stmt, Stmt-F, fold-Stmt}
@@ -14,9 +14,11 @@ expression_step (Expr-F.Not a) = trees.Not a.value
 expression_step (Expr-F.Minus a) = trees.Minus a.value
 expression_step (Expr-F.Two op a b) = trees.Two op a.value b.value
 
+-- an expression of the code as a tree
 abbrev pub expression : Expr → Expression
 expression = fold-Expr Expression expression_step
 
+-- an `if` whose blocks are seen already, with or without an `else`
 abbrev pub if_step : ℕ → Expression → Statements → Option Statements → Statement
 if_step line test first None = trees.If line test first
 if_step line test first (Some otherwise) = trees.IfElse line test first otherwise
@@ -56,9 +58,11 @@ statement_step (Stmt-F.RwUnlock line rwlock) = trees.RwUnlock line rwlock
 abbrev pub block_step : Block-F Statement Statements → Statements
 block_step block = closed_at block.end_line block.stmts.items
 
+-- a statement of the code as a tree, with those in its blocks
 abbrev pub statement : Stmt → Statement
 statement = fold-Stmt Statement Statements statement_step block_step
 
+-- the statements of a block of the code as trees, and the line that closes them
 abbrev pub block : Block → Statements
 block = fold-Block Statement Statements statement_step block_step
 

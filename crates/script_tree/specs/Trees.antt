@@ -3,6 +3,7 @@
 use Rattle.std.specs.Prelude.{ℕ, ℤ, List, [], ◌∷◌}
 use Rattle.script_tree.specs.declared.expr.Op.{Op}
 
+-- a number, a register by its place, or an operator with its one part or its two
 pub data Expression : Type 0 where
   Number : (value : ℤ) → Expression
   Reg : (reg : ℕ) → Expression
@@ -76,10 +77,12 @@ line_of (TryRdLock line reg rwlock) = line
 line_of (TryWrLock line reg rwlock) = line
 line_of (RwUnlock line rwlock) = line
 
+-- the statements without the line that closes them
 abbrev pub list : Statements → List Statement
 list (Closed line) = []
 list (Then s rest) = s ∷ list rest
 
+-- the line of the `end` or `else` that closes the statements
 abbrev pub end_line : Statements → ℕ
 end_line (Closed line) = line
 end_line (Then s rest) = end_line rest

@@ -1,12 +1,15 @@
 -- What an expression comes to (two's complement of 64 bits, as i64 of Rust; faults are this
 -- project's).
-use Rattle.std.specs.Prelude.{ℤ, pos, negsuc, ◌^◌, ◌+ℤ◌, ◌-ℤ◌, ◌*ℤ◌, neg_ℤ, Bool, true, false, not, nat_lt, int_lt, int_le, int_div, int_rem, if◌then◌else◌, List, Result, Ok, Err, slice_index_or}
+use Rattle.std.specs.Prelude.{ℤ, pos, negsuc, ◌^◌, ◌+ℤ◌, ◌-ℤ◌, ◌*ℤ◌, neg_ℤ, Bool, true, false, not}
+use Rattle.std.specs.Prelude.{nat_lt, int_lt, int_le, int_div, int_rem, if◌then◌else◌, List, Result}
+use Rattle.std.specs.Prelude.{Ok, Err, slice_index_or}
 use Rattle.std.specs.Ordering.{int_eq}
 use Rattle.pct_ask.specs.declared.ask.FaultKind.{FaultKind}
 use Rattle.pct_ask.specs.declared.ask.FaultKind.TheVariants.{Overflow, ZeroDivisor}
 use Rattle.script_tree.specs.Trees.{Expression, Number, Reg, Not, Minus, Two}
 use Rattle.script_tree.specs.declared.expr.Op.{Op}
-use Rattle.script_tree.specs.declared.expr.Op.TheVariants.{Or, And, Eq, Ne, Lt, Le, Gt, Ge, Plus, Less, Times, Over, Rest}
+use Rattle.script_tree.specs.declared.expr.Op.TheVariants.{Or, And, Eq, Ne, Lt, Le, Gt, Ge, Plus}
+use Rattle.script_tree.specs.declared.expr.Op.TheVariants.{Less, Times, Over, Rest}
 
 -- a number, or why there is none
 abbrev pub Value : Type 0
@@ -26,9 +29,11 @@ abbrev pub in_range : ℤ → Value
 in_range (pos n) = if nat_lt n (2 ^ 63) then Ok (pos n) else Err Overflow
 in_range (negsuc n) = if nat_lt n (2 ^ 63) then Ok (negsuc n) else Err Overflow
 
+-- whether a number is 0, which stands for false
 abbrev pub is_zero : ℤ → Bool
 is_zero n = int_eq n (pos 0)
 
+-- 1 for what holds, and 0 for what doesn't
 abbrev pub truth : Bool → Value
 truth true = Ok (pos 1)
 truth false = Ok (pos 0)
@@ -41,13 +46,15 @@ quotient x y = if is_zero y then Err ZeroDivisor else in_range (int_div x y)
 abbrev pub remainder : ℤ → ℤ → Value
 remainder x y = with (quotient x y) (λ q. Ok (int_rem x y))
 
--- the right part of `||` and `&&` counts only where the left one doesn't decide
+-- `||`: the right part counts only where the left one is 0
 abbrev pub either : Value → Value → Value
 either a b = with a (λ x. if is_zero x then with b (λ y. truth (not (is_zero y))) else truth true)
 
+-- `&&`: the right part counts only where the left one is other than 0
 abbrev pub each : Value → Value → Value
 each a b = with a (λ x. if is_zero x then truth false else with b (λ y. truth (not (is_zero y))))
 
+-- what an operator makes of its left part and its right one
 abbrev pub two : Op → Value → Value → Value
 two Or a b = either a b
 two And a b = each a b
@@ -63,6 +70,7 @@ two Times a b = both (λ x y. in_range (x *ℤ y)) a b
 two Over a b = both quotient a b
 two Rest a b = both remainder a b
 
+-- what an expression comes to where the registers have these numbers
 abbrev pub value_of : List ℤ → Expression → Value
 value_of registers (Number n) = Ok n
 value_of registers (Reg r) = Ok (slice_index_or registers r (pos 0))
