@@ -5,7 +5,6 @@ ghost use Rattle.std.specs.List.{list_any};
 ghost use Rattle.script_tree.specs.Ranges as ranges;
 ghost use Rattle.script_parse.specs.Seen.{seen, all_seen};
 ghost use Rattle.script_parse.specs.SeenForms.{value_tokens, seen_form};
-ghost use Rattle.script_parse.specs.Reading as reading;
 
 use crate::form::Form;
 use crate::number::number_of;
@@ -43,7 +42,7 @@ fn has_great(tokens: &[Token<'_>]) -> bool
 
 /// Whether a number of a line is out of range.
 pub fn is_out_of_range(tokens: &[Token<'_>], form: &Form<'_>) -> bool
-    ensures { result ≡ reading.is_out_of_range (all_seen tokens.now) (seen_form form.now) }
+    ensures { result ≡ ranges.is_out_of_range (all_seen tokens.now) (seen_form form.now) }
 {
     match form {
         Form::Valued {

@@ -5,6 +5,7 @@ ghost use Rattle.pct_ask.specs.Words.{is_name, is_among};
 ghost use Rattle.pct_ask.specs.NameLists.{list_of, all_names};
 ghost use Rattle.script_tree.specs.Fitting.{IsScript};
 ghost use Rattle.script_tree.specs.Fitting as fitting;
+ghost use Rattle.script_tree.specs.Faults as faults;
 ghost use Rattle.script_tree.specs.ScriptSeen.{text};
 ghost use Rattle.script_tree.specs.Seen.{statement, block as tree_of_block};
 ghost use Rattle.script_parse.specs.Ahead.{place_ahead};
@@ -65,7 +66,8 @@ impl Reader {
     }
 
     fn may_stand(&self, form: &Form<'_>) -> bool
-        ensures { result ≡ reading.may_stand (seen_reader self.now) (seen_form form.now) }
+        ensures { result
+            ≡ faults.may_stand (reading.so_far (seen_reader self.now)) (seen_form form.now) }
     {
         match form {
             Form::Plain { .. } | Form::Valued { .. } => !self.has_thread(),
@@ -83,7 +85,7 @@ impl Reader {
 
     fn uses_unknown(&self, ahead: &Ahead<'_>, form: &Form<'_>) -> bool
         ensures { result
-            ≡ reading.uses_unknown (seen_reader self.now) (place_ahead ahead.now)
+            ≡ faults.uses_unknown (reading.is_known self.now.names (place_ahead ahead.now))
             (seen_form form.now) }
     {
         match form {
@@ -101,7 +103,8 @@ impl Reader {
     }
 
     fn declares_again(&self, form: &Form<'_>) -> bool
-        ensures { result ≡ reading.declares_again (seen_reader self.now) (seen_form form.now) }
+        ensures { result
+            ≡ faults.declares_again (reading.so_far (seen_reader self.now)) (seen_form form.now) }
     {
         match form {
             Form::Plain { name, .. } | Form::Valued { name, .. } | Form::Thread { name } => {
@@ -123,7 +126,8 @@ impl Reader {
     }
 
     fn closes_nothing(&self, form: &Form<'_>) -> bool
-        ensures { result ≡ reading.closes_nothing (seen_reader self.now) (seen_form form.now) }
+        ensures { result
+            ≡ faults.closes_nothing (reading.so_far (seen_reader self.now)) (seen_form form.now) }
     {
         match form {
             Form::End => is_closed(&self.open_blocks),
@@ -148,7 +152,8 @@ impl Reader {
     }
 
     fn is_too_many(&self, form: &Form<'_>) -> bool
-        ensures { result ≡ reading.is_too_many (seen_reader self.now) (seen_form form.now) }
+        ensures { result
+            ≡ faults.is_too_many (reading.so_far (seen_reader self.now)) (seen_form form.now) }
     {
         match form {
             Form::Thread { .. } => self.names.count(NameKind::Thread) >= self.most_threads(),
@@ -214,8 +219,8 @@ impl Reader {
     ) -> Result<Reader, NoMemory>
         requires lawful { names_lawful (seen_form form) ≡ true }
         requires fits { value_lawful (seen_form form) ≡ true }
-        requires fresh { reading.declares_again (seen_reader self) (seen_form form) ≡ false }
-        requires room { reading.is_too_many (seen_reader self) (seen_form form) ≡ false }
+        requires fresh { faults.declares_again (reading.so_far (seen_reader self)) (seen_form form) ≡ false }
+        requires room { faults.is_too_many (reading.so_far (seen_reader self)) (seen_form form) ≡ false }
         ensures { IfOk result (λ r.
             seen_reader r
             ≡ reading.taken (seen_reader self) (place_ahead ahead.now) line

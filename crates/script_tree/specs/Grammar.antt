@@ -103,7 +103,9 @@ declares form = false
 -- the line has this meaning in a version of the language, and its numbers are in range
 abbrev pub Says : ℕ → List ℕ → Meant → Type 0
 Says version line meant =
-    (cut : Cut) × IsForm version (tokens_in line) cut meant × (is_out_of_range cut ≡ false)
+    (cut : Cut)
+    × IsForm version (tokens_in line) cut meant
+    × (is_out_of_range (tokens_in line) meant ≡ false)
 
 -- These texts, of which the first is the line of this number, are the lines, and blank ones between
 -- them.
