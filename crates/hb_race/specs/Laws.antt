@@ -1,5 +1,5 @@
 -- Laws on happens-before and on the races of a run (this project).
-use Rattle.std.specs.Prelude.{◌≡◌, ℕ, List}
+use Rattle.std.specs.Prelude.{◌≡◌, ℕ, Bool, true, List}
 use Rattle.pct_ask.specs.declared.event.Event.{Event}
 use Rattle.hb_race.specs.declared.race.Race.{Race}
 use Rattle.hb_race.specs.HappensBefore.{IsEdge, HappensBefore}
@@ -17,13 +17,14 @@ HasTheEdges =
     → ((first last : ℕ) → IsEdge events first last → HappensBefore events first last)
     × IsTransitive (HappensBefore events)
 
--- It is the least such relation.
+-- It is the least such relation: whatever relation has the edges and is transitive, as a test of
+-- two steps, has it.
 abbrev pub IsTheLeast : Type 0
 IsTheLeast =
-    (events : List Event) (relation : ℕ → ℕ → Type 0)
-    → ((first last : ℕ) → IsEdge events first last → relation first last)
-    → IsTransitive relation
-    → (first last : ℕ) → HappensBefore events first last → relation first last
+    (events : List Event) (relates : ℕ → ℕ → Bool)
+    → ((first last : ℕ) → IsEdge events first last → relates first last ≡ true)
+    → IsTransitive (λ first last. relates first last ≡ true)
+    → (first last : ℕ) → HappensBefore events first last → relates first last ≡ true
 
 -- A run has one list of races.
 abbrev pub EachHasOneList : Type 0
