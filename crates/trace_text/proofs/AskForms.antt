@@ -15,8 +15,8 @@ use Rattle.pct_ask.specs.declared.names.NameKind.TheVariants as kinds
 use Rattle.pct_ask.specs.declared.ask.FaultKind.{FaultKind}
 use Rattle.pct_ask.specs.declared.ask.Ask.{Ask}
 use Rattle.pct_ask.specs.declared.ask.Ask.TheVariants as asks
-use Rattle.trace_text.specs.Numbers.{value_of}
-use Rattle.trace_text.specs.Asks.{object, kind_of, ask_of, bare_ask, holds_of, plain_ask, ask_by, ask_on_one, with_value, both, waiting, ask_on_two, exchange, ask_on_three}
+use Rattle.trace_text.specs.reader.Numbers.{value_of}
+use Rattle.trace_text.specs.reader.Asks.{object, kind_of, ask_of, bare_ask, holds_of, plain_ask, ask_by, ask_on_one, with_value, both, waiting, ask_on_two, exchange, ask_on_three}
 use Rattle.trace_text.specs.Forms.{Verb, AskForm, verb_word, verb_kind, verb_since, words_of_ask, IsName, IsAskOf, IsUndeclared, AsksUnknown}
 use Rattle.trace_text.specs.Forms as forms
 use Rattle.trace_text.proofs.Values.{value_of-Some, Some-value_of}

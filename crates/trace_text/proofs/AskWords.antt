@@ -18,8 +18,8 @@ use Rattle.pct_ask.specs.declared.ask.FaultKind.TheVariants.{Overflow, ZeroDivis
 use Rattle.pct_ask.specs.declared.ask.Ask.{Ask}
 use Rattle.pct_ask.specs.declared.ask.Ask.TheVariants.{Read, Write, Add, Cas, Lock, TryLock, Unlock, Release, Regain, Signal, Broadcast, Down, TryDown, Up, Arrive, Leave, Join, Yield, Check, Fault, Start, Begin, RdLock, WrLock, TryRdLock, TryWrLock, RwUnlock}
 use Rattle.trace_text.specs.Lawful.{IsAsk, IsValue}
-use Rattle.trace_text.specs.Numbers.{value_of}
-use Rattle.trace_text.specs.Asks.{object, object_words, kind_of, ask_of, bare_ask, holds_of, plain_ask, ask_by, ask_on_one, with_value, waiting, ask_on_two, exchange, ask_on_three}
+use Rattle.trace_text.specs.reader.Numbers.{value_of}
+use Rattle.trace_text.specs.reader.Asks.{object, object_words, kind_of, ask_of, bare_ask, holds_of, plain_ask, ask_by, ask_on_one, with_value, waiting, ask_on_two, exchange, ask_on_three}
 use Rattle.trace_text.proofs.Names.{object-known, known-object}
 use Rattle.trace_text.proofs.Values.{value_of-Some, Some-value_of}
 

@@ -26,7 +26,7 @@ use Rattle.pct_ask.specs.declared.verdict_text.VerdictRead.TheVariants.{Is, NoFo
 use Rattle.pct_ask.proofs.laws.VerdictsRead.{ReadsAs-words, ReadsAs-only}
 use Rattle.pct_ask.proofs.laws.SplitWords.{join-words_of, words_of-join}
 use Rattle.trace_text.specs.Lawful.{is_of_second}
-use Rattle.trace_text.specs.StepLines.{step_of_words, tells_reads, end_of, row_of}
+use Rattle.trace_text.specs.reader.StepLines.{step_of_words, tells_reads, end_of, row_of}
 use Rattle.trace_text.specs.Forms.{verdict_since, words_of_form, IsOf, HasUnknown}
 use Rattle.trace_text.specs.Forms as forms
 use Rattle.trace_text.specs.declared.row.Row.{Row}

@@ -9,12 +9,12 @@ use Rattle.pct_ask.specs.VerdictText.{NamedVerdict}
 use Rattle.pct_ask.specs.declared.event.Event.{Event}
 use Rattle.pct_ask.specs.declared.verdict.Verdict.{Verdict}
 use Rattle.trace_text.specs.Lines.{line_at, text_in, is_whole}
-use Rattle.trace_text.specs.Heads.{order_in, points_in, limit_in}
+use Rattle.trace_text.specs.reader.Heads.{order_in, points_in, limit_in}
 use Rattle.trace_text.specs.Forms.{AskForm, Form, words_of_form, IsOf, HasUnknown}
 use Rattle.trace_text.specs.Forms as forms
-use Rattle.trace_text.specs.Faults.{text_at, version_of, HasForm, IsStepLine, IsVerdictLine, IsInBody, IsNextNumber, IsFaulty, IsFirstFault}
-use Rattle.trace_text.specs.Reading.{Fault}
-use Rattle.trace_text.specs.StepLines.{row_of}
+use Rattle.trace_text.specs.Faults.{text_at, version_of, HasForm, IsStepLine, IsVerdictLine, IsOpen, IsInBody, IsNextNumber, IsFaulty, IsFirstFault}
+use Rattle.trace_text.specs.reader.Reading.{Fault}
+use Rattle.trace_text.specs.reader.StepLines.{row_of}
 use Rattle.trace_text.specs.declared.row.Row.{Row}
 use Rattle.trace_text.specs.declared.row.Row.TheVariants.{Step, End}
 use Rattle.trace_text.specs.declared.fault.TraceFault.{TraceFault}
@@ -255,10 +255,9 @@ module _ (names : NameLists) (sound : AreNames names) (size : ℕ) (pieces : Lis
       let lost = never (is_whole (line_at pieces k) && is_some (row_at names pieces k)) (λ h. let f = row-found k bad.0.0 (and-right (is_whole (line_at pieces k)) (is_some (row_at names pieces k)) h) in bad.2 (and-left (is_whole (line_at pieces k)) (is_some (row_at names pieces k)) h, f.0, f.1)) in
       three-both (is_in_body names pieces k) (is_there pieces k) (not (is_whole (line_at pieces k) && is_some (row_at names pieces k))) (body-test k bad.0) bad.1 (ap not lost)
 
-  late-unknown : (k : ℕ) → 5 ≤ k → (k ≡ 2) ⊎ IsInBody names pieces k → has_unknown (row_at names pieces k) ≡ true → is_faulty size names pieces k UnknownName ≡ true
-  late-unknown k low (inl two) h = absurd (omega arith)
-  late-unknown k low (inr body) h =
-      or-right ((k == 2) && has_unknown_thread names (order_in names (text_in (line_at pieces k)))) (is_in_body names pieces k && has_unknown (row_at names pieces k)) (and-both (is_in_body names pieces k) (has_unknown (row_at names pieces k)) (body-test k body) h)
+  late-unknown : (k : ℕ) → 5 ≤ k → IsOpen names pieces k → has_unknown (row_at names pieces k) ≡ true → is_faulty size names pieces k UnknownName ≡ true
+  late-unknown k low free h =
+      or-right ((k == 2) && has_unknown_thread names (order_in names (text_in (line_at pieces k)))) (is_in_body names pieces k && has_unknown (row_at names pieces k)) (and-both (is_in_body names pieces k) (has_unknown (row_at names pieces k)) (body-test k (low, free)) h)
 
   order-unknown : (k : ℕ) (threads : List (List ℕ)) → HasForm names pieces k (forms.Order threads) → HasUnknown names (forms.Order threads) → is_faulty size names pieces k UnknownName ≡ true
   order-unknown k threads form unknown =
@@ -266,7 +265,7 @@ module _ (names : NameLists) (sound : AreNames names) (size : ℕ) (pieces : Lis
       let lost : has_unknown_thread names (order_in names (text_in (line_at pieces k))) ≡ true = ap (has_unknown_thread names) (order-read names (version_of pieces) (text_at pieces k) threads form.spelled form.of) ∙ unknown-read names threads unknown in
       or-left ((k == 2) && has_unknown_thread names (order_in names (text_in (line_at pieces k)))) (is_in_body names pieces k && has_unknown (row_at names pieces k)) (and-both (k == 2) (has_unknown_thread names (order_in names (text_in (line_at pieces k)))) two lost)
 
-  unknown-test : (k : ℕ) (form : Form) → (k ≡ 2) ⊎ IsInBody names pieces k → HasForm names pieces k form → HasUnknown names form → is_faulty size names pieces k UnknownName ≡ true
+  unknown-test : (k : ℕ) (form : Form) → IsOpen names pieces k → HasForm names pieces k form → HasUnknown names form → is_faulty size names pieces k UnknownName ≡ true
   unknown-test k (forms.Version v) at form unknown = absurd unknown
   unknown-test k (forms.Order threads) at form unknown = order-unknown k threads form unknown
   unknown-test k (forms.Points points) at form unknown = absurd unknown
@@ -360,16 +359,16 @@ module _ (names : NameLists) (sound : AreNames names) (size : ℕ) (pieces : Lis
   order-found k None two e h = absurd cc
   order-found k (Some threads) two e h =
       let form = order-form names (version_of pieces) (text_at pieces 2) threads e in
-      rw two (inl refl, forms.Order threads, record { stands = refl; spelled = form.0; of = form.1 }, unknown-told names threads h)
+      rw two (λ j before line. let low = line.1.stands in omega arith, forms.Order threads, record { stands = refl; spelled = form.0; of = form.1 }, unknown-told names threads h)
 
   row-unknown : (k : ℕ) (row : Option Row) → IsInBody names pieces k → row_at names pieces k ≡ row → has_unknown row ≡ true → IsFaulty size names pieces k UnknownName
   row-unknown k None body e h = absurd cc
   row-unknown k (Some (Step n event)) body e h =
       let f = step-found k n event body.0 e in
-      (inr body, forms.Step n f.thread f.line f.ask f.answer, f.form, f.unknown (none-of event h))
+      (body.1, forms.Step n f.thread f.line f.ask f.answer, f.form, f.unknown (none-of event h))
   row-unknown k (Some (End read)) body e h =
       let f = end-found k read body.0 e in
-      (inr body, forms.End f.0, f.1, f.2 (none-of read h))
+      (body.1, forms.End f.0, f.1, f.2 (none-of read h))
 
   unknown-found : (k : ℕ) → is_faulty size names pieces k UnknownName ≡ true → IsFaulty size names pieces k UnknownName
   unknown-found k h = by (or-cases ((k == 2) && has_unknown_thread names (order_in names (text_in (line_at pieces k)))) (is_in_body names pieces k && has_unknown (row_at names pieces k)) h)

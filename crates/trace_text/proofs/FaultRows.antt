@@ -8,12 +8,12 @@ use Rattle.pct_ask.specs.Words.{is_name}
 use Rattle.pct_ask.specs.NameLists.{AreNames, list_of, all_names}
 use Rattle.pct_ask.specs.declared.names.NameKind.{NameKind}
 use Rattle.pct_ask.specs.declared.names.NameKind.TheVariants.{Thread, Var, Mutex, Cond, Sem, Barrier, RwLock}
-use Rattle.trace_text.specs.Asks.{ask_on_one}
+use Rattle.trace_text.specs.reader.Asks.{ask_on_one}
 use Rattle.trace_text.specs.Faults.{IsTraceFault}
-use Rattle.trace_text.specs.Numbers.{value_of}
-use Rattle.trace_text.specs.Reading.{Fault, read}
+use Rattle.trace_text.specs.reader.Numbers.{value_of}
+use Rattle.trace_text.specs.reader.Reading.{Fault, read}
 use Rattle.trace_text.specs.Rows.{some_names}
-use Rattle.trace_text.specs.StepLines.{row_of, step_of}
+use Rattle.trace_text.specs.reader.StepLines.{row_of, step_of}
 use Rattle.trace_text.specs.declared.file.TraceFile.{TraceFile}
 use Rattle.trace_text.specs.declared.fault.TraceFault.{TraceFault}
 use Rattle.trace_text.specs.declared.fault.TraceFault.TheVariants.{TooLong, BadHeader, BadLine, UnknownName, OutOfOrder, NoVerdict, MoreAfterVerdict}

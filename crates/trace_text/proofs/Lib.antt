@@ -23,5 +23,6 @@ pub mod Readings
 pub mod Sizes
 pub mod Traces
 pub mod OneAnswer
+pub mod WrittenForms
 pub mod FaultRows
 pub mod laws

@@ -3,7 +3,7 @@ use Rattle.std.proofs.Common.{◌≡◌, ℕ, List, Result, Ok, Err, inl, inr, r
 use Rattle.std.specs.Prelude.{length}
 use Rattle.pct_ask.specs.NameLists.{NameLists, AreNames}
 use Rattle.trace_text.specs.Lines.{pieces_of}
-use Rattle.trace_text.specs.Reading.{Fault, read}
+use Rattle.trace_text.specs.reader.Reading.{Fault, read}
 use Rattle.trace_text.specs.Trace.{IsTrace}
 use Rattle.trace_text.specs.Faults.{IsTraceFault}
 use Rattle.trace_text.specs.Answers.{HasOneAnswer}

@@ -4,9 +4,9 @@ use Rattle.std.proofs.Common.{◌≡◌, ℕ, ◌+◌, ◌-◌, ◌<◌, Bool, t
 use Rattle.std.proofs.lemmas.Bool.Decides.{nat_tests}
 use Rattle.pct_ask.specs.NameLists.{NameLists}
 use Rattle.trace_text.specs.Lines.{pieces_of, is_empty, piece_at, line_at, text_in, is_whole}
-use Rattle.trace_text.specs.Heads.{version_in, order_in, threads_of, points_in, limit_in}
+use Rattle.trace_text.specs.reader.Heads.{version_in, order_in, threads_of, points_in, limit_in}
 use Rattle.trace_text.proofs.FaultTests.{is_head_line, has_unknown_thread, is_faulty, IsFirstFound}
-use Rattle.trace_text.specs.Reading.{Fault, Body, ◌>>=◌, head_value, head_line, known, order_line, body_of, file_of, file_in, read}
+use Rattle.trace_text.specs.reader.Reading.{Fault, Body, ◌>>=◌, head_value, head_line, known, order_line, body_of, file_of, file_in, read}
 use Rattle.trace_text.specs.declared.file.TraceFile.{TraceFile}
 use Rattle.trace_text.specs.declared.fault.TraceFault.{TraceFault}
 use Rattle.trace_text.specs.declared.fault.TraceFault.TheVariants.{TooLong, BadHeader, BadLine, UnknownName, OutOfOrder, NoVerdict, MoreAfterVerdict}

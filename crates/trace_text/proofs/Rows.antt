@@ -22,7 +22,7 @@ use Rattle.pct_ask.specs.declared.verdict_text.VerdictRead.TheVariants.{Is, NoFo
 use Rattle.pct_ask.proofs.laws.VerdictsRead.{ReadsAs-words, ReadsAs-only}
 use Rattle.pct_ask.proofs.laws.SplitWords.{join-words_of, words_of-join}
 use Rattle.trace_text.specs.Lawful.{IsStep, IsEnd, is_of_second}
-use Rattle.trace_text.specs.StepLines.{step_of_parts, step_of, step_of_words, tells_reads, end_of, row_of}
+use Rattle.trace_text.specs.reader.StepLines.{step_of_parts, step_of, step_of_words, tells_reads, end_of, row_of}
 use Rattle.trace_text.specs.declared.row.Row.TheVariants.{Step, End}
 use Rattle.trace_text.proofs.StepWords.{IsStepLine, words-told, words-known}
 use Rattle.trace_text.proofs.Bytes.{are-solid, step-high}

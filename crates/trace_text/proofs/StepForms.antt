@@ -12,9 +12,9 @@ use Rattle.pct_ask.specs.declared.names.NameKind.TheVariants.{Thread}
 use Rattle.pct_ask.specs.declared.ask.Ask.{Ask}
 use Rattle.pct_ask.specs.declared.event.Event.{Event}
 use Rattle.pct_ask.proofs.laws.SplitWords.{join-words_of}
-use Rattle.trace_text.specs.Numbers.{value_of, natural_of, count_of}
-use Rattle.trace_text.specs.Asks.{object}
-use Rattle.trace_text.specs.StepLines.{event_of, step_of_parts, step_of, step_of_words, end_of, row_of}
+use Rattle.trace_text.specs.reader.Numbers.{value_of, natural_of, count_of}
+use Rattle.trace_text.specs.reader.Asks.{object}
+use Rattle.trace_text.specs.reader.StepLines.{event_of, step_of_parts, step_of, step_of_words, end_of, row_of}
 use Rattle.trace_text.specs.Forms.{AskForm, words_of_ask, words_of_form, IsOf, HasUnknown, AsksUnknown, IsUndeclared}
 use Rattle.trace_text.specs.Forms as forms
 use Rattle.trace_text.specs.declared.row.Row.TheVariants.{Step}

@@ -12,9 +12,9 @@ use Rattle.pct_ask.specs.declared.names.NameKind.TheVariants.{Thread}
 use Rattle.pct_ask.specs.declared.ask.Ask.{Ask}
 use Rattle.pct_ask.specs.declared.event.Event.{Event}
 use Rattle.trace_text.specs.Lawful.{IsStep}
-use Rattle.trace_text.specs.Numbers.{value_of, natural, within, natural_of, count_of}
-use Rattle.trace_text.specs.Asks.{object}
-use Rattle.trace_text.specs.StepLines.{event_of, step_of_parts, step_of, step_of_words}
+use Rattle.trace_text.specs.reader.Numbers.{value_of, natural, within, natural_of, count_of}
+use Rattle.trace_text.specs.reader.Asks.{object}
+use Rattle.trace_text.specs.reader.StepLines.{event_of, step_of_parts, step_of, step_of_words}
 use Rattle.trace_text.specs.declared.row.Row.TheVariants.{Step}
 use Rattle.trace_text.proofs.Names.{object-known, known-object}
 use Rattle.trace_text.proofs.Values.{value_of-Some, Some-value_of, fits-natural}

@@ -13,10 +13,10 @@ use Rattle.trace_text.specs.Answers.{Answers}
 use Rattle.trace_text.specs.Lawful.{IsStep, IsEnd}
 use Rattle.trace_text.specs.Lines.{pieces_of}
 use Rattle.trace_text.specs.Trace.{head_of, IsRun, IsTrace}
-use Rattle.trace_text.specs.Heads.{version_in, order_in, threads_of, points_in, limit_in}
+use Rattle.trace_text.specs.reader.Heads.{version_in, order_in, threads_of, points_in, limit_in}
 use Rattle.trace_text.specs.Faults.{IsTraceFault}
-use Rattle.trace_text.specs.Reading.{Fault, Body, ◌>>=◌, head_line, known, order_line, body_of, file_of, file_in, read}
-use Rattle.trace_text.specs.Seen.{Gives}
+use Rattle.trace_text.specs.reader.Reading.{Fault, Body, ◌>>=◌, head_line, known, order_line, body_of, file_of, file_in, read}
+use Rattle.trace_text.specs.reader.Seen.{Gives}
 use Rattle.trace_text.specs.declared.file.TraceFile.{TraceFile}
 use Rattle.trace_text.specs.declared.fault.TraceFault.{TraceFault}
 use Rattle.trace_text.specs.declared.fault.TraceFault.TheVariants.{TooLong}

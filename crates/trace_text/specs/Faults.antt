@@ -1,12 +1,14 @@
 -- The fault of a text that is no trace: its first faulty line, and the first kind by which that
 -- line is faulty, over the forms of lines (this project).
-use Rattle.std.specs.Prelude.{◌≡◌, ◌≢◌, ℕ, ℤ, ◌+◌, ◌-◌, ◌<◌, ◌≤◌, ◌⊎◌, ◌||◌, Bool, true, false, not, if◌then◌else◌, List, length, codes}
+use Rattle.std.specs.Prelude.{◌≡◌, ◌≢◌, ℕ, ℤ, ◌+◌, ◌-◌, ◌<◌, ◌≤◌, ◌⊎◌, ◌||◌, Bool, true, false, not}
+use Rattle.std.specs.Prelude.{if◌then◌else◌, List, length, codes}
 use Rattle.std.specs.Str.{bytes_eq}
 use Rattle.pct_ask.specs.NameLists.{NameLists}
 use Rattle.pct_ask.specs.VerdictText.{NamedVerdict}
 use Rattle.pct_ask.specs.VerdictWords.{words_of}
 use Rattle.trace_text.specs.Lines.{pieces_of, is_empty, line_at, text_in, is_whole}
-use Rattle.trace_text.specs.Forms.{AskForm, Form, Limit, Step, End, words_of_form, StandsAt, IsOf, HasUnknown}
+use Rattle.trace_text.specs.Forms.{AskForm, Form, Limit, Step, End, words_of_form, StandsAt, IsOf}
+use Rattle.trace_text.specs.Forms.{HasUnknown}
 use Rattle.trace_text.specs.declared.fault.TraceFault.{TraceFault}
 use Rattle.trace_text.specs.declared.fault.TraceFault.TheVariants as kinds
 
@@ -49,9 +51,13 @@ IsStepLine names pieces k number =
 abbrev pub IsVerdictLine : NameLists → List (List ℕ) → ℕ → Type 0
 IsVerdictLine names pieces k = (verdict : NamedVerdict) × HasForm names pieces k (End verdict)
 
+-- no verdict line stands before line k
+abbrev pub IsOpen : NameLists → List (List ℕ) → ℕ → Type 0
+IsOpen names pieces k = (j : ℕ) → j < k → ¬ IsVerdictLine names pieces j
+
 -- line k stands after the head, and no verdict line before it
 abbrev pub IsInBody : NameLists → List (List ℕ) → ℕ → Type 0
-IsInBody names pieces k = (5 ≤ k) × ((j : ℕ) → j < k → ¬ IsVerdictLine names pieces j)
+IsInBody names pieces k = (5 ≤ k) × IsOpen names pieces k
 
 -- ---- when line k is faulty by a kind
 
@@ -76,11 +82,11 @@ abbrev pub BadLine : NameLists → List (List ℕ) → ℕ → Type 0
 BadLine names pieces k =
     IsInBody names pieces k × (is_there pieces k ≡ true) × ¬ IsSound names pieces k
 
--- The order has a name that is no thread's; or a later line has a name that isn't declared with the
--- kind that its place needs.
+-- A name isn't declared with the kind that its place needs, in the order or in a later line, where
+-- no verdict line stands before it.
 abbrev pub UnknownName : NameLists → List (List ℕ) → ℕ → Type 0
 UnknownName names pieces k =
-    ((k ≡ 2) ⊎ IsInBody names pieces k)
+    IsOpen names pieces k
     × (form : Form)
     × HasForm names pieces k form
     × HasUnknown names form

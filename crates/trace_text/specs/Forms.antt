@@ -1,6 +1,7 @@
 -- The lines of a trace by form: a table of forms with their words, and what a form asks of its
 -- operands (this project).
-use Rattle.std.specs.Prelude.{◌≡◌, ℕ, ℤ, ◌<◌, ◌≤◌, ◌⊎◌, ◌^◌, Bool, true, List, [], ◌∷◌, ◌++◌, length, map, None, All, Any, codes, decimal}
+use Rattle.std.specs.Prelude.{◌≡◌, ℕ, ℤ, ◌<◌, ◌≤◌, ◌⊎◌, ◌^◌, Bool, true, List, [], ◌∷◌, ◌++◌}
+use Rattle.std.specs.Prelude.{length, map, None, All, Any, codes, decimal}
 use Rattle.std.specs.Fmt.{signed_decimal}
 use Rattle.pct_ask.specs.Words.{is_name}
 use Rattle.pct_ask.specs.NameLists.{NameLists, list_of, place_of, AreDistinct}

@@ -7,9 +7,9 @@ use Rattle.pct_ask.specs.VerdictText.{NamedStuck}
 use Rattle.pct_ask.specs.VerdictWords.{words_of}
 use Rattle.pct_ask.specs.declared.ask.Ask.TheVariants.{Read, Add, RdLock}
 use Rattle.pct_ask.specs.declared.verdict.Verdict.TheVariants.{Stuck, Cut}
-use Rattle.trace_text.specs.Numbers.{value_of}
-use Rattle.trace_text.specs.StepLines.{row_of, step_of}
-use Rattle.trace_text.specs.Asks.{ask_on_one}
+use Rattle.trace_text.specs.reader.Numbers.{value_of}
+use Rattle.trace_text.specs.reader.StepLines.{row_of, step_of}
+use Rattle.trace_text.specs.reader.Asks.{ask_on_one}
 use Rattle.trace_text.specs.Faults.{version_of}
 use Rattle.trace_text.specs.Forms as forms
 use Rattle.trace_text.specs.Forms.{Order, Points, Limit, End, On, Cas, Release, words_of_form}

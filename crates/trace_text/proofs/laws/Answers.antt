@@ -3,7 +3,7 @@ use Rattle.std.proofs.Common.{◌≡◌, ◌⊎◌, ℕ, List, Result, Ok, Err, 
 use Rattle.pct_ask.specs.NameLists.{NameLists, AreNames}
 use Rattle.trace_text.specs.Answers.{Answers}
 use Rattle.trace_text.specs.Trace.{IsTrace}
-use Rattle.trace_text.specs.Reading.{Fault, read}
+use Rattle.trace_text.specs.reader.Reading.{Fault, read}
 use Rattle.trace_text.specs.declared.file.TraceFile.{TraceFile}
 use Rattle.trace_text.specs.declared.fault.TraceError.{TraceError}
 use Rattle.trace_text.specs.declared.fault.TraceError.TheVariants.{Bad, NoMemory}

@@ -1,12 +1,13 @@
--- The forms of the four lines of a head (this project).
-use Rattle.std.specs.Prelude.{ℕ, ◌==◌, ◌&&◌, Bool, true, not, nat_le, if◌then◌else◌, List, [], ◌∷◌, length, Option, Some, None, codes}
+-- How the four lines of a head are read (this project).
+use Rattle.std.specs.Prelude.{ℕ, ◌==◌, ◌&&◌, Bool, true, not, nat_le, if◌then◌else◌, List, [], ◌∷◌}
+use Rattle.std.specs.Prelude.{length, Option, Some, None, codes}
 use Rattle.std.specs.List.{list_all}
 use Rattle.std.specs.Option.{option_map}
 use Rattle.std.specs.Str.{bytes_eq}
 use Rattle.pct_ask.specs.Words.{is_name, is_among}
 use Rattle.pct_ask.specs.NameLists.{NameLists, place_of}
 use Rattle.pct_ask.specs.VerdictWords.{words_of}
-use Rattle.trace_text.specs.Numbers.{count_of}
+use Rattle.trace_text.specs.reader.Numbers.{count_of}
 
 -- trace 1, trace 2
 abbrev pub version_in : List ℕ → Option ℕ
@@ -19,10 +20,12 @@ abbrev pub are_different : List (List ℕ) → Bool
 are_different [] = true
 are_different (word ∷ words) = not (is_among word words) && are_different words
 
+-- as many different lawful names as there are threads
 abbrev pub are_order_names : NameLists → List (List ℕ) → Bool
 are_order_names names words =
     (length words == length names.threads) && list_all (is_name 1) words && are_different words
 
+-- the names behind the word `order`
 abbrev pub order_words : NameLists → List (List ℕ) → Option (List (List ℕ))
 order_words names [] = None
 order_words names (head ∷ words) =
@@ -32,6 +35,7 @@ order_words names (head ∷ words) =
 abbrev pub order_in : NameLists → List ℕ → Option (List (List ℕ))
 order_in names text = order_words names (words_of text)
 
+-- a list with one more in front, where there are both
 abbrev pub onto : {A : Type 0} → Option A → Option (List A) → Option (List A)
 onto None others = None
 onto (Some x) others = option_map (λ xs. x ∷ xs) others
@@ -49,6 +53,7 @@ threads_of names words = all_of (λ word. place_of word names.threads) words
 abbrev pub step_counts : List (List ℕ) → Option (List ℕ)
 step_counts words = all_of (count_of 1 100000) words
 
+-- the numbers behind the word `points`
 abbrev pub point_words : List (List ℕ) → Option (List ℕ)
 point_words [] = None
 point_words (head ∷ words) =
@@ -58,6 +63,7 @@ point_words (head ∷ words) =
 abbrev pub points_in : List ℕ → Option (List ℕ)
 points_in text = point_words (words_of text)
 
+-- the number behind the word `limit`
 abbrev pub limit_words : List (List ℕ) → Option ℕ
 limit_words (head ∷ number ∷ []) =
     if bytes_eq head (codes "limit") then count_of 1 100000 number else None

@@ -1,23 +1,28 @@
--- Reading a trace from its first line to its last.
-use Rattle.std.specs.Prelude.{ℕ, ◌+◌, ◌==◌, nat_lt, if◌then◌else◌, List, [], ◌∷◌, length, Option, Some, None, Result, Ok, Err}
+-- Reading a trace from its first line to its last (this project).
+use Rattle.std.specs.Prelude.{ℕ, ◌+◌, ◌==◌, nat_lt, if◌then◌else◌, List, [], ◌∷◌, length, Option}
+use Rattle.std.specs.Prelude.{Some, None, Result, Ok, Err}
 use Rattle.pct_ask.specs.NameLists.{NameLists}
 use Rattle.pct_ask.specs.declared.event.Event.{Event}
 use Rattle.pct_ask.specs.declared.verdict.Verdict.{Verdict}
 use Rattle.trace_text.specs.Lines.{pieces_of, is_empty}
-use Rattle.trace_text.specs.Heads.{version_in, order_in, threads_of, points_in, limit_in}
-use Rattle.trace_text.specs.StepLines.{row_of}
+use Rattle.trace_text.specs.reader.Heads.{version_in, order_in, threads_of, points_in, limit_in}
+use Rattle.trace_text.specs.reader.StepLines.{row_of}
 use Rattle.trace_text.specs.declared.row.Row.{Row}
 use Rattle.trace_text.specs.declared.row.Row.TheVariants.{Step, End}
 use Rattle.trace_text.specs.declared.row.Sound.{Sound}
 use Rattle.trace_text.specs.declared.row.Sound.TheVariants as sound
 use Rattle.trace_text.specs.declared.fault.TraceFault.{TraceFault}
-use Rattle.trace_text.specs.declared.fault.TraceFault.TheVariants.{TooLong, BadHeader, BadLine, UnknownName, OutOfOrder, NoVerdict, MoreAfterVerdict}
+use Rattle.trace_text.specs.declared.fault.TraceFault.TheVariants.{TooLong, BadHeader, BadLine}
+use Rattle.trace_text.specs.declared.fault.TraceFault.TheVariants.{UnknownName, OutOfOrder}
+use Rattle.trace_text.specs.declared.fault.TraceFault.TheVariants.{NoVerdict, MoreAfterVerdict}
 use Rattle.trace_text.specs.declared.file.TraceFile.{TraceFile}
 
+-- a line, and what is wrong with it
 abbrev pub Fault : Type 0
 Fault = ℕ × TraceFault
 
 infixl 10 ◌>>=◌
+-- what is read next, where nothing was faulty
 abbrev pub ◌>>=◌ : {A B : Type 0} → Result A Fault → (A → Result B Fault) → Result B Fault
 (Ok x) >>= f = f x
 (Err e) >>= f = Err e
@@ -37,6 +42,7 @@ abbrev pub head_line : {A : Type 0} → ℕ → (List ℕ → Option A) → List
 head_line line says [] = Err (line, BadHeader)
 head_line line says (piece ∷ pieces) = head_value line (says piece) pieces
 
+-- the order, where each of its names is a thread's
 abbrev pub known : Option (List ℕ) → Result (List ℕ) Fault
 known None = Err (2, UnknownName)
 known (Some order) = Ok order
@@ -57,6 +63,7 @@ unended_fault limit (Some (Step number event)) text =
     if nat_lt limit number then TooLong else BadLine
 unended_fault limit (Some (End verdict)) text = BadLine
 
+-- a step line within the limit: its event, where the step has the next number
 abbrev pub judged_event : ℕ → ℕ → Option Event → Result Sound TraceFault
 judged_event next number None = Err UnknownName
 judged_event next number (Some event) =
@@ -70,9 +77,11 @@ judged limit next (Some (Step number event)) =
 judged limit next (Some (End None)) = Err UnknownName
 judged limit next (Some (End (Some verdict))) = Ok (sound.Last verdict)
 
+-- the steps and the verdict
 abbrev pub Body : Type 0
 Body = List Event × Verdict
 
+-- one more step before those that are read
 abbrev pub with_event : Event → Result Body Fault → Result Body Fault
 with_event event (Ok body) = Ok (event ∷ body.0, body.1)
 with_event event (Err fault) = Err fault
@@ -83,6 +92,7 @@ closed line verdict [] [] = Ok ([], verdict)
 closed line verdict [] (piece ∷ pieces) = Err (line, MoreAfterVerdict)
 closed line verdict (b ∷ bs) pieces = Err (line, MoreAfterVerdict)
 
+-- what is read from a line on, by what the line is and what is read of the lines behind it
 abbrev pub after_line : ℕ → Result Sound TraceFault → List ℕ → List (List ℕ) → Result Body Fault
     → Result Body Fault
 after_line line (Err kind) piece pieces others = Err (line, kind)
@@ -101,6 +111,7 @@ body_of names version limit next (piece ∷ after ∷ pieces) =
 
 -- ---- the whole
 
+-- the file of a head and a body
 abbrev pub file_of : ℕ → List ℕ → List ℕ → ℕ → Body → TraceFile
 file_of version order points limit body = record {
   header = record { version = version; order = order; points = points; limit = limit };

@@ -1,16 +1,22 @@
--- The forms of an ask, by its words (this project). An ask is none where its words are no form, and
+-- How the words of an ask are read (this project). Nothing is read where they have no form, and
 -- otherwise the ask, or none where some name isn't declared with the kind that its place needs.
-use Rattle.std.specs.Prelude.{ℕ, ℤ, ◌==◌, ◌&&◌, Bool, true, false, if◌then◌else◌, List, [], ◌∷◌, Option, Some, None, codes}
+use Rattle.std.specs.Prelude.{ℕ, ℤ, ◌==◌, ◌&&◌, Bool, true, false, if◌then◌else◌, List, [], ◌∷◌}
+use Rattle.std.specs.Prelude.{Option, Some, None, codes}
 use Rattle.std.specs.Option.{option_map}
 use Rattle.std.specs.Str.{bytes_eq}
 use Rattle.pct_ask.specs.Words.{is_name, is_among}
 use Rattle.pct_ask.specs.NameLists.{NameLists, list_of, place_of}
 use Rattle.pct_ask.specs.VerdictWords.{fault_kind}
 use Rattle.pct_ask.specs.declared.names.NameKind.{NameKind}
-use Rattle.pct_ask.specs.declared.names.NameKind.TheVariants.{Thread, Var, Mutex, Cond, Sem, Barrier, RwLock}
+use Rattle.pct_ask.specs.declared.names.NameKind.TheVariants.{Thread, Var, Mutex, Cond, Sem}
+use Rattle.pct_ask.specs.declared.names.NameKind.TheVariants.{Barrier, RwLock}
 use Rattle.pct_ask.specs.declared.ask.Ask.{Ask}
-use Rattle.pct_ask.specs.declared.ask.Ask.TheVariants.{Read, Write, Add, Cas, Lock, TryLock, Unlock, Release, Regain, Signal, Broadcast, Down, TryDown, Up, Arrive, Leave, Join, Yield, Check, Fault, Start, Begin, RdLock, WrLock, TryRdLock, TryWrLock, RwUnlock}
-use Rattle.trace_text.specs.Numbers.{value_of}
+use Rattle.pct_ask.specs.declared.ask.Ask.TheVariants.{Read, Write, Add, Cas, Lock, TryLock, Unlock}
+use Rattle.pct_ask.specs.declared.ask.Ask.TheVariants.{Release, Regain, Signal, Broadcast, Down}
+use Rattle.pct_ask.specs.declared.ask.Ask.TheVariants.{TryDown, Up, Arrive, Leave, Join, Yield}
+use Rattle.pct_ask.specs.declared.ask.Ask.TheVariants.{Check, Fault, Start, Begin, RdLock, WrLock}
+use Rattle.pct_ask.specs.declared.ask.Ask.TheVariants.{TryRdLock, TryWrLock, RwUnlock}
+use Rattle.trace_text.specs.reader.Numbers.{value_of}
 
 -- A name as an object of a kind: none where it is no lawful name, and otherwise its place, if it is
 -- declared so.
@@ -64,6 +70,7 @@ bare_ask word =
     if bytes_eq word (codes "yield") then Some (Some Yield)
     else (if bytes_eq word (codes "begin") then Some (Some Begin) else None)
 
+-- what a check found: 1 where it holds, 0 where it fails
 abbrev pub holds_of : List ℕ → Option Bool
 holds_of word =
     if bytes_eq word (codes "1") then Some true
@@ -78,6 +85,7 @@ plain_ask word operand =
     then option_map (λ kind. Some (Fault kind)) (fault_kind operand)
     else None)
 
+-- an ask of two words, where the first asks something of an object of this kind, or of none
 abbrev pub ask_by : NameLists → Option NameKind → List ℕ → List ℕ → Option (Option Ask)
 ask_by names None word operand = plain_ask word operand
 ask_by names (Some kind) word operand =
@@ -87,16 +95,19 @@ ask_by names (Some kind) word operand =
 unfoldable pub ask_on_one : NameLists → ℕ → List ℕ → List ℕ → Option (Option Ask)
 ask_on_one names version word operand = ask_by names (kind_of version word) word operand
 
+-- an ask of an object and with a number, where both are read
 abbrev pub with_value : (ℕ → ℤ → Ask) → Option (Option ℕ) → Option ℤ → Option (Option Ask)
 with_value ask None value = None
 with_value ask (Some found) None = None
 with_value ask (Some found) (Some value) = Some (option_map (λ x. ask x value) found)
 
+-- an ask of two objects, where both are declared
 abbrev pub both : (ℕ → ℕ → Ask) → Option ℕ → Option ℕ → Option Ask
 both ask None m = None
 both ask (Some c) None = None
 both ask (Some c) (Some m) = Some (ask c m)
 
+-- an ask of two objects, where both have lawful names
 abbrev pub waiting : (ℕ → ℕ → Ask) → Option (Option ℕ) → Option (Option ℕ) → Option (Option Ask)
 waiting ask None m = None
 waiting ask (Some c) None = None
@@ -113,6 +124,7 @@ ask_on_two names word a b =
     then waiting Regain (object names Cond a) (object names Mutex b)
     else None)))
 
+-- an exchange, where its object and its two numbers are read
 abbrev pub exchange : Option (Option ℕ) → Option ℤ → Option ℤ → Option (Option Ask)
 exchange None old new = None
 exchange (Some found) None new = None

@@ -1,5 +1,6 @@
--- The forms of the lines after the head: a step line or the verdict line (this project).
-use Rattle.std.specs.Prelude.{ℕ, ℤ, ◌==◌, ◌&&◌, Bool, true, false, if◌then◌else◌, nat_eq, List, [], ◌∷◌, take, drop, Option, Some, None, codes}
+-- How the lines after the head are read: a step line or the verdict line (this project).
+use Rattle.std.specs.Prelude.{ℕ, ℤ, ◌==◌, ◌&&◌, Bool, true, false, if◌then◌else◌, nat_eq, List, []}
+use Rattle.std.specs.Prelude.{◌∷◌, take, drop, Option, Some, None, codes}
 use Rattle.std.specs.List.{ends_with}
 use Rattle.std.specs.Str.{bytes_eq}
 use Rattle.pct_ask.specs.NameLists.{NameLists}
@@ -9,8 +10,8 @@ use Rattle.pct_ask.specs.declared.ask.Ask.{Ask}
 use Rattle.pct_ask.specs.declared.event.Event.{Event}
 use Rattle.pct_ask.specs.declared.verdict_text.VerdictRead.{VerdictRead}
 use Rattle.pct_ask.specs.declared.verdict_text.VerdictRead.TheVariants.{Is, NoForm, UnknownName}
-use Rattle.trace_text.specs.Numbers.{value_of, natural_of, count_of}
-use Rattle.trace_text.specs.Asks.{object, bare_ask, ask_on_one, ask_on_two, ask_on_three}
+use Rattle.trace_text.specs.reader.Numbers.{value_of, natural_of, count_of}
+use Rattle.trace_text.specs.reader.Asks.{object, bare_ask, ask_on_one, ask_on_two, ask_on_three}
 use Rattle.trace_text.specs.Lawful.{is_of_second}
 use Rattle.trace_text.specs.declared.row.Row.{Row}
 use Rattle.trace_text.specs.declared.row.Row.TheVariants.{Step, End}
@@ -22,6 +23,7 @@ event_of (Some thread) line None answer = None
 event_of (Some thread) line (Some ask) answer =
     Some (record { thread = thread; line = line; ask = ask; answer = answer })
 
+-- a step, where each of its parts is read and `=` stands before the answer
 abbrev pub step_of_parts : Option ℕ → Option (Option ℕ) → Option ℕ → Option (Option Ask) → Bool
     → Option ℤ → Option Row
 step_of_parts None thread line ask sign answer = None
@@ -56,6 +58,8 @@ step_of_words names version words = None
 abbrev pub tells_reads : List ℕ → Bool
 tells_reads text = ends_with nat_eq text (codes " toomanyreads")
 
+-- The verdict of a text, by how the text is read: the first version has none that comes from
+-- read-write locks alone.
 abbrev pub end_of : ℕ → List ℕ → VerdictRead → Option Row
 end_of version text NoForm = None
 end_of version text UnknownName = if version == 1 && tells_reads text then None else Some (End None)
