@@ -1,0 +1,1 @@
+cat tests/cases/explain_cut/out

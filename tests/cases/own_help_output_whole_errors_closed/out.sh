@@ -1,0 +1,1 @@
+cat tests/cases/own_help/out
