@@ -1,4 +1,5 @@
--- The laws by which a list of places is copied, compared and hashed.
+-- The laws by which a list of places is copied, compared and hashed. Nothing here is needed to read
+-- a contract.
 use Rattle.std.specs.Prelude.{◌≡◌, ℕ, ◌+◌, ◌<◌, ◌==◌, Option, Some, None, List, [], ◌∷◌, refl, true}
 use Rattle.std.specs.Prelude.{false, length, suc}
 use Rattle.std.specs.Bool.{Decides}
