@@ -49,6 +49,8 @@ pub record IsToldOver (v : View) (t : ℕ) (post : Post) (outcome : Outcome) (w 
   pub pairs : pairs_of w.seen t ≡ pairs_of v.seen t
   pub given : IsGiven v t post w
 
+-- What each answer to an ask says: the thread took the step that it asked for, and this is the
+-- answer to it; or it was told how the run ended, and took none.
 abbrev pub AskTells : View → ℕ → Ask → ℕ → Asked → View → Type 0
 AskTells v t ask line (Answer answer) w = IsAnsweredAsk v t ask line answer w
 AskTells v t ask line (Over outcome) w = IsToldOver v t (ask_post ask line) outcome w

@@ -34,8 +34,9 @@ impl Model for Kit {
 }
 
 impl Kit {
-    /// A test of so many threads, by an order of them, the highest first, and change points, that stops after `limit` steps.
-    /// The seat serves all its threads, each of which owes its first post.
+    /// A test of so many threads, by an order of them, the highest first, and change points, that
+    /// stops after `limit` steps. The seat serves all its threads, each of which owes its first
+    /// post.
     pub fn open(
         alloc: Global,
         deal: Deal,
@@ -68,7 +69,8 @@ impl Kit {
         Ok((Kit { lock }, seat))
     }
 
-    /// Takes a thread off the seat, into a new seat that serves it alone, which a thread of the caller's can take along.
+    /// Takes a thread off the seat, into a new seat that serves it alone, which a thread of the
+    /// caller's can take along.
     pub fn split(&self, seat: &mut Seat<Pct>, thread: u32) -> Seat<Pct>
         requires of { IsOf self.now seat.old }
         requires serves { Serves (view seat.old) thread }
@@ -114,7 +116,8 @@ impl Kit {
         self.lock.join(seat, other);
     }
 
-    /// Gives the book of the test back, which has each thread's posts and steps as its port had them.
+    /// Gives the book of the test back, which has each thread's posts and steps as its port had
+    /// them.
     pub fn close(self, seat: Seat<Pct>) -> TurnBook<Pct>
         requires of { IsOf self seat }
         requires all { ServesAll (view seat) }

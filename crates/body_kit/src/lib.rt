@@ -1,4 +1,5 @@
-//! Tests written in Rust, under the same lock as scripts: as bodies in boxes, or as threads of one's own that each have a port.
+//! Tests written in Rust, under the same lock as scripts: as bodies in boxes, or as threads of
+//! one's own that each have a port.
 #![tactic(auto)]
 
 mod asked;

@@ -26,7 +26,8 @@ fn over_of(asked: &Asked) -> Option<Outcome>
     }
 }
 
-/// What a thread of the caller's own asks through. Contracts see a port as its seat, which serves one thread.
+/// What a thread of the caller's own asks through. Contracts see a port as its seat, which serves
+/// one thread.
 #[derive(Drop)]
 pub struct Port<'k> {
     lock: &'k TurnLock<Pct>,
@@ -63,8 +64,8 @@ impl<'k> Port<'k> {
         }
     }
 
-    /// The thread asks something, on a line of its own, and waits for its turn. Once it was told that the run is over it is
-    /// told so again.
+    /// The thread asks something, on a line of its own, and waits for its turn. Once it was told
+    /// that the run is over it is told so again.
     pub fn ask<R: Wait>(&mut self, rt: &R, ask: Ask, line: u32) -> Asked
         requires in_range { IsInRange (sizes_of_deal (view self.old).seen.deal) ask }
         ensures back { IsBack self.old self.new }
@@ -83,7 +84,8 @@ impl<'k> Port<'k> {
         asked
     }
 
-    /// The thread ends, on a line of its own, and its seat is given back. Where the run is over nothing is posted.
+    /// The thread ends, on a line of its own, and its seat is given back. Where the run is over
+    /// nothing is posted.
     pub fn end<R: Wait>(self, rt: &R, line: u32) -> Seat<Pct>
         ensures back { IsBack self.entry result }
         ensures ended { (t : ℕ) → Serves (view self.entry) t

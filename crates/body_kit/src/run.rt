@@ -20,8 +20,9 @@ use worker_run::run_threads;
 /// The run of a test: its steps, and its verdict.
 pub use worker_run::WholeRun as BoxedRun;
 
-/// Runs the bodies of a test, one for each thread, each in a thread of its own, by an order of the threads, the highest
-/// first, and change points, and stops after `limit` steps. The gate is passed before each post.
+/// Runs the bodies of a test, one for each thread, each in a thread of its own, by an order of the
+/// threads, the highest first, and change points, and stops after `limit` steps. The gate is passed
+/// before each post.
 pub fn run_boxed<R: Threads + Wait + Sync, G: Gate>(
     rt: &R,
     alloc: Global,

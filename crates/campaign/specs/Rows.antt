@@ -1,6 +1,7 @@
--- A campaign: a test is run once for each of some seeds in turn, with the order and the change points that the seed gives,
--- and each run makes a row (this project; the runs are those of the PCT scheduler: Burckhardt, Kothari, Musuvathi,
--- Nagarakatte, "A Randomized Scheduler with Probabilistic Guarantees of Finding Bugs", 2010).
+-- A campaign: a test is run once for each of some seeds in turn, with the order and the change
+-- points that the seed gives, and each run makes a row (this project; the runs are those of the PCT
+-- scheduler: Burckhardt, Kothari, Musuvathi, Nagarakatte, "A Randomized Scheduler with
+-- Probabilistic Guarantees of Finding Bugs", 2010).
 use Rattle.std.specs.Prelude.{ℕ, ◌+◌, ◌%◌, ◌^◌, List, length, map, Option}
 use Rattle.std.specs.Option.{option_map}
 use Rattle.std.specs.List.{range_with_len}
@@ -10,8 +11,8 @@ use Rattle.priority_draw.specs.Drawing.{drawn}
 use Rattle.worker_run.specs.Bodies.{Pending}
 use Rattle.worker_run.specs.Run.{Run, run}
 
--- what the runs of a campaign have in common: what the threads share, their bodies, the depth, from how many steps points
--- are drawn, and the limit
+-- what the runs of a campaign have in common: what the threads share, their bodies, the depth, from
+-- how many steps points are drawn, and the limit
 pub record Setup : Type 0 where
   pub deal : Deal
   pub bodies : List Pending

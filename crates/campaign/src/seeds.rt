@@ -14,7 +14,8 @@ use std::sync::Wait;
 use std::thread::Threads;
 use worker_run::run_by_points;
 
-/// The run of a seed, as a row. All that the row needs is taken before the run begins, and the run's trace is dropped.
+/// The run of a seed, as a row. All that the row needs is taken before the run begins, and the
+/// run's trace is dropped.
 fn row_of_seed<R: Threads + Wait + Sync, G: Gate>(
     rt: &R,
     alloc: Global,
@@ -64,10 +65,11 @@ fn row_of_seed<R: Threads + Wait + Sync, G: Gate>(
     })
 }
 
-/// Runs a script's code once for each of `count` seeds from `first` on, in real threads, one seed after another; after the
-/// last seed, 2^64 - 1, comes 0. Each run goes by the order and the change points that its seed gives, points drawn from
-/// 1 to `steps` and one fewer than the depth, and has at most `limit` steps. The room for all rows is taken before the
-/// first run. The gate is passed before each post.
+/// Runs a script's code once for each of `count` seeds from `first` on, in real threads, one seed
+/// after another; after the last seed, 2^64 - 1, comes 0. Each run goes by the order and the change
+/// points that its seed gives, points drawn from 1 to `steps` and one fewer than the depth, and has
+/// at most `limit` steps. The room for all rows is taken before the first run. The gate is passed
+/// before each post.
 pub fn campaign<R: Threads + Wait + Sync, G: Gate>(
     rt: &R,
     alloc: Global,

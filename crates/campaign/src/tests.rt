@@ -49,7 +49,8 @@ fn expect_rows<R: Abort + Threads + Wait + Sync>(
     Ok(())
 }
 
-/// A thread that does nothing passes under each seed, and one whose only step fails fails under each.
+/// A thread that does nothing passes under each seed, and one whose only step fails fails under
+/// each.
 #[test]
 fn small_campaigns(rt: HostRuntime) -> Result<(), Fail> {
     let alloc = rt.alloc();

@@ -25,9 +25,11 @@ pub record IsOnlyFault (bytes : List ℕ) (names : NameLists) (line : ℕ)
       → (line ≡ other) × (kind ≡ k)
   pub no_directive : (told : DirectiveText) → ¬ IsDirective bytes names told
 
+-- the text is that of just one directive, and has no fault
 abbrev pub TellsOne : List ℕ → NameLists → Type 0
 TellsOne bytes names = (told : DirectiveText) × IsOnlyDirective bytes names told
 
+-- the text is no directive's, and has just one first fault
 abbrev pub FailsOnce : List ℕ → NameLists → Type 0
 FailsOnce bytes names = (line : ℕ) × (kind : DirectiveFault) × IsOnlyFault bytes names line kind
 

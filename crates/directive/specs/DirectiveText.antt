@@ -13,12 +13,15 @@ pub record DirectiveText : Type 0 where
   pub events : List Moment
   pub verdict : Verdict
 
+-- low NAME, which names the thread that is lowest; without its LF
 abbrev pub low_line : List ℕ → List ℕ
 low_line name = join_with_byte 32 (codes "low" ∷ name ∷ [])
 
+-- after NAME NUMBER: a thread, and the number of a step among its own; without its LF
 abbrev pub after_line : List ℕ → ℕ → List ℕ
 after_line name number = join_with_byte 32 (codes "after" ∷ name ∷ decimal number ∷ [])
 
+-- the `after` line of a moment, with its thread's name
 abbrev pub moment_line : NameLists → Moment → List ℕ
 moment_line names moment = after_line (thread_name names moment.thread) moment.number
 
@@ -36,5 +39,6 @@ directive_lines names told =
 abbrev pub text_of_lines : List (List ℕ) → List ℕ
 text_of_lines lines = flat_map (λ line. line ++ 10 ∷ []) lines
 
+-- the text of a directive file: all its lines, each with its LF
 abbrev pub directive_text : NameLists → DirectiveText → List ℕ
 directive_text names told = text_of_lines (directive_lines names told)

@@ -2,10 +2,13 @@
 -- line is faulty (this project).
 use Rattle.std.specs.Prelude.{◌≡◌, ℕ, ◌-◌, ◌<◌, ◌≤◌, ◌⊎◌, true, List, length, codes}
 use Rattle.pct_ask.specs.NameLists.{NameLists}
-use Rattle.directive.specs.Forms.{IsLow, IsAfterText, IsVerdictText, HasUnknownLow, HasUnknownAfter, HasUnknownVerdict}
+use Rattle.directive.specs.Forms.{IsLow, IsAfterText, IsVerdictText, HasUnknownLow, HasUnknownAfter}
+use Rattle.directive.specs.Forms.{HasUnknownVerdict}
 use Rattle.directive.specs.Lines.{pieces_of, Line, line_at, IsThere}
 use Rattle.directive.specs.declared.fault.DirectiveFault.{DirectiveFault}
-use Rattle.directive.specs.declared.fault.DirectiveFault.TheVariants.{TooLong, BadHeader, BadLine, UnknownName, NoVerdict, MoreAfterVerdict}
+use Rattle.directive.specs.declared.fault.DirectiveFault.TheVariants.{TooLong, BadHeader, BadLine}
+use Rattle.directive.specs.declared.fault.DirectiveFault.TheVariants.{UnknownName, NoVerdict}
+use Rattle.directive.specs.declared.fault.DirectiveFault.TheVariants.{MoreAfterVerdict}
 
 -- directive 1, with its LF
 pub record IsFirstLine (line : Line) : Type 0 where

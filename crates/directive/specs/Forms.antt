@@ -25,24 +25,30 @@ pub record IsVerdict (names : NameLists) (text : List ℕ) (verdict : NamedVerdi
   pub form : IsForm names verdict
   pub spelled : text ≡ verdict_line (named_text verdict)
 
+-- the text is an `after` line by form, with some name and some number
 abbrev pub IsAfterText : List ℕ → Type 0
 IsAfterText text = (name : List ℕ) × (number : ℕ) × IsAfter text name number
 
+-- the text is a verdict line by form, with some verdict
 abbrev pub IsVerdictText : NameLists → List ℕ → Type 0
 IsVerdictText names text = (verdict : NamedVerdict) × IsVerdict names text verdict
 
 -- ---- a name of it is no thread's
 
+-- no thread of the test has the name
 abbrev pub IsNobody : NameLists → List ℕ → Type 0
 IsNobody names name = place_of name names.threads ≡ None
 
+-- a `low` line by form, and no thread has its name
 abbrev pub HasUnknownLow : NameLists → List ℕ → Type 0
 HasUnknownLow names text = (name : List ℕ) × IsLow text name × IsNobody names name
 
+-- an `after` line by form, and no thread has its name
 abbrev pub HasUnknownAfter : NameLists → List ℕ → Type 0
 HasUnknownAfter names text =
     (name : List ℕ) × (number : ℕ) × IsAfter text name number × IsNobody names name
 
+-- a verdict line by form, and some name in it is no thread's
 abbrev pub HasUnknownVerdict : NameLists → List ℕ → Type 0
 HasUnknownVerdict names text =
     (verdict : NamedVerdict) × IsVerdict names text verdict × HasUnknown names verdict

@@ -1,5 +1,7 @@
 -- Reading a directive from its first line to its last.
-use Rattle.std.specs.Prelude.{ℕ, ℤ, pos, negsuc, ◌+◌, ◌&&◌, nat_le, nat_lt, if◌then◌else◌, List, [], ◌∷◌, length, take, drop, Option, Some, None, Result, Ok, Err, codes, decimal}
+use Rattle.std.specs.Prelude.{ℕ, ℤ, pos, negsuc, ◌+◌, ◌&&◌, nat_le, nat_lt, if◌then◌else◌, List, []}
+use Rattle.std.specs.Prelude.{◌∷◌, length, take, drop, Option, Some, None, Result, Ok, Err, codes}
+use Rattle.std.specs.Prelude.{decimal}
 use Rattle.std.specs.Str.{bytes_eq}
 use Rattle.std.specs.Str.Parse.{digits_value}
 use Rattle.pct_ask.specs.Words.{is_name}
@@ -7,7 +9,8 @@ use Rattle.pct_ask.specs.NameLists.{NameLists, place_of}
 use Rattle.pct_ask.specs.VerdictWords.{words_of, verdict_of_words}
 use Rattle.pct_ask.specs.declared.verdict.Verdict.{Verdict}
 use Rattle.pct_ask.specs.declared.verdict_text.VerdictRead.{VerdictRead}
-use Rattle.pct_ask.specs.declared.verdict_text.VerdictRead.TheVariants.{Is, NoForm, UnknownName as Unknown}
+use Rattle.pct_ask.specs.declared.verdict_text.VerdictRead.TheVariants.{Is, NoForm}
+use Rattle.pct_ask.specs.declared.verdict_text.VerdictRead.TheVariants.{UnknownName as Unknown}
 use Rattle.rank_now.specs.declared.moment.Moment.{Moment}
 use Rattle.directive.specs.DirectiveText.{DirectiveText}
 use Rattle.directive.specs.Lines.{pieces_of}
@@ -16,7 +19,9 @@ use Rattle.directive.specs.declared.row.Row.TheVariants.{After, End}
 use Rattle.directive.specs.declared.row.Sound.{Sound}
 use Rattle.directive.specs.declared.row.Sound.TheVariants as sound
 use Rattle.directive.specs.declared.fault.DirectiveFault.{DirectiveFault}
-use Rattle.directive.specs.declared.fault.DirectiveFault.TheVariants.{TooLong, BadHeader, BadLine, UnknownName, NoVerdict, MoreAfterVerdict}
+use Rattle.directive.specs.declared.fault.DirectiveFault.TheVariants.{TooLong, BadHeader, BadLine}
+use Rattle.directive.specs.declared.fault.DirectiveFault.TheVariants.{UnknownName, NoVerdict}
+use Rattle.directive.specs.declared.fault.DirectiveFault.TheVariants.{MoreAfterVerdict}
 
 abbrev pub Fault : Type 0
 Fault = ℕ × DirectiveFault

@@ -1,5 +1,6 @@
 -- How the code's values stand for those of the definitions.
-use Rattle.std.specs.Prelude.{◌≡◌, ℕ, ◌+◌, List, [], map, Option, Some, None, Result, Ok, Err, length}
+use Rattle.std.specs.Prelude.{◌≡◌, ℕ, ◌+◌, List, [], map, Option, Some, None, Result, Ok, Err}
+use Rattle.std.specs.Prelude.{length}
 use Rattle.std.proofs.Common.{Bor}
 use Rattle.directive.specs.Lines.{pieces_of}
 use Rattle.directive.specs.Reading.{Fault}

@@ -1,10 +1,12 @@
 //! A directive, written line by line.
 
 ghost use Rattle.std.specs.Prelude.{◌≡◌, ◌<◌, [], ◌∷◌, ◌++◌, All, IfOk, OnOk, length, map};
-ghost use Rattle.pct_ask.specs.VerdictText.{thread_name, verdict_text, named, IsForm, HasNames, IsWhole};
+ghost use Rattle.pct_ask.specs.VerdictText.{thread_name, verdict_text, named, IsForm, HasNames};
+ghost use Rattle.pct_ask.specs.VerdictText.{IsWhole};
 ghost use Rattle.directive.specs.Answers.{told};
 ghost use Rattle.directive.specs.Directive.{IsDirective, IsMoment};
-ghost use Rattle.directive.specs.DirectiveText.{low_line, moment_line, verdict_line, text_of_lines, directive_text};
+ghost use Rattle.directive.specs.DirectiveText.{low_line, moment_line, verdict_line, text_of_lines};
+ghost use Rattle.directive.specs.DirectiveText.{directive_text};
 
 use crate::directive::Directive;
 use pct_ask::{NameKind, Names, Verdict, write_number, write_verdict};

@@ -50,6 +50,8 @@ pub record IsPass (deal : Deal) (bodies : List Pending) (order points : List ℕ
       directed deal bodies order (events_of (schedule_of made) points) limit ≡ Some (made, Passed)
   pub number : steps ≡ length made
 
+-- What each answer says: the run fails, and these moments lead to its verdict and are all needed;
+-- or it passes, after so many steps.
 abbrev pub Finds : Deal → List Pending → List ℕ → List ℕ → ℕ → FoundOut → Type 0
 Finds deal bodies order points limit (Events events verdict steps) =
     IsFound deal bodies order points limit events verdict steps

@@ -2,3 +2,4 @@ pub mod Moments
 pub mod Reduced
 pub mod Found
 pub mod Rows
+pub mod Laws

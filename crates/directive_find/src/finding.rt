@@ -26,8 +26,8 @@ use std::thread::Threads;
 /// What a run by an order and change points comes to.
 #[derive(Debug, Drop)]
 pub enum FoundOut {
-    /// These moments lead the order to the run's verdict, each of them is needed, and their directed run has this number
-    /// of steps.
+    /// These moments lead the order to the run's verdict, each of them is needed, and their
+    /// directed run has this number of steps.
     Events {
         events: MomentList,
         verdict: Verdict,
@@ -39,8 +39,9 @@ pub enum FoundOut {
     },
 }
 
-/// Runs a script by an order of its threads, the highest first, and change points, which are numbers of steps from 1. Where
-/// the run doesn't pass, finds few moments by which the order has the same verdict. There are at most 29 runs.
+/// Runs a script by an order of its threads, the highest first, and change points, which are
+/// numbers of steps from 1. Where the run doesn't pass, finds few moments by which the order has
+/// the same verdict. There are at most 29 runs.
 pub fn find<R: Threads + Wait + Sync, G: Gate>(
     rt: &R,
     alloc: Global,

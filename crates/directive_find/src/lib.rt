@@ -1,8 +1,9 @@
-//! A short directive from a failing run: the moments of the run by an order and change points, without those that its
-//! verdict doesn't need.
+//! A short directive from a failing run: the moments of the run by an order and change points,
+//! without those that its verdict doesn't need.
 #![tactic(auto)]
 
 mod finding;
+mod found;
 mod moments;
 mod reducing;
 mod running;
@@ -12,3 +13,4 @@ mod samples;
 mod tests;
 
 pub use finding::{FoundOut, find};
+pub use found::one_finding;

@@ -17,7 +17,8 @@ fn own_steps(events: &[Event], thread: u32) -> usize
     events.iter().filter(|event| event.thread == thread).count()
 }
 
-/// The moment of a step, counted from 1: its thread, and the number of the thread's own step that it is.
+/// The moment of a step, counted from 1: its thread, and the number of the thread's own step that
+/// it is.
 fn moment_at(events: &[Event], step: u32) -> Moment
     requires some { 1 ≤ step }
     requires within { step ≤ length events.now }

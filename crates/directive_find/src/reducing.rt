@@ -33,7 +33,8 @@ fn without(alloc: Global, events: &[Moment], place: usize) -> Result<MomentList,
     Ok(MomentList::from_vec(rest))
 }
 
-/// Leaves out the first moment without which the directed run still has the verdict. `None` where each is needed.
+/// Leaves out the first moment without which the directed run still has the verdict. `None` where
+/// each is needed.
 fn leave_out<R: Threads + Wait + Sync, G: Gate>(
     rt: &R,
     alloc: Global,
@@ -70,7 +71,8 @@ fn leave_out<R: Threads + Wait + Sync, G: Gate>(
     Ok(None)
 }
 
-/// Leaves out single moments, each time the first that the verdict doesn't need, until each is needed.
+/// Leaves out single moments, each time the first that the verdict doesn't need, until each is
+/// needed.
 pub fn reduce<R: Threads + Wait + Sync, G: Gate>(
     rt: &R,
     alloc: Global,

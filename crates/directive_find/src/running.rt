@@ -20,7 +20,8 @@ use std::sync::Wait;
 use std::thread::Threads;
 use worker_run::{WholeRun, run_by_events, run_by_points};
 
-/// Runs the bodies of a script under an order of its threads and change points, of at most `limit` steps.
+/// Runs the bodies of a script under an order of its threads and change points, of at most `limit`
+/// steps.
 pub fn run_of_points<R: Threads + Wait + Sync, G: Gate>(
     rt: &R,
     alloc: Global,

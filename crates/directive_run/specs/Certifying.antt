@@ -16,7 +16,8 @@ use Rattle.directive_run.specs.Counting.{hits}
 use Rattle.directive_run.specs.Guarantees.{EndsIn, IsLed, Guarantees}
 use Rattle.directive_run.specs.declared.answers.CertifyRow.{CertifyRow}
 use Rattle.directive_run.specs.declared.answers.Certified.{Certified}
-use Rattle.directive_run.specs.declared.answers.Certified.TheVariants.{Yes, Refuted, TooLong, TooManyThreads}
+use Rattle.directive_run.specs.declared.answers.Certified.TheVariants.{Yes, Refuted, TooLong}
+use Rattle.directive_run.specs.declared.answers.Certified.TheVariants.{TooManyThreads}
 
 -- The order's directed run has the verdict and at most so many steps; the points are those of its
 -- moments, and the run of the order and these points has the same steps and the verdict.
@@ -86,6 +87,8 @@ pub record IsTooLongUnder (deal : Deal) (bodies : List Pending) (directive : Dir
   pub last : EndsIn order directive.low
   pub too_long : IsTooLong deal bodies order directive.events steps limit many
 
+-- What each answer says of the directive: it is certified; or this order is the first that isn't
+-- led to its verdict, by another verdict or by too many steps; or there are more than 7 threads.
 abbrev pub Certifies : Deal → List Pending → Directive → ℕ → ℕ → Certified → Type 0
 Certifies deal bodies directive steps limit (Yes bound rows) =
     IsCertified deal bodies directive steps limit bound rows
@@ -96,6 +99,7 @@ Certifies deal bodies directive steps limit (TooLong order many) =
 Certifies deal bodies directive steps limit (TooManyThreads threads) =
     (threads ≡ deal.threads) × (7 < threads)
 
+-- the answer is that the directive is certified
 abbrev pub IsYes : Certified → Type 0
 IsYes (Yes bound rows) = Unit {0}
 IsYes (Refuted order verdict) = ⊥

@@ -1,5 +1,6 @@
 -- How many choices of an order and change points lead to a verdict (this project).
-use Rattle.std.specs.Prelude.{ℕ, zero, suc, Bool, false, List, [], ◌∷◌, map, Option, Some, None, sum_by, count_by}
+use Rattle.std.specs.Prelude.{ℕ, zero, suc, Bool, false, List, [], ◌∷◌, map, Option, Some, None}
+use Rattle.std.specs.Prelude.{sum_by, count_by}
 use Rattle.std.specs.List.{flat_map, range_with_len}
 use Rattle.pct_ask.specs.declared.Deal.{Deal}
 use Rattle.pct_ask.specs.declared.verdict.Verdict.{Verdict}
@@ -14,6 +15,7 @@ pointlists k zero = [] ∷ []
 pointlists k (suc many) =
     flat_map (λ point. map (λ points. point ∷ points) (pointlists k many)) (range_with_len 1 k)
 
+-- whether a run was made and ended with the verdict
 abbrev pub has_verdict : Verdict → Option Run → Bool
 has_verdict verdict None = false
 has_verdict verdict (Some run) = same_verdict run.1 verdict

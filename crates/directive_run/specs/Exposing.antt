@@ -39,6 +39,8 @@ pub record IsTooLong (deal : Deal) (bodies : List Pending) (order : List ℕ) (e
   pub number : many ≡ length made
   pub long : steps < many
 
+-- What each answer says: the directed run is that of the order and these points, or it has this
+-- number of steps, more than there may be.
 abbrev pub Exposes : Deal → List Pending → List ℕ → List Moment → ℕ → ℕ → Exposed → Type 0
 Exposes deal bodies order events steps limit (Points points played) =
     IsExposed deal bodies order events steps limit points played

@@ -1,7 +1,9 @@
 -- The orders of some threads, listed (this project).
-use Rattle.std.specs.Prelude.{ℕ, zero, suc, ◌*◌, List, [], ◌∷◌, ◌++◌, length, map, remove, slice_index}
+use Rattle.std.specs.Prelude.{ℕ, zero, suc, ◌*◌, List, [], ◌∷◌, ◌++◌, length, map, remove}
+use Rattle.std.specs.Prelude.{slice_index}
 use Rattle.std.specs.List.{range_with_len}
 
+-- n!, the product of the numbers 1 to n: how many orders n threads have
 abbrev pub factorial : ℕ → ℕ
 factorial zero = 1
 factorial (suc n) = suc n * factorial n
@@ -19,6 +21,8 @@ abbrev pub orders_by : ℕ → List ℕ → List (List ℕ)
 orders_by zero list = [] ∷ []
 orders_by (suc n) list = ending (orders_by n) list (suc n)
 
+-- all orders of the list's threads: their last thread varies slowest, from the list's last to its
+-- first
 abbrev pub orders : List ℕ → List (List ℕ)
 orders list = orders_by (length list) list
 

@@ -17,5 +17,6 @@ point_at steps step = if step == 0 then steps else step
 abbrev pub point_of_moment : List ℕ → ℕ → Moment → ℕ
 point_of_moment schedule steps moment = point_at steps (step_of_moment schedule moment)
 
+-- one point for each moment, in the order of the moments
 abbrev pub points_of : List ℕ → ℕ → List Moment → List ℕ
 points_of schedule steps events = map (point_of_moment schedule steps) events

@@ -1,11 +1,13 @@
 -- The accesses of variables, by what the search for races keeps of them.
-use Rattle.std.specs.Prelude.{ℕ, ℤ, pos, ◌==◌, Bool, true, false, ◌&&◌, ◌||◌, if◌then◌else◌, Option, Some, None}
+use Rattle.std.specs.Prelude.{ℕ, ℤ, pos, ◌==◌, Bool, true, false, ◌&&◌, ◌||◌, if◌then◌else◌, Option}
+use Rattle.std.specs.Prelude.{Some, None}
 use Rattle.std.specs.Ordering.{int_eq}
 use Rattle.pct_ask.specs.declared.ask.Ask.{Ask}
 use Rattle.pct_ask.specs.declared.ask.Ask.TheVariants.{Read, Write, Add, Cas}
 use Rattle.pct_ask.specs.declared.event.Event.{Event}
 use Rattle.hb_race.specs.declared.access.AccessKind.{AccessKind}
-use Rattle.hb_race.specs.declared.access.AccessKind.TheVariants.{PlainRead, PlainWrite, AtomicRead, AtomicWrite}
+use Rattle.hb_race.specs.declared.access.AccessKind.TheVariants.{PlainRead, PlainWrite, AtomicRead}
+use Rattle.hb_race.specs.declared.access.AccessKind.TheVariants.{AtomicWrite}
 use Rattle.hb_race.specs.declared.access.Access.{Access}
 
 abbrev pub exchange_kind : ℤ → AccessKind

@@ -1,5 +1,6 @@
 -- Vector clocks (Mattern, Fidge) by plain recursion over the steps.
-use Rattle.std.specs.Prelude.{◌≡◌, ℕ, zero, suc, ◌<◌, ◌≤◌, max, true, ◌==◌, if◌then◌else◌, List, [], ◌∷◌, ◌↔◌}
+use Rattle.std.specs.Prelude.{◌≡◌, ℕ, zero, suc, ◌<◌, ◌≤◌, max, true, ◌==◌, if◌then◌else◌, List, []}
+use Rattle.std.specs.Prelude.{◌∷◌, ◌↔◌}
 use Rattle.hb_race.specs.Order.{Steps, Before, BeforeOrSame}
 
 -- how many of the first n steps are the thread's

@@ -1,10 +1,14 @@
 -- Which steps of a run happen before which: the happens-before of Lamport, with the edges that the
 -- operations of POSIX threads make (this project's profile). Steps are named by their places in the
 -- list, from 0.
-use Rattle.std.specs.Prelude.{◌≡◌, ℕ, ℤ, pos, zero, suc, ◌<◌, int_lt, if◌then◌else◌, List, Option, Some, None, slice_get}
+use Rattle.std.specs.Prelude.{◌≡◌, ℕ, ℤ, pos, zero, suc, ◌<◌, int_lt, if◌then◌else◌, List, Option}
+use Rattle.std.specs.Prelude.{Some, None, slice_get}
 use Rattle.std.specs.Ordering.{int_eq}
 use Rattle.pct_ask.specs.declared.ask.Ask.{Ask}
-use Rattle.pct_ask.specs.declared.ask.Ask.TheVariants.{Add, Cas, Lock, TryLock, Unlock, Release, Regain, Signal, Broadcast, Down, TryDown, Up, Arrive, Leave, Join, Start, RdLock, WrLock, TryRdLock, TryWrLock, RwUnlock}
+use Rattle.pct_ask.specs.declared.ask.Ask.TheVariants.{Add, Cas, Lock, TryLock, Unlock, Release}
+use Rattle.pct_ask.specs.declared.ask.Ask.TheVariants.{Regain, Signal, Broadcast, Down, TryDown, Up}
+use Rattle.pct_ask.specs.declared.ask.Ask.TheVariants.{Arrive, Leave, Join, Start, RdLock, WrLock}
+use Rattle.pct_ask.specs.declared.ask.Ask.TheVariants.{TryRdLock, TryWrLock, RwUnlock}
 use Rattle.pct_ask.specs.declared.event.Event.{Event}
 
 -- where an attempt was answered 1, and so took what it asked for
@@ -15,61 +19,68 @@ if_taken answer x = if int_eq answer (pos 1) then Some x else None
 abbrev pub if_woken : {A : Type 0} → ℤ → A → Option A
 if_woken answer x = if int_lt (pos 0) answer then Some x else None
 
--- the mutex that a step lets go, and the one that it takes
+-- the mutex that a step lets go: it unlocks it, or begins a wait on a condition
 abbrev pub mutex_let_go : Ask → Option ℕ
 mutex_let_go (Unlock m) = Some m
 mutex_let_go (Release c m) = Some m
 mutex_let_go _ = None
 
+-- the mutex that a step takes: it locks it, tries to and is answered 1, or ends a wait
 abbrev pub mutex_taken : Ask → ℤ → Option ℕ
 mutex_taken (Lock m) answer = Some m
 mutex_taken (TryLock m) answer = if_taken answer m
 mutex_taken (Regain c m) answer = Some m
 mutex_taken _ answer = None
 
--- the condition of which a step woke threads, and the one of which it was woken
+-- the condition of which a step woke threads
 abbrev pub condition_signalled : Ask → ℤ → Option ℕ
 condition_signalled (Signal c) answer = if_woken answer c
 condition_signalled (Broadcast c) answer = if_woken answer c
 condition_signalled _ answer = None
 
+-- the condition of which a step's thread was woken: the step ends its wait
 abbrev pub condition_left : Ask → Option ℕ
 condition_left (Regain c m) = Some c
 condition_left _ = None
 
--- the semaphore that a step raises, and the one that it lowers
+-- the semaphore that a step raises
 abbrev pub semaphore_raised : Ask → Option ℕ
 semaphore_raised (Up s) = Some s
 semaphore_raised _ = None
 
+-- the semaphore that a step lowers; an attempt lowers it where it was answered 1
 abbrev pub semaphore_lowered : Ask → ℤ → Option ℕ
 semaphore_lowered (Down s) answer = Some s
 semaphore_lowered (TryDown s) answer = if_taken answer s
 semaphore_lowered _ answer = None
 
--- the barrier at which a step arrives, and the one that it leaves
+-- the barrier at which a step arrives
 abbrev pub barrier_reached : Ask → Option ℕ
 barrier_reached (Arrive b) = Some b
 barrier_reached _ = None
 
+-- the barrier that a step leaves, since its thread was let through
 abbrev pub barrier_left : Ask → Option ℕ
 barrier_left (Leave b) = Some b
 barrier_left _ = None
 
--- the thread that a step starts, and the one for whose end it waited
+-- the thread that a step starts
 abbrev pub thread_started : Ask → Option ℕ
 thread_started (Start u) = Some u
 thread_started _ = None
 
+-- the thread for whose end a step waited
 abbrev pub thread_joined : Ask → Option ℕ
 thread_joined (Join u) = Some u
 thread_joined _ = None
 
--- the read-write lock that a step lets go, and the one that it takes, for reading or writing
+-- the read-write lock that a step lets go, whether it was held for reading or writing
 abbrev pub rwlock_let_go : Ask → Option ℕ
 rwlock_let_go (RwUnlock l) = Some l
 rwlock_let_go _ = None
 
+-- the read-write lock that a step takes, for reading or writing; an attempt takes it where it was
+-- answered 1
 abbrev pub rwlock_taken : Ask → ℤ → Option ℕ
 rwlock_taken (RdLock l) answer = Some l
 rwlock_taken (WrLock l) answer = Some l

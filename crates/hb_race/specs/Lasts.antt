@@ -1,8 +1,11 @@
 -- The last access of each thread and kind, and the races that they tell of.
-use Rattle.std.specs.Prelude.{◌≡◌, ◌≢◌, ℕ, zero, suc, ◌<◌, ◌≤◌, max, ◌==◌, ◌&&◌, Bool, true, false, if◌then◌else◌, nat_lt, Option, Some, None, ◌+◌, List, [], length, replicate, slice_index_or, slice_set, MatchOption}
+use Rattle.std.specs.Prelude.{◌≡◌, ◌≢◌, ℕ, zero, suc, ◌<◌, ◌≤◌, max, ◌==◌, ◌&&◌, Bool, true, false}
+use Rattle.std.specs.Prelude.{if◌then◌else◌, nat_lt, Option, Some, None, ◌+◌, List, [], length}
+use Rattle.std.specs.Prelude.{replicate, slice_index_or, slice_set, MatchOption}
 use Rattle.std.specs.Option.{option_map}
 use Rattle.hb_race.specs.declared.access.AccessKind.{AccessKind}
-use Rattle.hb_race.specs.declared.access.AccessKind.TheVariants.{PlainRead, PlainWrite, AtomicRead, AtomicWrite}
+use Rattle.hb_race.specs.declared.access.AccessKind.TheVariants.{PlainRead, PlainWrite, AtomicRead}
+use Rattle.hb_race.specs.declared.access.AccessKind.TheVariants.{AtomicWrite}
 use Rattle.hb_race.specs.declared.history.LastAccess.{LastAccess}
 use Rattle.hb_race.specs.declared.history.History.{History}
 use Rattle.hb_race.specs.declared.race.Race.{Race}

@@ -8,3 +8,4 @@ pub mod Clocks
 pub mod Lasts
 pub mod Table
 pub mod Histories
+pub mod Laws

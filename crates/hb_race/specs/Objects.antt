@@ -1,11 +1,17 @@
 -- The objects by which the edges between steps are found, with a number for each.
-use Rattle.std.specs.Prelude.{ℕ, ℤ, ◌+◌, ◌*◌, Bool, false, ◌==◌, ◌||◌, List, ◌∷◌, ◌++◌, Option, Some, None, option_map}
+use Rattle.std.specs.Prelude.{ℕ, ℤ, ◌+◌, ◌*◌, Bool, false, ◌==◌, ◌||◌, List, ◌∷◌, ◌++◌, Option}
+use Rattle.std.specs.Prelude.{Some, None, option_map}
 use Rattle.std.specs.Option.{option_to_list}
 use Rattle.pct_ask.specs.declared.ask.Ask.{Ask}
-use Rattle.pct_ask.specs.declared.ask.Ask.TheVariants.{Add, Cas, Lock, TryLock, Unlock, Release, Regain, Signal, Broadcast, Down, TryDown, Up, Arrive, Leave, Join, Start, RdLock, WrLock, TryRdLock, TryWrLock, RwUnlock}
+use Rattle.pct_ask.specs.declared.ask.Ask.TheVariants.{Add, Cas, Lock, TryLock, Unlock, Release}
+use Rattle.pct_ask.specs.declared.ask.Ask.TheVariants.{Regain, Signal, Broadcast, Down, TryDown, Up}
+use Rattle.pct_ask.specs.declared.ask.Ask.TheVariants.{Arrive, Leave, Join, Start, RdLock, WrLock}
+use Rattle.pct_ask.specs.declared.ask.Ask.TheVariants.{TryRdLock, TryWrLock, RwUnlock}
 use Rattle.pct_ask.specs.declared.event.Event.{Event}
 use Rattle.hb_race.specs.declared.object.Object.{Object}
-use Rattle.hb_race.specs.declared.object.Object.TheVariants.{Thread, Beginning, Mutex, Condition, Semaphore, Barrier, Variable, ReadWriteLock}
+use Rattle.hb_race.specs.declared.object.Object.TheVariants.{Thread, Beginning, Mutex, Condition}
+use Rattle.hb_race.specs.declared.object.Object.TheVariants.{Semaphore, Barrier, Variable}
+use Rattle.hb_race.specs.declared.object.Object.TheVariants.{ReadWriteLock}
 use Rattle.hb_race.specs.HappensBefore.{if_taken, if_woken}
 
 -- the row of an object's clock

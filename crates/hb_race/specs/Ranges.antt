@@ -1,4 +1,4 @@
--- What the steps of a run name.
+-- What the steps of a run name (this project).
 use Rattle.std.specs.Prelude.{ℕ, ◌<◌}
 use Rattle.pct_ask.specs.declared.event.Event.{Event}
 use Rattle.sync_store.specs.Store.{Sizes}

@@ -1,5 +1,6 @@
 -- A table of clocks: a row for each object, with an entry for each thread.
-use Rattle.std.specs.Prelude.{◌≡◌, ℕ, suc, max, pos, ◌<◌, ◌==◌, Bool, if◌then◌else◌, List, [], length, Option, Some, None, slice_index_or, slice_get}
+use Rattle.std.specs.Prelude.{◌≡◌, ℕ, suc, max, pos, ◌<◌, ◌==◌, Bool, if◌then◌else◌, List, []}
+use Rattle.std.specs.Prelude.{length, Option, Some, None, slice_index_or, slice_get}
 use Rattle.std.specs.Option.{option_and_then}
 use Rattle.pct_ask.specs.declared.ask.Ask.TheVariants.{Read}
 use Rattle.pct_ask.specs.declared.event.Event.{Event}

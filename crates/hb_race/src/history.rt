@@ -1,6 +1,8 @@
 ghost use Rattle.std.specs.Prelude.{◌≡◌, ◌<◌, ◌+◌, ℕ, suc, Some};
 ghost use Rattle.hb_race.specs.Order.{Steps};
-ghost use Rattle.hb_race.specs.Lasts.{Accesses, HasLasts, IsHistory, IsCurrent, IsLatest, IsGreatest, IsFlagged, NumbersRace, later, untold_step, lasts_of, with_last, new_history};
+ghost use Rattle.hb_race.specs.Lasts.{Accesses, HasLasts, IsHistory, IsCurrent, IsLatest};
+ghost use Rattle.hb_race.specs.Lasts.{IsGreatest, IsFlagged, NumbersRace, later, untold_step};
+ghost use Rattle.hb_race.specs.Lasts.{lasts_of, with_last, new_history};
 
 use crate::access::{Access, AccessKind, conflict};
 use crate::clock::{Clock, MAX_THREADS};

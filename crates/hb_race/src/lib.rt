@@ -5,10 +5,12 @@ mod access;
 mod clock;
 mod history;
 mod object;
+mod order;
 mod race;
 mod report;
 #[cfg(test)]
 mod tests;
 
+pub use order::one_list_of_races;
 pub use race::{Race, RaceList};
 pub use report::races;

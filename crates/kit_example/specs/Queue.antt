@@ -1,12 +1,14 @@
 -- A queue with one place, and the threads that put and take (the monitor's textbook form: a mutex,
 -- and conditions to wait on). The variable 0 is 1 where the place is full.
-use Rattle.std.specs.Prelude.{ℕ, ◌-◌, ℤ, pos, nat_le, if◌then◌else◌, List, [], ◌∷◌, Option, Some, None}
+use Rattle.std.specs.Prelude.{ℕ, ◌-◌, ℤ, pos, nat_le, if◌then◌else◌, List, [], ◌∷◌, Option, Some}
+use Rattle.std.specs.Prelude.{None}
 use Rattle.std.specs.Ordering.{int_eq}
 use Rattle.pct_ask.specs.declared.ask.Ask.{Ask}
 use Rattle.pct_ask.specs.declared.ask.Ask.TheVariants as asks
 use Rattle.pct_ask.specs.declared.ask.Post.{Post}
 use Rattle.kit_example.specs.declared.worker.Step.{Step}
-use Rattle.kit_example.specs.declared.worker.Step.TheVariants.{Lock, Look, Release, Regain, Change, Tell, Unlock, End}
+use Rattle.kit_example.specs.declared.worker.Step.TheVariants.{Lock, Look, Release, Regain, Change}
+use Rattle.kit_example.specs.declared.worker.Step.TheVariants.{Tell, Unlock, End}
 use Rattle.kit_example.specs.declared.worker.Worker.{Worker}
 
 -- what a worker asks at a step
@@ -20,6 +22,7 @@ ask_at w Tell = Some (asks.Signal w.tells)
 ask_at w Unlock = Some (asks.Unlock 0)
 ask_at w End = None
 
+-- the line on which a step stands, from 1; the two halves of a wait stand on one
 abbrev pub line_at : Step → ℕ
 line_at Lock = 1
 line_at Look = 2
@@ -30,6 +33,7 @@ line_at Tell = 5
 line_at Unlock = 6
 line_at End = 7
 
+-- what a worker posts at its step: what it asks, or that it has ended, and the line
 abbrev pub post_of : Worker → Post
 post_of w = record { ask = ask_at w w.at; line = line_at w.at }
 
@@ -50,6 +54,7 @@ abbrev pub left_after : Worker → Step → ℕ
 left_after w Unlock = w.left - 1
 left_after w step = w.left
 
+-- a worker once an answer has come: at its next step, and with one round less to go after an unlock
 abbrev pub worker_after : Worker → ℤ → Worker
 worker_after w value = record {
   sets = w.sets;

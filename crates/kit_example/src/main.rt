@@ -1,5 +1,5 @@
-//! Tests of one's own, by both ways of the kit. A queue of one place is tried with one condition, by which it may get stuck,
-//! and with two, and so are two threads that count without a lock.
+//! Tests of one's own, by both ways of the kit. A queue of one place is tried with one condition,
+//! by which it may get stuck, and with two, and so are two threads that count without a lock.
 #![tactic(auto)]
 
 mod counters;

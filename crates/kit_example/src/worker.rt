@@ -30,7 +30,8 @@ pub struct Worker {
 }
 
 impl Worker {
-    ghost use Rattle.kit_example.specs.Queue.{taker, putter, ask_at, line_at, step_after, left_after, worker_after};
+    ghost use Rattle.kit_example.specs.Queue.{taker, putter, ask_at, line_at, step_after};
+    ghost use Rattle.kit_example.specs.Queue.{left_after, worker_after};
 
     /// Takes one item.
     pub fn taker(filled: u32, emptied: u32) -> Worker

@@ -34,6 +34,7 @@ pub record IsTestDeal (deal : Deal) : Type 0 where
   pub barriers : deal.barriers ≡ []
   pub rwlocks : deal.rwlocks ≡ 0
 
+-- how many there are of each kind: three threads, one variable, and no other object
 abbrev pub test_sizes : Sizes
 test_sizes = record {
   threads = 3;
@@ -45,14 +46,16 @@ test_sizes = record {
   rwlocks = 0;
 }
 
--- the order A B C, and a change point after the first step
+-- the order A B C
 abbrev pub test_order : List ℕ
 test_order = 0 ∷ 1 ∷ 2 ∷ []
 
+-- one change point, after the first step
 abbrev pub test_points : List ℕ
 test_points = 1 ∷ []
 
--- they stand at the head of a trace of the first version, with room for 10000 steps
+-- the order and the point stand at the head of a trace of the first version, with room for 10000
+-- steps
 abbrev pub test_head : TraceHead
 test_head = record { version = 1; order = test_order; points = test_points; limit = 10000 }
 
@@ -67,6 +70,7 @@ pub record IsRunOf (bodies : List Pending) (limit : ℕ) (r : Run) : Type 0 wher
   pub is_deal : IsTestDeal deal
   pub is : run deal bodies test_order test_points limit ≡ Some r
 
+-- the run that is shown: that of the bodies, of at most as many steps as the head says
 abbrev pub IsShownRun : List Pending → Run → Type 0
 IsShownRun bodies r = IsRunOf bodies test_head.limit r
 

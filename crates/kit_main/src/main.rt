@@ -1,4 +1,5 @@
-//! A small test in Rust, run by boxed bodies: two threads count up, and a third finds that a count was lost.
+//! A small test in Rust, run by boxed bodies: two threads count up, and a third finds that a count
+//! was lost.
 #![tactic(auto)]
 
 ghost use Rattle.std.specs.Prelude.{◌≡◌, [], ◌∷◌, pos, IfOk};

@@ -76,8 +76,9 @@ fn status_of(verdict: &Verdict) -> Shown
     }
 }
 
-/// Runs three bodies as the threads A, B and C with the variable x, by this order and a change point after the first step,
-/// and puts the trace of the run. Where it is not put whole, a beginning of it may be.
+/// Runs three bodies as the threads A, B and C with the variable x, by this order and a change
+/// point after the first step, and puts the trace of the run. Where it is not put whole, a
+/// beginning of it may be.
 pub fn show<R: Threads + Wait + Sync, O: Sink, G: Gate>(
     rt: &R,
     alloc: Global,

@@ -9,7 +9,9 @@ ghost use Rattle.script_tree.specs.ScriptSeen.{text};
 ghost use Rattle.script_tree.specs.Layout.{layout};
 ghost use Rattle.script_tree.specs.Grammar.{Spells};
 ghost use Rattle.script_tree.specs.Renumbering.{renumbered};
-ghost use Rattle.large_script.specs.Large.{var_names, mutex_names, large_names, added_one, open_piece, locked_piece, piece, pieces, joins, sums, checks, workers, thread_of, large_script};
+ghost use Rattle.large_script.specs.Large.{var_names, mutex_names, large_names, added_one};
+ghost use Rattle.large_script.specs.Large.{open_piece, locked_piece, piece, pieces, joins, sums};
+ghost use Rattle.large_script.specs.Large.{checks, workers, thread_of, large_script};
 
 use pct_ask::{NameKind, Names, NumberList};
 use script_tree::{Block, Expr, Op, Script, Stmt, ThreadText, print_script};

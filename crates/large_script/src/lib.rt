@@ -1,5 +1,5 @@
-//! The large script, for measuring: eight threads that add one to eight variables, some of them without a mutex, and a
-//! last one that adds the variables up.
+//! The large script, for measuring: eight threads that add one to eight variables, some of them
+//! without a mutex, and a last one that adds the variables up.
 #![tactic(auto)]
 
 mod large;

@@ -1,6 +1,7 @@
 -- The one report that is given on the order in which mutexes are nested, of the many that are good
 -- (this project).
-use Rattle.std.specs.Prelude.{◌≡◌, ◌+◌, ◌-◌, ◌<◌, ◌≤◌, ◌==◌, ◌++◌, ℕ, List, length, take, drop, reverse, if◌then◌else◌, Some, slice_get, slice_index}
+use Rattle.std.specs.Prelude.{◌≡◌, ◌+◌, ◌-◌, ◌<◌, ◌≤◌, ◌==◌, ◌++◌, ℕ, List, length, take, drop}
+use Rattle.std.specs.Prelude.{reverse, if◌then◌else◌, Some, slice_get, slice_index}
 use Rattle.std.specs.List.{Contains}
 use Rattle.pct_ask.specs.declared.event.Event.{Event}
 use Rattle.lock_order.specs.declared.nesting.Nesting.{Nesting}

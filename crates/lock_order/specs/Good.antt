@@ -1,6 +1,7 @@
 -- Reports on the order in which mutexes are nested that are good: an order that all nestings keep,
 -- or a cycle of nestings that no order can keep (this project).
-use Rattle.std.specs.Prelude.{◌≡◌, ◌≢◌, ◌+◌, ◌-◌, ◌<◌, ℕ, List, length, Some, slice_get, slice_index}
+use Rattle.std.specs.Prelude.{◌≡◌, ◌≢◌, ◌+◌, ◌-◌, ◌<◌, ℕ, List, length, Some, slice_get}
+use Rattle.std.specs.Prelude.{slice_index}
 use Rattle.std.specs.List.{Contains}
 use Rattle.pct_ask.specs.declared.event.Event.{Event}
 use Rattle.lock_order.specs.declared.nesting.Nesting.{Nesting}

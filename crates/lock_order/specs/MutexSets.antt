@@ -1,5 +1,6 @@
 -- Sets of mutexes by bits, and what is kept in them of a list of events.
-use Rattle.std.specs.Prelude.{◌≡◌, ◌<◌, ◌↔◌, ℕ, suc, List, length, Some, slice_get, slice_index_or, drop}
+use Rattle.std.specs.Prelude.{◌≡◌, ◌<◌, ◌↔◌, ℕ, suc, List, length, Some, slice_get, slice_index_or}
+use Rattle.std.specs.Prelude.{drop}
 use Rattle.std.specs.Int.{bit_at}
 use Rattle.pct_ask.specs.declared.event.Event.{Event}
 use Rattle.lock_order.specs.declared.mutex_set.MutexSet.{MutexSet}

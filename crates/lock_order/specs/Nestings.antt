@@ -16,6 +16,7 @@ pub record NamesOnly (deal : Deal) (event : Event) : Type 0 where
   pub thread : event.thread < deal.threads
   pub ask : IsInRange (sizes_of_deal deal) event.ask
 
+-- all events of the list name only threads and objects of the deal
 abbrev pub AreInRange : Deal → List Event → Type 0
 AreInRange deal events = All (NamesOnly deal) events
 

@@ -11,8 +11,8 @@ use crate::report::LockReport;
 use pct_ask::{Deal, Event};
 use std::alloc::{AllocError as NoMemory, Global};
 
-/// Whether the report is good for these events. Any report is taken, at a cost of its length and that
-/// of the events.
+/// Whether the report is good for these events. Any report is taken, at a cost of its length and
+/// that of the events.
 pub fn check_report(
     alloc: Global,
     deal: &Deal,

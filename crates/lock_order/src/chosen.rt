@@ -1,12 +1,15 @@
-ghost use Rattle.std.specs.Prelude.{◌≡◌, ℕ, ◌<◌, ◌≤◌, ◌↔◌, List, [], length, drop, slice_index, MatchOption, IfOk};
+ghost use Rattle.std.specs.Prelude.{◌≡◌, ℕ, ◌<◌, ◌≤◌, ◌↔◌, List, [], length, drop, slice_index};
+ghost use Rattle.std.specs.Prelude.{MatchOption, IfOk};
 ghost use Rattle.std.specs.List.{Contains};
 ghost use Rattle.pct_ask.specs.declared.event.Event.{Event};
 ghost use Rattle.lock_order.specs.declared.nesting.Nesting.{Nesting};
 ghost use Rattle.lock_order.specs.declared.report.LockReport.{LockReport};
 ghost use Rattle.lock_order.specs.Nestings.{AreInRange};
 ghost use Rattle.lock_order.specs.Good.{IsGood, IsGoodOrder, IsGoodCycle, IsCycle};
-ghost use Rattle.lock_order.specs.Chosen.{IsChosen, IsLowest, Remains, AreTakenOut, IsWalk, IsRing, AreNestingsOf, AreNested, next_in};
-ghost use Rattle.lock_order.specs.MutexSets.{Has, HasThose, AreHeldSets, AreNestedSets, IsFreeIn, IsHeldIn, IsCycleIn};
+ghost use Rattle.lock_order.specs.Chosen.{IsChosen, IsLowest, Remains, AreTakenOut, IsWalk, IsRing};
+ghost use Rattle.lock_order.specs.Chosen.{AreNestingsOf, AreNested, next_in};
+ghost use Rattle.lock_order.specs.MutexSets.{Has, HasThose, AreHeldSets, AreNestedSets, IsFreeIn};
+ghost use Rattle.lock_order.specs.MutexSets.{IsHeldIn, IsCycleIn};
 
 use crate::held::{first_nesting, held_sets};
 use crate::mutex_set::MutexSet;

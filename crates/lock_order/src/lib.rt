@@ -1,5 +1,5 @@
-//! Whether the mutexes of a run were always taken in one order: an order that every nesting keeps, or
-//! a cycle of nestings, and a check of such reports.
+//! Whether the mutexes of a run were always taken in one order: an order that every nesting keeps,
+//! or a cycle of nestings, and a check of such reports.
 #![tactic(auto)]
 
 mod check;

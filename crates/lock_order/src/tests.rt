@@ -131,7 +131,10 @@ fn two_orders(rt: HostRuntime) -> Result<(), Fail> {
     };
     let report = report_on(&rt, rt.alloc(), &OPPOSED)?;
     assert!(rt;
-        matches!(&report, LockReport::Cycle { nestings } if nestings.as_slice() == [first, second].as_slice())
+        matches!(
+            &report,
+            LockReport::Cycle { nestings } if nestings.as_slice() == [first, second].as_slice()
+        )
     );
     assert!(rt; is_good(&rt, rt.alloc(), &OPPOSED, &report)?);
     let alone = NestingList::from_vec(vec![in rt.alloc(); first]?);
@@ -144,7 +147,10 @@ fn two_orders(rt: HostRuntime) -> Result<(), Fail> {
 fn one_order(rt: HostRuntime) -> Result<(), Fail> {
     let report = report_on(&rt, rt.alloc(), &AGREED)?;
     assert!(rt;
-        matches!(&report, LockReport::Order { mutexes } if mutexes.as_slice() == [0, 1, 2, 3].as_slice())
+        matches!(
+            &report,
+            LockReport::Order { mutexes } if mutexes.as_slice() == [0, 1, 2, 3].as_slice()
+        )
     );
     assert!(rt; is_good(&rt, rt.alloc(), &AGREED, &report)?);
     let twice = IdList::from_vec(vec![in rt.alloc(); 0, 1, 2, 3, 3]?);

@@ -1,5 +1,7 @@
--- The laws by which a list of places is copied, compared and hashed.
-use Rattle.std.specs.Prelude.{◌≡◌, ℕ, ◌+◌, ◌<◌, ◌==◌, Option, Some, None, List, [], ◌∷◌, refl, true, false, length, suc}
+-- The laws by which a list of places is copied, compared and hashed. Nothing here is needed to read
+-- a contract.
+use Rattle.std.specs.Prelude.{◌≡◌, ℕ, ◌+◌, ◌<◌, ◌==◌, Option, Some, None, List, [], ◌∷◌, refl, true}
+use Rattle.std.specs.Prelude.{false, length, suc}
 use Rattle.std.specs.Bool.{Decides}
 use Rattle.std.specs.Cmp.{IsEquivalence, decided, unsigned_Decides}
 use Rattle.std.specs.Cmp.Lexicographic.{pointwise_decides}
@@ -12,7 +14,8 @@ lines_from-later : (thread first n : ℕ) (lines : List (Option ℕ)) → thread
     → lines_from thread (suc n) (places_from first lines)
     ≡ None ∷ lines_from (thread + 1) n (places_from first lines)
 lines_from-later thread first n [] h = refl
-lines_from-later thread first n (None ∷ lines) h = lines_from-later thread (first + 1) n lines (omega arith)
+lines_from-later thread first n (None ∷ lines) h =
+    lines_from-later thread (first + 1) n lines (omega arith)
 lines_from-later thread first n (Some line ∷ lines) h =
     let apart : (first == thread) ≡ false = grind (arith, eqb_tells) in rw apart
 
@@ -20,7 +23,8 @@ lines_from-places : (thread : ℕ) (lines : List (Option ℕ))
     → lines_from thread (length lines) (places_from thread lines) ≡ lines
 lines_from-places thread [] = refl
 lines_from-places thread (None ∷ lines) =
-    lines_from-later thread (thread + 1) (length lines) lines (omega arith) ∙ ap (λ others. None ∷ others) (lines_from-places (thread + 1) lines)
+    lines_from-later thread (thread + 1) (length lines) lines (omega arith)
+    ∙ ap (λ others. None ∷ others) (lines_from-places (thread + 1) lines)
 lines_from-places thread (Some line ∷ lines) =
     let same : (thread == thread) ≡ true = grind (arith, eqb_tells) in
     rw same (ap (λ others. Some line ∷ others) (lines_from-places (thread + 1) lines))

@@ -4,7 +4,8 @@ use Rattle.pct_ask.specs.NameLists.{NameLists}
 use Rattle.pct_ask.specs.Places.{AreRising}
 use Rattle.pct_ask.specs.VerdictText.{thread_name}
 use Rattle.pct_ask.specs.declared.verdict.Verdict.{Verdict}
-use Rattle.pct_ask.specs.declared.verdict.Verdict.TheVariants.{Passed, Failed, Stuck, Misuse, Fault, Cut}
+use Rattle.pct_ask.specs.declared.verdict.Verdict.TheVariants.{Passed, Failed, Stuck, Misuse, Fault}
+use Rattle.pct_ask.specs.declared.verdict.Verdict.TheVariants.{Cut}
 
 -- the second list begins with the first
 abbrev pub Begins : List ℕ → List ℕ → Type 0

@@ -1,7 +1,8 @@
 -- What a text is read as (this project).
 use Rattle.std.specs.Prelude.{◌≡◌, ◌≢◌, ℕ, List}
 use Rattle.pct_ask.specs.NameLists.{NameLists}
-use Rattle.pct_ask.specs.VerdictText.{NamedVerdict, named_text, named, verdict_text, IsForm, HasUnknown, HasNames}
+use Rattle.pct_ask.specs.VerdictText.{NamedVerdict, named_text, named, verdict_text, IsForm}
+use Rattle.pct_ask.specs.VerdictText.{HasUnknown, HasNames}
 use Rattle.pct_ask.specs.declared.verdict_text.VerdictRead.{VerdictRead}
 use Rattle.pct_ask.specs.declared.verdict_text.VerdictRead.TheVariants.{Is, NoForm, UnknownName}
 

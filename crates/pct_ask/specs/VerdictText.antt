@@ -1,6 +1,7 @@
 -- A verdict as a text: words with one space between them, in which threads stand by their names
 -- (this project).
-use Rattle.std.specs.Prelude.{◌≡◌, ℕ, ◌≤◌, ◌<◌, None, List, [], ◌∷◌, true, length, codes, decimal, map, All, Any, ⊤}
+use Rattle.std.specs.Prelude.{◌≡◌, ℕ, ◌≤◌, ◌<◌, None, List, [], ◌∷◌, true, length, codes, decimal}
+use Rattle.std.specs.Prelude.{map, All, Any, ⊤}
 use Rattle.std.specs.List.{slice_index_or, flat_map, filter_map, join_with_byte}
 use Rattle.std.specs.List.Sorted.{IsStrictlyIncreasing}
 use Rattle.pct_ask.specs.Words.{is_name}
@@ -8,9 +9,11 @@ use Rattle.pct_ask.specs.NameLists.{NameLists, place_of}
 use Rattle.pct_ask.specs.declared.ask.FaultKind.{FaultKind}
 use Rattle.pct_ask.specs.declared.ask.FaultKind.TheVariants.{Overflow, ZeroDivisor, Spin}
 use Rattle.pct_ask.specs.declared.verdict.MisuseKind.{MisuseKind}
-use Rattle.pct_ask.specs.declared.verdict.MisuseKind.TheVariants.{NotOwner, SemFull, AlreadyStarted, TooManyReads}
+use Rattle.pct_ask.specs.declared.verdict.MisuseKind.TheVariants.{NotOwner, SemFull, AlreadyStarted}
+use Rattle.pct_ask.specs.declared.verdict.MisuseKind.TheVariants.{TooManyReads}
 use Rattle.pct_ask.specs.declared.verdict.Verdict.{Verdict}
-use Rattle.pct_ask.specs.declared.verdict.Verdict.TheVariants.{Passed, Failed, Stuck, Misuse, Fault, Cut}
+use Rattle.pct_ask.specs.declared.verdict.Verdict.TheVariants.{Passed, Failed, Stuck, Misuse, Fault}
+use Rattle.pct_ask.specs.declared.verdict.Verdict.TheVariants.{Cut}
 
 -- a verdict whose threads are given by their names
 pub data NamedVerdict : Type 0 where

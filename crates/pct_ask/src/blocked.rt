@@ -8,8 +8,8 @@ ghost use Rattle.pct_ask.specs.PlaceLaws.{same_places-Decides, same_places-equiv
 use std::hash::{Hash, Hasher};
 use std::marker::Model;
 
-/// The threads that can't go on where nobody can, each with the line of the test at which it asks. Contracts see the
-/// list of pairs of a thread and a line, in rising order of threads.
+/// The threads that can't go on where nobody can, each with the line of the test at which it asks.
+/// Contracts see the list of pairs of a thread and a line, in rising order of threads.
 #[derive(Clone, Copy, Debug)]
 pub struct Blocked {
     lines: [Option<u32>; 64],
@@ -29,7 +29,8 @@ impl Model for Blocked {
 
     ghost inverse = { λ places. record { lines = lines_from 0 64 places } };
 
-    ghost inverse_ok = { λ b long. ap (λ lines. record { lines = lines }) (lines_of_places b.lines long) };
+    ghost inverse_ok = { λ b long.
+        ap (λ lines. record { lines = lines }) (lines_of_places b.lines long) };
 }
 
 impl PartialEq for Blocked {
@@ -49,7 +50,9 @@ impl Eq for Blocked {
 impl Hash for Blocked {
     ghost hash_input = { λ places. slice (option u32) (lines_from 0 64 places) };
 
-    ghost respects_eq = { λ x y same. ap (λ places. slice (option u32) (lines_from 0 64 places)) ((same_places-Decides x y).0 same) };
+    ghost respects_eq = { λ x y same.
+        ap (λ places. slice (option u32) (lines_from 0 64 places))
+        ((same_places-Decides x y).0 same) };
 
     fn hash<H: Hasher>(&self, state: &mut H) {
         self.lines.hash(state);

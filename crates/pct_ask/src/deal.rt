@@ -4,7 +4,8 @@ ghost use Rattle.pct_ask.specs.Ranges.{IsSemValue, IsBarrierCount};
 use crate::sequence::NumberList;
 use std::alloc::{AllocError as NoMemory, Global};
 
-/// What the threads of a test share: how many objects there are of each kind, and their first values.
+/// What the threads of a test share: how many objects there are of each kind, and their first
+/// values.
 #[derive(Debug, Drop)]
 pub struct Deal {
     pub threads: u32,

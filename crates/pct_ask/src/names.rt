@@ -1,6 +1,8 @@
-ghost use Rattle.std.specs.Prelude.{◌≡◌, ◌<◌, length, slice_get, IfOk, OnOk, OnErr, option_copied, false, true};
+ghost use Rattle.std.specs.Prelude.{◌≡◌, ◌<◌, length, slice_get, IfOk, OnOk, OnErr, option_copied};
+ghost use Rattle.std.specs.Prelude.{false, true};
 ghost use Rattle.pct_ask.specs.Words.{is_name, is_among};
-ghost use Rattle.pct_ask.specs.NameLists.{no_names, list_of, with_name, all_names, place_of, AreNames};
+ghost use Rattle.pct_ask.specs.NameLists.{no_names, list_of, with_name, all_names, place_of};
+ghost use Rattle.pct_ask.specs.NameLists.{AreNames};
 
 use crate::sequence::Sequence;
 use std::alloc::{AllocError as NoMemory, Global};
@@ -76,7 +78,8 @@ impl Names {
         }
     }
 
-    /// Gives the next object of a kind its name and answers its place, from 0. An `Err` leaves the names as they were.
+    /// Gives the next object of a kind its name and answers its place, from 0. An `Err` leaves the
+    /// names as they were.
     pub fn add(&mut self, alloc: Global, kind: NameKind, name: &[u8]) -> Result<u32, NoMemory>
         requires lawful { is_name 1 name.now ≡ true }
         requires fresh { is_among name.now (all_names self.old) ≡ false }

@@ -5,7 +5,8 @@ ghost use Rattle.pct_ask.specs.Numbers.{number_text};
 use itoa::Buffer;
 use std::alloc::AllocError as NoMemory;
 
-/// The number that a canonical decimal spells. `None` where the text is no canonical decimal, or one outside i128.
+/// The number that a canonical decimal spells. `None` where the text is no canonical decimal, or
+/// one outside i128.
 pub fn read_number(text: &[u8]) -> Option<i128>
     ensures spelled { IfSome result (λ number. text.now ≡ number_text number) }
     ensures fits { IfSome result (λ number. FitsSigned w128 number) }

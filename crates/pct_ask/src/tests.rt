@@ -380,7 +380,9 @@ impl Body for Yielder {
     ghost use Rattle.std.specs.Prelude.{◌||◌, nat_lt, length, if◌then◌else◌, Some, None};
     ghost use Rattle.pct_ask.specs.declared.ask.Ask.TheVariants.{Yield};
 
-    ghost pending = { λ body answers. if body.yielded || nat_lt 0 (length answers) then record { ask = None; line = 2 } else record { ask = Some Yield; line = 1 } };
+    ghost pending = { λ body answers.
+        if body.yielded || nat_lt 0 (length answers) then record { ask = None; line = 2 }
+        else record { ask = Some Yield; line = 1 } };
 
     fn post(&self) -> Post {
         if self.yielded {

@@ -1,8 +1,10 @@
 //! A verdict as a text.
 
-ghost use Rattle.std.specs.Prelude.{◌≡◌, ◌++◌, ◌∷◌, ◌<◌, length, decimal, codes, OnOk, OnErr, All, map};
+ghost use Rattle.std.specs.Prelude.{◌≡◌, ◌++◌, ◌∷◌, ◌<◌, length, decimal, codes, OnOk, OnErr, All};
+ghost use Rattle.std.specs.Prelude.{map};
 ghost use Rattle.std.specs.List.{flat_map};
-ghost use Rattle.pct_ask.specs.VerdictText.{misuse_word, fault_word, HasNames, IsWhole, verdict_text};
+ghost use Rattle.pct_ask.specs.VerdictText.{misuse_word, fault_word, HasNames, IsWhole};
+ghost use Rattle.pct_ask.specs.VerdictText.{verdict_text};
 ghost use Rattle.pct_ask.specs.VerdictPieces.{Begins, Rises, place_piece, HasName};
 ghost use Rattle.pct_ask.specs.Places.{AreRising};
 ghost use Rattle.pct_ask.specs.VerdictRead.{ReadsAs};

@@ -1,8 +1,12 @@
 //! The words of a verdict's text, read one after another.
 
-ghost use Rattle.std.specs.Prelude.{◌≡◌, ◌<◌, ◌≤◌, ◌==◌, ◌∷◌, None, Some, false, [], length, position, MatchOption, IfSome};
+ghost use Rattle.std.specs.Prelude.{◌≡◌, ◌<◌, ◌≤◌, ◌==◌, ◌∷◌, None, Some, false, [], length};
+ghost use Rattle.std.specs.Prelude.{position, MatchOption, IfSome};
 ghost use Rattle.pct_ask.specs.NameLists.{AreNames};
-ghost use Rattle.pct_ask.specs.VerdictWords.{words_of, words_after, length_after, line_number, line_in_range, first_place, misuse_kind, fault_kind, placed_kind, verdict_at, placed_words, stuck_words, bare_word, verdict_of_words};
+ghost use Rattle.pct_ask.specs.VerdictWords.{words_of, words_after, length_after, line_number};
+ghost use Rattle.pct_ask.specs.VerdictWords.{line_in_range, first_place, misuse_kind, fault_kind};
+ghost use Rattle.pct_ask.specs.VerdictWords.{placed_kind, verdict_at, placed_words, stuck_words};
+ghost use Rattle.pct_ask.specs.VerdictWords.{bare_word, verdict_of_words};
 
 use crate::ask::FaultKind;
 use crate::blocked::Blocked;

@@ -1,4 +1,5 @@
-//! The program `pct`: a tester for threaded code that shows the orderings that ordinary runs seldom meet.
+//! The program `pct`: a tester for threaded code that shows the orderings that ordinary runs seldom
+//! meet.
 #![tactic(auto)]
 
 ghost use Rattle.std.specs.Prelude.{◌≡◌};

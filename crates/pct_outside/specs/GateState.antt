@@ -2,6 +2,7 @@
 -- the other.
 use Rattle.std.specs.Prelude.{ℕ}
 
+-- the two threads that meet at a gate, and how many times each looks for the other
 pub record GateState : Type 0 where
   pub one : ℕ
   pub other : ℕ

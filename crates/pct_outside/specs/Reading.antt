@@ -1,5 +1,6 @@
 -- What a read does to a shelf (this project).
-use Rattle.std.specs.Prelude.{◌≡◌, ℕ, List, [], ◌∷◌, ◌++◌, map, take, Option, Some, None, string_bytes, String}
+use Rattle.std.specs.Prelude.{◌≡◌, ℕ, List, [], ◌∷◌, ◌++◌, map, take, Option, Some, None}
+use Rattle.std.specs.Prelude.{string_bytes, String}
 
 -- the bytes are the first of the file, as many as the smaller of its length and this number
 abbrev pub FirstBytes : ℕ → List ℕ → List ℕ → Type 0

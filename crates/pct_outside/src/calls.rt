@@ -2,8 +2,8 @@
 ghost use Rattle.std.specs.Prelude.{◌≡◌};
 ghost use Rattle.pct_outside.specs.Counter.{is_next, one_more};
 
-/// The numbers of the calls that fail, counted from 1, and how many calls there were. All calls past
-/// the number 2^64 - 1 have that number.
+/// The numbers of the calls that fail, counted from 1, and how many calls there were. All calls
+/// past the number 2^64 - 1 have that number.
 #[derive(Drop)]
 pub(crate) struct Calls {
     pub(crate) fails: Vec<u64>,

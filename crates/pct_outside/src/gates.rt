@@ -5,8 +5,8 @@ ghost use Rattle.std.specs.Prelude.{◌≡◌, ◌≢◌, ◌<◌, IsTrue};
 use crate::meeting::Meeting;
 use std::marker::Model;
 
-/// What a worker passes before each post, with its thread and the number of answers that it has had.
-/// An implementation may keep the caller waiting; no clause says what it does.
+/// What a worker passes before each post, with its thread and the number of answers that it has
+/// had. An implementation may keep the caller waiting; no clause says what it does.
 pub trait Gate: Sync {
     /// The thread's arrival with this turn, its number of answers so far.
     fn arrive(&self, thread: u32, turn: u64);
@@ -26,21 +26,26 @@ impl Gate for OpenGate {
     fn arrive(&self, _thread: u32, _turn: u64) {}
 }
 
-/// A gate that holds the first arrival of each of two threads until that of the other has begun, or it has looked for it
-/// a number of times. It holds no other arrival.
+/// A gate that holds the first arrival of each of two threads until that of the other has begun, or
+/// it has looked for it a number of times. It holds no other arrival.
 #[derive(Debug, Drop)]
 pub struct PairGate {
     threads: (u32, u32),
     meeting: Meeting,
 }
 
-/// Contracts see what the gate was made for. Who has come and who has seen whom, other threads change at any time.
+/// Contracts see what the gate was made for. Who has come and who has seen whom, other threads
+/// change at any time.
 impl Model for PairGate {
     ghost use Rattle.pct_outside.specs.GateState.{GateState};
 
     ghost Value = { GateState };
 
-    ghost view = { λ g. record { one = g.threads.0; other = g.threads.1; turns = g.meeting.looks } };
+    ghost view = { λ g. record {
+      one = g.threads.0;
+      other = g.threads.1;
+      turns = g.meeting.looks;
+    } };
 }
 
 impl PairGate {

@@ -1,5 +1,5 @@
-//! The host's files. No clause tells their bytes: what the host gives for a name is trusted, and that
-//! the first bytes of it are handed on is proved.
+//! The host's files. No clause tells their bytes: what the host gives for a name is trusted, and
+//! that the first bytes of it are handed on is proved.
 ghost use Rattle.std.specs.Prelude.{◌≡◌, [], ◌≤◌, ◌⊎◌, IfOk, IfSome, vec_len, None};
 ghost use Rattle.pct_outside.specs.Reading.{FirstBytes, with_name};
 ghost use Rattle.pct_outside.specs.ShelfState.{names_after};
@@ -69,7 +69,8 @@ fn read_file<R: Files + AllocGlobal>(rt: &R, name: &str, most: u64) -> Result<Ve
     read_first(rt.alloc(), &mut file, most)
 }
 
-/// Reads to the end of the reader, which is where a read gives no bytes, or until there are so many.
+/// Reads to the end of the reader, which is where a read gives no bytes, or until there are so
+/// many.
 fn read_first<F: Read>(alloc: Global, file: &mut F, most: u64) -> Result<Vec<u8>, ShelfError>
     ensures most { IfOk result (λ bytes. vec_len bytes ≤ most) }
     ensures first { IfOk result (λ bytes.

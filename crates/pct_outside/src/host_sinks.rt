@@ -1,5 +1,5 @@
-//! The host's streams. No clause tells their bytes: what the host does with the bytes that it takes is
-//! trusted, and that it is handed each piece whole is proved.
+//! The host's streams. No clause tells their bytes: what the host does with the bytes that it takes
+//! is trusted, and that it is handed each piece whole is proved.
 ghost use Rattle.std.specs.Prelude.{◌≡◌, ◌≤◌, OnOk, OnErr, None};
 ghost use Rattle.std.specs.Io.KnownBytes.{Appends};
 ghost use Rattle.pct_outside.specs.Counter.{Rose};

@@ -9,7 +9,8 @@ use std::fmt;
 use std::fmt::{Debug, Formatter, Write};
 use std::thread::yield_now;
 
-/// What is true between any two steps: a guest's word says that it came or saw only where that has happened.
+/// What is true between any two steps: a guest's word says that it came or saw only where that has
+/// happened.
 pub struct Law;
 
 impl Rule<Moment, u64> for Law {

@@ -1,5 +1,6 @@
 //! Shelves in memory.
-ghost use Rattle.std.specs.Prelude.{◌≡◌, ◌≢◌, [], ◌≤◌, ◌⊎◌, IfOk, OnOk, OnErr, vec_len, option_copied, option_map};
+ghost use Rattle.std.specs.Prelude.{◌≡◌, ◌≢◌, [], ◌≤◌, ◌⊎◌, IfOk, OnOk, OnErr, vec_len};
+ghost use Rattle.std.specs.Prelude.{option_copied, option_map};
 ghost use Rattle.std.specs.FinMap as map;
 ghost use Rattle.pct_outside.specs.Files.{bytes_of};
 ghost use Rattle.pct_outside.specs.Reading.{FirstBytes, with_name};
@@ -94,8 +95,8 @@ impl Model for MemoryShelf {
 }
 
 impl MemoryShelf {
-    /// A shelf with no files. The reads with these numbers, counted from 1, fail. All reads past the
-    /// number 2^64 - 1 have that number.
+    /// A shelf with no files. The reads with these numbers, counted from 1, fail. All reads past
+    /// the number 2^64 - 1 have that number.
     pub fn new(alloc: Global, fails: Vec<u64>) -> MemoryShelf
         ensures { result
             ≡ record { files = map.empty; failed = []; fails = fails.items; calls = 0 } }

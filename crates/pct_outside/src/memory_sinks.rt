@@ -32,8 +32,8 @@ impl Model for MemorySink {
 }
 
 impl MemorySink {
-    /// A sink with nothing on it. The calls of `put` with these numbers, counted from 1, fail and put
-    /// nothing. All calls past the number 2^64 - 1 have that number.
+    /// A sink with nothing on it. The calls of `put` with these numbers, counted from 1, fail and
+    /// put nothing. All calls past the number 2^64 - 1 have that number.
     pub fn new(alloc: Global, fails: Vec<u64>) -> MemorySink
         ensures { result
             ≡ record { written = []; faults = 0; shorts = 0; fails = fails.items; calls = 0 } }

@@ -1,5 +1,6 @@
 //! Where files are read from.
-ghost use Rattle.std.specs.Prelude.{◌≡◌, ℕ, ◌≤◌, List, ◌⊎◌, ◌↔◌, Option, IfOk, OnOk, OnErr, vec_len};
+ghost use Rattle.std.specs.Prelude.{◌≡◌, ℕ, ◌≤◌, List, ◌⊎◌, ◌↔◌, Option, IfOk, OnOk, OnErr};
+ghost use Rattle.std.specs.Prelude.{vec_len};
 ghost use Rattle.std.specs.IoError.{error_kind};
 ghost use Rattle.std.specs.declared.io.ErrorKind.TheVariants.{OutOfMemory};
 ghost use Rattle.pct_outside.specs.Reading.{FirstOf, with_name, texts_of};

@@ -1,5 +1,5 @@
--- What a call of the program does to what is outside of it, by its status. No clause here knows a
--- command.
+-- What a call of the program does to what is outside of it, by its status (this project). No
+-- clause here knows a command.
 use Rattle.std.specs.Prelude.{◌≡◌, ℕ, ◌⊎◌, List, [], ◌++◌, Option, Some, Result, Ok, Err}
 use Rattle.std.specs.List.{Contains}
 use Rattle.pct_outside.specs.Counter.{Rose}
@@ -7,7 +7,8 @@ use Rattle.pct_outside.specs.Piece.{Appended, AppendedPart}
 use Rattle.script_tree.specs.ScriptText.{ScriptText}
 use Rattle.script_tree.specs.Grammar.{Spells}
 use Rattle.pct_top.specs.declared.refusal.Refusal.{Refusal}
-use Rattle.pct_top.specs.declared.refusal.Refusal.TheVariants.{Usage, Script, Trace, Directive, Read, Write, Memory}
+use Rattle.pct_top.specs.declared.refusal.Refusal.TheVariants.{Usage, Script, Trace, Directive}
+use Rattle.pct_top.specs.declared.refusal.Refusal.TheVariants.{Read, Write, Memory}
 use Rattle.pct_top.specs.declared.settings.Settings.{Settings}
 use Rattle.pct_top.specs.declared.status.Status.{Status}
 use Rattle.pct_top.specs.declared.status.Status.TheVariants as statuses
@@ -15,7 +16,8 @@ use Rattle.pct_top.specs.Settings.{Taken, settings}
 use Rattle.pct_top.specs.Refusing.{refusal_line}
 use Rattle.pct_top.specs.Ordered.{OrderFits}
 use Rattle.pct_top.specs.Printed.{Files, Printed, refused}
-use Rattle.pct_top.specs.Output.{script_file, script_text, order_given, second_file, SecondFits, OfTaken, Output}
+use Rattle.pct_top.specs.Output.{script_file, script_text, order_given, second_file, SecondFits}
+use Rattle.pct_top.specs.Output.{OfTaken, Output}
 use Rattle.pct_top.specs.Outcome.{Shows}
 use Rattle.pct_top.specs.Files.{Misses}
 use Rattle.pct_top.specs.Outside.{ShelfTold, StreamTold, Outside}

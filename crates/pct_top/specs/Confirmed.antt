@@ -33,6 +33,7 @@ abbrev pub confirmed : NameLists → Verdict → Printed
 confirmed names verdict =
     told (line_text (codes "confirmed" ∷ verdict_words (named names verdict))) true
 
+-- the words that ask for the replay of the trace in one file over the script in the other
 abbrev pub replay_of : List ℕ → List ℕ → List (List ℕ)
 replay_of file trace = codes "replay" ∷ file ∷ trace ∷ []
 

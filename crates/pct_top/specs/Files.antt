@@ -13,7 +13,9 @@ use Rattle.directive.specs.Directive.{IsDirective}
 use Rattle.directive.specs.Faults.{IsDirectiveFault}
 use Rattle.directive.specs.Answers.{told as plain}
 use Rattle.pct_top.specs.declared.refusal.Refusal.{Refusal}
-use Rattle.pct_top.specs.declared.refusal.Refusal.TheVariants.{Script, Trace, Directive as BadDirective, Read, Memory}
+use Rattle.pct_top.specs.declared.refusal.Refusal.TheVariants.{Script, Trace}
+use Rattle.pct_top.specs.declared.refusal.Refusal.TheVariants.{Directive as BadDirective, Read}
+use Rattle.pct_top.specs.declared.refusal.Refusal.TheVariants.{Memory}
 use Rattle.pct_top.specs.declared.test.Test.{Test}
 use Rattle.pct_top.specs.Printed.{Files, script_bytes, trace_bytes, directive_bytes}
 

@@ -1,10 +1,12 @@
 -- The options of the commands, by cases on the list of their words (this project).
-use Rattle.std.specs.Prelude.{◌≡◌, ℕ, ◌+◌, ◌&&◌, Bool, if◌then◌else◌, List, [], ◌∷◌, Option, Some, None, is_some, is_none, Result, Ok, Err, codes}
+use Rattle.std.specs.Prelude.{◌≡◌, ℕ, ◌+◌, ◌&&◌, Bool, if◌then◌else◌, List, [], ◌∷◌, Option, Some}
+use Rattle.std.specs.Prelude.{None, is_some, is_none, Result, Ok, Err, codes}
 use Rattle.std.specs.Option.{option_map, option_and_then}
 use Rattle.std.specs.Str.{bytes_eq}
 use Rattle.pct_top.specs.declared.command.Command.{Command}
 use Rattle.pct_top.specs.declared.options.OptionName.{OptionName}
-use Rattle.pct_top.specs.declared.options.OptionName.TheVariants.{Order, Points, Limit, Seed, Depth, Steps, From, Count, Form}
+use Rattle.pct_top.specs.declared.options.OptionName.TheVariants.{Order, Points, Limit, Seed, Depth}
+use Rattle.pct_top.specs.declared.options.OptionName.TheVariants.{Steps, From, Count, Form}
 use Rattle.pct_top.specs.declared.options.Options.{Options}
 use Rattle.pct_top.specs.declared.settings.WordsError.{WordsError}
 use Rattle.pct_top.specs.declared.settings.WordsError.TheVariants.{Word, NoMemory}
@@ -80,6 +82,7 @@ next_option command o word =
 abbrev pub Given : Type 0
 Given = Result Options ℕ
 
+-- the options; where there are none, the number of the word whose value isn't lawful
 abbrev pub lawful_or : ℕ → Option Options → Given
 lawful_or word None = Err word
 lawful_or word (Some o) = Ok o
@@ -95,6 +98,7 @@ abbrev pub without_value : ℕ → Option OptionName → Given
 without_value number None = Err number
 without_value number (Some name) = Err (number + 1)
 
+-- what further words give after these options; where a word wasn't taken, its number stays
 abbrev pub and_then : (Options → Given) → Given → Given
 and_then further (Err number) = Err number
 and_then further (Ok o) = further o
@@ -107,6 +111,7 @@ options_from command o number (word ∷ value ∷ words) =
     and_then (λ more. options_from command more (number + 2) words)
     (with_option o number value (next_option command o word))
 
+-- 1 where the test holds, and else 0
 abbrev pub one_if : Bool → ℕ
 one_if b = if b then 1 else 0
 

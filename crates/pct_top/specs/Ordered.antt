@@ -1,4 +1,4 @@
--- An order of a script's threads, by their names.
+-- An order of a script's threads, by their names (this project).
 use Rattle.std.specs.Prelude.{◌≡◌, ℕ, List, [], ◌∷◌, length, Option, Some, None}
 use Rattle.std.specs.Option.{option_map, option_and_then}
 use Rattle.pct_ask.specs.NameLists.{NameLists, place_of}

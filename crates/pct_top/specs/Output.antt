@@ -12,9 +12,11 @@ use Rattle.directive.specs.Directive.{IsDirective}
 use Rattle.directive.specs.Answers.{told as plain}
 use Rattle.pct_top.specs.declared.refusal.Refusal.TheVariants.{Usage}
 use Rattle.pct_top.specs.declared.settings.Settings.{Settings}
-use Rattle.pct_top.specs.declared.settings.Settings.TheVariants.{RunOrder, RunSeed, Campaign, Big, Replay, Expose, Certify}
+use Rattle.pct_top.specs.declared.settings.Settings.TheVariants.{RunOrder, RunSeed, Campaign, Big}
+use Rattle.pct_top.specs.declared.settings.Settings.TheVariants.{Replay, Expose, Certify}
 use Rattle.pct_top.specs.Settings.{Taken, settings}
-use Rattle.pct_top.specs.Printed.{Files, Printed, refused, script_bytes, trace_bytes, directive_bytes, OfScript}
+use Rattle.pct_top.specs.Printed.{Files, Printed, refused, script_bytes, trace_bytes}
+use Rattle.pct_top.specs.Printed.{directive_bytes, OfScript}
 use Rattle.pct_top.specs.Reports.{OfOrdered, OfSeed}
 use Rattle.pct_top.specs.commands.Campaign.{OfCampaign}
 use Rattle.pct_top.specs.commands.Big.{OfBig}
@@ -101,6 +103,8 @@ OfCommand (Certify file directive steps limit) files =
 
 -- ---- the call
 
+-- what is printed for the settings, over the script of their command; where a word isn't taken, the
+-- refusal that tells its number
 abbrev pub OfTaken : Taken → Files → Printed → Type 0
 OfTaken (Ok settings) files printed =
     OfScript (script_text settings files) (OfCommand settings files) printed

@@ -19,7 +19,8 @@ use Rattle.directive.specs.Directive.{IsDirective}
 use Rattle.directive.specs.Faults.{IsDirectiveFault}
 use Rattle.directive.specs.Answers.{told as plain}
 use Rattle.pct_top.specs.declared.refusal.Refusal.{Refusal}
-use Rattle.pct_top.specs.declared.refusal.Refusal.TheVariants.{Usage, Script, Trace, Directive as BadDirective}
+use Rattle.pct_top.specs.declared.refusal.Refusal.TheVariants.{Usage, Script, Trace}
+use Rattle.pct_top.specs.declared.refusal.Refusal.TheVariants.{Directive as BadDirective}
 use Rattle.pct_top.specs.declared.status.Status.{Status}
 use Rattle.pct_top.specs.declared.status.Status.TheVariants.{Done, Found}
 use Rattle.pct_top.specs.Refusing.{status_of_refusal, refusal_line}
@@ -44,13 +45,15 @@ refused refusal =
 abbrev pub told : List ℕ → Bool → Printed
 told text done = record { out = text; status = if done then Done else Found; err = [] }
 
--- as many bytes of a script, of a trace and of a directive as are read
+-- how many bytes of a script are read: one more than a script may have
 abbrev pub script_bytes : ℕ
 script_bytes = 1048577
 
+-- how many bytes of a trace are read: one more than a trace may have
 abbrev pub trace_bytes : ℕ
 trace_bytes = 16777217
 
+-- how many bytes of a directive are read: one more than a directive may have
 abbrev pub directive_bytes : ℕ
 directive_bytes = 65537
 

@@ -1,4 +1,4 @@
--- What is reported of a run, by the command that asks for it.
+-- What is reported of a run, by the command that asks for it (this project).
 use Rattle.std.specs.Prelude.{ℕ, length, List, Option}
 use Rattle.pct_ask.specs.declared.Deal.{Deal}
 use Rattle.script_tree.specs.ScriptText.{ScriptText}

@@ -1,5 +1,6 @@
--- Runs of a script, and their traces as they are written.
-use Rattle.std.specs.Prelude.{◌≡◌, ℕ, max, Bool, true, false, nat_le, if◌then◌else◌, List, [], length, Option, Some, None}
+-- Runs of a script, and their traces as they are written (this project).
+use Rattle.std.specs.Prelude.{◌≡◌, ℕ, max, Bool, true, false, nat_le, if◌then◌else◌, List, []}
+use Rattle.std.specs.Prelude.{length, Option, Some, None}
 use Rattle.std.specs.List.{range_with_len}
 use Rattle.pct_ask.specs.declared.Deal.{Deal}
 use Rattle.pct_ask.specs.declared.verdict.Verdict.{Verdict}
@@ -28,6 +29,7 @@ DrawsFrom script deal limit None k =
     (ended : Run) × (run_of script deal (declared script) [] limit ≡ Some ended)
     × (k ≡ max (length ended.0) 1)
 
+-- whether the verdict is that the run has passed
 abbrev pub is_passed : Verdict → Bool
 is_passed Passed = true
 is_passed verdict = false
@@ -36,6 +38,7 @@ is_passed verdict = false
 abbrev pub trace_version : ScriptText → ℕ
 trace_version script = if nat_le 3 script.version then 2 else 1
 
+-- the head of the trace of a run under the order, the points and the limit
 abbrev pub head_of : ScriptText → List ℕ → List ℕ → ℕ → TraceHead
 head_of script order points limit =
     record { version = trace_version script; order = order; points = points; limit = limit }

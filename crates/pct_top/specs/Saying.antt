@@ -1,4 +1,4 @@
--- What is said on the error stream.
+-- What is said on the error stream (this project).
 use Rattle.std.specs.Prelude.{ℕ, List, ◌⊎◌}
 use Rattle.pct_outside.specs.Piece.{Appended, AppendedPart}
 use Rattle.pct_top.specs.Outside.{StreamTold, Fails}

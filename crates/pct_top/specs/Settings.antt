@@ -1,5 +1,6 @@
 -- What the words of the command line ask for, by cases on their list (this project).
-use Rattle.std.specs.Prelude.{◌≡◌, ℕ, false, ◌+◌, ◌≤◌, List, [], ◌∷◌, length, All, Option, Some, None, IfSome, Result, Ok, Err}
+use Rattle.std.specs.Prelude.{◌≡◌, ℕ, false, ◌+◌, ◌≤◌, List, [], ◌∷◌, length, All, Option, Some}
+use Rattle.std.specs.Prelude.{None, IfSome, Result, Ok, Err}
 use Rattle.std.specs.Option.{option_map, option_and_then, unwrap_or}
 use Rattle.trace_text.specs.Lawful.{IsStepCount}
 use Rattle.pct_top.specs.declared.command.Command.{Command}
@@ -8,7 +9,8 @@ use Rattle.pct_top.specs.declared.options.Options.{Options}
 use Rattle.pct_top.specs.declared.options.NamedOrder.{NamedOrder}
 use Rattle.pct_top.specs.declared.settings.Report.{Report}
 use Rattle.pct_top.specs.declared.settings.Settings.{Settings}
-use Rattle.pct_top.specs.declared.settings.Settings.TheVariants.{RunOrder, RunSeed, Campaign, Big, Replay, Expose, Certify}
+use Rattle.pct_top.specs.declared.settings.Settings.TheVariants.{RunOrder, RunSeed, Campaign, Big}
+use Rattle.pct_top.specs.declared.settings.Settings.TheVariants.{Replay, Expose, Certify}
 use Rattle.pct_top.specs.declared.settings.WordsError.{WordsError}
 use Rattle.pct_top.specs.declared.settings.WordsError.TheVariants.{Word, NoMemory}
 use Rattle.pct_top.specs.Table.{command_named}
@@ -23,6 +25,7 @@ default_limit = 10000
 abbrev pub Taken : Type 0
 Taken = Result Settings ℕ
 
+-- the settings; where there are none, the number of the next word, which is missing
 abbrev pub taken_or : ℕ → Option Settings → Taken
 taken_or next None = Err next
 taken_or next (Some settings) = Ok settings
@@ -35,9 +38,11 @@ made_of make next (Ok o) = taken_or next (make o)
 
 -- ---- a run, whatever is reported of it
 
+-- how many steps a run may have: as many as the options say, or else the default limit
 abbrev pub limit_of : Options → ℕ
 limit_of o = unwrap_or o.limit default_limit
 
+-- the run under an order that was given, with the points that were given, or none
 abbrev pub ordered : Report → List ℕ → Options → NamedOrder → Settings
 ordered report file o order =
     RunOrder file order.items order.word (unwrap_or o.points []) (limit_of o) report
@@ -49,6 +54,7 @@ seeded report file o =
     (λ seed. option_map (λ depth. RunSeed file seed depth o.steps (limit_of o) report) o.depth)
     o.seed
 
+-- the run under the order, where one was given, and else that of a seed
 abbrev pub run_by : Report → List ℕ → Options → Option NamedOrder → Option Settings
 run_by report file o (Some order) = Some (ordered report file o order)
 run_by report file o None = seeded report file o
@@ -57,6 +63,7 @@ run_by report file o None = seeded report file o
 abbrev pub run_with : Report → List ℕ → Options → Option Settings
 run_with report file o = run_by report file o o.order
 
+-- after `run`, `races`, `locks` or `find`: the script's file, and then options
 abbrev pub run_settings : Report → List (List ℕ) → Taken
 run_settings report [] = Err 2
 run_settings report (file ∷ words) =
@@ -70,6 +77,7 @@ abbrev pub campaign_by : List ℕ → Options → ℕ → ℕ → ℕ → Settin
 campaign_by file o first count depth =
     Campaign file first count depth o.steps (limit_of o) (unwrap_or o.json false)
 
+-- the campaign that options ask for; none where a first seed, a count or a depth isn't given
 abbrev pub campaign_with : List ℕ → Options → Option Settings
 campaign_with file o =
     option_and_then
@@ -77,6 +85,7 @@ campaign_with file o =
     option_and_then (λ count. option_map (campaign_by file o first count) o.depth) o.count)
     o.from
 
+-- after `campaign`: the script's file, and then options
 abbrev pub campaign_settings : List (List ℕ) → Taken
 campaign_settings [] = Err 2
 campaign_settings (file ∷ words) =
@@ -84,23 +93,28 @@ campaign_settings (file ∷ words) =
 
 -- ---- the large script
 
+-- the campaign of the large script with so many pieces, whatever the options
 abbrev pub big_with : ℕ → Options → Option Settings
 big_with pieces o = Some (Big pieces)
 
+-- the number of pieces, where it is lawful, and no word behind it, since `big` takes no option
 abbrev pub big_by : Option ℕ → List (List ℕ) → Taken
 big_by None words = Err 2
 big_by (Some pieces) words =
     made_of (big_with pieces) (length words + 3) (options_from commands.Big none 3 words)
 
+-- after `big`: the number of pieces, and no further word
 abbrev pub big_settings : List (List ℕ) → Taken
 big_settings [] = Err 2
 big_settings (word ∷ words) = big_by (pieces_in word) words
 
 -- ---- a replay
 
+-- the replay of the trace in one file over the script in the other, whatever the options
 abbrev pub replay_with : List ℕ → List ℕ → Options → Option Settings
 replay_with file trace o = Some (Replay file trace)
 
+-- after `replay`: the script's file and the trace's, and no more, since it takes no option
 abbrev pub replay_settings : List (List ℕ) → Taken
 replay_settings [] = Err 2
 replay_settings (file ∷ []) = Err 3
@@ -109,6 +123,7 @@ replay_settings (file ∷ trace ∷ words) =
 
 -- ---- a directive
 
+-- the exposing of a directive under this order, for runs of at most so many steps
 abbrev pub expose_by : List ℕ → List ℕ → Options → NamedOrder → ℕ → Settings
 expose_by file directive o order steps =
     Expose file directive order.items order.word steps (limit_of o)
@@ -118,6 +133,7 @@ abbrev pub expose_with : List ℕ → List ℕ → Options → Option Settings
 expose_with file directive o =
     option_and_then (λ order. option_map (expose_by file directive o order) o.steps) o.order
 
+-- after `expose`: the script's file and the directive's, and then options
 abbrev pub expose_settings : List (List ℕ) → Taken
 expose_settings [] = Err 2
 expose_settings (file ∷ []) = Err 3
@@ -130,6 +146,7 @@ abbrev pub certify_with : List ℕ → List ℕ → Options → Option Settings
 certify_with file directive o =
     option_map (λ steps. Certify file directive steps (limit_of o)) o.steps
 
+-- after `certify`: the script's file and the directive's, and then options
 abbrev pub certify_settings : List (List ℕ) → Taken
 certify_settings [] = Err 2
 certify_settings (file ∷ []) = Err 3
@@ -148,6 +165,7 @@ settings_of commands.Replay words = replay_settings words
 settings_of commands.Expose words = expose_settings words
 settings_of commands.Certify words = certify_settings words
 
+-- what the further words ask of the command that the first one names, if it names one
 abbrev pub settings_by : Option Command → List (List ℕ) → Taken
 settings_by None words = Err 1
 settings_by (Some command) words = settings_of command words
@@ -165,12 +183,15 @@ ReadsAs (Err NoMemory) taken = Unit {0}
 
 -- ---- the ranges that the words keep to
 
+-- at most seven change points, each in 1..100000
 abbrev pub ArePoints : List ℕ → Type 0
 ArePoints points = (length points ≤ 7) × All IsStepCount points
 
+-- a depth is in 1..8: one more than a run's change points, of which there are at most seven
 abbrev pub IsDepth : ℕ → Type 0
 IsDepth depth = (1 ≤ depth) × (depth ≤ 8)
 
+-- the points, the depth, the numbers of steps, of seeds and of pieces are in their ranges
 abbrev pub AreLawful : Settings → Type 0
 AreLawful (RunOrder file order word points limit report) = ArePoints points × IsStepCount limit
 AreLawful (RunSeed file seed depth steps limit report) =

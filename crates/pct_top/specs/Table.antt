@@ -1,11 +1,14 @@
 -- The table of the program's commands: the word of each, and the options that it takes (this
 -- project).
-use Rattle.std.specs.Prelude.{ℕ, ◌||◌, not, Bool, true, false, if◌then◌else◌, List, Option, Some, None, is_some, codes}
+use Rattle.std.specs.Prelude.{ℕ, ◌||◌, not, Bool, true, false, if◌then◌else◌, List, Option, Some}
+use Rattle.std.specs.Prelude.{None, is_some, codes}
 use Rattle.std.specs.Str.{bytes_eq}
 use Rattle.pct_top.specs.declared.command.Command.{Command}
-use Rattle.pct_top.specs.declared.command.Command.TheVariants.{Run, Campaign, Big, Replay, Expose, Certify}
+use Rattle.pct_top.specs.declared.command.Command.TheVariants.{Run, Campaign, Big, Replay, Expose}
+use Rattle.pct_top.specs.declared.command.Command.TheVariants.{Certify}
 use Rattle.pct_top.specs.declared.options.OptionName.{OptionName}
-use Rattle.pct_top.specs.declared.options.OptionName.TheVariants.{Order, Points, Limit, Seed, Depth, Steps, From, Count, Form}
+use Rattle.pct_top.specs.declared.options.OptionName.TheVariants.{Order, Points, Limit, Seed, Depth}
+use Rattle.pct_top.specs.declared.options.OptionName.TheVariants.{Steps, From, Count, Form}
 use Rattle.pct_top.specs.declared.options.Options.{Options}
 use Rattle.pct_top.specs.declared.settings.Report.TheVariants.{Trace, Races, Locks, Find}
 

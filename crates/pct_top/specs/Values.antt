@@ -1,5 +1,6 @@
 -- The values of options (this project).
-use Rattle.std.specs.Prelude.{ℕ, ℤ, pos, negsuc, ◌==◌, ◌&&◌, nat_le, if◌then◌else◌, List, [], ◌∷◌, length, Option, Some, None, decimal, Bool, true, false, codes}
+use Rattle.std.specs.Prelude.{ℕ, ℤ, pos, negsuc, ◌==◌, ◌&&◌, nat_le, if◌then◌else◌, List, [], ◌∷◌}
+use Rattle.std.specs.Prelude.{length, Option, Some, None, decimal, Bool, true, false, codes}
 use Rattle.std.specs.Option.{option_map, option_and_then}
 use Rattle.std.specs.List.{slice_split, list_all}
 use Rattle.std.specs.Str.{bytes_eq}
@@ -16,6 +17,7 @@ order_in value =
     if nat_le (length (items_of value)) 64 && list_all (is_name 1) (items_of value)
     then Some (items_of value) else None
 
+-- the number, where it is at least `low` and at most `high`
 abbrev pub within : ℕ → ℕ → ℕ → Option ℕ
 within low high n = if nat_le low n && nat_le n high then Some n else None
 
@@ -43,10 +45,11 @@ step_counts (item ∷ items) =
 abbrev pub points_in : List ℕ → Option (List ℕ)
 points_in value = if nat_le (length (items_of value)) 7 then step_counts (items_of value) else None
 
--- the greatest seed
+-- a seed: a number from 0 to 2^64 - 1
 abbrev pub seed_in : List ℕ → Option ℕ
 seed_in word = number_in 0 18446744073709551615 word
 
+-- a depth, in 1..8
 abbrev pub depth_in : List ℕ → Option ℕ
 depth_in word = number_in 1 8 word
 

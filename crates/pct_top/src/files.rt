@@ -5,7 +5,8 @@ ghost use Rattle.script_tree.specs.Layout.{layout};
 ghost use Rattle.large_script.specs.Large.{large_script};
 ghost use Rattle.pct_top.specs.Ready.{IsReady};
 ghost use Rattle.pct_top.specs.Printed.{script_bytes};
-ghost use Rattle.pct_top.specs.Files.{GivesTest, GivesText, GivesTrace, GivesDirective, KeepsNames, Misses};
+ghost use Rattle.pct_top.specs.Files.{GivesTest, GivesText, GivesTrace, GivesDirective, KeepsNames};
+ghost use Rattle.pct_top.specs.Files.{Misses};
 
 use crate::refusal::Refusal;
 use crate::test::Test;

@@ -1,6 +1,7 @@
 //! What is put on the output and the error stream.
 
-ghost use Rattle.std.specs.Prelude.{◌≡◌, ◌≤◌, ◌<◌, ◌+◌, [], ◌∷◌, ◌++◌, length, codes, decimal, Err, OnOk, OnErr};
+ghost use Rattle.std.specs.Prelude.{◌≡◌, ◌≤◌, ◌<◌, ◌+◌, [], ◌∷◌, ◌++◌, length, codes, decimal, Err};
+ghost use Rattle.std.specs.Prelude.{OnOk, OnErr};
 ghost use Rattle.arrayvec.specs.ArrayString.{array_string_len};
 ghost use Rattle.pct_top.specs.Refusing as refusing;
 ghost use Rattle.pct_top.specs.Refusing.{refusal_line};

@@ -1,7 +1,8 @@
 //! Why a call gives no output.
 
 ghost use Rattle.std.specs.Prelude.{◌≡◌};
-ghost use Rattle.pct_top.specs.Refusing.{IsOfScript, IsOfTrace, IsOfDirective, IsOfShelf, IsOfSink, IsOfWords};
+ghost use Rattle.pct_top.specs.Refusing.{IsOfScript, IsOfTrace, IsOfDirective, IsOfShelf, IsOfSink};
+ghost use Rattle.pct_top.specs.Refusing.{IsOfWords};
 ghost use Rattle.pct_top.specs.declared.refusal.Refusal.TheVariants as refusals;
 
 use crate::settings::WordsError;

@@ -8,7 +8,8 @@ use std::sync::Wait;
 use std::test::Fail;
 use std::thread::Threads;
 
-/// Two threads that add 1 to a variable in two steps, and a third that joins them and asserts the sum.
+/// Two threads that add 1 to a variable in two steps, and a third that joins them and asserts the
+/// sum.
 const ADDERS: &str =
     "script 1\nvar x = 0\nthread A\n  read r0 x\n  write x r0 + 1\nend\nthread B\n  read r0 x\n  write x r0 + 1\nend\nthread C\n  join A\n  join B\n  read r0 x\n  assert r0 == 2\nend\n";
 
@@ -83,7 +84,8 @@ fn words_of(alloc: Global, line: &str) -> Result<Vec<String>, NoMemory> {
     Ok(words)
 }
 
-/// Calls with the adders in the file `s.pct` and a trace in the file `t.txt`, and compares what is given.
+/// Calls with the adders in the file `s.pct` and a trace in the file `t.txt`, and compares what is
+/// given.
 fn expect_call<R: Abort + Threads + Wait + Sync>(
     rt: &R,
     alloc: Global,

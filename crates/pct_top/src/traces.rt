@@ -3,7 +3,8 @@
 ghost use Rattle.std.specs.Prelude.{◌≡◌, length, IfOk};
 ghost use Rattle.script_tree.specs.ScriptSeen.{text};
 ghost use Rattle.trace_text.specs.Lawful.{IsStepCount};
-ghost use Rattle.pct_top.specs.Runs.{trace_version as version_by, is_passed as is_passed_by, TellsRun};
+ghost use Rattle.pct_top.specs.Runs.{trace_version as version_by, is_passed as is_passed_by};
+ghost use Rattle.pct_top.specs.Runs.{TellsRun};
 ghost use Rattle.pct_top.specs.Known.{AreKnown};
 ghost use Rattle.pct_top.specs.Priorities.{ArePriorities};
 ghost use Rattle.pct_top.specs.Outcome.{printed_of};

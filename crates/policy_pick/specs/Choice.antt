@@ -1,11 +1,13 @@
 -- Who goes next: the choice that a policy's parameters make after a schedule, a list of threads,
 -- from what is known of each thread. (The threads of a run by PCT go by falling rank; lists, and
 -- what is known of a thread, are this project's.)
-use Rattle.std.specs.Prelude.{◌≡◌, ℕ, ◌<◌, Bool, true, false, ◌&&◌, ◌||◌, not, nat_le, List, length, slice_get, slice_index, slice_index_or, Option, Some, None}
+use Rattle.std.specs.Prelude.{◌≡◌, ℕ, ◌<◌, Bool, true, false, ◌&&◌, ◌||◌, not, nat_le, List, length}
+use Rattle.std.specs.Prelude.{slice_get, slice_index, slice_index_or, Option, Some, None}
 use Rattle.std.specs.List.{find, list_all, range_with_len}
 use Rattle.rank_now.specs.Rank.{ranks, ranks_by_events}
 use Rattle.policy_pick.specs.declared.chance.Chance.{Chance}
-use Rattle.policy_pick.specs.declared.chance.Chance.TheVariants.{Away, Ready, Blocked, Unknown, Ended}
+use Rattle.policy_pick.specs.declared.chance.Chance.TheVariants.{Away, Ready, Blocked, Unknown}
+use Rattle.policy_pick.specs.declared.chance.Chance.TheVariants.{Ended}
 use Rattle.policy_pick.specs.declared.chance.Pick.{Pick}
 use Rattle.policy_pick.specs.declared.chance.Pick.TheVariants.{Thread, Waits, Nobody, Departs}
 use Rattle.policy_pick.specs.Plan.{Plan, ByPoints, ByEvents, ByList}

@@ -3,7 +3,8 @@
 pub mod Chances
 pub mod Finds
 pub mod Walks
-use Rattle.std.proofs.Common.{◌≡◌, ℕ, zero, suc, ◌<◌, ◌≤◌, List, [], ◌∷◌, length, Option, Some, None, slice_get, refl, sym, ap, subst, ◌∙◌, arith, inl, inr}
+use Rattle.std.proofs.Common.{◌≡◌, ℕ, zero, suc, ◌<◌, ◌≤◌, List, [], ◌∷◌, length, Option, Some}
+use Rattle.std.proofs.Common.{None, slice_get, refl, sym, ap, subst, ◌∙◌, arith, inl, inr}
 use Rattle.std.specs.List.{All}
 use Rattle.std.proofs.lemmas.Bool.{cases_lt}
 use Rattle.std.proofs.lemmas.List.{get_or_past}
@@ -14,7 +15,8 @@ use Rattle.policy_pick.specs.declared.chance.Chance.TheVariants.{Ended}
 use Rattle.policy_pick.specs.declared.chance.Pick.{Pick}
 use Rattle.policy_pick.specs.declared.chance.Pick.TheVariants.{Thread}
 use Rattle.policy_pick.specs.Plan.{Plan, ByPoints, ByEvents, ByList, SpeaksOf}
-use Rattle.policy_pick.specs.Choice.{MayDepart, chance_of, pick_at, choice_by_list, choice, TargetsAreAway, IsSound, KeepsKnown, IsWaits}
+use Rattle.policy_pick.specs.Choice.{MayDepart, chance_of, pick_at, choice_by_list, choice}
+use Rattle.policy_pick.specs.Choice.{TargetsAreAway, IsSound, KeepsKnown, IsWaits}
 use Rattle.policy_pick.specs.Laws.Chances.{pick-known, sound-at}
 use Rattle.policy_pick.specs.Laws.Walks.{rank-keeps, rank-sound, number-keeps, number-sound}
 
@@ -24,8 +26,14 @@ listed-keeps : (next : Option ℕ) (earlier later : List Chance) → KeepsKnown 
 listed-keeps None earlier later keeps waits = number-keeps earlier later keeps waits
 listed-keeps (Some thread) earlier later keeps waits =
     elim (cases_lt thread (length earlier)) [
-      | inl within ↦ ap (pick_at (Thread thread) thread) (keeps.known thread within (pick-known (Thread thread) thread (chance_of earlier thread) waits))
-      | inr past ↦ ap (pick_at (Thread thread) thread) (get_or_past later thread Ended (omega (arith, keeps.threads)) ∙ sym (get_or_past earlier thread Ended past))
+      | inl within ↦
+          ap (pick_at (Thread thread) thread)
+          (keeps.known thread within
+          (pick-known (Thread thread) thread (chance_of earlier thread) waits))
+      | inr past ↦
+          ap (pick_at (Thread thread) thread)
+          (get_or_past later thread Ended (omega (arith, keeps.threads))
+          ∙ sym (get_or_past earlier thread Ended past))
     ]
 
 -- A choice that waits for nobody stays, as what was not known becomes known.

@@ -1,8 +1,10 @@
--- The parameters of a policy, as plain data.
+-- The parameters of a policy, as plain data (orders and change points are those of PCT; moments and
+-- lists are this project's).
 use Rattle.std.specs.Prelude.{◌≡◌, ℕ, ◌<◌, ◌≤◌, List, length}
 use Rattle.std.specs.List.{All}
 use Rattle.rank_now.specs.declared.moment.Moment.{Moment}
 
+-- what a policy goes by: an order with change points or moments, or a list of threads
 pub data Plan : Type 0 where
   -- an order of the threads, and the change points of PCT
   ByPoints : List ℕ → List ℕ → Plan

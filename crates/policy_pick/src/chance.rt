@@ -25,8 +25,8 @@ pub enum Pick {
     Waits(u32),
     /// Nobody ever.
     Nobody,
-    /// This thread, against what the policy was told: one that was listed and may not go, or one that may go after
-    /// the list.
+    /// This thread, against what the policy was told: one that was listed and may not go, or one
+    /// that may go after the list.
     Departs(u32),
 }
 

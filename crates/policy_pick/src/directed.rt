@@ -11,7 +11,8 @@ use rank_now::{Moment, RankError, Ranks};
 use std::alloc::{AllocError, Global};
 use std::marker::Model;
 
-/// The scheduler of PCT with moments in the place of change points: a thread is lowered after its own step of a number.
+/// The scheduler of PCT with moments in the place of change points: a thread is lowered after its
+/// own step of a number.
 #[derive(Debug, Drop)]
 pub struct DirectedPolicy {
     order: Vec<u32>,
@@ -27,9 +28,16 @@ impl Model for DirectedPolicy {
 
     ghost Value = { EventsKept };
 
-    ghost view = { λ p. record { order = p.order.items; events = p.events.items; taken = p.taken; values = p.ranks.values; own = p.own.items } };
+    ghost view = { λ p. record {
+      order = p.order.items;
+      events = p.events.items;
+      taken = p.taken;
+      values = p.ranks.values;
+      own = p.own.items;
+    } };
 
-    ghost invariant = { λ p. FitsOrder p.order.items p.ranks.values p.ranks.count (length p.events.items) };
+    ghost invariant = { λ p.
+        FitsOrder p.order.items p.ranks.values p.ranks.count (length p.events.items) };
 }
 
 impl DirectedPolicy {
@@ -78,12 +86,15 @@ impl Policy for DirectedPolicy {
         }
     }
 
-    ghost keeps = { λ policy schedule earlier later speaks known waits. choice-keeps (events_plan policy) schedule earlier later known waits };
+    ghost keeps = { λ policy schedule earlier later speaks known waits.
+        choice-keeps (events_plan policy) schedule earlier later known waits };
 
-    ghost sound = { λ policy schedule chances speaks targets. choice-sound (events_plan policy) schedule chances speaks targets };
+    ghost sound = { λ policy schedule chances speaks targets.
+        choice-sound (events_plan policy) schedule chances speaks targets };
 }
 
-/// The greatest index, from 1, of the moment that is this own step of the thread, and 0 where none is.
+/// The greatest index, from 1, of the moment that is this own step of the thread, and 0 where none
+/// is.
 fn index_of_moment(events: &[Moment], thread: u32, number: u32) -> u32
     requires { length events.now ≤ 7 }
     ensures { result ≡ last_position (λ e. e.thread == thread && e.number == number) events.now }

@@ -54,7 +54,9 @@ impl Policy for Listed {
         self.taken += 1;
     }
 
-    ghost keeps = { λ policy schedule earlier later speaks known waits. choice-keeps (list_plan policy) schedule earlier later known waits };
+    ghost keeps = { λ policy schedule earlier later speaks known waits.
+        choice-keeps (list_plan policy) schedule earlier later known waits };
 
-    ghost sound = { λ policy schedule chances speaks targets. choice-sound (list_plan policy) schedule chances speaks targets };
+    ghost sound = { λ policy schedule chances speaks targets.
+        choice-sound (list_plan policy) schedule chances speaks targets };
 }

@@ -11,7 +11,8 @@ use rank_now::{RankError, Ranks};
 use std::alloc::{AllocError, Global};
 use std::marker::Model;
 
-/// The scheduler of PCT: the highest thread goes, and at each change point the one that took the step is lowered.
+/// The scheduler of PCT: the highest thread goes, and at each change point the one that took the
+/// step is lowered.
 #[derive(Debug, Drop)]
 pub struct Pct {
     order: Vec<u32>,
@@ -26,13 +27,20 @@ impl Model for Pct {
 
     ghost Value = { PointsKept };
 
-    ghost view = { λ p. record { order = p.order.items; points = p.points.items; taken = p.taken; values = p.ranks.values } };
+    ghost view = { λ p. record {
+      order = p.order.items;
+      points = p.points.items;
+      taken = p.taken;
+      values = p.ranks.values;
+    } };
 
-    ghost invariant = { λ p. FitsOrder p.order.items p.ranks.values p.ranks.count (length p.points.items) };
+    ghost invariant = { λ p.
+        FitsOrder p.order.items p.ranks.values p.ranks.count (length p.points.items) };
 }
 
 impl Pct {
-    /// The order names the highest thread first. The change points are numbers of steps of the run, from 1.
+    /// The order names the highest thread first. The change points are numbers of steps of the run,
+    /// from 1.
     pub fn new(alloc: Global, order: &[u32], points: &[u32]) -> Result<Pct, RankError>
         requires few_threads { length order.now ≤ 64 }
         requires few_points { length points.now ≤ 7 }
@@ -73,9 +81,11 @@ impl Policy for Pct {
         }
     }
 
-    ghost keeps = { λ policy schedule earlier later speaks known waits. choice-keeps (points_plan policy) schedule earlier later known waits };
+    ghost keeps = { λ policy schedule earlier later speaks known waits.
+        choice-keeps (points_plan policy) schedule earlier later known waits };
 
-    ghost sound = { λ policy schedule chances speaks targets. choice-sound (points_plan policy) schedule chances speaks targets };
+    ghost sound = { λ policy schedule chances speaks targets.
+        choice-sound (points_plan policy) schedule chances speaks targets };
 }
 
 /// The greatest index, from 1, of a point that is the step, and 0 where none is.

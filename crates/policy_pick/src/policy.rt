@@ -5,8 +5,8 @@ ghost use Rattle.policy_pick.specs.Choice.{choice, TargetsAreAway, IsSound, Keep
 
 use crate::chance::{Chance, Pick};
 
-/// Who goes next. A policy has parameters, its plan, which never change, and it stands for a schedule: the threads
-/// that took the steps so far.
+/// Who goes next. A policy has parameters, its plan, which never change, and it stands for a
+/// schedule: the threads that took the steps so far.
 pub trait Policy: Send + Drop {
     // its parameters
     ghost plan: { Self → Plan };
@@ -33,8 +33,13 @@ pub trait Policy: Send + Drop {
             → stands self.new (schedule ++ thread ∷ []) };
 
     // A choice that waits for nobody stays, as what was not known becomes known.
-    ghost keeps: { (policy : Self) (schedule : List ℕ) (earlier later : List Chance) → SpeaksOf (plan policy) (length earlier) → KeepsKnown earlier later → ¬ IsWaits (choice (plan policy) schedule earlier) → choice (plan policy) schedule later ≡ choice (plan policy) schedule earlier };
+    ghost keeps: { (policy : Self) (schedule : List ℕ) (earlier later : List Chance)
+        → SpeaksOf (plan policy) (length earlier) → KeepsKnown earlier later
+        → ¬ IsWaits (choice (plan policy) schedule earlier)
+        → choice (plan policy) schedule later ≡ choice (plan policy) schedule earlier };
 
     // Each choice is sound.
-    ghost sound: { (policy : Self) (schedule : List ℕ) (chances : List Chance) → SpeaksOf (plan policy) (length chances) → TargetsAreAway chances → IsSound (plan policy) chances (choice (plan policy) schedule chances) };
+    ghost sound: { (policy : Self) (schedule : List ℕ) (chances : List Chance)
+        → SpeaksOf (plan policy) (length chances) → TargetsAreAway chances
+        → IsSound (plan policy) chances (choice (plan policy) schedule chances) };
 }

@@ -1,9 +1,13 @@
 //! Plain, slow programs whose contracts are the definitions.
-ghost use Rattle.std.specs.Prelude.{◌≡◌, ℕ, ◌+◌, ◌-◌, ◌<◌, ◌≤◌, ◌==◌, ◌&&◌, nat_lt, List, length, map, slice_index, slice_get, IfOk, IfSome};
+ghost use Rattle.std.specs.Prelude.{◌≡◌, ℕ, ◌+◌, ◌-◌, ◌<◌, ◌≤◌, ◌==◌, ◌&&◌, nat_lt, List, length};
+ghost use Rattle.std.specs.Prelude.{map, slice_index, slice_get, IfOk, IfSome};
 ghost use Rattle.std.specs.List.{position_or_len, All, find, range_with_len};
 ghost use Rattle.rank_now.specs.declared.moment.Moment.{Moment};
-ghost use Rattle.rank_now.specs.Rank.{place_of, last_change, rank_by, index_of_point, own_steps, is_moment, index_of_moment, threads_of, ranks, ranks_by_events};
-ghost use Rattle.policy_pick.specs.Choice.{is_open, chance_of, is_highest, choice_by_rank, choice_by_number, choice_by_list};
+ghost use Rattle.rank_now.specs.Rank.{place_of, last_change, rank_by, index_of_point, own_steps};
+ghost use Rattle.rank_now.specs.Rank.{is_moment, index_of_moment, threads_of, ranks};
+ghost use Rattle.rank_now.specs.Rank.{ranks_by_events};
+ghost use Rattle.policy_pick.specs.Choice.{is_open, chance_of, is_highest, choice_by_rank};
+ghost use Rattle.policy_pick.specs.Choice.{choice_by_number, choice_by_list};
 
 use crate::chance::{Chance, Pick, is_open, pick_at};
 use rank_now::Moment;

@@ -57,7 +57,8 @@ fn expect_picks<P: Policy>(rt: &impl Abort, mut policy: P, cases: &[(&[Chance], 
     }
 }
 
-/// One of the 125 combinations of three chances. An Unknown waits for the first thread that is Away.
+/// One of the 125 combinations of three chances. An Unknown waits for the first thread that is
+/// Away.
 fn chances_of(number: u32) -> [Chance; 3] {
     let kinds = [number % 5, number / 5 % 5, number / 25 % 5];
     let away = match kinds {
@@ -168,7 +169,8 @@ fn points_by_hand(rt: HostRuntime) -> Result<(), Fail> {
     );
     let unknown = |target: u32| Chance::Unknown { target };
     let order = [0, 1, 2];
-    // A lost update: the first thread reads and is lowered, the second one reads and writes, and a third one joins both.
+    // A lost update: the first thread reads and is lowered, the second one reads and writes, and a
+    // third one joins both.
     let lost_update: [(&[Chance], Pick); 9] = [
         (&[ready, ready, blocked], Pick::Thread(0)),
         (&[ready, ready, blocked], Pick::Thread(1)),

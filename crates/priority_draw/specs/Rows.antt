@@ -1,7 +1,8 @@
 -- Small theorems that read the definitions on known values.
 use Rattle.std.specs.Prelude.{◌≡◌, [], ◌∷◌, refl, replicate}
 use Rattle.rand_core.specs.Steps.{u32_at}
-use Rattle.rand_chacha.specs.Block.{block_word, double_rounds, diagonal_round, quarter_round, column_round}
+use Rattle.rand_chacha.specs.Block.{block_word, double_rounds, diagonal_round, quarter_round}
+use Rattle.rand_chacha.specs.Block.{column_round}
 use Rattle.priority_draw.specs.Words.{key_bytes, word}
 use Rattle.priority_draw.specs.Orders.{order_of, places_of}
 use Rattle.priority_draw.specs.Drawing.{scale, drawn_places, drawn_points, drawn}
@@ -45,9 +46,11 @@ places_of_four = refl
 
 -- three threads and two points of a seed
 pub order_of_seven : (drawn 7 3 100000 3).order ≡ 2 ∷ 0 ∷ 1 ∷ []
-unfolding order_of drawn_places word u32_at block_word double_rounds diagonal_round quarter_round column_round
+unfolding order_of drawn_places word u32_at block_word double_rounds diagonal_round quarter_round
+    column_round
 order_of_seven = refl
 
 pub points_of_seven : (drawn 7 3 100000 3).points ≡ 30138 ∷ 38613 ∷ []
-unfolding drawn_points word u32_at block_word double_rounds diagonal_round quarter_round column_round
+unfolding drawn_points word u32_at block_word double_rounds diagonal_round quarter_round
+    column_round
 points_of_seven = refl

@@ -1,6 +1,7 @@
 -- The random words of a seed: those of ChaCha with 8 rounds, the block function of RFC 8439 with
 -- fewer rounds, a 64-bit block counter and a 64-bit stream number.
-use Rattle.std.specs.Prelude.{ℕ, zero, suc, ◌+◌, ◌*◌, ◌%◌, ◌^◌, ◌≡◌, ◌<◌, List, ◌++◌, replicate, slice_index}
+use Rattle.std.specs.Prelude.{ℕ, zero, suc, ◌+◌, ◌*◌, ◌%◌, ◌^◌, ◌≡◌, ◌<◌, List, ◌++◌, replicate}
+use Rattle.std.specs.Prelude.{slice_index}
 use Rattle.std.specs.Int.{w64, to_le_bytes}
 use Rattle.rand_chacha.specs.ChaCha.{ChaCha, word_at, key_of}
 

@@ -1,7 +1,10 @@
-ghost use Rattle.std.specs.Prelude.{◌≡◌, ℕ, ◌+◌, ◌*◌, ◌<◌, ◌≤◌, [], ◌∷◌, List, All, length, slice_index, remove, IfOk, OnOk, OnErr};
+ghost use Rattle.std.specs.Prelude.{◌≡◌, ℕ, ◌+◌, ◌*◌, ◌<◌, ◌≤◌, [], ◌∷◌, List, All, length};
+ghost use Rattle.std.specs.Prelude.{slice_index, remove, IfOk, OnOk, OnErr};
 ghost use Rattle.priority_draw.specs.Words.{after, first_words};
-ghost use Rattle.priority_draw.specs.Orders.{declared_order, order_of, places_of, IsOrderOf, ArePlaces, AreOnlyPlaces};
-ghost use Rattle.priority_draw.specs.Drawing.{scale, draw, drawn_places, drawn_order, drawn_points, drawn, IsStep};
+ghost use Rattle.priority_draw.specs.Orders.{declared_order, order_of, places_of, IsOrderOf};
+ghost use Rattle.priority_draw.specs.Orders.{ArePlaces, AreOnlyPlaces};
+ghost use Rattle.priority_draw.specs.Drawing.{scale, draw, drawn_places, drawn_order, drawn_points};
+ghost use Rattle.priority_draw.specs.Drawing.{drawn, IsStep};
 
 use pct_ask::{OrderList, PointList};
 use rand_chacha::ChaCha8Rng;
@@ -29,7 +32,10 @@ impl Model for Words {
 
     ghost Value = { SeedWords };
 
-    ghost view = { λ w. record { seed = seed_of_key w.generator.key; place = w.generator.word_pos } };
+    ghost view = { λ w. record {
+      seed = seed_of_key w.generator.key;
+      place = w.generator.word_pos;
+    } };
 
     ghost invariant = { λ w. IsOfSeed w.generator };
 }
@@ -70,7 +76,8 @@ impl Words {
             (seed steps depth : ℕ) → self.old ≡ first_words seed
             → order ≡ (drawn seed threads steps depth).order) }
 
-        // The places are in bounds. Each list of places in bounds gives an order, and each order is given by exactly one.
+        // The places are in bounds. Each list of places in bounds gives an order, and each order is
+        // given by exactly one.
         ensures places { ArePlaces threads (drawn_places self.old.seed self.old.place threads) }
         ensures each_list { (places : List ℕ) → ArePlaces threads places
             → IsOrderOf threads (order_of places) }

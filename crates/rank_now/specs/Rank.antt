@@ -1,7 +1,8 @@
 -- The priorities of the PCT scheduler (Burckhardt, Kothari, Musuvathi, Nagarakatte: "A Randomized
 -- Scheduler with Probabilistic Guarantees of Finding Bugs", 2010), of a whole schedule: a list of
 -- threads, one a step.
-use Rattle.std.specs.Prelude.{ℕ, Bool, ◌+◌, ◌-◌, ◌==◌, ◌&&◌, nat_lt, if◌then◌else◌, List, length, map, take}
+use Rattle.std.specs.Prelude.{ℕ, Bool, ◌+◌, ◌-◌, ◌==◌, ◌&&◌, nat_lt, if◌then◌else◌, List, length}
+use Rattle.std.specs.Prelude.{map, take}
 use Rattle.std.specs.List.{count_by, position_or_len, range_with_len}
 use Rattle.rank_now.specs.Positions.{greatest, passes_at, last_position}
 use Rattle.rank_now.specs.declared.moment.Moment.{Moment}

@@ -1,5 +1,5 @@
-//! The priorities of a PCT schedule: each thread has a value, no two threads have the same one, and of
-//! the threads that may go on the one with the greatest value does.
+//! The priorities of a PCT schedule: each thread has a value, no two threads have the same one, and
+//! of the threads that may go on the one with the greatest value does.
 #![tactic(auto)]
 
 mod moment;

@@ -1,6 +1,8 @@
-ghost use Rattle.std.specs.Prelude.{◌≡◌, ◌≢◌, ℕ, ◌+◌, ◌-◌, ◌<◌, ◌≤◌, ◌↔◌, [], ◌∷◌, ◌++◌, List, length, map, nat_lt, slice_set, slice_index, IfOk, OnOk};
+ghost use Rattle.std.specs.Prelude.{◌≡◌, ◌≢◌, ℕ, ◌+◌, ◌-◌, ◌<◌, ◌≤◌, ◌↔◌, [], ◌∷◌, ◌++◌, List};
+ghost use Rattle.std.specs.Prelude.{length, map, nat_lt, slice_set, slice_index, IfOk, OnOk};
 ghost use Rattle.std.specs.List.{count_by};
-ghost use Rattle.rank_now.specs.Rank.{place_of, threads_of, ranks, ranks_by_events, index_of_point, index_of_moment};
+ghost use Rattle.rank_now.specs.Rank.{place_of, threads_of, ranks, ranks_by_events, index_of_point};
+ghost use Rattle.rank_now.specs.Rank.{index_of_moment};
 ghost use Rattle.rank_now.specs.Order.{IsOrder, IsFirstWrong};
 ghost use Rattle.rank_now.specs.Ranking.{Ranking, AreDistinct, IsAtPlace, IsMoved};
 ghost use Rattle.rank_now.specs.declared.moment.Moment.{Moment};
@@ -28,8 +30,8 @@ impl Model for Ranks {
 }
 
 impl Ranks {
-    /// The ranks before the first step. The order names the highest thread first, and `count` values, from
-    /// 1 up, lie below those that the threads have now.
+    /// The ranks before the first step. The order names the highest thread first, and `count`
+    /// values, from 1 up, lie below those that the threads have now.
     pub fn new(alloc: Global, order: &[u32], count: u32) -> Result<Ranks, RankError>
         requires few_threads { length order.now ≤ 64 }
         requires few_points { count ≤ 7 }

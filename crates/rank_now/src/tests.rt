@@ -163,7 +163,8 @@ fn wrong_orders(rt: HostRuntime) {
 #[test]
 fn values_by_hand(rt: HostRuntime) -> Result<(), Fail> {
     let cases: [(&[u32], &[u32], &[u32], &[u32]); 10] = [
-        // Before the first step, and after the one change point, where the lowest value goes to the highest thread.
+        // Before the first step, and after the one change point, where the lowest value goes to the
+        // highest thread.
         (&[2, 0, 1], &[1], &[], &[3, 2, 4]),
         (&[2, 0, 1], &[1], &[2], &[3, 2, 1]),
         // The other threads' steps change nothing.
@@ -186,7 +187,8 @@ fn values_by_hand(rt: HostRuntime) -> Result<(), Fail> {
     Ok(())
 }
 
-/// Every order of three threads, each two points up to one past the schedule, and each schedule of four steps.
+/// Every order of three threads, each two points up to one past the schedule, and each schedule of
+/// four steps.
 #[test]
 fn values_are_the_slow_ones(rt: HostRuntime) -> Result<(), Fail> {
     let orders = [

@@ -12,9 +12,11 @@ use Rattle.trace_text.specs.declared.file.TraceFile.{TraceFile}
 use Rattle.worker_run.specs.Bodies.{Pending}
 use Rattle.worker_run.specs.Played.{IsPlayed}
 use Rattle.replay_run.specs.declared.answer.Written.{Written}
-use Rattle.replay_run.specs.declared.answer.Written.TheVariants.{Event as WrittenEvent, Verdict as WrittenVerdict}
+use Rattle.replay_run.specs.declared.answer.Written.TheVariants.{Event as WrittenEvent}
+use Rattle.replay_run.specs.declared.answer.Written.TheVariants.{Verdict as WrittenVerdict}
 use Rattle.replay_run.specs.declared.answer.Found.{Found}
-use Rattle.replay_run.specs.declared.answer.Found.TheVariants.{Event as FoundEvent, NotEnabled, Goes, Over}
+use Rattle.replay_run.specs.declared.answer.Found.TheVariants.{Event as FoundEvent, NotEnabled}
+use Rattle.replay_run.specs.declared.answer.Found.TheVariants.{Goes, Over}
 use Rattle.replay_run.specs.declared.answer.Replayed.{Replayed}
 use Rattle.replay_run.specs.declared.answer.Replayed.TheVariants.{Confirmed, Departs}
 

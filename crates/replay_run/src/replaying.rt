@@ -33,8 +33,8 @@ fn threads_of(alloc: Global, events: &[Event]) -> Result<Vec<u32>, NoMemory>
     Ok(threads)
 }
 
-/// Runs a trace's list of threads over a script's bodies, under the trace's limit, and tells whether that run has the
-/// trace's steps and verdict, or else where the two differ first.
+/// Runs a trace's list of threads over a script's bodies, under the trace's limit, and tells
+/// whether that run has the trace's steps and verdict, or else where the two differ first.
 pub fn replay<R: Threads + Wait + Sync, G: Gate>(
     rt: &R,
     alloc: Global,

@@ -1,6 +1,7 @@
 -- The report as the value that is written.
 use Rattle.std.specs.Prelude.{List, map, codes}
-use Rattle.serde_json.specs.Data.{Data, number, unsigned, string, array, object, item, no_items, member, no_members}
+use Rattle.serde_json.specs.Data.{Data, number, unsigned, string, array, object, item, no_items}
+use Rattle.serde_json.specs.Data.{member, no_members}
 use Rattle.serde_json.specs.View.{items_of}
 use Rattle.pct_ask.specs.NameLists.{NameLists}
 use Rattle.pct_ask.specs.VerdictText.{verdict_text}

@@ -1,4 +1,5 @@
-//! Runs a script again and again in declared order, for measuring: its threads are real threads, or the caller serves them.
+//! Runs a script again and again in declared order, for measuring: its threads are real threads, or
+//! the caller serves them.
 #![tactic(auto)]
 
 mod repeating;

@@ -1,6 +1,8 @@
 -- What an answer does to a thread that waits at a statement (this project).
-use Rattle.std.specs.Prelude.{ℕ, ℤ, Bool, true, false, not, ◌&&◌, if◌then◌else◌, List, Option, Some, None, slice_set}
-use Rattle.script_tree.specs.Trees.{Statement, Read, Add, Cas, TryLock, Wait, TryDown, Arrive, TryRdLock, TryWrLock}
+use Rattle.std.specs.Prelude.{ℕ, ℤ, Bool, true, false, not, ◌&&◌, if◌then◌else◌, List, Option, Some}
+use Rattle.std.specs.Prelude.{None, slice_set}
+use Rattle.script_tree.specs.Trees.{Statement, Read, Add, Cas, TryLock, Wait, TryDown, Arrive}
+use Rattle.script_tree.specs.Trees.{TryRdLock, TryWrLock}
 use Rattle.script_code.specs.FlatPosts.{Spot, spot}
 
 -- the register that has the answer to a statement

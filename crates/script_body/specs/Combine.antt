@@ -1,9 +1,11 @@
 -- What an operator makes of two numbers (this project).
-use Rattle.std.specs.Prelude.{ℤ, ◌+ℤ◌, ◌-ℤ◌, ◌*ℤ◌, pos, not, int_lt, int_le, if◌then◌else◌, Option, Some, None}
+use Rattle.std.specs.Prelude.{ℤ, ◌+ℤ◌, ◌-ℤ◌, ◌*ℤ◌, pos, not, int_lt, int_le, if◌then◌else◌, Option}
+use Rattle.std.specs.Prelude.{Some, None}
 use Rattle.std.specs.Ordering.{int_eq}
 use Rattle.script_tree.specs.Values.{Value, in_range, is_zero, truth, quotient, remainder}
 use Rattle.script_tree.specs.declared.expr.Op.{Op}
-use Rattle.script_tree.specs.declared.expr.Op.TheVariants.{Or, And, Eq, Ne, Lt, Le, Gt, Ge, Plus, Less, Times, Over, Rest}
+use Rattle.script_tree.specs.declared.expr.Op.TheVariants.{Or, And, Eq, Ne, Lt, Le, Gt, Ge, Plus}
+use Rattle.script_tree.specs.declared.expr.Op.TheVariants.{Less, Times, Over, Rest}
 
 -- what the left number alone decides
 abbrev pub decided : Op → ℤ → Option ℤ

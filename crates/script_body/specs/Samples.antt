@@ -2,7 +2,9 @@
 use Rattle.std.specs.Prelude.{◌≡◌, ℕ, ◌+◌, pos, ◌&&◌, true, nat_le, List, [], ◌∷◌, codes}
 use Rattle.pct_ask.specs.NameLists.{NameLists}
 use Rattle.script_tree.specs.declared.expr.Op.TheVariants as ops
-use Rattle.script_tree.specs.Trees.{Expression, Number, Reg, Minus, Two, Statement, Statements, Closed, Then, Add, Cas, Lock, TryLock, Wait, Unlock, Signal, TryDown, Up, Start, Arrive, Assert, Set, While, Yield}
+use Rattle.script_tree.specs.Trees.{Expression, Number, Reg, Minus, Two, Statement, Statements}
+use Rattle.script_tree.specs.Trees.{Closed, Then, Add, Cas, Lock, TryLock, Wait, Unlock, Signal}
+use Rattle.script_tree.specs.Trees.{TryDown, Up, Start, Arrive, Assert, Set, While, Yield}
 use Rattle.script_tree.specs.Fitting.{statements_fit, counts_of}
 
 abbrev pub thread_names : NameLists

@@ -11,7 +11,8 @@ use crate::state::State;
 use script_code::{Code, Flat};
 use script_tree::Stmt;
 
-/// Goes on with the answer to the ask at which a thread waits, up to the next operation. At its end a thread stays there.
+/// Goes on with the answer to the ask at which a thread waits, up to the next operation. At its end
+/// a thread stays there.
 pub(crate) fn take_answer(code: &Code, thread: u32, state: &mut State, value: i64)
     requires thread { thread < length (listing code.now) }
     requires place { state.old.place < length (listing_of (listing code.now) thread) }

@@ -20,7 +20,8 @@ pub struct ScriptBody<'c> {
     post: Post,
     ghost there: { thread < length (listing code.now) },
     ghost inside: { state.place < length (listing_of (listing code.now) thread) },
-    ghost waits: { is_waiting (flat_head (listing_of (listing code.now) thread) (spot_of state)).1 ≡ true },
+    ghost waits: { is_waiting (flat_head (listing_of (listing code.now) thread) (spot_of state)).1
+        ≡ true },
 }
 
 impl<'c> ScriptBody<'c> {

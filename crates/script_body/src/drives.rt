@@ -130,8 +130,8 @@ fn a_started_thread_begins_first(rt: HostRuntime) -> Result<(), Fail> {
     Ok(())
 }
 
-// The first thread makes a move, 4,999 rounds of two moves and the test that ends them: 10,000 moves before its ask. The
-// second one makes one more before.
+// The first thread makes a move, 4,999 rounds of two moves and the test that ends them: 10,000
+// moves before its ask. The second one makes one more before.
 #[test]
 fn a_thread_spins_after_ten_thousand_moves(rt: HostRuntime) -> Result<(), Fail> {
     let alloc = rt.alloc();

@@ -6,7 +6,10 @@ ghost use Rattle.script_tree.specs.Fitting.{expression_fits};
 ghost use Rattle.script_tree.specs.Seen.{expression, statement, statements, block};
 ghost use Rattle.script_tree.specs.Trees as trees;
 ghost use Rattle.script_tree.specs.Trees.{closed_at};
-ghost use Rattle.script_body.specs.Samples.{thread_names, lock_names, sample_names, MayStand, MayStandAlone, equals, minus, trying, tried, waiting, dividing, overflowing, meeting, moving, rounds, counting};
+ghost use Rattle.script_body.specs.Samples.{thread_names, lock_names, sample_names, MayStand};
+ghost use Rattle.script_body.specs.Samples.{MayStandAlone, equals, minus, trying, tried, waiting};
+ghost use Rattle.script_body.specs.Samples.{dividing, overflowing, meeting, moving, rounds};
+ghost use Rattle.script_body.specs.Samples.{counting};
 
 use pct_ask::{NameKind, Names, NumberList};
 use script_tree::{Block, Expr, Op, Script, Stmt, ThreadText};

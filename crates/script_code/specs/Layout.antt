@@ -1,6 +1,7 @@
 -- The flat code of a thread's statements, each by one operation (this project).
 use Rattle.std.specs.Prelude.{ℕ, ◌+◌, Bool, true, false, List, [], ◌∷◌, ◌++◌}
-use Rattle.script_tree.specs.Trees.{Statement, Statements, Closed, Then, If, IfElse, While, end_line}
+use Rattle.script_tree.specs.Trees.{Statement, Statements, Closed, Then, If, IfElse, While}
+use Rattle.script_tree.specs.Trees.{end_line}
 use Rattle.script_tree.specs.ScriptText.{Thread, ScriptText}
 use Rattle.script_tree.specs.Fitting.{count_of, counts_of}
 use Rattle.script_tree.specs.Posts.{is_held}

@@ -1,6 +1,6 @@
 ghost use Rattle.std.specs.Prelude.{◌≡◌, true, IfOk};
 ghost use Rattle.script_tree.specs.Seen.{expression, statement};
-ghost use Rattle.script_code.specs.Placed.{has_no_block};
+ghost use Rattle.script_code.specs.Placed.{has_no_block, has_no_expression};
 
 use script_tree::{Expr, Stmt};
 use std::alloc::{AllocError as NoMemory, Global};
@@ -28,6 +28,37 @@ pub(crate) fn copy_expr(alloc: Global, expr: &Expr) -> Result<Expr, NoMemory>
     }
 }
 
+/// An equal statement, of a statement that has neither blocks nor expressions.
+fn copy_plain(stmt: &Stmt) -> Stmt
+    requires { has_no_expression (statement stmt.now) ≡ true }
+    ensures { statement result ≡ statement stmt.now }
+{
+    match *stmt {
+        Stmt::Read { line, reg, var } => Stmt::Read { line, reg, var },
+        Stmt::Lock { line, mutex } => Stmt::Lock { line, mutex },
+        Stmt::TryLock { line, reg, mutex } => Stmt::TryLock { line, reg, mutex },
+        Stmt::Unlock { line, mutex } => Stmt::Unlock { line, mutex },
+        Stmt::Wait { line, cond, mutex } => Stmt::Wait { line, cond, mutex },
+        Stmt::Signal { line, cond } => Stmt::Signal { line, cond },
+        Stmt::Broadcast { line, cond } => Stmt::Broadcast { line, cond },
+        Stmt::Down { line, sem } => Stmt::Down { line, sem },
+        Stmt::TryDown { line, reg, sem } => Stmt::TryDown { line, reg, sem },
+        Stmt::Up { line, sem } => Stmt::Up { line, sem },
+        Stmt::Arrive { line, reg, barrier } => Stmt::Arrive { line, reg, barrier },
+        Stmt::Join { line, thread } => Stmt::Join { line, thread },
+        Stmt::Yield { line } => Stmt::Yield { line },
+        Stmt::Start { line, thread } => Stmt::Start { line, thread },
+        Stmt::RdLock { line, rwlock } => Stmt::RdLock { line, rwlock },
+        Stmt::WrLock { line, rwlock } => Stmt::WrLock { line, rwlock },
+        Stmt::TryRdLock { line, reg, rwlock } => Stmt::TryRdLock { line, reg, rwlock },
+        Stmt::TryWrLock { line, reg, rwlock } => Stmt::TryWrLock { line, reg, rwlock },
+        Stmt::RwUnlock { line, rwlock } => Stmt::RwUnlock { line, rwlock },
+        Stmt::Write { .. } | Stmt::Add { .. } | Stmt::Cas { .. } => unreachable!(),
+        Stmt::Assert { .. } | Stmt::Set { .. } => unreachable!(),
+        Stmt::If { .. } | Stmt::While { .. } => unreachable!(),
+    }
+}
+
 /// An equal statement in memory of its own, of a statement without blocks.
 pub(crate) fn copy_stmt(alloc: Global, stmt: &Stmt) -> Result<Stmt, NoMemory>
     requires { has_no_block (statement stmt.now) ≡ true }
@@ -35,11 +66,6 @@ pub(crate) fn copy_stmt(alloc: Global, stmt: &Stmt) -> Result<Stmt, NoMemory>
     ensures lone { has_no_block (statement stmt.now) ≡ true }
 {
     Ok(match stmt {
-        Stmt::Read { line, reg, var } => Stmt::Read {
-            line: *line,
-            reg: *reg,
-            var: *var,
-        },
         Stmt::Write { line, var, value } => Stmt::Write {
             line: *line,
             var: *var,
@@ -69,55 +95,6 @@ pub(crate) fn copy_stmt(alloc: Global, stmt: &Stmt) -> Result<Stmt, NoMemory>
             old: copy_expr(alloc, old)?,
             new: copy_expr(alloc, new)?,
         },
-        Stmt::Lock { line, mutex } => Stmt::Lock {
-            line: *line,
-            mutex: *mutex,
-        },
-        Stmt::TryLock { line, reg, mutex } => Stmt::TryLock {
-            line: *line,
-            reg: *reg,
-            mutex: *mutex,
-        },
-        Stmt::Unlock { line, mutex } => Stmt::Unlock {
-            line: *line,
-            mutex: *mutex,
-        },
-        Stmt::Wait { line, cond, mutex } => Stmt::Wait {
-            line: *line,
-            cond: *cond,
-            mutex: *mutex,
-        },
-        Stmt::Signal { line, cond } => Stmt::Signal {
-            line: *line,
-            cond: *cond,
-        },
-        Stmt::Broadcast { line, cond } => Stmt::Broadcast {
-            line: *line,
-            cond: *cond,
-        },
-        Stmt::Down { line, sem } => Stmt::Down {
-            line: *line,
-            sem: *sem,
-        },
-        Stmt::TryDown { line, reg, sem } => Stmt::TryDown {
-            line: *line,
-            reg: *reg,
-            sem: *sem,
-        },
-        Stmt::Up { line, sem } => Stmt::Up {
-            line: *line,
-            sem: *sem,
-        },
-        Stmt::Arrive { line, reg, barrier } => Stmt::Arrive {
-            line: *line,
-            reg: *reg,
-            barrier: *barrier,
-        },
-        Stmt::Join { line, thread } => Stmt::Join {
-            line: *line,
-            thread: *thread,
-        },
-        Stmt::Yield { line } => Stmt::Yield { line: *line },
         Stmt::Assert { line, test } => Stmt::Assert {
             line: *line,
             test: copy_expr(alloc, test)?,
@@ -127,32 +104,6 @@ pub(crate) fn copy_stmt(alloc: Global, stmt: &Stmt) -> Result<Stmt, NoMemory>
             reg: *reg,
             value: copy_expr(alloc, value)?,
         },
-        Stmt::Start { line, thread } => Stmt::Start {
-            line: *line,
-            thread: *thread,
-        },
-        Stmt::RdLock { line, rwlock } => Stmt::RdLock {
-            line: *line,
-            rwlock: *rwlock,
-        },
-        Stmt::WrLock { line, rwlock } => Stmt::WrLock {
-            line: *line,
-            rwlock: *rwlock,
-        },
-        Stmt::TryRdLock { line, reg, rwlock } => Stmt::TryRdLock {
-            line: *line,
-            reg: *reg,
-            rwlock: *rwlock,
-        },
-        Stmt::TryWrLock { line, reg, rwlock } => Stmt::TryWrLock {
-            line: *line,
-            reg: *reg,
-            rwlock: *rwlock,
-        },
-        Stmt::RwUnlock { line, rwlock } => Stmt::RwUnlock {
-            line: *line,
-            rwlock: *rwlock,
-        },
-        Stmt::If { .. } | Stmt::While { .. } => unreachable!(),
+        _ => copy_plain(stmt),
     })
 }

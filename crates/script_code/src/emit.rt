@@ -1,15 +1,34 @@
-ghost use Rattle.std.specs.Prelude.{◌≡◌, ◌+◌, ◌^◌, ◌<◌, ◌++◌, length, OnOk};
-ghost use Rattle.script_tree.specs.Seen.{statement, block};
+ghost use Rattle.std.specs.Prelude.{◌≡◌, ◌+◌, ◌^◌, ◌<◌, ◌++◌, length, IfOk, OnOk};
+ghost use Rattle.script_tree.specs.Seen.{expression, statement, block};
 ghost use Rattle.script_tree.specs.Fitting.{count_of, counts_of};
-ghost use Rattle.script_code.specs.Operations.{operations};
+ghost use Rattle.script_code.specs.Operations.{Test, operation, operations};
 ghost use Rattle.script_code.specs.Rest.{from};
 ghost use Rattle.script_code.specs.Layout.{entry, code_of, codes_of};
 
 use crate::copying::{copy_expr, copy_stmt};
 use crate::counting::{count_of, counts_of};
 use crate::flat::Flat;
-use script_tree::{Block, Stmt};
+use script_tree::{Block, Expr, Stmt};
 use std::alloc::{AllocError as NoMemory, Global};
+
+/// The test of an `if` or a `while`, and where it leads.
+fn test_of(
+    alloc: Global,
+    line: u32,
+    test: &Expr,
+    next: u32,
+    otherwise: u32,
+) -> Result<Flat, NoMemory>
+    ensures { IfOk result (λ flat.
+        operation flat ≡ Test line (expression test.now) next otherwise) }
+{
+    Ok(Flat::Test {
+        line,
+        test: copy_expr(alloc, test)?,
+        next,
+        otherwise,
+    })
+}
 
 /// Appends the operations of a statement, behind which `next` comes.
 #[cycle(emit)]
@@ -31,33 +50,20 @@ fn emit_stmt(alloc: Global, ops: &mut Vec<Flat>, stmt: &Stmt, next: u32) -> Resu
             let first = entry(at + 1, next, then, 0);
             match otherwise {
                 None => {
-                    ops.push(Flat::Test {
-                        line: *line,
-                        test: copy_expr(alloc, test)?,
-                        next: first,
-                        otherwise: next,
-                    })?;
+                    ops.push(test_of(alloc, *line, test, first, next)?)?;
                     emit_block(alloc, ops, then, next)
                 }
                 Some(otherwise) => {
-                    ops.push(Flat::Test {
-                        line: *line,
-                        test: copy_expr(alloc, test)?,
-                        next: first,
-                        otherwise: entry(second, next, otherwise, 0),
-                    })?;
+                    let last = entry(second, next, otherwise, 0);
+                    ops.push(test_of(alloc, *line, test, first, last)?)?;
                     emit_block(alloc, ops, then, next)?;
                     emit_block(alloc, ops, otherwise, next)
                 }
             }
         }
         Stmt::While { line, test, body } => {
-            ops.push(Flat::Test {
-                line: *line,
-                test: copy_expr(alloc, test)?,
-                next: entry(at + 1, at, body, 0),
-                otherwise: next,
-            })?;
+            let first = entry(at + 1, at, body, 0);
+            ops.push(test_of(alloc, *line, test, first, next)?)?;
             emit_block(alloc, ops, body, at)
         }
         _ => {

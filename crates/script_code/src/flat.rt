@@ -1,7 +1,8 @@
 use pct_ask::Sequence;
 use script_tree::{Expr, Stmt};
 
-/// An operation of a thread. `next` and `otherwise` are places of operations in its thread's list, from 0.
+/// An operation of a thread. `next` and `otherwise` are places of operations in its thread's list,
+/// from 0.
 #[derive(Debug, Drop)]
 pub enum Flat {
     /// A statement other than `if` and `while`.

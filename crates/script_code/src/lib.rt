@@ -1,4 +1,5 @@
-//! Flat code: the statements of a script's threads as lists of operations that name the next ones by their places.
+//! Flat code: the statements of a script's threads as lists of operations that name the next ones
+//! by their places.
 #![tactic(auto)]
 
 mod code;

@@ -1,26 +1,26 @@
 -- What a form asks of the lines before it is what it asks of what was read of them.
-use Rattle.std.proofs.Common.{◌≡◌, ℕ, suc, ◌+◌, ◌-◌, ◌<◌, Bool, true, false, cond, length, List, [], ◌∷◌, ◌++◌, reverse, Some, None, refl, sym, ap, ◌∙◌, arith}
+use Rattle.std.proofs.Common.{◌≡◌, ℕ, suc, ◌+◌, ◌-◌, ◌<◌, Bool, true, false, cond, length, List, [], ◌∷◌, ◌++◌, Some, None, refl, sym, ap, ◌∙◌, arith}
 use Rattle.std.specs.Prelude.{nat_le, nat_lt, not, ◌||◌, ◌==◌, codes, is_some, count_by, unwrap_or, pos}
 use Rattle.std.specs.List.{prefix_len}
 use Rattle.std.specs.Str.{bytes_eq}
+use Rattle.std.proofs.Math.Path.{fun_ext}
 use Rattle.std.proofs.lemmas.List.{append-nil, length_push}
 use Rattle.std.proofs.lemmas.Bool.Decides.{nat_tests}
 use Rattle.pct_ask.specs.Tokens.{Token, Word, Symbol}
 use Rattle.pct_ask.specs.Words.{is_among}
-use Rattle.pct_ask.specs.NameLists.{all_names, place_of}
+use Rattle.pct_ask.specs.NameLists.{NameLists, list_of, place_of}
 use Rattle.pct_ask.specs.declared.names.NameKind.{NameKind}
 use Rattle.pct_ask.specs.declared.names.NameKind.TheVariants as kinds
 use Rattle.script_tree.specs.Expressions.{register_word}
 use Rattle.std.proofs.lemmas.Bool.{le-leb, lt-ltb}
-use Rattle.script_tree.specs.Forms.{Cut, Meant, Thread, Yield, Assert, Set, If, While, kind_word, on_kind, into_kind, has_value, is_plain, tokens_of_form, IsOf, Means}
-use Rattle.script_tree.specs.Lines.{version_of, begins, named, names_of, opens, depth, opener, threads_in}
+use Rattle.script_tree.specs.Forms.{Cut, Meant, Thread, Yield, Assert, Set, If, While, kind_word, has_value, is_plain, value_in, tokens_of_form, IsOf, Means}
+use Rattle.script_tree.specs.Lines.{version_of, begins, named, names_of, opens, depth, threads_in}
 use Rattle.script_tree.specs.Faults as faults
-use Rattle.script_tree.specs.Faults.{Place, earlier, is_declared}
+use Rattle.script_tree.specs.Faults.{Place, SoFar, earlier, is_declared}
 use Rattle.script_parse.specs.Part.{Open, Part}
 use Rattle.script_parse.specs.Part as parts
-use Rattle.script_parse.specs.Values.{first_of}
 use Rattle.script_parse.specs.Reading as reading
-use Rattle.script_parse.specs.Reading.{Finder, is_empty, is_if, is_in_if, taken}
+use Rattle.script_parse.specs.Reading.{Finder, is_empty, is_if, is_in_if, so_far, is_known, taken}
 use Rattle.script_parse.proofs.Meanings.{by_meaning}
 use Rattle.script_parse.proofs.Standing.{Lines, Stands, depth_is, is_if_at, quiet_at, on_quiet, into_quiet, said_stands, plain_stands, valued_stands, opens_stands, quiet_names, declared_names, end_stands_at, else_stands_at, count_push, names_push, nameless_at, plain_opens_none, kind_ends_none}
 
@@ -30,13 +30,6 @@ open_opening opening = record { opening = opening; done = [] }
 unflip : (b : Bool) → not b ≡ false → b ≡ true
 unflip true h = refl
 unflip false h = absurd cc
-
-twice_not : (b : Bool) → not (not b) ≡ b
-twice_not true = refl
-twice_not false = refl
-
-zero_tests : (n : ℕ) → not (nat_le 1 n) ≡ (n == 0)
-zero_tests n = grind (arith, nat_tests)
 
 one_tests : (n : ℕ) → nat_le 1 n ≡ not (n == 0)
 one_tests n = grind (arith, nat_tests)
@@ -94,12 +87,12 @@ abbrev tail_of : ℕ → List ℕ → List Token
 tail_of reg object = Word (register_word reg) ∷ Word object ∷ []
 
 -- what is read with a line that has no fault stands for it too
-pub taken_stands : (version : ℕ) (part : Part) (find : Finder) (n : ℕ) (lines : Lines) → Stands part lines → (cut : Cut) (meant : Meant) → Means cut meant → IsOf version cut → reading.closes_nothing part meant ≡ false → Stands (taken part find n meant) (lines ++ tokens_of_form cut ∷ [])
+pub taken_stands : (version : ℕ) (part : Part) (find : Finder) (n : ℕ) (lines : Lines) → Stands part lines → (cut : Cut) (meant : Meant) → Means cut meant → IsOf version cut → faults.closes_nothing (so_far part) meant ≡ false → Stands (taken part find n meant) (lines ++ tokens_of_form cut ∷ [])
 unfolding open_opening
 taken_stands version part find n lines s =
-    by_meaning (λ cut meant. IsOf version cut → reading.closes_nothing part meant ≡ false → Stands (taken part find n meant) (lines ++ tokens_of_form cut ∷ [])) (record {
+    by_meaning (λ cut meant. IsOf version cut → faults.closes_nothing (so_far part) meant ≡ false → Stands (taken part find n meant) (lines ++ tokens_of_form cut ∷ [])) (record {
       plain = λ kind name of c. plain_stands part lines kind name of.0 s;
-      valued = λ kind name value of c. valued_stands part lines kind name (unwrap_or (first_of value) (pos 0)) (Symbol (codes "=") ∷ value) of.0 s;
+      valued = λ kind name value of c. valued_stands part lines kind name (unwrap_or (value_in kind value) (pos 0)) (Symbol (codes "=") ∷ value) of.0 s;
       thread = λ name of c. opens_stands part (taken part find n (Thread name)) lines (Word (codes "thread") ∷ Word name ∷ []) (open_opening (parts.Thread n)) refl refl refl refl (λ kind. declared_names part lines kinds.Thread kind name [] s) refl s;
       on = λ verb object of c. said_stands part _ lines _ (on_quiet verb (Word object ∷ [])) s;
       into = λ verb reg object of c. said_stands part _ lines _ (into_quiet verb _) s;
@@ -116,145 +109,37 @@ taken_stands version part find n lines s =
       otherwise = λ of c. else_stands_at part part.open_blocks lines n refl (unflip (is_in_if part.open_blocks) c) s;
     })
 
--- ---- tests on forms
+-- ---- what was read stands for what the lines have declared and begun
 
-module _ (part : Part) (lines : Lines) (s : Stands part lines) where
-  same_depth : depth lines ≡ length part.open_blocks
-  same_depth = depth_is part lines s
+same_here : (v w d e : ℕ) (ns ms : NameLists) (i j : Bool) → v ≡ w → ns ≡ ms → d ≡ e → i ≡ j
+    → ◌≡◌ {A = SoFar} (record { version = v; names = ns; depth = d; in_if = i }) (record { version = w; names = ms; depth = e; in_if = j })
+same_here v w d e ns ms i j p q r s = rw (p, q, r, s) refl
 
-  closed_same : not (nat_le 1 (depth lines)) ≡ is_empty part.open_blocks
-  closed_same = rw same_depth (zero_tests (length part.open_blocks))
+same_names : (names : NameLists) (lists : NameKind → List (List ℕ)) → ((kind : NameKind) → lists kind ≡ list_of kind names)
+    → ◌≡◌ {A = NameLists} (record { threads = lists kinds.Thread; vars = lists kinds.Var; mutexes = lists kinds.Mutex; conds = lists kinds.Cond; sems = lists kinds.Sem; barriers = lists kinds.Barrier; rwlocks = lists kinds.RwLock }) names
+same_names names lists h = rw (h kinds.Thread, h kinds.Var, h kinds.Mutex, h kinds.Cond, h kinds.Sem, h kinds.Barrier, h kinds.RwLock) refl
 
-  inside_same : nat_le 1 (depth lines) ≡ not (is_empty part.open_blocks)
-  inside_same = rw same_depth (one_tests (length part.open_blocks))
-
-  no_thread_same : not (faults.has_thread lines) ≡ is_empty part.names.threads
-  no_thread_same = rw (s.names kinds.Thread) (twice_not (length part.names.threads == 0))
-
-  pub may_stand_same : (cut : Cut) (meant : Meant) → Means cut meant → faults.may_stand lines cut ≡ reading.may_stand part meant
-  may_stand_same = by_meaning (λ cut meant. faults.may_stand lines cut ≡ reading.may_stand part meant) (record {
-    plain = λ kind name. no_thread_same;
-    valued = λ kind name value. no_thread_same;
-    thread = λ name. closed_same;
-    on = λ verb object. inside_same;
-    into = λ verb reg object. inside_same;
-    write = λ var value tree. inside_same;
-    add = λ reg var value tree. inside_same;
-    cas = λ reg var old new a b. inside_same;
-    wait = λ waiting mutex. inside_same;
-    yield = inside_same;
-    assert = λ test tree. inside_same;
-    set = λ reg value tree. inside_same;
-    when = λ test tree. inside_same;
-    while = λ test tree. inside_same;
-    end = refl;
-    otherwise = refl;
-  })
-
-  again_same : (name : List ℕ) → is_among name (faults.declared_names lines) ≡ is_among name (all_names part.names)
-  again_same name = rw (s.names kinds.Thread, s.names kinds.Var, s.names kinds.Mutex, s.names kinds.Cond, s.names kinds.Sem, s.names kinds.Barrier, s.names kinds.RwLock) refl
-
-  threads_same : length (names_of kinds.Thread lines) ≡ length part.names.threads
-  threads_same = ap length (s.names kinds.Thread)
-
-  version_same : version_of lines ≡ part.version
-  version_same = ap version_of (sym (append-nil lines)) ∙ s.version []
-
-  pub too_many_same : (cut : Cut) (meant : Meant) → Means cut meant → faults.is_too_many lines cut ≡ reading.is_too_many part meant
-  too_many_same = by_meaning (λ cut meant. faults.is_too_many lines cut ≡ reading.is_too_many part meant) (record {
-    plain = λ kind name. rw (s.names kind) refl;
-    valued = λ kind name value. rw (s.names kind) refl;
-    thread = λ name. rw (version_same, threads_same) refl;
-    on = λ verb object. refl;
-    into = λ verb reg object. refl;
-    write = λ var value tree. refl;
-    add = λ reg var value tree. refl;
-    cas = λ reg var old new a b. refl;
-    wait = λ waiting mutex. refl;
-    yield = refl;
-    assert = λ test tree. refl;
-    set = λ reg value tree. refl;
-    when = λ test tree. rw same_depth refl;
-    while = λ test tree. rw same_depth refl;
-    end = refl;
-    otherwise = refl;
-  })
-
-  innermost_same : begins (codes "if") (opener 0 (reverse lines)) ≡ is_in_if part.open_blocks
-  innermost_same = s.innermost 0 ∙ at_zero part.open_blocks
-
-  pub closes_nothing_same : (cut : Cut) (meant : Meant) → Means cut meant → faults.closes_nothing lines cut ≡ reading.closes_nothing part meant
-  closes_nothing_same = by_meaning (λ cut meant. faults.closes_nothing lines cut ≡ reading.closes_nothing part meant) (record {
-    plain = λ kind name. refl;
-    valued = λ kind name value. refl;
-    thread = λ name. refl;
-    on = λ verb object. refl;
-    into = λ verb reg object. refl;
-    write = λ var value tree. refl;
-    add = λ reg var value tree. refl;
-    cas = λ reg var old new a b. refl;
-    wait = λ waiting mutex. refl;
-    yield = refl;
-    assert = λ test tree. refl;
-    set = λ reg value tree. refl;
-    when = λ test tree. refl;
-    while = λ test tree. refl;
-    end = rw same_depth refl;
-    otherwise = ap not innermost_same;
-  })
+pub same_so_far : (part : Part) (lines : Lines) → Stands part lines → faults.so_far lines ≡ so_far part
+same_so_far part lines s =
+    let version : version_of lines ≡ part.version = ap version_of (sym (append-nil lines)) ∙ s.version [] in
+    same_here (version_of lines) part.version (depth lines) (length part.open_blocks) (faults.names_in lines) part.names _ _
+    version (same_names part.names (λ kind. names_of kind lines) s.names) (depth_is part lines s) (s.innermost 0 ∙ at_zero part.open_blocks)
 
 module _ (part : Part) (place : Place) (s : Stands part (earlier place)) where
   abbrev pub found : Finder
   found name = place_of name (threads_in (place.before ++ place.line ∷ place.after))
 
-  known_same : (kind : NameKind) (name : List ℕ) → is_declared place kind name ≡ reading.is_known part.names found kind name
-  known_same kinds.Thread name = sym (is_some-place name (threads_in (place.before ++ place.line ∷ place.after)))
-  known_same kinds.Var name = rw (s.names kinds.Var) (sym (is_some-place name part.names.vars))
-  known_same kinds.Mutex name = rw (s.names kinds.Mutex) (sym (is_some-place name part.names.mutexes))
-  known_same kinds.Cond name = rw (s.names kinds.Cond) (sym (is_some-place name part.names.conds))
-  known_same kinds.Sem name = rw (s.names kinds.Sem) (sym (is_some-place name part.names.sems))
-  known_same kinds.Barrier name = rw (s.names kinds.Barrier) (sym (is_some-place name part.names.barriers))
-  known_same kinds.RwLock name = rw (s.names kinds.RwLock) (sym (is_some-place name part.names.rwlocks))
+  known_at : (kind : NameKind) (name : List ℕ) → is_declared place kind name ≡ is_known part.names found kind name
+  known_at kinds.Thread name = sym (is_some-place name (threads_in (place.before ++ place.line ∷ place.after)))
+  known_at kinds.Var name = rw (s.names kinds.Var) (sym (is_some-place name part.names.vars))
+  known_at kinds.Mutex name = rw (s.names kinds.Mutex) (sym (is_some-place name part.names.mutexes))
+  known_at kinds.Cond name = rw (s.names kinds.Cond) (sym (is_some-place name part.names.conds))
+  known_at kinds.Sem name = rw (s.names kinds.Sem) (sym (is_some-place name part.names.sems))
+  known_at kinds.Barrier name = rw (s.names kinds.Barrier) (sym (is_some-place name part.names.barriers))
+  known_at kinds.RwLock name = rw (s.names kinds.RwLock) (sym (is_some-place name part.names.rwlocks))
 
-  pub uses_unknown_same : (cut : Cut) (meant : Meant) → Means cut meant → faults.uses_unknown place cut ≡ reading.uses_unknown part found meant
-  uses_unknown_same = by_meaning (λ cut meant. faults.uses_unknown place cut ≡ reading.uses_unknown part found meant) (record {
-    plain = λ kind name. refl;
-    valued = λ kind name value. refl;
-    thread = λ name. refl;
-    on = λ verb object. ap not (known_same (on_kind verb) object);
-    into = λ verb reg object. ap not (known_same (into_kind verb) object);
-    write = λ var value tree. ap not (known_same kinds.Var var);
-    add = λ reg var value tree. ap not (known_same kinds.Var var);
-    cas = λ reg var old new a b. ap not (known_same kinds.Var var);
-    wait = λ waiting mutex. rw (known_same kinds.Cond waiting, known_same kinds.Mutex mutex) refl;
-    yield = refl;
-    assert = λ test tree. refl;
-    set = λ reg value tree. refl;
-    when = λ test tree. refl;
-    while = λ test tree. refl;
-    end = refl;
-    otherwise = refl;
-  })
-
-  pub declares_again_same : (cut : Cut) (meant : Meant) → Means cut meant → faults.declares_again place cut ≡ reading.declares_again part meant
-  declares_again_same = by_meaning (λ cut meant. faults.declares_again place cut ≡ reading.declares_again part meant) (record {
-    plain = λ kind name. again_same part (earlier place) s name;
-    valued = λ kind name value. again_same part (earlier place) s name;
-    thread = λ name. again_same part (earlier place) s name;
-    on = λ verb object. refl;
-    into = λ verb reg object. refl;
-    write = λ var value tree. refl;
-    add = λ reg var value tree. refl;
-    cas = λ reg var old new a b. refl;
-    wait = λ waiting mutex. refl;
-    yield = refl;
-    assert = λ test tree. refl;
-    set = λ reg value tree. refl;
-    when = λ test tree. refl;
-    while = λ test tree. refl;
-    end = refl;
-    otherwise = refl;
-  })
+  pub known_same : is_declared place ≡ is_known part.names found
+  known_same = fun_ext (λ kind. fun_ext (λ name. known_at kind name))
 
 -- ---- what is open behind a line, and whether a thread began
 

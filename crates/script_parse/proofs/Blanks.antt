@@ -1,19 +1,19 @@
 -- The shape of what is read doesn't depend on its numbers.
 use Rattle.std.proofs.Common.{◌≡◌, ℕ, Bool, true, false, cond, List, [], ◌∷◌, Option, Some, None, refl, ap}
-use Rattle.std.specs.Prelude.{ℤ, pos, nat_le, codes, is_none, unwrap_or}
+use Rattle.std.specs.Prelude.{ℤ, pos, nat_le, codes}
 use Rattle.std.specs.Option.{option_map, option_and_then}
 use Rattle.std.specs.Str.{bytes_eq}
-use Rattle.std.specs.Str.Parse.{digits_value}
 use Rattle.pct_ask.specs.Tokens.{Token, Word, Number, Symbol}
 use Rattle.script_tree.specs.declared.expr.Op.{Op}
 use Rattle.script_tree.specs.Trees.{Expression}
 use Rattle.script_tree.specs.Trees as trees
 use Rattle.script_tree.specs.Expressions.{strength, left_level}
-use Rattle.script_parse.specs.Numbers.{number_in, saturated}
-use Rattle.script_parse.specs.Values.{is_great, has_great}
+use Rattle.script_tree.specs.Ranges.{is_great, has_great}
+use Rattle.script_parse.specs.Numbers.{saturated}
 use Rattle.script_parse.specs.Registers.{register_in}
 use Rattle.script_parse.specs.Machine.{Frame, Paren, Not, Minus, Two, Pending, pending, operator_in, reduced, chains, joined, closed, closed_by, begun, joined_by, behind, step, step_at, whole, finished_at, read_from, expression_in}
 use Rattle.script_parse.proofs.Choices.{or_parts}
+use Rattle.script_parse.proofs.Numbers.{kept}
 use Rattle.script_parse.proofs.ExpressionWhole.{exact}
 
 abbrev pub blank : Expression → Expression
@@ -127,16 +127,8 @@ module _ (number : List ℕ → ℤ) where
 
 -- ---- numbers that are read exactly
 
-exact_if : (b : Bool) (v : ℕ) (most : ℤ) → is_none (cond b (Some (pos v)) None) ≡ false → unwrap_or (cond b (Some (pos v)) None) most ≡ pos v
-exact_if true v most h = refl
-exact_if false v most h = absurd cc
-
-pub exact_digits : (digits : List ℕ) → is_none (number_in digits) ≡ false → saturated digits ≡ exact digits
-exact_digits [] h = absurd cc
-exact_digits (d ∷ ds) h = exact_if _ (digits_value 10 (d ∷ ds)) _ h
-
 begun_same : (frames : List Frame) (token : Token) → is_great token ≡ false → begun saturated frames token ≡ begun exact frames token
-begun_same frames (Number digits) h = ap (λ (n : ℤ). Some (pending frames (Some (trees.Number n)))) (exact_digits digits h)
+begun_same frames (Number digits) h = ap (λ (n : ℤ). Some (pending frames (Some (trees.Number n)))) (kept digits h)
 begun_same frames (Word word) h = refl
 begun_same frames (Symbol signs) h = refl
 

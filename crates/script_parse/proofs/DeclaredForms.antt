@@ -1,6 +1,6 @@
 -- What a line of any form adds to the first values and the threads.
-use Rattle.std.proofs.Common.{◌≡◌, ℕ, Bool, true, false, List, [], ◌∷◌, ◌++◌, Option, Some, None, refl, sym, ◌∙◌}
-use Rattle.std.specs.Prelude.{ℤ, pos, not, codes, unwrap_or, is_some}
+use Rattle.std.proofs.Common.{◌≡◌, ℕ, true, List, [], ◌∷◌, ◌++◌, Option, Some, None, refl, sym, ◌∙◌}
+use Rattle.std.specs.Prelude.{ℤ, pos, codes, unwrap_or, is_some}
 use Rattle.std.specs.List.{filter_map}
 use Rattle.std.proofs.lemmas.List.{append-nil}
 use Rattle.pct_ask.specs.Tokens.{Token, Word, Symbol}
@@ -13,13 +13,12 @@ use Rattle.script_tree.specs.Forms.{OnVerb, IntoVerb, Cut, Meant, Plain, Valued,
 use Rattle.script_tree.specs.Lines.{valued, values_of, just_thread}
 use Rattle.script_parse.specs.Part.{Open, Part}
 use Rattle.script_parse.specs.Part as parts
-use Rattle.script_parse.specs.Values.{first_of, fits}
 use Rattle.script_parse.specs.Words.{kind_in}
 use Rattle.script_parse.specs.Reading as reading
 use Rattle.script_parse.specs.Reading.{Finder, taken}
 use Rattle.script_parse.proofs.Meanings.{by_meaning}
 use Rattle.script_parse.proofs.Standing.{no_kind}
-use Rattle.script_parse.proofs.DeclaredValues.{AreValues, no_value_more, values_push, valueless_at, threadless_at, var_value, sem_value_is, barrier_value_is}
+use Rattle.script_parse.proofs.DeclaredValues.{AreValues, no_value_more, values_push, valueless_at, threadless_at}
 
 -- what stays the same but for the blocks
 record KeepsDeclared (part next : Part) : Type 0 where
@@ -99,43 +98,43 @@ push_value kind lines line values value h v = values_push kind lines line ∙ rw
 same_value : (kind : NameKind) (lines : List (List Token)) (line : List Token) (values : List ℤ) → values_of kind lines ≡ values → valued kind line ≡ None → values_of kind (lines ++ line ∷ []) ≡ values
 same_value kind lines line values h v = values_push kind lines line ∙ rw v (append-nil (values_of kind lines) ∙ h)
 
-valued_adds : (part : Part) (lines : List (List Token)) (kind : NameKind) (name : List ℕ) (value : List Token) → has_value kind ≡ true → is_some (value_in kind value) ≡ true → fits kind value ≡ true → AreValues part lines
-    → Adds part (reading.with_value kind (unwrap_or (first_of value) (pos 0)) (reading.named part kind name)) lines (Word (kind_word kind) ∷ Word name ∷ Symbol (codes "=") ∷ value)
-valued_adds part lines kinds.Var name value p s f h = record {
-  values = record { vars = push_value kinds.Var lines _ part.vars _ h.vars (var_value value f s); sems = same_value kinds.Sem lines _ part.sems h.sems refl; barriers = same_value kinds.Barrier lines _ part.barriers h.barriers refl };
-  thread = append-nil part.names.threads;
-}
-valued_adds part lines kinds.Sem name value p s f h = record {
-  values = record { vars = same_value kinds.Var lines _ part.vars h.vars refl; sems = push_value kinds.Sem lines _ part.sems _ h.sems (sem_value_is value f); barriers = same_value kinds.Barrier lines _ part.barriers h.barriers refl };
-  thread = append-nil part.names.threads;
-}
-valued_adds part lines kinds.Barrier name value p s f h = record {
-  values = record { vars = same_value kinds.Var lines _ part.vars h.vars refl; sems = same_value kinds.Sem lines _ part.sems h.sems refl; barriers = push_value kinds.Barrier lines _ part.barriers _ h.barriers (barrier_value_is value f) };
-  thread = append-nil part.names.threads;
-}
-valued_adds part lines kind name value p s f h = absurd cc
+some_value : (o : Option ℤ) → is_some o ≡ true → o ≡ Some (unwrap_or o (pos 0))
+some_value (Some value) h = refl
+some_value None h = absurd cc
 
-unflip : (b : Bool) → not b ≡ false → b ≡ true
-unflip true h = refl
-unflip false h = absurd cc
+valued_adds : (part : Part) (lines : List (List Token)) (kind : NameKind) (name : List ℕ) (value : List Token) → has_value kind ≡ true → is_some (value_in kind value) ≡ true → AreValues part lines
+    → Adds part (reading.with_value kind (unwrap_or (value_in kind value) (pos 0)) (reading.named part kind name)) lines (Word (kind_word kind) ∷ Word name ∷ Symbol (codes "=") ∷ value)
+valued_adds part lines kinds.Var name value p s h = record {
+  values = record { vars = push_value kinds.Var lines _ part.vars _ h.vars (some_value (value_in kinds.Var value) s); sems = same_value kinds.Sem lines _ part.sems h.sems refl; barriers = same_value kinds.Barrier lines _ part.barriers h.barriers refl };
+  thread = append-nil part.names.threads;
+}
+valued_adds part lines kinds.Sem name value p s h = record {
+  values = record { vars = same_value kinds.Var lines _ part.vars h.vars refl; sems = push_value kinds.Sem lines _ part.sems _ h.sems (some_value (value_in kinds.Sem value) s); barriers = same_value kinds.Barrier lines _ part.barriers h.barriers refl };
+  thread = append-nil part.names.threads;
+}
+valued_adds part lines kinds.Barrier name value p s h = record {
+  values = record { vars = same_value kinds.Var lines _ part.vars h.vars refl; sems = same_value kinds.Sem lines _ part.sems h.sems refl; barriers = push_value kinds.Barrier lines _ part.barriers _ h.barriers (some_value (value_in kinds.Barrier value) s) };
+  thread = append-nil part.names.threads;
+}
+valued_adds part lines kind name value p s h = absurd cc
 
 -- what a line of any form adds
-pub form_adds : (version : ℕ) (part : Part) (find : Finder) (n : ℕ) (lines : List (List Token)) (tokens : List Token) → AreValues part lines → (cut : Cut) (meant : Meant) → Means cut meant → IsOf version cut → reading.is_out_of_range tokens meant ≡ false → Adds part (taken part find n meant) lines (tokens_of_form cut)
-form_adds version part find n lines tokens h = by_meaning (λ cut meant. IsOf version cut → reading.is_out_of_range tokens meant ≡ false → Adds part (taken part find n meant) lines (tokens_of_form cut)) (record {
-  plain = λ kind name of r. plain_adds part lines kind name of.0 h;
-  valued = λ kind name value of r. valued_adds part lines kind name value of.0 of.2 (unflip (fits kind value) r) h;
-  thread = λ name of r. record { values = no_value_more part (taken part find n (Thread name)) lines (tokens_of_form (Thread name)) (λ kind. refl) refl refl refl h; thread = refl };
-  on = λ verb object of r. quiet_adds part (taken part find n (On verb object)) lines (on_word verb) (Word object ∷ []) (on_none verb) (said_declared part (reading.statement_on part.names find n (On verb object))) h;
-  into = λ verb reg object of r. quiet_adds part (taken part find n (Into verb reg object)) lines (into_word verb) (Word (register_word reg) ∷ Word object ∷ []) (into_none verb) (said_declared part (reading.statement_on part.names find n (Into verb reg object))) h;
-  write = λ var value tree of r. quiet_adds part (taken part find n (Write var tree)) lines (codes "write") (Word var ∷ value) refl (said_declared part (reading.statement_on part.names find n (Write var tree))) h;
-  add = λ reg var value tree of r. quiet_adds part (taken part find n (Add reg var tree)) lines (codes "add") (Word (register_word reg) ∷ Word var ∷ value) refl (said_declared part (reading.statement_on part.names find n (Add reg var tree))) h;
-  cas = λ reg var old new a b of r. quiet_adds part (taken part find n (Cas reg var a b)) lines (codes "cas") (Word (register_word reg) ∷ Word var ∷ (old ++ Symbol (codes ",") ∷ new)) refl (said_declared part (reading.statement_on part.names find n (Cas reg var a b))) h;
-  wait = λ waiting mutex of r. quiet_adds part (taken part find n (Wait waiting mutex)) lines (codes "wait") (Word waiting ∷ Word mutex ∷ []) refl (said_declared part (reading.statement_on part.names find n (Wait waiting mutex))) h;
-  yield = λ of r. quiet_adds part (taken part find n Yield) lines (codes "yield") [] refl (said_declared part (reading.statement_on part.names find n Yield)) h;
-  assert = λ test tree of r. quiet_adds part (taken part find n (Assert tree)) lines (codes "assert") test refl (said_declared part (reading.statement_on part.names find n (Assert tree))) h;
-  set = λ reg value tree of r. quiet_adds part (taken part find n (Set reg tree)) lines (codes "set") (Word (register_word reg) ∷ value) refl (said_declared part (reading.statement_on part.names find n (Set reg tree))) h;
-  when = λ test tree of r. quiet_adds part (taken part find n (If tree)) lines (codes "if") test refl (record { vars = refl; sems = refl; barriers = refl; threads = refl }) h;
-  while = λ test tree of r. quiet_adds part (taken part find n (While tree)) lines (codes "while") test refl (record { vars = refl; sems = refl; barriers = refl; threads = refl }) h;
-  end = λ of r. quiet_adds part (taken part find n End) lines (codes "end") [] refl (ended_declared part part.open_blocks n) h;
-  otherwise = λ of r. quiet_adds part (taken part find n Else) lines (codes "else") [] refl (turned_declared part part.open_blocks n) h;
+pub form_adds : (version : ℕ) (part : Part) (find : Finder) (n : ℕ) (lines : List (List Token)) → AreValues part lines → (cut : Cut) (meant : Meant) → Means cut meant → IsOf version cut → Adds part (taken part find n meant) lines (tokens_of_form cut)
+form_adds version part find n lines h = by_meaning (λ cut meant. IsOf version cut → Adds part (taken part find n meant) lines (tokens_of_form cut)) (record {
+  plain = λ kind name of. plain_adds part lines kind name of.0 h;
+  valued = λ kind name value of. valued_adds part lines kind name value of.0 of.2 h;
+  thread = λ name of. record { values = no_value_more part (taken part find n (Thread name)) lines (tokens_of_form (Thread name)) (λ kind. refl) refl refl refl h; thread = refl };
+  on = λ verb object of. quiet_adds part (taken part find n (On verb object)) lines (on_word verb) (Word object ∷ []) (on_none verb) (said_declared part (reading.statement_on part.names find n (On verb object))) h;
+  into = λ verb reg object of. quiet_adds part (taken part find n (Into verb reg object)) lines (into_word verb) (Word (register_word reg) ∷ Word object ∷ []) (into_none verb) (said_declared part (reading.statement_on part.names find n (Into verb reg object))) h;
+  write = λ var value tree of. quiet_adds part (taken part find n (Write var tree)) lines (codes "write") (Word var ∷ value) refl (said_declared part (reading.statement_on part.names find n (Write var tree))) h;
+  add = λ reg var value tree of. quiet_adds part (taken part find n (Add reg var tree)) lines (codes "add") (Word (register_word reg) ∷ Word var ∷ value) refl (said_declared part (reading.statement_on part.names find n (Add reg var tree))) h;
+  cas = λ reg var old new a b of. quiet_adds part (taken part find n (Cas reg var a b)) lines (codes "cas") (Word (register_word reg) ∷ Word var ∷ (old ++ Symbol (codes ",") ∷ new)) refl (said_declared part (reading.statement_on part.names find n (Cas reg var a b))) h;
+  wait = λ waiting mutex of. quiet_adds part (taken part find n (Wait waiting mutex)) lines (codes "wait") (Word waiting ∷ Word mutex ∷ []) refl (said_declared part (reading.statement_on part.names find n (Wait waiting mutex))) h;
+  yield = λ of. quiet_adds part (taken part find n Yield) lines (codes "yield") [] refl (said_declared part (reading.statement_on part.names find n Yield)) h;
+  assert = λ test tree of. quiet_adds part (taken part find n (Assert tree)) lines (codes "assert") test refl (said_declared part (reading.statement_on part.names find n (Assert tree))) h;
+  set = λ reg value tree of. quiet_adds part (taken part find n (Set reg tree)) lines (codes "set") (Word (register_word reg) ∷ value) refl (said_declared part (reading.statement_on part.names find n (Set reg tree))) h;
+  when = λ test tree of. quiet_adds part (taken part find n (If tree)) lines (codes "if") test refl (record { vars = refl; sems = refl; barriers = refl; threads = refl }) h;
+  while = λ test tree of. quiet_adds part (taken part find n (While tree)) lines (codes "while") test refl (record { vars = refl; sems = refl; barriers = refl; threads = refl }) h;
+  end = λ of. quiet_adds part (taken part find n End) lines (codes "end") [] refl (ended_declared part part.open_blocks n) h;
+  otherwise = λ of. quiet_adds part (taken part find n Else) lines (codes "else") [] refl (turned_declared part part.open_blocks n) h;
 })

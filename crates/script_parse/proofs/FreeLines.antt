@@ -7,13 +7,13 @@ use Rattle.pct_ask.specs.declared.names.NameKind.TheVariants as kinds
 use Rattle.script_tree.specs.Forms.{Cut, Meant, tokens_of_form, IsOf, Means, IsForm}
 use Rattle.script_tree.specs.Lines.{tokens_in}
 use Rattle.script_tree.specs.Grammar.{Says}
+use Rattle.script_tree.specs.Ranges as ranges
 use Rattle.script_parse.specs.Part.{Part}
 use Rattle.script_parse.specs.Reading as reading
 use Rattle.script_parse.specs.Reading.{Finder, is_empty, form_fault, taken, tokens_taken}
 use Rattle.script_parse.specs.Saying.{form_in}
 use Rattle.script_parse.proofs.ExpressionWhole.{exact}
 use Rattle.script_parse.proofs.FormWhole.{form_read}
-use Rattle.script_parse.proofs.NumberLaws.{line_numerals, range_same, are_numerals}
 use Rattle.script_parse.proofs.Standing.{Stands, depth_is}
 use Rattle.script_parse.proofs.Agreeing.{taken_stands, leaves_open_same, lacks_thread_same}
 use Rattle.script_parse.proofs.Runs.{IsFree}
@@ -41,7 +41,7 @@ module _ (version : ℕ) (part : Part) (find : Finder) (n : ℕ) (last : Bool) (
   a_thread : last ≡ true → reading.lacks_thread part meant ≡ false
   a_thread e = sym (lacks_thread_same part lines s version cut meant means of) ∙ ap is_empty (next_stands.names kinds.Thread) ∙ (whole e).threads
 
-  pub no_form_fault : (tokens : List Token) → reading.is_out_of_range tokens meant ≡ false → form_fault part find last tokens meant ≡ None
+  pub no_form_fault : (tokens : List Token) → ranges.is_out_of_range tokens meant ≡ false → form_fault part find last tokens meant ≡ None
   no_form_fault tokens range =
       let closed = last_none last (reading.leaves_open part meant) none_open in
       let some = last_none last (reading.lacks_thread part meant) a_thread in
@@ -57,11 +57,8 @@ module _ (part : Part) (find : Finder) (n : ℕ) (last : Bool) (lines : List (Li
   none_some : (m : Meant) → None ≡ Some m → ⊥
   none_some m e = absurd cc
 
-  in_range : (tokens : List Token) → tokens_of text ≡ Some tokens → tokens_in text ≡ tokens → reading.is_out_of_range tokens meant ≡ false
-  in_range tokens e here =
-      let form = formed tokens here in
-      subst (λ (ts : List Token). reading.is_out_of_range ts meant ≡ false) (sym form.spelled)
-      (sym (range_same part.version says.0 meant form.means form.of (subst (λ (ts : List Token). are_numerals ts ≡ true) form.spelled (line_numerals text tokens e))) ∙ says.2)
+  in_range : (tokens : List Token) → tokens_in text ≡ tokens → ranges.is_out_of_range tokens meant ≡ false
+  in_range tokens here = subst (λ (ts : List Token). ranges.is_out_of_range ts meant ≡ false) here says.2
 
   pub said_taken : (tokens : Option (List Token)) → tokens_of text ≡ tokens → tokens_taken exact part find n last tokens ≡ Ok (taken part find n meant)
   said_taken None e = absurd (none_some meant (read_form [] (ap (λ (ts : Option (List Token)). unwrap_or ts []) e)))
@@ -69,4 +66,4 @@ module _ (part : Part) (find : Finder) (n : ℕ) (last : Bool) (lines : List (Li
   said_taken (Some (token ∷ tokens)) e =
       let here : tokens_in text ≡ token ∷ tokens = ap (λ (ts : Option (List Token)). unwrap_or ts []) e in
       let form = formed (token ∷ tokens) here in
-      rw (read_form (token ∷ tokens) here, no_form_fault part.version part find n last lines s says.0 meant form.means form.of free whole (token ∷ tokens) (in_range (token ∷ tokens) e here)) refl
+      rw (read_form (token ∷ tokens) here, no_form_fault part.version part find n last lines s says.0 meant form.means form.of free whole (token ∷ tokens) (in_range (token ∷ tokens) here)) refl

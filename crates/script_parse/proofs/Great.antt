@@ -9,8 +9,7 @@ use Rattle.script_parse.specs.declared.form.Form.{Form}
 use Rattle.script_parse.specs.declared.form.Form.TheVariants as forms
 use Rattle.script_parse.specs.Seen.{seen, all_seen}
 use Rattle.script_parse.specs.SeenForms.{seen_form}
-use Rattle.script_parse.specs.Reading.{is_out_of_range}
-use Rattle.script_parse.specs.Values.{is_great, has_great}
+use Rattle.script_tree.specs.Ranges.{is_great, has_great, is_out_of_range}
 
 pub great_seen : (tokens : List Token) → list_any (λ token. is_great (seen token)) tokens ≡ has_great (all_seen tokens)
 great_seen [] = refl

@@ -1,25 +1,28 @@
 -- A line of any form keeps what holds of what was read.
 use Rattle.std.proofs.Common.{◌≡◌, ℕ, ◌+◌, ◌-◌, ◌<◌, ◌≤◌, Bool, true, false, cond, length, List, [], ◌∷◌, ◌++◌, Option, Some, None, refl, sym, ap, ◌∙◌, arith, subst}
-use Rattle.std.specs.Prelude.{ℤ, pos, nat_le, not, ◌&&◌, unwrap_or, is_some}
+use Rattle.std.specs.Prelude.{pos, nat_le, not, ◌&&◌, unwrap_or, is_some}
 use Rattle.std.specs.Option.{option_map, option_and_then}
 use Rattle.std.specs.Str.Parse.{digits_value}
 use Rattle.std.proofs.lemmas.Int.{ints}
 use Rattle.std.proofs.lemmas.Bool.{and_parts, leb-false, leb-true}
 use Rattle.pct_ask.specs.Ranges.{IsSemValue, IsBarrierCount}
-use Rattle.pct_ask.specs.Tokens.{Token, Number, Symbol}
+use Rattle.pct_ask.specs.Tokens.{Token, Number}
 use Rattle.pct_ask.specs.NameLists.{with_name}
 use Rattle.pct_ask.specs.declared.names.NameKind.{NameKind}
 use Rattle.pct_ask.specs.declared.names.NameKind.TheVariants as kinds
 use Rattle.script_tree.specs.Trees.{Expression, Statement, closed_at}
 use Rattle.script_tree.specs.Trees as trees
-use Rattle.script_tree.specs.Forms.{Cut, Meant, Plain, Valued, Thread, On, Into, Write, Add, Cas, Wait, Yield, Assert, Set, If, While, End, Else, is_plain, has_value, kind_since, on_kind, into_kind, IsOf, Means}
+use Rattle.script_tree.specs.Forms.{Cut, Meant, Plain, Valued, Thread, On, Into, Write, Add, Cas, Wait, Yield, Assert, Set, If, While, End, Else, is_plain, has_value, value_in, kind_since, on_kind, into_kind, IsOf, Means}
+use Rattle.script_tree.specs.Ranges.{value_fits}
 use Rattle.script_tree.specs.Fitting.{line_fits, most_threads}
 use Rattle.script_tree.specs.Grammar.{Line}
+use Rattle.script_tree.specs.Faults as faults
+use Rattle.script_tree.specs.Ranges as ranges
 use Rattle.script_parse.specs.Part.{Open, Part}
 use Rattle.script_parse.specs.Part as parts
-use Rattle.script_parse.specs.Values.{first_of, fits, fits_at, first_value}
+use Rattle.script_parse.specs.Lawful.{value_lawful}
 use Rattle.script_parse.specs.Reading as reading
-use Rattle.script_parse.specs.Reading.{Finder, is_empty, is_in_if, form_fault, taken, with_value, named, with_statement, place_in, on_statement, into_statement, statement_on}
+use Rattle.script_parse.specs.Reading.{Finder, so_far, is_known, is_empty, is_in_if, form_fault, taken, with_value, named, with_statement, place_in, on_statement, into_statement, statement_on}
 use Rattle.script_parse.proofs.Meanings.{ForEach, by_meaning}
 use Rattle.script_parse.proofs.LineFaults.{empty_is}
 use Rattle.script_parse.proofs.StatementFits.{with_threads, finder, meant_fits, IsSaid, IsStatement, said_each}
@@ -29,12 +32,12 @@ use Rattle.script_parse.proofs.HasReadSteps.{declared_has, thread_has, inner_has
 
 -- a line of this form has no fault
 pub record NoFault (part : Part) (find : Finder) (tokens : List Token) (meant : Meant) : Type 0 where
-  pub stands : reading.may_stand part meant ≡ true
-  pub known : reading.uses_unknown part find meant ≡ false
-  pub fresh : reading.declares_again part meant ≡ false
-  pub in_range : reading.is_out_of_range tokens meant ≡ false
-  pub closes : reading.closes_nothing part meant ≡ false
-  pub few : reading.is_too_many part meant ≡ false
+  pub stands : faults.may_stand (so_far part) meant ≡ true
+  pub known : faults.uses_unknown (is_known part.names find) meant ≡ false
+  pub fresh : faults.declares_again (so_far part) meant ≡ false
+  pub in_range : ranges.is_out_of_range tokens meant ≡ false
+  pub closes : faults.closes_nothing (so_far part) meant ≡ false
+  pub few : faults.is_too_many (so_far part) meant ≡ false
 
 clash : {A : Type 0} → true ≡ false → A
 clash e = absurd cc
@@ -53,48 +56,33 @@ unflip_true false h = refl
 
 pub no_fault_parts : (part : Part) (find : Finder) (last : Bool) (tokens : List Token) (meant : Meant) → form_fault part find last tokens meant ≡ None → NoFault part find tokens meant
 no_fault_parts part find last tokens meant e =
-    let a = failed_none (not (reading.may_stand part meant)) _ _ e in
-    let b = failed_none (reading.uses_unknown part find meant) _ _ a.1 in
-    let c = failed_none (reading.declares_again part meant) _ _ b.1 in
-    let d = failed_none (reading.is_out_of_range tokens meant) _ _ c.1 in
+    let a = failed_none (not (faults.may_stand (so_far part) meant)) _ _ e in
+    let b = failed_none (faults.uses_unknown (is_known part.names find) meant) _ _ a.1 in
+    let c = failed_none (faults.declares_again (so_far part) meant) _ _ b.1 in
+    let d = failed_none (ranges.is_out_of_range tokens meant) _ _ c.1 in
     let f = failed_none (last && reading.leaves_open part meant) _ _ d.1 in
-    let g = failed_none (reading.closes_nothing part meant) _ _ f.1 in
+    let g = failed_none (faults.closes_nothing (so_far part) meant) _ _ f.1 in
     let h = failed_none (last && reading.lacks_thread part meant) _ _ g.1 in
-    let i = failed_none (reading.is_too_many part meant) _ _ h.1 in
-    record { stands = unflip (reading.may_stand part meant) a.0; known = b.0; fresh = c.0; in_range = d.0; closes = g.0; few = i.0 }
+    let i = failed_none (faults.is_too_many (so_far part) meant) _ _ h.1 in
+    record { stands = unflip (faults.may_stand (so_far part) meant) a.0; known = b.0; fresh = c.0; in_range = d.0; closes = g.0; few = i.0 }
+
+-- a first value of a line without a fault is one that an object may have
+pub in_range_lawful : (tokens : List Token) (meant : Meant) → ranges.is_out_of_range tokens meant ≡ false → value_lawful meant ≡ true
+in_range_lawful tokens (Valued kind name value) h = unflip (value_fits kind value) h
+in_range_lawful tokens meant h = refl
 
 -- ---- first values
 
-sem_if : (b : Bool) (k : ℕ) → fits_at kinds.Sem false (cond b (Some (pos k)) None) ≡ true → IsSemValue (unwrap_or (cond b (Some (pos k)) None) (pos 0))
-sem_if true k h = let few : k ≤ 2147483647 = leb-true k 2147483647 h in (omega (arith, ints), omega (arith, ints, few))
-sem_if false k h = absurd cc
-
-barrier_if : (b : Bool) (k : ℕ) → fits_at kinds.Barrier false (cond b (Some (pos k)) None) ≡ true → IsBarrierCount (unwrap_or (cond b (Some (pos k)) None) (pos 0))
-barrier_if true k h =
-    let p = and_parts (nat_le 1 k) (nat_le k 1000) h in
-    let some_ : 1 ≤ k = leb-true 1 k p.0 in
-    let few : k ≤ 1000 = leb-true k 1000 p.1 in
-    (omega (arith, ints, some_), omega (arith, ints, few))
-barrier_if false k h = absurd cc
-
-sem_minus : (o : Option ℤ) → fits_at kinds.Sem true o ≡ false
-sem_minus None = refl
-sem_minus (Some v) = refl
-
-barrier_minus : (o : Option ℤ) → fits_at kinds.Barrier true o ≡ false
-barrier_minus None = refl
-barrier_minus (Some v) = refl
-
-sem_value : (value : List Token) → fits kinds.Sem value ≡ true → IsSemValue (unwrap_or (first_of value) (pos 0))
-sem_value (Number [] ∷ []) h = absurd cc
-sem_value (Number (d ∷ ds) ∷ []) h = sem_if _ (digits_value 10 (d ∷ ds)) h
-sem_value (Symbol signs ∷ Number digits ∷ []) h = clash (sym h ∙ sem_minus (first_value true digits))
+sem_value : (value : List Token) → value_fits kinds.Sem value ≡ true → IsSemValue (unwrap_or (value_in kinds.Sem value) (pos 0))
+sem_value (Number digits ∷ []) h = let few = leb-true (digits_value 10 digits) 2147483647 h in (omega (arith, ints), omega (arith, ints, few))
 sem_value value h = absurd cc
 
-barrier_value : (value : List Token) → fits kinds.Barrier value ≡ true → IsBarrierCount (unwrap_or (first_of value) (pos 0))
-barrier_value (Number [] ∷ []) h = absurd cc
-barrier_value (Number (d ∷ ds) ∷ []) h = barrier_if _ (digits_value 10 (d ∷ ds)) h
-barrier_value (Symbol signs ∷ Number digits ∷ []) h = clash (sym h ∙ barrier_minus (first_value true digits))
+barrier_value : (value : List Token) → value_fits kinds.Barrier value ≡ true → IsBarrierCount (unwrap_or (value_in kinds.Barrier value) (pos 0))
+barrier_value (Number digits ∷ []) h =
+    let p = and_parts (nat_le 1 (digits_value 10 digits)) (nat_le (digits_value 10 digits) 1000) h in
+    let some_ = leb-true 1 (digits_value 10 digits) p.0 in
+    let few = leb-true (digits_value 10 digits) 1000 p.1 in
+    (omega (arith, ints, some_), omega (arith, ints, few))
 barrier_value value h = absurd cc
 
 most_few : (version : ℕ) → most_threads version ≤ 64
@@ -150,7 +138,7 @@ module _ (threads : List (List ℕ)) (part : Part) (lines : List Line) (n : ℕ)
   valued_keeps kind name value of f w =
       let none : part.names.threads ≡ [] = empty_is part.names.threads w.stands in
       let names = names_more part kind name h.names of.1 w.fresh (room_of w.few) (since kind of.0) (λ e. not_thread kind of.0 e) in
-      by_kind kind of.0 none names (unflip (fits kind value) w.in_range)
+      by_kind kind of.0 none names (unflip (value_fits kind value) w.in_range)
     where
       since : (kind : NameKind) → has_value kind ≡ true → kind_since kind ≤ part.version
       since kinds.Var p = h.first_version
@@ -169,15 +157,15 @@ module _ (threads : List (List ℕ)) (part : Part) (lines : List Line) (n : ℕ)
         known_rwlocks = rw (v, n) h.known_rwlocks;
       }
 
-      by_kind : (kind : NameKind) → has_value kind ≡ true → part.names.threads ≡ [] → HaveNames (named part kind name) → fits kind value ≡ true → HasRead threads (taken part (finder threads) (n + 1) (Valued kind name value)) (lines ++ (n + 1, Valued kind name value) ∷ []) (n + 1)
+      by_kind : (kind : NameKind) → has_value kind ≡ true → part.names.threads ≡ [] → HaveNames (named part kind name) → value_fits kind value ≡ true → HasRead threads (taken part (finder threads) (n + 1) (Valued kind name value)) (lines ++ (n + 1, Valued kind name value) ∷ []) (n + 1)
       by_kind kinds.Var p none names g =
-          let next : Part = with_value kinds.Var (unwrap_or (first_of value) (pos 0)) (named part kinds.Var name) in
+          let next : Part = with_value kinds.Var (unwrap_or (value_in kinds.Var value) (pos 0)) (named part kinds.Var name) in
           declared_has threads part next lines n (n + 1, Valued kinds.Var name value) h none refl (same_names (named part kinds.Var name) next names refl refl) (valued_values part kinds.Var name _ refl (λ e. absurd cc) (λ e. absurd cc) h.values) none refl refl refl
       by_kind kinds.Sem p none names g =
-          let next : Part = with_value kinds.Sem (unwrap_or (first_of value) (pos 0)) (named part kinds.Sem name) in
+          let next : Part = with_value kinds.Sem (unwrap_or (value_in kinds.Sem value) (pos 0)) (named part kinds.Sem name) in
           declared_has threads part next lines n (n + 1, Valued kinds.Sem name value) h none refl (same_names (named part kinds.Sem name) next names refl refl) (valued_values part kinds.Sem name _ refl (λ e. sem_value value g) (λ e. absurd cc) h.values) none refl refl refl
       by_kind kinds.Barrier p none names g =
-          let next : Part = with_value kinds.Barrier (unwrap_or (first_of value) (pos 0)) (named part kinds.Barrier name) in
+          let next : Part = with_value kinds.Barrier (unwrap_or (value_in kinds.Barrier value) (pos 0)) (named part kinds.Barrier name) in
           declared_has threads part next lines n (n + 1, Valued kinds.Barrier name value) h none refl (same_names (named part kinds.Barrier name) next names refl refl) (valued_values part kinds.Barrier name _ refl (λ e. absurd cc) (λ e. barrier_value value g) h.values) none refl refl refl
       by_kind kind p none names g = absurd cc
 

@@ -11,7 +11,6 @@ pub mod FormSound
 pub mod Meanings
 pub mod Standing
 pub mod Agreeing
-pub mod NumberLaws
 pub mod FirstKinds
 pub mod LineFaults
 pub mod LineSteps

@@ -15,8 +15,7 @@ use Rattle.script_tree.specs.Faults as faults
 use Rattle.script_tree.specs.Faults.{Place, earlier, are_blank, IsBelow, HasForm, HasFormWith, IsFaulty, IsFirstKind}
 use Rattle.script_parse.specs.Part.{Part}
 use Rattle.script_parse.specs.Saying.{form_in}
-use Rattle.script_parse.specs.Reading as reading
-use Rattle.script_parse.specs.Reading.{Finder, is_empty, form_fault, taken, bytes_fault, unless, wrapped, after_fault, blank_fault, line_taken}
+use Rattle.script_parse.specs.Reading.{is_empty, so_far, bytes_fault, unless, wrapped, after_fault, line_taken}
 use Rattle.script_parse.proofs.Choices.{some}
 use Rattle.script_parse.proofs.ExpressionWhole.{exact}
 use Rattle.script_parse.proofs.FormWhole.{form_read}
@@ -24,7 +23,6 @@ use Rattle.script_parse.proofs.FormSound.{form_says}
 use Rattle.script_parse.proofs.FirstKinds.{Tells, first_in, in_order, IsFirst, is_first}
 use Rattle.script_parse.proofs.Standing.{Lines, Stands, depth_is, blank_stands}
 use Rattle.script_parse.proofs.Agreeing.{found}
-use Rattle.script_parse.proofs.NumberLaws.{are_numerals, line_numerals}
 use Rattle.script_parse.proofs.LineFaults.{tells_statement, tells_unknown, tells_twice, tells_range, tells_stray, tells_many, tells_end, tells_thread, empty_is, is_empty_of, both_hold}
 
 abbrev pub Step : Type 0
@@ -165,7 +163,7 @@ tells_thread_any place =
       λ e w. both_hold (is_empty place.after) none e (is_empty_of place.after w.0) (is_empty_of _ w.1),
     )
 
-pub never_formed : (place : Place) (test : Cut → Bool) → ((cut : Cut) (meant : Meant) → ¬ HasForm place cut meant) → Tells false (HasFormWith test place)
+pub never_formed : (place : Place) (test : Meant → Bool) → ((cut : Cut) (meant : Meant) → ¬ HasForm place cut meant) → Tells false (HasFormWith test place)
 never_formed place test h = never (λ w. h w.0 w.1 w.2)
 
 pub some_none : {A : Type 0} {x : A} {P : Type 0} → None ≡ some x → P
@@ -187,23 +185,22 @@ module _ (part : Part) (place : Place) (s : Stands part (earlier place)) (below 
       let here : tokens_in place.line ≡ token ∷ tokens = cut_tokens place.line (token ∷ tokens) e in
       let has = form_says part.version (token ∷ tokens) meant f in
       let is_form : IsForm part.version (tokens_in place.line) has.0 meant = subst (λ (ts : List Token). IsForm part.version ts has.0 meant) (sym here) has.1 in
-      let numerals : are_numerals (tokens_in place.line) ≡ true = subst (λ (ts : List Token). are_numerals ts ≡ true) (sym here) (line_numerals place.line (token ∷ tokens) e) in
       let is_below : IsBelow place = record { below = below; says = says_something place.line token tokens e } in
-      let may : Bool = reading.may_stand part meant in
+      let may : Bool = faults.may_stand (so_far part) meant in
       first_told place _ _ _ false false (not may) _ _ _ _ _ _ _ (record {
         utf = tells_utf place;
         long = tells_long place;
         lines = tells_lines place;
         header = never (no_header place below);
         token = never (λ n. some_none (sym n ∙ e));
-        statement = tells_statement part place s is_below has.0 meant is_form numerals;
-        unknown = tells_unknown part place s is_below has.0 meant is_form numerals;
-        twice = tells_twice part place s is_below has.0 meant is_form numerals;
-        range = tells_range part place s is_below has.0 meant is_form numerals;
-        no_end = tells_end part place s is_below has.0 meant is_form numerals;
-        stray = tells_stray part place s is_below has.0 meant is_form numerals;
-        no_thread = tells_thread part place s is_below has.0 meant is_form numerals;
-        many = tells_many part place s is_below has.0 meant is_form numerals;
+        statement = tells_statement part place s is_below has.0 meant is_form;
+        unknown = tells_unknown part place s is_below has.0 meant is_form;
+        twice = tells_twice part place s is_below has.0 meant is_form;
+        range = tells_range part place s is_below has.0 meant is_form;
+        no_end = tells_end part place s is_below has.0 meant is_form;
+        stray = tells_stray part place s is_below has.0 meant is_form;
+        no_thread = tells_thread part place s is_below has.0 meant is_form;
+        many = tells_many part place s is_below has.0 meant is_form;
       }) (fault_of step) (rw (bytes_at place, e, f, ← here) (form_chain _ _ _ may _ _ _ _ _ _ _ _))
 
   -- a line of no form

@@ -14,17 +14,18 @@ use Rattle.script_tree.specs.Forms as forms
 use Rattle.script_tree.specs.Fitting.{line_fits, reg_fits, place_fits, expression_fits, statement_fits, statements_fit}
 use Rattle.pct_ask.specs.TraceText.{name_at}
 use Rattle.script_tree.specs.Grammar.{Line, statement_lines, block_lines}
+use Rattle.script_tree.specs.Faults as faults
 use Rattle.script_parse.specs.Part.{Opening, If, Else, While, Open, Part}
 use Rattle.script_parse.specs.Reading as reading
-use Rattle.script_parse.specs.Reading.{Finder, is_empty, taken, place_in, on_statement, into_statement, with_statement}
+use Rattle.script_parse.specs.Reading.{Finder, so_far, is_known, is_empty, taken, place_in, on_statement, into_statement, with_statement}
 
 -- a line of this form has no fault, its numbers and its being the last line aside
 pub record IsFree (part : Part) (find : Finder) (meant : Meant) : Type 0 where
-  pub stands : reading.may_stand part meant ≡ true
-  pub known : reading.uses_unknown part find meant ≡ false
-  pub fresh : reading.declares_again part meant ≡ false
-  pub closes : reading.closes_nothing part meant ≡ false
-  pub few : reading.is_too_many part meant ≡ false
+  pub stands : faults.may_stand (so_far part) meant ≡ true
+  pub known : faults.uses_unknown (is_known part.names find) meant ≡ false
+  pub fresh : faults.declares_again (so_far part) meant ≡ false
+  pub closes : faults.closes_nothing (so_far part) meant ≡ false
+  pub few : faults.is_too_many (so_far part) meant ≡ false
 
 -- these lines, one after another, make this of what was read
 abbrev pub Runs : Finder → Part → List Line → Part → Type 0
@@ -50,8 +51,8 @@ module _ (find : Finder) (part : Part) (names : NameLists) (version : ℕ) (foun
   known_at kind place p = rw (found kind place p) refl
 
   -- one line that is a statement of its own
-  simple : (opening : Opening) (done : List Statement) (outer : List Open) (line : Line) (rest : List Line) (last : Part) (s : Statement) → reading.may_stand (at (inside opening done outer)) line.1 ≡ not (is_empty (inside opening done outer)) → reading.uses_unknown (at (inside opening done outer)) find line.1 ≡ false
-      → reading.declares_again (at (inside opening done outer)) line.1 ≡ false → reading.closes_nothing (at (inside opening done outer)) line.1 ≡ false → reading.is_too_many (at (inside opening done outer)) line.1 ≡ false
+  simple : (opening : Opening) (done : List Statement) (outer : List Open) (line : Line) (rest : List Line) (last : Part) (s : Statement) → faults.may_stand (so_far (at (inside opening done outer))) line.1 ≡ not (is_empty (inside opening done outer)) → faults.uses_unknown (is_known part.names find) line.1 ≡ false
+      → faults.declares_again (so_far (at (inside opening done outer))) line.1 ≡ false → faults.closes_nothing (so_far (at (inside opening done outer))) line.1 ≡ false → faults.is_too_many (so_far (at (inside opening done outer))) line.1 ≡ false
       → taken (at (inside opening done outer)) find line.0 line.1 ≡ at (inside opening (done ++ s ∷ []) outer)
       → Runs find (at (inside opening (done ++ s ∷ []) outer)) rest last → Runs find (at (inside opening done outer)) (line ∷ rest) last
   simple opening done outer line rest last s m u d c t e r = (
@@ -74,8 +75,8 @@ module _ (find : Finder) (part : Part) (names : NameLists) (version : ℕ) (foun
   ends_run inner body opening done outer end rest last s e r =
       (record { stands = refl; known = refl; fresh = refl; closes = some_there (record { opening = inner; done = body }) (inside opening done outer); few = refl }, subst (λ (p : Part). Runs find p rest last) (sym e) r)
 
-  opens_run : (inner : Opening) (line : Line) (opening : Opening) (done : List Statement) (outer : List Open) (rest : List Line) (last : Part) → reading.may_stand (at (inside opening done outer)) line.1 ≡ not (is_empty (inside opening done outer)) → reading.uses_unknown (at (inside opening done outer)) find line.1 ≡ false
-      → reading.declares_again (at (inside opening done outer)) line.1 ≡ false → reading.closes_nothing (at (inside opening done outer)) line.1 ≡ false → reading.is_too_many (at (inside opening done outer)) line.1 ≡ nat_le 33 (length (inside opening done outer)) → length outer < 32
+  opens_run : (inner : Opening) (line : Line) (opening : Opening) (done : List Statement) (outer : List Open) (rest : List Line) (last : Part) → faults.may_stand (so_far (at (inside opening done outer))) line.1 ≡ not (is_empty (inside opening done outer)) → faults.uses_unknown (is_known part.names find) line.1 ≡ false
+      → faults.declares_again (so_far (at (inside opening done outer))) line.1 ≡ false → faults.closes_nothing (so_far (at (inside opening done outer))) line.1 ≡ false → faults.is_too_many (so_far (at (inside opening done outer))) line.1 ≡ nat_le 33 (length (inside opening done outer)) → length outer < 32
       → taken (at (inside opening done outer)) find line.0 line.1 ≡ at (inside inner [] (inside opening done outer)) → Runs find (at (inside inner [] (inside opening done outer))) rest last → Runs find (at (inside opening done outer)) (line ∷ rest) last
   opens_run inner line opening done outer rest last m u d c t few e r =
       let block : Open = record { opening = opening; done = done } in (

@@ -15,14 +15,15 @@ use Rattle.script_tree.specs.ScriptText.{ScriptText}
 use Rattle.script_tree.specs.Trees.{Expression}
 use Rattle.script_tree.specs.Forms.{OnVerb, IntoVerb, Meant, Plain, Valued, Thread, On, Into, Write, Add, Cas, Wait, Yield, Assert, Set, If, While, End, Else}
 use Rattle.script_parse.specs.Numbers.{saturated}
-use Rattle.script_parse.specs.Values.{has_great, is_great}
+use Rattle.script_tree.specs.Ranges.{has_great, is_great}
 use Rattle.script_parse.specs.Registers.{register_in}
 use Rattle.script_parse.specs.Machine.{expression_in}
 use Rattle.script_parse.specs.Words.{on_verb_in, into_verb_in, kind_in}
 use Rattle.script_parse.specs.Saying.{is_comma, parts_at, write_form, add_form, cas_parts, cas_form, set_form, other_form, by_on, by_into, by_kind, form_in}
+use Rattle.script_tree.specs.Faults as faults
+use Rattle.script_tree.specs.Ranges as ranges
 use Rattle.script_parse.specs.Part.{Part}
-use Rattle.script_parse.specs.Reading as reading
-use Rattle.script_parse.specs.Reading.{Finder, form_fault, taken, after_fault, form_taken, tokens_taken, line_said, line_taken, then_read, read_from, read, wrapped, unless, bytes_fault, is_empty}
+use Rattle.script_parse.specs.Reading.{Finder, so_far, is_known, form_fault, form_taken, tokens_taken, line_taken, then_read, read_from, read, wrapped, unless, bytes_fault, is_empty}
 use Rattle.script_parse.proofs.Choices.{or_parts, some_is}
 use Rattle.script_parse.proofs.ExpressionWhole.{exact}
 use Rattle.script_parse.proofs.Blanks.{blank, expression_blank, expression_same}
@@ -201,7 +202,7 @@ one_valued End (Valued k n v) e h = absurd cc
 one_valued Else (Valued k n v) e h = absurd cc
 one_valued a b e h = absurd cc
 
-great_range : (tokens : List Token) (form : Meant) → is_valued form ≡ false → reading.is_out_of_range tokens form ≡ has_great tokens
+great_range : (tokens : List Token) (form : Meant) → is_valued form ≡ false → ranges.is_out_of_range tokens form ≡ has_great tokens
 great_range tokens (Valued kind name value) h = absurd cc
 great_range tokens form h = refl
 
@@ -212,8 +213,8 @@ range_fault false false true ra rest a b c d h = (c, refl)
 range_fault false false false true rest a b c d h = (d, refl)
 range_fault false false false false rest a b c d h = absurd cc
 
-great_fault : (part : Part) (find : Finder) (last : Bool) (tokens : List Token) (form : Meant) → reading.is_out_of_range tokens form ≡ true → (x : ScriptFault) × (form_fault part find last tokens form ≡ Some x)
-great_fault part find last tokens form h = range_fault (not (reading.may_stand part form)) (reading.uses_unknown part find form) (reading.declares_again part form) (reading.is_out_of_range tokens form) _ _ _ _ _ h
+great_fault : (part : Part) (find : Finder) (last : Bool) (tokens : List Token) (form : Meant) → ranges.is_out_of_range tokens form ≡ true → (x : ScriptFault) × (form_fault part find last tokens form ≡ Some x)
+great_fault part find last tokens form h = range_fault (not (faults.may_stand (so_far part) form)) (faults.uses_unknown (is_known part.names find) form) (faults.declares_again (so_far part) form) (ranges.is_out_of_range tokens form) _ _ _ _ _ h
 
 form_taken_same : (part : Part) (find : Finder) (n : ℕ) (last : Bool) (tokens : List Token) (a b : Option Meant) → Alike a b → (has_great tokens ≡ false → a ≡ b) → form_taken part find n last tokens a ≡ form_taken part find n last tokens b
 form_taken_same part find n last tokens None None e s = refl

@@ -29,7 +29,6 @@ use Rattle.script_parse.specs.Reading.{Finder, is_empty, form_fault, taken, byte
 use Rattle.script_parse.proofs.Choices.{some, some_is, passed}
 use Rattle.script_parse.proofs.ExpressionWhole.{exact}
 use Rattle.script_parse.proofs.FormSound.{form_says}
-use Rattle.script_parse.proofs.NumberLaws.{line_numerals, range_same, are_numerals}
 use Rattle.script_parse.proofs.LineSteps.{Step, cut_tokens}
 use Rattle.script_parse.proofs.TextFaults.{ok_is, err_ok, unless_ok, wrapped_ok, behind_tokens}
 use Rattle.script_parse.proofs.TextLines.{blank_more, says_more}
@@ -196,9 +195,8 @@ form_reads threads part before line tokens meant last r p e f g =
     let here : tokens_in line ≡ tokens = cut_tokens line tokens e in
     let number : length before + 1 ≡ length r.above + 2 + length r.below = omega (arith, ap length r.split, length-append r.above (r.header ∷ r.below)) in
     let kept = form_keeps threads part r.lines (length before) last tokens r.has (on_line (length before + 1) (length before) refl p.few) p.few has.0 meant has.1.means has.1.of (means_fits has.0 meant has.1.means) no_fault in
-    let numerals : are_numerals (tokens_of_form has.0) ≡ true = subst (λ (ts : List Token). are_numerals ts ≡ true) has.1.spelled (line_numerals line tokens e) in
-    let range : ranges.is_out_of_range has.0 ≡ false = range_same part.version has.0 meant has.1.means has.1.of numerals ∙ ap (λ (ts : List Token). reading.is_out_of_range ts meant) (sym has.1.spelled) ∙ no_fault.in_range in
-    let adds = form_adds part.version part (finder threads) (length before + 1) (map tokens_in r.below) tokens r.values has.0 meant has.1.means has.1.of no_fault.in_range in
+    let range : ranges.is_out_of_range (tokens_in line) meant ≡ false = ap (λ (ts : List Token). ranges.is_out_of_range ts meant) here ∙ no_fault.in_range in
+    let adds = form_adds part.version part (finder threads) (length before + 1) (map tokens_in r.below) r.values has.0 meant has.1.means has.1.of in
     let cut_is : tokens_in line ≡ tokens_of_form has.0 = here ∙ has.1.spelled in
     let same_version : next.version ≡ part.version = taken_version part (finder threads) (length before + 1) meant in
     record {

@@ -10,10 +10,12 @@ use Rattle.script_tree.specs.declared.fault.ScriptFault.{ScriptFault}
 use Rattle.script_tree.specs.Forms.{Meant, tokens_of_form}
 use Rattle.script_tree.specs.Lines.{tokens_in, is_blank_line, version_in, threads_in}
 use Rattle.script_tree.specs.Faults.{Place, are_blank, IsFaulty, IsFirstKind, IsFirstLine}
+use Rattle.script_tree.specs.Faults as faults
+use Rattle.script_tree.specs.Ranges as ranges
 use Rattle.script_parse.specs.Part.{Part}
 use Rattle.script_parse.specs.Saying.{form_in}
 use Rattle.script_parse.specs.Reading as reading
-use Rattle.script_parse.specs.Reading.{Finder, is_empty, form_fault, taken, bytes_fault, unless, wrapped, after_fault, blank_fault, header_taken, begun, start, line_said, line_taken, tokens_taken, form_taken, then_read, read_from, finished, read}
+use Rattle.script_parse.specs.Reading.{Finder, so_far, is_known, is_empty, form_fault, taken, bytes_fault, unless, wrapped, after_fault, blank_fault, header_taken, begun, start, line_said, line_taken, tokens_taken, form_taken, then_read, read_from, finished, read}
 use Rattle.script_parse.proofs.ExpressionWhole.{exact}
 use Rattle.script_parse.proofs.FormSound.{form_says}
 use Rattle.script_parse.proofs.FirstKinds.{IsFirst}
@@ -41,14 +43,14 @@ pub wrapped_ok : (o : Option ScriptFault) (part : Part) (next : Option Part) →
 wrapped_ok None part next e = (refl, ok_is e)
 wrapped_ok (Some kind) part next e = err_ok e
 
-closes_well : (part : Part) (find : Finder) (last : Bool) (tokens : List Token) (form : Meant) → form_fault part find last tokens form ≡ None → reading.closes_nothing part form ≡ false
+closes_well : (part : Part) (find : Finder) (last : Bool) (tokens : List Token) (form : Meant) → form_fault part find last tokens form ≡ None → faults.closes_nothing (so_far part) form ≡ false
 closes_well part find last tokens form e =
-    let a = failed_none (not (reading.may_stand part form)) _ _ e in
-    let b = failed_none (reading.uses_unknown part find form) _ _ a.1 in
-    let c = failed_none (reading.declares_again part form) _ _ b.1 in
-    let d = failed_none (reading.is_out_of_range tokens form) _ _ c.1 in
+    let a = failed_none (not (faults.may_stand (so_far part) form)) _ _ e in
+    let b = failed_none (faults.uses_unknown (is_known part.names find) form) _ _ a.1 in
+    let c = failed_none (faults.declares_again (so_far part) form) _ _ b.1 in
+    let d = failed_none (ranges.is_out_of_range tokens form) _ _ c.1 in
     let f = failed_none (last && reading.leaves_open part form) _ _ d.1 in
-    (failed_none (reading.closes_nothing part form) _ _ f.1).0
+    (failed_none (faults.closes_nothing (so_far part) form) _ _ f.1).0
   where
     failed_none : {A : Type 0} (b : Bool) (x : A) (rest : Option A) → cond b (Some x) rest ≡ None → (b ≡ false) × (rest ≡ None)
     failed_none true x rest e = some_none (sym e)

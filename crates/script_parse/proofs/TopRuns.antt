@@ -1,11 +1,11 @@
 -- The declarations of a script are taken one after another.
-use Rattle.std.proofs.Common.{◌≡◌, ℕ, suc, ◌+◌, inl, inr, true, false, length, List, [], ◌∷◌, ◌++◌, map, Option, Some, None, refl, sym, ap, ◌∙◌, subst, arith, append_assoc}
+use Rattle.std.proofs.Common.{◌≡◌, ℕ, suc, ◌+◌, inl, inr, true, false, length, List, [], ◌∷◌, ◌++◌, map, Some, refl, sym, ap, ◌∙◌, subst, arith, append_assoc}
 use Rattle.std.specs.Prelude.{ℤ, nat_le, codes, All}
 use Rattle.std.specs.List.{list_all}
 use Rattle.std.proofs.lemmas.Bool.{lt-leb}
 use Rattle.std.proofs.lemmas.List.{append-nil, length-append}
 use Rattle.std.proofs.lemmas.List.Elements.{All-head, All-tail, filter_map-append}
-use Rattle.pct_ask.specs.Tokens.{Token, Word, Symbol, tokens_of}
+use Rattle.pct_ask.specs.Tokens.{Token, Word, Symbol}
 use Rattle.pct_ask.specs.Words.{is_among}
 use Rattle.pct_ask.specs.NameLists.{NameLists, AreNames, list_of, all_names}
 use Rattle.pct_ask.specs.declared.names.NameKind.{NameKind}
@@ -17,8 +17,7 @@ use Rattle.script_tree.specs.Grammar.{Line, declares, Says, AreLines}
 use Rattle.script_parse.specs.Part.{Open, Part}
 use Rattle.script_parse.specs.Reading as reading
 use Rattle.script_parse.specs.Reading.{Finder, is_empty, taken}
-use Rattle.script_parse.proofs.LineSteps.{clash, cut_tokens}
-use Rattle.script_parse.proofs.NumberLaws.{line_numerals, range_same, are_numerals}
+use Rattle.script_parse.proofs.LineSteps.{clash}
 use Rattle.script_parse.proofs.Standing.{Stands, blank_stands}
 use Rattle.script_parse.proofs.DeclaredValues.{AreValues, blank_values}
 use Rattle.script_parse.proofs.DeclaredForms.{form_adds}
@@ -96,14 +95,6 @@ named_here kinds.Cond name more = refl
 named_here kinds.Sem name more = refl
 named_here kinds.Barrier name more = refl
 named_here kinds.RwLock name more = refl
-
-numerals_in : (text : List ℕ) (found : Option (List Token)) → tokens_of text ≡ found → are_numerals (tokens_in text) ≡ true
-numerals_in text None e = rw e refl
-numerals_in text (Some tokens) e = subst (λ (ts : List Token). are_numerals ts ≡ true) (sym (cut_tokens text tokens e)) (line_numerals text tokens e)
-
-in_range : (version : ℕ) (text : List ℕ) (meant : Meant) (says : Says version text meant) → reading.is_out_of_range (tokens_of_form says.0) meant ≡ false
-in_range version text meant says =
-    sym (range_same version says.0 meant says.1.means says.1.of (subst (λ (ts : List Token). are_numerals ts ≡ true) says.1.spelled (numerals_in text (tokens_of text) refl))) ∙ says.2
 
 same_names : (a b c d e f g h i j k l : List (List ℕ)) (m n : List (List ℕ)) → a ≡ b → c ≡ d → e ≡ f → g ≡ h → i ≡ j → k ≡ l → m ≡ n
     → ◌≡◌ {A = NameLists} (record { threads = a; vars = c; mutexes = e; conds = g; sems = i; barriers = k; rwlocks = m }) (record { threads = b; vars = d; mutexes = f; conds = h; sems = j; barriers = l; rwlocks = n })
@@ -199,7 +190,7 @@ module _ (script : ScriptText) (are_names : AreNames script.names) (find : Finde
       let ok = declaration_taken part.version part find n t says.0 meant says.1.means says.1.of declared (λ kind name more e. is_new part before low text texts h kind name more (says.1.spelled ∙ e)) in
       let stands = form_after part find n before text meant h.stands says ok.free in
       let version = same_version part next before (tokens_in text) h.stands stands in
-      let adds = form_adds part.version part find n low (tokens_of_form says.0) h.are_values says.0 meant says.1.means says.1.of (in_range part.version text meant says) in
+      let adds = form_adds part.version part find n low h.are_values says.0 meant says.1.means says.1.of in
       let are_values : AreValues next (low ++ tokens_in text ∷ []) = subst (λ (ts : List Token). AreValues next (low ++ ts ∷ [])) (sym says.1.spelled) adds.values in
       let lines : AreLines next.version (n + 1) texts (top ++ rest) = subst (λ (v : ℕ). AreLines v (n + 1) texts (top ++ rest)) version (subst (λ (ls : List Line). AreLines part.version (n + 1) texts ls) (sym same.1) a.4) in
       subst (λ (l : Line). Runs find part (l ∷ (top ++ rest)) last) (sym same.0)

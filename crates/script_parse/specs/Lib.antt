@@ -9,7 +9,6 @@ pub mod Saying
 pub mod SeenForms
 pub mod Part
 pub mod Reading
-pub mod Values
 pub mod Lawful
 pub mod Ahead
 pub mod SeenParts

@@ -4,8 +4,7 @@ use Rattle.std.specs.Option.{option_map, option_and_then}
 use Rattle.std.specs.Str.{is_utf8}
 use Rattle.pct_ask.specs.Lines.{lines_of}
 use Rattle.pct_ask.specs.Tokens.{Token, tokens_of}
-use Rattle.pct_ask.specs.Words.{is_among}
-use Rattle.pct_ask.specs.NameLists.{NameLists, no_names, list_of, with_name, all_names, place_of}
+use Rattle.pct_ask.specs.NameLists.{NameLists, no_names, list_of, with_name, place_of}
 use Rattle.pct_ask.specs.declared.names.NameKind.{NameKind}
 use Rattle.pct_ask.specs.declared.names.NameKind.TheVariants as kinds
 use Rattle.script_tree.specs.Trees.{Statement, Statements, closed_at}
@@ -13,27 +12,36 @@ use Rattle.script_tree.specs.Trees as trees
 use Rattle.script_tree.specs.ScriptText.{ScriptText}
 use Rattle.script_tree.specs.declared.fault.ScriptFault.{ScriptFault}
 use Rattle.script_tree.specs.declared.fault.ScriptFault.TheVariants.{NotUtf8, LineTooLong, TooManyLines, BadHeader, BadToken, BadStatement, UnknownName, TwiceNamed, NumberRange, NoEnd, StrayEnd, NoThread, TooMany}
-use Rattle.script_tree.specs.Fitting.{most_threads}
-use Rattle.script_tree.specs.Forms.{Meant, OnVerb, IntoVerb, on_kind, into_kind}
+use Rattle.script_tree.specs.Forms.{Meant, OnVerb, IntoVerb, on_kind, into_kind, value_in}
 use Rattle.script_tree.specs.Forms as forms
 use Rattle.script_tree.specs.Lines.{version_in, threads_in}
-use Rattle.script_tree.specs.Faults.{are_blank}
+use Rattle.script_tree.specs.Ranges.{is_out_of_range}
+use Rattle.script_tree.specs.Faults.{SoFar, are_blank, may_stand, uses_unknown, declares_again}
+use Rattle.script_tree.specs.Faults.{closes_nothing, is_too_many}
 use Rattle.script_parse.specs.Part.{Opening, Thread, If, Else, While, Open, Part}
 use Rattle.script_parse.specs.Saying.{form_in}
-use Rattle.script_parse.specs.Values.{first_of, fits, has_great}
 
 -- ---- what a form asks of what was read
 
 abbrev pub is_empty : {X : Type 0} → List X → Bool
 is_empty xs = length xs == 0
 
-abbrev pub may_stand : Part → Meant → Bool
-may_stand part (forms.Plain kind name) = is_empty part.names.threads
-may_stand part (forms.Valued kind name value) = is_empty part.names.threads
-may_stand part (forms.Thread name) = is_empty part.open_blocks
-may_stand part forms.End = true
-may_stand part forms.Else = true
-may_stand part form = not (is_empty part.open_blocks)
+abbrev pub is_if : Opening → Bool
+is_if (If line test) = true
+is_if opening = false
+
+abbrev pub is_in_if : List Open → Bool
+is_in_if [] = false
+is_in_if (block ∷ blocks) = is_if block.opening
+
+-- what the lines that were read have declared and begun
+abbrev pub so_far : Part → SoFar
+so_far part = record {
+  version = part.version;
+  names = part.names;
+  depth = length part.open_blocks;
+  in_if = is_in_if part.open_blocks;
+}
 
 -- where a thread stands among those of the whole file, by its name
 abbrev pub Finder : Type 0
@@ -48,28 +56,6 @@ place_in names find kind name = place_of name (list_of kind names)
 abbrev pub is_known : NameLists → Finder → NameKind → List ℕ → Bool
 is_known names find kind name = is_some (place_in names find kind name)
 
-abbrev pub uses_unknown : Part → Finder → Meant → Bool
-uses_unknown part find (forms.On verb object) = not (is_known part.names find (on_kind verb) object)
-uses_unknown part find (forms.Into verb register object) =
-    not (is_known part.names find (into_kind verb) object)
-uses_unknown part find (forms.Write var value) = not (is_known part.names find kinds.Var var)
-uses_unknown part find (forms.Add register var value) = not (is_known part.names find kinds.Var var)
-uses_unknown part find (forms.Cas register var old new) =
-    not (is_known part.names find kinds.Var var)
-uses_unknown part find (forms.Wait cond mutex) =
-    not (is_known part.names find kinds.Cond cond && is_known part.names find kinds.Mutex mutex)
-uses_unknown part find form = false
-
-abbrev pub declares_again : Part → Meant → Bool
-declares_again part (forms.Plain kind name) = is_among name (all_names part.names)
-declares_again part (forms.Valued kind name value) = is_among name (all_names part.names)
-declares_again part (forms.Thread name) = is_among name (all_names part.names)
-declares_again part form = false
-
-abbrev pub is_out_of_range : List Token → Meant → Bool
-is_out_of_range tokens (forms.Valued kind name value) = not (fits kind value)
-is_out_of_range tokens form = has_great tokens
-
 -- blocks are open behind the line
 abbrev pub leaves_open : Part → Meant → Bool
 leaves_open part (forms.Thread name) = true
@@ -78,44 +64,22 @@ leaves_open part (forms.While test) = true
 leaves_open part forms.End = nat_le 2 (length part.open_blocks)
 leaves_open part form = not (is_empty part.open_blocks)
 
-abbrev pub is_if : Opening → Bool
-is_if (If line test) = true
-is_if opening = false
-
-abbrev pub is_in_if : List Open → Bool
-is_in_if [] = false
-is_in_if (block ∷ blocks) = is_if block.opening
-
-abbrev pub closes_nothing : Part → Meant → Bool
-closes_nothing part forms.End = is_empty part.open_blocks
-closes_nothing part forms.Else = not (is_in_if part.open_blocks)
-closes_nothing part form = false
-
 -- no thread began up to the line
 abbrev pub lacks_thread : Part → Meant → Bool
 lacks_thread part (forms.Thread name) = false
 lacks_thread part form = is_empty part.names.threads
 
-abbrev pub is_too_many : Part → Meant → Bool
-is_too_many part (forms.Thread name) =
-    nat_le (most_threads part.version) (length part.names.threads)
-is_too_many part (forms.Plain kind name) = nat_le 64 (length (list_of kind part.names))
-is_too_many part (forms.Valued kind name value) = nat_le 64 (length (list_of kind part.names))
-is_too_many part (forms.If test) = nat_le 33 (length part.open_blocks)
-is_too_many part (forms.While test) = nat_le 33 (length part.open_blocks)
-is_too_many part form = false
-
 -- the first fault of a line of this form; `last` tells whether it is the last line
 abbrev pub form_fault : Part → Finder → Bool → List Token → Meant → Option ScriptFault
 form_fault part find last tokens form =
-    if not (may_stand part form) then Some BadStatement
-    else (if uses_unknown part find form then Some UnknownName
-    else (if declares_again part form then Some TwiceNamed
+    if not (may_stand (so_far part) form) then Some BadStatement
+    else (if uses_unknown (is_known part.names find) form then Some UnknownName
+    else (if declares_again (so_far part) form then Some TwiceNamed
     else (if is_out_of_range tokens form then Some NumberRange
     else (if last && leaves_open part form then Some NoEnd
-    else (if closes_nothing part form then Some StrayEnd
+    else (if closes_nothing (so_far part) form then Some StrayEnd
     else (if last && lacks_thread part form then Some NoThread
-    else (if is_too_many part form then Some TooMany
+    else (if is_too_many (so_far part) form then Some TooMany
     else None)))))))
 
 -- ---- one form more
@@ -210,7 +174,7 @@ named part kind name = record part { names = with_name kind name part.names }
 abbrev pub taken : Part → Finder → ℕ → Meant → Part
 taken part find line (forms.Plain kind name) = named part kind name
 taken part find line (forms.Valued kind name value) =
-    with_value kind (unwrap_or (first_of value) (pos 0)) (named part kind name)
+    with_value kind (unwrap_or (value_in kind value) (pos 0)) (named part kind name)
 taken part find line (forms.Thread name) = opened (named part kinds.Thread name) (Thread line)
 taken part find line (forms.If test) = opened part (If line test)
 taken part find line (forms.While test) = opened part (While line test)

@@ -7,12 +7,13 @@ ghost use Rattle.script_tree.specs.Seen.{expression as tree};
 ghost use Rattle.script_tree.specs.Expressions as language;
 ghost use Rattle.script_parse.specs.Seen.{seen, all_seen};
 ghost use Rattle.script_parse.specs.Registers.{register_in};
-ghost use Rattle.script_parse.specs.Numbers.{number_in, saturated};
+ghost use Rattle.script_parse.specs.Numbers.{saturated};
 ghost use Rattle.script_parse.specs.Machine.{operator_in, expression_in, pending};
 ghost use Rattle.script_parse.specs.Machine as machine;
 ghost use Rattle.script_parse.specs.Frames.{seen_frame, seen_frames, seen_pending};
 
-use crate::token::{Token, are_digits};
+use crate::number::saturated;
+use crate::token::Token;
 use script_tree::{Expr, Op};
 use std::alloc::{AllocError as NoMemory, Global};
 
@@ -42,26 +43,6 @@ pub fn says(word: &[u8], text: &[u8]) -> bool
     ensures { result ≡ bytes_eq word.now text.now }
 {
     word == text
-}
-
-/// The number that digits stand for, where it is an i64.
-pub fn number_of(digits: &[u8]) -> Option<i64>
-    ensures { result ≡ number_in digits.now }
-{
-    if !are_digits(digits) {
-        return None;
-    }
-    let Ok(text) = str::from_utf8(digits) else {
-        return None;
-    };
-    text.parse::<i64>().ok()
-}
-
-/// The number that digits stand for, and the greatest i64 where it is greater.
-fn saturated(digits: &[u8]) -> i64
-    ensures { result ≡ saturated digits.now }
-{
-    number_of(digits).unwrap_or(i64::MAX)
 }
 
 /// The place of a register among r0 to r15.

@@ -7,6 +7,7 @@ mod declaration;
 mod expression;
 mod fault;
 mod form;
+mod number;
 mod parsing;
 mod range;
 mod reader;

@@ -5,19 +5,21 @@ ghost use Rattle.pct_ask.specs.Words.{is_name, is_among};
 ghost use Rattle.pct_ask.specs.NameLists.{list_of, all_names};
 ghost use Rattle.script_tree.specs.Fitting.{IsScript};
 ghost use Rattle.script_tree.specs.Fitting as fitting;
+ghost use Rattle.script_tree.specs.Faults as faults;
 ghost use Rattle.script_tree.specs.ScriptSeen.{text};
 ghost use Rattle.script_tree.specs.Seen.{statement, block as tree_of_block};
 ghost use Rattle.script_parse.specs.Ahead.{place_ahead};
 ghost use Rattle.script_parse.specs.Seen.{all_seen};
 ghost use Rattle.script_parse.specs.SeenForms.{seen_form};
 ghost use Rattle.script_parse.specs.SeenParts.{seen_opening, seen_reader};
-ghost use Rattle.script_parse.specs.Lawful.{names_lawful};
+ghost use Rattle.script_parse.specs.Lawful.{names_lawful, value_lawful};
 ghost use Rattle.script_parse.specs.Reading as reading;
 
 use crate::ahead::Ahead;
 use crate::blocks::{OpenBlock, Opening, depth, is_closed, is_in_if, open_block, push_statement};
 use crate::form::Form;
-use crate::range::{is_out_of_range, value_in};
+use crate::number::first_value;
+use crate::range::is_out_of_range;
 use crate::statement::{into_kind, on_kind, place_in, statement_on};
 use crate::token::Token;
 use pct_ask::{NameKind, Names, NumberList};
@@ -64,7 +66,8 @@ impl Reader {
     }
 
     fn may_stand(&self, form: &Form<'_>) -> bool
-        ensures { result ≡ reading.may_stand (seen_reader self.now) (seen_form form.now) }
+        ensures { result
+            ≡ faults.may_stand (reading.so_far (seen_reader self.now)) (seen_form form.now) }
     {
         match form {
             Form::Plain { .. } | Form::Valued { .. } => !self.has_thread(),
@@ -82,7 +85,7 @@ impl Reader {
 
     fn uses_unknown(&self, ahead: &Ahead<'_>, form: &Form<'_>) -> bool
         ensures { result
-            ≡ reading.uses_unknown (seen_reader self.now) (place_ahead ahead.now)
+            ≡ faults.uses_unknown (reading.is_known self.now.names (place_ahead ahead.now))
             (seen_form form.now) }
     {
         match form {
@@ -100,7 +103,8 @@ impl Reader {
     }
 
     fn declares_again(&self, form: &Form<'_>) -> bool
-        ensures { result ≡ reading.declares_again (seen_reader self.now) (seen_form form.now) }
+        ensures { result
+            ≡ faults.declares_again (reading.so_far (seen_reader self.now)) (seen_form form.now) }
     {
         match form {
             Form::Plain { name, .. } | Form::Valued { name, .. } | Form::Thread { name } => {
@@ -122,7 +126,8 @@ impl Reader {
     }
 
     fn closes_nothing(&self, form: &Form<'_>) -> bool
-        ensures { result ≡ reading.closes_nothing (seen_reader self.now) (seen_form form.now) }
+        ensures { result
+            ≡ faults.closes_nothing (reading.so_far (seen_reader self.now)) (seen_form form.now) }
     {
         match form {
             Form::End => is_closed(&self.open_blocks),
@@ -147,7 +152,8 @@ impl Reader {
     }
 
     fn is_too_many(&self, form: &Form<'_>) -> bool
-        ensures { result ≡ reading.is_too_many (seen_reader self.now) (seen_form form.now) }
+        ensures { result
+            ≡ faults.is_too_many (reading.so_far (seen_reader self.now)) (seen_form form.now) }
     {
         match form {
             Form::Thread { .. } => self.names.count(NameKind::Thread) >= self.most_threads(),
@@ -212,8 +218,9 @@ impl Reader {
         form: Form<'_>,
     ) -> Result<Reader, NoMemory>
         requires lawful { names_lawful (seen_form form) ≡ true }
-        requires fresh { reading.declares_again (seen_reader self) (seen_form form) ≡ false }
-        requires room { reading.is_too_many (seen_reader self) (seen_form form) ≡ false }
+        requires fits { value_lawful (seen_form form) ≡ true }
+        requires fresh { faults.declares_again (reading.so_far (seen_reader self)) (seen_form form) ≡ false }
+        requires room { faults.is_too_many (reading.so_far (seen_reader self)) (seen_form form) ≡ false }
         ensures { IfOk result (λ r.
             seen_reader r
             ≡ reading.taken (seen_reader self) (place_ahead ahead.now) line
@@ -227,7 +234,7 @@ impl Reader {
                 minus,
                 digits,
             } => {
-                let value = value_in(minus, digits).unwrap_or(0);
+                let value = first_value(kind, minus, digits);
                 self.with_name(alloc, kind, name)?.with_value(kind, value)
             }
             Form::Thread { name } => self

@@ -113,7 +113,7 @@ fn piece_length(first: u8, after: &[u8]) -> usize
 }
 
 /// Whether a text is digits alone.
-pub fn are_digits(text: &[u8]) -> bool
+fn are_digits(text: &[u8]) -> bool
     ensures { result ≡ list_all characters.is_digit text.now }
 {
     text.iter().all(|byte| is_digit(*byte))

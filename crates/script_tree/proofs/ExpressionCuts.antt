@@ -287,7 +287,7 @@ is_expression e good = at_level 0 (expression_tokens e) e (omega arith) (spelled
 
 -- ---- its numbers are in range
 
-any-append : (test : Token → Bool) (a b : List Token) → list_any test a ≡ false → list_any test b ≡ false → list_any test (a ++ b) ≡ false
+pub any-append : (test : Token → Bool) (a b : List Token) → list_any test a ≡ false → list_any test b ≡ false → list_any test (a ++ b) ≡ false
 any-append test [] b in_a in_b = in_b
 any-append test (x ∷ a) b in_a in_b =
     let both = or_parts (test x) (list_any test a) in_a in

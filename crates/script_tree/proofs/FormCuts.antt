@@ -1,8 +1,8 @@
 -- What a printed line says: its tokens are those of a form that means what was printed.
-use Rattle.std.proofs.Common.{◌≡◌, ℕ, ◌<◌, ◌≤◌, true, false, List, [], ◌∷◌, ◌++◌, refl, ap, append_assoc, subst}
+use Rattle.std.proofs.Common.{◌≡◌, ℕ, ◌<◌, ◌≤◌, true, false, List, [], ◌∷◌, ◌++◌, refl, ap, ◌∙◌, append_assoc, subst}
 use Rattle.std.specs.Prelude.{codes, not, ◌&&◌, is_some, unwrap_or}
 use Rattle.std.specs.List.{flat_map}
-use Rattle.std.proofs.lemmas.Bool.{and_parts, or_from}
+use Rattle.std.proofs.lemmas.Bool.{and_parts}
 use Rattle.pct_ask.specs.Words.{is_word, is_among, keywords, registers}
 use Rattle.pct_ask.specs.Tokens.{Token, Word, Symbol}
 use Rattle.pct_ask.specs.declared.names.NameKind.{NameKind}
@@ -11,11 +11,11 @@ use Rattle.script_tree.specs.Expressions.{register_word}
 use Rattle.script_tree.specs.Forms.{Form, Cut, Meant, Plain, Valued, Thread, On, Into, Write, Add, Cas, Wait, Yield, Assert, Set, If, While, End, Else, OnVerb, IntoVerb, on_word, into_word, on_since, into_since, kind_word, kind_since, has_value, is_plain, value_in, tokens_of_form, Means, IsName, IsOf, IsForm}
 use Rattle.script_tree.specs.Forms as forms
 use Rattle.script_tree.specs.Lines.{tokens_in}
-use Rattle.script_tree.specs.Ranges.{has_great, value_fits, is_out_of_range}
+use Rattle.script_tree.specs.Ranges.{is_great, value_fits, is_out_of_range}
 use Rattle.script_tree.specs.Grammar.{Says}
 use Rattle.script_tree.specs.Layout.{token_text, expression_text, form_text}
 use Rattle.script_tree.proofs.Cuts.{IsCut, word_cut, spaced_cut, comma_cut, whole_cut}
-use Rattle.script_tree.proofs.ExpressionCuts.{expression_tokens, IsGood, register_is_word, expression_cut, equals_cut, is_expression, not_great}
+use Rattle.script_tree.proofs.ExpressionCuts.{expression_tokens, IsGood, register_is_word, expression_cut, equals_cut, is_expression, any-append, not_great}
 
 -- the form of a printed line, with its tokens
 abbrev pub printed_form : Meant → Cut
@@ -197,7 +197,7 @@ means version (While test) fits = (test, is_expression test fits, refl)
 means version End fits = refl
 means version Else fits = refl
 
-in_range : (version : ℕ) (meant : Meant) → Fits version meant → is_out_of_range (printed_form meant) ≡ false
+in_range : (version : ℕ) (meant : Meant) → Fits version meant → is_out_of_range (tokens_of_form (printed_form meant)) meant ≡ false
 in_range version (Plain kind name) fits = refl
 in_range version (Valued kind name value) fits = ap not fits.2.fits
 in_range version (Thread name) fits = refl
@@ -205,7 +205,7 @@ in_range version (On verb object) fits = refl
 in_range version (Into verb register object) fits = refl
 in_range version (Write var value) fits = not_great value fits.1
 in_range version (Add register var value) fits = not_great value fits.2
-in_range version (Cas register var old new) fits = or_from (has_great (expression_tokens old)) (has_great (expression_tokens new)) (not_great old fits.2) (not_great new fits.3)
+in_range version (Cas register var old new) fits = any-append is_great (expression_tokens old) (Symbol (codes ",") ∷ expression_tokens new) (not_great old fits.2) (not_great new fits.3)
 in_range version (Wait cond mutex) fits = refl
 in_range version Yield fits = refl
 in_range version (Assert test) fits = not_great test fits
@@ -218,4 +218,4 @@ in_range version Else fits = refl
 -- the line says what was printed
 pub form_says : (version : ℕ) (meant : Meant) → Fits version meant → Says version (form_text meant) meant
 form_says version meant fits =
-    (printed_form meant, record { spelled = form_tokens version meant fits; of = is_of version meant fits; means = means version meant fits }, in_range version meant fits)
+    (printed_form meant, record { spelled = form_tokens version meant fits; of = is_of version meant fits; means = means version meant fits }, ap (λ tokens. is_out_of_range tokens meant) (form_tokens version meant fits) ∙ in_range version meant fits)

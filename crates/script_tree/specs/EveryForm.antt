@@ -3,7 +3,11 @@ use Rattle.std.specs.Prelude.{◌≡◌, ℕ, pos, negsuc, List, [], ◌∷◌, 
 use Rattle.std.specs.Fmt.{digits}
 use Rattle.pct_ask.specs.NameLists.{NameLists}
 use Rattle.script_tree.specs.declared.expr.Op.TheVariants as ops
-use Rattle.script_tree.specs.Trees.{Expression, Statement, Closed, Then, closed_at, Reg, Number, Not, Minus, Two, Read, Write, Add, Cas, Lock, TryLock, Unlock, Wait, Signal, Broadcast, Down, TryDown, Up, Arrive, Join, Yield, Assert, Set, If, IfElse, While, Start, RdLock, WrLock, TryRdLock, TryWrLock, RwUnlock}
+use Rattle.script_tree.specs.Trees.{Expression, Statement, Closed, Then, closed_at, Reg, Number}
+use Rattle.script_tree.specs.Trees.{Not, Minus, Two, Read, Write, Add, Cas, Lock, TryLock, Unlock}
+use Rattle.script_tree.specs.Trees.{Wait, Signal, Broadcast, Down, TryDown, Up, Arrive, Join, Yield}
+use Rattle.script_tree.specs.Trees.{Assert, Set, If, IfElse, While, Start, RdLock, WrLock}
+use Rattle.script_tree.specs.Trees.{TryRdLock, TryWrLock, RwUnlock}
 use Rattle.script_tree.specs.ScriptText.{ScriptText}
 use Rattle.script_tree.specs.Layout.{layout}
 

@@ -43,8 +43,10 @@ minus_tokens = refl
 pub minus_groups_to_the_left : IsExpression
     (Number one ∷ minus ∷ Number two_ ∷ minus ∷ Number three ∷ []) left_first
 minus_groups_to_the_left =
-    let inner : IsSpelled 3 (Number one ∷ minus ∷ Number two_ ∷ []) (Two ops.Less (numeral one) (numeral two_)) =
-    two ops.Less (Number one ∷ []) (Number two_ ∷ []) (numeral one) (numeral two_) (number_3 one) (number_4 two_) in
+    let inner : IsSpelled 3 (Number one ∷ minus ∷ Number two_ ∷ [])
+    (Two ops.Less (numeral one) (numeral two_)) =
+    two ops.Less (Number one ∷ []) (Number two_ ∷ []) (numeral one) (numeral two_) (number_3 one)
+    (number_4 two_) in
     stronger 0 _ left_first (stronger 1 _ left_first (stronger 2 _ left_first
     (two ops.Less (Number one ∷ minus ∷ Number two_ ∷ []) (Number three ∷ [])
     (Two ops.Less (numeral one) (numeral two_)) (numeral three) inner (number_4 three))))
@@ -63,7 +65,10 @@ not_tokens = refl
 pub not_is_stronger : IsExpression
     (Symbol (codes "!") ∷ Number one ∷ Symbol (codes "==") ∷ Number two_ ∷ []) not_first
 not_is_stronger =
-    let left : IsSpelled 3 not_one (Not (numeral one)) = stronger 3 not_one (Not (numeral one)) (stronger 4 not_one (Not (numeral one)) (not (Number one ∷ []) (numeral one) (number_5 one))) in
+    let left : IsSpelled 3 not_one (Not (numeral one)) =
+    stronger 3 not_one (Not (numeral one))
+    (stronger 4 not_one (Not (numeral one))
+    (not (Number one ∷ []) (numeral one) (number_5 one))) in
     stronger 0 _ not_first
     (stronger 1 _ not_first
     (two ops.Eq not_one (Number two_ ∷ []) (Not (numeral one)) (numeral two_) left (number_3 two_)))

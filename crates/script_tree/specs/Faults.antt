@@ -7,6 +7,7 @@ use Rattle.std.specs.Str.{is_utf8}
 use Rattle.pct_ask.specs.Lines.{lines_of}
 use Rattle.pct_ask.specs.Tokens.{Token, tokens_of}
 use Rattle.pct_ask.specs.Words.{is_among}
+use Rattle.pct_ask.specs.NameLists.{NameLists, list_of, all_names}
 use Rattle.pct_ask.specs.declared.names.NameKind.{NameKind}
 use Rattle.pct_ask.specs.declared.names.NameKind.TheVariants as kinds
 use Rattle.script_tree.specs.declared.fault.ScriptFault.{ScriptFault}
@@ -36,25 +37,60 @@ are_blank lines = list_all is_blank_line lines
 abbrev pub is_last : Place → Type 0
 is_last place = place.after ≡ []
 
--- ---- where a form may stand
+-- ---- what the lines so far have declared
 
--- one of these lines begins a thread
-abbrev pub has_thread : List (List Token) → Bool
-has_thread lines = not (length (names_of kinds.Thread lines) == 0)
+-- What lines have declared and begun: the version of the language, the names of each kind, how many
+-- blocks are open, the thread among them, and whether the innermost is an `if` without `else`.
+pub record SoFar : Type 0 where
+  pub version : ℕ
+  pub names : NameLists
+  pub depth : ℕ
+  pub in_if : Bool
 
--- a block is open after these lines: a thread, an `if` or a `while`
-abbrev pub is_inside : List (List Token) → Bool
-is_inside lines = nat_le 1 (depth lines)
+-- the names that lines declare
+abbrev pub names_in : List (List Token) → NameLists
+names_in lines = record {
+  threads = names_of kinds.Thread lines;
+  vars = names_of kinds.Var lines;
+  mutexes = names_of kinds.Mutex lines;
+  conds = names_of kinds.Cond lines;
+  sems = names_of kinds.Sem lines;
+  barriers = names_of kinds.Barrier lines;
+  rwlocks = names_of kinds.RwLock lines;
+}
+
+-- what these lines have declared and begun
+abbrev pub so_far : List (List Token) → SoFar
+so_far lines = record {
+  version = version_of lines;
+  names = names_in lines;
+  depth = depth lines;
+  in_if = begins (codes "if") (opener 0 (reverse lines));
+}
+
+-- what the lines before it have declared and begun
+abbrev pub so_far_at : Place → SoFar
+so_far_at place = so_far (earlier place)
+
+-- no thread began so far
+abbrev pub is_threadless : SoFar → Bool
+is_threadless lines = length lines.names.threads == 0
+
+-- no block is open so far: no thread, `if` or `while`
+abbrev pub is_outside : SoFar → Bool
+is_outside lines = lines.depth == 0
+
+-- ---- what has a form
 
 -- The form may stand after these lines: a declaration above the first thread, a thread outside
 -- threads, a statement inside one, and an `end` or `else` anywhere.
-abbrev pub may_stand : List (List Token) → Cut → Bool
-may_stand lines (Plain kind name) = not (has_thread lines)
-may_stand lines (Valued kind name value) = not (has_thread lines)
-may_stand lines (Thread name) = not (is_inside lines)
+abbrev pub may_stand : SoFar → Meant → Bool
+may_stand lines (Plain kind name) = is_threadless lines
+may_stand lines (Valued kind name value) = is_threadless lines
+may_stand lines (Thread name) = is_outside lines
 may_stand lines End = true
 may_stand lines Else = true
-may_stand lines form = is_inside lines
+may_stand lines form = not (is_outside lines)
 
 -- a line below the header that isn't blank
 pub record IsBelow (place : Place) : Type 0 where
@@ -65,11 +101,12 @@ pub record IsBelow (place : Place) : Type 0 where
 pub record HasForm (place : Place) (cut : Cut) (meant : Meant) : Type 0 where
   pub is_below : IsBelow place
   pub form : IsForm (version_of (earlier place)) (tokens_in place.line) cut meant
-  pub stands : may_stand (earlier place) cut ≡ true
+  pub stands : may_stand (so_far_at place) meant ≡ true
 
 -- the line has a form of which this test holds
-abbrev pub HasFormWith : (Cut → Bool) → Place → Type 0
-HasFormWith test place = (cut : Cut) × (meant : Meant) × HasForm place cut meant × (test cut ≡ true)
+abbrev pub HasFormWith : (Meant → Bool) → Place → Type 0
+HasFormWith test place =
+    (cut : Cut) × (meant : Meant) × HasForm place cut meant × (test meant ≡ true)
 
 -- ---- what a form asks of the lines around it
 
@@ -79,52 +116,42 @@ is_declared place kinds.Thread name =
     is_among name (threads_in (place.before ++ place.line ∷ place.after))
 is_declared place kind name = is_among name (names_of kind (earlier place))
 
--- it uses a name that isn't declared with the kind that is needed
-abbrev pub uses_unknown : Place → Cut → Bool
-uses_unknown place (On verb object) = not (is_declared place (on_kind verb) object)
-uses_unknown place (Into verb register object) = not (is_declared place (into_kind verb) object)
-uses_unknown place (Write var value) = not (is_declared place kinds.Var var)
-uses_unknown place (Add register var value) = not (is_declared place kinds.Var var)
-uses_unknown place (Cas register var old new) = not (is_declared place kinds.Var var)
-uses_unknown place (Wait cond mutex) =
-    not (is_declared place kinds.Cond cond && is_declared place kinds.Mutex mutex)
-uses_unknown place form = false
-
--- the names of all kinds that the lines declare
-abbrev pub declared_names : List (List Token) → List (List ℕ)
-declared_names lines =
-    names_of kinds.Thread lines
-    ++ (names_of kinds.Var lines
-    ++ (names_of kinds.Mutex lines
-    ++ (names_of kinds.Cond lines
-    ++ (names_of kinds.Sem lines
-    ++ (names_of kinds.Barrier lines ++ names_of kinds.RwLock lines)))))
+-- it uses a name that isn't known with the kind that is needed
+abbrev pub uses_unknown : (NameKind → List ℕ → Bool) → Meant → Bool
+uses_unknown is_known (On verb object) = not (is_known (on_kind verb) object)
+uses_unknown is_known (Into verb register object) = not (is_known (into_kind verb) object)
+uses_unknown is_known (Write var value) = not (is_known kinds.Var var)
+uses_unknown is_known (Add register var value) = not (is_known kinds.Var var)
+uses_unknown is_known (Cas register var old new) = not (is_known kinds.Var var)
+uses_unknown is_known (Wait cond mutex) =
+    not (is_known kinds.Cond cond && is_known kinds.Mutex mutex)
+uses_unknown is_known form = false
 
 -- it declares a name that a line before declares, of whatever kind
-abbrev pub declares_again : Place → Cut → Bool
-declares_again place (Plain kind name) = is_among name (declared_names (earlier place))
-declares_again place (Valued kind name value) = is_among name (declared_names (earlier place))
-declares_again place (Thread name) = is_among name (declared_names (earlier place))
-declares_again place form = false
+abbrev pub declares_again : SoFar → Meant → Bool
+declares_again lines (Plain kind name) = is_among name (all_names lines.names)
+declares_again lines (Valued kind name value) = is_among name (all_names lines.names)
+declares_again lines (Thread name) = is_among name (all_names lines.names)
+declares_again lines form = false
 
 -- ---- blocks and limits
 
 -- an `end` with no open block, or an `else` where the innermost open block isn't an `if` without
 -- `else`
-abbrev pub closes_nothing : List (List Token) → Cut → Bool
-closes_nothing lines End = depth lines == 0
-closes_nothing lines Else = not (begins (codes "if") (opener 0 (reverse lines)))
+abbrev pub closes_nothing : SoFar → Meant → Bool
+closes_nothing lines End = is_outside lines
+closes_nothing lines Else = not lines.in_if
 closes_nothing lines form = false
 
 -- one thread, object or nested block more than a script may have; the thread isn't counted among
 -- the 32 nested blocks
-abbrev pub is_too_many : List (List Token) → Cut → Bool
+abbrev pub is_too_many : SoFar → Meant → Bool
 is_too_many lines (Thread name) =
-    nat_le (most_threads (version_of lines)) (length (names_of kinds.Thread lines))
-is_too_many lines (Plain kind name) = nat_le 64 (length (names_of kind lines))
-is_too_many lines (Valued kind name value) = nat_le 64 (length (names_of kind lines))
-is_too_many lines (If test) = nat_le 33 (depth lines)
-is_too_many lines (While test) = nat_le 33 (depth lines)
+    nat_le (most_threads lines.version) (length lines.names.threads)
+is_too_many lines (Plain kind name) = nat_le 64 (length (list_of kind lines.names))
+is_too_many lines (Valued kind name value) = nat_le 64 (length (list_of kind lines.names))
+is_too_many lines (If test) = nat_le 33 lines.depth
+is_too_many lines (While test) = nat_le 33 lines.depth
 is_too_many lines form = false
 
 -- ---- the kinds of fault
@@ -160,15 +187,15 @@ BadStatement place = IsBelow place × ((cut : Cut) (meant : Meant) → ¬ HasFor
 
 -- it has a form, with a name that isn't declared with the kind that is needed
 abbrev pub UnknownName : Place → Type 0
-UnknownName place = HasFormWith (uses_unknown place) place
+UnknownName place = HasFormWith (uses_unknown (is_declared place)) place
 
 -- it declares a name that a line before declares, of whatever kind
 abbrev pub TwiceNamed : Place → Type 0
-TwiceNamed place = HasFormWith (declares_again place) place
+TwiceNamed place = HasFormWith (declares_again (so_far_at place)) place
 
 -- it has a form, in which a first value or another number is out of range
 abbrev pub NumberRange : Place → Type 0
-NumberRange place = HasFormWith is_out_of_range place
+NumberRange place = HasFormWith (is_out_of_range (tokens_in place.line)) place
 
 -- it is the last line, and a block is open after it
 abbrev pub NoEnd : Place → Type 0
@@ -176,7 +203,7 @@ NoEnd place = is_last place × (1 ≤ depth (earlier place ++ tokens_in place.li
 
 -- it is an `end` with no open block, or an `else` with no `if` that it could belong to
 abbrev pub StrayEnd : Place → Type 0
-StrayEnd place = HasFormWith (closes_nothing (earlier place)) place
+StrayEnd place = HasFormWith (closes_nothing (so_far_at place)) place
 
 -- it is the last line, and no line of the text begins a thread
 abbrev pub NoThread : Place → Type 0
@@ -185,7 +212,7 @@ NoThread place =
 
 -- it begins one thread or nested block more than a script may have, or declares such an object
 abbrev pub TooMany : Place → Type 0
-TooMany place = HasFormWith (is_too_many (earlier place)) place
+TooMany place = HasFormWith (is_too_many (so_far_at place)) place
 
 -- the line has a fault of this kind
 abbrev pub IsFaulty : ScriptFault → Place → Type 0

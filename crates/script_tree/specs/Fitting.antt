@@ -1,11 +1,16 @@
 -- What holds of every script: its version, its names, its limits, and what its statements may name
 -- (this project).
-use Rattle.std.specs.Prelude.{◌≡◌, ℕ, pos, ◌+◌, ◌-◌, ◌≤◌, ◌&&◌, ◌||◌, Bool, true, nat_le, nat_lt, if◌then◌else◌, List, length, int_le, All}
+use Rattle.std.specs.Prelude.{◌≡◌, ℕ, pos, ◌+◌, ◌-◌, ◌≤◌, ◌&&◌, ◌||◌, Bool, true, nat_le, nat_lt}
+use Rattle.std.specs.Prelude.{if◌then◌else◌, List, length, int_le, All}
 use Rattle.std.specs.List.{list_all}
 use Rattle.pct_ask.specs.Ranges.{IsSemValue, IsBarrierCount}
 use Rattle.pct_ask.specs.Words.{is_name}
 use Rattle.pct_ask.specs.NameLists.{NameLists, all_names}
-use Rattle.script_tree.specs.Trees.{Expression, Number, Reg, Not, Minus, Two, Statement, Statements, Closed, Then, Read, Write, Add, Cas, Lock, TryLock, Unlock, Wait, Signal, Broadcast, Down, TryDown, Up, Arrive, Join, Yield, Assert, Set, If, IfElse, While, Start, RdLock, WrLock, TryRdLock, TryWrLock, RwUnlock}
+use Rattle.script_tree.specs.Trees.{Expression, Number, Reg, Not, Minus, Two, Statement, Statements}
+use Rattle.script_tree.specs.Trees.{Closed, Then, Read, Write, Add, Cas, Lock, TryLock, Unlock}
+use Rattle.script_tree.specs.Trees.{Wait, Signal, Broadcast, Down, TryDown, Up, Arrive, Join, Yield}
+use Rattle.script_tree.specs.Trees.{Assert, Set, If, IfElse, While, Start, RdLock, WrLock}
+use Rattle.script_tree.specs.Trees.{TryRdLock, TryWrLock, RwUnlock}
 use Rattle.script_tree.specs.ScriptText.{Thread, ScriptText}
 
 -- a line of a script

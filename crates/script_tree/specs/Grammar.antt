@@ -1,6 +1,7 @@
 -- The grammar of scripts, as a relation between a text and the script that it spells (this
 -- project).
-use Rattle.std.specs.Prelude.{◌≡◌, ℕ, ◌+◌, ◌≤◌, ◌⊎◌, Bool, true, false, All, List, [], ◌∷◌, ◌++◌, length, map, Some}
+use Rattle.std.specs.Prelude.{◌≡◌, ℕ, ◌+◌, ◌≤◌, ◌⊎◌, Bool, true, false, All, List, [], ◌∷◌, ◌++◌}
+use Rattle.std.specs.Prelude.{length, map, Some}
 use Rattle.std.specs.Str.{is_utf8}
 use Rattle.pct_ask.specs.Lines.{lines_of}
 use Rattle.pct_ask.specs.NameLists.{NameLists, AreNames, list_of}
@@ -102,7 +103,9 @@ declares form = false
 -- the line has this meaning in a version of the language, and its numbers are in range
 abbrev pub Says : ℕ → List ℕ → Meant → Type 0
 Says version line meant =
-    (cut : Cut) × IsForm version (tokens_in line) cut meant × (is_out_of_range cut ≡ false)
+    (cut : Cut)
+    × IsForm version (tokens_in line) cut meant
+    × (is_out_of_range (tokens_in line) meant ≡ false)
 
 -- These texts, of which the first is the line of this number, are the lines, and blank ones between
 -- them.

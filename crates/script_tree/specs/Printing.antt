@@ -1,7 +1,8 @@
 -- What has been printed, and that its numbers are those of the code (this project).
-use Rattle.std.specs.Prelude.{ℕ, pos, ◌^◌, ◌&&◌, Bool, true, int_lt, List, map}
+use Rattle.std.specs.Prelude.{ℕ, pos, ◌^◌, ◌&&◌, Bool, true, false, int_lt, List, map}
 use Rattle.std.specs.List.{list_all}
-use Rattle.script_tree.specs.Trees.{Expression, Number, Reg, Not, Minus, Two}
+use Rattle.script_tree.specs.Trees.{Expression, Number, Reg, Not, Minus, Two, Statement}
+use Rattle.script_tree.specs.Trees as trees
 use Rattle.script_tree.specs.Forms.{Meant, Write, Add, Cas, Assert, Set, If, While}
 use Rattle.script_tree.specs.Grammar.{Line}
 use Rattle.script_tree.specs.Layout.{text_of_lines, form_text, meanings}
@@ -32,3 +33,17 @@ is_ranged_form form = true
 -- the numbers of these lines are
 abbrev pub are_ranged : List Line → Bool
 are_ranged lines = list_all is_ranged_form (meanings lines)
+
+-- The statement names one object or thread, and a register at most beside it.
+abbrev pub names_one : Statement → Bool
+names_one (trees.Write line var value) = false
+names_one (trees.Add line reg var value) = false
+names_one (trees.Cas line reg var old new) = false
+names_one (trees.Wait line cond mutex) = false
+names_one (trees.Yield line) = false
+names_one (trees.Assert line test) = false
+names_one (trees.Set line reg value) = false
+names_one (trees.If line test then) = false
+names_one (trees.IfElse line test then otherwise) = false
+names_one (trees.While line test body) = false
+names_one statement = true

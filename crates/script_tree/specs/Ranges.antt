@@ -1,11 +1,11 @@
 -- The numbers of a line that are out of range (this project).
-use Rattle.std.specs.Prelude.{◌^◌, ◌&&◌, ◌||◌, nat_le, nat_lt, Bool, false, not, List, [], ◌∷◌}
+use Rattle.std.specs.Prelude.{◌^◌, ◌&&◌, nat_le, nat_lt, Bool, false, not, List, [], ◌∷◌}
 use Rattle.std.specs.List.{list_any}
 use Rattle.std.specs.Str.Parse.{digits_value}
 use Rattle.pct_ask.specs.Tokens.{Token, Number, Symbol}
 use Rattle.pct_ask.specs.declared.names.NameKind.{NameKind}
 use Rattle.pct_ask.specs.declared.names.NameKind.TheVariants as kinds
-use Rattle.script_tree.specs.Forms.{Cut, Valued, Write, Add, Cas, Assert, Set, If, While}
+use Rattle.script_tree.specs.Forms.{Meant, Valued}
 
 -- a number above the greatest i64
 abbrev pub is_great : Token → Bool
@@ -26,15 +26,8 @@ value_fits kinds.Barrier (Number digits ∷ []) =
     nat_le 1 (digits_value 10 digits) && nat_le (digits_value 10 digits) 1000
 value_fits kind tokens = false
 
--- the form has a first value that its object may not have, or an expression with a number above
--- the greatest i64
-abbrev pub is_out_of_range : Cut → Bool
-is_out_of_range (Valued kind name value) = not (value_fits kind value)
-is_out_of_range (Write var value) = has_great value
-is_out_of_range (Add register var value) = has_great value
-is_out_of_range (Cas register var old new) = has_great old || has_great new
-is_out_of_range (Assert test) = has_great test
-is_out_of_range (Set register value) = has_great value
-is_out_of_range (If test) = has_great test
-is_out_of_range (While test) = has_great test
-is_out_of_range form = false
+-- A line of these tokens and this form has a first value that its object may not have, or another
+-- number above the greatest i64.
+abbrev pub is_out_of_range : List Token → Meant → Bool
+is_out_of_range tokens (Valued kind name value) = not (value_fits kind value)
+is_out_of_range tokens form = has_great tokens

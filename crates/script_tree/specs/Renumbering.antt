@@ -1,7 +1,10 @@
 -- A script with the line numbers of its canonical layout (this project).
 use Rattle.std.specs.Prelude.{ℕ, ◌+◌, ◌≤◌, List, [], ◌∷◌, length, All}
 use Rattle.pct_ask.specs.Lines.{lines_of}
-use Rattle.script_tree.specs.Trees.{Statement, Statements, Closed, Then, Read, Write, Add, Cas, Lock, TryLock, Unlock, Wait, Signal, Broadcast, Down, TryDown, Up, Arrive, Join, Yield, Assert, Set, If, IfElse, While, Start, RdLock, WrLock, TryRdLock, TryWrLock, RwUnlock}
+use Rattle.script_tree.specs.Trees.{Statement, Statements, Closed, Then, Read, Write, Add, Cas}
+use Rattle.script_tree.specs.Trees.{Lock, TryLock, Unlock, Wait, Signal, Broadcast, Down, TryDown}
+use Rattle.script_tree.specs.Trees.{Up, Arrive, Join, Yield, Assert, Set, If, IfElse, While, Start}
+use Rattle.script_tree.specs.Trees.{RdLock, WrLock, TryRdLock, TryWrLock, RwUnlock}
 use Rattle.script_tree.specs.ScriptText.{ScriptText, Thread}
 use Rattle.script_tree.specs.Layout.{declared_forms}
 

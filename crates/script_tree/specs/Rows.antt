@@ -1,10 +1,12 @@
 -- Small theorems that read the definitions on known scripts.
-use Rattle.std.specs.Prelude.{◌≡◌, ℕ, zero, suc, pos, negsuc, [], ◌∷◌, Ok, Err, Some, None, codes, true, refl}
+use Rattle.std.specs.Prelude.{◌≡◌, ℕ, zero, suc, pos, negsuc, [], ◌∷◌, Ok, Err, Some, None, codes}
+use Rattle.std.specs.Prelude.{true, refl}
 use Rattle.std.specs.List.{list_all}
 use Rattle.pct_ask.specs.declared.ask.Ask.TheVariants as asks
 use Rattle.pct_ask.specs.declared.ask.FaultKind.TheVariants.{Overflow, ZeroDivisor, Spin}
 use Rattle.script_tree.specs.declared.expr.Op.TheVariants as ops
-use Rattle.script_tree.specs.Trees.{Number, Reg, Minus, Two, Closed, Then, Read, Write, Join, Assert, Yield, While, If, Start}
+use Rattle.script_tree.specs.Trees.{Number, Reg, Minus, Two, Closed, Then, Read, Write, Join}
+use Rattle.script_tree.specs.Trees.{Assert, Yield, While, If, Start}
 use Rattle.script_tree.specs.ScriptText.{Thread, ScriptText}
 use Rattle.script_tree.specs.Fitting.{thread_fits}
 use Rattle.script_tree.specs.Values.{value_of}

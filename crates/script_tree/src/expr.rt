@@ -1,4 +1,5 @@
-/// An operator between two parts, by its meaning: `||` `&&` `==` `!=` `<` `<=` `>` `>=` `+` `-` `*` `/` `%`.
+/// An operator between two parts, by its meaning: `||` `&&` `==` `!=` `<` `<=` `>` `>=` `+` `-` `*`
+/// `/` `%`.
 #[derive(Clone, Copy, Debug, PartialEq, Eq)]
 pub enum Op {
     Or,

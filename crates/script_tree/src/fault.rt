@@ -7,7 +7,8 @@ pub enum ScriptFault {
     LineTooLong,
     /// It comes after line 4,096.
     TooManyLines,
-    /// The first line that isn't blank isn't `script` and a version; or no line of the file is other than blank.
+    /// The first line that isn't blank isn't `script` and a version; or no line of the file is
+    /// other than blank.
     BadHeader,
     /// It can't be cut into tokens.
     BadToken,

@@ -1,12 +1,14 @@
 //! A script as a text, in its canonical layout.
 
-ghost use Rattle.std.specs.Prelude.{◌≡◌, [], ◌∷◌, ◌++◌, true, All, length, map, IfOk, OnOk, FitsSigned};
+ghost use Rattle.std.specs.Prelude.{◌≡◌, [], ◌∷◌, ◌++◌, true, All, length, map, IfOk, OnOk};
+ghost use Rattle.std.specs.Prelude.{FitsSigned};
 ghost use Rattle.std.specs.Int.{w64};
 ghost use Rattle.pct_ask.specs.NameLists.{list_of};
 ghost use Rattle.pct_ask.specs.Numbers.{number_text};
 ghost use Rattle.script_tree.specs.ScriptSeen.{text};
 ghost use Rattle.script_tree.specs.ScriptParts.{thread};
-ghost use Rattle.script_tree.specs.Layout.{layout, header_text, text_of_lines, form_text, plain_forms, valued_forms, declared_forms, meanings};
+ghost use Rattle.script_tree.specs.Layout.{layout, header_text, text_of_lines, form_text};
+ghost use Rattle.script_tree.specs.Layout.{plain_forms, valued_forms, declared_forms, meanings};
 ghost use Rattle.script_tree.specs.Grammar.{all_thread_lines, Spells};
 ghost use Rattle.script_tree.specs.Renumbering.{renumbered, IsShort};
 ghost use Rattle.script_tree.specs.Printing.{printed, are_ranged};
@@ -18,8 +20,8 @@ use crate::stmt::ThreadText;
 use pct_ask::{NameKind, Names, NumberList, write_number};
 use std::alloc::{AllocError as NoMemory, Global};
 
-/// The canonical layout of a script: each script has just one. Where that is no longer than a script may be, it is
-/// a text of the same script, with the lines that its statements have in it.
+/// The canonical layout of a script: each script has just one. Where that is no longer than a
+/// script may be, it is a text of the same script, with the lines that its statements have in it.
 pub fn print_script(alloc: Global, script: &Script) -> Result<Vec<u8>, NoMemory>
     ensures layout { IfOk result (λ bytes. bytes.items ≡ layout (text script.now)) }
     ensures spelled { IfOk result (λ bytes.

@@ -9,7 +9,7 @@ ghost use Rattle.script_tree.specs.Expressions.{register_word};
 ghost use Rattle.pct_ask.specs.TraceText.{name_at};
 ghost use Rattle.script_tree.specs.Grammar.{statement_lines};
 ghost use Rattle.script_tree.specs.Layout.{spaced, expression_text};
-ghost use Rattle.script_tree.specs.Printing.{printed, are_ranged, is_ranged};
+ghost use Rattle.script_tree.specs.Printing.{printed, are_ranged, is_ranged, names_one};
 
 use crate::expr::Expr;
 use crate::printing_words::{name_at, push_expression, push_last, push_spaced, register_word};
@@ -44,7 +44,6 @@ fn push_statement(stmt: &Stmt, names: &Names, out: &mut Vec<u8>) -> Result<(), N
         (are_ranged (statement_lines names.now (statement stmt.now)) ≡ true) }
 {
     match stmt {
-        Stmt::Read { reg, var, .. } => push_into(b"read", *reg, NameKind::Var, *var, names, out),
         Stmt::Write { var, value, .. } => push_write(*var, value, names, out),
         Stmt::Add {
             reg,
@@ -59,23 +58,7 @@ fn push_statement(stmt: &Stmt, names: &Names, out: &mut Vec<u8>) -> Result<(), N
             new,
             ..
         } => push_cas(*reg, *var, old, new, names, out),
-        Stmt::Lock { mutex, .. } => push_on(b"lock", NameKind::Mutex, *mutex, names, out),
-        Stmt::TryLock { reg, mutex, .. } => {
-            push_into(b"trylock", *reg, NameKind::Mutex, *mutex, names, out)
-        }
-        Stmt::Unlock { mutex, .. } => push_on(b"unlock", NameKind::Mutex, *mutex, names, out),
         Stmt::Wait { cond, mutex, .. } => push_wait(*cond, *mutex, names, out),
-        Stmt::Signal { cond, .. } => push_on(b"signal", NameKind::Cond, *cond, names, out),
-        Stmt::Broadcast { cond, .. } => push_on(b"broadcast", NameKind::Cond, *cond, names, out),
-        Stmt::Down { sem, .. } => push_on(b"down", NameKind::Sem, *sem, names, out),
-        Stmt::TryDown { reg, sem, .. } => {
-            push_into(b"trydown", *reg, NameKind::Sem, *sem, names, out)
-        }
-        Stmt::Up { sem, .. } => push_on(b"up", NameKind::Sem, *sem, names, out),
-        Stmt::Arrive { reg, barrier, .. } => {
-            push_into(b"arrive", *reg, NameKind::Barrier, *barrier, names, out)
-        }
-        Stmt::Join { thread, .. } => push_on(b"join", NameKind::Thread, *thread, names, out),
         Stmt::Yield { .. } => push_last(b"yield", out),
         Stmt::Assert { test, .. } => push_test(b"assert", test, out),
         Stmt::Set { reg, value, .. } => {
@@ -101,18 +84,49 @@ fn push_statement(stmt: &Stmt, names: &Names, out: &mut Vec<u8>) -> Result<(), N
             push_statements(body, names, out)?;
             push_last(b"end", out)
         }
-        Stmt::Start { thread, .. } => push_on(b"start", NameKind::Thread, *thread, names, out),
-        Stmt::RdLock { rwlock, .. } => push_on(b"rdlock", NameKind::RwLock, *rwlock, names, out),
-        Stmt::WrLock { rwlock, .. } => push_on(b"wrlock", NameKind::RwLock, *rwlock, names, out),
+        _ => push_named(stmt, names, out),
+    }
+}
+
+// A statement that names one object or thread.
+fn push_named(stmt: &Stmt, names: &Names, out: &mut Vec<u8>) -> Result<(), NoMemory>
+    requires { names_one (statement stmt.now) ≡ true }
+    ensures written { OnOk result
+        (out.new.items
+        ≡ out.old.items ++ printed (statement_lines names.now (statement stmt.now))) }
+    ensures ranged { are_ranged (statement_lines names.now (statement stmt.now)) ≡ true }
+{
+    match *stmt {
+        Stmt::Read { reg, var, .. } => push_into(b"read", reg, NameKind::Var, var, names, out),
+        Stmt::Lock { mutex, .. } => push_on(b"lock", NameKind::Mutex, mutex, names, out),
+        Stmt::TryLock { reg, mutex, .. } => {
+            push_into(b"trylock", reg, NameKind::Mutex, mutex, names, out)
+        }
+        Stmt::Unlock { mutex, .. } => push_on(b"unlock", NameKind::Mutex, mutex, names, out),
+        Stmt::Signal { cond, .. } => push_on(b"signal", NameKind::Cond, cond, names, out),
+        Stmt::Broadcast { cond, .. } => push_on(b"broadcast", NameKind::Cond, cond, names, out),
+        Stmt::Down { sem, .. } => push_on(b"down", NameKind::Sem, sem, names, out),
+        Stmt::TryDown { reg, sem, .. } => {
+            push_into(b"trydown", reg, NameKind::Sem, sem, names, out)
+        }
+        Stmt::Up { sem, .. } => push_on(b"up", NameKind::Sem, sem, names, out),
+        Stmt::Arrive { reg, barrier, .. } => {
+            push_into(b"arrive", reg, NameKind::Barrier, barrier, names, out)
+        }
+        Stmt::Join { thread, .. } => push_on(b"join", NameKind::Thread, thread, names, out),
+        Stmt::Start { thread, .. } => push_on(b"start", NameKind::Thread, thread, names, out),
+        Stmt::RdLock { rwlock, .. } => push_on(b"rdlock", NameKind::RwLock, rwlock, names, out),
+        Stmt::WrLock { rwlock, .. } => push_on(b"wrlock", NameKind::RwLock, rwlock, names, out),
         Stmt::TryRdLock { reg, rwlock, .. } => {
-            push_into(b"tryrdlock", *reg, NameKind::RwLock, *rwlock, names, out)
+            push_into(b"tryrdlock", reg, NameKind::RwLock, rwlock, names, out)
         }
         Stmt::TryWrLock { reg, rwlock, .. } => {
-            push_into(b"trywrlock", *reg, NameKind::RwLock, *rwlock, names, out)
+            push_into(b"trywrlock", reg, NameKind::RwLock, rwlock, names, out)
         }
-        Stmt::RwUnlock { rwlock, .. } => {
-            push_on(b"rwunlock", NameKind::RwLock, *rwlock, names, out)
-        }
+        Stmt::RwUnlock { rwlock, .. } => push_on(b"rwunlock", NameKind::RwLock, rwlock, names, out),
+        Stmt::Write { .. } | Stmt::Add { .. } | Stmt::Cas { .. } => unreachable!(),
+        Stmt::Wait { .. } | Stmt::Yield { .. } | Stmt::Assert { .. } => unreachable!(),
+        Stmt::Set { .. } | Stmt::If { .. } | Stmt::While { .. } => unreachable!(),
     }
 }
 

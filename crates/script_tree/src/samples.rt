@@ -8,7 +8,9 @@ ghost use Rattle.script_tree.specs.Trees.{closed_at};
 ghost use Rattle.script_tree.specs.Seen.{expression, statement, statements, block};
 ghost use Rattle.script_tree.specs.ScriptSeen.{text};
 ghost use Rattle.script_tree.specs.LayoutRows.{adder, checker, lost_update_names, lost_update};
-ghost use Rattle.script_tree.specs.EveryForm.{first_names, every_name, operations, accesses, waits, meetings, shares, one_block, two_blocks, inner_block, nested_blocks, blocks, every_statement, every_form};
+ghost use Rattle.script_tree.specs.EveryForm.{first_names, every_name, operations, accesses, waits};
+ghost use Rattle.script_tree.specs.EveryForm.{meetings, shares, one_block, two_blocks, inner_block};
+ghost use Rattle.script_tree.specs.EveryForm.{nested_blocks, blocks, every_statement, every_form};
 
 use crate::{Block, Expr, Op, Script, Stmt, ThreadText};
 use pct_ask::{NameKind, Names, NumberList};

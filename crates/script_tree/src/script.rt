@@ -5,7 +5,8 @@ use crate::stmt::ThreadText;
 use pct_ask::{Deal, NameKind, Names, NumberList};
 use std::alloc::{AllocError as NoMemory, Global};
 
-/// A script of one of the versions 1 to 3. Objects and threads go by their places among their names.
+/// A script of one of the versions 1 to 3. Objects and threads go by their places among their
+/// names.
 #[derive(Debug, Drop)]
 pub struct Script {
     pub version: u32,

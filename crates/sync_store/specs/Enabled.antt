@@ -2,8 +2,13 @@
 use Rattle.std.specs.Prelude.{◌<◌, ℕ, ◌==◌, ◌&&◌, pos, int_lt, Bool, true, not, List, is_none}
 use Rattle.std.specs.List.{list_any, list_all}
 use Rattle.pct_ask.specs.declared.Ask.{Ask}
-use Rattle.pct_ask.specs.declared.Ask.TheVariants.{Read, Write, Add, Cas, Lock, TryLock, Unlock, Release, Regain, Signal, Broadcast, Down, TryDown, Up, Arrive, Leave, Join, Yield, Check, Fault, Start, Begin, RdLock, WrLock, TryRdLock, TryWrLock, RwUnlock}
-use Rattle.sync_store.specs.Store.{Release as Released, RwLockState, StoreState, Sizes, is_on, owner_of, condition_of, number_of, barrier_of, rwlock_of}
+use Rattle.pct_ask.specs.declared.Ask.TheVariants.{Read, Write, Add, Cas, Lock, TryLock, Unlock}
+use Rattle.pct_ask.specs.declared.Ask.TheVariants.{Release, Regain, Signal, Broadcast, Down}
+use Rattle.pct_ask.specs.declared.Ask.TheVariants.{TryDown, Up, Arrive, Leave, Join, Yield, Check}
+use Rattle.pct_ask.specs.declared.Ask.TheVariants.{Fault, Start, Begin, RdLock, WrLock, TryRdLock}
+use Rattle.pct_ask.specs.declared.Ask.TheVariants.{TryWrLock, RwUnlock}
+use Rattle.sync_store.specs.Store.{Release as Released, RwLockState, StoreState, Sizes, is_on}
+use Rattle.sync_store.specs.Store.{owner_of, condition_of, number_of, barrier_of, rwlock_of}
 
 -- whether a barrier has let a thread through
 abbrev pub is_released : ℕ → List Released → Bool
@@ -13,8 +18,8 @@ is_released t released = list_any (λ release. t == release.thread) released
 abbrev pub is_unread : RwLockState → Bool
 is_unread rwlock = list_all (λ holds. holds == 0) rwlock.reads
 
--- Whether an ask of the thread t may take its step (POSIX: whether the call returns without blocking). `ended` tells
--- which threads have ended.
+-- Whether an ask of the thread t may take its step (POSIX: whether the call returns without
+-- blocking). `ended` tells which threads have ended.
 abbrev pub enabled : StoreState → (ℕ → Bool) → ℕ → Ask → Bool
 enabled store ended t (Read x) = true
 enabled store ended t (Write x value) = true
@@ -24,7 +29,8 @@ enabled store ended t (Lock m) = is_none (owner_of store m)
 enabled store ended t (TryLock m) = true
 enabled store ended t (Unlock m) = true
 enabled store ended t (Release c m) = true
-enabled store ended t (Regain c m) = is_on t (condition_of store c).woken && is_none (owner_of store m)
+enabled store ended t (Regain c m) =
+    is_on t (condition_of store c).woken && is_none (owner_of store m)
 enabled store ended t (Signal c) = true
 enabled store ended t (Broadcast c) = true
 enabled store ended t (Down s) = int_lt (pos 0) (number_of store s)
@@ -39,7 +45,8 @@ enabled store ended t (Fault kind) = true
 enabled store ended t (Start u) = true
 enabled store ended t Begin = is_on t store.started
 enabled store ended t (RdLock l) = is_none (rwlock_of store l).writer
-enabled store ended t (WrLock l) = is_none (rwlock_of store l).writer && is_unread (rwlock_of store l)
+enabled store ended t (WrLock l) =
+    is_none (rwlock_of store l).writer && is_unread (rwlock_of store l)
 enabled store ended t (TryRdLock l) = true
 enabled store ended t (TryWrLock l) = true
 enabled store ended t (RwUnlock l) = true

@@ -3,7 +3,7 @@ pub mod Enabled
 pub mod Ready
 pub mod Effect
 pub mod Touched
-pub mod Steps
+pub mod StepRows
 pub mod ThreadList
 pub mod ReleaseList
 pub mod Kept

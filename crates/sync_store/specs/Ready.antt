@@ -1,5 +1,6 @@
--- What is known of a thread's ask while some threads haven't posted.
-use Rattle.std.specs.Prelude.{ℕ, Bool, true, false, if◌then◌else◌, List, Option, Some, None, slice_get}
+-- What is known of a thread's ask while some threads haven't posted (this project).
+use Rattle.std.specs.Prelude.{ℕ, Bool, true, false, if◌then◌else◌, List, Option, Some, None}
+use Rattle.std.specs.Prelude.{slice_get}
 use Rattle.pct_ask.specs.declared.Ask.{Ask}
 use Rattle.pct_ask.specs.declared.Ask.TheVariants.{Join}
 use Rattle.pct_ask.specs.declared.Standing.{Standing}
@@ -24,27 +25,31 @@ abbrev pub ready_by : Option ℕ → Bool → Ready
 ready_by (Some u) is_enabled = Unknown u
 ready_by None is_enabled = if is_enabled then Yes else No
 
--- What is known of an ask of the thread t: Unknown exactly where it joins a thread whose next post isn't known, and
--- else whether it is enabled. `away` tells whose next post isn't known, and `ended` who has ended.
+-- What is known of an ask of the thread t: Unknown exactly where it joins a thread whose next post
+-- isn't known, and else whether it is enabled. `away` tells whose next post isn't known, and
+-- `ended` who has ended.
 abbrev pub readiness : StoreState → (ℕ → Bool) → (ℕ → Bool) → ℕ → Ask → Ready
-readiness store away ended t ask = ready_by (unknown_target away (awaited ask)) (enabled store ended t ask)
+readiness store away ended t ask =
+    ready_by (unknown_target away (awaited ask)) (enabled store ended t ask)
 
--- of a thread's standing: whether its next post isn't known, and whether it has ended
+-- of a thread's standing: whether its next post isn't known
 abbrev pub is_away : Option Standing → Bool
 is_away (Some Away) = true
 is_away (Some Asks) = false
 is_away (Some Ended) = false
 is_away None = false
 
+-- of a thread's standing: whether it has ended
 abbrev pub is_ended : Option Standing → Bool
 is_ended (Some Ended) = true
 is_ended (Some Away) = false
 is_ended (Some Asks) = false
 is_ended None = false
 
--- by the standings of all threads: whose next post isn't known, and who has ended
+-- by the standings of all threads: whether a thread's next post isn't known
 abbrev pub away_by : List Standing → ℕ → Bool
 away_by standings u = is_away (slice_get standings u)
 
+-- by the standings of all threads: whether a thread has ended
 abbrev pub ended_by : List Standing → ℕ → Bool
 ended_by standings u = is_ended (slice_get standings u)

@@ -5,6 +5,7 @@ use Rattle.sync_store.specs.declared.applied.Applied.TheVariants as applieds
 use Rattle.sync_store.specs.declared.applied.Stepped.{Stepped}
 use Rattle.sync_store.specs.declared.applied.Stepped.TheVariants.{Answer, Failed, Misuse, Fault}
 
+-- the thread's answer, or the verdict by which the step ends the run
 abbrev pub applied_by : Stepped → Applied
 applied_by (Answer answer) = applieds.Answer answer
 applied_by (Failed t line) = applieds.Ends (verdicts.Failed t line)

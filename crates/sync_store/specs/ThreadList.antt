@@ -7,7 +7,8 @@ abbrev pub IsOnce : List ℕ → Type 0
 IsOnce [] = Unit {0}
 IsOnce (t ∷ threads) = (is_on t threads ≡ false) × IsOnce threads
 
--- the threads are different and below 64, a flag for each says whether it is there, and there is room for all
+-- the threads are different and below 64, a flag for each says whether it is there, and there is
+-- room for all
 pub record IsThreadList (threads : List ℕ) (room : ℕ) (present : List Bool) : Type 0 where
   pub once : IsOnce threads
   pub below : All (λ t. t < 64) threads

@@ -1,9 +1,15 @@
--- Which object a step may have changed for the other threads, and whose asks it concerns.
+-- Which object a step may have changed for the other threads, and whose asks it concerns (this
+-- project).
 use Rattle.std.specs.Prelude.{◌≡◌, ◌≢◌, ℕ, ◌==◌, ◌||◌, Bool, false}
 use Rattle.pct_ask.specs.declared.Ask.{Ask}
-use Rattle.pct_ask.specs.declared.Ask.TheVariants.{Read, Write, Add, Cas, Lock, TryLock, Unlock, Release, Regain, Signal, Broadcast, Down, TryDown, Up, Arrive, Leave, Join, Yield, Check, Fault, Start, Begin, RdLock, WrLock, TryRdLock, TryWrLock, RwUnlock}
+use Rattle.pct_ask.specs.declared.Ask.TheVariants.{Read, Write, Add, Cas, Lock, TryLock, Unlock}
+use Rattle.pct_ask.specs.declared.Ask.TheVariants.{Release, Regain, Signal, Broadcast, Down}
+use Rattle.pct_ask.specs.declared.Ask.TheVariants.{TryDown, Up, Arrive, Leave, Join, Yield, Check}
+use Rattle.pct_ask.specs.declared.Ask.TheVariants.{Fault, Start, Begin, RdLock, WrLock, TryRdLock}
+use Rattle.pct_ask.specs.declared.Ask.TheVariants.{TryWrLock, RwUnlock}
 use Rattle.sync_store.specs.declared.touched.Touched.{Touched}
-use Rattle.sync_store.specs.declared.touched.Touched.TheVariants.{Nothing, Mutex, Cond, Sem, Barrier, Thread, RwLock}
+use Rattle.sync_store.specs.declared.touched.Touched.TheVariants.{Nothing, Mutex, Cond, Sem}
+use Rattle.sync_store.specs.declared.touched.Touched.TheVariants.{Barrier, Thread, RwLock}
 use Rattle.sync_store.specs.Store.{StoreState}
 use Rattle.sync_store.specs.Enabled.{enabled}
 
@@ -37,33 +43,38 @@ touched_of (TryRdLock l) = RwLock l
 touched_of (TryWrLock l) = RwLock l
 touched_of (RwUnlock l) = RwLock l
 
--- whether an object is the mutex m, the condition c and so on
+-- whether an object is the mutex m
 abbrev pub is_mutex : ℕ → Touched → Bool
 is_mutex m (Mutex n) = m == n
 is_mutex m _ = false
 
+-- whether an object is the condition c
 abbrev pub is_cond : ℕ → Touched → Bool
 is_cond c (Cond d) = c == d
 is_cond c _ = false
 
+-- whether an object is the semaphore s
 abbrev pub is_sem : ℕ → Touched → Bool
 is_sem s (Sem r) = s == r
 is_sem s _ = false
 
+-- whether an object is the barrier b
 abbrev pub is_barrier : ℕ → Touched → Bool
 is_barrier b (Barrier d) = b == d
 is_barrier b _ = false
 
+-- whether an object is the thread t, which a start touches
 abbrev pub is_thread : ℕ → Touched → Bool
 is_thread t (Thread u) = t == u
 is_thread t _ = false
 
+-- whether an object is the read-write lock l
 abbrev pub is_rwlock : ℕ → Touched → Bool
 is_rwlock l (RwLock k) = l == k
 is_rwlock l _ = false
 
--- Whether an ask of the thread t names an object. A regain names its condition and its mutex, a begin the thread
--- itself, and a join no object.
+-- Whether an ask of the thread t names an object. A regain names its condition and its mutex, a
+-- begin the thread itself, and a join no object.
 abbrev pub names : ℕ → Ask → Touched → Bool
 names t (Read x) object = false
 names t (Write x value) object = false
@@ -93,7 +104,9 @@ names t (TryRdLock l) object = is_rwlock l object
 names t (TryWrLock l) object = is_rwlock l object
 names t (RwUnlock l) object = is_rwlock l object
 
--- An ask of a thread other than t that doesn't name the object is as enabled afterwards as it was before.
+-- An ask of a thread other than t that doesn't name the object is as enabled afterwards as it was
+-- before.
 abbrev pub KeepsOthers : ℕ → Touched → StoreState → StoreState → Type 0
 KeepsOthers t object before after =
-    (ended : ℕ → Bool) (u : ℕ) (ask : Ask) → u ≢ t → names u ask object ≡ false → enabled after ended u ask ≡ enabled before ended u ask
+    (ended : ℕ → Bool) (u : ℕ) (ask : Ask) → u ≢ t → names u ask object ≡ false
+    → enabled after ended u ask ≡ enabled before ended u ask

@@ -84,7 +84,8 @@ impl Store {
     pub(crate) fn arrive(&mut self, thread: u32, barrier: u32)
         requires there { thread < self.old.threads }
         requires barrier { barrier < length self.old.barriers }
-        ensures { self.new ≡ with_barrier self.old barrier (arrived_at thread (barrier_of self.old barrier)) }
+        ensures { self.new
+            ≡ with_barrier self.old barrier (arrived_at thread (barrier_of self.old barrier)) }
     {
         self.barriers[barrier as usize].arrive(thread);
     }
@@ -92,8 +93,10 @@ impl Store {
     pub(crate) fn leave(&mut self, thread: u32, barrier: u32) -> Stepped
         requires there { thread < self.old.threads }
         requires barrier { barrier < length self.old.barriers }
-        ensures store { self.new ≡ with_barrier self.old barrier (left_by thread (barrier_of self.old barrier)) }
-        ensures applied { result ≡ Stepped.Answer (if is_serial thread (barrier_of self.old barrier).released then pos 1 else pos 0) }
+        ensures store { self.new
+            ≡ with_barrier self.old barrier (left_by thread (barrier_of self.old barrier)) }
+        ensures applied { result ≡ Stepped.Answer
+            (if is_serial thread (barrier_of self.old barrier).released then pos 1 else pos 0) }
     {
         Stepped::truth(self.barriers[barrier as usize].leave(thread))
     }

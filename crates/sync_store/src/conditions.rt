@@ -1,6 +1,8 @@
 ghost use Rattle.std.specs.Prelude.{◌≡◌, ◌<◌, ◌≤◌, [], ◌∷◌, pos, min, length, replicate, IfOk};
-ghost use Rattle.sync_store.specs.Store.{is_on, new_condition, condition_of, with_condition, with_owner};
-ghost use Rattle.sync_store.specs.Effect.{onto, without, all_onto, signalled, effect, store_after, applied_of};
+ghost use Rattle.sync_store.specs.Store.{is_on, new_condition, condition_of, with_condition};
+ghost use Rattle.sync_store.specs.Store.{with_owner};
+ghost use Rattle.sync_store.specs.Effect.{onto, without, all_onto, signalled, effect, store_after};
+ghost use Rattle.sync_store.specs.Effect.{applied_of};
 ghost use Rattle.sync_store.specs.Stepped.{applied_by};
 
 use crate::applied::{Stepped, not_owner};
@@ -84,7 +86,8 @@ impl Condition {
 
     /// Wakes all waiters. The answer is how many it wakes.
     pub(crate) fn broadcast(&mut self) -> usize
-        ensures woken { self.new ≡ record { waiting = []; woken = all_onto self.old.waiting self.old.woken } }
+        ensures woken { self.new
+            ≡ record { waiting = []; woken = all_onto self.old.waiting self.old.woken } }
         ensures count { result ≡ length self.old.waiting }
         ensures few { result ≤ 64 }
     {
@@ -99,8 +102,10 @@ impl Store {
         requires there { thread < self.old.threads }
         requires cond { cond < length self.old.conditions }
         requires mutex { mutex < length self.old.owners }
-        ensures store { self.new ≡ store_after self.old (effect self.old thread line (Ask.Release cond mutex)) }
-        ensures applied { applied_by result ≡ applied_of (effect self.old thread line (Ask.Release cond mutex)) }
+        ensures store { self.new
+            ≡ store_after self.old (effect self.old thread line (Ask.Release cond mutex)) }
+        ensures applied { applied_by result
+            ≡ applied_of (effect self.old thread line (Ask.Release cond mutex)) }
     {
         if !self.mutexes.unlock(mutex, thread) {
             return not_owner(thread, line);
@@ -113,7 +118,11 @@ impl Store {
         requires there { thread < self.old.threads }
         requires cond { cond < length self.old.conditions }
         requires mutex { mutex < length self.old.owners }
-        ensures { self.new ≡ with_condition (with_owner self.old mutex (Some thread)) cond (record (condition_of self.old cond) { woken = without thread (condition_of self.old cond).woken }) }
+        ensures { self.new
+            ≡ with_condition (with_owner self.old mutex (Some thread)) cond
+            (record (condition_of self.old cond) {
+              woken = without thread (condition_of self.old cond).woken;
+            }) }
     {
         self.mutexes.lock(mutex, thread);
         self.conditions[cond as usize].go_on(thread);
@@ -121,16 +130,24 @@ impl Store {
 
     pub(crate) fn signal(&mut self, cond: u32) -> Stepped
         requires { cond < length self.old.conditions }
-        ensures store { self.new ≡ with_condition self.old cond (signalled (condition_of self.old cond).waiting (condition_of self.old cond).woken) }
-        ensures applied { result ≡ Stepped.Answer (pos (min 1 (length (condition_of self.old cond).waiting))) }
+        ensures store { self.new ≡ with_condition self.old cond
+            (signalled (condition_of self.old cond).waiting (condition_of self.old cond).woken) }
+        ensures applied { result
+            ≡ Stepped.Answer (pos (min 1 (length (condition_of self.old cond).waiting))) }
     {
         Stepped::Answer(self.conditions[cond as usize].signal() as i64)
     }
 
     pub(crate) fn broadcast(&mut self, cond: u32) -> Stepped
         requires { cond < length self.old.conditions }
-        ensures store { self.new ≡ with_condition self.old cond (record { waiting = []; woken = all_onto (condition_of self.old cond).waiting (condition_of self.old cond).woken }) }
-        ensures applied { result ≡ Stepped.Answer (pos (length (condition_of self.old cond).waiting)) }
+        ensures store { self.new
+            ≡ with_condition self.old cond (record {
+              waiting = [];
+              woken =
+                  all_onto (condition_of self.old cond).waiting (condition_of self.old cond).woken;
+            }) }
+        ensures applied { result
+            ≡ Stepped.Answer (pos (length (condition_of self.old cond).waiting)) }
     {
         Stepped::Answer(self.conditions[cond as usize].broadcast() as i64)
     }

@@ -8,13 +8,16 @@ use crate::store::Store;
 use pct_ask::{Ask, Standing};
 
 impl Store {
-    /// Whether an ask of a thread may take its step, where `standings` has what is known of each thread.
+    /// Whether an ask of a thread may take its step, where `standings` has what is known of each
+    /// thread.
     pub fn ready(&self, standings: &[Standing], thread: u32, ask: &Ask) -> Ready
         requires thread { thread < self.now.threads }
         requires standings { length standings.now ≡ self.now.threads }
         requires ask { IsInRange (sizes_of self.now) ask.now }
-        ensures unknown { (u : ℕ) → (result ≡ Ready.Unknown u) ↔ ((ask.now ≡ Ask.Join u) × IsTrue (away_by standings.now u)) }
-        ensures ready { result ≡ readiness self.now (away_by standings.now) (ended_by standings.now) thread ask.now }
+        ensures unknown { (u : ℕ) → (result ≡ Ready.Unknown u)
+            ↔ ((ask.now ≡ Ask.Join u) × IsTrue (away_by standings.now u)) }
+        ensures ready { result
+            ≡ readiness self.now (away_by standings.now) (ended_by standings.now) thread ask.now }
     {
         match *ask {
             Ask::Lock { mutex } => Ready::of(self.mutexes.is_free(mutex)),

@@ -1,4 +1,5 @@
-//! The objects that the threads of a test share: when an ask may take its step, and what the step does.
+//! The objects that the threads of a test share: when an ask may take its step, and what the step
+//! does.
 #![tactic(auto)]
 
 mod applied;

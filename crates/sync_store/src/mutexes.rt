@@ -1,4 +1,5 @@
-ghost use Rattle.std.specs.Prelude.{◌≡◌, ◌<◌, if◌then◌else◌, is_none, pos, length, replicate, slice_index_or, slice_set, IfOk};
+ghost use Rattle.std.specs.Prelude.{◌≡◌, ◌<◌, if◌then◌else◌, is_none, pos, length, replicate};
+ghost use Rattle.std.specs.Prelude.{slice_index_or, slice_set, IfOk};
 ghost use Rattle.sync_store.specs.Store.{owner_of, with_owner};
 ghost use Rattle.sync_store.specs.Effect.{is_thread, effect, store_after, applied_of};
 ghost use Rattle.sync_store.specs.Stepped.{applied_by};
@@ -54,7 +55,8 @@ impl Mutexes {
         self.owners[mutex as usize] = Some(thread);
     }
 
-    /// The thread lets a mutex go. The answer is false, and nothing changes, where it isn't the owner.
+    /// The thread lets a mutex go. The answer is false, and nothing changes, where it isn't the
+    /// owner.
     pub(crate) fn unlock(&mut self, mutex: u32, thread: u32) -> bool
         requires { mutex < length self.old }
         ensures owner { result ≡ is_thread thread (slice_index_or self.old mutex None) }
@@ -78,8 +80,11 @@ impl Store {
 
     pub(crate) fn try_lock(&mut self, thread: u32, mutex: u32) -> Stepped
         requires { mutex < length self.old.owners }
-        ensures store { self.new ≡ (if is_none (owner_of self.old mutex) then with_owner self.old mutex (Some thread) else self.old) }
-        ensures applied { result ≡ Stepped.Answer (if is_none (owner_of self.old mutex) then pos 1 else pos 0) }
+        ensures store { self.new
+            ≡ (if is_none (owner_of self.old mutex) then with_owner self.old mutex (Some thread)
+            else self.old) }
+        ensures applied { result
+            ≡ Stepped.Answer (if is_none (owner_of self.old mutex) then pos 1 else pos 0) }
     {
         let free = self.mutexes.is_free(mutex);
         if free {
@@ -90,8 +95,10 @@ impl Store {
 
     pub(crate) fn unlock(&mut self, thread: u32, line: u32, mutex: u32) -> Stepped
         requires { mutex < length self.old.owners }
-        ensures store { self.new ≡ store_after self.old (effect self.old thread line (Ask.Unlock mutex)) }
-        ensures applied { applied_by result ≡ applied_of (effect self.old thread line (Ask.Unlock mutex)) }
+        ensures store { self.new
+            ≡ store_after self.old (effect self.old thread line (Ask.Unlock mutex)) }
+        ensures applied { applied_by result
+            ≡ applied_of (effect self.old thread line (Ask.Unlock mutex)) }
     {
         Stepped::done_or(self.mutexes.unlock(mutex, thread), not_owner(thread, line))
     }

@@ -6,8 +6,8 @@ use crate::thread_list::{MAX_THREADS, ThreadList};
 use std::alloc::{AllocError as NoMemory, Global};
 use std::marker::Model;
 
-/// The threads that a barrier has let through and that haven't left it, in order, each with whether it is the serial
-/// one.
+/// The threads that a barrier has let through and that haven't left it, in order, each with whether
+/// it is the serial one.
 #[derive(Drop)]
 pub(crate) struct ReleaseList {
     threads: ThreadList,

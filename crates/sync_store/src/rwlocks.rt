@@ -1,7 +1,9 @@
-ghost use Rattle.std.specs.Prelude.{◌≡◌, ◌<◌, ◌+◌, ◌-◌, if◌then◌else◌, is_some, is_none, nat_lt, length, replicate, slice_index, IfOk, MatchOption};
+ghost use Rattle.std.specs.Prelude.{◌≡◌, ◌<◌, ◌+◌, ◌-◌, if◌then◌else◌, is_some, is_none, nat_lt};
+ghost use Rattle.std.specs.Prelude.{length, replicate, slice_index, IfOk, MatchOption};
 ghost use Rattle.sync_store.specs.Store.{new_rwlock, rwlock_of, with_rwlock};
 ghost use Rattle.sync_store.specs.Enabled.{is_unread};
-ghost use Rattle.sync_store.specs.Effect.{max_reads, with_writer, with_reads, unlocked, effect, store_after, applied_of};
+ghost use Rattle.sync_store.specs.Effect.{max_reads, with_writer, with_reads, unlocked, effect};
+ghost use Rattle.sync_store.specs.Effect.{store_after, applied_of};
 ghost use Rattle.sync_store.specs.Stepped.{applied_by};
 
 use crate::applied::{Stepped, not_owner};
@@ -66,12 +68,14 @@ impl ReadWriteLock {
         self.reads.iter().all(|holds| *holds == 0)
     }
 
-    /// The thread takes one more read hold. The answer is false, and nothing changes, where it has as many as it may
-    /// have.
+    /// The thread takes one more read hold. The answer is false, and nothing changes, where it has
+    /// as many as it may have.
     pub(crate) fn read(&mut self, thread: u32) -> bool
         requires { thread < length self.old.reads }
         ensures room { result ≡ nat_lt (slice_index self.old.reads thread) max_reads }
-        ensures lock { self.new ≡ (if result then with_reads self.old thread (slice_index self.old.reads thread + 1) else self.old) }
+        ensures lock { self.new
+            ≡ (if result then with_reads self.old thread (slice_index self.old.reads thread + 1)
+            else self.old) }
     {
         let holds = self.reads[thread as usize];
         if holds < MAX_READS {
@@ -88,12 +92,13 @@ impl ReadWriteLock {
         self.writer = Some(thread);
     }
 
-    /// The thread lets go what it holds: as the writer, else a read hold. The answer is false, and nothing changes,
-    /// where it holds nothing.
+    /// The thread lets go what it holds: as the writer, else a read hold. The answer is false, and
+    /// nothing changes, where it holds nothing.
     pub(crate) fn unlock(&mut self, thread: u32) -> bool
         requires { thread < length self.old.reads }
         ensures held { result ≡ is_some (unlocked self.old thread) }
-        ensures lock { MatchOption (unlocked self.old thread) (self.new ≡ self.old) (λ after. self.new ≡ after) }
+        ensures lock { MatchOption (unlocked self.old thread) (self.new ≡ self.old)
+            (λ after. self.new ≡ after) }
     {
         if self.writer == Some(thread) {
             self.writer = None;
@@ -112,8 +117,10 @@ impl Store {
     pub(crate) fn read_lock(&mut self, thread: u32, line: u32, rwlock: u32) -> Stepped
         requires there { thread < self.old.threads }
         requires rwlock { rwlock < length self.old.rwlocks }
-        ensures store { self.new ≡ store_after self.old (effect self.old thread line (Ask.RdLock rwlock)) }
-        ensures applied { applied_by result ≡ applied_of (effect self.old thread line (Ask.RdLock rwlock)) }
+        ensures store { self.new
+            ≡ store_after self.old (effect self.old thread line (Ask.RdLock rwlock)) }
+        ensures applied { applied_by result
+            ≡ applied_of (effect self.old thread line (Ask.RdLock rwlock)) }
     {
         Stepped::done_or(
             self.rwlocks[rwlock as usize].read(thread),
@@ -127,7 +134,8 @@ impl Store {
 
     pub(crate) fn write_lock(&mut self, thread: u32, rwlock: u32)
         requires { rwlock < length self.old.rwlocks }
-        ensures { self.new ≡ with_rwlock self.old rwlock (with_writer (rwlock_of self.old rwlock) (Some thread)) }
+        ensures { self.new
+            ≡ with_rwlock self.old rwlock (with_writer (rwlock_of self.old rwlock) (Some thread)) }
     {
         self.rwlocks[rwlock as usize].write(thread);
     }
@@ -135,8 +143,10 @@ impl Store {
     pub(crate) fn try_read_lock(&mut self, thread: u32, rwlock: u32) -> Stepped
         requires there { thread < self.old.threads }
         requires rwlock { rwlock < length self.old.rwlocks }
-        ensures store { self.new ≡ store_after self.old (effect self.old thread 0 (Ask.TryRdLock rwlock)) }
-        ensures applied { applied_by result ≡ applied_of (effect self.old thread 0 (Ask.TryRdLock rwlock)) }
+        ensures store { self.new
+            ≡ store_after self.old (effect self.old thread 0 (Ask.TryRdLock rwlock)) }
+        ensures applied { applied_by result
+            ≡ applied_of (effect self.old thread 0 (Ask.TryRdLock rwlock)) }
     {
         let lock = &mut self.rwlocks[rwlock as usize];
         let held = lock.has_no_writer() && lock.read(thread);
@@ -145,8 +155,10 @@ impl Store {
 
     pub(crate) fn try_write_lock(&mut self, thread: u32, rwlock: u32) -> Stepped
         requires { rwlock < length self.old.rwlocks }
-        ensures store { self.new ≡ store_after self.old (effect self.old thread 0 (Ask.TryWrLock rwlock)) }
-        ensures applied { applied_by result ≡ applied_of (effect self.old thread 0 (Ask.TryWrLock rwlock)) }
+        ensures store { self.new
+            ≡ store_after self.old (effect self.old thread 0 (Ask.TryWrLock rwlock)) }
+        ensures applied { applied_by result
+            ≡ applied_of (effect self.old thread 0 (Ask.TryWrLock rwlock)) }
     {
         let lock = &mut self.rwlocks[rwlock as usize];
         let free = lock.has_no_writer() && lock.is_unread();
@@ -159,8 +171,10 @@ impl Store {
     pub(crate) fn read_write_unlock(&mut self, thread: u32, line: u32, rwlock: u32) -> Stepped
         requires there { thread < self.old.threads }
         requires rwlock { rwlock < length self.old.rwlocks }
-        ensures store { self.new ≡ store_after self.old (effect self.old thread line (Ask.RwUnlock rwlock)) }
-        ensures applied { applied_by result ≡ applied_of (effect self.old thread line (Ask.RwUnlock rwlock)) }
+        ensures store { self.new
+            ≡ store_after self.old (effect self.old thread line (Ask.RwUnlock rwlock)) }
+        ensures applied { applied_by result
+            ≡ applied_of (effect self.old thread line (Ask.RwUnlock rwlock)) }
     {
         Stepped::done_or(
             self.rwlocks[rwlock as usize].unlock(thread),

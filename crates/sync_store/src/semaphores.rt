@@ -1,4 +1,5 @@
-ghost use Rattle.std.specs.Prelude.{◌≡◌, ◌<◌, ◌+ℤ◌, ◌-ℤ◌, pos, int_lt, IsTrue, if◌then◌else◌, length, slice_index_or, slice_set, IfOk};
+ghost use Rattle.std.specs.Prelude.{◌≡◌, ◌<◌, ◌+ℤ◌, ◌-ℤ◌, pos, int_lt, IsTrue, if◌then◌else◌};
+ghost use Rattle.std.specs.Prelude.{length, slice_index_or, slice_set, IfOk};
 ghost use Rattle.sync_store.specs.Store.{number_of, with_number};
 ghost use Rattle.sync_store.specs.Effect.{sem_max, effect, store_after, applied_of};
 ghost use Rattle.sync_store.specs.Stepped.{applied_by};
@@ -50,11 +51,14 @@ impl Semaphores {
         self.numbers[sem as usize] -= 1;
     }
 
-    /// Raises a semaphore. The answer is false, and nothing changes, where it is at its greatest number.
+    /// Raises a semaphore. The answer is false, and nothing changes, where it is at its greatest
+    /// number.
     pub(crate) fn up(&mut self, sem: u32) -> bool
         requires { sem < length self.old }
         ensures room { result ≡ int_lt (slice_index_or self.old sem (pos 0)) sem_max }
-        ensures numbers { self.new ≡ (if result then slice_set self.old sem (slice_index_or self.old sem (pos 0) +ℤ pos 1) else self.old) }
+        ensures numbers { self.new
+            ≡ (if result then slice_set self.old sem (slice_index_or self.old sem (pos 0) +ℤ pos 1)
+            else self.old) }
     {
         let number = self.numbers[sem as usize];
         if number < SEM_VALUE_MAX {
@@ -77,8 +81,11 @@ impl Store {
 
     pub(crate) fn try_down(&mut self, sem: u32) -> Stepped
         requires { sem < length self.old.numbers }
-        ensures store { self.new ≡ (if int_lt (pos 0) (number_of self.old sem) then with_number self.old sem (number_of self.old sem -ℤ pos 1) else self.old) }
-        ensures applied { result ≡ Stepped.Answer (if int_lt (pos 0) (number_of self.old sem) then pos 1 else pos 0) }
+        ensures store { self.new
+            ≡ (if int_lt (pos 0) (number_of self.old sem)
+            then with_number self.old sem (number_of self.old sem -ℤ pos 1) else self.old) }
+        ensures applied { result
+            ≡ Stepped.Answer (if int_lt (pos 0) (number_of self.old sem) then pos 1 else pos 0) }
     {
         let open = self.semaphores.is_open(sem);
         if open {
@@ -90,7 +97,8 @@ impl Store {
     pub(crate) fn up(&mut self, thread: u32, line: u32, sem: u32) -> Stepped
         requires { sem < length self.old.numbers }
         ensures store { self.new ≡ store_after self.old (effect self.old thread line (Ask.Up sem)) }
-        ensures applied { applied_by result ≡ applied_of (effect self.old thread line (Ask.Up sem)) }
+        ensures applied { applied_by result
+            ≡ applied_of (effect self.old thread line (Ask.Up sem)) }
     {
         Stepped::done_or(
             self.semaphores.up(sem),

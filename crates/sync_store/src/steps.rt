@@ -18,15 +18,16 @@ fn check(thread: u32, line: u32, holds: bool) -> Stepped
 }
 
 impl Store {
-    /// Takes the step of a thread's ask, which stands on a line of the test. It takes no memory, and its time grows with
-    /// the number of threads at most.
+    /// Takes the step of a thread's ask, which stands on a line of the test. It takes no memory,
+    /// and its time grows with the number of threads at most.
     pub fn apply(&mut self, thread: u32, line: u32, ask: &Ask) -> Applied
         requires thread { thread < self.old.threads }
         requires ask { IsInRange (sizes_of self.old) ask.now }
         requires enabled { IsTrue (enabled self.old (others_ended thread) thread ask.now) }
         ensures store { self.new ≡ store_after self.old (effect self.old thread line ask.now) }
         ensures applied { result ≡ applied_of (effect self.old thread line ask.now) }
-        ensures unchanged { (verdict : Verdict) → result ≡ Applied.Ends verdict → self.new ≡ self.old }
+        ensures unchanged { (verdict : Verdict) → result ≡ Applied.Ends verdict
+            → self.new ≡ self.old }
         ensures sizes { sizes_of self.new ≡ sizes_of self.old }
         ensures others { KeepsOthers thread (touched_of ask.now) self.old self.new }
     {

@@ -15,7 +15,8 @@ use pct_ask::{Ask, Deal, MisuseKind};
 use std::alloc::{AllocError as NoMemory, Global};
 use std::marker::Model;
 
-/// What the threads of a test share. All its lists have room for all threads, so only `new` takes memory.
+/// What the threads of a test share. All its lists have room for all threads, so only `new` takes
+/// memory.
 #[derive(Drop)]
 pub struct Store {
     pub(crate) threads: u32,
@@ -34,7 +35,16 @@ impl Model for Store {
 
     ghost Value = { StoreState };
 
-    ghost view = { λ s. record { threads = s.threads; values = s.variables; owners = s.mutexes; conditions = s.conditions.items; numbers = s.semaphores; barriers = s.barriers.items; started = s.started; rwlocks = s.rwlocks.items } };
+    ghost view = { λ s. record {
+      threads = s.threads;
+      values = s.variables;
+      owners = s.mutexes;
+      conditions = s.conditions.items;
+      numbers = s.semaphores;
+      barriers = s.barriers.items;
+      started = s.started;
+      rwlocks = s.rwlocks.items;
+    } };
 
     ghost invariant = { λ s. IsKept s.threads s.rwlocks.items };
 }
@@ -67,8 +77,10 @@ impl Store {
 
     pub(crate) fn start(&mut self, thread: u32, line: u32, target: u32) -> Stepped
         requires { target < self.old.threads }
-        ensures store { self.new ≡ store_after self.old (effect self.old thread line (Ask.Start target)) }
-        ensures applied { applied_by result ≡ applied_of (effect self.old thread line (Ask.Start target)) }
+        ensures store { self.new
+            ≡ store_after self.old (effect self.old thread line (Ask.Start target)) }
+        ensures applied { applied_by result
+            ≡ applied_of (effect self.old thread line (Ask.Start target)) }
     {
         let fresh = !self.started.has(target);
         if fresh {

@@ -247,8 +247,8 @@ fn semaphores(rt: HostRuntime) -> Result<(), Fail> {
     Ok(())
 }
 
-// A barrier of one, and one of three at which the threads meet twice. A thread that arrives again before it has left
-// keeps its old entry.
+// A barrier of one, and one of three at which the threads meet twice. A thread that arrives again
+// before it has left keeps its old entry.
 #[test]
 fn barriers(rt: HostRuntime) -> Result<(), Fail> {
     let deal = small_deal(rt.alloc())?;

@@ -70,7 +70,8 @@ impl ThreadList {
     }
 
     pub(crate) fn take_first(&mut self) -> Option<u32>
-        ensures { MatchOption result ((self.old ≡ []) × (self.new ≡ [])) (λ first. (self.old ≡ first ∷ self.new) × (first < 64)) }
+        ensures { MatchOption result ((self.old ≡ []) × (self.new ≡ []))
+            (λ first. (self.old ≡ first ∷ self.new) × (first < 64)) }
     {
         if self.threads.is_empty() {
             return None;

@@ -17,7 +17,8 @@ pub enum Touched {
 }
 
 impl Store {
-    /// The object that the step of an ask touches. Only asks that name it may be more or less enabled afterwards.
+    /// The object that the step of an ask touches. Only asks that name it may be more or less
+    /// enabled afterwards.
     pub fn touched(ask: &Ask) -> Touched
         ensures { result ≡ touched_of ask.now }
     {

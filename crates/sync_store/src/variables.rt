@@ -1,4 +1,5 @@
-ghost use Rattle.std.specs.Prelude.{◌≡◌, ◌<◌, ◌+ℤ◌, pos, if◌then◌else◌, Some, None, length, slice_index_or, slice_set, IfOk};
+ghost use Rattle.std.specs.Prelude.{◌≡◌, ◌<◌, ◌+ℤ◌, pos, if◌then◌else◌, Some, None, length};
+ghost use Rattle.std.specs.Prelude.{slice_index_or, slice_set, IfOk};
 ghost use Rattle.std.specs.Ordering.{int_eq};
 ghost use Rattle.sync_store.specs.Store.{value_of, with_value};
 ghost use Rattle.sync_store.specs.Effect.{is_i64, effect, store_after, applied_of};
@@ -47,11 +48,15 @@ impl Variables {
         self.values[var as usize] = value;
     }
 
-    /// Adds to a variable. The answer is the old value, or None where the sum is outside i64, and then nothing changes.
+    /// Adds to a variable. The answer is the old value, or None where the sum is outside i64, and
+    /// then nothing changes.
     pub(crate) fn add(&mut self, var: u32, value: i64) -> Option<i64>
         requires { var < length self.old }
-        ensures old { let old = slice_index_or self.old var (pos 0) in result ≡ (if is_i64 (old +ℤ value) then Some old else None) }
-        ensures new { let old = slice_index_or self.old var (pos 0) in self.new ≡ (if is_i64 (old +ℤ value) then slice_set self.old var (old +ℤ value) else self.old) }
+        ensures old { let old = slice_index_or self.old var (pos 0) in
+            result ≡ (if is_i64 (old +ℤ value) then Some old else None) }
+        ensures new { let old = slice_index_or self.old var (pos 0) in
+            self.new
+            ≡ (if is_i64 (old +ℤ value) then slice_set self.old var (old +ℤ value) else self.old) }
     {
         let old = self.values[var as usize];
         let sum = old.checked_add(value)?;
@@ -84,8 +89,10 @@ impl Store {
 
     pub(crate) fn add(&mut self, thread: u32, line: u32, var: u32, value: i64) -> Stepped
         requires { var < length self.old.values }
-        ensures store { self.new ≡ store_after self.old (effect self.old thread line (Ask.Add var value)) }
-        ensures applied { applied_by result ≡ applied_of (effect self.old thread line (Ask.Add var value)) }
+        ensures store { self.new
+            ≡ store_after self.old (effect self.old thread line (Ask.Add var value)) }
+        ensures applied { applied_by result
+            ≡ applied_of (effect self.old thread line (Ask.Add var value)) }
     {
         match self.variables.add(var, value) {
             Some(old) => Stepped::Answer(old),
@@ -99,8 +106,11 @@ impl Store {
 
     pub(crate) fn compare_exchange(&mut self, var: u32, old: i64, new: i64) -> Stepped
         requires { var < length self.old.values }
-        ensures store { self.new ≡ (if int_eq (value_of self.old var) old then with_value self.old var new else self.old) }
-        ensures applied { result ≡ Stepped.Answer (if int_eq (value_of self.old var) old then pos 1 else pos 0) }
+        ensures store { self.new
+            ≡ (if int_eq (value_of self.old var) old then with_value self.old var new
+            else self.old) }
+        ensures applied { result
+            ≡ Stepped.Answer (if int_eq (value_of self.old var) old then pos 1 else pos 0) }
     {
         Stepped::truth(self.variables.compare_exchange(var, old, new))
     }

@@ -18,8 +18,8 @@ use Rattle.pct_ask.specs.declared.ask.FaultKind.TheVariants.{Overflow, ZeroDivis
 use Rattle.pct_ask.specs.declared.ask.Ask.{Ask}
 use Rattle.pct_ask.specs.declared.ask.Ask.TheVariants.{Read, Write, Add, Cas, Lock, TryLock, Unlock, Release, Regain, Signal, Broadcast, Down, TryDown, Up, Arrive, Leave, Join, Yield, Check, Fault, Start, Begin, RdLock, WrLock, TryRdLock, TryWrLock, RwUnlock}
 use Rattle.trace_text.specs.Lawful.{IsAsk, IsValue}
-use Rattle.trace_text.specs.Numbers.{value_of}
-use Rattle.trace_text.specs.Asks.{object, object_words, kind_of, ask_of, bare_ask, holds_of, plain_ask, ask_by, ask_on_one, with_value, waiting, ask_on_two, exchange, ask_on_three}
+use Rattle.trace_text.specs.reader.Numbers.{value_of}
+use Rattle.trace_text.specs.reader.Asks.{object, object_words, kind_of, ask_of, bare_ask, holds_of, plain_ask, ask_by, ask_on_one, with_value, waiting, ask_on_two, exchange, ask_on_three}
 use Rattle.trace_text.proofs.Names.{object-known, known-object}
 use Rattle.trace_text.proofs.Values.{value_of-Some, Some-value_of}
 
@@ -33,7 +33,7 @@ pub record IsTold (names : NameLists) (version : ℕ) (words : List (List ℕ)) 
 
 -- ---- the kind of object
 
-abbrev Knows : ℕ → NameKind → Type 0
+abbrev pub Knows : ℕ → NameKind → Type 0
 Knows version Thread = Unit {0}
 Knows version Var = Unit {0}
 Knows version Mutex = Unit {0}
@@ -42,7 +42,7 @@ Knows version Sem = Unit {0}
 Knows version Barrier = Unit {0}
 Knows version RwLock = version ≡ 2
 
-abbrev Among : ℕ → List ℕ → NameKind → Type 0
+abbrev pub Among : ℕ → List ℕ → NameKind → Type 0
 Among version word kind = (is_among word (object_words kind) ≡ true) × Knows version kind
 
 some_is : {A : Type 0} (x y : A) → Some x ≡ Some y → x ≡ y
@@ -61,7 +61,7 @@ kind-by version word kind false false false false false false true true et ev em
 kind-by version word kind false false false false false false true false et ev em ec es eb e2 el h = absurd cc
 kind-by version word kind false false false false false false false l et ev em ec es eb e2 el h = absurd cc
 
-kind-among : (version : ℕ) (word : List ℕ) (kind : NameKind) → kind_of version word ≡ Some kind → Among version word kind
+pub kind-among : (version : ℕ) (word : List ℕ) (kind : NameKind) → kind_of version word ≡ Some kind → Among version word kind
 kind-among version word kind h =
     kind-by version word kind (is_among word (object_words Thread)) (is_among word (object_words Var)) (is_among word (object_words Mutex)) (is_among word (object_words Cond)) (is_among word (object_words Sem)) (is_among word (object_words Barrier)) (version == 2) (is_among word (object_words RwLock)) refl refl refl refl refl refl refl refl h
 
@@ -102,7 +102,7 @@ told-on names version RwLock word id k h =
 
 -- ---- asks that are read
 
-map-some : {A B : Type 0} (f : A → B) (o : Option A) (y : B) → option_map f o ≡ Some y → (x : A) × (o ≡ Some x) × (f x ≡ y)
+pub map-some : {A B : Type 0} (f : A → B) (o : Option A) (y : B) → option_map f o ≡ Some y → (x : A) × (o ≡ Some x) × (f x ≡ y)
 map-some f None y e = absurd cc
 map-some f (Some x) y e = (x, refl, some_is (f x) y e)
 
@@ -131,12 +131,12 @@ bare-by names version word ask false false ea eb h = absurd cc
 pub bare-told : (names : NameLists) (version : ℕ) (word : List ℕ) (ask : Ask) → bare_ask word ≡ Some (Some ask) → IsTold names version (word ∷ []) ask
 bare-told names version word ask h = bare-by names version word ask (bytes_eq word (codes "yield")) (bytes_eq word (codes "begin")) refl refl h
 
-holds-by : (word : List ℕ) (holds : Bool) (a b : Bool) → bytes_eq word (codes "1") ≡ a → bytes_eq word (codes "0") ≡ b → (if a then Some true else (if b then Some false else None)) ≡ Some holds → word ≡ check_word holds
+pub holds-by : (word : List ℕ) (holds : Bool) (a b : Bool) → bytes_eq word (codes "1") ≡ a → bytes_eq word (codes "0") ≡ b → (if a then Some true else (if b then Some false else None)) ≡ Some holds → word ≡ check_word holds
 holds-by word holds true b ea eb h = let is : true ≡ holds = cc in same-word word (codes "1") ea ∙ ap check_word is
 holds-by word holds false true ea eb h = let is : false ≡ holds = cc in same-word word (codes "0") eb ∙ ap check_word is
 holds-by word holds false false ea eb h = absurd cc
 
-fault-by : (word : List ℕ) (kind : FaultKind) (a b c : Bool) → bytes_eq word (codes "overflow") ≡ a → bytes_eq word (codes "zerodivisor") ≡ b → bytes_eq word (codes "spin") ≡ c → (if a then Some Overflow else (if b then Some ZeroDivisor else (if c then Some Spin else None))) ≡ Some kind → word ≡ fault_word kind
+pub fault-by : (word : List ℕ) (kind : FaultKind) (a b c : Bool) → bytes_eq word (codes "overflow") ≡ a → bytes_eq word (codes "zerodivisor") ≡ b → bytes_eq word (codes "spin") ≡ c → (if a then Some Overflow else (if b then Some ZeroDivisor else (if c then Some Spin else None))) ≡ Some kind → word ≡ fault_word kind
 fault-by word kind true b c p q r h = let same : Overflow ≡ kind = cc in same-word word (codes "overflow") p ∙ ap fault_word same
 fault-by word kind false true c p q r h = let same : ZeroDivisor ≡ kind = cc in same-word word (codes "zerodivisor") q ∙ ap fault_word same
 fault-by word kind false false true p q r h = let same : Spin ≡ kind = cc in same-word word (codes "spin") r ∙ ap fault_word same
@@ -245,7 +245,7 @@ one-known names version kind word id sound k h =
     let at = object-known names kind id sound h in
     ap (λ kd. ask_by names kd word (get_or (list_of kind names) id [])) k ∙ rw at
 
-second : (version : ℕ) (word : List ℕ) (kind : Option NameKind) → version ≡ 2 → kind_of 2 word ≡ kind → kind_of version word ≡ kind
+pub second : (version : ℕ) (word : List ℕ) (kind : Option NameKind) → version ≡ 2 → kind_of 2 word ≡ kind → kind_of version word ≡ kind
 second version word kind two k = ap (λ v. kind_of v word) two ∙ k
 
 -- what is read of an ask's words, by how many there are
@@ -283,15 +283,15 @@ plain-known : (names : NameLists) (version : ℕ) (word operand : List ℕ) (ask
 unfolding ask_on_one
 plain-known names version word operand ask k h = ap (λ kd. ask_by names kd word operand) k ∙ h
 
-no-kind : (b : Bool) → (if◌then◌else◌ {A = Option NameKind} (b && false) (Some RwLock) None) ≡ None
+pub no-kind : (b : Bool) → (if◌then◌else◌ {A = Option NameKind} (b && false) (Some RwLock) None) ≡ None
 no-kind true = refl
 no-kind false = refl
 
-check-known : (names : NameLists) (version : ℕ) (holds : Bool) → ask_on_one names version (codes "check") (check_word holds) ≡ Some (Some (Check holds))
+pub check-known : (names : NameLists) (version : ℕ) (holds : Bool) → ask_on_one names version (codes "check") (check_word holds) ≡ Some (Some (Check holds))
 check-known names version true = plain-known names version (codes "check") (codes "1") (Check true) (no-kind (version == 2)) refl
 check-known names version false = plain-known names version (codes "check") (codes "0") (Check false) (no-kind (version == 2)) refl
 
-fault-known : (names : NameLists) (version : ℕ) (kind : FaultKind) → ask_on_one names version (codes "fault") (fault_word kind) ≡ Some (Some (Fault kind))
+pub fault-known : (names : NameLists) (version : ℕ) (kind : FaultKind) → ask_on_one names version (codes "fault") (fault_word kind) ≡ Some (Some (Fault kind))
 fault-known names version Overflow = plain-known names version (codes "fault") (codes "overflow") (Fault Overflow) (no-kind (version == 2)) refl
 fault-known names version ZeroDivisor = plain-known names version (codes "fault") (codes "zerodivisor") (Fault ZeroDivisor) (no-kind (version == 2)) refl
 fault-known names version Spin = plain-known names version (codes "fault") (codes "spin") (Fault Spin) (no-kind (version == 2)) refl

@@ -7,9 +7,9 @@ use Rattle.pct_ask.specs.NameLists.{NameLists}
 use Rattle.pct_ask.specs.declared.event.Event.{Event}
 use Rattle.pct_ask.specs.declared.verdict.Verdict.{Verdict}
 use Rattle.trace_text.specs.Lines.{pieces_of, is_empty}
-use Rattle.trace_text.specs.StepLines.{row_of}
-use Rattle.trace_text.specs.Reading.{Fault, Body, unended_fault, judged, with_event, closed, after_line, body_of}
-use Rattle.trace_text.specs.Seen.{pieces_after}
+use Rattle.trace_text.specs.reader.StepLines.{row_of}
+use Rattle.trace_text.specs.reader.Reading.{Fault, Body, unended_fault, judged, with_event, closed, after_line, body_of}
+use Rattle.trace_text.specs.reader.Seen.{pieces_after}
 use Rattle.trace_text.specs.declared.row.Row.{Row}
 use Rattle.trace_text.specs.declared.row.Row.TheVariants.{Step, End}
 use Rattle.trace_text.specs.declared.row.Sound.{Sound}

@@ -1,6 +1,6 @@
 -- The bytes of a trace's words are neither spaces nor LFs.
 use Rattle.std.specs.Prelude.{codes, decimal, ◌==◌, ◌&&◌, ◌||◌, not, nat_le}
-use Rattle.std.specs.List.{All, list_all, join_with_byte}
+use Rattle.std.specs.List.{All, list_all, flat_map, join_with_byte}
 use Rattle.std.specs.Str.Parse.{AllDigits}
 use Rattle.std.proofs.Common.{◌≡◌, ◌⊎◌, ℕ, ◌<◌, ◌≤◌, ◌^◌, Bool, true, false, List, [], ◌∷◌, ◌++◌, length, get_or, ℤ, pos, negsuc, suc, refl, inl, inr, arith}
 use Rattle.std.proofs.lemmas.Bool.Decides.{nat_tests}
@@ -11,7 +11,7 @@ use Rattle.pct_ask.specs.Characters.{is_letter, is_digit, is_word_byte}
 use Rattle.pct_ask.specs.Words.{is_name, is_among, keywords, registers}
 use Rattle.pct_ask.specs.Numbers.{number_text}
 use Rattle.pct_ask.specs.NameLists.{NameLists, list_of, AreNames}
-use Rattle.pct_ask.specs.VerdictText.{fault_word}
+use Rattle.pct_ask.specs.VerdictText.{NamedVerdict, NamedPassed, NamedFailed, NamedStuck, NamedMisuse, NamedFault, NamedCut, misuse_word, fault_word, place_words, verdict_words, IsPlace, IsForm}
 use Rattle.pct_ask.specs.TraceText.{ask_words, check_word, event_words}
 use Rattle.pct_ask.specs.declared.names.NameKind.{NameKind}
 use Rattle.pct_ask.specs.declared.names.NameKind.TheVariants.{Thread, Var, Mutex, Cond, Sem, Barrier, RwLock}
@@ -20,6 +20,8 @@ use Rattle.pct_ask.specs.declared.ask.FaultKind.TheVariants.{Overflow, ZeroDivis
 use Rattle.pct_ask.specs.declared.ask.Ask.{Ask}
 use Rattle.pct_ask.specs.declared.ask.Ask.TheVariants.{Read, Write, Add, Cas, Lock, TryLock, Unlock, Release, Regain, Signal, Broadcast, Down, TryDown, Up, Arrive, Leave, Join, Yield, Check, Fault, Start, Begin, RdLock, WrLock, TryRdLock, TryWrLock, RwUnlock}
 use Rattle.pct_ask.specs.declared.event.Event.{Event}
+use Rattle.pct_ask.specs.declared.verdict.MisuseKind.{MisuseKind}
+use Rattle.pct_ask.specs.declared.verdict.MisuseKind.TheVariants.{NotOwner, SemFull, AlreadyStarted, TooManyReads}
 use Rattle.pct_ask.proofs.laws.SplitWords.{IsSolid, AreSolid}
 use Rattle.trace_text.specs.Lawful.{IsAsk, IsStep, IsValue}
 use Rattle.trace_text.proofs.Names.{name-lawful}
@@ -177,3 +179,28 @@ pub no-end : (words : List (List ℕ)) → AreHigh words → HasNoEnd (join_with
 no-end [] h = All-nil (λ (b : ℕ). (b == 10) ≡ false)
 no-end (w ∷ []) h = no-end-word w h.0
 no-end (w ∷ v ∷ ws) h = no-end-append w (32 ∷ join_with_byte 32 (v ∷ ws)) (no-end-word w h.0) (no-end-cons 32 (join_with_byte 32 (v ∷ ws)) refl (no-end (v ∷ ws) h.1))
+
+-- ---- the words of a verdict
+
+misuse-high : (kind : MisuseKind) → AreHigh (misuse_word kind ∷ [])
+misuse-high NotOwner = (high-by (codes "notowner") refl, tt)
+misuse-high SemFull = (high-by (codes "semfull") refl, tt)
+misuse-high AlreadyStarted = (high-by (codes "alreadystarted") refl, tt)
+misuse-high TooManyReads = (high-by (codes "toomanyreads") refl, tt)
+
+place-high : (name : List ℕ) (line : ℕ) → IsPlace (name, line) → AreHigh (name ∷ decimal line ∷ [])
+place-high name line place = (name-high name place.0, (decimal-high line (omega (arith, place.1.0, place.1.1)), tt))
+
+places-high : (places : List (List ℕ × ℕ)) → All IsPlace places → AreHigh (flat_map place_words places)
+places-high [] all = tt
+places-high (p ∷ ps) all =
+    let here = place-high p.0 p.1 (All-head IsPlace p ps all) in
+    (here.0, (here.1.0, places-high ps (All-tail IsPlace p ps all)))
+
+pub form-high : (names : NameLists) (verdict : NamedVerdict) → IsForm names verdict → AreHigh (verdict_words verdict)
+form-high names NamedPassed form = (high-by (codes "passed") refl, tt)
+form-high names (NamedFailed name line) form = (high-by (codes "failed") refl, place-high name line form)
+form-high names (NamedStuck places) form = (high-by (codes "stuck") refl, places-high places form.1)
+form-high names (NamedMisuse name line kind) form = let p = place-high name line form in (high-by (codes "misuse") refl, (p.0, (p.1.0, misuse-high kind)))
+form-high names (NamedFault name line kind) form = let p = place-high name line form in (high-by (codes "fault") refl, (p.0, (p.1.0, (fault-high kind, tt))))
+form-high names NamedCut form = (high-by (codes "cut") refl, tt)

@@ -11,10 +11,10 @@ use Rattle.pct_ask.specs.declared.verdict_text.VerdictRead.{VerdictRead}
 use Rattle.pct_ask.specs.declared.verdict_text.VerdictRead.TheVariants.{Is, NoForm, UnknownName}
 use Rattle.pct_ask.specs.VerdictWords.{words_of}
 use Rattle.trace_text.specs.Lawful.{is_of_second}
-use Rattle.trace_text.specs.Numbers.{value_of, natural_of, count_of}
-use Rattle.trace_text.specs.Asks.{object, ask_on_three}
-use Rattle.trace_text.specs.StepLines.{tells_reads, end_of, event_of, step_of, step_of_words, row_of}
-use Rattle.trace_text.specs.Seen.{seen}
+use Rattle.trace_text.specs.reader.Numbers.{value_of, natural_of, count_of}
+use Rattle.trace_text.specs.reader.Asks.{object, ask_on_three}
+use Rattle.trace_text.specs.reader.StepLines.{tells_reads, end_of, event_of, step_of, step_of_words, row_of}
+use Rattle.trace_text.specs.reader.Seen.{seen}
 use Rattle.trace_text.specs.declared.row.Row.{Row}
 use Rattle.trace_text.specs.declared.row.Row.TheVariants.{Step, End}
 

@@ -6,10 +6,11 @@ use Rattle.pct_ask.specs.NameLists.{NameLists}
 use Rattle.pct_ask.specs.declared.event.Event.{Event}
 use Rattle.pct_ask.specs.declared.verdict.Verdict.{Verdict}
 use Rattle.trace_text.specs.Lines.{is_empty, piece_at, line_at, text_in, is_whole}
-use Rattle.trace_text.specs.StepLines.{row_of}
-use Rattle.trace_text.specs.Faults.{version_of, limit_of, row_at, is_there, is_verdict, has_verdict, is_in_body, number_in, number_before, is_past, has_unknown, is_other_number, is_head_line, has_unknown_thread, is_faulty, rank, IsFirstFault}
-use Rattle.trace_text.specs.Heads.{order_in}
-use Rattle.trace_text.specs.Reading.{Fault, Body, unended_fault, judged, with_event, closed, after_line, body_of}
+use Rattle.trace_text.specs.reader.StepLines.{row_of}
+use Rattle.trace_text.specs.Faults.{rank}
+use Rattle.trace_text.proofs.FaultTests.{version_of, limit_of, row_at, is_there, is_verdict, has_verdict, is_in_body, number_in, number_before, is_past, has_unknown, is_other_number, is_head_line, has_unknown_thread, is_faulty, IsFirstFound}
+use Rattle.trace_text.specs.reader.Heads.{order_in}
+use Rattle.trace_text.specs.reader.Reading.{Fault, Body, unended_fault, judged, with_event, closed, after_line, body_of}
 use Rattle.trace_text.specs.declared.row.Row.TheVariants.{Step, End}
 use Rattle.trace_text.specs.declared.row.Sound.{Sound}
 use Rattle.trace_text.specs.declared.row.Sound.TheVariants as sound
@@ -47,11 +48,11 @@ row-here size names all version limit m next piece pieces r =
     ap (λ v. row_of names v (text_in (line_at all (m + 5)))) r.version_is ∙ ap (λ l. row_of names version (text_in l)) (r.at 0 (m + 5) (omega arith))
 
 -- the fault of the line that is reached
-fault-here : (size : ℕ) (names : NameLists) (all : List (List ℕ)) (version limit m next : ℕ) (piece : List ℕ) (pieces : List (List ℕ)) (kind : TraceFault) → IsReached size names all version limit m next (piece ∷ pieces) → IsFirstKind (line_fault limit next piece (not (is_empty pieces)) (row_of names version piece)) kind → IsFirstFault size names all (next + 4) kind
+fault-here : (size : ℕ) (names : NameLists) (all : List (List ℕ)) (version limit m next : ℕ) (piece : List ℕ) (pieces : List (List ℕ)) (kind : TraceFault) → IsReached size names all version limit m next (piece ∷ pieces) → IsFirstKind (line_fault limit next piece (not (is_empty pieces)) (row_of names version piece)) kind → IsFirstFound size names all (next + 4) kind
 fault-here size names all version limit m next piece pieces kind r first =
     let at = at-line size names all version limit m next piece pieces r in
     let place : m + 5 ≡ next + 4 = let n = r.next_is in omega arith in
-    let here : IsFirstFault size names all (m + 5) kind = record {
+    let here : IsFirstFound size names all (m + 5) kind = record {
       faulty = faulty-at size names all version limit m next (m + 5) piece (not (is_empty pieces)) at kind ∙ first.here;
       first_kind = λ other low. faulty-at size names all version limit m next (m + 5) piece (not (is_empty pieces)) at other ∙ first.lower other low;
       first_line = λ k other low. r.sound k other low;
@@ -200,7 +201,7 @@ last-none size names all m l k kind = by (nat_lt k (m + 6)) refl kind
         no-third false b c p = refl
 
 -- something stands after it
-last-more : (size : ℕ) (names : NameLists) (all : List (List ℕ)) (m : ℕ) (pieces : List (List ℕ)) → IsLast size names all m pieces → (is_whole (piece_at pieces 0) || not (is_empty (text_in (piece_at pieces 0)))) ≡ true → IsFirstFault size names all (m + 6) MoreAfterVerdict
+last-more : (size : ℕ) (names : NameLists) (all : List (List ℕ)) (m : ℕ) (pieces : List (List ℕ)) → IsLast size names all m pieces → (is_whole (piece_at pieces 0) || not (is_empty (text_in (piece_at pieces 0)))) ≡ true → IsFirstFound size names all (m + 6) MoreAfterVerdict
 last-more size names all m pieces l some =
     let line = l.at 0 (m + 6) (omega arith) in
     let less : m + 6 - 1 ≡ m + 5 = omega arith in
@@ -218,7 +219,7 @@ last-more size names all m pieces l some =
 
 abbrev pub IsTold : {A : Type 0} → ℕ → NameLists → List (List ℕ) → Result A Fault → Type 0
 IsTold size names all (Ok x) = (k : ℕ) (kind : TraceFault) → is_faulty size names all k kind ≡ false
-IsTold size names all (Err fault) = IsFirstFault size names all fault.0 fault.1
+IsTold size names all (Err fault) = IsFirstFound size names all fault.0 fault.1
 
 told-event : (size : ℕ) (names : NameLists) (all : List (List ℕ)) (event : Event) (others : Result Body Fault) → IsTold size names all others → IsTold size names all (with_event event others)
 told-event size names all event (Ok body) told = told

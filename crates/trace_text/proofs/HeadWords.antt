@@ -11,9 +11,9 @@ use Rattle.trace_text.specs.declared.fault.TraceFault.TheVariants.{BadHeader}
 use Rattle.pct_ask.specs.Words.{is_name, is_among}
 use Rattle.pct_ask.specs.NameLists.{NameLists}
 use Rattle.trace_text.specs.Lines.{pieces_of}
-use Rattle.trace_text.specs.Heads.{are_different, are_order_names, order_words, order_in, threads_of, step_counts, onto, point_words, limit_words}
-use Rattle.trace_text.specs.Reading.{Fault, ◌>>=◌, head_value, head_line, known, order_line}
-use Rattle.trace_text.specs.Seen.{seen, pieces_after, cut_value}
+use Rattle.trace_text.specs.reader.Heads.{are_different, are_order_names, order_words, order_in, threads_of, step_counts, onto, point_words, limit_words}
+use Rattle.trace_text.specs.reader.Reading.{Fault, ◌>>=◌, head_value, head_line, known, order_line}
+use Rattle.trace_text.specs.reader.Seen.{seen, pieces_after, cut_value}
 
 first-of : (x : ℕ) (pieces : List (List ℕ)) → (piece : List ℕ) × (others : List (List ℕ)) × (onto_first x pieces ≡ piece ∷ others)
 first-of x [] = (x ∷ [], [], refl)

@@ -17,8 +17,8 @@ use Rattle.pct_ask.specs.declared.names.NameKind.TheVariants.{Thread}
 use Rattle.pct_ask.proofs.laws.Names.{place_of-Some}
 use Rattle.pct_ask.proofs.laws.SplitWords.{join-words_of, words_of-join}
 use Rattle.trace_text.specs.Lawful.{IsStepCount}
-use Rattle.trace_text.specs.Numbers.{count_of}
-use Rattle.trace_text.specs.Heads.{version_in, are_different, are_order_names, order_words, order_in, onto, all_of, threads_of, step_counts, point_words, points_in, limit_words, limit_in}
+use Rattle.trace_text.specs.reader.Numbers.{count_of}
+use Rattle.trace_text.specs.reader.Heads.{version_in, are_different, are_order_names, order_words, order_in, onto, all_of, threads_of, step_counts, point_words, points_in, limit_words, limit_in}
 use Rattle.trace_text.proofs.Names.{place_of-kind, name-lawful}
 use Rattle.trace_text.proofs.StepWords.{count-decimal, decimal-count}
 use Rattle.trace_text.proofs.Bytes.{AreHigh, high-by, name-high, decimal-high, are-solid}

@@ -13,7 +13,7 @@ use Rattle.pct_ask.specs.NameLists.{NameLists, list_of, all_names, place_of, Are
 use Rattle.pct_ask.specs.declared.names.NameKind.{NameKind}
 use Rattle.pct_ask.specs.declared.names.NameKind.TheVariants.{Thread, Var, Mutex, Cond, Sem, Barrier, RwLock}
 use Rattle.pct_ask.proofs.laws.Names.{place_of-Some}
-use Rattle.trace_text.specs.Asks.{object}
+use Rattle.trace_text.specs.reader.Asks.{object}
 
 or-left : (a b : Bool) → (a || b) ≡ false → a ≡ false
 or-left true b h = h

@@ -3,27 +3,26 @@ use Rattle.std.proofs.Common.{◌≡◌, ℕ, List, Result, Ok, Err, inl, inr, r
 use Rattle.std.specs.Prelude.{length}
 use Rattle.pct_ask.specs.NameLists.{NameLists, AreNames}
 use Rattle.trace_text.specs.Lines.{pieces_of}
-use Rattle.trace_text.specs.Reading.{Fault, read}
+use Rattle.trace_text.specs.reader.Reading.{Fault, read}
 use Rattle.trace_text.specs.Trace.{IsTrace}
 use Rattle.trace_text.specs.Faults.{IsTraceFault}
 use Rattle.trace_text.specs.Answers.{HasOneAnswer}
 use Rattle.trace_text.specs.declared.file.TraceFile.{TraceFile}
 use Rattle.trace_text.specs.declared.fault.TraceFault.{TraceFault}
 use Rattle.trace_text.specs.declared.fault.TraceError.TheVariants.{Bad}
-use Rattle.trace_text.proofs.Readings.{read-told}
 use Rattle.trace_text.proofs.laws.Faults.{one-fault}
-use Rattle.trace_text.proofs.Traces.{answer-given, trace-read, fault-read, ok_is}
+use Rattle.trace_text.proofs.Traces.{answer-given, read-found, trace-read, fault-read, ok_is}
 
 module _ (names : NameLists) (sound : AreNames names) (bytes : List ℕ) where
   no-both : (file : TraceFile) (line : ℕ) (kind : TraceFault) → IsTrace bytes names file → ¬ IsTraceFault bytes names line kind
   no-both file line kind trace fault =
       let two : ◌≡◌ {A = Result TraceFile Fault} (Ok file) (Err (line, kind)) =
-      sym (trace-read names bytes file sound trace) ∙ fault-read names bytes (read names bytes) line kind (read-told names bytes) fault in
+      sym (trace-read names bytes file sound trace) ∙ fault-read names bytes (read names bytes) line kind (read-found names bytes sound) fault in
       absurd cc
 
   by_reading : (r : Result TraceFile Fault) → read names bytes ≡ r → HasOneAnswer bytes names
   by_reading (Ok file) is =
-      let trace : IsTrace bytes names file = answer-given names bytes (Ok file) is in
+      let trace : IsTrace bytes names file = answer-given names bytes (Ok file) sound is in
       inl (
         file,
         record {
@@ -33,7 +32,7 @@ module _ (names : NameLists) (sound : AreNames names) (bytes : List ℕ) where
         },
       )
   by_reading (Err fault) is =
-      let first : IsTraceFault bytes names fault.0 fault.1 = answer-given names bytes (Err (Bad fault.0 fault.1)) is in
+      let first : IsTraceFault bytes names fault.0 fault.1 = answer-given names bytes (Err (Bad fault.0 fault.1)) sound is in
       inr (
         fault.0,
         fault.1,

@@ -4,9 +4,9 @@ use Rattle.std.proofs.Common.{◌≡◌, ℕ, ◌+◌, ◌-◌, ◌<◌, Bool, t
 use Rattle.std.proofs.lemmas.Bool.Decides.{nat_tests}
 use Rattle.pct_ask.specs.NameLists.{NameLists}
 use Rattle.trace_text.specs.Lines.{pieces_of, is_empty, piece_at, line_at, text_in, is_whole}
-use Rattle.trace_text.specs.Heads.{version_in, order_in, threads_of, points_in, limit_in}
-use Rattle.trace_text.specs.Faults.{is_head_line, has_unknown_thread, is_faulty, rank, IsFirstFault, IsTraceFault}
-use Rattle.trace_text.specs.Reading.{Fault, Body, ◌>>=◌, head_value, head_line, known, order_line, body_of, file_of, file_in, read}
+use Rattle.trace_text.specs.reader.Heads.{version_in, order_in, threads_of, points_in, limit_in}
+use Rattle.trace_text.proofs.FaultTests.{is_head_line, has_unknown_thread, is_faulty, IsFirstFound}
+use Rattle.trace_text.specs.reader.Reading.{Fault, Body, ◌>>=◌, head_value, head_line, known, order_line, body_of, file_of, file_in, read}
 use Rattle.trace_text.specs.declared.file.TraceFile.{TraceFile}
 use Rattle.trace_text.specs.declared.fault.TraceFault.{TraceFault}
 use Rattle.trace_text.specs.declared.fault.TraceFault.TheVariants.{TooLong, BadHeader, BadLine, UnknownName, OutOfOrder, NoVerdict, MoreAfterVerdict}
@@ -145,7 +145,7 @@ sound-five size names all four here k kind low = by (nat_lt k 4) refl
     by false e = let same : 4 ≡ k = grind (arith, nat_tests) in rw (← same) (here kind)
 
 -- a fault of a line of the head
-head-fault : (size : ℕ) (names : NameLists) (all : List (List ℕ)) (k : ℕ) (kind : TraceFault) → IsFirstKind (is_faulty size names all k) kind → SoundTo k size names all → IsFirstFault size names all k kind
+head-fault : (size : ℕ) (names : NameLists) (all : List (List ℕ)) (k : ℕ) (kind : TraceFault) → IsFirstKind (is_faulty size names all k) kind → SoundTo k size names all → IsFirstFound size names all k kind
 head-fault size names all k kind first sound = record { faulty = first.here; first_kind = first.lower; first_line = λ before other low. sound before other low }
 
 -- ---- the whole head, and what is read of it
@@ -183,10 +183,10 @@ stage-five size names p1 p2 p3 p4 p5 rest version words order points limit small
     unknown : has_unknown_thread names (Some words) ≡ false
     unknown = rw t
 
-    versions : (h : version_in p1 ≡ Some version) → Rattle.trace_text.specs.Faults.version_of (p1 ∷ p2 ∷ p3 ∷ p4 ∷ p5 ∷ rest) ≡ version
+    versions : (h : version_in p1 ≡ Some version) → Rattle.trace_text.proofs.FaultTests.version_of (p1 ∷ p2 ∷ p3 ∷ p4 ∷ p5 ∷ rest) ≡ version
     versions h = rw h
 
-    limits : (h : limit_in p4 ≡ Some limit) → Rattle.trace_text.specs.Faults.limit_of (p1 ∷ p2 ∷ p3 ∷ p4 ∷ p5 ∷ rest) ≡ limit
+    limits : (h : limit_in p4 ≡ Some limit) → Rattle.trace_text.proofs.FaultTests.limit_of (p1 ∷ p2 ∷ p3 ∷ p4 ∷ p5 ∷ rest) ≡ limit
     limits h = rw h
 
     places : (i k : ℕ) → k ≡ 5 + i → line_at (p1 ∷ p2 ∷ p3 ∷ p4 ∷ p5 ∷ rest) k ≡ piece_at (p5 ∷ rest) i
@@ -267,7 +267,7 @@ one-by size names (p1 ∷ p2 ∷ rest) (Ok (v, ps)) small h =
 pub file-told : (size : ℕ) (names : NameLists) (pieces : List (List ℕ)) → nat_lt 16777216 size ≡ false → IsTold size names pieces (file_in names pieces)
 file-told size names pieces small = one-by size names pieces (head_line 1 version_in pieces) small refl
 
-too-long : (size : ℕ) (names : NameLists) (pieces : List (List ℕ)) → nat_lt 16777216 size ≡ true → IsFirstFault size names pieces 1 TooLong
+too-long : (size : ℕ) (names : NameLists) (pieces : List (List ℕ)) → nat_lt 16777216 size ≡ true → IsFirstFound size names pieces 1 TooLong
 too-long size names pieces large = record { faulty = or-true (nat_lt 16777216 size) large; first_kind = λ other low. absurd (omega arith); first_line = λ before other low. sound-one size names pieces before other low }
 
 pub read-told : (names : NameLists) (bytes : List ℕ) → IsTold (length bytes) names (pieces_of bytes) (read names bytes)

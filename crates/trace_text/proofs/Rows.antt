@@ -22,7 +22,7 @@ use Rattle.pct_ask.specs.declared.verdict_text.VerdictRead.TheVariants.{Is, NoFo
 use Rattle.pct_ask.proofs.laws.VerdictsRead.{ReadsAs-words, ReadsAs-only}
 use Rattle.pct_ask.proofs.laws.SplitWords.{join-words_of, words_of-join}
 use Rattle.trace_text.specs.Lawful.{IsStep, IsEnd, is_of_second}
-use Rattle.trace_text.specs.StepLines.{step_of_parts, step_of, step_of_words, tells_reads, end_of, row_of}
+use Rattle.trace_text.specs.reader.StepLines.{step_of_parts, step_of, step_of_words, tells_reads, end_of, row_of}
 use Rattle.trace_text.specs.declared.row.Row.TheVariants.{Step, End}
 use Rattle.trace_text.proofs.StepWords.{IsStepLine, words-told, words-known}
 use Rattle.trace_text.proofs.Bytes.{are-solid, step-high}
@@ -32,7 +32,7 @@ some_is x y e = cc
 
 -- ---- a step
 
-end-no-step : (version : ℕ) (text : List ℕ) (read : VerdictRead) (n : ℕ) (event : Option Event) → end_of version text read ≡ Some (Step n event) → ⊥
+pub end-no-step : (version : ℕ) (text : List ℕ) (read : VerdictRead) (n : ℕ) (event : Option Event) → end_of version text read ≡ Some (Step n event) → ⊥
 end-no-step version text NoForm n event h = cc
 end-no-step version text UnknownName n event h = by (version == 1 && tells_reads text) h
   where
@@ -55,7 +55,7 @@ step-told names version text n event h =
     let line = step-by names version text (bytes_eq (take 8 text) (codes "verdict ")) n event h in
     (sym (join-words_of text) ∙ ap (join_with_byte 32) line.words_are, line.lawful)
 
-digit-first : (ds others : List ℕ) → 0 < length ds → AllDigits 10 ds → bytes_eq (take 8 (ds ++ others)) (codes "verdict ") ≡ false
+pub digit-first : (ds others : List ℕ) → 0 < length ds → AllDigits 10 ds → bytes_eq (take 8 (ds ++ others)) (codes "verdict ") ≡ false
 digit-first [] others some digits = absurd (omega arith)
 digit-first (d ∷ ds) others some digits =
     let range = digit_from_value d digits.0 in
@@ -94,7 +94,7 @@ step-no-end names number thread line ask sign answer verdict h = parts-no-end _ 
 none-end : (verdict : Option Verdict) → None ≡ Some (End verdict) → ⊥
 none-end verdict h = cc
 
-words-no-end : (names : NameLists) (version : ℕ) (words : List (List ℕ)) (verdict : Option Verdict) → step_of_words names version words ≡ Some (End verdict) → ⊥
+pub words-no-end : (names : NameLists) (version : ℕ) (words : List (List ℕ)) (verdict : Option Verdict) → step_of_words names version words ≡ Some (End verdict) → ⊥
 words-no-end names version [] v h = none-end v h
 words-no-end names version (a ∷ []) v h = none-end v h
 words-no-end names version (a ∷ b ∷ []) v h = none-end v h
@@ -127,7 +127,7 @@ known-by version true false p h (inl one) = let same : (version == 1) ≡ true =
 known-by version true false p h (inr two) = inr two
 
 -- the text of the verdict's line
-verdict-joined : (verdict : NamedVerdict) → join_with_byte 32 (codes "verdict" ∷ verdict_words verdict) ≡ codes "verdict " ++ named_text verdict
+pub verdict-joined : (verdict : NamedVerdict) → join_with_byte 32 (codes "verdict" ∷ verdict_words verdict) ≡ codes "verdict " ++ named_text verdict
 verdict-joined NamedPassed = refl
 verdict-joined (NamedFailed name line) = refl
 verdict-joined (NamedStuck places) = refl

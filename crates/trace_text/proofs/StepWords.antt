@@ -12,9 +12,9 @@ use Rattle.pct_ask.specs.declared.names.NameKind.TheVariants.{Thread}
 use Rattle.pct_ask.specs.declared.ask.Ask.{Ask}
 use Rattle.pct_ask.specs.declared.event.Event.{Event}
 use Rattle.trace_text.specs.Lawful.{IsStep}
-use Rattle.trace_text.specs.Numbers.{value_of, natural, within, natural_of, count_of}
-use Rattle.trace_text.specs.Asks.{object}
-use Rattle.trace_text.specs.StepLines.{event_of, step_of_parts, step_of, step_of_words}
+use Rattle.trace_text.specs.reader.Numbers.{value_of, natural, within, natural_of, count_of}
+use Rattle.trace_text.specs.reader.Asks.{object}
+use Rattle.trace_text.specs.reader.StepLines.{event_of, step_of_parts, step_of, step_of_words}
 use Rattle.trace_text.specs.declared.row.Row.TheVariants.{Step}
 use Rattle.trace_text.proofs.Names.{object-known, known-object}
 use Rattle.trace_text.proofs.Values.{value_of-Some, Some-value_of, fits-natural}
@@ -96,7 +96,7 @@ abbrev pub step_words : List ℕ → List ℕ → List ℕ → List (List ℕ) �
 step_words number thread line ask sign answer = number ∷ thread ∷ line ∷ (ask ++ sign ∷ answer ∷ [])
 
 -- how the words are read: its ask by itself
-read-words : (names : NameLists) (version : ℕ) (number thread line : List ℕ) (ask : List (List ℕ)) (sign answer : List ℕ) → HasFewWords ask → step_of_words names version (step_words number thread line ask sign answer) ≡ step_of names number thread line (ask_in names version ask) sign answer
+pub read-words : (names : NameLists) (version : ℕ) (number thread line : List ℕ) (ask : List (List ℕ)) (sign answer : List ℕ) → HasFewWords ask → step_of_words names version (step_words number thread line ask sign answer) ≡ step_of names number thread line (ask_in names version ask) sign answer
 read-words names version number thread line [] sign answer few = absurd few
 read-words names version number thread line (a ∷ []) sign answer few = refl
 read-words names version number thread line (a ∷ b ∷ []) sign answer few = refl

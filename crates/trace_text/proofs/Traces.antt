@@ -1,38 +1,34 @@
 -- A text is read as a file exactly where it is the file's trace.
 use Rattle.std.specs.Prelude.{codes, decimal, nat_lt, map, if◌then◌else◌}
-use Rattle.std.specs.List.{All, flat_map, join_with_byte}
+use Rattle.std.specs.List.{All, join_with_byte}
 use Rattle.std.proofs.Common.{◌≡◌, ◌⊎◌, ℕ, ◌+◌, ◌<◌, ◌≤◌, ◌^◌, Bool, true, false, List, [], ◌∷◌, ◌++◌, length, Option, Some, None, Result, Ok, Err, refl, sym, ap, ◌∙◌, inl, inr, arith}
 use Rattle.std.proofs.lemmas.Bool.Decides.{nat_tests}
 use Rattle.std.proofs.lemmas.List.Elements.{All-head, All-tail}
 use Rattle.pct_ask.specs.NameLists.{NameLists, AreNames}
-use Rattle.pct_ask.specs.VerdictText.{NamedVerdict, NamedPassed, NamedFailed, NamedStuck, NamedMisuse, NamedFault, NamedCut, misuse_word, fault_word, place_words, verdict_words, named, thread_name, IsPlace, IsForm}
+use Rattle.pct_ask.specs.VerdictText.{named, thread_name}
 use Rattle.pct_ask.specs.TraceText.{TraceHead, event_words, step_lines, head_lines, verdict_line, trace_text}
-use Rattle.pct_ask.specs.declared.ask.FaultKind.{FaultKind}
-use Rattle.pct_ask.specs.declared.ask.FaultKind.TheVariants.{Overflow, ZeroDivisor, Spin}
-use Rattle.pct_ask.specs.declared.verdict.MisuseKind.{MisuseKind}
-use Rattle.pct_ask.specs.declared.verdict.MisuseKind.TheVariants.{NotOwner, SemFull, AlreadyStarted, TooManyReads}
 use Rattle.pct_ask.specs.declared.event.Event.{Event}
 use Rattle.pct_ask.specs.declared.verdict.Verdict.{Verdict}
 use Rattle.trace_text.specs.Answers.{Answers}
 use Rattle.trace_text.specs.Lawful.{IsStep, IsEnd}
 use Rattle.trace_text.specs.Lines.{pieces_of}
 use Rattle.trace_text.specs.Trace.{head_of, IsRun, IsTrace}
-use Rattle.trace_text.specs.Heads.{version_in, order_in, threads_of, points_in, limit_in}
-use Rattle.trace_text.specs.Faults.{is_faulty, IsTraceFault}
-use Rattle.trace_text.specs.Reading.{Fault, Body, ◌>>=◌, head_line, known, order_line, body_of, file_of, file_in, read}
-use Rattle.trace_text.specs.Seen.{Gives}
+use Rattle.trace_text.specs.reader.Heads.{version_in, order_in, threads_of, points_in, limit_in}
+use Rattle.trace_text.specs.Faults.{IsTraceFault}
+use Rattle.trace_text.specs.reader.Reading.{Fault, Body, ◌>>=◌, head_line, known, order_line, body_of, file_of, file_in, read}
+use Rattle.trace_text.specs.reader.Seen.{Gives}
 use Rattle.trace_text.specs.declared.file.TraceFile.{TraceFile}
 use Rattle.trace_text.specs.declared.fault.TraceFault.{TraceFault}
 use Rattle.trace_text.specs.declared.fault.TraceFault.TheVariants.{TooLong}
 use Rattle.trace_text.specs.declared.fault.TraceError.{TraceError}
 use Rattle.trace_text.specs.declared.fault.TraceError.TheVariants.{Bad, NoMemory}
-use Rattle.trace_text.proofs.Bytes.{AreHigh, no-end, high-by, name-high, decimal-high, step-high}
+use Rattle.trace_text.proofs.Bytes.{AreHigh, no-end, high-by, decimal-high, step-high, form-high}
 use Rattle.trace_text.proofs.Heads.{version-told, version-known, order-told, order-known, order-line-high, points-told, points-known, points-line-high, limit-told, limit-known, limit-line-high}
 use Rattle.trace_text.proofs.Wholes.{line_pieces, HaveNoEnds, pieces-lines, line_pieces-some, text-pieces, body-told, body-known}
-use Rattle.trace_text.proofs.FaultBodies.{IsTold}
+use Rattle.trace_text.proofs.FaultForms.{IsRead, told-read}
 use Rattle.trace_text.proofs.Readings.{HeadLine, head-ok, read-told}
 use Rattle.trace_text.proofs.Sizes.{trace-size}
-use Rattle.trace_text.proofs.laws.Faults.{true-false, one-fault}
+use Rattle.trace_text.proofs.laws.Faults.{one-fault}
 
 -- ---- what is read is spelled so
 
@@ -118,34 +114,6 @@ file-spelled names bytes file small h =
 
 -- ---- what is spelled so is read
 
-misuse-high : (kind : MisuseKind) → AreHigh (misuse_word kind ∷ [])
-misuse-high NotOwner = (high-by (codes "notowner") refl, tt)
-misuse-high SemFull = (high-by (codes "semfull") refl, tt)
-misuse-high AlreadyStarted = (high-by (codes "alreadystarted") refl, tt)
-misuse-high TooManyReads = (high-by (codes "toomanyreads") refl, tt)
-
-fault-high : (kind : FaultKind) → AreHigh (fault_word kind ∷ [])
-fault-high Overflow = (high-by (codes "overflow") refl, tt)
-fault-high ZeroDivisor = (high-by (codes "zerodivisor") refl, tt)
-fault-high Spin = (high-by (codes "spin") refl, tt)
-
-place-high : (name : List ℕ) (line : ℕ) → IsPlace (name, line) → AreHigh (name ∷ decimal line ∷ [])
-place-high name line place = (name-high name place.0, (decimal-high line (omega (arith, place.1.0, place.1.1)), tt))
-
-places-high : (places : List (List ℕ × ℕ)) → All IsPlace places → AreHigh (flat_map place_words places)
-places-high [] all = tt
-places-high (p ∷ ps) all =
-    let here = place-high p.0 p.1 (All-head IsPlace p ps all) in
-    (here.0, (here.1.0, places-high ps (All-tail IsPlace p ps all)))
-
-form-high : (names : NameLists) (verdict : NamedVerdict) → IsForm names verdict → AreHigh (verdict_words verdict)
-form-high names NamedPassed form = (high-by (codes "passed") refl, tt)
-form-high names (NamedFailed name line) form = (high-by (codes "failed") refl, place-high name line form)
-form-high names (NamedStuck places) form = (high-by (codes "stuck") refl, places-high places form.1)
-form-high names (NamedMisuse name line kind) form = let p = place-high name line form in (high-by (codes "misuse") refl, (p.0, (p.1.0, misuse-high kind)))
-form-high names (NamedFault name line kind) form = let p = place-high name line form in (high-by (codes "fault") refl, (p.0, (p.1.0, fault-high kind)))
-form-high names NamedCut form = (high-by (codes "cut") refl, tt)
-
 steps-no-end : (names : NameLists) (version next : ℕ) (events : List Event) (verdict : Verdict) → AreNames names → All (IsStep names version) events → IsEnd names version verdict → next + length events < 2 ^ 63 → HaveNoEnds (step_lines names next events ++ verdict_line names verdict ∷ [])
 steps-no-end names version next [] verdict sound steps end few =
     (no-end (verdict_line names verdict) (high-by (codes "verdict") refl, form-high names (named names verdict) end.form), tt)
@@ -199,16 +167,20 @@ small-read : (names : NameLists) (bytes : List ℕ) (large : Bool) (file : Trace
 small-read names bytes true file e h = absurd cc
 small-read names bytes false file e h = file-spelled names bytes file (grind (arith, nat_tests)) h
 
-read-fault : (names : NameLists) (bytes : List ℕ) (r : Result TraceFile Fault) (line : ℕ) (kind : TraceFault) → IsTold (length bytes) names (pieces_of bytes) r → r ≡ Err (line, kind) → IsTraceFault bytes names line kind
+-- a text is read as its first fault, or as a file where no line is faulty
+pub read-found : (names : NameLists) (bytes : List ℕ) → AreNames names → IsRead (length bytes) names (pieces_of bytes) (read names bytes)
+read-found names bytes sound = told-read names sound (length bytes) (pieces_of bytes) (read names bytes) (read-told names bytes)
+
+read-fault : (names : NameLists) (bytes : List ℕ) (r : Result TraceFile Fault) (line : ℕ) (kind : TraceFault) → IsRead (length bytes) names (pieces_of bytes) r → r ≡ Err (line, kind) → IsTraceFault bytes names line kind
 read-fault names bytes (Ok file) line kind told h = absurd cc
 read-fault names bytes (Err e) line kind told h =
     let same : e ≡ (line, kind) = cc in
     rw same at told
 
-pub answer-given : (names : NameLists) (bytes : List ℕ) (result : Result TraceFile TraceError) → Gives (λ (file : TraceFile). file) result (read names bytes) → Answers bytes names result
-answer-given names bytes (Ok file) given = small-read names bytes (nat_lt 16777216 (length bytes)) file refl given
-answer-given names bytes (Err (Bad line kind)) given = read-fault names bytes (read names bytes) line kind (read-told names bytes) given
-answer-given names bytes (Err NoMemory) given = tt
+pub answer-given : (names : NameLists) (bytes : List ℕ) (result : Result TraceFile TraceError) → AreNames names → Gives (λ (file : TraceFile). file) result (read names bytes) → Answers bytes names result
+answer-given names bytes (Ok file) sound given = small-read names bytes (nat_lt 16777216 (length bytes)) file refl given
+answer-given names bytes (Err (Bad line kind)) sound given = read-fault names bytes (read names bytes) line kind (read-found names bytes sound) given
+answer-given names bytes (Err NoMemory) sound given = tt
 
 given-ok : (result : Result TraceFile TraceError) (r : Result TraceFile Fault) (file : TraceFile) → Gives (λ (f : TraceFile). f) result r → r ≡ Ok file → (result ≡ Ok file) ⊎ (result ≡ Err NoMemory)
 given-ok (Ok f) r file given h = let same = ok_is f file (sym given ∙ h) in inl (ap (λ x. Ok x) same)
@@ -221,8 +193,8 @@ trace-given names bytes result file sound given trace = given-ok result (read na
 same-fault : (a b : ℕ) (j k : TraceFault) → a ≡ b → j ≡ k → ◌≡◌ {A = Fault} (a, j) (b, k)
 same-fault a b j k p q = cc
 
-pub fault-read : (names : NameLists) (bytes : List ℕ) (r : Result TraceFile Fault) (line : ℕ) (kind : TraceFault) → IsTold (length bytes) names (pieces_of bytes) r → IsTraceFault bytes names line kind → r ≡ Err (line, kind)
-fault-read names bytes (Ok file) line kind told fault = absurd (true-false (is_faulty (length bytes) names (pieces_of bytes) line kind) fault.faulty (told line kind))
+pub fault-read : (names : NameLists) (bytes : List ℕ) (r : Result TraceFile Fault) (line : ℕ) (kind : TraceFault) → IsRead (length bytes) names (pieces_of bytes) r → IsTraceFault bytes names line kind → r ≡ Err (line, kind)
+fault-read names bytes (Ok file) line kind told fault = absurd (told line kind fault.faulty)
 fault-read names bytes (Err e) line kind told fault =
     let same = one-fault (length bytes) names (pieces_of bytes) e.0 line e.1 kind told fault in
     ap (λ x. Err x) (same-fault e.0 line e.1 kind same.0 same.1)
@@ -235,8 +207,8 @@ given-err (Err (Bad l k)) r line kind given h =
     inl (ap (λ (e : Fault). Err (Bad e.0 e.1)) same)
 given-err (Err NoMemory) r line kind given h = inr refl
 
-pub fault-given : (names : NameLists) (bytes : List ℕ) (result : Result TraceFile TraceError) (line : ℕ) (kind : TraceFault) → Gives (λ (f : TraceFile). f) result (read names bytes) → IsTraceFault bytes names line kind → (result ≡ Err (Bad line kind)) ⊎ (result ≡ Err NoMemory)
-fault-given names bytes result line kind given fault = given-err result (read names bytes) line kind given (fault-read names bytes (read names bytes) line kind (read-told names bytes) fault)
+pub fault-given : (names : NameLists) (bytes : List ℕ) (result : Result TraceFile TraceError) (line : ℕ) (kind : TraceFault) → AreNames names → Gives (λ (f : TraceFile). f) result (read names bytes) → IsTraceFault bytes names line kind → (result ≡ Err (Bad line kind)) ⊎ (result ≡ Err NoMemory)
+fault-given names bytes result line kind sound given fault = given-err result (read names bytes) line kind given (fault-read names bytes (read names bytes) line kind (read-found names bytes sound) fault)
 
 -- ---- what is written
 

@@ -10,7 +10,7 @@ use Rattle.std.proofs.lemmas.Str.Parse.{digit_from_value}
 use Rattle.std.proofs.lemmas.Bool.Decides.{nat_tests}
 use Rattle.std.proofs.lemmas.Slice.Eq.{bytes_eq-Decides}
 use Rattle.pct_ask.specs.Numbers.{number_text}
-use Rattle.trace_text.specs.Numbers.{minus, guess, is_small, small, value_of}
+use Rattle.trace_text.specs.reader.Numbers.{minus, guess, is_small, small, value_of}
 
 guess-digits : (ds : List ℕ) → 0 < length ds → AllDigits 10 ds → guess ds ≡ pos (digits_value 10 ds)
 guess-digits [] some digits = absurd (omega arith)

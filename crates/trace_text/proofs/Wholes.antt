@@ -11,8 +11,8 @@ use Rattle.pct_ask.specs.declared.event.Event.{Event}
 use Rattle.pct_ask.specs.declared.verdict.Verdict.{Verdict}
 use Rattle.trace_text.specs.Lawful.{IsStep, IsEnd}
 use Rattle.trace_text.specs.Lines.{pieces_of}
-use Rattle.trace_text.specs.StepLines.{row_of}
-use Rattle.trace_text.specs.Reading.{Fault, Body, judged, with_event, closed, after_line, body_of}
+use Rattle.trace_text.specs.reader.StepLines.{row_of}
+use Rattle.trace_text.specs.reader.Reading.{Fault, Body, judged, with_event, closed, after_line, body_of}
 use Rattle.trace_text.specs.declared.row.Row.{Row}
 use Rattle.trace_text.specs.declared.row.Row.TheVariants.{Step, End}
 use Rattle.trace_text.specs.declared.row.Sound.{Sound}

@@ -1,156 +1,152 @@
 -- The fault of a text that is no trace: its first faulty line, and the first kind by which that
--- line is faulty (this project).
-use Rattle.std.specs.Prelude.{◌≡◌, ℕ, ◌+◌, ◌-◌, ◌<◌, zero, suc, ◌==◌, ◌&&◌, ◌||◌, Bool, true, false, not, nat_le, nat_lt, if◌then◌else◌, List, length, Option, Some, None, is_some, is_none}
-use Rattle.std.specs.Option.{unwrap_or}
+-- line is faulty, over the forms of lines (this project).
+use Rattle.std.specs.Prelude.{◌≡◌, ◌≢◌, ℕ, ℤ, ◌+◌, ◌-◌, ◌<◌, ◌≤◌, ◌⊎◌, ◌||◌, Bool, true, false, not}
+use Rattle.std.specs.Prelude.{if◌then◌else◌, List, length, codes}
+use Rattle.std.specs.Str.{bytes_eq}
 use Rattle.pct_ask.specs.NameLists.{NameLists}
+use Rattle.pct_ask.specs.VerdictText.{NamedVerdict}
+use Rattle.pct_ask.specs.VerdictWords.{words_of}
 use Rattle.trace_text.specs.Lines.{pieces_of, is_empty, line_at, text_in, is_whole}
-use Rattle.trace_text.specs.Heads.{version_in, order_in, threads_of, points_in, limit_in}
-use Rattle.trace_text.specs.StepLines.{row_of}
-use Rattle.trace_text.specs.declared.row.Row.{Row}
-use Rattle.trace_text.specs.declared.row.Row.TheVariants.{Step, End}
+use Rattle.trace_text.specs.Forms.{AskForm, Form, Limit, Step, End, words_of_form, StandsAt, IsOf}
+use Rattle.trace_text.specs.Forms.{HasUnknown}
 use Rattle.trace_text.specs.declared.fault.TraceFault.{TraceFault}
-use Rattle.trace_text.specs.declared.fault.TraceFault.TheVariants.{TooLong, BadHeader, BadLine, UnknownName, OutOfOrder, NoVerdict, MoreAfterVerdict}
+use Rattle.trace_text.specs.declared.fault.TraceFault.TheVariants as kinds
 
 -- ---- what the lines say
 
--- the file's version and limit, by its first and its fourth line
-abbrev pub version_of : List (List ℕ) → ℕ
-version_of pieces = unwrap_or (version_in (text_in (line_at pieces 1))) 1
-
-abbrev pub limit_of : List (List ℕ) → ℕ
-limit_of pieces = unwrap_or (limit_in (text_in (line_at pieces 4))) 0
-
-abbrev pub row_at : NameLists → List (List ℕ) → ℕ → Option Row
-row_at names pieces k = row_of names (version_of pieces) (text_in (line_at pieces k))
+-- the bytes of line k, from 1, and none where there is no such line
+abbrev pub text_at : List (List ℕ) → ℕ → List ℕ
+text_at pieces k = text_in (line_at pieces k)
 
 -- there is a byte of line k
 abbrev pub is_there : List (List ℕ) → ℕ → Bool
-is_there pieces k = is_whole (line_at pieces k) || not (is_empty (text_in (line_at pieces k)))
+is_there pieces k = is_whole (line_at pieces k) || not (is_empty (text_at pieces k))
 
-abbrev pub is_verdict : Option Row → Bool
-is_verdict None = false
-is_verdict (Some (Step number event)) = false
-is_verdict (Some (End verdict)) = true
+-- the file's version: the second where its first line is `trace 2`, and otherwise the first
+abbrev pub version_of : List (List ℕ) → ℕ
+version_of pieces = if bytes_eq (text_at pieces 1) (codes "trace 2") then 2 else 1
 
--- one of so many lines after the head is a verdict line by form
-abbrev pub has_verdict : NameLists → List (List ℕ) → ℕ → Bool
-has_verdict names pieces zero = false
-has_verdict names pieces (suc n) =
-    has_verdict names pieces n || is_verdict (row_at names pieces (n + 5))
+-- Line k has this form, whether or not it has its LF: the form stands at line k, the line's words,
+-- which single spaces separate, are those of the form, and its operands are what they must be.
+pub record HasForm (names : NameLists) (pieces : List (List ℕ)) (k : ℕ) (form : Form) : Type 0 where
+  pub stands : StandsAt k form
+  pub spelled : words_of (text_at pieces k) ≡ words_of_form form
+  pub of : IsOf names (version_of pieces) form
+
+-- line k has its LF and some form
+abbrev pub IsSound : NameLists → List (List ℕ) → ℕ → Type 0
+IsSound names pieces k =
+    (is_whole (line_at pieces k) ≡ true) × (form : Form) × HasForm names pieces k form
+
+-- line k is a step line with this number
+abbrev pub IsStepLine : NameLists → List (List ℕ) → ℕ → ℕ → Type 0
+IsStepLine names pieces k number =
+    (thread : List ℕ)
+    × (line : ℕ)
+    × (ask : AskForm)
+    × (answer : ℤ)
+    × HasForm names pieces k (Step number thread line ask answer)
+
+-- line k is a verdict line
+abbrev pub IsVerdictLine : NameLists → List (List ℕ) → ℕ → Type 0
+IsVerdictLine names pieces k = (verdict : NamedVerdict) × HasForm names pieces k (End verdict)
+
+-- no verdict line stands before line k
+abbrev pub IsOpen : NameLists → List (List ℕ) → ℕ → Type 0
+IsOpen names pieces k = (j : ℕ) → j < k → ¬ IsVerdictLine names pieces j
 
 -- line k stands after the head, and no verdict line before it
-abbrev pub is_in_body : NameLists → List (List ℕ) → ℕ → Bool
-is_in_body names pieces k = nat_le 5 k && not (has_verdict names pieces (k - 5))
-
--- the number of a step line
-abbrev pub number_in : Option Row → ℕ
-number_in None = 0
-number_in (Some (Step number event)) = number
-number_in (Some (End verdict)) = 0
-
--- the number of the step before line k, and 0 where it is the first line after the head
-abbrev pub number_before : NameLists → List (List ℕ) → ℕ → ℕ
-number_before names pieces k = if nat_le k 5 then 0 else number_in (row_at names pieces (k - 1))
-
-abbrev pub is_past : ℕ → Option Row → Bool
-is_past limit None = false
-is_past limit (Some (Step number event)) = nat_lt limit number
-is_past limit (Some (End verdict)) = false
-
-abbrev pub has_unknown : Option Row → Bool
-has_unknown None = false
-has_unknown (Some (Step number event)) = is_none event
-has_unknown (Some (End verdict)) = is_none verdict
-
-abbrev pub is_other_number : ℕ → Option Row → Bool
-is_other_number number None = false
-is_other_number number (Some (Step n event)) = not (n == number)
-is_other_number number (Some (End verdict)) = false
-
--- line k of a head is of its form
-abbrev pub is_head_line : NameLists → List (List ℕ) → ℕ → Bool
-is_head_line names pieces k =
-    if k == 1 then is_some (version_in (text_in (line_at pieces k)))
-    else (if k == 2 then is_some (order_in names (text_in (line_at pieces k)))
-    else (if k == 3 then is_some (points_in (text_in (line_at pieces k)))
-    else is_some (limit_in (text_in (line_at pieces k)))))
-
-abbrev pub has_unknown_thread : NameLists → Option (List (List ℕ)) → Bool
-has_unknown_thread names None = false
-has_unknown_thread names (Some words) = is_none (threads_of names words)
+abbrev pub IsInBody : NameLists → List (List ℕ) → ℕ → Type 0
+IsInBody names pieces k = (5 ≤ k) × IsOpen names pieces k
 
 -- ---- when line k is faulty by a kind
 
 -- The file has more than 16,777,216 bytes, which is said of line 1; or a step line's number is
--- above the limit.
-abbrev pub is_too_long : ℕ → NameLists → List (List ℕ) → ℕ → Bool
-is_too_long size names pieces k =
-    (k == 1) && nat_lt 16777216 size
-    || is_in_body names pieces k && is_past (limit_of pieces) (row_at names pieces k)
+-- above the limit, which line 4 tells.
+abbrev pub TooLong : ℕ → NameLists → List (List ℕ) → ℕ → Type 0
+TooLong size names pieces k =
+    ((k ≡ 1) × (16777216 < size))
+    ⊎ (IsInBody names pieces k
+    × (limit : ℕ)
+    × (number : ℕ)
+    × HasForm names pieces 4 (Limit limit)
+    × IsStepLine names pieces k number
+    × (limit < number))
 
 -- One of the lines 1 to 4 is missing, lacks its LF or isn't of its form.
-abbrev pub is_bad_header : NameLists → List (List ℕ) → ℕ → Bool
-is_bad_header names pieces k =
-    nat_le 1 k && nat_le k 4 && not (is_whole (line_at pieces k) && is_head_line names pieces k)
+abbrev pub BadHeader : NameLists → List (List ℕ) → ℕ → Type 0
+BadHeader names pieces k = (1 ≤ k) × (k ≤ 4) × ¬ IsSound names pieces k
 
 -- A later line is neither a step line nor a verdict line by form, or lacks its LF.
-abbrev pub is_bad_line : NameLists → List (List ℕ) → ℕ → Bool
-is_bad_line names pieces k =
-    is_in_body names pieces k
-    && is_there pieces k
-    && not (is_whole (line_at pieces k) && is_some (row_at names pieces k))
+abbrev pub BadLine : NameLists → List (List ℕ) → ℕ → Type 0
+BadLine names pieces k =
+    IsInBody names pieces k × (is_there pieces k ≡ true) × ¬ IsSound names pieces k
 
--- A name isn't declared with the kind that its place needs.
-abbrev pub is_unknown_name : NameLists → List (List ℕ) → ℕ → Bool
-is_unknown_name names pieces k =
-    (k == 2) && has_unknown_thread names (order_in names (text_in (line_at pieces k)))
-    || is_in_body names pieces k && has_unknown (row_at names pieces k)
+-- A name isn't declared with the kind that its place needs, in the order or in a later line, where
+-- no verdict line stands before it.
+abbrev pub UnknownName : NameLists → List (List ℕ) → ℕ → Type 0
+UnknownName names pieces k =
+    IsOpen names pieces k
+    × (form : Form)
+    × HasForm names pieces k form
+    × HasUnknown names form
+
+-- the number that a step line at line k must have: 1 on the first line after the head, and later
+-- one more than that of the step before it
+abbrev pub IsNextNumber : NameLists → List (List ℕ) → ℕ → ℕ → Type 0
+IsNextNumber names pieces k next =
+    ((k ≡ 5) × (next ≡ 1))
+    ⊎ ((before : ℕ) × IsStepLine names pieces (k - 1) before × (next ≡ before + 1))
 
 -- A step line's number isn't one more than that of the step before it, or not 1 for the first step.
-abbrev pub is_out_of_order : NameLists → List (List ℕ) → ℕ → Bool
-is_out_of_order names pieces k =
-    is_in_body names pieces k
-    && is_other_number (number_before names pieces k + 1) (row_at names pieces k)
+abbrev pub OutOfOrder : NameLists → List (List ℕ) → ℕ → Type 0
+OutOfOrder names pieces k =
+    IsInBody names pieces k
+    × (number : ℕ)
+    × (next : ℕ)
+    × IsStepLine names pieces k number
+    × IsNextNumber names pieces k next
+    × (number ≢ next)
 
 -- The file ends where a line should follow, and no line is the verdict's.
-abbrev pub is_no_verdict : NameLists → List (List ℕ) → ℕ → Bool
-is_no_verdict names pieces k = is_in_body names pieces k && not (is_there pieces k)
+abbrev pub NoVerdict : NameLists → List (List ℕ) → ℕ → Type 0
+NoVerdict names pieces k = IsInBody names pieces k × (is_there pieces k ≡ false)
 
 -- A byte stands after the verdict line, which is the line before.
-abbrev pub is_more_after_verdict : NameLists → List (List ℕ) → ℕ → Bool
-is_more_after_verdict names pieces k =
-    nat_le 6 k && is_verdict (row_at names pieces (k - 1)) && is_there pieces k
+abbrev pub MoreAfterVerdict : NameLists → List (List ℕ) → ℕ → Type 0
+MoreAfterVerdict names pieces k =
+    IsVerdictLine names pieces (k - 1) × (is_there pieces k ≡ true)
 
--- a text of so many bytes and of these pieces: whether its line k is faulty by a kind
-abbrev pub is_faulty : ℕ → NameLists → List (List ℕ) → ℕ → TraceFault → Bool
-is_faulty size names pieces k TooLong = is_too_long size names pieces k
-is_faulty size names pieces k BadHeader = is_bad_header names pieces k
-is_faulty size names pieces k BadLine = is_bad_line names pieces k
-is_faulty size names pieces k UnknownName = is_unknown_name names pieces k
-is_faulty size names pieces k OutOfOrder = is_out_of_order names pieces k
-is_faulty size names pieces k NoVerdict = is_no_verdict names pieces k
-is_faulty size names pieces k MoreAfterVerdict = is_more_after_verdict names pieces k
+-- a text of so many bytes and of these pieces: its line k is faulty by a kind
+abbrev pub IsFaulty : ℕ → NameLists → List (List ℕ) → ℕ → TraceFault → Type 0
+IsFaulty size names pieces k kinds.TooLong = TooLong size names pieces k
+IsFaulty size names pieces k kinds.BadHeader = BadHeader names pieces k
+IsFaulty size names pieces k kinds.BadLine = BadLine names pieces k
+IsFaulty size names pieces k kinds.UnknownName = UnknownName names pieces k
+IsFaulty size names pieces k kinds.OutOfOrder = OutOfOrder names pieces k
+IsFaulty size names pieces k kinds.NoVerdict = NoVerdict names pieces k
+IsFaulty size names pieces k kinds.MoreAfterVerdict = MoreAfterVerdict names pieces k
 
 -- ---- the first of them
 
--- the kinds in their order
+-- the kinds in their order: of a line's faults the first of these counts
 abbrev pub rank : TraceFault → ℕ
-rank TooLong = 0
-rank BadHeader = 1
-rank BadLine = 2
-rank UnknownName = 3
-rank OutOfOrder = 4
-rank NoVerdict = 5
-rank MoreAfterVerdict = 6
+rank kinds.TooLong = 0
+rank kinds.BadHeader = 1
+rank kinds.BadLine = 2
+rank kinds.UnknownName = 3
+rank kinds.OutOfOrder = 4
+rank kinds.NoVerdict = 5
+rank kinds.MoreAfterVerdict = 6
 
 -- The line is faulty by the kind and by none before it, and no line before is faulty.
 pub record IsFirstFault (size : ℕ) (names : NameLists) (pieces : List (List ℕ)) (line : ℕ)
     (kind : TraceFault) : Type 0 where
-  pub faulty : is_faulty size names pieces line kind ≡ true
+  pub faulty : IsFaulty size names pieces line kind
   pub first_kind : (other : TraceFault) → rank other < rank kind
-      → is_faulty size names pieces line other ≡ false
+      → ¬ IsFaulty size names pieces line other
   pub first_line : (before : ℕ) (other : TraceFault) → before < line
-      → is_faulty size names pieces before other ≡ false
+      → ¬ IsFaulty size names pieces before other
 
 -- the text's fault
 abbrev pub IsTraceFault : List ℕ → NameLists → ℕ → TraceFault → Type 0

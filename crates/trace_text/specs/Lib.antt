@@ -1,13 +1,9 @@
 pub mod Lawful
 pub mod Trace
 pub mod Lines
-pub mod Numbers
-pub mod Asks
-pub mod StepLines
-pub mod Heads
+pub mod Forms
 pub mod Faults
 pub mod Answers
-pub mod Reading
-pub mod Seen
+pub mod reader
 pub mod Spaced
 pub mod Rows

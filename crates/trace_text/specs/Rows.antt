@@ -1,18 +1,20 @@
 -- Small theorems that read the definitions on known texts.
-use Rattle.std.specs.Prelude.{◌≡◌, ℕ, pos, negsuc, Bool, true, false, List, [], ◌∷◌, length, Some, None, codes, refl}
+use Rattle.std.specs.Prelude.{◌≡◌, pos, negsuc, [], ◌∷◌, Some, None, codes, refl}
 use Rattle.std.specs.Fmt.{digits}
 use Rattle.pct_ask.specs.NameLists.{NameLists}
 use Rattle.pct_ask.specs.TraceText.{trace_text}
+use Rattle.pct_ask.specs.VerdictText.{NamedStuck}
+use Rattle.pct_ask.specs.VerdictWords.{words_of}
 use Rattle.pct_ask.specs.declared.ask.Ask.TheVariants.{Read, Add, RdLock}
 use Rattle.pct_ask.specs.declared.verdict.Verdict.TheVariants.{Stuck, Cut}
-use Rattle.trace_text.specs.Numbers.{value_of}
-use Rattle.trace_text.specs.StepLines.{row_of, step_of}
-use Rattle.trace_text.specs.Asks.{ask_on_one}
-use Rattle.trace_text.specs.Faults.{is_faulty}
+use Rattle.trace_text.specs.reader.Numbers.{value_of}
+use Rattle.trace_text.specs.reader.StepLines.{row_of, step_of}
+use Rattle.trace_text.specs.reader.Asks.{ask_on_one}
+use Rattle.trace_text.specs.Faults.{version_of}
+use Rattle.trace_text.specs.Forms as forms
+use Rattle.trace_text.specs.Forms.{Order, Points, Limit, End, On, Cas, Release, words_of_form}
 use Rattle.trace_text.specs.Lines.{pieces_of}
 use Rattle.trace_text.specs.declared.row.Row.TheVariants.{Step}
-use Rattle.trace_text.specs.declared.fault.TraceFault.{TraceFault}
-use Rattle.trace_text.specs.declared.fault.TraceFault.TheVariants.{TooLong, BadHeader, BadLine, UnknownName, OutOfOrder, NoVerdict, MoreAfterVerdict}
 
 -- two threads, a variable and a read-write lock
 abbrev pub some_names : NameLists
@@ -65,48 +67,44 @@ pub no_steps : trace_text (record { version = 1; order = 1 ∷ 0 ∷ []; points 
 unfolding digits
 no_steps = refl
 
--- whether a line of a text, from 1, is faulty by a kind
-abbrev pub is_faulty_at : List ℕ → ℕ → TraceFault → Bool
-is_faulty_at text line kind = is_faulty (length text) some_names (pieces_of text) line kind
+-- ---- forms
 
-pub no_fault_at_the_verdict : is_faulty_at
-    (codes "trace 1\norder A B\npoints\nlimit 9\nverdict cut\n") 5 BadLine
-    ≡ false
-unfolding row_of step_of ask_on_one value_of digits
-no_fault_at_the_verdict = refl
+pub a_head : words_of (codes "order A B") ≡ words_of_form (Order (codes "A" ∷ codes "B" ∷ []))
+a_head = refl
 
-pub no_verdict : is_faulty_at (codes "trace 1\norder A B\npoints\nlimit 9\n") 5 NoVerdict ≡ true
-unfolding row_of step_of ask_on_one value_of digits
-no_verdict = refl
+pub no_points : words_of (codes "points") ≡ words_of_form (Points [])
+no_points = refl
 
-pub more_after_verdict : is_faulty_at (codes "trace 1\norder A B\npoints\nlimit 9\nverdict cut\nx")
-    6 MoreAfterVerdict
-    ≡ true
-unfolding row_of step_of ask_on_one value_of digits
-more_after_verdict = refl
+pub a_limit : words_of (codes "limit 10000") ≡ words_of_form (Limit 10000)
+unfolding digits
+a_limit = refl
 
-pub unknown_thread_in_the_order : is_faulty_at (codes "trace 1\norder A Z\n") 2 UnknownName ≡ true
-unfolding row_of step_of ask_on_one value_of digits
-unknown_thread_in_the_order = refl
+pub a_step : words_of (codes "3 B 8 read x = 7")
+    ≡ words_of_form (forms.Step 3 (codes "B") 8 (On forms.Read (codes "x")) (pos 7))
+unfolding digits
+a_step = refl
 
-pub too_few_threads_in_the_order : is_faulty_at (codes "trace 1\norder A\n") 2 BadHeader ≡ true
-unfolding row_of step_of ask_on_one value_of digits
-too_few_threads_in_the_order = refl
+pub a_wait : words_of (codes "12 A 9 release c m = 0")
+    ≡ words_of_form (forms.Step 12 (codes "A") 9 (Release (codes "c") (codes "m")) (pos 0))
+unfolding digits
+a_wait = refl
 
-pub step_past_the_limit : is_faulty_at
-    (codes "trace 1\norder A B\npoints\nlimit 1\n2 A 4 yield = 0\n") 5 TooLong
-    ≡ true
-unfolding row_of step_of ask_on_one value_of digits
-step_past_the_limit = refl
+pub an_exchange : words_of (codes "2 A 5 cas x -1 20 = 1")
+    ≡ words_of_form (forms.Step 2 (codes "A") 5 (Cas (codes "x") (negsuc 0) (pos 20)) (pos 1))
+unfolding digits
+an_exchange = refl
 
-pub step_zero : is_faulty_at (codes "trace 1\norder A B\npoints\nlimit 1\n0 A 4 yield = 0\n") 5
-    OutOfOrder
-    ≡ true
-unfolding row_of step_of ask_on_one value_of digits
-step_zero = refl
+pub a_stuck_run : words_of (codes "verdict stuck A 6 B 12")
+    ≡ words_of_form (End (NamedStuck ((codes "A", 6) ∷ (codes "B", 12) ∷ [])))
+unfolding digits
+a_stuck_run = refl
 
-pub no_end_of_line : is_faulty_at (codes "trace 1\norder A B\npoints\nlimit 9\nverdict cut") 5
-    BadLine
-    ≡ true
-unfolding row_of step_of ask_on_one value_of digits
-no_end_of_line = refl
+-- two spaces cut a line elsewhere
+pub two_spaces : words_of (codes "limit  9") ≡ codes "limit" ∷ [] ∷ codes "9" ∷ []
+two_spaces = refl
+
+pub second_version : version_of (pieces_of (codes "trace 2\norder A B\n")) ≡ 2
+second_version = refl
+
+pub no_version : version_of (pieces_of (codes "trace 3\norder A B\n")) ≡ 1
+no_version = refl

@@ -1,4 +1,4 @@
--- The words of a line behind its first.
+-- The words of a line behind its first (this project).
 use Rattle.std.specs.Prelude.{ℕ, List, ◌∷◌}
 use Rattle.std.specs.List.{flat_map}
 

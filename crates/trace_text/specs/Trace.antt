@@ -9,6 +9,7 @@ use Rattle.trace_text.specs.Lawful.{IsHead, IsStep, IsEnd}
 use Rattle.trace_text.specs.declared.file.Header.{Header}
 use Rattle.trace_text.specs.declared.file.TraceFile.{TraceFile}
 
+-- the head that is written of a file
 abbrev pub head_of : Header → TraceHead
 head_of header = record {
   version = header.version;
@@ -17,6 +18,7 @@ head_of header = record {
   limit = header.limit;
 }
 
+-- a file of its three parts
 abbrev pub told : Header → List Event → Verdict → TraceFile
 told header events verdict = record { header = header; events = events; verdict = verdict }
 

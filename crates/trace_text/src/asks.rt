@@ -5,7 +5,7 @@ ghost use Rattle.std.specs.List.{list_any};
 ghost use Rattle.std.specs.Option.{option_map};
 ghost use Rattle.std.specs.Str.{bytes_eq};
 ghost use Rattle.pct_ask.specs.VerdictWords as verdict_words;
-ghost use Rattle.trace_text.specs.Asks as asks;
+ghost use Rattle.trace_text.specs.reader.Asks as asks;
 
 use crate::number::value_of;
 use pct_ask::{Ask, FaultKind, NameKind, Names, is_lawful_name};
@@ -74,7 +74,8 @@ pub const TRY_WR_LOCK: &[u8] = b"trywrlock";
 
 pub const RW_UNLOCK: &[u8] = b"rwunlock";
 
-/// An object of a kind by its name: `None` where the word is no lawful name, and otherwise its place, if it is
+/// An object of a kind by its name: `None` where the word is no lawful name, and otherwise its
+/// place, if it is
 /// declared so.
 pub fn object(names: &Names, kind: NameKind, word: &[u8]) -> Option<Option<u32>>
     ensures { result ≡ asks.object names.now kind word.now }
@@ -158,7 +159,8 @@ fn read_write_ask(word: &[u8], rwlock: u32) -> Ask
     }
 }
 
-/// An ask of one word. Here and below `None` says that the words are no form of an ask, and `Some(None)` that a name
+/// An ask of one word. Here and below `None` says that the words are no form of an ask, and
+/// `Some(None)` that a name
 /// isn't declared with the kind that its place needs.
 pub fn bare_ask(word: &[u8]) -> Option<Option<Ask>>
     ensures { result ≡ asks.bare_ask word.now }
@@ -214,7 +216,7 @@ fn plain_ask(word: &[u8], operand: &[u8]) -> Option<Option<Ask>>
 }
 
 /// An ask of two words.
-#[tactic(auto, unfolding(crate::specs::Asks::ask_on_one))]
+#[tactic(auto, unfolding(crate::specs::reader::Asks::ask_on_one))]
 pub fn ask_on_one(names: &Names, version: u32, word: &[u8], operand: &[u8]) -> Option<Option<Ask>>
     ensures { result ≡ asks.ask_on_one names.now version word.now operand.now }
 {
@@ -240,7 +242,7 @@ fn with_add(found: Option<u32>, value: i64) -> Option<Ask>
 }
 
 /// An ask of three words.
-#[tactic(auto, unfolding(crate::specs::Asks::ask_on_two))]
+#[tactic(auto, unfolding(crate::specs::reader::Asks::ask_on_two))]
 pub fn ask_on_two(names: &Names, word: &[u8], first: &[u8], second: &[u8]) -> Option<Option<Ask>>
     ensures { result ≡ asks.ask_on_two names.now word.now first.now second.now }
 {
@@ -284,7 +286,7 @@ fn regain(cond: Option<u32>, mutex: Option<u32>) -> Option<Ask>
 }
 
 /// An ask of four words.
-#[tactic(auto, unfolding(crate::specs::Asks::ask_on_three))]
+#[tactic(auto, unfolding(crate::specs::reader::Asks::ask_on_three))]
 pub fn ask_on_three(
     names: &Names,
     word: &[u8],

@@ -6,10 +6,10 @@ ghost use Rattle.std.specs.Str.{bytes_eq};
 ghost use Rattle.std.specs.Option.{option_map};
 ghost use Rattle.pct_ask.specs.Words as lexis;
 ghost use Rattle.pct_ask.specs.VerdictWords.{words_of};
-ghost use Rattle.trace_text.specs.Heads as heads;
+ghost use Rattle.trace_text.specs.reader.Heads as heads;
 ghost use Rattle.trace_text.specs.Lines.{pieces_of};
-ghost use Rattle.trace_text.specs.Reading as reading;
-ghost use Rattle.trace_text.specs.Seen.{seen, cut_value, Gives};
+ghost use Rattle.trace_text.specs.reader.Reading as reading;
+ghost use Rattle.trace_text.specs.reader.Seen.{seen, cut_value, Gives};
 
 use crate::fault::{TraceError, TraceFault};
 use crate::line::{cut_line, first_words};

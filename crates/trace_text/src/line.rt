@@ -3,7 +3,7 @@
 ghost use Rattle.std.specs.Prelude.{◌≡◌, ◌≤◌, ◌==◌, ◌∷◌, IfOk, length, position, take};
 ghost use Rattle.pct_ask.specs.VerdictWords.{words_of};
 ghost use Rattle.trace_text.specs.Lines.{pieces_of};
-ghost use Rattle.trace_text.specs.Seen.{seen, pieces_after, length_after};
+ghost use Rattle.trace_text.specs.reader.Seen.{seen, pieces_after, length_after};
 
 use std::alloc::{AllocError as NoMemory, Global};
 
@@ -24,7 +24,8 @@ fn first_end(text: &[u8]) -> Option<usize>
     text.iter().position(|b| *b == b'\n')
 }
 
-/// The words of a line, which single spaces separate. Of a line with more than `most` words these are only the first.
+/// The words of a line, which single spaces separate. Of a line with more than `most` words these
+/// are only the first.
 pub fn first_words(alloc: Global, line: &[u8], most: usize) -> Result<Vec<&[u8]>, NoMemory>
     ensures { IfOk result (λ words. seen words.items ≡ take most (words_of line.now)) }
 {

@@ -1,7 +1,7 @@
 //! The numbers of a trace.
 
 ghost use Rattle.std.specs.Prelude.{◌≡◌};
-ghost use Rattle.trace_text.specs.Numbers as numbers;
+ghost use Rattle.trace_text.specs.reader.Numbers as numbers;
 
 use pct_ask::read_number;
 

@@ -5,8 +5,8 @@ ghost use Rattle.pct_ask.specs.NameLists.{AreNames};
 ghost use Rattle.trace_text.specs.Answers.{Answers, EachHasOneAnswer};
 ghost use Rattle.trace_text.specs.Faults.{IsTraceFault};
 ghost use Rattle.trace_text.specs.Lines.{pieces_of};
-ghost use Rattle.trace_text.specs.Reading as reading;
-ghost use Rattle.trace_text.specs.Seen.{Gives};
+ghost use Rattle.trace_text.specs.reader.Reading as reading;
+ghost use Rattle.trace_text.specs.reader.Seen.{Gives};
 ghost use Rattle.trace_text.specs.Trace.{IsTrace};
 ghost use Rattle.trace_text.specs.declared.fault.TraceFault.{TraceFault};
 ghost use Rattle.trace_text.specs.declared.file.TraceFile.{TraceFile};
@@ -118,7 +118,8 @@ pub fn read_trace(alloc: Global, bytes: &[u8], names: &Names) -> Result<TraceFil
     read(alloc, bytes, names)
 }
 
-/// A law of traces, and no work: each text is, under the names of a test, the trace of one file or has one first fault,
+/// A law of traces, and no work: each text is, under the names of a test, the trace of one file or
+/// has one first fault,
 /// and never both.
 pub fn one_answer()
     ensures { EachHasOneAnswer }

@@ -4,12 +4,12 @@ ghost use Rattle.std.specs.Prelude.{◌≡◌, ℕ, IfOk, length, codes};
 ghost use Rattle.std.specs.Str.{bytes_eq};
 ghost use Rattle.pct_ask.specs.VerdictWords.{words_of, verdict_of_words};
 ghost use Rattle.pct_ask.specs.declared.names.NameKind.TheVariants as kinds;
-ghost use Rattle.trace_text.specs.Asks as asks;
-ghost use Rattle.trace_text.specs.Numbers as numbers;
+ghost use Rattle.trace_text.specs.reader.Asks as asks;
+ghost use Rattle.trace_text.specs.reader.Numbers as numbers;
 ghost use Rattle.trace_text.specs.Lawful as lawful;
-ghost use Rattle.trace_text.specs.StepLines as lines;
-ghost use Rattle.trace_text.specs.Reading as reading;
-ghost use Rattle.trace_text.specs.Seen.{seen};
+ghost use Rattle.trace_text.specs.reader.StepLines as lines;
+ghost use Rattle.trace_text.specs.reader.Reading as reading;
+ghost use Rattle.trace_text.specs.reader.Seen.{seen};
 
 use crate::asks::{ask_on_one, ask_on_three, ask_on_two, bare_ask, object};
 use crate::fault::TraceFault;
@@ -24,7 +24,8 @@ const SIGN: &[u8] = b"=";
 
 const SECOND_MISUSE: &[u8] = b" toomanyreads";
 
-/// What a line says. Where one of its names isn't declared with the kind that its place needs, there is no event and
+/// What a line says. Where one of its names isn't declared with the kind that its place needs,
+/// there is no event and
 /// no verdict.
 #[derive(Clone, Copy)]
 pub enum Row {
@@ -68,7 +69,7 @@ fn is_sign(word: &[u8]) -> bool
     word == SIGN
 }
 
-#[tactic(auto, unfolding(crate::specs::StepLines::step_of))]
+#[tactic(auto, unfolding(crate::specs::reader::StepLines::step_of))]
 fn step_of(names: &Names, around: &Around<'_>, ask: Option<Option<Ask>>) -> Option<Row>
     ensures { result
         ≡ lines.step_of names.now around.now.number.now around.now.thread.now around.now.line.now
@@ -218,7 +219,7 @@ fn read_end(names: &Names, version: u32, text: &[u8]) -> Option<Row>
 }
 
 /// What a line says, where it has a form.
-#[tactic(auto, unfolding(crate::specs::StepLines::row_of))]
+#[tactic(auto, unfolding(crate::specs::reader::StepLines::row_of))]
 pub fn read_row(
     alloc: Global,
     names: &Names,

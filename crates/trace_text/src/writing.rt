@@ -1,13 +1,17 @@
 //! A trace, written line by line.
 
-ghost use Rattle.std.specs.Prelude.{◌≡◌, ◌<◌, ◌≤◌, ◌⊎◌, ◌+◌, [], ◌∷◌, ◌++◌, false, All, Result, OnOk, OnErr, IfOk, length, map, codes, decimal};
+ghost use Rattle.std.specs.Prelude.{◌≡◌, ◌<◌, ◌≤◌, ◌⊎◌, ◌+◌, [], ◌∷◌, ◌++◌, false, All, Result};
+ghost use Rattle.std.specs.Prelude.{OnOk, OnErr, IfOk, length, map, codes, decimal};
 ghost use Rattle.std.specs.Fmt.{signed_decimal};
 ghost use Rattle.std.specs.List.{slice_index_or, flat_map};
 ghost use Rattle.pct_ask.specs.NameLists.{list_of};
-ghost use Rattle.pct_ask.specs.VerdictText.{thread_name, fault_word, named, IsForm, HasNames, IsWhole};
-ghost use Rattle.pct_ask.specs.TraceText.{ask_words, event_words, step_lines, head_lines, verdict_line, line_text, trace_text, check_word};
+ghost use Rattle.pct_ask.specs.VerdictText.{thread_name, fault_word, named, IsForm, HasNames};
+ghost use Rattle.pct_ask.specs.VerdictText.{IsWhole};
+ghost use Rattle.pct_ask.specs.TraceText.{ask_words, event_words, step_lines, head_lines};
+ghost use Rattle.pct_ask.specs.TraceText.{verdict_line, line_text, trace_text, check_word};
 ghost use Rattle.trace_text.specs.Answers.{Answers};
-ghost use Rattle.trace_text.specs.Lawful.{IsValue, HasObjects, IsAsk, NamesKnown, IsStep, IsHead, is_of_second};
+ghost use Rattle.trace_text.specs.Lawful.{IsValue, HasObjects, IsAsk, NamesKnown, IsStep, IsHead};
+ghost use Rattle.trace_text.specs.Lawful.{is_of_second};
 ghost use Rattle.trace_text.specs.Spaced.{spaced};
 ghost use Rattle.trace_text.specs.Trace.{head_of, told, IsTrace};
 ghost use Rattle.trace_text.specs.declared.file.TraceFile.{TraceFile};
@@ -220,7 +224,8 @@ fn push_event(
     push_answer(out, event)
 }
 
-/// Writes the line of a step at the end, as it stands in a trace of the second version. After an `Err` the bytes are as
+/// Writes the line of a step at the end, as it stands in a trace of the second version. After an
+/// `Err` the bytes are as
 /// before.
 pub fn write_step(
     step: u32,

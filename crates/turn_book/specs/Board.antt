@@ -1,5 +1,7 @@
--- The board of a book: the store, and each thread's next post. Nothing here is needed to read a public contract.
-use Rattle.std.specs.Prelude.{◌≡◌, ◌≤◌, ℕ, ℤ, pos, Bool, false, ◌==◌, ◌||◌, List, length, map, Option, Some, None, slice_index_or, slice_set}
+-- The board of a book: the store, and each thread's next post. Nothing here is needed to read a
+-- public contract.
+use Rattle.std.specs.Prelude.{◌≡◌, ◌≤◌, ℕ, ℤ, pos, Bool, false, ◌==◌, ◌||◌, List, length, map}
+use Rattle.std.specs.Prelude.{Option, Some, None, slice_index_or, slice_set}
 use Rattle.pct_ask.specs.declared.ask.Ask.{Ask}
 use Rattle.pct_ask.specs.declared.ask.Ask.TheVariants.{Join}
 use Rattle.pct_ask.specs.declared.ask.Post.{Post}
@@ -7,10 +9,12 @@ use Rattle.pct_ask.specs.declared.event.Event.{Event}
 use Rattle.pct_ask.specs.declared.event.Standing.{Standing}
 use Rattle.pct_ask.specs.declared.verdict.Verdict.{Verdict}
 use Rattle.sync_store.specs.declared.touched.Touched.{Touched}
-use Rattle.sync_store.specs.declared.touched.Touched.TheVariants.{Nothing, Mutex, Cond, Sem, Barrier, Thread, RwLock}
+use Rattle.sync_store.specs.declared.touched.Touched.TheVariants.{Nothing, Mutex, Cond, Sem}
+use Rattle.sync_store.specs.declared.touched.Touched.TheVariants.{Barrier, Thread, RwLock}
 use Rattle.sync_store.specs.Store.{StoreState, sizes_of}
 use Rattle.sync_store.specs.Effect.{Effect, Goes, Stops, effect, store_after}
-use Rattle.sync_store.specs.Touched.{is_mutex, is_cond, is_sem, is_barrier, is_thread, is_rwlock, names}
+use Rattle.sync_store.specs.Touched.{is_mutex, is_cond, is_sem, is_barrier, is_thread, is_rwlock}
+use Rattle.sync_store.specs.Touched.{names}
 use Rattle.policy_pick.specs.declared.chance.Chance.{Chance}
 use Rattle.turn_book.specs.Chances.{NextPosts, chances}
 use Rattle.turn_book.specs.Told.{PostIsInRange, standing_by}
@@ -32,7 +36,8 @@ abbrev pub AreInRange : StoreState → List (Option Post) → Type 0
 AreInRange store posts = (t : ℕ) → PostIsInRange (sizes_of store) (ask_of_post (listed posts t))
 
 -- what is kept beside the store and the posts is what they give
-pub record IsBoard (store : StoreState) (posts : List (Option Post)) (stands : List Standing) (known : List Chance) : Type 0 where
+pub record IsBoard (store : StoreState) (posts : List (Option Post)) (stands : List Standing)
+    (known : List Chance) : Type 0 where
   pub threads : length posts ≡ store.threads
   pub few : store.threads ≤ 64
   pub in_range : AreInRange store posts
@@ -49,7 +54,8 @@ verdict_of (Goes after answer) = None
 verdict_of (Stops verdict) = Some verdict
 
 -- a thread takes the step that it asks, and its next post isn't known any more
-pub record TakesStep (old : BoardState) (t : ℕ) (event : Event) (ends : Option Verdict) (new : BoardState) : Type 0 where
+pub record TakesStep (old : BoardState) (t : ℕ) (event : Event) (ends : Option Verdict)
+    (new : BoardState) : Type 0 where
   pub thread : event.thread ≡ t
   pub asked : listed old.posts t ≡ Some (record { ask = Some event.ask; line = event.line })
   pub answer : event.answer ≡ answer_of (effect old.store t event.line event.ask)
@@ -76,6 +82,7 @@ abbrev pub concerns_ask : ℕ → Touched → ℕ → Option Ask → Bool
 concerns_ask t object u None = false
 concerns_ask t object u (Some ask) = names u ask object || joins t ask
 
--- whether the chance of a thread u with this post may change where the thread t posts or takes a step that touches an object
+-- whether the chance of a thread u with this post may change where the thread t posts or takes a
+-- step that touches an object
 abbrev pub concerns : ℕ → Touched → ℕ → Option Post → Bool
 concerns t object u post = u == t || concerns_ask t object u (ask_of_post post)

@@ -1,5 +1,7 @@
--- What a book keeps, and how it is told. Nothing here is needed to read a public contract.
-use Rattle.std.specs.Prelude.{◌≡◌, ◌≤◌, ℕ, suc, List, [], ◌∷◌, ◌++◌, length, map, Option, Some, None, option_to_list}
+-- What a book keeps, and how it is told (this project). Nothing here is needed to read a public
+-- contract.
+use Rattle.std.specs.Prelude.{◌≡◌, ◌≤◌, ℕ, suc, List, [], ◌∷◌, ◌++◌, length, map, Option, Some}
+use Rattle.std.specs.Prelude.{None, option_to_list}
 use Rattle.pct_ask.specs.declared.ask.Post.{Post}
 use Rattle.pct_ask.specs.declared.Deal.{Deal}
 use Rattle.pct_ask.specs.declared.event.Event.{Event}
@@ -19,21 +21,35 @@ use Rattle.turn_book.specs.Board.{BoardState, listed}
 -- from the thread k on, the posts of threads that took these steps and have these next posts
 abbrev pub posts_from : List Event → ℕ → List (Option Post) → List (List Post)
 posts_from events k [] = []
-posts_from events k (next ∷ more) = (map post_of_event (events_of k events) ++ option_to_list next) ∷ posts_from events (suc k) more
+posts_from events k (next ∷ more) =
+    (map post_of_event (events_of k events) ++ option_to_list next)
+    ∷ posts_from events (suc k) more
 
+-- each thread's posts: those of its steps, and its next one where that is known
 abbrev pub posts_by : List Event → List (Option Post) → List (List Post)
 posts_by events next = posts_from events 0 next
 
+-- a book of which this is known, as contracts see it
 abbrev pub told : Deal → ℕ → Plan → List (Option Post) → List Event → Option Outcome → Told
-told deal limit plan next events outcome = record { deal = deal; limit = limit; plan = plan; posts = posts_by events next; trace = events; outcome = outcome }
+told deal limit plan next events outcome = record {
+  deal = deal;
+  limit = limit;
+  plan = plan;
+  posts = posts_by events next;
+  trace = events;
+  outcome = outcome;
+}
 
 -- the store is that of the world after the steps
-pub record IsAt (deal : Deal) (source : Source) (events : List Event) (board : BoardState) : Type 0 where
+pub record IsAt (deal : Deal) (source : Source) (events : List Event) (board : BoardState)
+    : Type 0 where
   pub verdict : Option Verdict
-  pub world : world_after (first deal) source (schedule_of events) ≡ Some (record { store = board.store; events = events; verdict = verdict })
+  pub world : world_after (first deal) source (schedule_of events)
+      ≡ Some (record { store = board.store; events = events; verdict = verdict })
 
 -- what a book keeps beside what it tells
-pub record IsKept (deal : Deal) (limit : ℕ) (plan : Plan) (board : BoardState) (events : List Event) (next : Pick) (last : Option Outcome) (reserved : ℕ) : Type 0 where
+pub record IsKept (deal : Deal) (limit : ℕ) (plan : Plan) (board : BoardState) (events : List Event)
+    (next : Pick) (last : Option Outcome) (reserved : ℕ) : Type 0 where
   pub sizes : sizes_of board.store ≡ sizes_of_deal deal
   pub threads : length board.posts ≡ deal.threads
   pub speaks : SpeaksOf plan deal.threads
@@ -43,4 +59,6 @@ pub record IsKept (deal : Deal) (limit : ℕ) (plan : Plan) (board : BoardState)
   pub at : IsAt deal (source_of (posts_by events board.posts)) events board
   pub obeys : Obeys plan deal (source_of (posts_by events board.posts)) limit events
   pub outcome : last ≡ settled plan deal (source_of (posts_by events board.posts)) limit events
-  pub pick : last ≡ None → next ≡ choice plan (schedule_of events) (chances deal.threads board.store (listed board.posts))
+  pub pick : last ≡ None
+      → next
+      ≡ choice plan (schedule_of events) (chances deal.threads board.store (listed board.posts))

@@ -1,11 +1,13 @@
 -- The definitions at worked values.
-use Rattle.std.specs.Prelude.{◌≡◌, ℕ, pos, List, [], ◌∷◌, Option, Some, None, true, refl, slice_index_or}
+use Rattle.std.specs.Prelude.{◌≡◌, ℕ, pos, List, [], ◌∷◌, Option, Some, None, true, refl}
+use Rattle.std.specs.Prelude.{slice_index_or}
 use Rattle.pct_ask.specs.declared.ask.Ask.TheVariants.{Read, Join, Yield, Begin, Lock}
 use Rattle.pct_ask.specs.declared.ask.Post.{Post}
 use Rattle.pct_ask.specs.declared.event.Event.{Event}
 use Rattle.pct_ask.specs.declared.verdict.Verdict.TheVariants.{Passed, Stuck, Cut}
 use Rattle.pct_ask.specs.declared.verdict.Outcome.TheVariants.{Verdict as Ends}
-use Rattle.policy_pick.specs.declared.chance.Chance.TheVariants.{Away, Ready, Blocked, Unknown, Ended}
+use Rattle.policy_pick.specs.declared.chance.Chance.TheVariants.{Away, Ready, Blocked, Unknown}
+use Rattle.policy_pick.specs.declared.chance.Chance.TheVariants.{Ended}
 use Rattle.policy_pick.specs.declared.chance.Pick.TheVariants.{Waits, Nobody, Departs}
 use Rattle.sync_store.specs.Store.{StoreState}
 use Rattle.turn_book.specs.Chances.{NextPosts, chances, rest_verdict}
@@ -14,7 +16,16 @@ use Rattle.turn_book.specs.Obeys.{outcome_by_pick}
 
 -- one variable and one mutex, which the second of three threads owns
 abbrev store : StoreState
-store = record { threads = 3; values = pos 0 ∷ []; owners = Some 1 ∷ []; conditions = []; numbers = []; barriers = []; started = []; rwlocks = [] }
+store = record {
+  threads = 3;
+  values = pos 0 ∷ [];
+  owners = Some 1 ∷ [];
+  conditions = [];
+  numbers = [];
+  barriers = [];
+  started = [];
+  rwlocks = [];
+}
 
 abbrev next_of : List (Option Post) → NextPosts
 next_of posts t = slice_index_or posts t None
@@ -34,21 +45,26 @@ begin = Some (record { ask = Some Begin; line = 8 })
 abbrev ended : Option Post
 ended = Some (record { ask = None; line = 9 })
 
--- a join of a thread that hasn't posted is unknown; of one that asks it is blocked, and of one that has ended ready
-pub join_of_away : chances 3 store (next_of (None ∷ read ∷ join_first ∷ [])) ≡ Away ∷ Ready ∷ Unknown 0 ∷ []
+-- a join of a thread that hasn't posted is unknown; of one that asks it is blocked, and of one that
+-- has ended ready
+pub join_of_away : chances 3 store (next_of (None ∷ read ∷ join_first ∷ []))
+    ≡ Away ∷ Ready ∷ Unknown 0 ∷ []
 join_of_away = refl
 
-pub join_of_asking : chances 3 store (next_of (lock ∷ read ∷ join_first ∷ [])) ≡ Blocked ∷ Ready ∷ Blocked ∷ []
+pub join_of_asking : chances 3 store (next_of (lock ∷ read ∷ join_first ∷ []))
+    ≡ Blocked ∷ Ready ∷ Blocked ∷ []
 join_of_asking = refl
 
-pub join_of_ended : chances 3 store (next_of (ended ∷ read ∷ join_first ∷ [])) ≡ Ended ∷ Ready ∷ Ready ∷ []
+pub join_of_ended : chances 3 store (next_of (ended ∷ read ∷ join_first ∷ []))
+    ≡ Ended ∷ Ready ∷ Ready ∷ []
 join_of_ended = refl
 
 -- an idle thread doesn't keep a run from passing, but one that joins it is stuck
 pub idle_passes : rest_verdict 3 store (next_of (ended ∷ begin ∷ ended ∷ [])) ≡ Passed
 idle_passes = refl
 
-pub joined_idle_is_stuck : rest_verdict 3 store (next_of (lock ∷ begin ∷ join_first ∷ [])) ≡ Stuck ((0, 6) ∷ (2, 12) ∷ [])
+pub joined_idle_is_stuck : rest_verdict 3 store (next_of (lock ∷ begin ∷ join_first ∷ []))
+    ≡ Stuck ((0, 6) ∷ (2, 12) ∷ [])
 joined_idle_is_stuck = refl
 
 -- at the limit a run in which nobody may go on isn't cut, and one that would depart is
@@ -66,12 +82,15 @@ abbrev step : ℕ → Event
 step t = record { thread = t; line = 4; ask = Read 0; answer = pos 0 }
 
 abbrev posts : List (List Post)
-posts = (record { ask = Some (Read 0); line = 4 } ∷ record { ask = Some Yield; line = 5 } ∷ []) ∷ [] ∷ []
+posts =
+    (record { ask = Some (Read 0); line = 4 } ∷ record { ask = Some Yield; line = 5 } ∷ [])
+    ∷ [] ∷ []
 
 pub first_post : source_of posts 0 (step 1 ∷ []) ≡ Some (record { ask = Some (Read 0); line = 4 })
 first_post = refl
 
-pub second_post : source_of posts 0 (step 1 ∷ step 0 ∷ []) ≡ Some (record { ask = Some Yield; line = 5 })
+pub second_post : source_of posts 0 (step 1 ∷ step 0 ∷ [])
+    ≡ Some (record { ask = Some Yield; line = 5 })
 second_post = refl
 
 pub no_third_post : source_of posts 0 (step 0 ∷ step 0 ∷ []) ≡ None

@@ -1,5 +1,6 @@
 -- A book of turns as plain data, and what its calls make of it (this project).
-use Rattle.std.specs.Prelude.{◌≡◌, ◌≤◌, ℕ, ℤ, List, [], ◌∷◌, ◌++◌, length, map, replicate, Option, Some, None, option_to_list, slice_set}
+use Rattle.std.specs.Prelude.{◌≡◌, ◌≤◌, ℕ, ℤ, List, [], ◌∷◌, ◌++◌, length, map, replicate, Option}
+use Rattle.std.specs.Prelude.{Some, None, option_to_list, slice_set}
 use Rattle.pct_ask.specs.declared.ask.Ask.{Ask}
 use Rattle.pct_ask.specs.declared.ask.Post.{Post}
 use Rattle.pct_ask.specs.declared.Deal.{Deal}
@@ -25,16 +26,25 @@ pub record Told : Type 0 where
 
 -- a book in which nothing has happened
 abbrev pub new_book : Deal → ℕ → Plan → Told
-new_book deal limit plan = record { deal = deal; limit = limit; plan = plan; posts = replicate deal.threads []; trace = []; outcome = None }
+new_book deal limit plan = record {
+  deal = deal;
+  limit = limit;
+  plan = plan;
+  posts = replicate deal.threads [];
+  trace = [];
+  outcome = None;
+}
 
 -- a thread's next post, where the book has it
 abbrev pub next_post : Told → ℕ → Option Post
 next_post book t = source_of book.posts t book.trace
 
+-- the standing of a thread whose next post is known: it asks, or without an ask has ended
 abbrev pub standing_by_ask : Option Ask → Standing
 standing_by_ask None = Ended
 standing_by_ask (Some ask) = Asks
 
+-- a thread's standing by its next post: it is away where that isn't known
 abbrev pub standing_by : Option Post → Standing
 standing_by None = Away
 standing_by (Some post) = standing_by_ask post.ask
@@ -56,13 +66,15 @@ PostIsInRange sizes (Some ask) = IsInRange sizes ask
 abbrev pub post_of_event : Event → Post
 post_of_event e = record { ask = Some e.ask; line = e.line }
 
--- What every book keeps: its steps obey its plan over its posts, and its outcome is what became of the run. A thread's
--- posts are those of its own steps, and its next one.
+-- What every book keeps: its steps obey its plan over its posts, and its outcome is what became of
+-- the run. A thread's posts are those of its own steps, and its next one.
 pub record IsLawful (book : Told) : Type 0 where
   pub obeys : Obeys book.plan book.deal (source_of book.posts) book.limit book.trace
-  pub outcome : book.outcome ≡ settled book.plan book.deal (source_of book.posts) book.limit book.trace
+  pub outcome : book.outcome
+      ≡ settled book.plan book.deal (source_of book.posts) book.limit book.trace
   pub threads : length book.posts ≡ book.deal.threads
-  pub posts : (t : ℕ) → posts_of book.posts t ≡ map post_of_event (events_of t book.trace) ++ option_to_list (next_post book t)
+  pub posts : (t : ℕ) → posts_of book.posts t
+      ≡ map post_of_event (events_of t book.trace) ++ option_to_list (next_post book t)
   pub speaks : SpeaksOf book.plan book.deal.threads
   pub some_steps : 1 ≤ book.limit
   pub few_steps : book.limit ≤ 100000
@@ -89,15 +101,16 @@ pub record IsAnswered (old : Told) (t : ℕ) (told_answer : ℤ) (new : Told) : 
   pub answer : event.answer ≡ told_answer
   pub asked : next_post old t ≡ Some (post_of_event event)
 
--- A whole run over the book's posts, and perhaps more: steps that obey the book's plan and are settled.
+-- A whole run over the book's posts, and perhaps more: steps that obey the book's plan and are
+-- settled.
 pub record IsRunOver (book : Told) (posts : List (List Post)) (events : List Event) : Type 0 where
   pub outcome : Outcome
   pub more : HasMore book.posts posts
   pub obeys : Obeys book.plan book.deal (source_of posts) book.limit events
   pub ends : settled book.plan book.deal (source_of posts) book.limit events ≡ Some outcome
 
--- A later sight of a book: what it was made with is the same, and its steps and each thread's posts begin with those of
--- the earlier one.
+-- A later sight of a book: what it was made with is the same, and its steps and each thread's posts
+-- begin with those of the earlier one.
 pub record Within (earlier later : Told) : Type 0 where
   pub making : SameMaking earlier later
   pub rest : List Event

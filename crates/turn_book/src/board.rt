@@ -1,4 +1,5 @@
-ghost use Rattle.std.specs.Prelude.{◌≡◌, ◌<◌, ◌≤◌, length, replicate, Option, Some, None, slice_set, IfOk};
+ghost use Rattle.std.specs.Prelude.{◌≡◌, ◌<◌, ◌≤◌, length, replicate, Option, Some, None};
+ghost use Rattle.std.specs.Prelude.{slice_set, IfOk};
 ghost use Rattle.pct_ask.specs.declared.verdict.Verdict.{Verdict};
 ghost use Rattle.sync_store.specs.Store.{first, sizes_of, sizes_of_deal};
 ghost use Rattle.policy_pick.specs.declared.chance.Chance.{Chance};
@@ -37,7 +38,8 @@ impl Model for Board {
 impl Board {
     /// No thread has posted.
     pub fn new(alloc: Global, deal: &Deal) -> Result<Self, NoMemory>
-        ensures board { IfOk result (λ board. board ≡ record { store = first deal.now; posts = replicate deal.now.threads None }) }
+        ensures board { IfOk result (λ board.
+            board ≡ record { store = first deal.now; posts = replicate deal.now.threads None }) }
         ensures sizes { IfOk result (λ board. sizes_of board.store ≡ sizes_of_deal deal.now) }
     {
         Ok(Board {
@@ -56,7 +58,8 @@ impl Board {
     }
 
     pub fn chances(&self) -> &[Chance]
-        ensures chances { result.now ≡ chances self.now.store.threads self.now.store (listed self.now.posts) }
+        ensures chances { result.now
+            ≡ chances self.now.store.threads self.now.store (listed self.now.posts) }
         ensures targets { TargetsAreAway result.now }
     {
         self.chances.as_slice()
@@ -82,11 +85,13 @@ impl Board {
         );
     }
 
-    /// A thread takes the step that it asks. Its next post isn't known then. Where the step ends the run, its verdict is noted.
+    /// A thread takes the step that it asks. Its next post isn't known then. Where the step ends
+    /// the run, its verdict is noted.
     pub fn step(&mut self, thread: u32, outcome: &mut Option<Outcome>) -> Event
         requires thread { thread < length self.old.posts }
         requires ready { chance self.old.store (listed self.old.posts) thread ≡ Chance.Ready }
-        ensures step { (ends : Option Verdict) × TakesStep self.old thread result ends self.new × (outcome.new ≡ outcome_by ends outcome.old) }
+        ensures step { (ends : Option Verdict) × TakesStep self.old thread result ends self.new
+            × (outcome.new ≡ outcome_by ends outcome.old) }
         ensures sizes { sizes_of self.new.store ≡ sizes_of self.old.store }
     {
         let place = thread as usize;
@@ -111,7 +116,8 @@ impl Board {
 
     /// How the run ends where nobody may go on.
     pub fn rest_verdict(&self) -> Verdict
-        ensures { result ≡ rest_verdict self.now.store.threads self.now.store (listed self.now.posts) }
+        ensures { result
+            ≡ rest_verdict self.now.store.threads self.now.store (listed self.now.posts) }
     {
         let mut blocked = Blocked::new();
         let mut stuck = false;

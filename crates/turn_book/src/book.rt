@@ -1,4 +1,5 @@
-ghost use Rattle.std.specs.Prelude.{◌≡◌, ◌≢◌, ◌<◌, ◌≤◌, ◌↔◌, ℕ, ℤ, [], ◌++◌, List, length, Some, None, IfOk, IsSome, is_some};
+ghost use Rattle.std.specs.Prelude.{◌≡◌, ◌≢◌, ◌<◌, ◌≤◌, ◌↔◌, ℕ, ℤ, [], ◌++◌, List, length, Some};
+ghost use Rattle.std.specs.Prelude.{None, IfOk, IsSome, is_some};
 ghost use Rattle.pct_ask.specs.declared.ask.Post.{Post};
 ghost use Rattle.pct_ask.specs.declared.event.Event.{Event};
 ghost use Rattle.pct_ask.specs.declared.event.Standing.{Standing};
@@ -6,7 +7,8 @@ ghost use Rattle.pct_ask.specs.declared.verdict.Outcome.{Outcome};
 ghost use Rattle.sync_store.specs.Store.{sizes_of_deal};
 ghost use Rattle.policy_pick.specs.declared.chance.Pick.{Pick};
 ghost use Rattle.policy_pick.specs.Plan.{SpeaksOf};
-ghost use Rattle.turn_book.specs.Told.{new_book, standing_of, choice_of, PostIsInRange, IsLawful, IsPosted, IsAnswered, IsRunOver};
+ghost use Rattle.turn_book.specs.Told.{new_book, standing_of, choice_of, PostIsInRange, IsLawful};
+ghost use Rattle.turn_book.specs.Told.{IsPosted, IsAnswered, IsRunOver};
 ghost use Rattle.turn_book.specs.declared.taken.Because.{Because};
 ghost use Rattle.turn_book.specs.Answers.{IsAnswer, IsBecause};
 
@@ -18,9 +20,10 @@ use policy_pick::{Pick, Policy};
 use std::alloc::{AllocError as NoMemory, Global};
 use std::marker::Model;
 
-/// A book of turns. Threads post what they ask, and the policy says whose turn it is. A thread goes on as soon as that is
-/// known, also where others haven't posted. Contracts see a book as what it was made with, each thread's posts, the steps
-/// and the outcome. Only `new` takes memory, and every call's time grows with the number of threads at most.
+/// A book of turns. Threads post what they ask, and the policy says whose turn it is. A thread goes
+/// on as soon as that is known, also where others haven't posted. Contracts see a book as what it
+/// was made with, each thread's posts, the steps and the outcome. Only `new` takes memory, and
+/// every call's time grows with the number of threads at most.
 #[derive(Drop)]
 pub struct TurnBook<P: Policy> {
     deal: Deal,
@@ -40,9 +43,12 @@ impl<P: Policy> Model for TurnBook<P> {
 
     ghost Value = { Told };
 
-    ghost view = { λ b. told b.deal b.limit (P.plan b.policy) b.board.posts b.trace.items b.outcome };
+    ghost view = { λ b.
+        told b.deal b.limit (P.plan b.policy) b.board.posts b.trace.items b.outcome };
 
-    ghost invariant = { λ b. IsKept b.deal b.limit (P.plan b.policy) b.board b.trace.items b.next b.outcome (vec_capacity b.trace) × P.stands b.policy (schedule_of b.trace.items) };
+    ghost invariant = { λ b.
+        IsKept b.deal b.limit (P.plan b.policy) b.board b.trace.items b.next b.outcome
+        (vec_capacity b.trace) × P.stands b.policy (schedule_of b.trace.items) };
 }
 
 impl<P: Policy> TurnBook<P> {
@@ -90,12 +96,21 @@ impl<P: Policy> TurnBook<P> {
         requires { self.old.outcome ≡ None → standing_of self.old thread ≡ Standing.Asks }
 
         // Each answer comes exactly where this holds.
-        ensures over { (outcome : Outcome) → (result ≡ Taken.Over outcome) ↔ (self.old.outcome ≡ Some outcome) }
-        ensures answer { IsAnswer result ↔ ((self.old.outcome ≡ None) × (choice_of self.old ≡ Some (Pick.Thread thread))) }
-        ensures turn { (at u : ℕ) → (result ≡ Taken.NotYet at (Because.Turn u)) ↔ ((self.old.outcome ≡ None) × (choice_of self.old ≡ Some (Pick.Thread u)) × (u ≢ thread) × (at ≡ length self.old.trace)) }
-        ensures away { (at u : ℕ) → (result ≡ Taken.NotYet at (Because.Away u)) ↔ ((self.old.outcome ≡ None) × (choice_of self.old ≡ Some (Pick.Waits u)) × (at ≡ length self.old.trace)) }
+        ensures over { (outcome : Outcome)
+            → (result ≡ Taken.Over outcome) ↔ (self.old.outcome ≡ Some outcome) }
+        ensures answer { IsAnswer result
+            ↔ ((self.old.outcome ≡ None) × (choice_of self.old ≡ Some (Pick.Thread thread))) }
+        ensures turn { (at u : ℕ)
+            → (result ≡ Taken.NotYet at (Because.Turn u))
+            ↔ ((self.old.outcome ≡ None) × (choice_of self.old ≡ Some (Pick.Thread u))
+            × (u ≢ thread) × (at ≡ length self.old.trace)) }
+        ensures away { (at u : ℕ)
+            → (result ≡ Taken.NotYet at (Because.Away u))
+            ↔ ((self.old.outcome ≡ None) × (choice_of self.old ≡ Some (Pick.Waits u))
+            × (at ≡ length self.old.trace)) }
 
-        ensures answered { (answer : ℤ) → result ≡ Taken.Answer answer → IsAnswered self.old thread answer self.new }
+        ensures answered { (answer : ℤ) → result ≡ Taken.Answer answer
+            → IsAnswered self.old thread answer self.new }
         ensures unchanged { ¬ IsAnswer result → self.new ≡ self.old }
         ensures lawful { IsLawful self.new }
     {
@@ -152,7 +167,8 @@ impl<P: Policy> TurnBook<P> {
 
     /// The thread whose turn it is, if that is known.
     pub fn granted(&self) -> Option<u32>
-        ensures { (u : ℕ) → (result ≡ Some u) ↔ ((self.now.outcome ≡ None) × (choice_of self.now ≡ Some (Pick.Thread u))) }
+        ensures { (u : ℕ) → (result ≡ Some u)
+            ↔ ((self.now.outcome ≡ None) × (choice_of self.now ≡ Some (Pick.Thread u))) }
     {
         if self.outcome.is_some() {
             return None;
@@ -163,13 +179,16 @@ impl<P: Policy> TurnBook<P> {
         }
     }
 
-    /// The steps so far, which obey the plan over the posts. Whatever the threads may post besides, they begin every whole
-    /// run over it, and once an outcome stands they are that run.
+    /// The steps so far, which obey the plan over the posts. Whatever the threads may post besides,
+    /// they begin every whole run over it, and once an outcome stands they are that run.
     pub fn trace(&self) -> &[Event]
         ensures trace { result.now ≡ self.now.trace }
         ensures lawful { IsLawful self.now }
-        ensures prefix { (posts : List (List Post)) (events : List Event) → IsRunOver self.now posts events → (rest : List Event) × (events ≡ result.now ++ rest) }
-        ensures whole { (posts : List (List Post)) (events : List Event) → IsRunOver self.now posts events → IsSome self.now.outcome → events ≡ result.now }
+        ensures prefix { (posts : List (List Post)) (events : List Event)
+            → IsRunOver self.now posts events
+            → (rest : List Event) × (events ≡ result.now ++ rest) }
+        ensures whole { (posts : List (List Post)) (events : List Event)
+            → IsRunOver self.now posts events → IsSome self.now.outcome → events ≡ result.now }
     {
         self.trace.as_slice()
     }

@@ -1,4 +1,5 @@
-ghost use Rattle.std.specs.Prelude.{◌≡◌, ◌<◌, ◌≤◌, ℕ, false, List, length, map, Some, None, MatchOption};
+ghost use Rattle.std.specs.Prelude.{◌≡◌, ◌<◌, ◌≤◌, ℕ, false, List, length, map, Some, None};
+ghost use Rattle.std.specs.Prelude.{MatchOption};
 ghost use Rattle.std.specs.Option.{option_map};
 ghost use Rattle.pct_ask.specs.declared.ask.Post.{Post};
 ghost use Rattle.sync_store.specs.Store.{sizes_of};
@@ -6,12 +7,14 @@ ghost use Rattle.sync_store.specs.Effect.{Effect, applied_of};
 ghost use Rattle.sync_store.specs.Stepped.{applied_by};
 ghost use Rattle.sync_store.specs.Ready.{away_by, ended_by};
 ghost use Rattle.policy_pick.specs.Choice.{chance_of};
-ghost use Rattle.turn_book.specs.Chances.{chance, chance_by, chance_of_post, chances, is_ended, is_unknown, blocked_by_post};
+ghost use Rattle.turn_book.specs.Chances.{chance, chance_by, chance_of_post, chances, is_ended};
+ghost use Rattle.turn_book.specs.Chances.{is_unknown, blocked_by_post};
 ghost use Rattle.turn_book.specs.Obeys.{outcome_by};
 ghost use Rattle.turn_book.specs.Told.{PostIsInRange, standing_by};
-ghost use Rattle.turn_book.specs.Board.{AreInRange, ask_of_post, answer_of, verdict_of, concerns, listed};
+ghost use Rattle.turn_book.specs.Board.{AreInRange, ask_of_post, answer_of, verdict_of, concerns};
+ghost use Rattle.turn_book.specs.Board.{listed};
 
-use crate::objects::{is_object, joins, named};
+use crate::objects::{is_named, joins};
 use pct_ask::{Ask, Event, Outcome, Post, Standing};
 use policy_pick::Chance;
 use sync_store::{Applied, Ready, Stepped, Store, Touched};
@@ -31,7 +34,8 @@ pub fn standing_of(post: Option<Post>) -> Standing
 
 /// The line and the ask of a post, if it has one.
 pub fn asked(post: Option<Post>) -> Option<(u32, Ask)>
-    ensures { MatchOption result (ask_of_post post ≡ None) (λ found. post ≡ Some (record { ask = Some found.1; line = found.0 })) }
+    ensures { MatchOption result (ask_of_post post ≡ None)
+        (λ found. post ≡ Some (record { ask = Some found.1; line = found.0 })) }
 {
     match post {
         None => None,
@@ -53,7 +57,8 @@ pub fn step_of(
     ensures thread { result.thread ≡ thread }
     ensures line { result.line ≡ line }
     ensures ask { result.ask ≡ ask }
-    ensures answer { (step : Effect) → applied_by stepped ≡ applied_of step → result.answer ≡ answer_of step }
+    ensures answer { (step : Effect) → applied_by stepped ≡ applied_of step
+        → result.answer ≡ answer_of step }
     ensures outcome { (step : Effect) → applied_by stepped ≡ applied_of step
         → outcome.new ≡ outcome_by (verdict_of step) outcome.old }
 {
@@ -102,7 +107,8 @@ fn chance_of(store: &Store, standings: &[Standing], thread: u32, post: Option<Po
     requires thread { thread < store.now.threads }
     requires standings { length standings.now ≡ store.now.threads }
     requires in_range { PostIsInRange (sizes_of store.now) (ask_of_post post) }
-    ensures { result ≡ chance_of_post store.now (away_by standings.now) (ended_by standings.now) thread post }
+    ensures { result
+        ≡ chance_of_post store.now (away_by standings.now) (ended_by standings.now) thread post }
 {
     match post {
         None => Chance::Away,
@@ -132,10 +138,7 @@ fn concerns(thread: u32, touched: Touched, other: u32, post: Option<Post>) -> bo
     }
     match asked(post) {
         None => false,
-        Some((_, ask)) => {
-            let (first, second) = named(other, &ask);
-            is_object(first, touched) || is_object(second, touched) || joins(thread, &ask)
-        }
+        Some((_, ask)) => is_named(other, &ask, touched) || joins(thread, &ask),
     }
 }
 
@@ -153,7 +156,9 @@ pub fn look_again(
     requires in_range { AreInRange store.now posts.now }
     requires standings { standings.now ≡ map standing_by posts.now }
     requires as_many { length known.old ≡ store.now.threads }
-    requires others { (u : ℕ) → u < store.now.threads → concerns thread touched u (listed posts.now u) ≡ false → chance_of known.old u ≡ chance store.now (listed posts.now) u }
+    requires others { (u : ℕ) → u < store.now.threads
+        → concerns thread touched u (listed posts.now u) ≡ false
+        → chance_of known.old u ≡ chance store.now (listed posts.now) u }
     ensures { known.new ≡ chances store.now.threads store.now (listed posts.now) }
 {
     for (other, post) in posts.iter().enumerate() {

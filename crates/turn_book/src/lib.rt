@@ -1,4 +1,5 @@
-//! The turns of the threads of a test: each thread posts what it asks, and a policy says whose turn it is.
+//! The turns of the threads of a test: each thread posts what it asks, and a policy says whose turn
+//! it is.
 #![tactic(auto)]
 
 mod board;

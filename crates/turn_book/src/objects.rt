@@ -7,8 +7,9 @@ use pct_ask::Ask;
 use sync_store::Touched;
 
 /// The objects that an ask of a thread names. Where it names one, that is the second.
-pub fn named(thread: u32, ask: &Ask) -> (Touched, Touched)
-    ensures { (object : Touched) → names thread ask.now object ≡ (is_object result.0 object || is_object result.1 object) }
+fn named(thread: u32, ask: &Ask) -> (Touched, Touched)
+    ensures { (object : Touched)
+        → names thread ask.now object ≡ (is_object result.0 object || is_object result.1 object) }
 {
     match *ask {
         Ask::Lock { mutex } | Ask::TryLock { mutex } | Ask::Unlock { mutex } => {
@@ -43,7 +44,7 @@ pub fn named(thread: u32, ask: &Ask) -> (Touched, Touched)
 }
 
 /// Whether two are the same object.
-pub fn is_object(one: Touched, other: Touched) -> bool
+fn is_object(one: Touched, other: Touched) -> bool
     ensures { result ≡ is_object one other }
 {
     match (one, other) {
@@ -55,6 +56,17 @@ pub fn is_object(one: Touched, other: Touched) -> bool
         | (Touched::RwLock(a), Touched::RwLock(b)) => a == b,
         _ => false,
     }
+}
+
+/// Whether an ask of a thread names an object. Most steps touch none.
+pub fn is_named(thread: u32, ask: &Ask, object: Touched) -> bool
+    ensures { result ≡ names thread ask.now object }
+{
+    if let Touched::Nothing = object {
+        return false;
+    }
+    let (first, second) = named(thread, ask);
+    is_object(first, object) || is_object(second, object)
 }
 
 /// Whether an ask joins a thread.

@@ -10,9 +10,9 @@ use crate::board::Board;
 use pct_ask::{Outcome, Verdict};
 use policy_pick::{Pick, Policy};
 
-/// Who goes next. Where the last step gave no verdict, what became of the run by who goes next is noted, if that settles it;
-/// `full` says whether the run has as many steps as it may have. An outcome has room for 64 threads, so it is written only
-/// where there is one.
+/// Who goes next. Where the last step gave no verdict, what became of the run by who goes next is
+/// noted, if that settles it; `full` says whether the run has as many steps as it may have. An
+/// outcome has room for 64 threads, so it is written only where there is one.
 pub fn settle<P: Policy>(
     policy: &P,
     board: &Board,
@@ -20,8 +20,13 @@ pub fn settle<P: Policy>(
     outcome: &mut Option<Outcome>,
 ) -> Pick
     requires { SpeaksOf (P.plan policy.now) board.now.store.threads }
-    ensures pick { (schedule : List ℕ) → P.stands policy.now schedule → result ≡ choice (P.plan policy.now) schedule (chances board.now.store.threads board.now.store (listed board.now.posts)) }
-    ensures outcome { (verdict : Option Verdict) → outcome.old ≡ outcome_by verdict None → outcome.new ≡ outcome_by verdict (outcome_by_pick (rest_verdict board.now.store.threads board.now.store (listed board.now.posts)) full result) }
+    ensures pick { (schedule : List ℕ) → P.stands policy.now schedule
+        → result ≡ choice (P.plan policy.now) schedule
+        (chances board.now.store.threads board.now.store (listed board.now.posts)) }
+    ensures outcome { (verdict : Option Verdict) → outcome.old ≡ outcome_by verdict None
+        → outcome.new ≡ outcome_by verdict (outcome_by_pick
+        (rest_verdict board.now.store.threads board.now.store (listed board.now.posts))
+        full result) }
 {
     let next = policy.pick(board.chances());
     if outcome.is_none() && may_end(next, full) {
@@ -45,7 +50,8 @@ fn may_end(next: Pick, full: bool) -> bool
 #[inline(never)]
 fn note_end(next: Pick, board: &Board, full: bool, outcome: &mut Option<Outcome>)
     requires { outcome.old ≡ None }
-    ensures { outcome.new ≡ outcome_by_pick (rest_verdict board.now.store.threads board.now.store (listed board.now.posts)) full next }
+    ensures { outcome.new ≡ outcome_by_pick
+        (rest_verdict board.now.store.threads board.now.store (listed board.now.posts)) full next }
 {
     match next {
         Pick::Nobody => *outcome = Some(Outcome::Verdict(board.rest_verdict())),

@@ -162,7 +162,8 @@ fn steps_of(trace: &[Event], thread: u32) -> usize
     trace.iter().filter(|event| event.thread == thread).count()
 }
 
-/// What a thread asks at its step of a number, from 0, by the rows; behind its last row it has ended.
+/// What a thread asks at its step of a number, from 0, by the rows; behind its last row it has
+/// ended.
 fn post_of(rows: &[Row], thread: u32, number: usize) -> Post {
     let mut left = number;
     for row in rows {
@@ -203,7 +204,8 @@ fn drive<P: Policy>(rt: &impl Abort, book: &mut TurnBook<P>, rows: &[Row], order
     }
 }
 
-/// A run of a test: its order and change points, its rows, of which the first `made` are its steps, and how it ends.
+/// A run of a test: its order and change points, its rows, of which the first `made` are its steps,
+/// and how it ends.
 #[derive(Drop)]
 struct Run<'a> {
     threads: &'a [u32],
@@ -241,7 +243,8 @@ const LOST_UPDATE: [Row; 8] = [
     (2, 15, Ask::Check { holds: false }, 0),
 ];
 
-/// Each of two threads has the mutex that the other one wants. The last two asks are never answered.
+/// Each of two threads has the mutex that the other one wants. The last two asks are never
+/// answered.
 const DEADLOCK: [Row; 4] = [
     (0, 5, Ask::Lock { mutex: 0 }, 0),
     (1, 11, Ask::Lock { mutex: 1 }, 0),

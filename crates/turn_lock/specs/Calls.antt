@@ -14,7 +14,8 @@ made lock = lock.table.shared.key.value.book
 
 -- the seat is one of the lock's table
 abbrev pub IsTableSeatOf : {P : Type 0} → TurnLock P → TableSeat Slot View → Type 0
-IsTableSeatOf lock seat = (seat.table_id ≡ lock.table.shared.table_id) × SameMaking (made lock) seat.me.0.seen
+IsTableSeatOf lock seat =
+    (seat.table_id ≡ lock.table.shared.table_id) × SameMaking (made lock) seat.me.0.seen
 
 -- a seat between two calls: it holds neither the gate nor a slot
 pub record Idle (seat : TableSeat Slot View) : Type 0 where
@@ -27,6 +28,7 @@ pub record SameSeat (old new : TableSeat Slot View) : Type 0 where
   pub table : new.table_id ≡ old.table_id
   pub id : new.id ≡ old.id
 
+-- every thread of the deal is the seat's own
 abbrev pub ServesAll : View → Type 0
 ServesAll v = (t : ℕ) → t < v.seen.deal.threads → Serves v t
 

@@ -1,5 +1,6 @@
 -- What stands between the steps of one call (this project).
-use Rattle.std.specs.Prelude.{◌≡◌, ◌<◌, ◌≤◌, ℕ, Bool, true, false, List, [], ◌∷◌, Option, None, MatchOption}
+use Rattle.std.specs.Prelude.{◌≡◌, ◌<◌, ◌≤◌, ℕ, Bool, true, false, List, [], ◌∷◌, Option, None}
+use Rattle.std.specs.Prelude.{MatchOption}
 use Rattle.pct_ask.specs.declared.ask.Post.{Post}
 use Rattle.turn_book.specs.Told.{IsLawful, Within}
 use Rattle.turn_lock.specs.Seen.{Begins, SameOf, owes_of}
@@ -54,7 +55,8 @@ pub record Stays (v w : View) : Type 0 where
   pub turned : Begins v.turned w.turned
 
 -- a turn of the thread, with what is told of it and who is woken
-pub record IsWork (slot : Slot) (t : ℕ) (post : Option Post) (work : Work) (after : Slot) : Type 0 where
+pub record IsWork (slot : Slot) (t : ℕ) (post : Option Post) (work : Work)
+    (after : Slot) : Type 0 where
   pub turn : Turn
   pub brief : work.brief ≡ brief turn
   pub tells : TurnsTo slot.book t post turn after.book
@@ -68,10 +70,12 @@ pub record IsPassed (slot after : Slot) : Type 0 where
   pub notes : NotesBelow slot.book.deal.threads after.board
 
 -- a turn of one of these threads, where one is answered
-pub record IsFound (threads : List Bool) (slot : Slot) (t : ℕ) (done : Work) (after : Slot) : Type 0 where
+pub record IsFound (threads : List Bool) (slot : Slot) (t : ℕ) (done : Work)
+    (after : Slot) : Type 0 where
   pub serves : Has threads t
   pub work : IsWork slot t None done after
   pub tells : TellsEnd threads t work.turn after.book
 
 abbrev pub IsSwept : List Bool → Slot → Option (ℕ × Work) → Slot → Type 0
-IsSwept serves slot found after = MatchOption found (IsPassed slot after) (λ r. IsFound serves slot r.0 r.1 after)
+IsSwept serves slot found after =
+    MatchOption found (IsPassed slot after) (λ r. IsFound serves slot r.0 r.1 after)

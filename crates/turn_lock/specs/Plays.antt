@@ -1,4 +1,5 @@
--- What each step tells: of the step, the seat before, the number found and the seat after (this project).
+-- What each step tells: of the step, the seat before, the number found and the seat after (this
+-- project).
 use Rattle.std.specs.Prelude.{◌≡◌, ◌≢◌, ◌<◌, ◌+◌, ℕ, true, false, [], ◌∷◌, ◌++◌}
 use Rattle.atomic_table.specs.Table.{Me, Step, rest}
 use Rattle.turn_book.specs.Told.{Told, IsLawful, Within}
@@ -13,15 +14,51 @@ Seated = Me Slot View
 
 -- it holds the gate, and has taken this slot
 abbrev pub with_gate : View → Slot → View
-with_gate v slot = record { live = v.live; serves = v.serves; seen = v.seen; turned = v.turned; takes = v.takes + 1; held = true; base = slot; left = v.left; right = v.right; left_had = v.left_had; right_had = v.right_had }
+with_gate v slot = record {
+  live = v.live;
+  serves = v.serves;
+  seen = v.seen;
+  turned = v.turned;
+  takes = v.takes + 1;
+  held = true;
+  base = slot;
+  left = v.left;
+  right = v.right;
+  left_had = v.left_had;
+  right_had = v.right_had;
+}
 
 -- its exchange failed, and read this holder
 abbrev pub turned_away : View → ℕ → View
-turned_away v holder = record { live = v.live; serves = v.serves; seen = v.seen; turned = v.turned ++ holder ∷ []; takes = v.takes; held = v.held; base = v.base; left = v.left; right = v.right; left_had = v.left_had; right_had = v.right_had }
+turned_away v holder = record {
+  live = v.live;
+  serves = v.serves;
+  seen = v.seen;
+  turned = v.turned ++ holder ∷ [];
+  takes = v.takes;
+  held = v.held;
+  base = v.base;
+  left = v.left;
+  right = v.right;
+  left_had = v.left_had;
+  right_had = v.right_had;
+}
 
 -- it has opened the gate, and gave this book back
 abbrev pub with_book : View → Told → View
-with_book v book = record { live = v.live; serves = v.serves; seen = book; turned = v.turned; takes = v.takes; held = false; base = record { book = book; board = [] }; left = book; right = book; left_had = []; right_had = [] }
+with_book v book = record {
+  live = v.live;
+  serves = v.serves;
+  seen = book;
+  turned = v.turned;
+  takes = v.takes;
+  held = false;
+  base = record { book = book; board = [] };
+  left = book;
+  right = book;
+  left_had = [];
+  right_had = [];
+}
 
 -- a slot that was taken: what was true of it while it was at home
 pub record IsTaken (v : View) (slot : Slot) : Type 0 where
@@ -40,11 +77,14 @@ pub record IsTurnedAway (m : Seated) (found : ℕ) (n : Seated) : Type 0 where
 
 -- compare and exchange on the gate word
 abbrev pub Grabs : Step Slot → Seated → ℕ → Seated → Type 0
-Grabs step m found n = (found ≡ 0 → (slot : Slot) × (n ≡ (with_gate m.0 slot, (0, slot) ∷ m.1)) × IsTaken m.0 slot) × (found ≢ 0 → IsTurnedAway m found n)
+Grabs step m found n =
+    (found ≡ 0 → (slot : Slot) × (n ≡ (with_gate m.0 slot, (0, slot) ∷ m.1)) × IsTaken m.0 slot)
+    × (found ≢ 0 → IsTurnedAway m found n)
 
 -- the store that opens the gate: the slot goes back, and its book is what the seat has seen
 abbrev pub Opens : Step Slot → Seated → ℕ → Seated → Type 0
-Opens step m stored n = (slot : Slot) → m.1 ≡ (0, slot) ∷ rest m.1 → n ≡ (with_book m.0 slot.book, rest m.1)
+Opens step m stored n =
+    (slot : Slot) → m.1 ≡ (0, slot) ∷ rest m.1 → n ≡ (with_book m.0 slot.book, rest m.1)
 
 -- a step on a turn word
 abbrev pub Marks : Step Slot → Seated → ℕ → Seated → Type 0

@@ -1,7 +1,8 @@
--- What is true of the lock's table between any two steps (this project). Word 0 is the gate: it is 0 where the lock is
--- free, and else the holder's thread plus 1. Word t + 1 is the turn word of the thread t, of which nothing is said. The
--- one slot has the book and the wait board.
-use Rattle.std.specs.Prelude.{◌≡◌, ◌<◌, ◌+◌, ◌-◌, ◌++◌, ℕ, Bool, true, false, List, [], None, length, replicate, slice_index, slice_index_or}
+-- What is true of the lock's table between any two steps (this project). Word 0 is the gate: it is
+-- 0 where the lock is free, and else the holder's thread plus 1. Word t + 1 is the turn word of the
+-- thread t, of which nothing is said. The one slot has the book and the wait board.
+use Rattle.std.specs.Prelude.{◌≡◌, ◌<◌, ◌+◌, ◌-◌, ◌++◌, ℕ, Bool, true, false, List, [], None}
+use Rattle.std.specs.Prelude.{length, replicate, slice_index, slice_index_or}
 use mathlib.Core.Option.{some}
 use lib.ListN.{get_elem?}
 use native.Mathlib.Nat.{not-suc-le-zero}
@@ -21,11 +22,13 @@ LockState = State Slot View
 abbrev pub Has : List Bool → ℕ → Type 0
 Has threads t = slice_index_or threads t false ≡ true
 
+-- the thread is one of the seat's own
 abbrev pub Serves : View → ℕ → Type 0
 Serves v t = Has v.serves t
 
--- What a live seat has to do with the book. It has seen a beginning of it, and of its own threads all. Each of the two
--- seats of its last join had seen a beginning of what it has seen since, with all of the threads that it served.
+-- What a live seat has to do with the book. It has seen a beginning of it, and of its own threads
+-- all. Each of the two seats of its last join had seen a beginning of what it has seen since, with
+-- all of the threads that it served.
 pub record Ties (v : View) (book : Told) : Type 0 where
   pub within : Within v.seen book
   pub obeys : ObeysPlan v.seen
@@ -35,7 +38,8 @@ pub record Ties (v : View) (book : Told) : Type 0 where
   pub left_own : (t : ℕ) → Has v.left_had t → SameOf t v.left v.seen
   pub right_own : (t : ℕ) → Has v.right_had t → SameOf t v.right v.seen
 
--- what the seat that holds the gate knows: the slot that it took, and its own number in the gate word
+-- what the seat that holds the gate knows: the slot that it took, and its own number in the gate
+-- word
 pub record HoldsGate (v : View) (slot : Slot) (gate : ℕ) : Type 0 where
   pub base : v.base ≡ slot
   pub thread : ℕ
@@ -61,11 +65,14 @@ pub record Kept (made : Told) (s : LockState) : Type 0 where
   -- the gate
   pub free : slice_index s.words 0 ≡ 0 → get_elem? s.homes 0 ≡ some (some slot)
   pub taken : (t : ℕ) → slice_index s.words 0 ≡ t + 1 → (t < made.deal.threads) × Holder s t
-  pub holds : (id : ℕ) (v : View) → get_elem? s.views id ≡ some v → v.held ≡ true → HoldsGate v slot (slice_index s.words 0)
+  pub holds : (id : ℕ) (v : View) → get_elem? s.views id ≡ some v → v.held ≡ true
+      → HoldsGate v slot (slice_index s.words 0)
   -- the seats
   pub ties : (id : ℕ) (v : View) → get_elem? s.views id ≡ some v → v.live ≡ true → Ties v slot.book
-  pub spent : (id : ℕ) (v : View) (t : ℕ) → get_elem? s.views id ≡ some v → Serves v t → v.live ≡ true
-  pub apart : (i j : ℕ) (v w : View) (t : ℕ) → get_elem? s.views i ≡ some v → get_elem? s.views j ≡ some w → Serves v t → Serves w t → i ≡ j
+  pub spent : (id : ℕ) (v : View) (t : ℕ) → get_elem? s.views id ≡ some v → Serves v t
+      → v.live ≡ true
+  pub apart : (i j : ℕ) (v w : View) (t : ℕ) → get_elem? s.views i ≡ some v
+      → get_elem? s.views j ≡ some w → Serves v t → Serves w t → i ≡ j
 
 -- the first so many of 64 threads
 abbrev pub first_threads : ℕ → List Bool
@@ -73,14 +80,63 @@ first_threads threads = replicate threads true ++ replicate (64 - threads) false
 
 -- the first seat serves every thread of the book, and has seen it
 abbrev pub first_view : Told → View
-first_view book = record { live = true; serves = first_threads book.deal.threads; seen = book; turned = []; takes = 0; held = false; base = record { book = book; board = [] }; left = book; right = book; left_had = []; right_had = [] }
+first_view book = record {
+  live = true;
+  serves = first_threads book.deal.threads;
+  seen = book;
+  turned = [];
+  takes = 0;
+  held = false;
+  base = record { book = book; board = [] };
+  left = book;
+  right = book;
+  left_had = [];
+  right_had = [];
+}
 
 abbrev pub no_deal : Deal
-no_deal = record { threads = 1; vars = []; mutexes = 0; conds = 0; sems = []; barriers = []; rwlocks = 0; some_thread = suc-le-suc zero-le; few_threads = suc-le-suc zero-le; few_vars = zero-le; few_mutexes = zero-le; few_conds = zero-le; few_sems = zero-le; few_barriers = zero-le; few_rwlocks = zero-le; sem_values = λ k d h. absurd (not-suc-le-zero h); barrier_counts = λ k d h. absurd (not-suc-le-zero h) }
+no_deal = record {
+  threads = 1;
+  vars = [];
+  mutexes = 0;
+  conds = 0;
+  sems = [];
+  barriers = [];
+  rwlocks = 0;
+  some_thread = suc-le-suc zero-le;
+  few_threads = suc-le-suc zero-le;
+  few_vars = zero-le;
+  few_mutexes = zero-le;
+  few_conds = zero-le;
+  few_sems = zero-le;
+  few_barriers = zero-le;
+  few_rwlocks = zero-le;
+  sem_values = λ k d h. absurd (not-suc-le-zero h);
+  barrier_counts = λ k d h. absurd (not-suc-le-zero h);
+}
 
 abbrev pub no_book : Told
-no_book = record { deal = no_deal; limit = 1; plan = ByList []; posts = []; trace = []; outcome = None }
+no_book = record {
+  deal = no_deal;
+  limit = 1;
+  plan = ByList [];
+  posts = [];
+  trace = [];
+  outcome = None;
+}
 
 -- the view of a seat that was joined to another
 abbrev pub spent_view : View
-spent_view = record { live = false; serves = []; seen = no_book; turned = []; takes = 0; held = false; base = record { book = no_book; board = [] }; left = no_book; right = no_book; left_had = []; right_had = [] }
+spent_view = record {
+  live = false;
+  serves = [];
+  seen = no_book;
+  turned = [];
+  takes = 0;
+  held = false;
+  base = record { book = no_book; board = [] };
+  left = no_book;
+  right = no_book;
+  left_had = [];
+  right_had = [];
+}

@@ -1,5 +1,5 @@
--- How what two have seen of one book stands to each other (this project). It names no view, so that the view's own file
--- may import it.
+-- How what two have seen of one book stands to each other (this project). It names no view, so that
+-- the view's own file may import it.
 use Rattle.std.specs.Prelude.{◌≡◌, ℕ, ◌==◌, Bool, List, ◌++◌, length}
 use Rattle.pct_ask.specs.declared.ask.Post.{Post}
 use Rattle.pct_ask.specs.declared.event.Event.{Event}

@@ -6,6 +6,7 @@ use Rattle.turn_book.specs.Told.{Told}
 abbrev pub Board : Type 0
 Board = List (Option ℕ)
 
+-- what a call takes with the gate: the book of turns, and the wait board
 pub record Slot : Type 0 where
   pub book : Told
   pub board : Board

@@ -21,9 +21,13 @@ WakesBelow threads (All words) = AreBelow threads words
 abbrev pub HasTurn : Told → ℕ → Type 0
 HasTurn book t = (book.outcome ≡ None) × (choice_of book ≡ Some (Thread t))
 
--- The words that a call changes are those of whoever may go on: the one that was noted for the thread that has its turn, and
--- once an outcome stands every one that was noted.
+-- The words that a call changes are those of whoever may go on: the one that was noted for the
+-- thread that has its turn, and once an outcome stands every one that was noted.
 abbrev pub AreDue : Slot → Wakes → Type 0
-AreDue slot Nobody = (slot.book.outcome ≡ None) × ((u : ℕ) → u < 64 → HasTurn slot.book u → word_noted slot.board u ≡ None)
+AreDue slot Nobody =
+    (slot.book.outcome ≡ None)
+    × ((u : ℕ) → u < 64 → HasTurn slot.book u → word_noted slot.board u ≡ None)
 AreDue slot (One word) = (u : ℕ) × HasTurn slot.book u × (word_noted slot.board u ≡ Some word)
-AreDue slot (All words) = IsSome slot.book.outcome × ((u word : ℕ) → u < 64 → word_noted slot.board u ≡ Some word → Has words word)
+AreDue slot (All words) =
+    IsSome slot.book.outcome
+    × ((u word : ℕ) → u < 64 → word_noted slot.board u ≡ Some word → Has words word)

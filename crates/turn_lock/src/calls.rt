@@ -73,9 +73,12 @@ impl<P: Policy> TurnLock<P> {
         requires of { IsOf self.now seat.old × IsOf self.now other }
         ensures of { IsOf self.now seat.new }
         ensures view { view seat.new ≡ joined (view seat.old) (view other) }
-        ensures seen { Within (view seat.old).seen (view seat.new).seen × Within (view other).seen (view seat.new).seen }
-        ensures own { (t : ℕ) → Serves (view seat.old) t → SameOf t (view seat.old).seen (view seat.new).seen }
-        ensures theirs { (t : ℕ) → Serves (view other) t → SameOf t (view other).seen (view seat.new).seen }
+        ensures seen { Within (view seat.old).seen (view seat.new).seen
+            × Within (view other).seen (view seat.new).seen }
+        ensures own { (t : ℕ) → Serves (view seat.old) t
+            → SameOf t (view seat.old).seen (view seat.new).seen }
+        ensures theirs { (t : ℕ) → Serves (view other) t
+            → SameOf t (view other).seen (view seat.new).seen }
         ensures obeys { ObeysPlan (view seat.new).seen }
     {
         let Seat {
@@ -114,8 +117,8 @@ impl<P: Policy> TurnLock<P> {
         slot.into_book()
     }
 
-    /// Posts, where a post is owed, and asks for the thread's turn. It waits for nobody: where another seat holds the gate
-    /// it says so.
+    /// Posts, where a post is owed, and asks for the thread's turn. It waits for nobody: where
+    /// another seat holds the gate it says so.
     pub fn try_turn(&self, seat: &mut Seat<P>, thread: u32, post: Option<Post>) -> Turn
         requires of { IsOf self.now seat.old }
         requires serves { Serves (view seat.old) thread }
@@ -143,7 +146,8 @@ impl<P: Policy> TurnLock<P> {
         requires owed { IsOwed (view seat.old).seen thread post }
         requires in_range { GivenInRange (made self.now) post }
         ensures of { IsOf self.now seat.new }
-        ensures gives { InBrief (λ turn. Gives (view seat.old) thread post turn (view seat.new)) result }
+        ensures gives { InBrief (λ turn.
+            Gives (view seat.old) thread post turn (view seat.new)) result }
         ensures obeys { ObeysPlan (view seat.new).seen }
         ensures kept { result ≡ Brief.Over → K.kept (view seat.new).seen.outcome place.new }
     {

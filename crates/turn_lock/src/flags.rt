@@ -30,7 +30,10 @@ pub fn either(one: &[bool; 64], other: &[bool; 64]) -> [bool; 64]
 /// Each flag is taken from the first list where that is wanted, and else from the second.
 pub fn chosen(wanted: &[bool; 64], one: &[bool; 64], other: &[bool; 64]) -> [bool; 64]
     ensures flags { length result ≡ 64 }
-    ensures chosen { (t : ℕ) → t < 64 → slice_index_or result t false ≡ (if slice_index_or wanted.now t false then slice_index_or one.now t false else slice_index_or other.now t false) }
+    ensures chosen { (t : ℕ) → t < 64
+        → slice_index_or result t false
+        ≡ (if slice_index_or wanted.now t false then slice_index_or one.now t false
+        else slice_index_or other.now t false) }
 {
     let mut flags = *other;
     for i in 0..64 {

@@ -15,6 +15,8 @@ pub struct Seat<P: Policy> {
     ghost idle: { seat.me.0.held ≡ false },
     ghost none: { seat.me.1 ≡ [] },
     ghost served: { serves ≡ seat.me.0.serves },
-    ghost threads: { (t : ℕ) → slice_index_or serves t false ≡ true → t < seat.me.0.seen.deal.threads },
-    ghost owed: { (t : ℕ) → slice_index_or serves t false ≡ true → slice_index_or owes t false ≡ owes_of seat.me.0.seen t },
+    ghost threads: { (t : ℕ) → slice_index_or serves t false ≡ true
+        → t < seat.me.0.seen.deal.threads },
+    ghost owed: { (t : ℕ) → slice_index_or serves t false ≡ true
+        → slice_index_or owes t false ≡ owes_of seat.me.0.seen t },
 }

@@ -60,7 +60,8 @@ impl<P: Policy> Slot<P> {
         requires lawful { IsLawful self.old.book }
         requires owed { IsOwed self.old.book thread post }
         requires in_range { GivenInRange self.old.book post }
-        ensures turn { InBrief (λ turn. TurnsTo self.old.book thread post turn self.new.book) result }
+        ensures turn { InBrief (λ turn.
+            TurnsTo self.old.book thread post turn self.new.book) result }
         ensures board { self.new.board ≡ self.old.board }
     {
         ask(&mut self.book, thread, post);
@@ -70,7 +71,8 @@ impl<P: Policy> Slot<P> {
     /// The word that was noted for the thread.
     fn noted(&self, thread: u32) -> Option<u32>
         requires { NotesBelow self.now.book.deal.threads self.now.board }
-        ensures some { IfSome result (λ word. (word_noted self.now.board thread ≡ Some word) × (word < self.now.book.deal.threads)) }
+        ensures some { IfSome result (λ word.
+            (word_noted self.now.board thread ≡ Some word) × (word < self.now.book.deal.threads)) }
         ensures none { result ≡ None → thread < 64 → word_noted self.now.board thread ≡ None }
     {
         if thread < 64 {
@@ -83,7 +85,8 @@ impl<P: Policy> Slot<P> {
     /// Every word that was noted.
     fn all_noted(&self) -> [bool; 64]
         requires { NotesBelow self.now.book.deal.threads self.now.board }
-        ensures all { (u word : ℕ) → u < 64 → word_noted self.now.board u ≡ Some word → Has result word }
+        ensures all { (u word : ℕ) → u < 64 → word_noted self.now.board u ≡ Some word
+            → Has result word }
         ensures below { AreBelow self.now.book.deal.threads result }
     {
         let mut words = [false; 64];
@@ -170,7 +173,8 @@ impl<P: Policy> Slot<P> {
     /// Each of these threads has ended.
     fn all_ended(&self, serves: &[bool; 64]) -> bool
         requires { (t : ℕ) → Has serves.now t → t < self.now.book.deal.threads }
-        ensures { result ≡ true → (t : ℕ) → Has serves.now t → standing_of self.now.book t ≡ standings.Ended }
+        ensures { result ≡ true → (t : ℕ) → Has serves.now t
+            → standing_of self.now.book t ≡ standings.Ended }
     {
         for thread in 0..64u32 {
             if serves[thread as usize] && self.book.standing(thread) != Standing::Ended {
@@ -191,7 +195,8 @@ impl<P: Policy> Slot<P> {
         }
     }
 
-    /// A turn of one of these threads, if one is answered. Else the lowest one's word is noted for all.
+    /// A turn of one of these threads, if one is answered. Else the lowest one's word is noted for
+    /// all.
     pub fn sweep<K: Keep>(
         &mut self,
         serves: &[bool; 64],

@@ -75,9 +75,11 @@ impl<P: Policy> TurnLock<P> {
     /// Gives the slot back, and opens the gate.
     pub(crate) fn open_gate(&self, seat: &mut TableSeat<P>)
         requires of { seat.old.table_id ≡ self.now.table.shared.table_id }
-        requires goes { (after : Slot) × HasInHand seat.old.me after × GoesOn seat.old.me.0 seat.old.me.0.base after }
+        requires goes { (after : Slot) × HasInHand seat.old.me after
+            × GoesOn seat.old.me.0 seat.old.me.0.base after }
         ensures same { SameSeat seat.old seat.new }
-        ensures opened { (after : Slot) → HasInHand seat.old.me after → seat.new.me ≡ (with_book seat.old.me.0 after.book, []) }
+        ensures opened { (after : Slot) → HasInHand seat.old.me after
+            → seat.new.me ≡ (with_book seat.old.me.0 after.book, []) }
     {
         self.table.shared.store::<Open>(seat, 0, 0);
     }
@@ -108,8 +110,9 @@ impl<P: Policy> TurnLock<P> {
         }
     }
 
-    /// Marks the turn words of those who may go on. A call does so after it opened the gate: a waiter that looked before the
-    /// change noted its word and read it while it held the book, so it doesn't sleep on the word as it was.
+    /// Marks the turn words of those who may go on. A call does so after it opened the gate: a
+    /// waiter that looked before the change noted its word and read it while it held the book, so
+    /// it doesn't sleep on the word as it was.
     pub(crate) fn wake(&self, seat: &mut TableSeat<P>, wakes: &Wakes)
         requires of { seat.old.table_id ≡ self.now.table.shared.table_id }
         requires words { WakesBelow (made self.now).deal.threads wakes.now }

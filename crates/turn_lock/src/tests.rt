@@ -207,7 +207,8 @@ fn play<R: Wait>(
     unreachable!()
 }
 
-/// Each thread from this one on in a thread of its own, with a seat of its own. Then the seats are one again.
+/// Each thread from this one on in a thread of its own, with a seat of its own. Then the seats are
+/// one again.
 #[cycle(team)]
 fn play_all<R: Threads + Wait + Sync>(
     rt: &R,
@@ -232,7 +233,8 @@ fn play_all<R: Threads + Wait + Sync>(
             ensures { IsOf lock.entry.now result }
         { play(rt, lock, deal, script, mine) },
         move || -> Seat<Pct>
-            requires { IsSync R.row × IsOf lock.now seat × (made lock.now).deal ≡ deal.now × (thread < 64) }
+            requires { IsSync R.row × IsOf lock.now seat × (made lock.now).deal ≡ deal.now
+                × (thread < 64) }
             ensures { IsOf lock.entry.now result }
         { play_all(rt, lock, deal, script, seat, thread + 1) },
     );

@@ -64,7 +64,8 @@ pub fn ask<P: Policy>(book: &mut TurnBook<P>, thread: u32, post: Option<Post>)
 /// The thread has ended, and the run goes on.
 fn has_ended<P: Policy>(book: &TurnBook<P>, thread: u32) -> bool
     requires { thread < book.now.deal.threads }
-    ensures { (result ≡ true) ↔ ((book.now.outcome ≡ None) × (standing_of book.now thread ≡ standings.Ended)) }
+    ensures { (result ≡ true)
+        ↔ ((book.now.outcome ≡ None) × (standing_of book.now thread ≡ standings.Ended)) }
 {
     !book.is_over() && book.standing(thread) == Standing::Ended
 }

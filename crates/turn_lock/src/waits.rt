@@ -23,11 +23,12 @@ use policy_pick::Policy;
 use std::sync::Wait;
 use std::thread::yield_now;
 
-/// How often a waiting thread looks at its turn word, and yields, before it sleeps. Measured with four quiet processors: two
-/// threads that hand the turn to each other by semaphores make a little over 1,000,000 steps a second with 10 looks as with
-/// 1,000, and 360,000 where they sleep at once; a bounded buffer of three threads makes 650,000 with 200 or 1,000 looks,
-/// 620,000 with 50, and 480,000 with 10 or none. Pinned to one processor, 10 looks do as well as 1,000, and none up to a tenth
-/// less.
+/// How often a waiting thread looks at its turn word, and yields, before it sleeps. Measured with
+/// four quiet processors: two threads that hand the turn to each other by semaphores make a little
+/// over 1,000,000 steps a second with 10 looks as with 1,000, and 360,000 where they sleep at once;
+/// a bounded buffer of three threads makes 650,000 with 200 or 1,000 looks, 620,000 with 50, and
+/// 480,000 with 10 or none. Pinned to one processor, 10 looks do as well as 1,000, and none up to a
+/// tenth less.
 const LOOKS: u32 = 200;
 
 impl<P: Policy> TurnLock<P> {
@@ -53,7 +54,8 @@ impl<P: Policy> TurnLock<P> {
         requires owed { owes_of (view seat.old).seen thread ≡ true }
         requires in_range { PostIsInRange (sizes_of_deal (made self.now).deal) post.ask }
         ensures of { IsOf self.now seat.new }
-        ensures turn { InBrief (λ turn. TookAtLast (view seat.old) thread (Some post) turn (view seat.new))
+        ensures turn { InBrief (λ turn.
+            TookAtLast (view seat.old) thread (Some post) turn (view seat.new))
             result }
         ensures obeys { ObeysPlan (view seat.new).seen }
     {
@@ -74,7 +76,8 @@ impl<P: Policy> TurnLock<P> {
         requires owed { owes_of (view seat.old).seen thread ≡ true }
         requires in_range { PostIsInRange (sizes_of_deal (made self.now).deal) post.ask }
         ensures of { IsOf self.now seat.new }
-        ensures turn { InBrief (λ turn. TookAtLast (view seat.old) thread (Some post) turn (view seat.new))
+        ensures turn { InBrief (λ turn.
+            TookAtLast (view seat.old) thread (Some post) turn (view seat.new))
             result }
         ensures obeys { ObeysPlan (view seat.new).seen }
         ensures kept { result ≡ Brief.Over → K.kept (view seat.new).seen.outcome place.new }
@@ -88,13 +91,15 @@ impl<P: Policy> TurnLock<P> {
         unreachable!()
     }
 
-    /// Takes the book once, where the gate is free, and gives a thread of the seat its turn. Where none has it, the turn word
-    /// of the lowest is noted for all of them, and read before the gate is opened.
+    /// Takes the book once, where the gate is free, and gives a thread of the seat its turn. Where
+    /// none has it, the turn word of the lowest is noted for all of them, and read before the gate
+    /// is opened.
     fn round<K: Keep>(&self, seat: &mut Seat<P>, lowest: u32, place: &mut K) -> Round
         requires of { IsOf self.now seat.old }
         requires here { Serves (view seat.old) lowest }
         requires least { (t : ℕ) → Serves (view seat.old) t → lowest ≤ t }
-        requires posted { (t : ℕ) → Serves (view seat.old) t → owes_of (view seat.old).seen t ≡ false }
+        requires posted { (t : ℕ) → Serves (view seat.old) t
+            → owes_of (view seat.old).seen t ≡ false }
         ensures of { IsOf self.now seat.new }
         ensures round { RoundTells (view seat.old) result (view seat.new) }
         ensures obeys { ObeysPlan (view seat.new).seen }
@@ -128,7 +133,8 @@ impl<P: Policy> TurnLock<P> {
         (self.table.shared.peek(thread as usize + 1) % 4294967296) as u32
     }
 
-    /// Looks a number of times whether a thread's turn word has changed from what it was, and then sleeps on it.
+    /// Looks a number of times whether a thread's turn word has changed from what it was, and then
+    /// sleeps on it.
     fn look_or_park<R: Wait>(&self, rt: &R, thread: u32, word: u32)
         requires { thread < (made self.now).deal.threads }
     {
@@ -141,9 +147,9 @@ impl<P: Policy> TurnLock<P> {
         self.table.shared.park(rt, thread as usize + 1, word);
     }
 
-    /// Waits until a thread of the seat has its turn, or the run is over, or all its threads have ended. It sleeps only after
-    /// a round in which it took the book, on its turn word as it was then, which whoever gives one of its threads the turn
-    /// changes afterwards.
+    /// Waits until a thread of the seat has its turn, or the run is over, or all its threads have
+    /// ended. It sleeps only after a round in which it took the book, on its turn word as it was
+    /// then, which whoever gives one of its threads the turn changes afterwards.
     pub fn turn_any<R: Wait>(&self, rt: &R, seat: &mut Seat<P>) -> (u32, Turn)
         requires of { IsOf self.now seat.old }
         requires waits { WaitsForTurn (view seat.old) }

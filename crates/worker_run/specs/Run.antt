@@ -1,7 +1,8 @@
--- The run of a priority order and change points (the scheduler of PCT: Burckhardt, Kothari, Musuvathi, Nagarakatte, "A
--- Randomized Scheduler with Probabilistic Guarantees of Finding Bugs", 2010) and its directed run, where moments stand in
--- the place of change points. Each step is by the enabled thread of the greatest rank; every thread's post is known. (The
--- limit, and how a run ends where nobody may go on, are this project's.)
+-- The run of a priority order and change points (the scheduler of PCT: Burckhardt, Kothari,
+-- Musuvathi, Nagarakatte, "A Randomized Scheduler with Probabilistic Guarantees of Finding Bugs",
+-- 2010) and its directed run, where moments stand in the place of change points. Each step is by
+-- the enabled thread of the greatest rank; every thread's post is known. (The limit, and how a run
+-- ends where nobody may go on, are this project's.)
 use Rattle.std.specs.Prelude.{ℕ, zero, suc, Bool, false, ◌&&◌, ◌||◌, not, nat_le, List, [], ◌∷◌, ◌++◌, Option, Some, None}
 use Rattle.std.specs.Option.{option_map, option_and_then, option_map_or}
 use Rattle.std.specs.List.{find, list_all}
@@ -19,7 +20,8 @@ use Rattle.turn_book.specs.Chances.{threads_below, rest_verdict}
 use Rattle.turn_book.specs.Obeys.{next_in}
 use Rattle.worker_run.specs.Bodies.{Pending, pending_of, source_of_bodies}
 
--- what a run is made of: what the threads share, their bodies, and each thread's rank after a schedule
+-- what a run is made of: what the threads share, their bodies, and each thread's rank after a
+-- schedule
 pub record Setting : Type 0 where
   pub deal : Deal
   pub bodies : List Pending
@@ -31,39 +33,56 @@ ask_in setting world t = (pending_of setting.bodies t (answers_of t world.events
 
 -- whether a thread may take its next step
 abbrev pub may_go : Setting → World → ℕ → Bool
-may_go setting world t = option_map_or (enabled world.store (has_ended (source_of_bodies setting.bodies) world.events) t) (ask_in setting world t) false
+may_go setting world t =
+    option_map_or
+    (enabled world.store (has_ended (source_of_bodies setting.bodies) world.events) t)
+    (ask_in setting world t) false
 
 -- whether a thread may go, and none of a greater rank may
 abbrev pub goes_first : Setting → List ℕ → World → ℕ → Bool
 goes_first setting schedule world t =
-    may_go setting world t && list_all (λ other. not (may_go setting world other) || nat_le (setting.rank_after schedule other) (setting.rank_after schedule t)) (threads_below setting.deal.threads)
+    may_go setting world t
+    && list_all
+    (λ other.
+    not (may_go setting world other)
+    || nat_le (setting.rank_after schedule other) (setting.rank_after schedule t))
+    (threads_below setting.deal.threads)
 
 -- the enabled thread of the greatest rank
 abbrev pub next_thread : Setting → List ℕ → World → Option ℕ
-next_thread setting schedule world = find (goes_first setting schedule world) (threads_below setting.deal.threads)
+next_thread setting schedule world =
+    find (goes_first setting schedule world) (threads_below setting.deal.threads)
 
 -- what comes after a schedule
 pub data Next : Type 0 where
   Over : (verdict : Verdict) → Next
   Goes : (thread : ℕ) → Next
 
--- The verdict of the last step; else, where no thread is enabled, that the run has passed or is stuck; else the next thread.
+-- The verdict of the last step; else, where no thread is enabled, that the run has passed or is
+-- stuck; else the next thread.
 abbrev pub next_of : Setting → World → Option Verdict → Option ℕ → Next
 next_of setting world (Some verdict) t = Over verdict
-next_of setting world None None = Over (rest_verdict setting.deal.threads world.store (next_in (source_of_bodies setting.bodies) world))
+next_of setting world None None =
+    Over
+    (rest_verdict setting.deal.threads world.store
+    (next_in (source_of_bodies setting.bodies) world))
 next_of setting world None (Some t) = Goes t
 
+-- what comes after a schedule, in the world that it led to
 abbrev pub next_after : Setting → List ℕ → World → Next
-next_after setting schedule world = next_of setting world world.verdict (next_thread setting schedule world)
+next_after setting schedule world =
+    next_of setting world world.verdict (next_thread setting schedule world)
 
 -- a run's steps and its verdict
 abbrev pub Run : Type 0
 Run = List Event × Verdict
 
+-- a run that may have no more steps: it is over, or cut where a thread would go on
 abbrev pub cut_at : World → Next → Run
 cut_at world (Over verdict) = (world.events, verdict)
 cut_at world (Goes t) = (world.events, Cut)
 
+-- a run that may have more steps: it is over, or goes `further` with the next thread
 abbrev pub go_on : World → (ℕ → Option Run) → Next → Option Run
 go_on world further (Over verdict) = Some (world.events, verdict)
 go_on world further (Goes t) = further t
@@ -71,14 +90,23 @@ go_on world further (Goes t) = further t
 -- the run from a schedule on, with so many steps left
 abbrev pub run_from : Setting → ℕ → List ℕ → Option Run
 run_from setting zero schedule =
-    option_map (λ world. cut_at world (next_after setting schedule world)) (world_after (first setting.deal) (source_of_bodies setting.bodies) schedule)
+    option_map (λ world. cut_at world (next_after setting schedule world))
+    (world_after (first setting.deal) (source_of_bodies setting.bodies) schedule)
 run_from setting (suc left) schedule =
-    option_and_then (λ world. go_on world (λ t. run_from setting left (schedule ++ t ∷ [])) (next_after setting schedule world)) (world_after (first setting.deal) (source_of_bodies setting.bodies) schedule)
+    option_and_then
+    (λ world.
+    go_on world (λ t. run_from setting left (schedule ++ t ∷ []))
+    (next_after setting schedule world))
+    (world_after (first setting.deal) (source_of_bodies setting.bodies) schedule)
 
--- The run of an order and change points, of at most `limit` steps. It is cut where it would be longer.
+-- The run of an order and change points, of at most `limit` steps. It is cut where it would be
+-- longer.
 abbrev pub run : Deal → List Pending → List ℕ → List ℕ → ℕ → Option Run
-run deal bodies order points limit = run_from (record { deal = deal; bodies = bodies; rank_after = rank order points }) limit []
+run deal bodies order points limit =
+    run_from (record { deal = deal; bodies = bodies; rank_after = rank order points }) limit []
 
 -- the same with moments in the place of change points
 abbrev pub directed : Deal → List Pending → List ℕ → List Moment → ℕ → Option Run
-directed deal bodies order events limit = run_from (record { deal = deal; bodies = bodies; rank_after = rank_by_events order events }) limit []
+directed deal bodies order events limit =
+    run_from (record { deal = deal; bodies = bodies; rank_after = rank_by_events order events })
+    limit []

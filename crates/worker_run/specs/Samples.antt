@@ -1,5 +1,6 @@
--- The threads of a small test (this project): the first two each read a variable and write the next number into it, and
--- the third waits for both and checks that it is 2. Tests and examples run them.
+-- The threads of a small test (this project): the first two each read a variable and write the next
+-- number into it, and the third waits for both and checks that it is 2. Tests and examples run
+-- them.
 use Rattle.std.specs.Prelude.{ℕ, zero, suc, ◌+◌, ℤ, pos, Bool, true, false, if◌then◌else◌, List, [], ◌∷◌, Some, None}
 use Rattle.std.specs.Ordering.{int_eq}
 use Rattle.pct_ask.specs.declared.ask.Ask.{Ask}
@@ -10,13 +11,16 @@ use Rattle.pct_ask.specs.declared.ask.Post.{Post}
 abbrev pub next_number : ℤ → ℤ
 next_number seen = if int_eq seen (pos 0) then pos 1 else pos 2
 
+-- a post with this ask, on a line of the test
 abbrev pub asks : Ask → ℕ → Post
 asks ask line = record { ask = Some ask; line = line }
 
+-- a post by which the thread has ended, on a line of the test
 abbrev pub ends : ℕ → Post
 ends line = record { ask = None; line = line }
 
--- a thread that reads and writes, from this line on, by how many answers it has had and the last of them
+-- a thread that reads and writes, from this line on, by how many answers it has had and the last of
+-- them
 abbrev pub counter_post : ℕ → ℕ → ℤ → Post
 counter_post line zero seen = asks (Read 0) line
 counter_post line (suc zero) seen = asks (Write 0 (next_number seen)) (line + 1)
@@ -30,6 +34,8 @@ checker_post (suc (suc zero)) seen = asks (Read 0) 14
 checker_post (suc (suc (suc zero))) seen = asks (Check (int_eq seen (pos 2))) 15
 checker_post (suc (suc (suc (suc steps)))) seen = ends 16
 
+-- what each thread of the test posts, by how many answers it has had and the last of them: the
+-- first two begin on the lines 4 and 8
 abbrev pub sample_post : ℕ → ℕ → ℤ → Post
 sample_post zero steps seen = counter_post 4 steps seen
 sample_post (suc zero) steps seen = counter_post 8 steps seen

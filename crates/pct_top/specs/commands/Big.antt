@@ -1,4 +1,4 @@
--- `big`: the campaign of the large script, counted.
+-- `big`: the campaign of the large script, counted (this project).
 use Rattle.std.specs.Prelude.{◌≡◌, ℕ, not, List, [], ◌∷◌, length, None, codes, decimal}
 use Rattle.std.specs.List.{flat_map, count_by}
 use Rattle.pct_ask.specs.Lines.{lines_of}
@@ -17,6 +17,7 @@ use Rattle.pct_top.specs.commands.Campaign.{setup_of, all_pass, AreOfSeeds}
 abbrev pub failures : List Row → ℕ
 failures rows = count_by (λ row. not (is_passed row.verdict)) rows
 
+-- the words of a line: what is counted, and how many there are
 abbrev pub counted : List ℕ → ℕ → List (List ℕ)
 counted word count = word ∷ decimal count ∷ []
 
@@ -28,6 +29,7 @@ big_lines lines steps rows groups =
     ∷ counted (codes "runs") (length rows) ∷ counted (codes "failures") (failures rows)
     ∷ counted (codes "groups") (length groups) ∷ []
 
+-- how many lines the text of the large script with so many pieces has
 abbrev pub script_lines : ℕ → ℕ
 script_lines pieces = length (lines_of (layout (large_script pieces)))
 
@@ -43,6 +45,8 @@ OfBigRuns pieces k script deal printed =
     × AreOfSeeds (setup_of script deal 3 k 10000) 1 20 rows groups
     × (printed ≡ told_big pieces k rows groups)
 
+-- the campaign of the large script, its points drawn from as many steps as its run in declared
+-- order has
 abbrev pub OfBig : ℕ → ScriptText → Deal → Printed → Type 0
 OfBig pieces script deal printed =
     (k : ℕ) × DrawsFrom script deal 10000 None k × OfBigRuns pieces k script deal printed

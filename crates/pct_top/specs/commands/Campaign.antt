@@ -1,4 +1,4 @@
--- `campaign`: the report on a script's runs over seeds.
+-- `campaign`: the report on a script's runs over seeds (this project).
 use Rattle.std.specs.Prelude.{◌≡◌, ℕ, Bool, if◌then◌else◌, List, length, map, Option, Some}
 use Rattle.std.specs.List.{list_all}
 use Rattle.pct_ask.specs.declared.Deal.{Deal}
@@ -14,6 +14,7 @@ use Rattle.report_text.specs.Json.{json_of}
 use Rattle.pct_top.specs.Printed.{Printed, told}
 use Rattle.pct_top.specs.Runs.{DrawsFrom, is_passed}
 
+-- what the runs of a campaign of a script have in common
 abbrev pub setup_of : ScriptText → Deal → ℕ → ℕ → ℕ → Setup
 setup_of script deal depth steps limit = record {
   deal = deal;
@@ -23,6 +24,7 @@ setup_of script deal depth steps limit = record {
   limit = limit;
 }
 
+-- what a report says that its campaign was run with
 abbrev pub frame_of : Deal → ℕ → ℕ → ℕ → Frame
 frame_of deal depth steps limit =
     record { threads = deal.threads; steps = steps; depth = depth; limit = limit }
@@ -54,6 +56,8 @@ OfSeeds first count depth k limit json script deal printed =
     × AreOfSeeds (setup_of script deal depth k limit) first count rows groups
     × (printed ≡ told_campaign json script (frame_of deal depth k limit) rows groups)
 
+-- the report on the runs of so many seeds, whose points are drawn from the steps that are given, or
+-- else from as many as the run in declared order has
 abbrev pub OfCampaign : ℕ → ℕ → ℕ → Option ℕ → ℕ → Bool → ScriptText → Deal → Printed → Type 0
 OfCampaign first count depth steps limit json script deal printed =
     (k : ℕ) × DrawsFrom script deal limit steps k

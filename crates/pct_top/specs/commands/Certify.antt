@@ -1,4 +1,5 @@
--- `certify`: whether every order that places a directive's thread last leads to its verdict.
+-- `certify`: whether every order that places a directive's thread last leads to its verdict (this
+-- project).
 use Rattle.std.specs.Prelude.{◌≡◌, ℕ, Bool, true, false, List, [], ◌∷◌, ◌++◌, map, codes, decimal}
 use Rattle.std.specs.List.{flat_map}
 use Rattle.pct_ask.specs.NameLists.{NameLists}
@@ -11,7 +12,8 @@ use Rattle.directive.specs.declared.directive.Directive.{Directive}
 use Rattle.directive_run.specs.Certifying.{Certifies}
 use Rattle.directive_run.specs.declared.answers.CertifyRow.{CertifyRow}
 use Rattle.directive_run.specs.declared.answers.Certified.{Certified}
-use Rattle.directive_run.specs.declared.answers.Certified.TheVariants.{Yes, Refuted, TooLong, TooManyThreads}
+use Rattle.directive_run.specs.declared.answers.Certified.TheVariants.{Yes, Refuted, TooLong}
+use Rattle.directive_run.specs.declared.answers.Certified.TheVariants.{TooManyThreads}
 use Rattle.pct_top.specs.Printed.{Printed, told, OfDirective}
 
 -- `order` and the names of its threads, the highest priority first
@@ -37,9 +39,11 @@ certificate_lines names (TooLong order many) =
 certificate_lines names (TooManyThreads threads) =
     (codes "toomany" ∷ decimal threads ∷ []) ∷ []
 
+-- the lines of the certificate, each with its LF
 abbrev pub certificate_text : NameLists → Certified → List ℕ
 certificate_text names certified = flat_map line_text (certificate_lines names certified)
 
+-- whether the answer is that the directive is certified
 abbrev pub is_certified : Certified → Bool
 is_certified (Yes bound rows) = true
 is_certified (Refuted order verdict) = false

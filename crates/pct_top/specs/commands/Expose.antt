@@ -1,4 +1,4 @@
--- `expose`: the run that a directive exposes under an order.
+-- `expose`: the run that a directive exposes under an order (this project).
 use Rattle.std.specs.Prelude.{◌≡◌, ℕ, false, List, [], ◌∷◌, Some, codes, decimal}
 use Rattle.pct_ask.specs.TraceText.{line_text}
 use Rattle.pct_ask.specs.declared.Deal.{Deal}

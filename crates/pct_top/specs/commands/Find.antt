@@ -1,5 +1,6 @@
--- `find`: from a script's failing run to a short directive.
-use Rattle.std.specs.Prelude.{◌≡◌, ℕ, ◌-◌, Bool, true, false, List, [], ◌∷◌, length, slice_index, codes, decimal}
+-- `find`: from a script's failing run to a short directive (this project).
+use Rattle.std.specs.Prelude.{◌≡◌, ℕ, ◌-◌, Bool, true, false, List, [], ◌∷◌, length, slice_index}
+use Rattle.std.specs.Prelude.{codes, decimal}
 use Rattle.pct_ask.specs.NameLists.{NameLists}
 use Rattle.pct_ask.specs.TraceText.{line_text}
 use Rattle.pct_ask.specs.declared.Deal.{Deal}
@@ -29,6 +30,7 @@ found_text names order (Events events verdict steps) =
     directive_text names (plan_of order events verdict)
 found_text names order (Passes steps) = line_text (codes "passes" ∷ decimal steps ∷ [])
 
+-- whether the run passes, so that there is no directive to find
 abbrev pub passes : FoundOut → Bool
 passes (Events events verdict steps) = false
 passes (Passes steps) = true

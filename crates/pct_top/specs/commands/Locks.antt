@@ -1,5 +1,6 @@
--- `locks`: in which order a script's run took its mutexes.
-use Rattle.std.specs.Prelude.{◌≡◌, ℕ, Bool, true, false, List, [], ◌∷◌, ◌++◌, length, map, Some, codes, decimal}
+-- `locks`: in which order a script's run took its mutexes (this project).
+use Rattle.std.specs.Prelude.{◌≡◌, ℕ, Bool, true, false, List, [], ◌∷◌, ◌++◌, length, map, Some}
+use Rattle.std.specs.Prelude.{codes, decimal}
 use Rattle.std.specs.List.{flat_map}
 use Rattle.pct_ask.specs.NameLists.{NameLists}
 use Rattle.pct_ask.specs.VerdictText.{thread_name}
@@ -26,9 +27,11 @@ lock_lines names (Order order) = (codes "order" ∷ map (name_at names.mutexes) 
 lock_lines names (Cycle cycle) =
     map (nesting_words names) cycle ++ (codes "cycle" ∷ decimal (length cycle) ∷ []) ∷ []
 
+-- the lines of the report, each with its LF
 abbrev pub lock_text : NameLists → LockReport → List ℕ
 lock_text names report = flat_map line_text (lock_lines names report)
 
+-- whether the report is a good order, and no cycle
 abbrev pub is_order : LockReport → Bool
 is_order (Order order) = true
 is_order (Cycle cycle) = false

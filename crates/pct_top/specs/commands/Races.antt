@@ -1,4 +1,4 @@
--- `races`: the data races of a script's run.
+-- `races`: the data races of a script's run (this project).
 use Rattle.std.specs.Prelude.{◌≡◌, ℕ, ◌==◌, List, [], ◌∷◌, ◌++◌, length, map, Some, codes, decimal}
 use Rattle.std.specs.List.{flat_map}
 use Rattle.pct_ask.specs.NameLists.{NameLists}
@@ -21,6 +21,7 @@ abbrev pub race_lines : NameLists → List Race → List (List (List ℕ))
 race_lines names races =
     map (race_words names) races ++ (codes "races" ∷ decimal (length races) ∷ []) ∷ []
 
+-- the lines of the races and of their number, each with its LF
 abbrev pub race_text : NameLists → List Race → List ℕ
 race_text names races = flat_map line_text (race_lines names races)
 

@@ -1,4 +1,5 @@
--- `replay`: a trace is confirmed, or it is told where it departs from the run of its threads.
+-- `replay`: a trace is confirmed, or it is told where it departs from the run of its threads (this
+-- project).
 use Rattle.std.specs.Prelude.{◌≡◌, ℕ, Bool, true, false, List, [], ◌∷◌, codes, decimal}
 use Rattle.std.specs.List.{flat_map}
 use Rattle.pct_ask.specs.declared.Deal.{Deal}
@@ -38,9 +39,11 @@ reply_lines names (Departs step found written) =
     (codes "departs" ∷ decimal step ∷ []) ∷ (codes "written" ∷ written_words names step written)
     ∷ (codes "found" ∷ found_words names step found) ∷ []
 
+-- the lines of the reply, each with its LF
 abbrev pub reply_text : NameLists → Replayed → List ℕ
 reply_text names reply = flat_map line_text (reply_lines names reply)
 
+-- whether the trace is confirmed, and departs nowhere
 abbrev pub is_confirmed : Replayed → Bool
 is_confirmed (Confirmed verdict) = true
 is_confirmed (Departs step found written) = false

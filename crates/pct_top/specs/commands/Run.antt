@@ -1,4 +1,4 @@
--- `run`: the trace of a script's run.
+-- `run`: the trace of a script's run (this project).
 use Rattle.std.specs.Prelude.{◌≡◌, ℕ, List, Some}
 use Rattle.pct_ask.specs.declared.Deal.{Deal}
 use Rattle.script_tree.specs.ScriptText.{ScriptText}

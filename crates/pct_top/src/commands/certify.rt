@@ -1,6 +1,7 @@
 //! `certify`: whether every order that places a directive's thread last leads to its verdict.
 
-ghost use Rattle.std.specs.Prelude.{◌≡◌, ℕ, [], ◌∷◌, ◌++◌, List, map, OnOk, IfOk, Some, take, codes, decimal};
+ghost use Rattle.std.specs.Prelude.{◌≡◌, ℕ, [], ◌∷◌, ◌++◌, List, map, OnOk, IfOk, Some, take};
+ghost use Rattle.std.specs.Prelude.{codes, decimal};
 ghost use Rattle.directive.specs.Answers.{told as plain};
 ghost use Rattle.directive.specs.Directive.{IsDirective};
 ghost use Rattle.pct_ask.specs.TraceText.{line_text};
@@ -12,7 +13,9 @@ ghost use Rattle.pct_top.specs.Printed.{directive_bytes};
 ghost use Rattle.pct_top.specs.Ready.{IsReady};
 ghost use Rattle.pct_top.specs.Files.{Misses};
 ghost use Rattle.pct_top.specs.Outcome.{printed_of, Comes};
-ghost use Rattle.pct_top.specs.commands.Certify.{order_words, row_words, bound_words, certificate_text, is_certified as is_certified_by, PrintsCertificate, OfCertify};
+ghost use Rattle.pct_top.specs.commands.Certify.{order_words, row_words, bound_words};
+ghost use Rattle.pct_top.specs.commands.Certify.{certificate_text, is_certified as is_certified_by};
+ghost use Rattle.pct_top.specs.commands.Certify.{PrintsCertificate, OfCertify};
 ghost use Rattle.pct_top.specs.commands.KnownCertificate.{IsKnownCertificate};
 
 use crate::files::read_directed;

@@ -6,7 +6,8 @@ ghost use Rattle.trace_text.specs.Lawful.{IsStepCount};
 ghost use Rattle.pct_top.specs.Ready.{IsReady};
 ghost use Rattle.pct_top.specs.Priorities.{ArePriorities};
 ghost use Rattle.pct_top.specs.Outcome.{printed_of};
-ghost use Rattle.pct_top.specs.commands.Find.{last_of, found_text, IsWellFormed, passes as passes_by, PrintsFound};
+ghost use Rattle.pct_top.specs.commands.Find.{last_of, found_text, IsWellFormed};
+ghost use Rattle.pct_top.specs.commands.Find.{passes as passes_by, PrintsFound};
 ghost use Rattle.pct_top.specs.commands.KnownFinding.{IsKnownFinding};
 
 use crate::lines::push_count;

@@ -7,7 +7,8 @@ ghost use Rattle.trace_text.specs.Lawful.{IsStepCount};
 ghost use Rattle.pct_top.specs.Ready.{IsReady};
 ghost use Rattle.pct_top.specs.Priorities.{ArePriorities};
 ghost use Rattle.pct_top.specs.Outcome.{printed_of};
-ghost use Rattle.pct_top.specs.commands.Locks.{nesting_words, lock_text, is_order as is_order_by, PrintsLocks};
+ghost use Rattle.pct_top.specs.commands.Locks.{nesting_words, lock_text, is_order as is_order_by};
+ghost use Rattle.pct_top.specs.commands.Locks.{PrintsLocks};
 
 use crate::lines::{name_of, push_number, push_size, push_word};
 use crate::outcome::Outcome;

@@ -8,7 +8,9 @@ ghost use Rattle.pct_top.specs.Printed.{trace_bytes};
 ghost use Rattle.pct_top.specs.Ready.{IsReady};
 ghost use Rattle.pct_top.specs.Files.{Misses};
 ghost use Rattle.pct_top.specs.Outcome.{printed_of, Comes};
-ghost use Rattle.pct_top.specs.commands.Replay.{written_words, found_words, reply_text, is_confirmed as is_confirmed_by, PrintsReply, OfReplay};
+ghost use Rattle.pct_top.specs.commands.Replay.{written_words, found_words, reply_text};
+ghost use Rattle.pct_top.specs.commands.Replay.{is_confirmed as is_confirmed_by, PrintsReply};
+ghost use Rattle.pct_top.specs.commands.Replay.{OfReplay};
 ghost use Rattle.pct_top.specs.commands.KnownReply.{IsKnownWritten, IsKnownFound, IsKnownReply};
 
 use crate::files::read_told;

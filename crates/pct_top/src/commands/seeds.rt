@@ -8,7 +8,8 @@ ghost use Rattle.report_text.specs.Report.{IsWritable};
 ghost use Rattle.pct_top.specs.Settings.{IsDepth};
 ghost use Rattle.pct_top.specs.Ready.{IsReady};
 ghost use Rattle.pct_top.specs.Outcome.{printed_of};
-ghost use Rattle.pct_top.specs.commands.Campaign.{all_pass as all_pass_by, campaign_text, OfCampaign};
+ghost use Rattle.pct_top.specs.commands.Campaign.{all_pass as all_pass_by, campaign_text};
+ghost use Rattle.pct_top.specs.commands.Campaign.{OfCampaign};
 
 use crate::outcome::Outcome;
 use crate::priorities::steps_of;

@@ -109,7 +109,8 @@ const ADDED: [Event; 8] = [
     step!(2, 15, Ask::Check { holds: true }, 0),
 ];
 
-/// The first thread raises its flag after so many answers, and the second before its first post. The others never do.
+/// The first thread raises its flag after so many answers, and the second before its first post.
+/// The others never do.
 fn lookers<'c, 'f>(
     alloc: Global,
     code: &'c Code,
@@ -117,7 +118,8 @@ fn lookers<'c, 'f>(
     first: &'f Flag,
     second: &'f Flag,
 ) -> Result<Vec<Looker<'c, 'f>>, NoMemory>
-    ensures { IfOk result (λ bodies. map (λ b. pending_of b.body) bodies.items ≡ map flat_pending (listing code.now)) }
+    ensures { IfOk result (λ bodies.
+        map (λ b. pending_of b.body) bodies.items ≡ map flat_pending (listing code.now)) }
 {
     let mut lookers = Vec::new(alloc);
     for thread in 0..code.threads() {

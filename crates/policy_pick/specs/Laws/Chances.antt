@@ -1,10 +1,12 @@
 -- What a chance tells of a pick.
 use Rattle.std.proofs.Common.{◌≡◌, ℕ, ◌<◌, Bool, true, false, List, length, refl, ap, sym, ◌∙◌}
 use Rattle.policy_pick.specs.declared.chance.Chance.{Chance}
-use Rattle.policy_pick.specs.declared.chance.Chance.TheVariants.{Away, Ready, Blocked, Unknown, Ended}
+use Rattle.policy_pick.specs.declared.chance.Chance.TheVariants.{Away, Ready, Blocked, Unknown}
+use Rattle.policy_pick.specs.declared.chance.Chance.TheVariants.{Ended}
 use Rattle.policy_pick.specs.declared.chance.Pick.{Pick}
 use Rattle.policy_pick.specs.Plan.{Plan}
-use Rattle.policy_pick.specs.Choice.{MayDepart, chance_of, is_open, is_known, pick_at, HasAwayTarget, IsSound, IsWaits, KeepsKnown}
+use Rattle.policy_pick.specs.Choice.{MayDepart, chance_of, is_open, is_known, pick_at}
+use Rattle.policy_pick.specs.Choice.{HasAwayTarget, IsSound, IsWaits, KeepsKnown}
 
 -- a thread that a walk passes over is known
 pub closed-known : (c : Chance) → is_open c ≡ false → is_known c ≡ true
@@ -48,7 +50,8 @@ pub sound-at : (plan : Plan) (chances : List Chance) (ready : Pick) (thread : �
     → (is_open (chance_of chances thread) ≡ false → MayDepart plan)
     → HasAwayTarget chances (chance_of chances thread)
     → IsSound plan chances (pick_at ready thread (chance_of chances thread))
-sound-at plan chances ready thread within sound departs target = sound-by plan chances ready thread (chance_of chances thread) within refl sound departs target
+sound-at plan chances ready thread within sound departs target =
+    sound-by plan chances ready thread (chance_of chances thread) within refl sound departs target
 
 open-by : (earlier later : Chance) (b : Bool) → is_open earlier ≡ b
     → (is_known earlier ≡ true → later ≡ earlier) → is_open later ≡ true → is_open earlier ≡ true
@@ -60,7 +63,9 @@ open-by earlier later false is keeps goes =
 pub open-before : (earlier later : List Chance) (thread : ℕ) → KeepsKnown earlier later
     → thread < length earlier → is_open (chance_of later thread) ≡ true
     → is_open (chance_of earlier thread) ≡ true
-open-before earlier later thread keeps within goes = open-by (chance_of earlier thread) (chance_of later thread) (is_open (chance_of earlier thread)) refl (keeps.known thread within) goes
+open-before earlier later thread keeps within goes =
+    open-by (chance_of earlier thread) (chance_of later thread) (is_open (chance_of earlier thread))
+    refl (keeps.known thread within) goes
 
 -- one that was closed stays closed
 pub closed-after : (earlier later : List Chance) (thread : ℕ) → KeepsKnown earlier later

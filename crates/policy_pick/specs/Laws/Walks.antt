@@ -1,5 +1,7 @@
 -- The walks over the threads: where they stop, and that a stop stays.
-use Rattle.std.proofs.Common.{◌≡◌, ℕ, zero, suc, ◌<◌, ◌≤◌, Bool, true, false, not, ◌&&◌, ◌||◌, leb, List, length, get_or, Some, None, refl, sym, ap, subst, ◌∙◌, arith, ◌⊎◌, inl, inr}
+use Rattle.std.proofs.Common.{◌≡◌, ℕ, zero, suc, ◌<◌, ◌≤◌, Bool, true, false, not, ◌&&◌, ◌||◌, leb}
+use Rattle.std.proofs.Common.{List, length, get_or, Some, None, refl, sym, ap, subst, ◌∙◌, arith}
+use Rattle.std.proofs.Common.{◌⊎◌, inl, inr}
 use Rattle.std.specs.List.{find, list_all}
 use Rattle.std.proofs.lemmas.Bool.{cases_lt, cases_eq, and_parts}
 use Rattle.std.proofs.lemmas.Bool.Decides.{nat_tests}
@@ -8,8 +10,11 @@ use Rattle.policy_pick.specs.declared.chance.Chance.TheVariants.{Ready}
 use Rattle.policy_pick.specs.declared.chance.Pick.{Pick}
 use Rattle.policy_pick.specs.declared.chance.Pick.TheVariants.{Thread, Nobody, Departs}
 use Rattle.policy_pick.specs.Plan.{Plan}
-use Rattle.policy_pick.specs.Choice.{MayDepart, chance_of, is_open, is_known, pick_at, pick_of_walk, threads_of, is_highest, choice_by_rank, choice_by_number, TargetsAreAway, IsSound, IsWaits, KeepsKnown}
-use Rattle.policy_pick.specs.Laws.Finds.{find-is, find-none, found-or-none, IsFirst, all-below, all-from-below}
+use Rattle.policy_pick.specs.Choice.{MayDepart, chance_of, is_open, is_known, pick_at, pick_of_walk}
+use Rattle.policy_pick.specs.Choice.{threads_of, is_highest, choice_by_rank, choice_by_number}
+use Rattle.policy_pick.specs.Choice.{TargetsAreAway, IsSound, IsWaits, KeepsKnown}
+use Rattle.policy_pick.specs.Laws.Finds.{find-is, find-none, found-or-none, IsFirst, all-below}
+use Rattle.policy_pick.specs.Laws.Finds.{all-from-below}
 use Rattle.policy_pick.specs.Laws.Chances.{open-ready, sound-at, open-before, closed-after}
 
 le-from : (goes : Bool) (low high : ℕ) → (not goes || leb low high) ≡ true → goes ≡ true
@@ -39,7 +44,8 @@ pub highest-parts : (ranks : List ℕ) (chances : List Chance) (thread : ℕ)
     → is_highest ranks chances thread ≡ true
     → (open_at chances thread ≡ true) × Leads ranks chances thread
 highest-parts ranks chances thread e =
-    let test : ℕ → Bool = λ other. not (open_at chances other) || leb (get_or ranks other 0) (get_or ranks thread 0) in
+    let test : ℕ → Bool = λ other.
+    not (open_at chances other) || leb (get_or ranks other 0) (get_or ranks thread 0) in
     let both = and_parts (open_at chances thread) (list_all test (threads_of chances)) e in (
       both.0,
       λ other within goes. le-from (open_at chances other) (get_or ranks other 0)
@@ -50,7 +56,8 @@ pub highest-from : (ranks : List ℕ) (chances : List Chance) (thread : ℕ)
     → open_at chances thread ≡ true → Leads ranks chances thread
     → is_highest ranks chances thread ≡ true
 highest-from ranks chances thread goes leads =
-    let test : ℕ → Bool = λ other. not (open_at chances other) || leb (get_or ranks other 0) (get_or ranks thread 0) in
+    let test : ℕ → Bool = λ other.
+    not (open_at chances other) || leb (get_or ranks other 0) (get_or ranks thread 0) in
     and-both (open_at chances thread) (list_all test (threads_of chances)) goes
     (all-from-below test (length chances) (λ other within.
     from-le (open_at chances other) (get_or ranks other 0) (get_or ranks thread 0)
@@ -82,14 +89,53 @@ Best goes rank many =
 best-by : (goes : ℕ → Bool) (rank : ℕ → ℕ) (many : ℕ) (b : Bool) → goes many ≡ b
     → Best goes rank many → Best goes rank (suc many)
 best-by goes rank many false is rest = elim rest [
-  | inl none ↦ inl (λ k p. elim (cases_eq k many) [ inl e ↦ ap goes e ∙ is | inr ne ↦ none k (omega arith) ])
-  | inr w ↦ inr (w.0, omega (arith, w.1), w.2, λ k p o. elim (cases_eq k many) [ inl e ↦ absurd (let a : goes many ≡ true = sym (ap goes e) ∙ o in cc) | inr ne ↦ w.3 k (omega arith) o ])
+  | inl none ↦
+      inl (λ k p. elim (cases_eq k many) [ inl e ↦ ap goes e ∙ is | inr ne ↦ none k (omega arith) ])
+  | inr w ↦
+      inr (
+        w.0,
+        omega (arith, w.1),
+        w.2,
+        λ k p o.
+            elim (cases_eq k many) [
+              | inl e ↦ absurd (let a : goes many ≡ true = sym (ap goes e) ∙ o in cc)
+              | inr ne ↦ w.3 k (omega arith) o
+            ],
+      )
 ]
 best-by goes rank many true is rest = elim rest [
-  | inl none ↦ inr (many, omega arith, is, λ k p o. elim (cases_eq k many) [ inl e ↦ let same = ap rank e in omega arith | inr ne ↦ absurd (let a = none k (omega arith) in cc) ])
+  | inl none ↦
+      inr (
+        many,
+        omega arith,
+        is,
+        λ k p o.
+            elim (cases_eq k many) [
+              | inl e ↦ let same = ap rank e in omega arith
+              | inr ne ↦ absurd (let a = none k (omega arith) in cc)
+            ],
+      )
   | inr w ↦ elim (cases_lt (rank w.0) (rank many)) [
-    | inl lt ↦ inr (many, omega arith, is, λ k p o. elim (cases_eq k many) [ inl e ↦ let same = ap rank e in omega arith | inr ne ↦ let le = w.3 k (omega arith) o in omega arith ])
-    | inr ge ↦ inr (w.0, omega (arith, w.1), w.2, λ k p o. elim (cases_eq k many) [ inl e ↦ let same = ap rank e in omega arith | inr ne ↦ w.3 k (omega arith) o ])
+    | inl lt ↦
+        inr (
+          many,
+          omega arith,
+          is,
+          λ k p o.
+              elim (cases_eq k many) [
+                | inl e ↦ let same = ap rank e in omega arith
+                | inr ne ↦ let le = w.3 k (omega arith) o in omega arith
+              ],
+        )
+    | inr ge ↦
+        inr (
+          w.0,
+          omega (arith, w.1),
+          w.2,
+          λ k p o.
+              elim (cases_eq k many)
+              [ inl e ↦ let same = ap rank e in omega arith | inr ne ↦ w.3 k (omega arith) o ],
+        )
   ]
 ]
 
@@ -101,10 +147,12 @@ best goes rank (suc many) = best-by goes rank many (goes many) refl (best goes r
 none-open : (ranks : List ℕ) (chances : List Chance)
     → ((k : ℕ) → k < length chances → is_highest ranks chances k ≡ false) → (k : ℕ)
     → k < length chances → open_at chances k ≡ false
-none-open ranks chances none k within = elim (best (open_at chances) (λ t. get_or ranks t 0) (length chances)) [
-  | inl closed ↦ closed k within
-  | inr w ↦ absurd (let a = highest-from ranks chances w.0 w.2 w.3 in let b = none w.0 w.1 in cc)
-]
+none-open ranks chances none k within =
+    elim (best (open_at chances) (λ t. get_or ranks t 0) (length chances)) [
+      | inl closed ↦ closed k within
+      | inr w ↦
+          absurd (let a = highest-from ranks chances w.0 w.2 w.3 in let b = none w.0 w.1 in cc)
+    ]
 
 -- ---- the walk by falling rank
 pub rank-stops : (ranks : List ℕ) (chances : List Chance) (thread : ℕ)
@@ -138,7 +186,9 @@ module _ (ranks : List ℕ) (earlier later : List Chance) (keeps : KeepsKnown ea
       (λ k p q. false-by (is_highest ranks later k) (λ h.
       let parts = highest-parts ranks later k h in
       let here : k < length earlier = omega (arith, first.within) in
-      let was = highest-from ranks earlier k (open-before earlier later k keeps here parts.0) (λ other w o. let a = leads other w o in let b = parts.1 thread there goes in omega arith) in
+      let was = highest-from ranks earlier k (open-before earlier later k keeps here parts.0)
+      (λ other w o.
+      let a = leads other w o in let b = parts.1 thread there goes in omega arith) in
       let not = first.before k q in
       cc))
 
@@ -150,21 +200,33 @@ module _ (ranks : List ℕ) (earlier later : List Chance) (keeps : KeepsKnown ea
         let thread = w.0 in
         let was = rank-stops ranks earlier thread w.1 in
         let P : Pick → Type 0 = λ p. ¬ IsWaits p in
-        let ready = open-ready (Thread thread) thread (chance_of earlier thread) (highest-parts ranks earlier thread w.2.passes).0 (subst P was waits) in
+        let ready = open-ready (Thread thread) thread (chance_of earlier thread)
+        (highest-parts ranks earlier thread w.2.passes).0 (subst P was waits) in
         let same = keeps.known thread w.2.within (ap is_known ready) in
         rank-stops ranks later thread (rank-keeps-at thread w.2 ready)
         ∙ ap (pick_at (Thread thread) thread) same ∙ sym was
     | inr w ↦
         let closed = none-open ranks earlier w.1 in
-        rank-ends ranks later (find-none (is_highest ranks later) 0 (length later) (λ k p q. closed-not-highest ranks later k (closed-after earlier later k keeps (within-later k (omega arith)) (closed k (within-later k (omega arith)))))) ∙ sym (rank-ends ranks earlier w.0)
+        rank-ends ranks later
+        (find-none (is_highest ranks later) 0 (length later)
+        (λ k p q.
+        closed-not-highest ranks later k
+        (closed-after earlier later k keeps (within-later k (omega arith))
+        (closed k (within-later k (omega arith)))))) ∙ sym (rank-ends ranks earlier w.0)
   ]
 
 pub rank-sound : (plan : Plan) (ranks : List ℕ) (chances : List Chance) → TargetsAreAway chances
     → IsSound plan chances (choice_by_rank ranks chances)
-rank-sound plan ranks chances targets = let P : Pick → Type 0 = IsSound plan chances in elim (found-or-none (is_highest ranks chances) (length chances)) [
-  | inl w ↦ subst P (sym (rank-stops ranks chances w.0 w.1)) (sound-at plan chances (Thread w.0) w.0 w.2.within (λ ready. (w.2.within, ready)) (λ closed. absurd (let goes = (highest-parts ranks chances w.0 w.2.passes).0 in cc)) (targets w.0 w.2.within))
-  | inr w ↦ subst P (sym (rank-ends ranks chances w.0)) (none-open ranks chances w.1)
-]
+rank-sound plan ranks chances targets =
+    let P : Pick → Type 0 = IsSound plan chances in
+    elim (found-or-none (is_highest ranks chances) (length chances)) [
+      | inl w ↦
+          subst P (sym (rank-stops ranks chances w.0 w.1))
+          (sound-at plan chances (Thread w.0) w.0 w.2.within (λ ready. (w.2.within, ready))
+          (λ closed. absurd (let goes = (highest-parts ranks chances w.0 w.2.passes).0 in cc))
+          (targets w.0 w.2.within))
+      | inr w ↦ subst P (sym (rank-ends ranks chances w.0)) (none-open ranks chances w.1)
+    ]
 
 -- ---- the walk by rising number
 pub number-stops : (chances : List Chance) (thread : ℕ)
@@ -185,16 +247,30 @@ number-keeps earlier later keeps waits = elim (found-or-none (open_at earlier) (
       let thread = w.0 in
       let was = number-stops earlier thread w.1 in
       let P : Pick → Type 0 = λ p. ¬ IsWaits p in
-      let ready = open-ready (Departs thread) thread (chance_of earlier thread) w.2.passes (subst P was waits) in
+      let ready = open-ready (Departs thread) thread (chance_of earlier thread) w.2.passes
+      (subst P was waits) in
       let same = keeps.known thread w.2.within (ap is_known ready) in
-      let found = find-is (open_at later) 0 (length later) thread (omega arith) (omega (arith, w.2.within, keeps.threads)) (ap is_open (same ∙ ready)) (λ k p q. closed-after earlier later k keeps (omega (arith, w.2.within)) (w.2.before k q)) in
+      let found = find-is (open_at later) 0 (length later) thread (omega arith)
+      (omega (arith, w.2.within, keeps.threads)) (ap is_open (same ∙ ready))
+      (λ k p q.
+      closed-after earlier later k keeps (omega (arith, w.2.within)) (w.2.before k q)) in
       number-stops later thread found ∙ ap (pick_at (Departs thread) thread) same ∙ sym was
-  | inr w ↦ number-ends later (find-none (open_at later) 0 (length later) (λ k p q. closed-after earlier later k keeps (omega (arith, keeps.threads)) (w.1 k (omega (arith, keeps.threads))))) ∙ sym (number-ends earlier w.0)
+  | inr w ↦
+      number-ends later
+      (find-none (open_at later) 0 (length later)
+      (λ k p q.
+      closed-after earlier later k keeps (omega (arith, keeps.threads))
+      (w.1 k (omega (arith, keeps.threads))))) ∙ sym (number-ends earlier w.0)
 ]
 
 pub number-sound : (plan : Plan) (chances : List Chance) → MayDepart plan → TargetsAreAway chances
     → IsSound plan chances (choice_by_number chances)
-number-sound plan chances departs targets = let P : Pick → Type 0 = IsSound plan chances in elim (found-or-none (open_at chances) (length chances)) [
-  | inl w ↦ subst P (sym (number-stops chances w.0 w.1)) (sound-at plan chances (Departs w.0) w.0 w.2.within (λ ready. (departs, w.2.within)) (λ closed. departs) (targets w.0 w.2.within))
-  | inr w ↦ subst P (sym (number-ends chances w.0)) w.1
-]
+number-sound plan chances departs targets =
+    let P : Pick → Type 0 = IsSound plan chances in
+    elim (found-or-none (open_at chances) (length chances)) [
+      | inl w ↦
+          subst P (sym (number-stops chances w.0 w.1))
+          (sound-at plan chances (Departs w.0) w.0 w.2.within (λ ready. (departs, w.2.within))
+          (λ closed. departs) (targets w.0 w.2.within))
+      | inr w ↦ subst P (sym (number-ends chances w.0)) w.1
+    ]

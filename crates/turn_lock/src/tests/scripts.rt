@@ -3,7 +3,8 @@ use pct_ask::{Ask, Post};
 /// What the threads of a test do.
 #[derive(Clone, Copy, Debug, PartialEq, Eq)]
 pub enum Script {
-    /// Two threads add one to a variable, each by a read and a write. The third joins both and checks that it is two.
+    /// Two threads add one to a variable, each by a read and a write. The third joins both and
+    /// checks that it is two.
     Sums,
     /// One thread reads and writes, the other reads and checks that it read 0.
     Writes,

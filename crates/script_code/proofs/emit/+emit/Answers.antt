@@ -46,7 +46,7 @@ emit_stmt-returns-in_ok-push-in-None t c =
     on_ok c.emit_block.result
     (λ m. emit_if c.args.ops.now.items c.push.new.self.items c.emit_block.new.ops.items _ a.line c.args.next c.entry-first.result (expression a.test) (block a.then) (statement c.args.stmt.now)
     c.in_ok-push-in-None.ensures.items
-    (ap (λ e. Test a.line e c.entry-first.result c.args.next) c.in_ok-copy_expr-in-None.ensures)
+    c.in_ok-test_of-in-None.ensures
     (c.entry-first.ensures ∙ ap (entry (c.len-at.result + 1) c.args.next) (from_start a.then) ∙ ap (λ (k : ℕ). entry (k + 1) c.args.next (block a.then)) at)
     m
     s)
@@ -59,11 +59,11 @@ emit_stmt-returns-in_ok-emit_block-in-Some t c =
     let at : c.len-at.result ≡ length c.args.ops.now.items = c.len-at.ensures ∙ c.args.ops.now.ok.0 in
     let s : statement c.args.stmt.now ≡ _ = ap statement a.is ∙ ap (λ o. statement (If a.line a.test a.then o)) c.in-Some.is ∙ statement-IfElse a.line a.test a.then b in
     on_ok c.emit_block-in-Some-2.result
-    (λ m. emit_if_else c.args.ops.now.items c.push-in-Some.new.self.items c.emit_block-in-Some.new.ops.items c.emit_block-in-Some-2.new.ops.items _ a.line c.args.next c.entry-first.result c.entry.result (expression a.test) (block a.then) (block b) (statement c.args.stmt.now)
+    (λ m. emit_if_else c.args.ops.now.items c.push-in-Some.new.self.items c.emit_block-in-Some.new.ops.items c.emit_block-in-Some-2.new.ops.items _ a.line c.args.next c.entry-first.result c.entry-last.result (expression a.test) (block a.then) (block b) (statement c.args.stmt.now)
     c.in_ok-push-in-Some.ensures.items
-    (ap (λ e. Test a.line e c.entry-first.result c.entry.result) c.in_ok-copy_expr-in-Some.ensures)
+    c.in_ok-test_of-in-Some.ensures
     (c.entry-first.ensures ∙ ap (entry (c.len-at.result + 1) c.args.next) (from_start a.then) ∙ ap (λ (k : ℕ). entry (k + 1) c.args.next (block a.then)) at)
-    (c.entry.ensures ∙ ap (entry (c.len-at.result + 1 + c.counts_of.result) c.args.next) (from_start b) ∙ ap₂ (λ (k n : ℕ). entry (k + 1 + n) c.args.next (block b)) at c.counts_of.ensures)
+    (c.entry-last.ensures ∙ ap (entry (c.len-at.result + 1 + c.counts_of.result) c.args.next) (from_start b) ∙ ap₂ (λ (k n : ℕ). entry (k + 1 + n) c.args.next (block b)) at c.counts_of.ensures)
     c.in_ok-emit_block-in-Some.ensures
     m
     s)
@@ -75,10 +75,10 @@ emit_stmt-returns-in_ok-push-in-While t c =
     let at : c.len-at.result ≡ length c.args.ops.now.items = c.len-at.ensures ∙ c.args.ops.now.ok.0 in
     let s : statement c.args.stmt.now ≡ _ = ap statement a.is ∙ statement-While a.line a.test a.body in
     on_ok c.emit_block-in-While.result
-    (λ m. emit_while c.args.ops.now.items c.push-in-While.new.self.items c.emit_block-in-While.new.ops.items _ a.line c.args.next c.entry-in-While.result (expression a.test) (block a.body) (statement c.args.stmt.now)
+    (λ m. emit_while c.args.ops.now.items c.push-in-While.new.self.items c.emit_block-in-While.new.ops.items _ a.line c.args.next c.entry-first-in-While.result (expression a.test) (block a.body) (statement c.args.stmt.now)
     c.in_ok-push-in-While.ensures.items
-    (ap (λ e. Test a.line e c.entry-in-While.result c.args.next) c.in_ok-copy_expr-in-While.ensures)
-    (c.entry-in-While.ensures ∙ ap (entry (c.len-at.result + 1) c.len-at.result) (from_start a.body) ∙ ap (λ (k : ℕ). entry (k + 1) k (block a.body)) at)
+    c.in_ok-test_of-in-While.ensures
+    (c.entry-first-in-While.ensures ∙ ap (entry (c.len-at.result + 1) c.len-at.result) (from_start a.body) ∙ ap (λ (k : ℕ). entry (k + 1) k (block a.body)) at)
     (m ∙ ap (λ (k : ℕ). operations c.push-in-While.new.self.items ++ codes_of (length c.push-in-While.new.self.items) k (block a.body)) at)
     s)
     c.emit_block-in-While.ensures

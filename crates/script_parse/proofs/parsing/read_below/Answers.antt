@@ -4,7 +4,7 @@ use Rattle.script_parse.specs.Seen.{all_seen}
 use Rattle.script_parse.specs.SeenForms.{seen_form}
 use Rattle.script_parse.specs.SeenParts.{seen_reader}
 use Rattle.script_parse.proofs.BelowSteps.{below_fault, below_taken}
-use Rattle.script_parse.proofs.HasReadForms.{no_fault_parts}
+use Rattle.script_parse.proofs.HasReadForms.{no_fault_parts, in_range_lawful}
 use Rattle.script_parse.proofs.ReadAnswers.{lawful_read}
 use Rattle.script_parse.proofs.parsing.read_below.Goals as goal
 
@@ -12,6 +12,11 @@ pub take-requires-clause-lawful : goal.take-requires-clause-lawful
 take-requires-clause-lawful c =
     let found = rw c.in-Some-2.is at c.in_ok-form.ensures in
     lawful_read c.version.result (all_seen c.args.tokens.now) (seen_form c.in-Some-2.form) (sym found)
+
+pub take-requires-clause-fits : goal.take-requires-clause-fits
+take-requires-clause-fits c =
+    in_range_lawful (all_seen c.args.tokens.now) (seen_form c.in-Some-2.form)
+    (no_fault_parts (seen_reader c.args.reader) (place_ahead c.args.ahead.now) c.args.last (all_seen c.args.tokens.now) (seen_form c.in-Some-2.form) (sym c.fault_of.ensures ∙ c.in-None-fault_of.is)).in_range
 
 pub take-requires-clause-room : goal.take-requires-clause-room
 take-requires-clause-room c =

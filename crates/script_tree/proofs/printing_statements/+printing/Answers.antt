@@ -14,7 +14,7 @@ use Rattle.script_tree.specs.declared.stmt.Stmt.TheVariants as stmts
 use Rattle.script_tree.proofs.laws.SeenParts.{statement-While, statement-If, statement-IfElse}
 use Rattle.script_tree.proofs.PrintLemmas.{one-printed, two-printed, ranged-block, are_ranged-append, lines_in, more-written, more-ranged, all-written, all-ranged}
 use Rattle.script_tree.proofs.printing_statements.+printing.Goals as goal
-use Rattle.script_tree.proofs.printing_statements.+printing.Goals.{push_statement-in-Some+in_ok-push_last-in-If+in_ok-push_statements-in-If-2, push_statement-in_default}
+use Rattle.script_tree.proofs.printing_statements.+printing.Goals.{push_statement-in-Some+in_ok-push_last-in-If+in_ok-push_statements-in-If-2, push_statement-in_default-otherwise}
 
 pub push_statement-returns-in_ok-push_statements-in-While-clause-written : goal.push_statement-returns-in_ok-push_statements-in-While-clause-written
 push_statement-returns-in_ok-push_statements-in-While-clause-written t c =
@@ -50,9 +50,9 @@ push_statement-returns-after-otherwise-clause-written t c =
           ap statement (c.in-If.is ∙ ap (stmts.If c.in-If.line c.in-If.test c.in-If.then) w.in-Some.is) ∙ statement-IfElse c.in-If.line c.in-If.test c.in-If.then w.in-Some.otherwise in
           two-printed names first other text _ _ _ _ _ _ c.in_ok-push_test-in-If.ensures.written c.in_ok-push_statements-in-If.ensures.written w.in_ok-push_last-in-If.ensures w.in_ok-push_statements-in-If-2.ensures.written (rw w.out-is at e)
           ∙ ap (λ s. c.args.out.now.items ++ printed (statement_lines names s)) (sym seen)
-      | push_statement-in_default w ↦
+      | push_statement-in_default-otherwise w ↦
           let seen : statement c.args.stmt.now ≡ trees.If c.in-If.line test first =
-          ap statement (c.in-If.is ∙ ap (stmts.If c.in-If.line c.in-If.test c.in-If.then) w.in_default.is) ∙ statement-If c.in-If.line c.in-If.test c.in-If.then in
+          ap statement (c.in-If.is ∙ ap (stmts.If c.in-If.line c.in-If.test c.in-If.then) w.in_default-otherwise.is) ∙ statement-If c.in-If.line c.in-If.test c.in-If.then in
           one-printed names first text _ _ _ _ c.in_ok-push_test-in-If.ensures.written c.in_ok-push_statements-in-If.ensures.written (rw w.out-is at e)
           ∙ ap (λ s. c.args.out.now.items ++ printed (statement_lines names s)) (sym seen)
     ])
@@ -74,9 +74,9 @@ push_statement-returns-after-otherwise-clause-ranged t c =
           ap (λ s. are_ranged (statement_lines names s)) seen
           ∙ and_from (is_ranged test) (are_ranged (block_lines names forms.Else first ++ block_lines names forms.End other)) tested
           (are_ranged-append (block_lines names forms.Else first) (block_lines names forms.End other) (ranged-block names forms.Else first refl inner) (ranged-block names forms.End other refl w.in_ok-push_statements-in-If-2.ensures.ranged))
-      | push_statement-in_default w ↦
+      | push_statement-in_default-otherwise w ↦
           let seen : statement c.args.stmt.now ≡ trees.If c.in-If.line test first =
-          ap statement (c.in-If.is ∙ ap (stmts.If c.in-If.line c.in-If.test c.in-If.then) w.in_default.is) ∙ statement-If c.in-If.line c.in-If.test c.in-If.then in
+          ap statement (c.in-If.is ∙ ap (stmts.If c.in-If.line c.in-If.test c.in-If.then) w.in_default-otherwise.is) ∙ statement-If c.in-If.line c.in-If.test c.in-If.then in
           ap (λ s. are_ranged (statement_lines names s)) seen
           ∙ and_from (is_ranged test) (are_ranged (block_lines names forms.End first)) tested (ranged-block names forms.End first refl inner)
     ])

@@ -1,8 +1,8 @@
 -- A word is different from the later ones, and these from each other.
 use Rattle.std.proofs.Common.{sym, ◌∙◌, ap}
 use Rattle.std.specs.Prelude.{not, ◌&&◌}
-use Rattle.trace_text.specs.Heads.{are_different}
-use Rattle.trace_text.specs.Seen.{seen}
+use Rattle.trace_text.specs.reader.Heads.{are_different}
+use Rattle.trace_text.specs.reader.Seen.{seen}
 use Rattle.trace_text.proofs.HeadWords.{different-first}
 use Rattle.trace_text.proofs.head.+are_different.Goals as goal
 

@@ -1,8 +1,8 @@
 -- How many words there are, and what each is.
 use Rattle.std.proofs.Common.{length, sym, ◌∙◌, ap}
 use Rattle.std.specs.Prelude.{◌&&◌}
-use Rattle.trace_text.specs.Heads.{are_different}
-use Rattle.trace_text.specs.Seen.{seen}
+use Rattle.trace_text.specs.reader.Heads.{are_different}
+use Rattle.trace_text.specs.reader.Seen.{seen}
 use Rattle.trace_text.proofs.HeadWords.{test-same, order-long, order-parts}
 use Rattle.trace_text.proofs.head.are_order_names.Goals as goal
 use Rattle.trace_text.proofs.head.are_order_names.Goals.{then-words-threads, else-words-threads}

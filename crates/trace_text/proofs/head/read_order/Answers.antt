@@ -1,7 +1,7 @@
 -- The second line is the first piece of what is left.
 use Rattle.std.proofs.Common.{ap, sym, ◌∙◌, Ok}
 use Rattle.trace_text.specs.Lines.{pieces_of}
-use Rattle.trace_text.specs.Reading.{◌>>=◌, known}
+use Rattle.trace_text.specs.reader.Reading.{◌>>=◌, known}
 use Rattle.trace_text.proofs.HeadWords.{order_line-found}
 use Rattle.trace_text.proofs.head.read_order.Goals as goal
 

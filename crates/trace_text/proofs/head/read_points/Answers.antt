@@ -1,8 +1,8 @@
 -- The third line is the first piece of what is left.
 use Rattle.std.proofs.Common.{ap, ◌∙◌}
-use Rattle.trace_text.specs.Heads.{points_in, point_words}
+use Rattle.trace_text.specs.reader.Heads.{points_in, point_words}
 use Rattle.pct_ask.specs.VerdictWords.{words_of}
-use Rattle.trace_text.specs.Seen.{seen}
+use Rattle.trace_text.specs.reader.Seen.{seen}
 use Rattle.trace_text.proofs.HeadWords.{head_line-cut, point_words-take}
 use Rattle.trace_text.proofs.head.read_points.Goals as goal
 

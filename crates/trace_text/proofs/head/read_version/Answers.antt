@@ -1,5 +1,5 @@
 -- The first line is the first piece.
-use Rattle.trace_text.specs.Heads.{version_in}
+use Rattle.trace_text.specs.reader.Heads.{version_in}
 use Rattle.trace_text.proofs.HeadWords.{head_line-cut}
 use Rattle.trace_text.proofs.head.read_version.Goals as goal
 

@@ -4,7 +4,7 @@ use Rattle.std.proofs.Common.{rules, tests, ap, ◌∙◌}
 use Rattle.std.proofs.lemmas.Iterator.{YieldsList-from_take}
 use Rattle.std.proofs.lemmas.Iterator.Consumers.{YieldsList-end}
 use Rattle.std.proofs.lemmas.Iterator.Splits.{YieldsList-from_slice_split}
-use Rattle.trace_text.specs.Seen.{seen}
+use Rattle.trace_text.specs.reader.Seen.{seen}
 use Rattle.trace_text.proofs.line.first_words.Goals as goal
 
 pub returns : goal.returns

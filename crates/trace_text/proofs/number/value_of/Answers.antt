@@ -2,7 +2,7 @@
 use Rattle.std.proofs.Common.{sym, ap, ◌∙◌}
 use Rattle.std.specs.Int.{w128}
 use Rattle.std.proofs.lemmas.Int.{to_z-of_z}
-use Rattle.trace_text.specs.Numbers.{small}
+use Rattle.trace_text.specs.reader.Numbers.{small}
 use Rattle.trace_text.proofs.Values.{value_of-none, value_of-number}
 use Rattle.trace_text.proofs.number.value_of.Goals as goal
 

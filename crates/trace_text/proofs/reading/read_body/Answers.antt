@@ -1,7 +1,7 @@
 -- Each line gives what is left to read, or the answer.
 use Rattle.std.proofs.Common.{sym, ◌∙◌, ap, arith, Ok, Err, ◌+◌}
 use Rattle.trace_text.specs.Lines.{pieces_of}
-use Rattle.trace_text.specs.Reading.{body_of}
+use Rattle.trace_text.specs.reader.Reading.{body_of}
 use Rattle.trace_text.specs.declared.fault.TraceFault.TheVariants.{MoreAfterVerdict}
 use Rattle.trace_text.proofs.Bodies.{body-read, last-more, not-empty, judged-within, with_events, with_events-push}
 use Rattle.trace_text.proofs.reading.read_body.Goals as goal

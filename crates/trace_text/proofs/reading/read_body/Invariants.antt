@@ -1,6 +1,6 @@
 use Rattle.std.proofs.Common.{◌≡◌, ◌≤◌, ◌+◌, length}
 use Rattle.trace_text.specs.Lines.{pieces_of}
-use Rattle.trace_text.specs.Reading.{body_of}
+use Rattle.trace_text.specs.reader.Reading.{body_of}
 use Rattle.trace_text.proofs.Bodies.{with_events}
 use Rattle.trace_text.proofs.reading.read_body.Given as goal
 

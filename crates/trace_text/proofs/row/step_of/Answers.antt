@@ -2,7 +2,7 @@
 use Rattle.std.proofs.Common.{sym, ◌∙◌, ap, Some}
 use Rattle.std.specs.Int.{w64}
 use Rattle.std.proofs.lemmas.Int.{to_z-of_z}
-use Rattle.trace_text.specs.StepLines.{event_of}
+use Rattle.trace_text.specs.reader.StepLines.{event_of}
 use Rattle.trace_text.specs.declared.row.Row.TheVariants.{Step}
 use Rattle.trace_text.proofs.Ends.{step-unanswered, step-whole}
 use Rattle.trace_text.proofs.Values.{Some-value_of}

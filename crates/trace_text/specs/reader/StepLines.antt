@@ -1,0 +1,75 @@
+-- How the lines after the head are read: a step line or the verdict line (this project).
+use Rattle.std.specs.Prelude.{ℕ, ℤ, ◌==◌, ◌&&◌, Bool, true, false, if◌then◌else◌, nat_eq, List, []}
+use Rattle.std.specs.Prelude.{◌∷◌, take, drop, Option, Some, None, codes}
+use Rattle.std.specs.List.{ends_with}
+use Rattle.std.specs.Str.{bytes_eq}
+use Rattle.pct_ask.specs.NameLists.{NameLists}
+use Rattle.pct_ask.specs.VerdictWords.{words_of, verdict_of_words}
+use Rattle.pct_ask.specs.declared.names.NameKind.TheVariants.{Thread}
+use Rattle.pct_ask.specs.declared.ask.Ask.{Ask}
+use Rattle.pct_ask.specs.declared.event.Event.{Event}
+use Rattle.pct_ask.specs.declared.verdict_text.VerdictRead.{VerdictRead}
+use Rattle.pct_ask.specs.declared.verdict_text.VerdictRead.TheVariants.{Is, NoForm, UnknownName}
+use Rattle.trace_text.specs.reader.Numbers.{value_of, natural_of, count_of}
+use Rattle.trace_text.specs.reader.Asks.{object, bare_ask, ask_on_one, ask_on_two, ask_on_three}
+use Rattle.trace_text.specs.Lawful.{is_of_second}
+use Rattle.trace_text.specs.declared.row.Row.{Row}
+use Rattle.trace_text.specs.declared.row.Row.TheVariants.{Step, End}
+
+-- the event of a step, where its thread and the objects of its ask are known
+abbrev pub event_of : Option ℕ → ℕ → Option Ask → ℤ → Option Event
+event_of None line ask answer = None
+event_of (Some thread) line None answer = None
+event_of (Some thread) line (Some ask) answer =
+    Some (record { thread = thread; line = line; ask = ask; answer = answer })
+
+-- a step, where each of its parts is read and `=` stands before the answer
+abbrev pub step_of_parts : Option ℕ → Option (Option ℕ) → Option ℕ → Option (Option Ask) → Bool
+    → Option ℤ → Option Row
+step_of_parts None thread line ask sign answer = None
+step_of_parts (Some n) None line ask sign answer = None
+step_of_parts (Some n) (Some thread) None ask sign answer = None
+step_of_parts (Some n) (Some thread) (Some line) None sign answer = None
+step_of_parts (Some n) (Some thread) (Some line) (Some ask) false answer = None
+step_of_parts (Some n) (Some thread) (Some line) (Some ask) true None = None
+step_of_parts (Some n) (Some thread) (Some line) (Some ask) true (Some answer) =
+    Some (Step n (event_of thread line ask answer))
+
+-- the parts of a step line, but for its ask
+unfoldable pub step_of : NameLists → List ℕ → List ℕ → List ℕ → Option (Option Ask) → List ℕ
+    → List ℕ → Option Row
+step_of names number thread line ask sign answer =
+    step_of_parts (natural_of number) (object names Thread thread) (count_of 1 4096 line) ask
+    (bytes_eq sign (codes "=")) (value_of answer)
+
+-- STEP THREAD LINE ASK = ANSWER, where ASK has one word to four
+abbrev pub step_of_words : NameLists → ℕ → List (List ℕ) → Option Row
+step_of_words names version (number ∷ thread ∷ line ∷ word ∷ sign ∷ answer ∷ []) =
+    step_of names number thread line (bare_ask word) sign answer
+step_of_words names version (number ∷ thread ∷ line ∷ word ∷ a ∷ sign ∷ answer ∷ []) =
+    step_of names number thread line (ask_on_one names version word a) sign answer
+step_of_words names version (number ∷ thread ∷ line ∷ word ∷ a ∷ b ∷ sign ∷ answer ∷ []) =
+    step_of names number thread line (ask_on_two names word a b) sign answer
+step_of_words names version (number ∷ thread ∷ line ∷ word ∷ a ∷ b ∷ c ∷ sign ∷ answer ∷ []) =
+    step_of names number thread line (ask_on_three names word a b c) sign answer
+step_of_words names version words = None
+
+-- the text of a verdict of the second version alone, where it is a verdict
+abbrev pub tells_reads : List ℕ → Bool
+tells_reads text = ends_with nat_eq text (codes " toomanyreads")
+
+-- The verdict of a text, by how the text is read: the first version has none that comes from
+-- read-write locks alone.
+abbrev pub end_of : ℕ → List ℕ → VerdictRead → Option Row
+end_of version text NoForm = None
+end_of version text UnknownName = if version == 1 && tells_reads text then None else Some (End None)
+end_of version text (Is verdict) =
+    if version == 1 && is_of_second verdict then None else Some (End (Some verdict))
+
+-- What a line says: a step, by its number and its event, or a verdict; none of them where a name
+-- isn't declared with the kind that its place needs. Nothing where the line has neither form.
+unfoldable pub row_of : NameLists → ℕ → List ℕ → Option Row
+row_of names version text =
+    if bytes_eq (take 8 text) (codes "verdict ")
+    then end_of version (drop 8 text) (verdict_of_words names (words_of (drop 8 text)))
+    else step_of_words names version (words_of text)
