@@ -1,4 +1,5 @@
 mod meetings;
+mod refused;
 
 use crate::{Report, Settings, Status, WordsError, pct, read_words};
 use pct_outside::{Gate, MemoryShelf, MemorySink, OpenGate};
