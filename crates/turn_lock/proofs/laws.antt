@@ -9,3 +9,5 @@ pub mod Serving
 pub mod FirstThreads
 -- a thread that a seat serves is one of the book's
 pub mod SeatedThreads
+-- what may cross threads
+pub mod Crossing

@@ -120,7 +120,7 @@ module _ (start : ℕ → Pending) (v u w : View) (served : IsServed start u w) 
     ];
   }
 
-same-standing : (t : ℕ) (one other : Told) → SameOf t one other → standing_of other t ≡ standing_of one t
+pub same-standing : (t : ℕ) (one other : Told) → SameOf t one other → standing_of other t ≡ standing_of one t
 same-standing t one other same = ap standing_by (ap (λ ps. slice_get ps (length (pairs_of other t))) same.posts ∙ ap (λ (es : List _). slice_get (posted_by one t) (length es)) same.pairs)
 
 -- the seat went on afterwards, and its threads did nothing

@@ -7,5 +7,13 @@ pub mod Samples
 pub mod Ranges
 pub mod Again
 pub mod Wholes
+pub mod Eachs
+pub mod Staged
+pub mod Casts
+pub mod Loops
+pub mod Joins
+pub mod Finals
+pub mod Ends
+pub mod Crossing
 pub mod laws
 pub mod Words

@@ -82,7 +82,7 @@ module _ {B : Type 0} (pending : B → Pending) (runners : List (Option (Runner 
     }
 
 -- ---- joined again
-posts-none : (ones others : List (List Post)) (t : ℕ) → get_or ones t [] ≡ [] → get_or others t [] ≡ [] → get_or (longer_posts ones others) t [] ≡ []
+pub posts-none : (ones others : List (List Post)) (t : ℕ) → get_or ones t [] ≡ [] → get_or others t [] ≡ [] → get_or (longer_posts ones others) t [] ≡ []
 posts-none [] others t e f = f
 posts-none (one ∷ ones) [] t e f = e
 posts-none (one ∷ ones) (other ∷ others) zero e f = λ i. longer (e i) (f i)

@@ -81,7 +81,7 @@ get-replicate zero k x = refl
 get-replicate (suc n) zero x = refl
 get-replicate (suc n) (suc k) x = get-replicate n k x
 
-new-unposted : (deal : Deal) (limit : ℕ) (plan : Plan) → IsUnposted (new_book deal limit plan)
+pub new-unposted : (deal : Deal) (limit : ℕ) (plan : Plan) → IsUnposted (new_book deal limit plan)
 new-unposted deal limit plan = record { steps = refl; posts = λ t. let none : List Post = [] in get-replicate deal.threads t none }
 
 -- a thread's answers so far are the first of all that it has had

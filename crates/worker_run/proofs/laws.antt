@@ -17,3 +17,5 @@ pub mod OnePlayed
 pub mod RunsOver
 -- the sample threads name only what there is
 pub mod SampleRanges
+-- a test more in a list of tests
+pub mod Batches

@@ -4,3 +4,7 @@ pub mod Played
 pub mod Served
 pub mod Samples
 pub mod Handed
+pub mod Batch
+pub mod Batches
+pub mod Tests
+pub mod Casting

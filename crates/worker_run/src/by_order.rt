@@ -40,6 +40,17 @@ impl Played {
             Outcome::Departed { .. } => unreachable!(),
         }
     }
+
+    /// The verdict of a run that one ended.
+    pub fn verdict(&self) -> Verdict
+        requires { (verdict : Verdict) × (self.now.outcome ≡ Outcome.Verdict verdict) }
+        ensures { self.now.outcome ≡ Outcome.Verdict result }
+    {
+        match self.outcome {
+            Outcome::Verdict(verdict) => verdict,
+            Outcome::Departed { .. } => unreachable!(),
+        }
+    }
 }
 
 impl From<WholeRun> for Played {
@@ -55,7 +66,7 @@ impl From<WholeRun> for Played {
 }
 
 /// The policy of an order and change points.
-fn points_policy(alloc: Global, order: &[u32], points: &[u32]) -> Result<Pct, NoMemory>
+pub fn points_policy(alloc: Global, order: &[u32], points: &[u32]) -> Result<Pct, NoMemory>
     requires order { IsOrder order.now }
     requires few_threads { length order.now ≤ 64 }
     requires few_points { length points.now ≤ 7 }
@@ -70,7 +81,7 @@ fn points_policy(alloc: Global, order: &[u32], points: &[u32]) -> Result<Pct, No
 }
 
 /// The policy of an order and moments.
-fn events_policy(
+pub fn events_policy(
     alloc: Global,
     order: &[u32],
     events: &[Moment],

@@ -1,17 +1,25 @@
 //! Runs of the bodies of a test under a policy, each body in a thread of its own.
 #![tactic(auto)]
 
+mod batch;
 mod by_order;
 mod crew;
 mod done;
 mod lent;
+mod many;
+mod ordered;
+mod parts;
+mod places;
 mod played;
 mod run;
 mod runner;
 mod team;
+mod teams;
 
+pub use batch::Test;
 pub use by_order::{WholeRun, run_by_events, run_by_points};
 pub use lent::run_on;
+pub use many::run_many;
 pub use played::Played;
 pub use run::{run_here, run_threads};
 

@@ -23,7 +23,7 @@ use turn_book::TurnBook;
 use turn_lock::{Seat, TurnLock};
 
 /// A lock for a run, and its first seat.
-fn new_lock<P: Policy>(
+pub fn new_lock<P: Policy>(
     alloc: Global,
     deal: Deal,
     policy: P,
@@ -42,7 +42,7 @@ fn new_lock<P: Policy>(
 }
 
 /// The run of the lock's book, which is over.
-fn finish<P: Policy>(lock: TurnLock<P>, seat: Seat<P>) -> Played
+pub fn finish<P: Policy>(lock: TurnLock<P>, seat: Seat<P>) -> Played
     requires of { IsOf lock seat }
     requires all { ServesAll (view seat) }
     requires played { (bodies : List Pending) × HasPlayed (made lock) bodies (view seat).seen }

@@ -50,7 +50,7 @@ impl<P: Policy, B: Body> Promise<Done<P, B>> for Given<P, B> {
 }
 
 /// Serves the one body until it has ended or the run is over.
-fn serve<R: Wait, P: Policy, B: Body, G: Gate>(
+pub fn serve<R: Wait, P: Policy, B: Body, G: Gate>(
     rt: &R,
     lock: &TurnLock<P>,
     mut seat: Seat<P>,

@@ -1,0 +1,111 @@
+use Rattle.std.proofs.Common.{◌≡◌, List, length, map, rules, sym, ap, subst, ◌∙◌, arith}
+use mir.Syntax.{named}
+use denote.Exit.{no}
+use denote.Param.{param}
+use denote.Param.Send.{IsSend, IsSync, sendable, param_send, param_sync, arg_send, shr_send}
+use Rattle.std.proofs.Crossing.{crosses, Vec-send, Vec-sync}
+use Rattle.std.specs.contracts.vec.Vec as vec
+use Rattle.std.specs.contracts.alloc.Global as heap
+use Rattle.std.specs.contracts.impls.GlobalAllocator.TheImpl.{ghosts}
+use Rattle.worker_run.specs.contracts.batch.Stage as stage
+use Rattle.worker_run.specs.contracts.batch.Part as part
+use Rattle.std.proofs.lemmas.Option.{slice_get_within}
+use Rattle.worker_run.specs.Batch.{is_there}
+use Rattle.worker_run.specs.Batches.{AreSeats, AreServedParts, AreTold, IsThere, Holds, ToldAt}
+use Rattle.worker_run.specs.declared.batch.Stage.{Stage}
+use Rattle.worker_run.specs.declared.batch.Crew.{Crew}
+use Rattle.worker_run.specs.declared.batch.Part.{Part}
+use Rattle.worker_run.proofs.Crossing.{stage-sync, part-send, captures-send}
+use Rattle.worker_run.proofs.Ends.{written}
+use Rattle.worker_run.proofs.Joins.{told-last, told-joined, told-without, beside-same}
+use Rattle.worker_run.proofs.teams.+teams.Lts-fn-start_place-scope as scope
+use Rattle.worker_run.proofs.teams.+teams.Goals as goal
+
+pub start_place-scope-spawn_with-requires-send-F : goal.start_place-scope-spawn_with-requires-send-F
+start_place-scope-spawn_with-requires-send-F g t c = λ κs lives.
+    let P = param 1 g.row.P in
+    let B = param 2 g.row.B in
+    let policy : IsSend P = search (rules, sendable) in
+    let body : IsSend B = search (rules, sendable) in
+    let handle : IsSync (param 0 g.row.R) = param_sync 0 g.row.R (search rules) in
+    let gate : IsSync (param 3 g.row.G) = param_sync 3 g.row.G (search rules) in
+    let stages : IsSync (vec.the_row (stage.the_row P B g.P.Policy) heap.the_row ghosts) = Vec-sync _ (stage-sync P B g.P.Policy policy body) in
+    let parts : IsSend (vec.the_row (part.the_row P B g.P.Policy) heap.the_row ghosts) = Vec-send _ (part-send P B g.P.Policy policy body) in
+    param_send 2 (scope.arg-1-2 g.row.R g.row.P g.row.B g.row.G g.R.laws g.P.laws g.B.laws g.G.laws g.R.Threads g.R.Threads-dict g.R.Wait g.R.Wait-dict g.P.Policy g.P.Policy-dict g.B.Body g.B.Body-dict g.G.Gate g.G.Gate-dict g.P.Destruct-dict g.B.Destruct-dict κs)
+    (arg_send _ no (scope.of-18 g.row.R g.row.P g.row.B g.row.G g.R.laws g.P.laws g.B.laws g.G.laws g.R.Threads g.R.Threads-dict g.R.Wait g.R.Wait-dict g.P.Policy g.P.Policy-dict g.B.Body g.B.Body-dict g.G.Gate g.G.Gate-dict g.P.Destruct-dict g.B.Destruct-dict (record { mir = named 6; lft = κs.1.1.1.1.1.1.0 }) (record { mir = named 7; lft = κs.1.1.1.1.1.1.1.0 }) (record { mir = named 8; lft = κs.1.1.1.1.1.1.1.1.0 }) (record { mir = named 9; lft = κs.1.1.1.1.1.1.1.1.1.0 }))
+    (captures-send _ (scope.of-16 g.row.R g.row.P g.row.B g.row.G g.R.laws g.P.laws g.B.laws g.G.laws g.R.Threads g.R.Threads-dict g.R.Wait g.R.Wait-dict g.P.Policy g.P.Policy-dict g.B.Body g.B.Body-dict g.G.Gate g.G.Gate-dict g.P.Destruct-dict g.B.Destruct-dict (record { mir = named 6; lft = κs.1.1.1.1.1.1.0 }) (record { mir = named 7; lft = κs.1.1.1.1.1.1.1.0 }) (record { mir = named 8; lft = κs.1.1.1.1.1.1.1.1.0 }) (record { mir = named 9; lft = κs.1.1.1.1.1.1.1.1.1.0 })) (
+      shr_send (named 6) κs.1.1.1.1.1.1.0 (param 0 g.row.R) handle,
+      (
+        search (sendable, crosses, stages) depth 40,
+        (
+          search (sendable, crosses) depth 40,
+          (
+            parts,
+            (
+              search (sendable, crosses) depth 40,
+              (shr_send (named 9) κs.1.1.1.1.1.1.1.1.1.0 (param 3 g.row.G) gate, tt),
+            ),
+          ),
+        ),
+      ),
+    )))
+
+pub start_place-scope-returns-in-Ok : goal.start_place-scope-returns-in-Ok
+start_place-scope-returns-in-Ok g t c =
+    let same : map is_there c.join.result.items ≡ map is_there c.captures.parts.items = search rules in
+    told-joined g.B.Body.pending c.captures.stages.now.items c.captures.crews.items c.captures.places.items c.captures.thread c.captures.parts.items c.join.result.items c.start_places-crews.result.items c.go_on.result.items same c.start_places-crews.ensures c.go_on.ensures.seats c.go_on.ensures.kept c.go_on.ensures.joined
+
+pub start_place-scope-returns-in-Err : goal.start_place-scope-returns-in-Err
+start_place-scope-returns-in-Err g t c =
+    let same : map is_there c.work.result.items ≡ map is_there c.captures.parts.items = search rules in
+    beside-same g.B.Body.pending c.captures.stages.now.items c.captures.crews.items c.captures.places.items c.captures.thread c.captures.parts.items c.work.result.items c.go_without.result.items same c.go_without.ensures
+
+pub go_without-returns : goal.go_without-returns
+go_without-returns g t c =
+    let f = g.B.Body.pending in
+    let u = c.args.thread in
+    let stages = c.args.stages.now.items in
+    let all = c.start_places-all.result in
+    let taken = c.take_parts.new.crews in
+    let back = c.take_parts.new.parts in
+    let last = c.join_parts.new.crews in
+    let seen = c.as_slice.ensures.value in
+    let again = c.as_slice-2.ensures.value in
+    let w = written c.args.crews.len taken c.args.crews.items (omega (arith, c.take_parts.ensures.crews.long, ap length seen, c.requires.crews.long, c.args.crews.ok.0)) in
+    let wp = written c.args.parts.len back c.args.parts.items (omega (arith, c.take_parts.ensures.served.long, ap length seen, c.requires.parts.long, c.args.parts.ok.0)) in
+    let Q : List (Crew g.row.P.Denot g.row.B.Denot g.P.Policy) → Type 0 = λ l. AreTold f stages l c.args.places.items all.items in
+    let told = subst Q w c.start_places-all.ensures in
+    let wl = written all.len last all.items (omega (arith, c.join_parts.ensures.seats.long, ap length again, told.seats.long, all.ok.0)) in
+    let same = c.as_mut_slice-4.ensures.value ∙ wp in
+    let S : List (Stage g.row.P.Denot g.row.B.Denot) × List (Crew g.row.P.Denot g.row.B.Denot g.P.Policy) → Type 0 = λ p. AreSeats p.0 p.1 in
+    let A : List (Stage g.row.P.Denot g.row.B.Denot) × List (Part g.row.P.Denot g.row.B.Denot g.P.Policy) → Type 0 = λ p. AreServedParts f p.0 u p.1 in
+    let served = subst A (λ j. ((seen ∙ sym again) j, sym same j)) c.take_parts.ensures.served in
+    told-without f stages c.args.crews.items c.args.places.items u c.args.parts.items back taken all.items _
+    (λ i n h. let H : List (Crew g.row.P.Denot g.row.B.Denot g.P.Policy) → Type 0 = λ l. Holds l i n in c.take_parts.ensures.kept i n (subst H (sym c.as_mut_slice.ensures.value) h))
+    (λ i there. let I : List (Part g.row.P.Denot g.row.B.Denot g.P.Policy) → Type 0 = λ l. IsThere l i in c.take_parts.ensures.taken i (subst I (sym c.as_mut_slice-2.ensures.value) there))
+    told
+    (subst S (λ j. (again j, sym wl j)) c.join_parts.ensures.seats)
+    (λ i n was. let T : List (Stage g.row.P.Denot g.row.B.Denot) × List (Crew g.row.P.Denot g.row.B.Denot g.P.Policy) → Type 0 = λ p. ToldAt f p.0 p.1 i n in subst T (λ j. (again j, sym wl j)) (c.join_parts.ensures.kept i n (subst T (λ j. (sym again j, sym c.as_mut_slice-3.ensures.value j)) was)))
+    (λ i there.
+    let T : List (Stage g.row.P.Denot g.row.B.Denot) × List (Crew g.row.P.Denot g.row.B.Denot g.P.Policy) → Type 0 = λ p. ToldAt f p.0 p.1 i u in
+    let I : List (Part g.row.P.Denot g.row.B.Denot g.P.Policy) → Type 0 = λ l. IsThere l i in
+    subst T (λ j. (again j, sym wl j)) (c.join_parts.ensures.joined i u served (subst I (sym same) there)))
+
+pub start_places-returns-in-None : goal.start_places-returns-in-None
+start_places-returns-in-None g t c =
+    let f = g.B.Body.pending in
+    let new = c.serve_crews.new.crews in
+    let w = written c.args.crews.len new c.args.crews.items (omega (arith, c.serve_crews.ensures.seats.long, ap length c.as_slice.ensures.value, c.requires.crews.long, c.args.crews.ok.0)) in
+    let S : List (Stage g.row.P.Denot g.row.B.Denot) × List (Crew g.row.P.Denot g.row.B.Denot g.P.Policy) → Type 0 = λ p. AreSeats p.0 p.1 in
+    record {
+      seats = subst S (λ j. (c.as_slice.ensures.value j, sym w j)) c.serve_crews.ensures.seats;
+      held = λ i u h.
+          let T : List (Stage g.row.P.Denot g.row.B.Denot) × List (Crew g.row.P.Denot g.row.B.Denot g.P.Policy) → Type 0 = λ p. ToldAt f p.0 p.1 i u in
+          let H : List (Crew g.row.P.Denot g.row.B.Denot g.P.Policy) → Type 0 = λ l. Holds l i u in
+          subst T (λ j. (c.as_slice.ensures.value j, sym w j)) (c.serve_crews.ensures.told i u (subst H (sym c.as_mut_slice.ensures.value) h));
+      placed = λ i u p. absurd (let under = slice_get_within c.args.places.items u p.parts p.at in omega (arith, under, c.in-None.ensures.cases.0, c.args.places.ok.0));
+    }
+
+pub start_places-returns-in-Some : goal.start_places-returns-in-Some
+start_places-returns-in-Some g t c =
+    told-last g.B.Body.pending c.args.stages.now.items c.args.crews.items c.pop.new.self.items c.in-Some.parts c.args.places.items c.start_place.result.items _ (omega (arith, c.len-thread.ensures, c.pop.new.self.ok.0)) c.in-Some.ensures.items c.start_place.ensures

@@ -1,0 +1,14 @@
+use Rattle.std.proofs.Common.{◌+◌, ◌*◌, length}
+use Rattle.worker_run.proofs.teams.+teams.Given as goal
+
+abbrev pub decreases-start_places : goal.decreases-start_places
+decreases-start_places g l = 4 * length l.places.items
+
+abbrev pub decreases-start_place : goal.decreases-start_place
+decreases-start_place g l = 4 * length l.places.items + 3
+
+abbrev pub decreases-start_place-scope : goal.decreases-start_place-scope
+decreases-start_place-scope g l = 4 * length l.places.items + 2
+
+abbrev pub decreases-go_without : goal.decreases-go_without
+decreases-go_without g l = 4 * length l.places.items + 1

@@ -1,0 +1,50 @@
+-- What is asked of a test that is run with others, and what is promised of its run (this project).
+use Rattle.std.specs.Prelude.{◌≡◌, ◌≤◌, ℕ, List, [], length, map, Some, slice_get}
+use Rattle.sync_store.specs.Store.{sizes_of_deal}
+use Rattle.rank_now.specs.declared.moment.Moment.{Moment}
+use Rattle.policy_pick.specs.Plan.{Plan, SpeaksOf, ByPoints, ByEvents}
+use Rattle.turn_book.specs.Told.{new_book}
+use Rattle.turn_lock.specs.Calls.{made}
+use Rattle.worker_run.specs.Bodies.{Pending, AreInRange}
+use Rattle.worker_run.specs.Run.{run, directed}
+use Rattle.worker_run.specs.Played.{IsPlayed, IsRun}
+use Rattle.worker_run.specs.declared.batch.Test.{Test}
+use Rattle.worker_run.specs.declared.batch.Stage.{Stage}
+use Rattle.worker_run.specs.declared.played.Played.{Played}
+
+module _ {P : Type 0} {B : Type 0} (pending : B → Pending) (plan : P → Plan) where
+  -- what its bodies post
+  abbrev pub bodies_in : Test P B → List Pending
+  bodies_in test = map pending test.bodies.items
+
+  -- A limit that there may be, a policy that speaks of the test's threads and has seen no step yet,
+  -- and a body for each thread, which names only what there is.
+  pub record IsTest (stands_for : P → List ℕ → Type 0) (test : Test P B) : Type 0 where
+    pub some_steps : 1 ≤ test.limit
+    pub few_steps : test.limit ≤ 100000
+    pub stands : stands_for test.policy []
+    pub speaks : SpeaksOf (plan test.policy) test.deal.threads
+    pub bodies : length test.bodies.items ≡ test.deal.threads
+    pub in_range : AreInRange (sizes_of_deal test.deal) (bodies_in test)
+
+  -- each of the tests is one
+  abbrev pub AreTests : (P → List ℕ → Type 0) → List (Test P B) → Type 0
+  AreTests stands_for tests = (i : ℕ) (test : Test P B) → slice_get tests i ≡ Some test
+      → IsTest stands_for test
+
+  -- The run is what the test's policy makes of its bodies within its limit; where the policy is an
+  -- order with change points or with moments, it is the run of these.
+  pub record IsRunOf (test : Test P B) (ended : Played) : Type 0 where
+    pub played : IsPlayed (plan test.policy) test.deal (bodies_in test) test.limit
+        ended.events ended.outcome
+    pub by_points : (order points : List ℕ) → plan test.policy ≡ ByPoints order points
+        → IsRun (run test.deal (bodies_in test) order points test.limit) ended.events ended.outcome
+    pub by_events : (order : List ℕ) (events : List Moment)
+        → plan test.policy ≡ ByEvents order events
+        → IsRun (directed test.deal (bodies_in test) order events test.limit)
+        ended.events ended.outcome
+
+  -- the stage is one of the test: its lock was made for it, and its bodies were the test's
+  pub record IsStageOf (test : Test P B) (stage : Stage P B) : Type 0 where
+    pub made_is : made stage.lock ≡ new_book test.deal test.limit (plan test.policy)
+    pub bodies_are : (stage.bodies).value ≡ test.bodies

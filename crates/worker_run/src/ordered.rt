@@ -1,0 +1,83 @@
+// Tests that are run with others under an order of their threads.
+ghost use Rattle.std.specs.Prelude.{◌≡◌, ◌≤◌, [], length, map, IfOk};
+ghost use Rattle.sync_store.specs.Store.{sizes_of_deal};
+ghost use Rattle.rank_now.specs.Order.{IsOrder};
+ghost use Rattle.policy_pick.specs.Plan.{ByPoints, ByEvents};
+ghost use Rattle.policy_pick.specs.Kept.{points_plan, PointsStand, events_plan, EventsStand};
+ghost use Rattle.worker_run.specs.Bodies.{AreInRange};
+ghost use Rattle.worker_run.specs.Tests.{IsTest};
+
+use crate::batch::Test;
+use crate::by_order::{events_policy, points_policy};
+use pct_ask::{Body, Deal};
+use policy_pick::{DirectedPolicy, Pct};
+use rank_now::Moment;
+use std::alloc::{AllocError as NoMemory, Global};
+
+impl<B: Body> Test<Pct, B> {
+    /// A test that is run under an order of its threads and change points.
+    pub fn by_points(
+        alloc: Global,
+        deal: Deal,
+        order: &[u32],
+        points: &[u32],
+        limit: u32,
+        bodies: Vec<B>,
+    ) -> Result<Test<Pct, B>, NoMemory>
+        requires order { IsOrder order.now }
+        requires whole { length order.now ≡ deal.threads }
+        requires few_points { length points.now ≤ 7 }
+        requires some_steps { 1 ≤ limit }
+        requires few_steps { limit ≤ 100000 }
+        requires bodies { length bodies.items ≡ deal.threads }
+        requires in_range { AreInRange (sizes_of_deal deal) (map B.pending bodies.items) }
+        ensures asked { IfOk result (λ test. IsTest B.pending points_plan PointsStand test) }
+        ensures plan { IfOk result (λ test.
+            points_plan test.policy ≡ ByPoints order.now points.now) }
+        ensures deal { IfOk result (λ test. test.deal ≡ deal) }
+        ensures limit { IfOk result (λ test. test.limit ≡ limit) }
+        ensures bodies { IfOk result (λ test. test.bodies ≡ bodies) }
+    {
+        let policy = points_policy(alloc, order, points)?;
+        Ok(Test {
+            deal,
+            policy,
+            limit,
+            bodies,
+        })
+    }
+}
+
+impl<B: Body> Test<DirectedPolicy, B> {
+    /// A test that is run under an order of its threads and moments.
+    pub fn by_events(
+        alloc: Global,
+        deal: Deal,
+        order: &[u32],
+        events: &[Moment],
+        limit: u32,
+        bodies: Vec<B>,
+    ) -> Result<Test<DirectedPolicy, B>, NoMemory>
+        requires order { IsOrder order.now }
+        requires whole { length order.now ≡ deal.threads }
+        requires few_events { length events.now ≤ 7 }
+        requires some_steps { 1 ≤ limit }
+        requires few_steps { limit ≤ 100000 }
+        requires bodies { length bodies.items ≡ deal.threads }
+        requires in_range { AreInRange (sizes_of_deal deal) (map B.pending bodies.items) }
+        ensures asked { IfOk result (λ test. IsTest B.pending events_plan EventsStand test) }
+        ensures plan { IfOk result (λ test.
+            events_plan test.policy ≡ ByEvents order.now events.now) }
+        ensures deal { IfOk result (λ test. test.deal ≡ deal) }
+        ensures limit { IfOk result (λ test. test.limit ≡ limit) }
+        ensures bodies { IfOk result (λ test. test.bodies ≡ bodies) }
+    {
+        let policy = events_policy(alloc, order, events)?;
+        Ok(Test {
+            deal,
+            policy,
+            limit,
+            bodies,
+        })
+    }
+}
