@@ -5,6 +5,7 @@ use Prim.Native.Nat.{suc-le-suc, zero-le}
 use Rattle.pct_ask.specs.declared.Deal.{Deal}
 use Rattle.pct_ask.specs.declared.verdict.Verdict.TheVariants.{Failed}
 use Rattle.rank_now.specs.declared.moment.Moment.{Moment}
+use Rattle.rank_now.specs.Rank.{rank_by}
 use Rattle.worker_run.specs.Bodies.{Pending}
 use Rattle.worker_run.specs.Samples.{sample_pending}
 use Rattle.directive_run.specs.Points.{points_of}
@@ -72,4 +73,5 @@ adders = sample_pending 0 0 (pos 0) ∷ sample_pending 1 0 (pos 0) ∷ sample_pe
 -- A point after the first step loses an update under each of the six orders, and one after the
 -- second step under none.
 pub six_hits : hits adders_deal adders 3 2 1 (Failed 2 15) 9 ≡ 6
+unfolding rank_by
 six_hits = refl
