@@ -1,5 +1,5 @@
 -- The failures of a campaign (this project): how often each came, and which to look at first.
-use Rattle.std.specs.Prelude.{◌≡◌, ◌≢◌, ◌↔◌, ℕ, ◌<◌, ◌≤◌, Bool, List, length, filter, slice_get}
+use Rattle.std.specs.Prelude.{◌≡◌, ◌≢◌, ◌↔◌, ℕ, ◌<◌, ◌≤◌, List, length, filter, slice_get}
 use Rattle.std.specs.Prelude.{Some, All, Any, AllPairs, Contains}
 use Rattle.std.specs.List.{position_or_len}
 use Rattle.std.specs.Option.{option_map}

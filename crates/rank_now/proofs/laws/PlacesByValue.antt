@@ -1,5 +1,5 @@
 -- A thread's place is how many threads have a greater value.
-use Rattle.std.proofs.Common.{◌≡◌, ℕ, ◌-◌, ◌<◌, ◌≤◌, cond, nat_lt, List, length, get_or, arith}
+use Rattle.std.proofs.Common.{◌≡◌, ℕ, ◌<◌, ◌≤◌, cond, nat_lt, List, length, get_or, arith}
 use Rattle.std.specs.List.{count_by, remove}
 use Rattle.std.proofs.lemmas.List.Sums.{count_by-le-length, sum_by-remove, sum_by-le-sum_by}
 use Rattle.std.proofs.lemmas.List.Edits.{length-remove}
