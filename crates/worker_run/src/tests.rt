@@ -1,6 +1,7 @@
 ghost use Rattle.std.specs.Prelude.{◌≡◌, ◌≤◌, [], length, IfOk};
 ghost use Rattle.policy_pick.specs.Plan.{SpeaksOf};
 
+mod batches;
 mod many;
 mod meetings;
 

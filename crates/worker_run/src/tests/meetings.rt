@@ -1,8 +1,11 @@
 // Bodies that look for each other while they post: they run at once.
 ghost use Rattle.std.specs.Prelude.{◌≡◌, length, IfOk};
+ghost use Rattle.policy_pick.specs.Kept.{points_plan, PointsStand};
+ghost use Rattle.worker_run.specs.Samples.{sample_pending};
+ghost use Rattle.worker_run.specs.Tests.{IsTest, AreTests};
 
 use super::{IN_ORDER, Sample, expect, new_sample, play, sample_deal, samples};
-use crate::{run_here, run_threads};
+use crate::{Test, run_here, run_many, run_threads};
 use pct_ask::{Body, Outcome, Post, Verdict};
 use pct_outside::{OpenGate, PairGate};
 use policy_pick::Pct;
@@ -120,6 +123,57 @@ fn expect_meeting<R: Threads + Wait + Abort + Sync>(
 #[test]
 fn bodies_meet(rt: HostRuntime) -> Result<(), Fail> {
     expect_meeting(&rt, rt.alloc(), 0)
+}
+
+/// A test whose first two threads look for each other.
+fn looking_test<'f>(
+    alloc: Global,
+    first: &'f Flag,
+    second: &'f Flag,
+) -> Result<Test<Pct, Looker<'f>>, NoMemory>
+    ensures { IfOk result (λ test. IsTest
+        (λ b. sample_pending b.sample.thread b.sample.steps b.sample.seen)
+        points_plan PointsStand test) }
+{
+    let deal = sample_deal(alloc)?;
+    let bodies = lookers(alloc, 0, first, second)?;
+    Test::by_points(alloc, deal, &[0, 1, 2], &[], 10_000, bodies)
+}
+
+/// Two such tests.
+fn looking_tests<'f>(
+    alloc: Global,
+    first: &'f Flag,
+    second: &'f Flag,
+    third: &'f Flag,
+    fourth: &'f Flag,
+) -> Result<Vec<Test<Pct, Looker<'f>>>, NoMemory>
+    ensures { IfOk result (λ tests. AreTests
+        (λ b. sample_pending b.sample.thread b.sample.steps b.sample.seen)
+        points_plan PointsStand tests.items) }
+{
+    let mut tests = Vec::new(alloc);
+    tests.push(looking_test(alloc, first, second)?)?;
+    tests.push(looking_test(alloc, third, fourth)?)?;
+    Ok(tests)
+}
+
+/// In each test of a batch both post for the first time at once.
+#[test]
+fn bodies_meet_in_each_test(rt: HostRuntime) -> Result<(), Fail> {
+    let first = Flag::new();
+    let second = Flag::new();
+    let third = Flag::new();
+    let fourth = Flag::new();
+    let tests = looking_tests(rt.alloc(), &first, &second, &third, &fourth)?;
+    let runs = run_many(&rt, rt.alloc(), tests, &OpenGate::new())?;
+    assert_eq!(rt; runs.len(), 2);
+    for played in runs.iter() {
+        expect(&rt, played, &IN_ORDER, Outcome::Verdict(Verdict::Passed));
+    }
+    assert!(rt; first.saw() && second.saw());
+    assert!(rt; third.saw() && fourth.saw());
+    Ok(())
 }
 
 /// The first thread takes its two steps while the second is away.
