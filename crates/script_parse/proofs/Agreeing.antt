@@ -23,13 +23,10 @@ use Rattle.script_parse.specs.Reading as reading
 use Rattle.script_parse.specs.Reading.{Finder, is_empty, is_if, is_in_if, so_far, is_known, taken}
 use Rattle.script_parse.proofs.Meanings.{by_meaning}
 use Rattle.script_parse.proofs.Standing.{Lines, Stands, depth_is, is_if_at, quiet_at, on_quiet, into_quiet, said_stands, plain_stands, valued_stands, opens_stands, quiet_names, declared_names, end_stands_at, else_stands_at, count_push, names_push, nameless_at, plain_opens_none, kind_ends_none}
+use Rattle.script_parse.proofs.Choices.{unflip}
 
 open_opening : parts.Opening → Open
 open_opening opening = record { opening = opening; done = [] }
-
-unflip : (b : Bool) → not b ≡ false → b ≡ true
-unflip true h = refl
-unflip false h = absurd cc
 
 one_tests : (n : ℕ) → nat_le 1 n ≡ not (n == 0)
 one_tests n = grind (arith, nat_tests)

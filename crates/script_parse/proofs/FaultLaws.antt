@@ -16,9 +16,10 @@ use Rattle.script_tree.specs.Faults.{Place, earlier, are_blank, IsFirstKind, IsF
 use Rattle.script_parse.specs.Reading.{is_empty, bytes_fault, blank_text_fault, read, read_from}
 use Rattle.script_parse.proofs.ExpressionWhole.{exact}
 use Rattle.script_parse.proofs.FirstKinds.{first_in, in_order}
-use Rattle.script_parse.proofs.LineSteps.{tests, first_told, clash, always, never, never_formed, tells_utf, tells_long, tells_lines, tells_end_any, tells_thread_any}
+use Rattle.script_parse.proofs.LineSteps.{tests, first_told, always, never, never_formed, tells_utf, tells_long, tells_lines, tells_end_any, tells_thread_any}
 use Rattle.script_parse.proofs.Headers.{quiet_none, tells_token}
 use Rattle.script_parse.proofs.TextFaults.{Found, TellsFault, at_place, finder_of, all_tell, no_end, none_at_first}
+use Rattle.script_parse.proofs.Choices.{clash}
 
 -- ---- a text of blank lines alone
 

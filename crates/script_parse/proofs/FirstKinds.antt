@@ -39,33 +39,11 @@ kind_at (suc (suc (suc (suc (suc (suc (suc (suc (suc (suc (suc (suc n)))))))))))
 at_rank : (kind : ScriptFault) → kind_at (rank kind) ≡ kind
 unfolding kind_at
 at_rank kinds.NotUtf8 = refl
-at_rank kinds.LineTooLong = refl
-at_rank kinds.TooManyLines = refl
-at_rank kinds.BadHeader = refl
-at_rank kinds.BadToken = refl
-at_rank kinds.BadStatement = refl
-at_rank kinds.UnknownName = refl
-at_rank kinds.TwiceNamed = refl
-at_rank kinds.NumberRange = refl
-at_rank kinds.NoEnd = refl
-at_rank kinds.StrayEnd = refl
-at_rank kinds.NoThread = refl
-at_rank kinds.TooMany = refl
+at_rank kind = refl
 
 rank_few : (kind : ScriptFault) → rank kind < 13
 rank_few kinds.NotUtf8 = omega arith
-rank_few kinds.LineTooLong = omega arith
-rank_few kinds.TooManyLines = omega arith
-rank_few kinds.BadHeader = omega arith
-rank_few kinds.BadToken = omega arith
-rank_few kinds.BadStatement = omega arith
-rank_few kinds.UnknownName = omega arith
-rank_few kinds.TwiceNamed = omega arith
-rank_few kinds.NumberRange = omega arith
-rank_few kinds.NoEnd = omega arith
-rank_few kinds.StrayEnd = omega arith
-rank_few kinds.NoThread = omega arith
-rank_few kinds.TooMany = omega arith
+rank_few kind = omega arith
 
 pub same_rank_kind : (a b : ScriptFault) → rank a ≡ rank b → a ≡ b
 same_rank_kind a b e = sym (at_rank a) ∙ ap kind_at e ∙ at_rank b

@@ -96,11 +96,7 @@ names_more part kind name h l f r v t = record {
     few : (kind : NameKind) → (kind ≡ kinds.Thread → length part.names.threads < most_threads part.version) → length (with_name kind name part.names).threads ≤ most_threads part.version
     few kinds.Thread t = let room : length part.names.threads < most_threads part.version = t refl in omega (arith, room, length_push part.names.threads name)
     few kinds.Var t = h.few_threads
-    few kinds.Mutex t = h.few_threads
-    few kinds.Cond t = h.few_threads
-    few kinds.Sem t = h.few_threads
-    few kinds.Barrier t = h.few_threads
-    few kinds.RwLock t = h.few_threads
+    few kind t = h.few_threads
 
     known : (kind : NameKind) → kind_since kind ≤ part.version → rwlocks_fit part.version (with_name kind name part.names).rwlocks ≡ true
     known kinds.Thread v = h.known_rwlocks

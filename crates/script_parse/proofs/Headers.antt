@@ -16,11 +16,11 @@ use Rattle.script_tree.specs.Faults as faults
 use Rattle.script_tree.specs.Faults.{Place, earlier, are_blank, IsBelow, HasForm, HasFormWith, IsFaulty}
 use Rattle.script_parse.specs.Part.{Part}
 use Rattle.script_parse.specs.Reading.{Finder, is_empty, unless, header_taken, start, line_taken, wrapped}
-use Rattle.script_parse.proofs.Choices.{some, passed, same_bytes}
+use Rattle.script_parse.proofs.Choices.{some, passed, same_bytes, clash}
 use Rattle.script_parse.proofs.ExpressionWhole.{exact}
 use Rattle.script_parse.proofs.FirstKinds.{Tells, first_in, in_order, IsFirst}
 use Rattle.script_parse.proofs.Standing.{Lines, Stands, depth_is, count_push, names_push, reverse_push}
-use Rattle.script_parse.proofs.LineSteps.{Step, fault_of, tests, first_told, clash, never, always, tells_utf, tells_long, tells_lines, bytes_at, bad_chain, tells_end_any, tells_thread_any, never_formed, some_none, cut_tokens, says_something}
+use Rattle.script_parse.proofs.LineSteps.{Step, fault_of, tests, first_told, never, always, tells_utf, tells_long, tells_lines, bytes_at, bad_chain, tells_end_any, tells_thread_any, never_formed, some_none, cut_tokens, says_something}
 
 -- lines that say nothing
 pub record AreQuiet (lines : Lines) : Type 0 where
@@ -67,12 +67,7 @@ header_stands lines digit version e q =
   where
     no_list : (kind : NameKind) → [] ≡ list_of kind no_names
     no_list kinds.Thread = refl
-    no_list kinds.Var = refl
-    no_list kinds.Mutex = refl
-    no_list kinds.Cond = refl
-    no_list kinds.Sem = refl
-    no_list kinds.Barrier = refl
-    no_list kinds.RwLock = refl
+    no_list kind = refl
 
 -- where a header was read
 pub begun_stands : (lines : Lines) (tokens : List Token) (version : ℕ) → version_in tokens ≡ Some version → AreQuiet lines → Stands (start version) (lines ++ tokens ∷ [])

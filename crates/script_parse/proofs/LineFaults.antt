@@ -14,40 +14,23 @@ use Rattle.script_tree.specs.Faults.{Place, SoFar, earlier, is_declared, are_bla
 use Rattle.script_parse.specs.Part.{Part}
 use Rattle.script_parse.specs.Reading as reading
 use Rattle.script_parse.specs.Reading.{Finder, is_empty, so_far, is_known, form_fault, taken, bytes_fault}
-use Rattle.script_parse.proofs.Choices.{some_is}
+use Rattle.script_parse.proofs.Choices.{some_is, clash, unflip, flipped}
 use Rattle.script_parse.proofs.FormWhole.{form_read}
 use Rattle.script_parse.proofs.FirstKinds.{Tells}
 use Rattle.script_parse.proofs.Standing.{Lines, Stands}
 use Rattle.script_parse.proofs.Agreeing.{same_so_far, found, known_same, leaves_open_same, lacks_thread_same}
 
-flipped : (b : Bool) → not b ≡ true → b ≡ false
-flipped true h = absurd cc
-flipped false h = refl
-
-unflipped : (b : Bool) → not b ≡ false → b ≡ true
-unflipped true h = refl
-unflipped false h = absurd cc
-
 pub empty_is : {A : Type 0} (xs : List A) → is_empty xs ≡ true → xs ≡ []
 empty_is [] e = refl
-empty_is (x ∷ xs) e = absurd (let some : (suc (length xs) == 0) ≡ false = grind (arith, nat_tests) in clash (sym some ∙ e))
-  where
-    clash : false ≡ true → ⊥
-    clash f = cc
+empty_is (x ∷ xs) e = let some : (suc (length xs) == 0) ≡ false = grind (arith, nat_tests) in clash (sym e ∙ some)
 
 pub is_empty_of : {A : Type 0} (xs : List A) → xs ≡ [] → is_empty xs ≡ true
 is_empty_of [] e = refl
 is_empty_of (x ∷ xs) e = absurd cc
 
-pub both_hold : (a b : Bool) → (a && b) ≡ false → a ≡ true → b ≡ true → ⊥
-both_hold true b e h k = clash (sym e ∙ k)
-  where
-    clash : false ≡ true → ⊥
-    clash f = cc
-both_hold false b e h k = clash h
-  where
-    clash : false ≡ true → ⊥
-    clash f = cc
+pub both_hold : {P : Type 0} (a b : Bool) → (a && b) ≡ false → a ≡ true → b ≡ true → P
+both_hold true b e h k = clash (sym k ∙ e)
+both_hold false b e h k = absurd cc
 
 -- ---- a line below the header, of some form
 
@@ -84,11 +67,8 @@ module _ (part : Part) (place : Place) (s : Stands part (earlier place)) (below 
   no_statement : Tells (not (faults.may_stand (faults.so_far_at place) meant)) (faults.BadStatement place)
   no_statement = (
     λ e. (below, λ other sense h. clash (sym (stands_here other sense h) ∙ flipped (faults.may_stand (faults.so_far_at place) meant) e)),
-    λ e w. w.1 cut meant (has_form (unflipped (faults.may_stand (faults.so_far_at place) meant) e)),
+    λ e w. w.1 cut meant (has_form (unflip (faults.may_stand (faults.so_far_at place) meant) e)),
   )
-    where
-      clash : true ≡ false → ⊥
-      clash e = cc
 
   pub tells_statement : Tells (not (faults.may_stand (so_far part) meant)) (faults.BadStatement place)
   tells_statement = subst (λ (lines : SoFar). Tells (not (faults.may_stand lines meant)) (faults.BadStatement place)) here no_statement

@@ -16,7 +16,7 @@ use Rattle.script_tree.specs.Faults.{Place, earlier, are_blank, IsBelow, HasForm
 use Rattle.script_parse.specs.Part.{Part}
 use Rattle.script_parse.specs.Saying.{form_in}
 use Rattle.script_parse.specs.Reading.{is_empty, so_far, bytes_fault, unless, wrapped, after_fault, line_taken}
-use Rattle.script_parse.proofs.Choices.{some}
+use Rattle.script_parse.proofs.Choices.{some, clash}
 use Rattle.script_parse.proofs.ExpressionWhole.{exact}
 use Rattle.script_parse.proofs.FormWhole.{form_read}
 use Rattle.script_parse.proofs.FormSound.{form_says}
@@ -84,9 +84,6 @@ first_told place u l t h k s un tw ra ne st nt tm a o e =
     subst (λ (x : Option ScriptFault). IsFirst x place) (sym e) (is_first place (tests u l t h k s un tw ra ne st nt tm) (told place u l t h k s un tw ra ne st nt tm a))
 
 -- ---- bytes
-
-pub clash : {A : Type 0} → true ≡ false → A
-clash e = absurd cc
 
 pub never : {P : Type 0} → ¬ P → Tells false P
 never h = (λ e. absurd cc, λ e. h)
