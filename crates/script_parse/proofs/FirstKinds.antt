@@ -54,11 +54,8 @@ AreFrom n [] = n ≡ 13
 AreFrom n (k ∷ ks) = (rank k ≡ n) × AreFrom (n + 1) ks
 
 module _ (place : Place) (test : ScriptFault → Bool) (tells : (kind : ScriptFault) → Tells (test kind) (IsFaulty kind place)) where
-  same_rank : (a b : ScriptFault) → rank a ≡ rank b → a ≡ b
-  same_rank a b e = sym (at_rank a) ∙ ap kind_at e ∙ at_rank b
-
   below_next : (n : ℕ) (k : ScriptFault) → rank k ≡ n → test k ≡ false → ((o : ScriptFault) → rank o < n → test o ≡ false) → (o : ScriptFault) → rank o < n + 1 → test o ≡ false
-  below_next n k e f before o h = elim (split (rank o) n h) [ inl low ↦ before o low | inr same ↦ ap test (same_rank o k (same ∙ sym e)) ∙ f ]
+  below_next n k e f before o h = elim (split (rank o) n h) [ inl low ↦ before o low | inr same ↦ ap test (same_rank_kind o k (same ∙ sym e)) ∙ f ]
     where
       split : (a b : ℕ) → a < b + 1 → (a < b) ⊎ (a ≡ b)
       split a b l = elim (cases_lt a b) [ inl low ↦ inl low | inr high ↦ inr (omega arith) ]

@@ -32,6 +32,20 @@ pub both_hold : {P : Type 0} (a b : Bool) → (a && b) ≡ false → a ≡ true 
 both_hold true b e h k = clash (sym k ∙ e)
 both_hold false b e h k = absurd cc
 
+pub tells_end_any : (place : Place) → Tells (is_empty place.after && nat_le 1 (depth (earlier place ++ tokens_in place.line ∷ []))) (faults.NoEnd place)
+tells_end_any place =
+    let open_ : Bool = nat_le 1 (depth (earlier place ++ tokens_in place.line ∷ [])) in (
+      λ e. let p = and_parts (is_empty place.after) open_ e in (empty_is place.after p.0, leb-true 1 _ p.1),
+      λ e w. both_hold (is_empty place.after) open_ e (is_empty_of place.after w.0) (le-leb 1 _ w.1),
+    )
+
+pub tells_thread_any : (place : Place) → Tells (is_empty place.after && is_empty (names_of kinds.Thread (earlier place ++ tokens_in place.line ∷ []))) (faults.NoThread place)
+tells_thread_any place =
+    let none : Bool = is_empty (names_of kinds.Thread (earlier place ++ tokens_in place.line ∷ [])) in (
+      λ e. let p = and_parts (is_empty place.after) none e in (empty_is place.after p.0, empty_is _ p.1),
+      λ e w. both_hold (is_empty place.after) none e (is_empty_of place.after w.0) (is_empty_of _ w.1),
+    )
+
 -- ---- a line below the header, of some form
 
 module _ (part : Part) (place : Place) (s : Stands part (earlier place)) (below : IsBelow place) (cut : Cut) (meant : Meant) (is_form : IsForm part.version (tokens_in place.line) cut meant) where
@@ -95,14 +109,10 @@ module _ (part : Part) (place : Place) (s : Stands part (earlier place)) (below 
 
   pub tells_end : Tells (is_empty place.after && reading.leaves_open part meant) (faults.NoEnd place)
   tells_end =
-      let same : nat_le 1 (depth (earlier place ++ tokens_in place.line ∷ [])) ≡ reading.leaves_open part meant = ap (λ (ls : Lines). nat_le 1 (depth ls)) behind_is ∙ leaves_open_same part (earlier place) s part.version cut meant is_form.means is_form.of in (
-        λ e. let p = and_parts (is_empty place.after) (reading.leaves_open part meant) e in (empty_is place.after p.0, leb-true 1 _ (same ∙ p.1)),
-        λ e w. both_hold (is_empty place.after) (reading.leaves_open part meant) e (is_empty_of place.after w.0) (sym same ∙ le-leb 1 _ w.1),
-      )
+      let same : nat_le 1 (depth (earlier place ++ tokens_in place.line ∷ [])) ≡ reading.leaves_open part meant = ap (λ (ls : Lines). nat_le 1 (depth ls)) behind_is ∙ leaves_open_same part (earlier place) s part.version cut meant is_form.means is_form.of in
+      subst (λ (b : Bool). Tells (is_empty place.after && b) (faults.NoEnd place)) same (tells_end_any place)
 
   pub tells_thread : Tells (is_empty place.after && reading.lacks_thread part meant) (faults.NoThread place)
   tells_thread =
-      let same : is_empty (names_of kinds.Thread (earlier place ++ tokens_in place.line ∷ [])) ≡ reading.lacks_thread part meant = ap (λ (ls : Lines). is_empty (names_of kinds.Thread ls)) behind_is ∙ lacks_thread_same part (earlier place) s part.version cut meant is_form.means is_form.of in (
-        λ e. let p = and_parts (is_empty place.after) (reading.lacks_thread part meant) e in (empty_is place.after p.0, empty_is _ (same ∙ p.1)),
-        λ e w. both_hold (is_empty place.after) (reading.lacks_thread part meant) e (is_empty_of place.after w.0) (sym same ∙ is_empty_of _ w.1),
-      )
+      let same : is_empty (names_of kinds.Thread (earlier place ++ tokens_in place.line ∷ [])) ≡ reading.lacks_thread part meant = ap (λ (ls : Lines). is_empty (names_of kinds.Thread ls)) behind_is ∙ lacks_thread_same part (earlier place) s part.version cut meant is_form.means is_form.of in
+      subst (λ (b : Bool). Tells (is_empty place.after && b) (faults.NoThread place)) same (tells_thread_any place)
