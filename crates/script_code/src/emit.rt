@@ -1,15 +1,39 @@
-ghost use Rattle.std.specs.Prelude.{◌≡◌, ◌+◌, ◌^◌, ◌<◌, ◌++◌, length, OnOk};
-ghost use Rattle.script_tree.specs.Seen.{statement, block};
+ghost use Rattle.std.specs.Prelude.{◌≡◌, ◌+◌, ◌^◌, ◌<◌, ◌∷◌, [], ◌++◌, length, OnOk};
+ghost use Rattle.script_tree.specs.Seen.{expression, statement, block};
 ghost use Rattle.script_tree.specs.Fitting.{count_of, counts_of};
-ghost use Rattle.script_code.specs.Operations.{operations};
+ghost use Rattle.script_code.specs.Operations.{Test, operations};
 ghost use Rattle.script_code.specs.Rest.{from};
 ghost use Rattle.script_code.specs.Layout.{entry, code_of, codes_of};
 
 use crate::copying::{copy_expr, copy_stmt};
 use crate::counting::{count_of, counts_of};
 use crate::flat::Flat;
-use script_tree::{Block, Stmt};
+use script_tree::{Block, Expr, Stmt};
 use std::alloc::{AllocError as NoMemory, Global};
+
+/// Appends a test, behind which `next` or `otherwise` comes.
+fn push_test(
+    alloc: Global,
+    ops: &mut Vec<Flat>,
+    line: u32,
+    test: &Expr,
+    next: u32,
+    otherwise: u32,
+) -> Result<(), NoMemory>
+    ensures appended { OnOk result
+        (operations ops.new.items
+        ≡ operations ops.old.items ++ Test line (expression test.now) next otherwise ∷ []) }
+    ensures length { OnOk result (length ops.new.items ≡ length ops.old.items + 1) }
+{
+    let test = copy_expr(alloc, test)?;
+    ops.push(Flat::Test {
+        line,
+        test,
+        next,
+        otherwise,
+    })?;
+    Ok(())
+}
 
 /// Appends the operations of a statement, behind which `next` comes.
 #[cycle(emit)]
@@ -31,41 +55,24 @@ fn emit_stmt(alloc: Global, ops: &mut Vec<Flat>, stmt: &Stmt, next: u32) -> Resu
             let first = entry(at + 1, next, then, 0);
             match otherwise {
                 None => {
-                    ops.push(Flat::Test {
-                        line: *line,
-                        test: copy_expr(alloc, test)?,
-                        next: first,
-                        otherwise: next,
-                    })?;
+                    push_test(alloc, ops, *line, test, first, next)?;
                     emit_block(alloc, ops, then, next)
                 }
                 Some(otherwise) => {
-                    ops.push(Flat::Test {
-                        line: *line,
-                        test: copy_expr(alloc, test)?,
-                        next: first,
-                        otherwise: entry(second, next, otherwise, 0),
-                    })?;
+                    let other = entry(second, next, otherwise, 0);
+                    push_test(alloc, ops, *line, test, first, other)?;
                     emit_block(alloc, ops, then, next)?;
                     emit_block(alloc, ops, otherwise, next)
                 }
             }
         }
         Stmt::While { line, test, body } => {
-            ops.push(Flat::Test {
-                line: *line,
-                test: copy_expr(alloc, test)?,
-                next: entry(at + 1, at, body, 0),
-                otherwise: next,
-            })?;
+            push_test(alloc, ops, *line, test, entry(at + 1, at, body, 0), next)?;
             emit_block(alloc, ops, body, at)
         }
         _ => {
-            ops.push(Flat::Do {
-                stmt: copy_stmt(alloc, stmt)?,
-                next,
-            })?;
-            Ok(())
+            let stmt = copy_stmt(alloc, stmt)?;
+            Ok(ops.push(Flat::Do { stmt, next })?)
         }
     }
 }
