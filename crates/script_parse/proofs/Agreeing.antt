@@ -128,12 +128,7 @@ module _ (part : Part) (place : Place) (s : Stands part (earlier place)) where
 
   known_at : (kind : NameKind) (name : List ℕ) → is_declared place kind name ≡ is_known part.names found kind name
   known_at kinds.Thread name = sym (is_some-place name (threads_in (place.before ++ place.line ∷ place.after)))
-  known_at kinds.Var name = rw (s.names kinds.Var) (sym (is_some-place name part.names.vars))
-  known_at kinds.Mutex name = rw (s.names kinds.Mutex) (sym (is_some-place name part.names.mutexes))
-  known_at kinds.Cond name = rw (s.names kinds.Cond) (sym (is_some-place name part.names.conds))
-  known_at kinds.Sem name = rw (s.names kinds.Sem) (sym (is_some-place name part.names.sems))
-  known_at kinds.Barrier name = rw (s.names kinds.Barrier) (sym (is_some-place name part.names.barriers))
-  known_at kinds.RwLock name = rw (s.names kinds.RwLock) (sym (is_some-place name part.names.rwlocks))
+  known_at kind name = rw (s.names kind) (sym (is_some-place name (list_of kind part.names)))
 
   pub known_same : is_declared place ≡ is_known part.names found
   known_same = fun_ext (λ kind. fun_ext (λ name. known_at kind name))

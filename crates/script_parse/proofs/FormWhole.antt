@@ -38,13 +38,10 @@ kind_at kinds.Thread = (refl, refl, refl)
 kind_at kind = (refl, refl, refl)
 
 plain_is_read : (version : ℕ) (kind : NameKind) (name : List ℕ) → is_plain kind ≡ true → kind_since kind ≤ version → is_name version name ≡ true → lone_form version kind name ≡ Some (Plain kind name)
-plain_is_read version kinds.Thread name plain since named = absurd cc
-plain_is_read version kinds.Var name plain since named = absurd cc
 plain_is_read version kinds.Mutex name plain since named = rw (le-leb 1 version since, named) refl
 plain_is_read version kinds.Cond name plain since named = rw (le-leb 1 version since, named) refl
-plain_is_read version kinds.Sem name plain since named = absurd cc
-plain_is_read version kinds.Barrier name plain since named = absurd cc
 plain_is_read version kinds.RwLock name plain since named = rw (le-leb 3 version since, named) refl
+plain_is_read version kind name plain since named = absurd cc
 
 -- ---- no comma stands in an expression
 

@@ -15,7 +15,7 @@ use Rattle.script_tree.specs.Fitting.{line_fits, place_fits, expression_fits, st
 use Rattle.pct_ask.specs.TraceText.{name_at}
 use Rattle.script_tree.specs.Grammar.{statement_lines}
 use Rattle.script_tree.specs.Expressions.{IsSpelled, number, register, enclosed, minus, not as negated, two, stronger}
-use Rattle.script_tree.specs.Forms.{OnVerb, Lock, Unlock, Signal, Broadcast, Down, Up, Join, Start, RdLock, IntoVerb, Read, TryLock, TryDown, Arrive, TryRdLock, TryWrLock, Cut, Meant, Plain, Valued, Thread, On, Into, Write, Add, Cas, Wait, Yield, Assert, Set, If, While, End, Else, on_kind, into_kind, on_since, into_since, IsOf, Means}
+use Rattle.script_tree.specs.Forms.{OnVerb, RwUnlock, WrLock, Lock, Start, RdLock, IntoVerb, Read, TryRdLock, TryWrLock, Cut, Meant, Plain, Valued, Thread, On, Into, Write, Add, Cas, Wait, Yield, Assert, Set, If, While, End, Else, on_kind, into_kind, on_since, into_since, IsOf, Means}
 use Rattle.script_parse.specs.Reading.{Finder, place_in, on_statement, into_statement, statement_on}
 use Rattle.script_parse.proofs.Choices.{some_is, mapped_some, bind_some}
 use Rattle.script_parse.proofs.Meanings.{ForEach}
@@ -79,24 +79,16 @@ found_place threads names kind name place e =
 
 module _ (version : ℕ) (names : NameLists) (room line : ℕ) (on_line : line_fits line ≡ true) where
   on_fits : (verb : OnVerb) (place : ℕ) → on_since verb ≤ version → place_fits (list_of (on_kind verb) names) place ≡ true → statement_fits version names room (on_statement verb line place) ≡ true
-  on_fits Lock place v p = rw (on_line, p) refl
-  on_fits Unlock place v p = rw (on_line, p) refl
-  on_fits Signal place v p = rw (on_line, p) refl
-  on_fits Broadcast place v p = rw (on_line, p) refl
-  on_fits Down place v p = rw (on_line, p) refl
-  on_fits Up place v p = rw (on_line, p) refl
-  on_fits Join place v p = rw (on_line, p) refl
   on_fits Start place v p = rw (on_line, p, le-leb 2 version v) refl
   on_fits RdLock place v p = rw (on_line, p, le-leb 3 version v) refl
-  on_fits verb place v p = rw (on_line, p, le-leb 3 version v) refl
+  on_fits WrLock place v p = rw (on_line, p, le-leb 3 version v) refl
+  on_fits RwUnlock place v p = rw (on_line, p, le-leb 3 version v) refl
+  on_fits verb place v p = rw (on_line, p) refl
 
   into_fits : (verb : IntoVerb) (reg place : ℕ) → into_since verb ≤ version → reg < 16 → place_fits (list_of (into_kind verb) names) place ≡ true → statement_fits version names room (into_statement verb line reg place) ≡ true
-  into_fits Read reg place v r p = rw (on_line, lt-ltb reg 16 r, p) refl
-  into_fits TryLock reg place v r p = rw (on_line, lt-ltb reg 16 r, p) refl
-  into_fits TryDown reg place v r p = rw (on_line, lt-ltb reg 16 r, p) refl
-  into_fits Arrive reg place v r p = rw (on_line, lt-ltb reg 16 r, p) refl
   into_fits TryRdLock reg place v r p = rw (on_line, lt-ltb reg 16 r, p, le-leb 3 version v) refl
   into_fits TryWrLock reg place v r p = rw (on_line, lt-ltb reg 16 r, p, le-leb 3 version v) refl
+  into_fits verb reg place v r p = rw (on_line, lt-ltb reg 16 r, p) refl
 
 -- a statement that is read of a line
 pub record IsSaid (version : ℕ) (names : NameLists) (line : ℕ) (meant : Meant) (statement : Statement) : Type 0 where
