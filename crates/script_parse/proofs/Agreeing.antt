@@ -23,13 +23,10 @@ use Rattle.script_parse.specs.Reading as reading
 use Rattle.script_parse.specs.Reading.{Finder, is_empty, is_if, is_in_if, so_far, is_known, taken}
 use Rattle.script_parse.proofs.Meanings.{by_meaning}
 use Rattle.script_parse.proofs.Standing.{Lines, Stands, depth_is, is_if_at, quiet_at, on_quiet, into_quiet, said_stands, plain_stands, valued_stands, opens_stands, quiet_names, declared_names, end_stands_at, else_stands_at, count_push, names_push, nameless_at, plain_opens_none, kind_ends_none}
+use Rattle.script_parse.proofs.Choices.{unflip}
 
 open_opening : parts.Opening → Open
 open_opening opening = record { opening = opening; done = [] }
-
-unflip : (b : Bool) → not b ≡ false → b ≡ true
-unflip true h = refl
-unflip false h = absurd cc
 
 one_tests : (n : ℕ) → nat_le 1 n ≡ not (n == 0)
 one_tests n = grind (arith, nat_tests)
@@ -131,12 +128,7 @@ module _ (part : Part) (place : Place) (s : Stands part (earlier place)) where
 
   known_at : (kind : NameKind) (name : List ℕ) → is_declared place kind name ≡ is_known part.names found kind name
   known_at kinds.Thread name = sym (is_some-place name (threads_in (place.before ++ place.line ∷ place.after)))
-  known_at kinds.Var name = rw (s.names kinds.Var) (sym (is_some-place name part.names.vars))
-  known_at kinds.Mutex name = rw (s.names kinds.Mutex) (sym (is_some-place name part.names.mutexes))
-  known_at kinds.Cond name = rw (s.names kinds.Cond) (sym (is_some-place name part.names.conds))
-  known_at kinds.Sem name = rw (s.names kinds.Sem) (sym (is_some-place name part.names.sems))
-  known_at kinds.Barrier name = rw (s.names kinds.Barrier) (sym (is_some-place name part.names.barriers))
-  known_at kinds.RwLock name = rw (s.names kinds.RwLock) (sym (is_some-place name part.names.rwlocks))
+  known_at kind name = rw (s.names kind) (sym (is_some-place name (list_of kind part.names)))
 
   pub known_same : is_declared place ≡ is_known part.names found
   known_same = fun_ext (λ kind. fun_ext (λ name. known_at kind name))

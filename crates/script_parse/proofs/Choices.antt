@@ -1,6 +1,6 @@
 -- Small steps about choices and options.
 use Rattle.std.proofs.Common.{◌≡◌, ℕ, Bool, true, false, cond, ◌⊎◌, inl, inr, List, Option, Some, None, refl, ap, ◌∙◌}
-use Rattle.std.specs.Prelude.{◌||◌}
+use Rattle.std.specs.Prelude.{not, ◌||◌}
 use Rattle.std.specs.Option.{option_map, option_and_then}
 use Rattle.std.specs.Str.{bytes_eq}
 use Rattle.std.proofs.lemmas.Slice.Eq.{bytes_eq-Decides}
@@ -10,6 +10,17 @@ some x = Some x
 
 pub some_is : {A : Type 0} (x y : A) → some x ≡ some y → x ≡ y
 some_is x y e = cc
+
+pub clash : {A : Type 0} → true ≡ false → A
+clash e = absurd cc
+
+pub unflip : (b : Bool) → not b ≡ false → b ≡ true
+unflip true h = refl
+unflip false h = absurd cc
+
+pub flipped : (b : Bool) → not b ≡ true → b ≡ false
+flipped true h = absurd cc
+flipped false h = refl
 
 -- which way a choice went
 pub chosen : {A : Type 0} (b : Bool) (x y z : A) → cond b x y ≡ z → ((b ≡ true) × (x ≡ z)) ⊎ ((b ≡ false) × (y ≡ z))

@@ -22,74 +22,57 @@ use Rattle.script_parse.proofs.DeclaredValues.{AreValues, no_value_more, values_
 
 -- what stays the same but for the blocks
 record KeepsDeclared (part next : Part) : Type 0 where
+  version : next.version ≡ part.version
   vars : next.vars ≡ part.vars
   sems : next.sems ≡ part.sems
   barriers : next.barriers ≡ part.barriers
   threads : next.names.threads ≡ part.names.threads
 
-same_declared : (part : Part) → KeepsDeclared part part
-same_declared part = record { vars = refl; sems = refl; barriers = refl; threads = refl }
-
 said_declared : (part : Part) (statement : Option Statement) → KeepsDeclared part (reading.said part statement)
-said_declared part None = record { vars = refl; sems = refl; barriers = refl; threads = refl }
-said_declared part (Some s) = record { vars = refl; sems = refl; barriers = refl; threads = refl }
+said_declared part None = record { version = refl; vars = refl; sems = refl; barriers = refl; threads = refl }
+said_declared part (Some s) = record { version = refl; vars = refl; sems = refl; barriers = refl; threads = refl }
 
 closed_declared : (part : Part) (blocks : List Open) (opening : parts.Opening) (body : Statements) → KeepsDeclared part (reading.closed_by (record part { open_blocks = blocks }) opening body)
-closed_declared part blocks (parts.Thread line) body = record { vars = refl; sems = refl; barriers = refl; threads = refl }
-closed_declared part blocks (parts.If line test) body = record { vars = refl; sems = refl; barriers = refl; threads = refl }
-closed_declared part blocks (parts.Else line test first) body = record { vars = refl; sems = refl; barriers = refl; threads = refl }
-closed_declared part blocks (parts.While line test) body = record { vars = refl; sems = refl; barriers = refl; threads = refl }
+closed_declared part blocks (parts.Thread line) body = record { version = refl; vars = refl; sems = refl; barriers = refl; threads = refl }
+closed_declared part blocks opening body = record { version = refl; vars = refl; sems = refl; barriers = refl; threads = refl }
 
 ended_declared : (part : Part) (blocks : List Open) (n : ℕ) → KeepsDeclared part (reading.ended part blocks n)
-ended_declared part [] n = record { vars = refl; sems = refl; barriers = refl; threads = refl }
+ended_declared part [] n = record { version = refl; vars = refl; sems = refl; barriers = refl; threads = refl }
 ended_declared part (block ∷ blocks) n = closed_declared part blocks block.opening (closed_at n block.done)
 
 turned_by_declared : (part : Part) (block : Open) (blocks : List Open) (n : ℕ) (opening : parts.Opening) → KeepsDeclared part (reading.turned_by part block blocks n opening)
-turned_by_declared part block blocks n (parts.Thread line) = record { vars = refl; sems = refl; barriers = refl; threads = refl }
-turned_by_declared part block blocks n (parts.If line test) = record { vars = refl; sems = refl; barriers = refl; threads = refl }
-turned_by_declared part block blocks n (parts.Else line test first) = record { vars = refl; sems = refl; barriers = refl; threads = refl }
-turned_by_declared part block blocks n (parts.While line test) = record { vars = refl; sems = refl; barriers = refl; threads = refl }
+turned_by_declared part block blocks n (parts.Thread line) = record { version = refl; vars = refl; sems = refl; barriers = refl; threads = refl }
+turned_by_declared part block blocks n opening = record { version = refl; vars = refl; sems = refl; barriers = refl; threads = refl }
 
 turned_declared : (part : Part) (blocks : List Open) (n : ℕ) → KeepsDeclared part (reading.turned part blocks n)
-turned_declared part [] n = record { vars = refl; sems = refl; barriers = refl; threads = refl }
+turned_declared part [] n = record { version = refl; vars = refl; sems = refl; barriers = refl; threads = refl }
 turned_declared part (block ∷ blocks) n = turned_by_declared part block blocks n block.opening
 
 -- what a line adds: first values, and a thread
 pub record Adds (part next : Part) (lines : List (List Token)) (line : List Token) : Type 0 where
+  pub version : next.version ≡ part.version
   pub values : AreValues next (lines ++ line ∷ [])
   pub thread : part.names.threads ++ filter_map just_thread (line ∷ []) ≡ next.names.threads
 
 quiet_adds : (part next : Part) (lines : List (List Token)) (word : List ℕ) (rest : List Token) → kind_in word ≡ None → KeepsDeclared part next → AreValues part lines → Adds part next lines (Word word ∷ rest)
 quiet_adds part next lines word rest k d h = record {
+  version = d.version;
   values = no_value_more part next lines (Word word ∷ rest) (λ kind. valueless_at word rest kind (no_kind word k kind)) d.vars d.sems d.barriers h;
   thread = rw (threadless_at word rest (no_kind word k kinds.Thread)) (append-nil part.names.threads ∙ sym d.threads);
 }
 
 pub on_none : (verb : OnVerb) → kind_in (on_word verb) ≡ None
 on_none forms.Lock = refl
-on_none forms.Unlock = refl
-on_none forms.Signal = refl
-on_none forms.Broadcast = refl
-on_none forms.Down = refl
-on_none forms.Up = refl
-on_none forms.Join = refl
-on_none forms.Start = refl
-on_none forms.RdLock = refl
-on_none forms.WrLock = refl
-on_none forms.RwUnlock = refl
+on_none verb = refl
 
 pub into_none : (verb : IntoVerb) → kind_in (into_word verb) ≡ None
 into_none forms.Read = refl
-into_none forms.TryLock = refl
-into_none forms.TryDown = refl
-into_none forms.Arrive = refl
-into_none forms.TryRdLock = refl
-into_none forms.TryWrLock = refl
+into_none verb = refl
 
 plain_adds : (part : Part) (lines : List (List Token)) (kind : NameKind) (name : List ℕ) → is_plain kind ≡ true → AreValues part lines → Adds part (reading.named part kind name) lines (Word (kind_word kind) ∷ Word name ∷ [])
-plain_adds part lines kinds.Mutex name p h = record { values = no_value_more part (reading.named part kinds.Mutex name) lines _ (λ kind. refl) refl refl refl h; thread = append-nil part.names.threads }
-plain_adds part lines kinds.Cond name p h = record { values = no_value_more part (reading.named part kinds.Cond name) lines _ (λ kind. refl) refl refl refl h; thread = append-nil part.names.threads }
-plain_adds part lines kinds.RwLock name p h = record { values = no_value_more part (reading.named part kinds.RwLock name) lines _ (λ kind. refl) refl refl refl h; thread = append-nil part.names.threads }
+plain_adds part lines kinds.Mutex name p h = record { version = refl; values = no_value_more part (reading.named part kinds.Mutex name) lines _ (λ kind. refl) refl refl refl h; thread = append-nil part.names.threads }
+plain_adds part lines kinds.Cond name p h = record { version = refl; values = no_value_more part (reading.named part kinds.Cond name) lines _ (λ kind. refl) refl refl refl h; thread = append-nil part.names.threads }
+plain_adds part lines kinds.RwLock name p h = record { version = refl; values = no_value_more part (reading.named part kinds.RwLock name) lines _ (λ kind. refl) refl refl refl h; thread = append-nil part.names.threads }
 plain_adds part lines kind name p h = absurd cc
 
 push_value : (kind : NameKind) (lines : List (List Token)) (line : List Token) (values : List ℤ) (value : ℤ) → values_of kind lines ≡ values → valued kind line ≡ Some value → values_of kind (lines ++ line ∷ []) ≡ values ++ value ∷ []
@@ -105,14 +88,17 @@ some_value None h = absurd cc
 valued_adds : (part : Part) (lines : List (List Token)) (kind : NameKind) (name : List ℕ) (value : List Token) → has_value kind ≡ true → is_some (value_in kind value) ≡ true → AreValues part lines
     → Adds part (reading.with_value kind (unwrap_or (value_in kind value) (pos 0)) (reading.named part kind name)) lines (Word (kind_word kind) ∷ Word name ∷ Symbol (codes "=") ∷ value)
 valued_adds part lines kinds.Var name value p s h = record {
+  version = refl;
   values = record { vars = push_value kinds.Var lines _ part.vars _ h.vars (some_value (value_in kinds.Var value) s); sems = same_value kinds.Sem lines _ part.sems h.sems refl; barriers = same_value kinds.Barrier lines _ part.barriers h.barriers refl };
   thread = append-nil part.names.threads;
 }
 valued_adds part lines kinds.Sem name value p s h = record {
+  version = refl;
   values = record { vars = same_value kinds.Var lines _ part.vars h.vars refl; sems = push_value kinds.Sem lines _ part.sems _ h.sems (some_value (value_in kinds.Sem value) s); barriers = same_value kinds.Barrier lines _ part.barriers h.barriers refl };
   thread = append-nil part.names.threads;
 }
 valued_adds part lines kinds.Barrier name value p s h = record {
+  version = refl;
   values = record { vars = same_value kinds.Var lines _ part.vars h.vars refl; sems = same_value kinds.Sem lines _ part.sems h.sems refl; barriers = push_value kinds.Barrier lines _ part.barriers _ h.barriers (some_value (value_in kinds.Barrier value) s) };
   thread = append-nil part.names.threads;
 }
@@ -123,7 +109,7 @@ pub form_adds : (version : ℕ) (part : Part) (find : Finder) (n : ℕ) (lines :
 form_adds version part find n lines h = by_meaning (λ cut meant. IsOf version cut → Adds part (taken part find n meant) lines (tokens_of_form cut)) (record {
   plain = λ kind name of. plain_adds part lines kind name of.0 h;
   valued = λ kind name value of. valued_adds part lines kind name value of.0 of.2 h;
-  thread = λ name of. record { values = no_value_more part (taken part find n (Thread name)) lines (tokens_of_form (Thread name)) (λ kind. refl) refl refl refl h; thread = refl };
+  thread = λ name of. record { version = refl; values = no_value_more part (taken part find n (Thread name)) lines (tokens_of_form (Thread name)) (λ kind. refl) refl refl refl h; thread = refl };
   on = λ verb object of. quiet_adds part (taken part find n (On verb object)) lines (on_word verb) (Word object ∷ []) (on_none verb) (said_declared part (reading.statement_on part.names find n (On verb object))) h;
   into = λ verb reg object of. quiet_adds part (taken part find n (Into verb reg object)) lines (into_word verb) (Word (register_word reg) ∷ Word object ∷ []) (into_none verb) (said_declared part (reading.statement_on part.names find n (Into verb reg object))) h;
   write = λ var value tree of. quiet_adds part (taken part find n (Write var tree)) lines (codes "write") (Word var ∷ value) refl (said_declared part (reading.statement_on part.names find n (Write var tree))) h;
@@ -133,8 +119,8 @@ form_adds version part find n lines h = by_meaning (λ cut meant. IsOf version c
   yield = λ of. quiet_adds part (taken part find n Yield) lines (codes "yield") [] refl (said_declared part (reading.statement_on part.names find n Yield)) h;
   assert = λ test tree of. quiet_adds part (taken part find n (Assert tree)) lines (codes "assert") test refl (said_declared part (reading.statement_on part.names find n (Assert tree))) h;
   set = λ reg value tree of. quiet_adds part (taken part find n (Set reg tree)) lines (codes "set") (Word (register_word reg) ∷ value) refl (said_declared part (reading.statement_on part.names find n (Set reg tree))) h;
-  when = λ test tree of. quiet_adds part (taken part find n (If tree)) lines (codes "if") test refl (record { vars = refl; sems = refl; barriers = refl; threads = refl }) h;
-  while = λ test tree of. quiet_adds part (taken part find n (While tree)) lines (codes "while") test refl (record { vars = refl; sems = refl; barriers = refl; threads = refl }) h;
+  when = λ test tree of. quiet_adds part (taken part find n (If tree)) lines (codes "if") test refl (record { version = refl; vars = refl; sems = refl; barriers = refl; threads = refl }) h;
+  while = λ test tree of. quiet_adds part (taken part find n (While tree)) lines (codes "while") test refl (record { version = refl; vars = refl; sems = refl; barriers = refl; threads = refl }) h;
   end = λ of. quiet_adds part (taken part find n End) lines (codes "end") [] refl (ended_declared part part.open_blocks n) h;
   otherwise = λ of. quiet_adds part (taken part find n Else) lines (codes "else") [] refl (turned_declared part part.open_blocks n) h;
 })

@@ -4,7 +4,7 @@ use Rattle.std.specs.Prelude.{codes}
 use Rattle.std.specs.Str.{bytes_eq}
 use Rattle.std.proofs.lemmas.List.{append-nil}
 use Rattle.std.proofs.lemmas.List.Elements.{filter_map-append}
-use Rattle.pct_ask.specs.Tokens.{Token, Word, Number, Symbol}
+use Rattle.pct_ask.specs.Tokens.{Token, Word, Symbol}
 use Rattle.pct_ask.specs.declared.names.NameKind.{NameKind}
 use Rattle.pct_ask.specs.declared.names.NameKind.TheVariants as kinds
 use Rattle.script_tree.specs.Forms.{kind_word}
@@ -16,18 +16,13 @@ valueless_at word [] kind h = refl
 valueless_at word (Word name ∷ []) kind h = refl
 valueless_at word (Word name ∷ Symbol signs ∷ rest) kind h = rw h refl
 valueless_at word (Word name ∷ Word other ∷ rest) kind h = refl
-valueless_at word (Word name ∷ Number digits ∷ rest) kind h = refl
-valueless_at word (Number digits ∷ rest) kind h = refl
-valueless_at word (Symbol signs ∷ rest) kind h = refl
+valueless_at word rest kind h = refl
 
 pub threadless_at : (word : List ℕ) (rest : List Token) → bytes_eq word (codes "thread") ≡ false → just_thread (Word word ∷ rest) ≡ None
 threadless_at word [] h = refl
 threadless_at word (Word name ∷ []) h = rw h refl
 threadless_at word (Word name ∷ Word other ∷ rest) h = refl
-threadless_at word (Word name ∷ Symbol signs ∷ rest) h = refl
-threadless_at word (Word name ∷ Number digits ∷ rest) h = refl
-threadless_at word (Number digits ∷ rest) h = refl
-threadless_at word (Symbol signs ∷ rest) h = refl
+threadless_at word rest h = refl
 
 pub values_push : (kind : NameKind) (lines : List (List Token)) (line : List Token) → values_of kind (lines ++ line ∷ []) ≡ values_of kind lines ++ values_of kind (line ∷ [])
 values_push kind lines line = filter_map-append (valued kind) lines (line ∷ [])

@@ -39,8 +39,7 @@ pub accepts_more : (level : ℕ) (frames : List Frame) (more : ℕ) → level �
 accepts_more level [] more h a = tt
 accepts_more level (Paren ∷ frames) more h a = tt
 accepts_more level (Not ∷ frames) more h a = omega arith
-accepts_more level (Minus ∷ frames) more h a = omega arith
-accepts_more level (Two op left ∷ frames) more h a = omega arith
+accepts_more level frames more h a = omega arith
 
 follows_symbol : (level more : ℕ) (signs : List ℕ) (tokens : List Token) → level ≤ more → Follows level (Symbol signs ∷ tokens) → Follows more (Symbol signs ∷ tokens)
 follows_symbol level more signs tokens h (inl e) = inl e

@@ -16,9 +16,11 @@ use Rattle.script_tree.specs.Faults.{Place, earlier, are_blank, IsFirstKind, IsF
 use Rattle.script_parse.specs.Reading.{is_empty, bytes_fault, blank_text_fault, read, read_from}
 use Rattle.script_parse.proofs.ExpressionWhole.{exact}
 use Rattle.script_parse.proofs.FirstKinds.{first_in, in_order}
-use Rattle.script_parse.proofs.LineSteps.{tests, first_told, clash, always, never, never_formed, tells_utf, tells_long, tells_lines, tells_end_any, tells_thread_any}
+use Rattle.script_parse.proofs.LineFaults.{tells_end_any, tells_thread_any}
+use Rattle.script_parse.proofs.LineSteps.{tests, always, never, first_formless}
 use Rattle.script_parse.proofs.Headers.{quiet_none, tells_token}
 use Rattle.script_parse.proofs.TextFaults.{Found, TellsFault, at_place, finder_of, all_tell, no_end, none_at_first}
+use Rattle.script_parse.proofs.Choices.{clash}
 
 -- ---- a text of blank lines alone
 
@@ -39,21 +41,8 @@ blank_first line rest b =
     let no_form : (cut : Cut) (meant : Meant) → ¬ HasForm place cut meant = λ cut meant h. clash h.is_below.below in
     let open_behind : Bool = is_empty rest && nat_le 1 (depth (earlier place ++ tokens_in line ∷ [])) in
     let threadless : Bool = is_empty rest && is_empty (names_of kinds.Thread (earlier place ++ tokens_in line ∷ [])) in
-    first_told place _ _ false true _ false false false false open_behind false threadless false (record {
-      utf = tells_utf place;
-      long = tells_long place;
-      lines = tells_lines place;
-      header = always (inr (refl, b));
-      token = tells_token (tokens_of line);
-      statement = never (λ h. clash h.0.below);
-      unknown = never_formed place _ no_form;
-      twice = never_formed place _ no_form;
-      range = never_formed place _ no_form;
-      no_end = tells_end_any place;
-      stray = never_formed place _ no_form;
-      no_thread = tells_thread_any place;
-      many = never_formed place _ no_form;
-    }) (some_fault (unwrap_or (bytes_fault 1 line) fault.BadHeader)) (blank_chain (not (is_utf8 line)) (nat_lt 256 (length line)) (not (is_some (tokens_of line))) false false false false open_behind false threadless false)
+    first_formless place true _ false open_behind threadless no_form (always (inr (refl, b))) (tells_token (tokens_of line)) (never (λ h. clash h.0.below))
+    (tells_end_any place) (tells_thread_any place) (some_fault (unwrap_or (bytes_fault 1 line) fault.BadHeader)) (blank_chain (not (is_utf8 line)) (nat_lt 256 (length line)) (not (is_some (tokens_of line))) false false false false open_behind false threadless false)
 
 nothing_before : (line : List ℕ) (rest : List (List ℕ)) → IsFirstLine (at_place [] line rest)
 nothing_before line rest front back other kind e f = no_end front back other (sym e)

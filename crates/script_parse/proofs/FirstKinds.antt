@@ -39,33 +39,11 @@ kind_at (suc (suc (suc (suc (suc (suc (suc (suc (suc (suc (suc (suc n)))))))))))
 at_rank : (kind : ScriptFault) → kind_at (rank kind) ≡ kind
 unfolding kind_at
 at_rank kinds.NotUtf8 = refl
-at_rank kinds.LineTooLong = refl
-at_rank kinds.TooManyLines = refl
-at_rank kinds.BadHeader = refl
-at_rank kinds.BadToken = refl
-at_rank kinds.BadStatement = refl
-at_rank kinds.UnknownName = refl
-at_rank kinds.TwiceNamed = refl
-at_rank kinds.NumberRange = refl
-at_rank kinds.NoEnd = refl
-at_rank kinds.StrayEnd = refl
-at_rank kinds.NoThread = refl
-at_rank kinds.TooMany = refl
+at_rank kind = refl
 
 rank_few : (kind : ScriptFault) → rank kind < 13
 rank_few kinds.NotUtf8 = omega arith
-rank_few kinds.LineTooLong = omega arith
-rank_few kinds.TooManyLines = omega arith
-rank_few kinds.BadHeader = omega arith
-rank_few kinds.BadToken = omega arith
-rank_few kinds.BadStatement = omega arith
-rank_few kinds.UnknownName = omega arith
-rank_few kinds.TwiceNamed = omega arith
-rank_few kinds.NumberRange = omega arith
-rank_few kinds.NoEnd = omega arith
-rank_few kinds.StrayEnd = omega arith
-rank_few kinds.NoThread = omega arith
-rank_few kinds.TooMany = omega arith
+rank_few kind = omega arith
 
 pub same_rank_kind : (a b : ScriptFault) → rank a ≡ rank b → a ≡ b
 same_rank_kind a b e = sym (at_rank a) ∙ ap kind_at e ∙ at_rank b
@@ -76,11 +54,8 @@ AreFrom n [] = n ≡ 13
 AreFrom n (k ∷ ks) = (rank k ≡ n) × AreFrom (n + 1) ks
 
 module _ (place : Place) (test : ScriptFault → Bool) (tells : (kind : ScriptFault) → Tells (test kind) (IsFaulty kind place)) where
-  same_rank : (a b : ScriptFault) → rank a ≡ rank b → a ≡ b
-  same_rank a b e = sym (at_rank a) ∙ ap kind_at e ∙ at_rank b
-
   below_next : (n : ℕ) (k : ScriptFault) → rank k ≡ n → test k ≡ false → ((o : ScriptFault) → rank o < n → test o ≡ false) → (o : ScriptFault) → rank o < n + 1 → test o ≡ false
-  below_next n k e f before o h = elim (split (rank o) n h) [ inl low ↦ before o low | inr same ↦ ap test (same_rank o k (same ∙ sym e)) ∙ f ]
+  below_next n k e f before o h = elim (split (rank o) n h) [ inl low ↦ before o low | inr same ↦ ap test (same_rank_kind o k (same ∙ sym e)) ∙ f ]
     where
       split : (a b : ℕ) → a < b + 1 → (a < b) ⊎ (a ≡ b)
       split a b l = elim (cases_lt a b) [ inl low ↦ inl low | inr high ↦ inr (omega arith) ]

@@ -13,11 +13,7 @@ use Rattle.script_parse.proofs.Choices.{some, some_is, passed, same_bytes}
 minus_signs : (kind : NameKind) (signs : List ℕ) → is_minus kind signs ≡ true → signs ≡ codes "-"
 minus_signs kinds.Var signs h = same_bytes signs (codes "-") h
 minus_signs kinds.Thread signs h = absurd cc
-minus_signs kinds.Mutex signs h = absurd cc
-minus_signs kinds.Cond signs h = absurd cc
-minus_signs kinds.Sem signs h = absurd cc
-minus_signs kinds.Barrier signs h = absurd cc
-minus_signs kinds.RwLock signs h = absurd cc
+minus_signs kind signs h = absurd cc
 
 pub minus_is : (kind : NameKind) (signs digits : List ℕ) → is_minus kind signs ≡ true → some (Symbol (codes "-") ∷ Number digits ∷ []) ≡ minus_value kind signs digits
 minus_is kind signs digits h = rw h (ap (λ (w : List ℕ). some (Symbol w ∷ Number digits ∷ [])) (sym (minus_signs kind signs h)))
@@ -37,11 +33,7 @@ minus_value_says kinds.Var signs digits value e =
     let p = passed (bytes_eq signs (codes "-")) (some (Symbol signs ∷ Number digits ∷ [])) value e in
     (rw p.0 refl, some_is (Symbol signs ∷ Number digits ∷ []) value p.1)
 minus_value_says kinds.Thread signs digits value e = absurd cc
-minus_value_says kinds.Mutex signs digits value e = absurd cc
-minus_value_says kinds.Cond signs digits value e = absurd cc
-minus_value_says kinds.Sem signs digits value e = absurd cc
-minus_value_says kinds.Barrier signs digits value e = absurd cc
-minus_value_says kinds.RwLock signs digits value e = absurd cc
+minus_value_says kind signs digits value e = absurd cc
 
 -- back: what is read as a first value is one
 pub value_says : (kind : NameKind) (tokens value : List Token) → value_parts kind tokens ≡ Some value → (is_some (value_in kind tokens) ≡ true) × (tokens ≡ value)

@@ -107,12 +107,7 @@ lone_says : (version : ℕ) (word : List ℕ) (kind : NameKind) (name : List ℕ
 lone_says version word kinds.Thread name meant w e =
     let p = passed (is_name version name) (some (Thread name)) meant e in
     (Thread name, record { spelled = starts word (codes "thread") _ w; of = p.0; means = sym (some_is (Thread name) meant p.1) })
-lone_says version word kinds.Var name meant w e = plain_says version word kinds.Var name meant w e
-lone_says version word kinds.Mutex name meant w e = plain_says version word kinds.Mutex name meant w e
-lone_says version word kinds.Cond name meant w e = plain_says version word kinds.Cond name meant w e
-lone_says version word kinds.Sem name meant w e = plain_says version word kinds.Sem name meant w e
-lone_says version word kinds.Barrier name meant w e = plain_says version word kinds.Barrier name meant w e
-lone_says version word kinds.RwLock name meant w e = plain_says version word kinds.RwLock name meant w e
+lone_says version word kind name meant w e = plain_says version word kind name meant w e
 
 valued_says : (version : ℕ) (word : List ℕ) (kind : NameKind) (name signs : List ℕ) (value : List Token) (meant : Meant) → word ≡ kind_word kind → valued_form version kind name signs value ≡ Some meant → HasCut version (Word word ∷ Word name ∷ Symbol signs ∷ value) meant
 valued_says version word kind name signs value meant w e =

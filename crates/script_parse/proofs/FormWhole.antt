@@ -15,7 +15,7 @@ use Rattle.script_tree.specs.declared.expr.Op.{Op}
 use Rattle.script_tree.specs.declared.expr.Op.TheVariants as ops
 use Rattle.script_tree.specs.Trees.{Expression}
 use Rattle.script_tree.specs.Expressions.{IsSpelled, number, register, enclosed, minus, not, two, stronger, signs_of}
-use Rattle.script_tree.specs.Forms.{OnVerb, Lock, Unlock, Signal, Broadcast, Down, Up, Join, Start, RdLock, WrLock, RwUnlock, IntoVerb, Read, TryLock, TryDown, Arrive, TryRdLock, TryWrLock, Cut, Meant, Plain, Valued, Thread, On, Into, Write, Add, Cas, Wait, Yield, Assert, Set, If, While, End, Else, on_word, into_word, kind_word, on_since, into_since, is_plain, kind_since, tokens_of_form, IsForm, IsOf, Means}
+use Rattle.script_tree.specs.Forms.{OnVerb, Lock, IntoVerb, Read, Cut, Meant, Plain, Valued, Thread, On, Into, Write, Add, Cas, Wait, Yield, Assert, Set, If, While, End, Else, on_word, into_word, kind_word, on_since, into_since, is_plain, kind_since, tokens_of_form, IsForm, IsOf, Means}
 use Rattle.script_parse.specs.Words.{on_verb_in, into_verb_in, kind_in}
 use Rattle.script_parse.specs.Saying.{is_comma, parts_at, lone_form, form_in}
 use Rattle.std.specs.List.{prefix_len}
@@ -27,59 +27,27 @@ use Rattle.script_parse.proofs.ExpressionWhole.{exact, expression_is_read, regis
 
 on_verb_at : (verb : OnVerb) → on_verb_in (on_word verb) ≡ Some verb
 on_verb_at Lock = refl
-on_verb_at Unlock = refl
-on_verb_at Signal = refl
-on_verb_at Broadcast = refl
-on_verb_at Down = refl
-on_verb_at Up = refl
-on_verb_at Join = refl
-on_verb_at Start = refl
-on_verb_at RdLock = refl
-on_verb_at WrLock = refl
-on_verb_at RwUnlock = refl
+on_verb_at verb = refl
 
 into_verb_at : (verb : IntoVerb) → (on_verb_in (into_word verb) ≡ None) × (into_verb_in (into_word verb) ≡ Some verb)
 into_verb_at Read = (refl, refl)
-into_verb_at TryLock = (refl, refl)
-into_verb_at TryDown = (refl, refl)
-into_verb_at Arrive = (refl, refl)
-into_verb_at TryRdLock = (refl, refl)
-into_verb_at TryWrLock = (refl, refl)
+into_verb_at verb = (refl, refl)
 
 kind_at : (kind : NameKind) → (on_verb_in (kind_word kind) ≡ None) × (into_verb_in (kind_word kind) ≡ None) × (kind_in (kind_word kind) ≡ Some kind)
 kind_at kinds.Thread = (refl, refl, refl)
-kind_at kinds.Var = (refl, refl, refl)
-kind_at kinds.Mutex = (refl, refl, refl)
-kind_at kinds.Cond = (refl, refl, refl)
-kind_at kinds.Sem = (refl, refl, refl)
-kind_at kinds.Barrier = (refl, refl, refl)
-kind_at kinds.RwLock = (refl, refl, refl)
+kind_at kind = (refl, refl, refl)
 
 plain_is_read : (version : ℕ) (kind : NameKind) (name : List ℕ) → is_plain kind ≡ true → kind_since kind ≤ version → is_name version name ≡ true → lone_form version kind name ≡ Some (Plain kind name)
-plain_is_read version kinds.Thread name plain since named = absurd cc
-plain_is_read version kinds.Var name plain since named = absurd cc
 plain_is_read version kinds.Mutex name plain since named = rw (le-leb 1 version since, named) refl
 plain_is_read version kinds.Cond name plain since named = rw (le-leb 1 version since, named) refl
-plain_is_read version kinds.Sem name plain since named = absurd cc
-plain_is_read version kinds.Barrier name plain since named = absurd cc
 plain_is_read version kinds.RwLock name plain since named = rw (le-leb 3 version since, named) refl
+plain_is_read version kind name plain since named = absurd cc
 
 -- ---- no comma stands in an expression
 
 no_comma_sign : (op : Op) → bytes_eq (signs_of op) (codes ",") ≡ false
 no_comma_sign ops.Or = refl
-no_comma_sign ops.And = refl
-no_comma_sign ops.Eq = refl
-no_comma_sign ops.Ne = refl
-no_comma_sign ops.Lt = refl
-no_comma_sign ops.Le = refl
-no_comma_sign ops.Gt = refl
-no_comma_sign ops.Ge = refl
-no_comma_sign ops.Plus = refl
-no_comma_sign ops.Less = refl
-no_comma_sign ops.Times = refl
-no_comma_sign ops.Over = refl
-no_comma_sign ops.Rest = refl
+no_comma_sign op = refl
 
 pub no_comma : (level : ℕ) (tokens : List Token) (tree : Expression) → IsSpelled level tokens tree → list_any is_comma tokens ≡ false
 no_comma _ _ _ (number digits) = refl

@@ -61,12 +61,7 @@ pub record HasRead (threads : List (List ℕ)) (part : Part) (lines : List Line)
 
 with_name_push : (kind : NameKind) (names : NameLists) (name : List ℕ) → AreNames names → is_name 1 name ≡ true → is_among name (all_names names) ≡ false → length (list_of kind names) < 64 → AreNames (with_name kind name names)
 with_name_push kinds.Thread names name h l f r = AreNames-push kinds.Thread kinds.Thread names names name name (names.threads ++ name ∷ []) refl refl h l f r refl refl
-with_name_push kinds.Var names name h l f r = AreNames-push kinds.Var kinds.Var names names name name (names.vars ++ name ∷ []) refl refl h l f r refl refl
-with_name_push kinds.Mutex names name h l f r = AreNames-push kinds.Mutex kinds.Mutex names names name name (names.mutexes ++ name ∷ []) refl refl h l f r refl refl
-with_name_push kinds.Cond names name h l f r = AreNames-push kinds.Cond kinds.Cond names names name name (names.conds ++ name ∷ []) refl refl h l f r refl refl
-with_name_push kinds.Sem names name h l f r = AreNames-push kinds.Sem kinds.Sem names names name name (names.sems ++ name ∷ []) refl refl h l f r refl refl
-with_name_push kinds.Barrier names name h l f r = AreNames-push kinds.Barrier kinds.Barrier names names name name (names.barriers ++ name ∷ []) refl refl h l f r refl refl
-with_name_push kinds.RwLock names name h l f r = AreNames-push kinds.RwLock kinds.RwLock names names name name (names.rwlocks ++ name ∷ []) refl refl h l f r refl refl
+with_name_push kind names name h l f r = AreNames-push kind kind names names name name (list_of kind names ++ name ∷ []) refl refl h l f r refl refl
 
 lawful_more : (version : ℕ) (names : List (List ℕ)) (name : List ℕ) → list_all (is_name version) names ≡ true → is_name version name ≡ true → list_all (is_name version) (names ++ name ∷ []) ≡ true
 lawful_more version names name h l = list_all-append (is_name version) names (name ∷ []) ∙ rw (h, l) refl
@@ -96,20 +91,11 @@ names_more part kind name h l f r v t = record {
     few : (kind : NameKind) → (kind ≡ kinds.Thread → length part.names.threads < most_threads part.version) → length (with_name kind name part.names).threads ≤ most_threads part.version
     few kinds.Thread t = let room : length part.names.threads < most_threads part.version = t refl in omega (arith, room, length_push part.names.threads name)
     few kinds.Var t = h.few_threads
-    few kinds.Mutex t = h.few_threads
-    few kinds.Cond t = h.few_threads
-    few kinds.Sem t = h.few_threads
-    few kinds.Barrier t = h.few_threads
-    few kinds.RwLock t = h.few_threads
+    few kind t = h.few_threads
 
     known : (kind : NameKind) → kind_since kind ≤ part.version → rwlocks_fit part.version (with_name kind name part.names).rwlocks ≡ true
-    known kinds.Thread v = h.known_rwlocks
-    known kinds.Var v = h.known_rwlocks
-    known kinds.Mutex v = h.known_rwlocks
-    known kinds.Cond v = h.known_rwlocks
-    known kinds.Sem v = h.known_rwlocks
-    known kinds.Barrier v = h.known_rwlocks
     known kinds.RwLock v = rwlock_known part.version (part.names.rwlocks ++ name ∷ []) v
+    known kind v = h.known_rwlocks
 
 -- ---- values
 

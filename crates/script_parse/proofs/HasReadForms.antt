@@ -16,11 +16,8 @@ use Rattle.script_tree.specs.Forms.{Cut, Meant, Plain, Valued, Thread, On, Into,
 use Rattle.script_tree.specs.Ranges.{value_fits}
 use Rattle.script_tree.specs.Fitting.{line_fits, most_threads}
 use Rattle.script_tree.specs.Grammar.{Line}
-use Rattle.script_tree.specs.Faults as faults
-use Rattle.script_tree.specs.Ranges as ranges
 use Rattle.script_parse.specs.Part.{Open, Part}
 use Rattle.script_parse.specs.Part as parts
-use Rattle.script_parse.specs.Lawful.{value_lawful}
 use Rattle.script_parse.specs.Reading as reading
 use Rattle.script_parse.specs.Reading.{Finder, so_far, is_known, is_empty, is_in_if, form_fault, taken, with_value, named, with_statement, place_in, on_statement, into_statement, statement_on}
 use Rattle.script_parse.proofs.Meanings.{ForEach, by_meaning}
@@ -29,47 +26,8 @@ use Rattle.script_parse.proofs.StatementFits.{with_threads, finder, meant_fits, 
 use Rattle.script_parse.proofs.OpenBlocks.{IsOpen, AreNested, say, open_more, close_if, close_while, close_else, turn}
 use Rattle.script_parse.proofs.HasRead.{HaveNames, HasRead, names_more, plain_values, valued_values}
 use Rattle.script_parse.proofs.HasReadSteps.{declared_has, thread_has, inner_has, closed_has}
-
--- a line of this form has no fault
-pub record NoFault (part : Part) (find : Finder) (tokens : List Token) (meant : Meant) : Type 0 where
-  pub stands : faults.may_stand (so_far part) meant ≡ true
-  pub known : faults.uses_unknown (is_known part.names find) meant ≡ false
-  pub fresh : faults.declares_again (so_far part) meant ≡ false
-  pub in_range : ranges.is_out_of_range tokens meant ≡ false
-  pub closes : faults.closes_nothing (so_far part) meant ≡ false
-  pub few : faults.is_too_many (so_far part) meant ≡ false
-
-clash : {A : Type 0} → true ≡ false → A
-clash e = absurd cc
-
-failed_none : {A : Type 0} (b : Bool) (x : A) (rest : Option A) → cond b (Some x) rest ≡ None → (b ≡ false) × (rest ≡ None)
-failed_none true x rest e = absurd cc
-failed_none false x rest e = (refl, e)
-
-unflip : (b : Bool) → not b ≡ false → b ≡ true
-unflip true h = refl
-unflip false h = absurd cc
-
-unflip_true : (b : Bool) → not b ≡ true → b ≡ false
-unflip_true true h = absurd cc
-unflip_true false h = refl
-
-pub no_fault_parts : (part : Part) (find : Finder) (last : Bool) (tokens : List Token) (meant : Meant) → form_fault part find last tokens meant ≡ None → NoFault part find tokens meant
-no_fault_parts part find last tokens meant e =
-    let a = failed_none (not (faults.may_stand (so_far part) meant)) _ _ e in
-    let b = failed_none (faults.uses_unknown (is_known part.names find) meant) _ _ a.1 in
-    let c = failed_none (faults.declares_again (so_far part) meant) _ _ b.1 in
-    let d = failed_none (ranges.is_out_of_range tokens meant) _ _ c.1 in
-    let f = failed_none (last && reading.leaves_open part meant) _ _ d.1 in
-    let g = failed_none (faults.closes_nothing (so_far part) meant) _ _ f.1 in
-    let h = failed_none (last && reading.lacks_thread part meant) _ _ g.1 in
-    let i = failed_none (faults.is_too_many (so_far part) meant) _ _ h.1 in
-    record { stands = unflip (faults.may_stand (so_far part) meant) a.0; known = b.0; fresh = c.0; in_range = d.0; closes = g.0; few = i.0 }
-
--- a first value of a line without a fault is one that an object may have
-pub in_range_lawful : (tokens : List Token) (meant : Meant) → ranges.is_out_of_range tokens meant ≡ false → value_lawful meant ≡ true
-in_range_lawful tokens (Valued kind name value) h = unflip (value_fits kind value) h
-in_range_lawful tokens meant h = refl
+use Rattle.script_parse.proofs.Choices.{clash, unflip, flipped}
+use Rattle.script_parse.proofs.FormFaults.{NoFault}
 
 -- ---- first values
 
@@ -193,11 +151,11 @@ module _ (threads : List (List ℕ)) (part : Part) (lines : List Line) (n : ℕ)
   each = said_each part.version threads part.names (n + 1) on_line
 
   inside : not (is_empty part.open_blocks) ≡ true → is_empty part.open_blocks ≡ false
-  inside e = unflip_true (is_empty part.open_blocks) e
+  inside e = flipped (is_empty part.open_blocks) e
 
   if_keeps : (test : List Token) (tree : Expression) → Keeps (If test) (If tree)
   if_keeps test tree of f w =
-      let o = some_open part.open_blocks (unflip_true (is_empty part.open_blocks) w.stands) in
+      let o = some_open part.open_blocks (flipped (is_empty part.open_blocks) w.stands) in
       let few : length part.open_blocks < 33 = leb-false 33 (length part.open_blocks) w.few in
       let more = open_more part.version (with_threads threads part.names) part.open_blocks h.current h.body n (parts.If (n + 1) tree) (n + 1, If tree) h.is_open few (rw (on_line, f) refl)
       (subst (λ (bs : List Open). AreNested (record { opening = parts.If (n + 1) tree; done = [] } ∷ bs)) (sym o.2) (refl, subst AreNested o.2 h.is_open.nested)) (omega arith) refl in
@@ -205,7 +163,7 @@ module _ (threads : List (List ℕ)) (part : Part) (lines : List Line) (n : ℕ)
 
   while_keeps : (test : List Token) (tree : Expression) → Keeps (While test) (While tree)
   while_keeps test tree of f w =
-      let o = some_open part.open_blocks (unflip_true (is_empty part.open_blocks) w.stands) in
+      let o = some_open part.open_blocks (flipped (is_empty part.open_blocks) w.stands) in
       let few : length part.open_blocks < 33 = leb-false 33 (length part.open_blocks) w.few in
       let more = open_more part.version (with_threads threads part.names) part.open_blocks h.current h.body n (parts.While (n + 1) tree) (n + 1, While tree) h.is_open few (rw (on_line, f) refl)
       (subst (λ (bs : List Open). AreNested (record { opening = parts.While (n + 1) tree; done = [] } ∷ bs)) (sym o.2) (refl, subst AreNested o.2 h.is_open.nested)) (omega arith) refl in
@@ -222,8 +180,7 @@ module _ (threads : List (List ℕ)) (part : Part) (lines : List Line) (n : ℕ)
   ends_by (parts.Thread line) done [] e = closed_has threads part line (n + 1) n done lines h e on_line (omega (arith, few_lines))
   ends_by (parts.Thread line) done (outer ∷ more) e = clash ((subst AreNested e h.is_open.nested).0)
   ends_by (parts.If line test) done [] e = clash (sym (subst AreNested e h.is_open.nested))
-  ends_by (parts.While line test) done [] e = clash (sym (subst AreNested e h.is_open.nested))
-  ends_by (parts.Else line test first) done [] e = clash (sym (subst AreNested e h.is_open.nested))
+  ends_by opening done [] e = clash (sym (subst AreNested e h.is_open.nested))
   ends_by (parts.If line test) done (outer ∷ more) e =
       inner_end (record { opening = parts.If line test; done = done }) outer more (trees.If line test (closed_at (n + 1) done)) e
       (close_if part.version (with_threads threads part.names) line test done outer more h.current h.body n (n + 1) (subst (λ (bs : List Open). IsOpen part.version (with_threads threads part.names) bs h.current h.body n) e h.is_open) on_line)
@@ -243,8 +200,7 @@ module _ (threads : List (List ℕ)) (part : Part) (lines : List Line) (n : ℕ)
       inner_has threads part (record { opening = parts.Else line test (closed_at (n + 1) done); done = [] } ∷ blocks) (record { opening = parts.If line test; done = done }) (record { opening = parts.Else line test (closed_at (n + 1) done); done = [] }) blocks blocks lines n (n + 1) (n + 1, Else) h e refl
       (turn part.version (with_threads threads part.names) line test done blocks h.current h.body n (n + 1) (subst (λ (bs : List Open). IsOpen part.version (with_threads threads part.names) bs h.current h.body n) e h.is_open) on_line)
   turns_by (parts.Thread line) done blocks e w = absurd cc
-  turns_by (parts.Else line test first) done blocks e w = absurd cc
-  turns_by (parts.While line test) done blocks e w = absurd cc
+  turns_by opening done blocks e w = absurd cc
 
   turns_at : (blocks : List Open) → part.open_blocks ≡ blocks → is_in_if blocks ≡ true → HasRead threads (reading.turned part blocks (n + 1)) (lines ++ (n + 1, Else) ∷ []) (n + 1)
   turns_at [] e w = absurd cc

@@ -16,11 +16,12 @@ use Rattle.script_tree.specs.Faults as faults
 use Rattle.script_tree.specs.Faults.{Place, earlier, are_blank, IsBelow, HasForm, HasFormWith, IsFaulty}
 use Rattle.script_parse.specs.Part.{Part}
 use Rattle.script_parse.specs.Reading.{Finder, is_empty, unless, header_taken, start, line_taken, wrapped}
-use Rattle.script_parse.proofs.Choices.{some, passed, same_bytes}
+use Rattle.script_parse.proofs.Choices.{some, passed, same_bytes, clash}
 use Rattle.script_parse.proofs.ExpressionWhole.{exact}
 use Rattle.script_parse.proofs.FirstKinds.{Tells, first_in, in_order, IsFirst}
 use Rattle.script_parse.proofs.Standing.{Lines, Stands, depth_is, count_push, names_push, reverse_push}
-use Rattle.script_parse.proofs.LineSteps.{Step, fault_of, tests, first_told, clash, never, always, tells_utf, tells_long, tells_lines, bytes_at, bad_chain, tells_end_any, tells_thread_any, never_formed, some_none, cut_tokens, says_something}
+use Rattle.script_parse.proofs.LineFaults.{tells_end_any, tells_thread_any}
+use Rattle.script_parse.proofs.LineSteps.{Step, fault_of, tests, never, always, bytes_at, bad_chain, some_none, cut_tokens, says_something, first_formless}
 
 -- lines that say nothing
 pub record AreQuiet (lines : Lines) : Type 0 where
@@ -67,12 +68,7 @@ header_stands lines digit version e q =
   where
     no_list : (kind : NameKind) → [] ≡ list_of kind no_names
     no_list kinds.Thread = refl
-    no_list kinds.Var = refl
-    no_list kinds.Mutex = refl
-    no_list kinds.Cond = refl
-    no_list kinds.Sem = refl
-    no_list kinds.Barrier = refl
-    no_list kinds.RwLock = refl
+    no_list kind = refl
 
 -- where a header was read
 pub begun_stands : (lines : Lines) (tokens : List Token) (version : ℕ) → version_in tokens ≡ Some version → AreQuiet lines → Stands (start version) (lines ++ tokens ∷ [])
@@ -122,39 +118,13 @@ module _ (find : Finder) (place : Place) (q : AreQuiet (earlier place)) (above :
   top_blank : tokens_of place.line ≡ Some [] → IsFirst (fault_of top_step) place
   top_blank e =
       let is_blank : is_blank_line place.line ≡ true = rw e refl in
-      first_told place _ _ _ false false false false false false false false false false (record {
-        utf = tells_utf place;
-        long = tells_long place;
-        lines = tells_lines place;
-        header = never (blank_header is_blank);
-        token = never (λ n. some_none (sym n ∙ e));
-        statement = never (λ h. not_below h.0);
-        unknown = never_formed place _ no_form;
-        twice = never_formed place _ no_form;
-        range = never_formed place _ no_form;
-        no_end = never (λ h. not_last is_blank h.0);
-        stray = never_formed place _ no_form;
-        no_thread = never (λ h. not_last is_blank h.0);
-        many = never_formed place _ no_form;
-      }) (fault_of top_step) (rw (bytes_at place, e) (quiet_chain _ _ _ None))
+      first_formless place false false false false false no_form (never (blank_header is_blank)) (never (λ n. some_none (sym n ∙ e))) (never (λ h. not_below h.0))
+      (never (λ h. not_last is_blank h.0)) (never (λ h. not_last is_blank h.0)) (fault_of top_step) (rw (bytes_at place, e) (quiet_chain _ _ _ None))
 
   top_bad : is_blank_line place.line ≡ false → version_in (tokens_in place.line) ≡ None → header_taken (is_empty place.after) (tokens_of place.line) ≡ Err fault.BadHeader → IsFirst (fault_of top_step) place
   top_bad b v r =
-      first_told place _ _ _ true _ false false false false _ false _ false (record {
-        utf = tells_utf place;
-        long = tells_long place;
-        lines = tells_lines place;
-        header = always (inl (above, b, v));
-        token = tells_token (tokens_of place.line);
-        statement = never (λ h. not_below h.0);
-        unknown = never_formed place _ no_form;
-        twice = never_formed place _ no_form;
-        range = never_formed place _ no_form;
-        no_end = tells_end_any place;
-        stray = never_formed place _ no_form;
-        no_thread = tells_thread_any place;
-        many = never_formed place _ no_form;
-      }) (fault_of top_step) (rw (bytes_at place, r) (bad_chain _ _ _ fault.BadHeader _ refl))
+      first_formless place true _ false _ _ no_form (always (inl (above, b, v))) (tells_token (tokens_of place.line)) (never (λ h. not_below h.0))
+      (tells_end_any place) (tells_thread_any place) (fault_of top_step) (rw (bytes_at place, r) (bad_chain _ _ _ fault.BadHeader _ refl))
 
   good_header : (version : ℕ) → is_blank_line place.line ≡ false → version_in (tokens_in place.line) ≡ Some version → ¬ faults.BadHeader place
   good_header version b v (inl h) = some_none (sym h.2 ∙ v)
@@ -168,21 +138,8 @@ module _ (find : Finder) (place : Place) (q : AreQuiet (earlier place)) (above :
       let next = begun_stands (earlier place) (tokens_in place.line) version w q in
       let no_open : nat_le 1 (depth (earlier place ++ tokens_in place.line ∷ [])) ≡ false = rw (depth_is (start version) (earlier place ++ tokens_in place.line ∷ []) next) refl in
       let no_name : is_empty (names_of kinds.Thread (earlier place ++ tokens_in place.line ∷ [])) ≡ true = rw (next.names kinds.Thread) refl in
-      first_told place _ _ _ false false false false false false (is_empty place.after && false) false (is_empty place.after && true) false (record {
-        utf = tells_utf place;
-        long = tells_long place;
-        lines = tells_lines place;
-        header = never (good_header version b w);
-        token = never (λ n. some_none (sym n ∙ e));
-        statement = never (λ h. not_below h.0);
-        unknown = never_formed place _ no_form;
-        twice = never_formed place _ no_form;
-        range = never_formed place _ no_form;
-        no_end = subst (λ (x : Bool). Tells (is_empty place.after && x) (faults.NoEnd place)) no_open (tells_end_any place);
-        stray = never_formed place _ no_form;
-        no_thread = subst (λ (x : Bool). Tells (is_empty place.after && x) (faults.NoThread place)) no_name (tells_thread_any place);
-        many = never_formed place _ no_form;
-      }) (fault_of top_step) (rw (bytes_at place, e, v) (good_chain _ _ _ (is_empty place.after) (start version)))
+      first_formless place false false false (is_empty place.after && false) (is_empty place.after && true) no_form (never (good_header version b w)) (never (λ n. some_none (sym n ∙ e))) (never (λ h. not_below h.0))
+      (subst (λ (x : Bool). Tells (is_empty place.after && x) (faults.NoEnd place)) no_open (tells_end_any place)) (subst (λ (x : Bool). Tells (is_empty place.after && x) (faults.NoThread place)) no_name (tells_thread_any place)) (fault_of top_step) (rw (bytes_at place, e, v) (good_chain _ _ _ (is_empty place.after) (start version)))
 
   -- whatever the line is
   pub above_step : IsFirst (fault_of top_step) place

@@ -21,6 +21,7 @@ pub mod StatementFits
 pub mod OpenBlocks
 pub mod HasRead
 pub mod HasReadSteps
+pub mod FormFaults
 pub mod HasReadForms
 pub mod Commas
 pub mod BlockLists
@@ -30,7 +31,7 @@ pub mod TextLines
 pub mod DeclaredForms
 pub mod SoundText
 pub mod Spelled
-pub mod Blanks
+pub mod Capped
 pub mod SameReading
 pub mod Runs
 pub mod Rows

@@ -14,40 +14,37 @@ use Rattle.script_tree.specs.Faults.{Place, SoFar, earlier, is_declared, are_bla
 use Rattle.script_parse.specs.Part.{Part}
 use Rattle.script_parse.specs.Reading as reading
 use Rattle.script_parse.specs.Reading.{Finder, is_empty, so_far, is_known, form_fault, taken, bytes_fault}
-use Rattle.script_parse.proofs.Choices.{some_is}
+use Rattle.script_parse.proofs.Choices.{some_is, clash, unflip, flipped}
 use Rattle.script_parse.proofs.FormWhole.{form_read}
 use Rattle.script_parse.proofs.FirstKinds.{Tells}
 use Rattle.script_parse.proofs.Standing.{Lines, Stands}
 use Rattle.script_parse.proofs.Agreeing.{same_so_far, found, known_same, leaves_open_same, lacks_thread_same}
 
-flipped : (b : Bool) → not b ≡ true → b ≡ false
-flipped true h = absurd cc
-flipped false h = refl
-
-unflipped : (b : Bool) → not b ≡ false → b ≡ true
-unflipped true h = refl
-unflipped false h = absurd cc
-
 pub empty_is : {A : Type 0} (xs : List A) → is_empty xs ≡ true → xs ≡ []
 empty_is [] e = refl
-empty_is (x ∷ xs) e = absurd (let some : (suc (length xs) == 0) ≡ false = grind (arith, nat_tests) in clash (sym some ∙ e))
-  where
-    clash : false ≡ true → ⊥
-    clash f = cc
+empty_is (x ∷ xs) e = let some : (suc (length xs) == 0) ≡ false = grind (arith, nat_tests) in clash (sym e ∙ some)
 
 pub is_empty_of : {A : Type 0} (xs : List A) → xs ≡ [] → is_empty xs ≡ true
 is_empty_of [] e = refl
 is_empty_of (x ∷ xs) e = absurd cc
 
-pub both_hold : (a b : Bool) → (a && b) ≡ false → a ≡ true → b ≡ true → ⊥
-both_hold true b e h k = clash (sym e ∙ k)
-  where
-    clash : false ≡ true → ⊥
-    clash f = cc
-both_hold false b e h k = clash h
-  where
-    clash : false ≡ true → ⊥
-    clash f = cc
+pub both_hold : {P : Type 0} (a b : Bool) → (a && b) ≡ false → a ≡ true → b ≡ true → P
+both_hold true b e h k = clash (sym k ∙ e)
+both_hold false b e h k = absurd cc
+
+pub tells_end_any : (place : Place) → Tells (is_empty place.after && nat_le 1 (depth (earlier place ++ tokens_in place.line ∷ []))) (faults.NoEnd place)
+tells_end_any place =
+    let open_ : Bool = nat_le 1 (depth (earlier place ++ tokens_in place.line ∷ [])) in (
+      λ e. let p = and_parts (is_empty place.after) open_ e in (empty_is place.after p.0, leb-true 1 _ p.1),
+      λ e w. both_hold (is_empty place.after) open_ e (is_empty_of place.after w.0) (le-leb 1 _ w.1),
+    )
+
+pub tells_thread_any : (place : Place) → Tells (is_empty place.after && is_empty (names_of kinds.Thread (earlier place ++ tokens_in place.line ∷ []))) (faults.NoThread place)
+tells_thread_any place =
+    let none : Bool = is_empty (names_of kinds.Thread (earlier place ++ tokens_in place.line ∷ [])) in (
+      λ e. let p = and_parts (is_empty place.after) none e in (empty_is place.after p.0, empty_is _ p.1),
+      λ e w. both_hold (is_empty place.after) none e (is_empty_of place.after w.0) (is_empty_of _ w.1),
+    )
 
 -- ---- a line below the header, of some form
 
@@ -84,11 +81,8 @@ module _ (part : Part) (place : Place) (s : Stands part (earlier place)) (below 
   no_statement : Tells (not (faults.may_stand (faults.so_far_at place) meant)) (faults.BadStatement place)
   no_statement = (
     λ e. (below, λ other sense h. clash (sym (stands_here other sense h) ∙ flipped (faults.may_stand (faults.so_far_at place) meant) e)),
-    λ e w. w.1 cut meant (has_form (unflipped (faults.may_stand (faults.so_far_at place) meant) e)),
+    λ e w. w.1 cut meant (has_form (unflip (faults.may_stand (faults.so_far_at place) meant) e)),
   )
-    where
-      clash : true ≡ false → ⊥
-      clash e = cc
 
   pub tells_statement : Tells (not (faults.may_stand (so_far part) meant)) (faults.BadStatement place)
   tells_statement = subst (λ (lines : SoFar). Tells (not (faults.may_stand lines meant)) (faults.BadStatement place)) here no_statement
@@ -115,14 +109,10 @@ module _ (part : Part) (place : Place) (s : Stands part (earlier place)) (below 
 
   pub tells_end : Tells (is_empty place.after && reading.leaves_open part meant) (faults.NoEnd place)
   tells_end =
-      let same : nat_le 1 (depth (earlier place ++ tokens_in place.line ∷ [])) ≡ reading.leaves_open part meant = ap (λ (ls : Lines). nat_le 1 (depth ls)) behind_is ∙ leaves_open_same part (earlier place) s part.version cut meant is_form.means is_form.of in (
-        λ e. let p = and_parts (is_empty place.after) (reading.leaves_open part meant) e in (empty_is place.after p.0, leb-true 1 _ (same ∙ p.1)),
-        λ e w. both_hold (is_empty place.after) (reading.leaves_open part meant) e (is_empty_of place.after w.0) (sym same ∙ le-leb 1 _ w.1),
-      )
+      let same : nat_le 1 (depth (earlier place ++ tokens_in place.line ∷ [])) ≡ reading.leaves_open part meant = ap (λ (ls : Lines). nat_le 1 (depth ls)) behind_is ∙ leaves_open_same part (earlier place) s part.version cut meant is_form.means is_form.of in
+      subst (λ (b : Bool). Tells (is_empty place.after && b) (faults.NoEnd place)) same (tells_end_any place)
 
   pub tells_thread : Tells (is_empty place.after && reading.lacks_thread part meant) (faults.NoThread place)
   tells_thread =
-      let same : is_empty (names_of kinds.Thread (earlier place ++ tokens_in place.line ∷ [])) ≡ reading.lacks_thread part meant = ap (λ (ls : Lines). is_empty (names_of kinds.Thread ls)) behind_is ∙ lacks_thread_same part (earlier place) s part.version cut meant is_form.means is_form.of in (
-        λ e. let p = and_parts (is_empty place.after) (reading.lacks_thread part meant) e in (empty_is place.after p.0, empty_is _ (same ∙ p.1)),
-        λ e w. both_hold (is_empty place.after) (reading.lacks_thread part meant) e (is_empty_of place.after w.0) (sym same ∙ is_empty_of _ w.1),
-      )
+      let same : is_empty (names_of kinds.Thread (earlier place ++ tokens_in place.line ∷ [])) ≡ reading.lacks_thread part meant = ap (λ (ls : Lines). is_empty (names_of kinds.Thread ls)) behind_is ∙ lacks_thread_same part (earlier place) s part.version cut meant is_form.means is_form.of in
+      subst (λ (b : Bool). Tells (is_empty place.after && b) (faults.NoThread place)) same (tells_thread_any place)

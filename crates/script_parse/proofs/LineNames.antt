@@ -6,7 +6,7 @@ use Rattle.std.specs.Str.{bytes_eq}
 use Rattle.std.proofs.lemmas.Bool.{and_parts}
 use Rattle.std.proofs.lemmas.List.Elements.{All-head, All-tail}
 use Rattle.std.proofs.lemmas.List.Folds.{list_all-append}
-use Rattle.pct_ask.specs.Tokens.{Token, Word, Number, Symbol}
+use Rattle.pct_ask.specs.Tokens.{Token, Word, Symbol}
 use Rattle.pct_ask.specs.NameLists.{NameLists}
 use Rattle.pct_ask.specs.declared.names.NameKind.{NameKind}
 use Rattle.pct_ask.specs.declared.names.NameKind.TheVariants as kinds
@@ -18,11 +18,11 @@ use Rattle.script_tree.specs.Forms as forms
 use Rattle.script_tree.specs.Forms.{OnVerb, IntoVerb, Cut, Meant, Plain, Valued, Thread, On, Into, Write, Add, Cas, Wait, Yield, Assert, Set, If, While, End, Else, on_word, into_word, kind_word, has_value, is_plain, value_in, tokens_of_form, IsOf, Means}
 use Rattle.script_tree.specs.Lines.{tokens_in, named, names_of, valued, values_of, just_thread, thread_in, threads_in}
 use Rattle.script_tree.specs.Grammar.{Line, declares, AreLines, IsSound, statement_lines, block_lines, thread_lines, all_thread_lines}
-use Rattle.script_parse.proofs.LineSteps.{clash}
 use Rattle.script_parse.proofs.Standing.{on_quiet, into_quiet, no_kind, nameless_at}
 use Rattle.script_parse.proofs.DeclaredValues.{threadless_at}
 use Rattle.script_parse.proofs.DeclaredForms.{on_none, into_none}
 use Rattle.script_parse.proofs.ReadLines.{blank_in}
+use Rattle.script_parse.proofs.Choices.{clash}
 
 abbrev pub is_thread : NameKind → Bool
 is_thread kinds.Thread = true
@@ -58,11 +58,7 @@ threads_quiet names (x ∷ xs) (thread ∷ threads) =
 no_thread_named : (kind : NameKind) (name : List ℕ) → is_thread kind ≡ false → named kind (Word (codes "thread") ∷ Word name ∷ []) ≡ None
 no_thread_named kinds.Thread name h = absurd cc
 no_thread_named kinds.Var name h = refl
-no_thread_named kinds.Mutex name h = refl
-no_thread_named kinds.Cond name h = refl
-no_thread_named kinds.Sem name h = refl
-no_thread_named kinds.Barrier name h = refl
-no_thread_named kinds.RwLock name h = refl
+no_thread_named kind name h = refl
 
 none_named : (cut : Cut) (meant : Meant) → Means cut meant → declares meant ≡ false → (kind : NameKind) → is_thread kind ≡ false → named kind (tokens_of_form cut) ≡ None
 none_named (Plain k name) meant m h kind t = clash (sym (ap declares m) ∙ h)
@@ -92,11 +88,7 @@ none_valued kind (Word word ∷ []) h = refl
 none_valued kind (Word word ∷ Word name ∷ []) h = refl
 none_valued kind (Word word ∷ Word name ∷ Symbol signs ∷ rest) h = off (bytes_eq word (kind_word kind)) name (value_in kind rest) h
 none_valued kind (Word word ∷ Word name ∷ Word other ∷ rest) h = refl
-none_valued kind (Word word ∷ Word name ∷ Number digits ∷ rest) h = refl
-none_valued kind (Word word ∷ Number digits ∷ rest) h = refl
-none_valued kind (Word word ∷ Symbol signs ∷ rest) h = refl
-none_valued kind (Number digits ∷ rest) h = refl
-none_valued kind (Symbol signs ∷ rest) h = refl
+none_valued kind tokens h = refl
 
 -- ---- lines that declare nothing but threads
 

@@ -4,7 +4,7 @@ use Rattle.std.specs.Prelude.{nat_le, nat_lt, not, ◌&&◌, ◌==◌}
 use Rattle.std.specs.Str.{is_utf8}
 use Rattle.std.proofs.lemmas.List.{append-nil}
 use Rattle.std.proofs.lemmas.Bool.Decides.{nat_tests}
-use Rattle.std.proofs.lemmas.Bool.{and_parts, leb-true, le-leb, ltb-true, lt-ltb}
+use Rattle.std.proofs.lemmas.Bool.{leb-true, le-leb, ltb-true, lt-ltb}
 use Rattle.pct_ask.specs.Tokens.{Token, tokens_of}
 use Rattle.pct_ask.specs.declared.names.NameKind.TheVariants as kinds
 use Rattle.script_tree.specs.declared.fault.ScriptFault.{ScriptFault}
@@ -16,14 +16,14 @@ use Rattle.script_tree.specs.Faults.{Place, earlier, are_blank, IsBelow, HasForm
 use Rattle.script_parse.specs.Part.{Part}
 use Rattle.script_parse.specs.Saying.{form_in}
 use Rattle.script_parse.specs.Reading.{is_empty, so_far, bytes_fault, unless, wrapped, after_fault, line_taken}
-use Rattle.script_parse.proofs.Choices.{some}
+use Rattle.script_parse.proofs.Choices.{some, clash}
 use Rattle.script_parse.proofs.ExpressionWhole.{exact}
 use Rattle.script_parse.proofs.FormWhole.{form_read}
 use Rattle.script_parse.proofs.FormSound.{form_says}
 use Rattle.script_parse.proofs.FirstKinds.{Tells, first_in, in_order, IsFirst, is_first}
 use Rattle.script_parse.proofs.Standing.{Lines, Stands, depth_is, blank_stands}
 use Rattle.script_parse.proofs.Agreeing.{found}
-use Rattle.script_parse.proofs.LineFaults.{tells_statement, tells_unknown, tells_twice, tells_range, tells_stray, tells_many, tells_end, tells_thread, empty_is, is_empty_of, both_hold}
+use Rattle.script_parse.proofs.LineFaults.{tells_statement, tells_unknown, tells_twice, tells_range, tells_stray, tells_many, tells_end, tells_thread, tells_end_any, tells_thread_any}
 
 abbrev pub Step : Type 0
 Step = Result (Option Part) ScriptFault
@@ -84,9 +84,6 @@ first_told place u l t h k s un tw ra ne st nt tm a o e =
     subst (λ (x : Option ScriptFault). IsFirst x place) (sym e) (is_first place (tests u l t h k s un tw ra ne st nt tm) (told place u l t h k s un tw ra ne st nt tm a))
 
 -- ---- bytes
-
-pub clash : {A : Type 0} → true ≡ false → A
-clash e = absurd cc
 
 pub never : {P : Type 0} → ¬ P → Tells false P
 never h = (λ e. absurd cc, λ e. h)
@@ -149,22 +146,29 @@ blank_chain false false false ne nt next = wrapped_fault _ next
 some_tests : (n : ℕ) → nat_le 1 n ≡ not (n == 0)
 some_tests n = grind (arith, nat_tests)
 
-pub tells_end_any : (place : Place) → Tells (is_empty place.after && nat_le 1 (depth (earlier place ++ tokens_in place.line ∷ []))) (faults.NoEnd place)
-tells_end_any place =
-    let open_ : Bool = nat_le 1 (depth (earlier place ++ tokens_in place.line ∷ [])) in (
-      λ e. let p = and_parts (is_empty place.after) open_ e in (empty_is place.after p.0, leb-true 1 _ p.1),
-      λ e w. both_hold (is_empty place.after) open_ e (is_empty_of place.after w.0) (le-leb 1 _ w.1),
-    )
-
-pub tells_thread_any : (place : Place) → Tells (is_empty place.after && is_empty (names_of kinds.Thread (earlier place ++ tokens_in place.line ∷ []))) (faults.NoThread place)
-tells_thread_any place =
-    let none : Bool = is_empty (names_of kinds.Thread (earlier place ++ tokens_in place.line ∷ [])) in (
-      λ e. let p = and_parts (is_empty place.after) none e in (empty_is place.after p.0, empty_is _ p.1),
-      λ e w. both_hold (is_empty place.after) none e (is_empty_of place.after w.0) (is_empty_of _ w.1),
-    )
-
-pub never_formed : (place : Place) (test : Meant → Bool) → ((cut : Cut) (meant : Meant) → ¬ HasForm place cut meant) → Tells false (HasFormWith test place)
+never_formed : (place : Place) (test : Meant → Bool) → ((cut : Cut) (meant : Meant) → ¬ HasForm place cut meant) → Tells false (HasFormWith test place)
 never_formed place test h = never (λ w. h w.0 w.1 w.2)
+
+-- where a line has no form, five tests beside those of its bytes tell its first fault
+pub first_formless : (place : Place) (h k s ne nt : Bool) → ((cut : Cut) (meant : Meant) → ¬ HasForm place cut meant)
+    → Tells h (faults.BadHeader place) → Tells k (faults.BadToken place) → Tells s (faults.BadStatement place) → Tells ne (faults.NoEnd place) → Tells nt (faults.NoThread place)
+    → (o : Option ScriptFault) → o ≡ first_in (tests (not (is_utf8 place.line)) (nat_lt 256 (length place.line)) (nat_le 4096 (length place.before)) h k s false false false ne false nt false) in_order → IsFirst o place
+first_formless place h k s ne nt none header token statement no_end no_thread =
+    first_told place _ _ _ h k s false false false ne false nt false (record {
+      utf = tells_utf place;
+      long = tells_long place;
+      lines = tells_lines place;
+      header = header;
+      token = token;
+      statement = statement;
+      unknown = never_formed place _ none;
+      twice = never_formed place _ none;
+      range = never_formed place _ none;
+      no_end = no_end;
+      stray = never_formed place _ none;
+      no_thread = no_thread;
+      many = never_formed place _ none;
+    })
 
 pub some_none : {A : Type 0} {x : A} {P : Type 0} → None ≡ some x → P
 some_none e = absurd cc
@@ -211,21 +215,8 @@ module _ (part : Part) (place : Place) (s : Stands part (earlier place)) (below 
       let version_is : IsForm part.version (tokens_in place.line) cut meant = subst (λ (v : ℕ). IsForm v (tokens_in place.line) cut meant) (ap version_of (sym (append-nil (earlier place))) ∙ s.version []) h.form in
       some_none (sym f ∙ ap (form_in exact part.version) (sym here) ∙ form_read part.version (tokens_in place.line) cut meant version_is) in
       let is_below : IsBelow place = record { below = below; says = says_something place.line token tokens e } in
-      first_told place _ _ _ false false true false false false _ false _ false (record {
-        utf = tells_utf place;
-        long = tells_long place;
-        lines = tells_lines place;
-        header = never (no_header place below);
-        token = never (λ n. some_none (sym n ∙ e));
-        statement = always (is_below, none);
-        unknown = never_formed place _ none;
-        twice = never_formed place _ none;
-        range = never_formed place _ none;
-        no_end = tells_end_any place;
-        stray = never_formed place _ none;
-        no_thread = tells_thread_any place;
-        many = never_formed place _ none;
-      }) (fault_of step) (rw (bytes_at place, e, f) (bad_chain _ _ _ fault.BadStatement _ refl))
+      first_formless place false false true _ _ none (never (no_header place below)) (never (λ n. some_none (sym n ∙ e))) (always (is_below, none))
+      (tells_end_any place) (tells_thread_any place) (fault_of step) (rw (bytes_at place, e, f) (bad_chain _ _ _ fault.BadStatement _ refl))
 
   -- a line that can't be cut into tokens
   uncut_step : tokens_of place.line ≡ None → IsFirst (fault_of step) place
@@ -235,21 +226,8 @@ module _ (part : Part) (place : Place) (s : Stands part (earlier place)) (below 
       let bare : IsForm (version_of (earlier place)) [] cut meant = subst (λ (ts : List Token). IsForm (version_of (earlier place)) ts cut meant) here h.form in
       some_none (form_read (version_of (earlier place)) [] cut meant bare) in
       let is_below : IsBelow place = record { below = below; says = rw e refl } in
-      first_told place _ _ _ false true true false false false _ false _ false (record {
-        utf = tells_utf place;
-        long = tells_long place;
-        lines = tells_lines place;
-        header = never (no_header place below);
-        token = always e;
-        statement = always (is_below, none);
-        unknown = never_formed place _ none;
-        twice = never_formed place _ none;
-        range = never_formed place _ none;
-        no_end = tells_end_any place;
-        stray = never_formed place _ none;
-        no_thread = tells_thread_any place;
-        many = never_formed place _ none;
-      }) (fault_of step) (rw (bytes_at place, e) (bad_chain _ _ _ fault.BadToken _ refl))
+      first_formless place false true true _ _ none (never (no_header place below)) (always e) (always (is_below, none))
+      (tells_end_any place) (tells_thread_any place) (fault_of step) (rw (bytes_at place, e) (bad_chain _ _ _ fault.BadToken _ refl))
 
   -- a blank line
   blank_step : tokens_of place.line ≡ Some [] → IsFirst (fault_of step) place
@@ -261,21 +239,8 @@ module _ (part : Part) (place : Place) (s : Stands part (earlier place)) (below 
       let behind : earlier place ++ tokens_in place.line ∷ [] ≡ earlier place ++ [] ∷ [] = ap (λ (ts : List Token). earlier place ++ ts ∷ []) here in
       let open_same : nat_le 1 (depth (earlier place ++ tokens_in place.line ∷ [])) ≡ not (is_empty part.open_blocks) = ap (λ (ls : Lines). nat_le 1 (depth ls)) behind ∙ rw (depth_is part (earlier place ++ [] ∷ []) next) (some_tests (length part.open_blocks)) in
       let thread_same : is_empty (names_of kinds.Thread (earlier place ++ tokens_in place.line ∷ [])) ≡ is_empty part.names.threads = ap (λ (ls : Lines). is_empty (names_of kinds.Thread ls)) behind ∙ rw (next.names kinds.Thread) refl in
-      first_told place _ _ _ false false false false false false (is_empty place.after && not (is_empty part.open_blocks)) false (is_empty place.after && is_empty part.names.threads) false (record {
-        utf = tells_utf place;
-        long = tells_long place;
-        lines = tells_lines place;
-        header = never (no_header place below);
-        token = never (λ n. some_none (sym n ∙ e));
-        statement = never (λ h. clash (sym is_blank ∙ h.0.says));
-        unknown = never_formed place _ none;
-        twice = never_formed place _ none;
-        range = never_formed place _ none;
-        no_end = subst (λ (b : Bool). Tells (is_empty place.after && b) (faults.NoEnd place)) open_same (tells_end_any place);
-        stray = never_formed place _ none;
-        no_thread = subst (λ (b : Bool). Tells (is_empty place.after && b) (faults.NoThread place)) thread_same (tells_thread_any place);
-        many = never_formed place _ none;
-      }) (fault_of step) (rw (bytes_at place, e) (blank_chain _ _ _ _ _ part))
+      first_formless place false false false (is_empty place.after && not (is_empty part.open_blocks)) (is_empty place.after && is_empty part.names.threads) none (never (no_header place below)) (never (λ n. some_none (sym n ∙ e))) (never (λ h. clash (sym is_blank ∙ h.0.says)))
+      (subst (λ (b : Bool). Tells (is_empty place.after && b) (faults.NoEnd place)) open_same (tells_end_any place)) (subst (λ (b : Bool). Tells (is_empty place.after && b) (faults.NoThread place)) thread_same (tells_thread_any place)) (fault_of step) (rw (bytes_at place, e) (blank_chain _ _ _ _ _ part))
 
   -- whatever a line below the header is
   pub below_step : IsFirst (fault_of step) place

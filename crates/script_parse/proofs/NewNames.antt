@@ -63,12 +63,7 @@ in_all f = f kinds.Thread + (f kinds.Var + (f kinds.Mutex + (f kinds.Cond + (f k
 
 in_one : (f : NameKind → ℕ) (kind : NameKind) → f kind ≤ in_all f
 in_one f kinds.Thread = omega arith
-in_one f kinds.Var = omega arith
-in_one f kinds.Mutex = omega arith
-in_one f kinds.Cond = omega arith
-in_one f kinds.Sem = omega arith
-in_one f kinds.Barrier = omega arith
-in_one f kinds.RwLock = omega arith
+in_one f kind = omega arith
 
 times_all : (name : List ℕ) (names : NameLists) → times name (all_names names) ≡ in_all (λ k. times name (list_of k names))
 times_all name names =

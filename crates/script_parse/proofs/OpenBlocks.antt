@@ -102,8 +102,7 @@ module _ (version : ℕ) (names : NameLists) where
 
   nested_said : (s : Statement) (blocks : List Open) → AreNested blocks → AreNested (with_statement s blocks)
   nested_said s [] h = h
-  nested_said s (block ∷ []) h = h
-  nested_said s (block ∷ outer ∷ more) h = h
+  nested_said s blocks h = h
 
   -- a statement at the end of the innermost block, with its lines at the end of the lines
   pub say : (block : Open) (outer : List Open) (name : List ℕ) (lines more : List Line) (n m : ℕ) (s : Statement) → IsOpen (block ∷ outer) name lines n → statement_fits version names (32 - length outer) s ≡ true → statement_lines names s ≡ more → n + count_of s ≤ m

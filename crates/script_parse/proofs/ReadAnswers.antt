@@ -1,6 +1,5 @@
 -- What a reading tells of the text, with great numbers as the code keeps them.
-use Rattle.std.proofs.Common.{◌≡◌, ℕ, ◌≤◌, true, false, length, List, Option, Some, None, Result, Ok, Err, refl, sym, ap, ◌∙◌, subst}
-use Rattle.std.specs.Option.{option_map}
+use Rattle.std.proofs.Common.{◌≡◌, ℕ, ◌≤◌, true, false, length, List, Some, None, inl, inr, Result, Ok, Err, refl, sym, ap, ◌∙◌, subst}
 use Rattle.std.proofs.Math.Path.{fun_ext}
 use Rattle.std.proofs.lemmas.Bool.{le-ltb}
 use Rattle.pct_ask.specs.Lines.{lines_of}
@@ -10,7 +9,7 @@ use Rattle.pct_ask.proofs.laws.Names.{is_name-first}
 use Rattle.script_tree.specs.ScriptText.{ScriptText}
 use Rattle.script_tree.specs.declared.fault.ScriptFault.{ScriptFault}
 use Rattle.script_tree.specs.Fitting.{IsScript}
-use Rattle.script_tree.specs.Forms.{Cut, Meant, Plain, Valued, Thread, IsOf, Means}
+use Rattle.script_tree.specs.Forms.{Cut, Meant, Plain, IsOf, Means}
 use Rattle.script_tree.specs.Lines.{threads_in}
 use Rattle.script_tree.specs.Faults.{are_blank, IsFault}
 use Rattle.script_tree.specs.Grammar.{Spells}
@@ -18,11 +17,11 @@ use Rattle.script_parse.specs.Numbers.{saturated}
 use Rattle.script_parse.specs.Lawful.{names_lawful}
 use Rattle.script_parse.specs.Saying.{form_in}
 use Rattle.script_parse.specs.Reading.{Finder, read_from, read}
-use Rattle.script_parse.proofs.Choices.{some_is}
+use Rattle.script_parse.proofs.Choices.{mapped_some}
 use Rattle.script_parse.proofs.ExpressionWhole.{exact}
 use Rattle.script_parse.proofs.FormSound.{form_says}
 use Rattle.script_parse.proofs.Meanings.{by_meaning}
-use Rattle.script_parse.proofs.SameReading.{blank_form, form_alike, read_same}
+use Rattle.script_parse.proofs.SameReading.{capped_form, form_capped, read_same}
 use Rattle.script_parse.proofs.FaultLaws.{fault_found}
 use Rattle.script_parse.proofs.Spelled.{read_is_spelled}
 use Rattle.script_parse.proofs.WholeText.{spelled_is_read}
@@ -70,22 +69,18 @@ lawful_means version = by_meaning (λ cut meant. IsOf version cut → names_lawf
   otherwise = λ of. refl;
 })
 
-lawful_blank : (meant : Meant) → names_lawful (blank_form meant) ≡ names_lawful meant
-lawful_blank (Plain kind name) = refl
-lawful_blank (Valued kind name value) = refl
-lawful_blank (Thread name) = refl
-lawful_blank meant = refl
+lawful_capped : (meant : Meant) → names_lawful (capped_form meant) ≡ names_lawful meant
+lawful_capped (Plain kind name) = refl
+lawful_capped meant = refl
+
+lawful_exact : (version : ℕ) (tokens : List Token) (meant : Meant) → form_in exact version tokens ≡ Some meant → names_lawful meant ≡ true
+lawful_exact version tokens meant e = let has = form_says version tokens meant e in lawful_means version has.0 meant has.1.means has.1.of
 
 -- the names that a line declares are lawful by the first version's keywords
 pub lawful_read : (version : ℕ) (tokens : List Token) (meant : Meant) → form_in saturated version tokens ≡ Some meant → names_lawful meant ≡ true
-lawful_read version tokens meant e = by (form_in exact version tokens) refl (sym (ap (option_map blank_form) e) ∙ form_alike version tokens)
-  where
-    by : (found : Option Meant) → form_in exact version tokens ≡ found → Some (blank_form meant) ≡ option_map blank_form (form_in exact version tokens) → names_lawful meant ≡ true
-    by None f a = absurd (no_form (a ∙ ap (option_map blank_form) f))
-      where
-        no_form : Some (blank_form meant) ≡ None → ⊥
-        no_form h = cc
-    by (Some other) f a =
-        let same : blank_form meant ≡ blank_form other = some_is (blank_form meant) (blank_form other) (a ∙ ap (option_map blank_form) f) in
-        let has = form_says version tokens other f in
-        sym (lawful_blank meant) ∙ ap names_lawful same ∙ lawful_blank other ∙ lawful_means version has.0 other has.1.means has.1.of
+lawful_read version tokens meant e = elim (form_capped version tokens) [
+  | inl same ↦ lawful_exact version tokens meant (sym same ∙ e)
+  | inr same ↦
+      let m = mapped_some capped_form (form_in exact version tokens) meant (sym same ∙ e) in
+      ap names_lawful (sym m.2) ∙ lawful_capped m.0 ∙ lawful_exact version tokens m.0 m.1
+]

@@ -1,7 +1,6 @@
 -- The lines of a script are read one after another.
-use Rattle.std.proofs.Common.{◌≡◌, ℕ, ◌+◌, ◌≤◌, ◌<◌, inl, inr, Bool, true, false, length, List, [], ◌∷◌, ◌++◌, Option, Some, None, Ok, refl, sym, ap, ◌∙◌, subst, arith}
+use Rattle.std.proofs.Common.{◌≡◌, ℕ, ◌+◌, ◌≤◌, inl, inr, Bool, true, false, length, List, [], ◌∷◌, ◌++◌, Option, Some, None, Ok, refl, sym, ap, ◌∙◌, subst, arith}
 use Rattle.std.specs.Prelude.{All}
-use Rattle.std.proofs.lemmas.Bool.Decides.{nat_tests}
 use Rattle.std.proofs.lemmas.List.Elements.{All-head, All-tail}
 use Rattle.pct_ask.specs.Tokens.{Token, tokens_of}
 use Rattle.script_tree.specs.Forms.{Meant}
@@ -10,11 +9,11 @@ use Rattle.script_tree.specs.Grammar.{Line, AreLines, IsSound}
 use Rattle.script_parse.specs.Part.{Part}
 use Rattle.script_parse.specs.Reading.{Finder, is_empty, taken, blank_fault, line_taken, read_from, script_of}
 use Rattle.script_parse.proofs.ExpressionWhole.{exact}
-use Rattle.script_parse.proofs.LineSteps.{clash}
 use Rattle.script_parse.proofs.Standing.{Stands, blank_stands}
-use Rattle.script_parse.proofs.Runs.{Runs}
+use Rattle.script_parse.proofs.Runs.{Runs, some_there}
 use Rattle.script_parse.proofs.FreeLines.{IsWhole, WholeAfter}
 use Rattle.script_parse.proofs.RunsRead.{plain_line, form_step, form_after, same_version}
+use Rattle.script_parse.proofs.Choices.{clash}
 
 nothing_is : (o : Option (List Token)) → is_nothing o ≡ true → o ≡ Some []
 nothing_is None e = absurd cc
@@ -26,9 +25,6 @@ blank_tokens text b = nothing_is (tokens_of text) b
 
 pub blank_in : (text : List ℕ) → is_blank_line text ≡ true → tokens_in text ≡ []
 blank_in text b = rw (blank_tokens text b) refl
-
-pub some_there : {A : Type 0} (x : A) (xs : List A) → is_empty (x ∷ xs) ≡ false
-some_there x xs = let some : 0 < length (x ∷ xs) = omega arith in grind (arith, nat_tests)
 
 no_blank_fault : (part : Part) (last : Bool) → WholeAfter last part → blank_fault part last ≡ None
 no_blank_fault part false whole = refl

@@ -14,8 +14,8 @@ use Rattle.script_tree.specs.Faults.{are_blank}
 use Rattle.script_parse.specs.Numbers.{saturated}
 use Rattle.script_parse.specs.Part.{Part}
 use Rattle.script_parse.specs.Reading.{Finder, is_empty, line_taken, read_from, read, script_of, finished, blank_text_fault}
-use Rattle.script_parse.proofs.ReadLines.{some_there}
 use Rattle.script_parse.proofs.ReadAnswers.{read_by, read_fits}
+use Rattle.script_parse.proofs.Runs.{some_there}
 
 abbrev Found : Type 0
 Found = Result ScriptText (ℕ × ScriptFault)

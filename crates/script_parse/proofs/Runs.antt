@@ -32,7 +32,7 @@ abbrev pub Runs : Finder → Part → List Line → Part → Type 0
 Runs find part [] last = part ≡ last
 Runs find part (line ∷ lines) last = IsFree part find line.1 × Runs find (taken part find line.0 line.1) lines last
 
-some_there : {A : Type 0} (x : A) (xs : List A) → is_empty (x ∷ xs) ≡ false
+pub some_there : {A : Type 0} (x : A) (xs : List A) → is_empty (x ∷ xs) ≡ false
 some_there x xs = let some : 0 < length (x ∷ xs) = omega arith in grind (arith, nat_tests)
 
 pub closed_again : (body : Statements) → closed_at (end_line body) (list body) ≡ body

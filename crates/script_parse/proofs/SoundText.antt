@@ -13,19 +13,15 @@ use Rattle.pct_ask.specs.NameLists.{AreNames, no_names, list_of}
 use Rattle.pct_ask.specs.declared.names.NameKind.{NameKind}
 use Rattle.pct_ask.specs.declared.names.NameKind.TheVariants as kinds
 use Rattle.script_tree.specs.declared.fault.ScriptFault.TheVariants as fault
-use Rattle.script_tree.specs.Trees.{Statement, Statements, closed_at}
-use Rattle.script_tree.specs.Forms as forms
-use Rattle.script_parse.specs.Part as parts
-use Rattle.script_tree.specs.Forms.{Cut, Meant, tokens_of_form, IsForm}
+use Rattle.script_tree.specs.Forms.{Meant, tokens_of_form, IsForm}
 use Rattle.script_tree.specs.Fitting.{line_fits, rwlocks_fit}
 use Rattle.script_tree.specs.Ranges as ranges
 use Rattle.script_tree.specs.Lines.{tokens_in, is_blank_line, version_in, just_thread, thread_in, threads_in}
 use Rattle.script_tree.specs.Faults.{are_blank}
 use Rattle.script_tree.specs.Grammar.{Line, AreLines, IsSound}
-use Rattle.script_parse.specs.Part.{Open, Part}
+use Rattle.script_parse.specs.Part.{Part}
 use Rattle.script_parse.specs.Saying.{form_in}
-use Rattle.script_parse.specs.Reading as reading
-use Rattle.script_parse.specs.Reading.{Finder, is_empty, form_fault, taken, bytes_fault, unless, wrapped, after_fault, blank_fault, header_taken, begun, start, line_taken, tokens_taken, form_taken}
+use Rattle.script_parse.specs.Reading.{form_fault, taken, bytes_fault, unless, wrapped, blank_fault, header_taken, begun, start, line_taken, tokens_taken, form_taken}
 use Rattle.script_parse.proofs.Choices.{some, some_is, passed}
 use Rattle.script_parse.proofs.ExpressionWhole.{exact}
 use Rattle.script_parse.proofs.FormSound.{form_says}
@@ -34,9 +30,10 @@ use Rattle.script_parse.proofs.TextFaults.{ok_is, err_ok, unless_ok, wrapped_ok,
 use Rattle.script_parse.proofs.TextLines.{blank_more, says_more}
 use Rattle.script_parse.proofs.StatementFits.{finder, means_fits}
 use Rattle.script_parse.proofs.HasRead.{HasRead}
-use Rattle.script_parse.proofs.HasReadForms.{no_fault_parts, form_keeps}
+use Rattle.script_parse.proofs.HasReadForms.{form_keeps}
 use Rattle.script_parse.proofs.DeclaredValues.{AreValues, blank_values}
 use Rattle.script_parse.proofs.DeclaredForms.{form_adds}
+use Rattle.script_parse.proofs.FormFaults.{no_fault_parts}
 
 -- what holds of a text's lines and of what was read of them
 pub record Reads (threads : List (List ℕ)) (part : Part) (before : List (List ℕ)) : Type 0 where
@@ -136,54 +133,6 @@ blank_reads threads part before line r p e =
       few = omega (arith, longer, p.few);
     }
 
-said_version : (part : Part) (statement : Option Statement) → (reading.said part statement).version ≡ part.version
-said_version part None = refl
-said_version part (Some s) = refl
-
-ended_version : (part : Part) (blocks : List Open) (n : ℕ) → (reading.ended part blocks n).version ≡ part.version
-ended_version part [] n = refl
-ended_version part (block ∷ blocks) n = closed_version block.opening (closed_at n block.done)
-  where
-    closed_version : (opening : parts.Opening) (body : Statements) → (reading.closed_by (record part { open_blocks = blocks }) opening body).version ≡ part.version
-    closed_version (parts.Thread line) body = refl
-    closed_version (parts.If line test) body = refl
-    closed_version (parts.Else line test first) body = refl
-    closed_version (parts.While line test) body = refl
-
-turned_version : (part : Part) (blocks : List Open) (n : ℕ) → (reading.turned part blocks n).version ≡ part.version
-turned_version part [] n = refl
-turned_version part (block ∷ blocks) n = by_opening block.opening
-  where
-    by_opening : (opening : parts.Opening) → (reading.turned_by part block blocks n opening).version ≡ part.version
-    by_opening (parts.Thread line) = refl
-    by_opening (parts.If line test) = refl
-    by_opening (parts.Else line test first) = refl
-    by_opening (parts.While line test) = refl
-
-taken_version : (part : Part) (find : Finder) (n : ℕ) (meant : Meant) → (taken part find n meant).version ≡ part.version
-taken_version part find n (forms.Plain kind name) = refl
-taken_version part find n (forms.Valued kinds.Var name value) = refl
-taken_version part find n (forms.Valued kinds.Sem name value) = refl
-taken_version part find n (forms.Valued kinds.Barrier name value) = refl
-taken_version part find n (forms.Valued kinds.Thread name value) = refl
-taken_version part find n (forms.Valued kinds.Mutex name value) = refl
-taken_version part find n (forms.Valued kinds.Cond name value) = refl
-taken_version part find n (forms.Valued kinds.RwLock name value) = refl
-taken_version part find n (forms.Thread name) = refl
-taken_version part find n (forms.If test) = refl
-taken_version part find n (forms.While test) = refl
-taken_version part find n forms.End = ended_version part part.open_blocks n
-taken_version part find n forms.Else = turned_version part part.open_blocks n
-taken_version part find n (forms.On verb object) = said_version part (reading.statement_on part.names find n (forms.On verb object))
-taken_version part find n (forms.Into verb reg object) = said_version part (reading.statement_on part.names find n (forms.Into verb reg object))
-taken_version part find n (forms.Write var value) = said_version part (reading.statement_on part.names find n (forms.Write var value))
-taken_version part find n (forms.Add reg var value) = said_version part (reading.statement_on part.names find n (forms.Add reg var value))
-taken_version part find n (forms.Cas reg var old new) = said_version part (reading.statement_on part.names find n (forms.Cas reg var old new))
-taken_version part find n (forms.Wait waiting mutex) = said_version part (reading.statement_on part.names find n (forms.Wait waiting mutex))
-taken_version part find n forms.Yield = said_version part (reading.statement_on part.names find n forms.Yield)
-taken_version part find n (forms.Assert test) = said_version part (reading.statement_on part.names find n (forms.Assert test))
-taken_version part find n (forms.Set reg value) = said_version part (reading.statement_on part.names find n (forms.Set reg value))
-
 -- a line of some form
 form_reads : (threads : List (List ℕ)) (part : Part) (before : List (List ℕ)) (line : List ℕ) (tokens : List Token) (meant : Meant) (last : Bool) → Reads threads part before → IsPlain (length before + 1) line → tokens_of line ≡ Some tokens → form_in exact part.version tokens ≡ Some meant → form_fault part (finder threads) last tokens meant ≡ None
     → Reads threads (taken part (finder threads) (length before + 1) meant) (before ++ line ∷ [])
@@ -198,7 +147,7 @@ form_reads threads part before line tokens meant last r p e f g =
     let range : ranges.is_out_of_range (tokens_in line) meant ≡ false = ap (λ (ts : List Token). ranges.is_out_of_range ts meant) here ∙ no_fault.in_range in
     let adds = form_adds part.version part (finder threads) (length before + 1) (map tokens_in r.below) r.values has.0 meant has.1.means has.1.of in
     let cut_is : tokens_in line ≡ tokens_of_form has.0 = here ∙ has.1.spelled in
-    let same_version : next.version ≡ part.version = taken_version part (finder threads) (length before + 1) meant in
+    let same_version : next.version ≡ part.version = adds.version in
     record {
       above = r.above;
       header = r.header;
@@ -252,21 +201,11 @@ no_names_are = record { lawful = All-nil _; distinct = tt; few = few_none }
   where
     few_none : (kind : NameKind) → length (list_of kind no_names) ≤ 64
     few_none kinds.Thread = omega arith
-    few_none kinds.Var = omega arith
-    few_none kinds.Mutex = omega arith
-    few_none kinds.Cond = omega arith
-    few_none kinds.Sem = omega arith
-    few_none kinds.Barrier = omega arith
-    few_none kinds.RwLock = omega arith
+    few_none kind = omega arith
 
 lawful_none : (version : ℕ) (kind : NameKind) → list_all (is_name version) (list_of kind no_names) ≡ true
 lawful_none version kinds.Thread = refl
-lawful_none version kinds.Var = refl
-lawful_none version kinds.Mutex = refl
-lawful_none version kinds.Cond = refl
-lawful_none version kinds.Sem = refl
-lawful_none version kinds.Barrier = refl
-lawful_none version kinds.RwLock = refl
+lawful_none version kind = refl
 
 no_rwlocks : (version : ℕ) → rwlocks_fit version [] ≡ true
 no_rwlocks version = by_test (nat_le 3 version)

@@ -119,24 +119,11 @@ quiet_at word rest k o e t = record { nameless = λ kind. nameless_at word rest 
 
 pub on_quiet : (verb : OnVerb) (rest : List Token) → IsQuiet (Word (on_word verb) ∷ rest)
 on_quiet forms.Lock rest = quiet_at _ rest refl refl refl refl
-on_quiet forms.Unlock rest = quiet_at _ rest refl refl refl refl
-on_quiet forms.Signal rest = quiet_at _ rest refl refl refl refl
-on_quiet forms.Broadcast rest = quiet_at _ rest refl refl refl refl
-on_quiet forms.Down rest = quiet_at _ rest refl refl refl refl
-on_quiet forms.Up rest = quiet_at _ rest refl refl refl refl
-on_quiet forms.Join rest = quiet_at _ rest refl refl refl refl
-on_quiet forms.Start rest = quiet_at _ rest refl refl refl refl
-on_quiet forms.RdLock rest = quiet_at _ rest refl refl refl refl
-on_quiet forms.WrLock rest = quiet_at _ rest refl refl refl refl
-on_quiet forms.RwUnlock rest = quiet_at _ rest refl refl refl refl
+on_quiet verb rest = quiet_at _ rest refl refl refl refl
 
 pub into_quiet : (verb : IntoVerb) (rest : List Token) → IsQuiet (Word (into_word verb) ∷ rest)
 into_quiet forms.Read rest = quiet_at _ rest refl refl refl refl
-into_quiet forms.TryLock rest = quiet_at _ rest refl refl refl refl
-into_quiet forms.TryDown rest = quiet_at _ rest refl refl refl refl
-into_quiet forms.Arrive rest = quiet_at _ rest refl refl refl refl
-into_quiet forms.TryRdLock rest = quiet_at _ rest refl refl refl refl
-into_quiet forms.TryWrLock rest = quiet_at _ rest refl refl refl refl
+into_quiet verb rest = quiet_at _ rest refl refl refl refl
 
 -- the open blocks are as many, and as many of them are an `if` without `else`
 record AreAlike (before after : List Open) : Type 0 where
@@ -179,12 +166,7 @@ declared_names part lines kind k name rest s =
 
 pub kind_ends_none : (kind : NameKind) → (bytes_eq (kind_word kind) (codes "end") ≡ false) × (bytes_eq (kind_word kind) (codes "else") ≡ false)
 kind_ends_none kinds.Thread = (refl, refl)
-kind_ends_none kinds.Var = (refl, refl)
-kind_ends_none kinds.Mutex = (refl, refl)
-kind_ends_none kinds.Cond = (refl, refl)
-kind_ends_none kinds.Sem = (refl, refl)
-kind_ends_none kinds.Barrier = (refl, refl)
-kind_ends_none kinds.RwLock = (refl, refl)
+kind_ends_none kind = (refl, refl)
 
 declares_stands : (part next : Part) (lines : Lines) (kind : NameKind) (name : List ℕ) (rest : List Token) → opens (Word (kind_word kind) ∷ []) ≡ false → next.version ≡ part.version → next.names ≡ with_name kind name part.names → next.open_blocks ≡ part.open_blocks → Stands part lines
     → Stands next (lines ++ (Word (kind_word kind) ∷ Word name ∷ rest) ∷ [])
@@ -287,8 +269,7 @@ end_stands_at part (block ∷ blocks) lines n b e s =
     closed_stands : (opening : parts.Opening) (body : trees.Statements) → Stands (reading.closed_by (record part { open_blocks = blocks }) opening body) (lines ++ (Word (codes "end") ∷ []) ∷ [])
     closed_stands (parts.Thread line) body = ends_stands part _ lines (Word (codes "end") ∷ []) block blocks refl refl (λ kind. nameless_at (codes "end") [] kind (no_kind (codes "end") refl kind)) refl refl b (alike_refl blocks) s
     closed_stands (parts.If line test) body = ends_stands part _ lines (Word (codes "end") ∷ []) block blocks refl refl (λ kind. nameless_at (codes "end") [] kind (no_kind (codes "end") refl kind)) refl refl b (alike_said _ blocks) s
-    closed_stands (parts.Else line test first) body = ends_stands part _ lines (Word (codes "end") ∷ []) block blocks refl refl (λ kind. nameless_at (codes "end") [] kind (no_kind (codes "end") refl kind)) refl refl b (alike_said _ blocks) s
-    closed_stands (parts.While line test) body = ends_stands part _ lines (Word (codes "end") ∷ []) block blocks refl refl (λ kind. nameless_at (codes "end") [] kind (no_kind (codes "end") refl kind)) refl refl b (alike_said _ blocks) s
+    closed_stands opening body = ends_stands part _ lines (Word (codes "end") ∷ []) block blocks refl refl (λ kind. nameless_at (codes "end") [] kind (no_kind (codes "end") refl kind)) refl refl b (alike_said _ blocks) s
 
 pub else_stands_at : (part : Part) (blocks : List Open) (lines : Lines) (n : ℕ) → part.open_blocks ≡ blocks → is_in_if blocks ≡ true → Stands part lines → Stands (reading.turned part blocks n) (lines ++ (Word (codes "else") ∷ []) ∷ [])
 else_stands_at part [] lines n b e s = absurd cc
@@ -297,5 +278,4 @@ else_stands_at part (block ∷ blocks) lines n b e s = turned_stands block.openi
     turned_stands : (opening : parts.Opening) → is_if opening ≡ true → Stands (reading.turned_by part block blocks n opening) (lines ++ (Word (codes "else") ∷ []) ∷ [])
     turned_stands (parts.If line test) h = turns_stands part _ lines (Word (codes "else") ∷ []) block _ blocks refl refl refl refl (λ kind. nameless_at (codes "else") [] kind (no_kind (codes "else") refl kind)) refl refl b refl s
     turned_stands (parts.Thread line) h = absurd cc
-    turned_stands (parts.Else line test first) h = absurd cc
-    turned_stands (parts.While line test) h = absurd cc
+    turned_stands opening h = absurd cc

@@ -15,7 +15,7 @@ use Rattle.script_tree.specs.Fitting.{line_fits, place_fits, expression_fits, st
 use Rattle.pct_ask.specs.TraceText.{name_at}
 use Rattle.script_tree.specs.Grammar.{statement_lines}
 use Rattle.script_tree.specs.Expressions.{IsSpelled, number, register, enclosed, minus, not as negated, two, stronger}
-use Rattle.script_tree.specs.Forms.{OnVerb, Lock, Unlock, Signal, Broadcast, Down, Up, Join, Start, RdLock, WrLock, RwUnlock, IntoVerb, Read, TryLock, TryDown, Arrive, TryRdLock, TryWrLock, Cut, Meant, Plain, Valued, Thread, On, Into, Write, Add, Cas, Wait, Yield, Assert, Set, If, While, End, Else, on_kind, into_kind, on_since, into_since, IsOf, Means}
+use Rattle.script_tree.specs.Forms.{OnVerb, RwUnlock, WrLock, Lock, Start, RdLock, IntoVerb, Read, TryRdLock, TryWrLock, Cut, Meant, Plain, Valued, Thread, On, Into, Write, Add, Cas, Wait, Yield, Assert, Set, If, While, End, Else, on_kind, into_kind, on_since, into_since, IsOf, Means}
 use Rattle.script_parse.specs.Reading.{Finder, place_in, on_statement, into_statement, statement_on}
 use Rattle.script_parse.proofs.Choices.{some_is, mapped_some, bind_some}
 use Rattle.script_parse.proofs.Meanings.{ForEach}
@@ -68,12 +68,7 @@ finder threads name = place_of name threads
 
 place_at_kind : (threads : List (List ℕ)) (names : NameLists) (kind : NameKind) (name : List ℕ) (place : ℕ) → place_in names (finder threads) kind name ≡ Some place → place_of name (list_of kind (with_threads threads names)) ≡ Some place
 place_at_kind threads names kinds.Thread name place e = e
-place_at_kind threads names kinds.Var name place e = e
-place_at_kind threads names kinds.Mutex name place e = e
-place_at_kind threads names kinds.Cond name place e = e
-place_at_kind threads names kinds.Sem name place e = e
-place_at_kind threads names kinds.Barrier name place e = e
-place_at_kind threads names kinds.RwLock name place e = e
+place_at_kind threads names kind name place e = e
 
 -- a name that is found stands at its place
 pub found_place : (threads : List (List ℕ)) (names : NameLists) (kind : NameKind) (name : List ℕ) (place : ℕ) → place_in names (finder threads) kind name ≡ Some place
@@ -84,25 +79,16 @@ found_place threads names kind name place e =
 
 module _ (version : ℕ) (names : NameLists) (room line : ℕ) (on_line : line_fits line ≡ true) where
   on_fits : (verb : OnVerb) (place : ℕ) → on_since verb ≤ version → place_fits (list_of (on_kind verb) names) place ≡ true → statement_fits version names room (on_statement verb line place) ≡ true
-  on_fits Lock place v p = rw (on_line, p) refl
-  on_fits Unlock place v p = rw (on_line, p) refl
-  on_fits Signal place v p = rw (on_line, p) refl
-  on_fits Broadcast place v p = rw (on_line, p) refl
-  on_fits Down place v p = rw (on_line, p) refl
-  on_fits Up place v p = rw (on_line, p) refl
-  on_fits Join place v p = rw (on_line, p) refl
   on_fits Start place v p = rw (on_line, p, le-leb 2 version v) refl
   on_fits RdLock place v p = rw (on_line, p, le-leb 3 version v) refl
   on_fits WrLock place v p = rw (on_line, p, le-leb 3 version v) refl
   on_fits RwUnlock place v p = rw (on_line, p, le-leb 3 version v) refl
+  on_fits verb place v p = rw (on_line, p) refl
 
   into_fits : (verb : IntoVerb) (reg place : ℕ) → into_since verb ≤ version → reg < 16 → place_fits (list_of (into_kind verb) names) place ≡ true → statement_fits version names room (into_statement verb line reg place) ≡ true
-  into_fits Read reg place v r p = rw (on_line, lt-ltb reg 16 r, p) refl
-  into_fits TryLock reg place v r p = rw (on_line, lt-ltb reg 16 r, p) refl
-  into_fits TryDown reg place v r p = rw (on_line, lt-ltb reg 16 r, p) refl
-  into_fits Arrive reg place v r p = rw (on_line, lt-ltb reg 16 r, p) refl
   into_fits TryRdLock reg place v r p = rw (on_line, lt-ltb reg 16 r, p, le-leb 3 version v) refl
   into_fits TryWrLock reg place v r p = rw (on_line, lt-ltb reg 16 r, p, le-leb 3 version v) refl
+  into_fits verb reg place v r p = rw (on_line, lt-ltb reg 16 r, p) refl
 
 -- a statement that is read of a line
 pub record IsSaid (version : ℕ) (names : NameLists) (line : ℕ) (meant : Meant) (statement : Statement) : Type 0 where
@@ -115,48 +101,22 @@ on_said version names line h verb place object v p e = record { fits = λ room. 
   where
     on_lines : (verb : OnVerb) → statement_lines names (on_statement verb line place) ≡ (line, On verb (name_at (list_of (on_kind verb) names) place)) ∷ []
     on_lines Lock = refl
-    on_lines Unlock = refl
-    on_lines Signal = refl
-    on_lines Broadcast = refl
-    on_lines Down = refl
-    on_lines Up = refl
-    on_lines Join = refl
-    on_lines Start = refl
-    on_lines RdLock = refl
-    on_lines WrLock = refl
-    on_lines RwUnlock = refl
+    on_lines verb = refl
 
     on_one : (verb : OnVerb) → count_of (on_statement verb line place) ≡ 1
     on_one Lock = refl
-    on_one Unlock = refl
-    on_one Signal = refl
-    on_one Broadcast = refl
-    on_one Down = refl
-    on_one Up = refl
-    on_one Join = refl
-    on_one Start = refl
-    on_one RdLock = refl
-    on_one WrLock = refl
-    on_one RwUnlock = refl
+    on_one verb = refl
 
 into_said : (version : ℕ) (names : NameLists) (line : ℕ) → line_fits line ≡ true → (verb : IntoVerb) (reg place : ℕ) (object : List ℕ) → into_since verb ≤ version → reg < 16 → place_fits (list_of (into_kind verb) names) place ≡ true → get_or (list_of (into_kind verb) names) place [] ≡ object → IsSaid version names line (Into verb reg object) (into_statement verb line reg place)
 into_said version names line h verb reg place object v r p e = record { fits = λ room. into_fits version names room line h verb reg place v r p; lines = into_lines verb ∙ ap (λ (x : List ℕ). (line, Into verb reg x) ∷ []) e; one = into_one verb }
   where
     into_lines : (verb : IntoVerb) → statement_lines names (into_statement verb line reg place) ≡ (line, Into verb reg (name_at (list_of (into_kind verb) names) place)) ∷ []
     into_lines Read = refl
-    into_lines TryLock = refl
-    into_lines TryDown = refl
-    into_lines Arrive = refl
-    into_lines TryRdLock = refl
-    into_lines TryWrLock = refl
+    into_lines verb = refl
 
     into_one : (verb : IntoVerb) → count_of (into_statement verb line reg place) ≡ 1
     into_one Read = refl
-    into_one TryLock = refl
-    into_one TryDown = refl
-    into_one Arrive = refl
-    into_one TryRdLock = refl
-    into_one TryWrLock = refl
+    into_one verb = refl
 
 module _ (version : ℕ) (threads : List (List ℕ)) (names : NameLists) (line : ℕ) (on_line : line_fits line ≡ true) where
   abbrev pub all : NameLists

@@ -1,6 +1,5 @@
 -- The first fault of a text is what is found as it is read.
-use Rattle.std.proofs.Common.{◌≡◌, ℕ, ◌+◌, ◌⊎◌, inl, inr, Bool, true, false, cond, length, List, [], ◌∷◌, ◌++◌, map, Option, Some, None, Result, Ok, Err, refl, sym, ap, ◌∙◌, append_assoc, arith, subst}
-use Rattle.std.specs.Prelude.{not, ◌&&◌}
+use Rattle.std.proofs.Common.{◌≡◌, ℕ, ◌+◌, ◌⊎◌, inl, inr, Bool, true, false, length, List, [], ◌∷◌, ◌++◌, map, Option, Some, None, Result, Ok, Err, refl, sym, ap, ◌∙◌, append_assoc, arith, subst}
 use Rattle.std.proofs.lemmas.List.{append-nil, map_push, length_push}
 use Rattle.std.proofs.lemmas.List.Folds.{list_all-append}
 use Rattle.pct_ask.specs.Tokens.{Token, tokens_of}
@@ -10,19 +9,18 @@ use Rattle.script_tree.specs.declared.fault.ScriptFault.{ScriptFault}
 use Rattle.script_tree.specs.Forms.{Meant, tokens_of_form}
 use Rattle.script_tree.specs.Lines.{tokens_in, is_blank_line, version_in, threads_in}
 use Rattle.script_tree.specs.Faults.{Place, are_blank, IsFaulty, IsFirstKind, IsFirstLine}
-use Rattle.script_tree.specs.Faults as faults
-use Rattle.script_tree.specs.Ranges as ranges
 use Rattle.script_parse.specs.Part.{Part}
 use Rattle.script_parse.specs.Saying.{form_in}
-use Rattle.script_parse.specs.Reading as reading
-use Rattle.script_parse.specs.Reading.{Finder, so_far, is_known, is_empty, form_fault, taken, bytes_fault, unless, wrapped, after_fault, blank_fault, header_taken, begun, start, line_said, line_taken, tokens_taken, form_taken, then_read, read_from, finished, read}
+use Rattle.script_parse.specs.Reading.{Finder, is_empty, form_fault, taken, bytes_fault, unless, wrapped, after_fault, blank_fault, header_taken, begun, start, line_taken, tokens_taken, form_taken, then_read, read_from}
 use Rattle.script_parse.proofs.ExpressionWhole.{exact}
 use Rattle.script_parse.proofs.FormSound.{form_says}
 use Rattle.script_parse.proofs.FirstKinds.{IsFirst}
 use Rattle.script_parse.proofs.Standing.{Stands, blank_stands}
 use Rattle.script_parse.proofs.Agreeing.{taken_stands}
-use Rattle.script_parse.proofs.LineSteps.{Step, fault_of, clash, some_none, cut_tokens, says_something, below_step}
+use Rattle.script_parse.proofs.LineSteps.{Step, fault_of, cut_tokens, says_something, below_step}
 use Rattle.script_parse.proofs.Headers.{AreQuiet, quiet_blank, begun_stands, above_step}
+use Rattle.script_parse.proofs.Choices.{clash}
+use Rattle.script_parse.proofs.FormFaults.{no_fault_parts}
 
 -- what was read of the lines before a line
 abbrev pub StandsBefore : Option Part → List (List ℕ) → Type 0
@@ -43,19 +41,6 @@ pub wrapped_ok : (o : Option ScriptFault) (part : Part) (next : Option Part) →
 wrapped_ok None part next e = (refl, ok_is e)
 wrapped_ok (Some kind) part next e = err_ok e
 
-closes_well : (part : Part) (find : Finder) (last : Bool) (tokens : List Token) (form : Meant) → form_fault part find last tokens form ≡ None → faults.closes_nothing (so_far part) form ≡ false
-closes_well part find last tokens form e =
-    let a = failed_none (not (faults.may_stand (so_far part) form)) _ _ e in
-    let b = failed_none (faults.uses_unknown (is_known part.names find) form) _ _ a.1 in
-    let c = failed_none (faults.declares_again (so_far part) form) _ _ b.1 in
-    let d = failed_none (ranges.is_out_of_range tokens form) _ _ c.1 in
-    let f = failed_none (last && reading.leaves_open part form) _ _ d.1 in
-    (failed_none (faults.closes_nothing (so_far part) form) _ _ f.1).0
-  where
-    failed_none : {A : Type 0} (b : Bool) (x : A) (rest : Option A) → cond b (Some x) rest ≡ None → (b ≡ false) × (rest ≡ None)
-    failed_none true x rest e = some_none (sym e)
-    failed_none false x rest e = (refl, e)
-
 -- ---- the line that was taken stands
 
 pub behind_tokens : (before : List (List ℕ)) (line : List ℕ) (tokens : List Token) → tokens_of line ≡ Some tokens → map tokens_in (before ++ line ∷ []) ≡ map tokens_in before ++ tokens ∷ []
@@ -75,7 +60,7 @@ form_next part find n last before line next tokens None s e f r = err_ok r
 form_next part find n last before line next tokens (Some meant) s e f r =
     let w = wrapped_ok (form_fault part find last tokens meant) (taken part find n meant) next r in
     let has = form_says part.version tokens meant f in
-    let stands = taken_stands part.version part find n (map tokens_in before) s.1 has.0 meant has.1.means has.1.of (closes_well part find last tokens meant w.0) in
+    let stands = taken_stands part.version part find n (map tokens_in before) s.1 has.0 meant has.1.means has.1.of (no_fault_parts part find last tokens meant w.0).closes in
     let behind : map tokens_in (before ++ line ∷ []) ≡ map tokens_in before ++ tokens_of_form has.0 ∷ [] = behind_tokens before line tokens e ∙ ap (λ (ts : List Token). map tokens_in before ++ ts ∷ []) has.1.spelled in
     subst (λ (p : Option Part). StandsBefore p (before ++ line ∷ [])) w.1 (still_below before line s.0, subst (Stands (taken part find n meant)) (sym behind) stands)
 

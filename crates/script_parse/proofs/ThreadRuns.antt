@@ -48,12 +48,7 @@ module _ (names : NameLists) (distinct : AreDistinct (all_names names)) where
 
   pub found_at : (xs : List (List ℕ)) (kind : NameKind) (place : ℕ) → place_fits (list_of kind names) place ≡ true → place_in (with_threads xs) find kind (name_at (list_of kind names) place) ≡ Some place
   found_at xs kinds.Thread place p = at_its_place kinds.Thread place p
-  found_at xs kinds.Var place p = at_its_place kinds.Var place p
-  found_at xs kinds.Mutex place p = at_its_place kinds.Mutex place p
-  found_at xs kinds.Cond place p = at_its_place kinds.Cond place p
-  found_at xs kinds.Sem place p = at_its_place kinds.Sem place p
-  found_at xs kinds.Barrier place p = at_its_place kinds.Barrier place p
-  found_at xs kinds.RwLock place p = at_its_place kinds.RwLock place p
+  found_at xs kind place p = at_its_place kind place p
 
   fresh_thread : (xs ys : List (List ℕ)) (name : List ℕ) → xs ++ name ∷ ys ≡ names.threads → is_among name (all_names (with_threads xs)) ≡ false
   fresh_thread xs ys name e =

@@ -17,7 +17,6 @@ use Rattle.script_tree.specs.Grammar.{Line, declares, Says, AreLines}
 use Rattle.script_parse.specs.Part.{Open, Part}
 use Rattle.script_parse.specs.Reading as reading
 use Rattle.script_parse.specs.Reading.{Finder, is_empty, taken}
-use Rattle.script_parse.proofs.LineSteps.{clash}
 use Rattle.script_parse.proofs.Standing.{Stands, blank_stands}
 use Rattle.script_parse.proofs.DeclaredValues.{AreValues, blank_values}
 use Rattle.script_parse.proofs.DeclaredForms.{form_adds}
@@ -26,6 +25,7 @@ use Rattle.script_parse.proofs.RunsRead.{form_after, same_version}
 use Rattle.script_parse.proofs.ReadLines.{blank_in}
 use Rattle.script_parse.proofs.LineNames.{is_thread, says_no_name, none_declared}
 use Rattle.script_parse.proofs.NewNames.{fresh_name}
+use Rattle.script_parse.proofs.Choices.{clash}
 
 -- no thread began
 pub record IsTop (part : Part) : Type 0 where
@@ -89,12 +89,7 @@ declaration_taken version part find n t Else meant m of d new = clash (sym d ∙
 
 named_here : (kind : NameKind) (name : List ℕ) (more : List Token) → named kind (Word (kind_word kind) ∷ Word name ∷ more) ≡ Some name
 named_here kinds.Thread name more = refl
-named_here kinds.Var name more = refl
-named_here kinds.Mutex name more = refl
-named_here kinds.Cond name more = refl
-named_here kinds.Sem name more = refl
-named_here kinds.Barrier name more = refl
-named_here kinds.RwLock name more = refl
+named_here kind name more = refl
 
 same_names : (a b c d e f g h i j k l : List (List ℕ)) (m n : List (List ℕ)) → a ≡ b → c ≡ d → e ≡ f → g ≡ h → i ≡ j → k ≡ l → m ≡ n
     → ◌≡◌ {A = NameLists} (record { threads = a; vars = c; mutexes = e; conds = g; sems = i; barriers = k; rwlocks = m }) (record { threads = b; vars = d; mutexes = f; conds = h; sems = j; barriers = l; rwlocks = n })

@@ -22,11 +22,11 @@ use Rattle.script_parse.proofs.Fresh.{all_front, all_back}
 use Rattle.script_parse.proofs.LineSteps.{cut_tokens, says_something}
 use Rattle.script_parse.proofs.Standing.{Lines, Stands}
 use Rattle.script_parse.proofs.Headers.{AreQuiet, quiet_none, quiet_blank, header_is, begun_stands}
-use Rattle.script_parse.proofs.Runs.{Runs}
+use Rattle.script_parse.proofs.Runs.{Runs, some_there}
 use Rattle.script_parse.proofs.ThreadRuns.{having, threads_run}
 use Rattle.script_parse.proofs.FreeLines.{IsWhole}
 use Rattle.script_parse.proofs.RunsRead.{plain_line}
-use Rattle.script_parse.proofs.ReadLines.{blank_tokens, blank_in, some_there, lines_read}
+use Rattle.script_parse.proofs.ReadLines.{blank_tokens, blank_in, lines_read}
 use Rattle.script_parse.proofs.LineNames.{threads_quiet, thread_at, threads_same}
 use Rattle.script_parse.proofs.TopRuns.{top_part, IsAbove, tops_run}
 
@@ -85,12 +85,7 @@ not_all false c = refl
 
 no_name_yet : (kind : NameKind) → list_of kind no_names ≡ []
 no_name_yet kinds.Thread = refl
-no_name_yet kinds.Var = refl
-no_name_yet kinds.Mutex = refl
-no_name_yet kinds.Cond = refl
-no_name_yet kinds.Sem = refl
-no_name_yet kinds.Barrier = refl
-no_name_yet kinds.RwLock = refl
+no_name_yet kind = refl
 
 module _ (bytes : List ℕ) (script : ScriptText) (s : Spells bytes script) where
   sound_all : All IsSound (s.above ++ s.header ∷ s.below)

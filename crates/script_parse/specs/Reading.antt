@@ -1,5 +1,7 @@
 -- Reading a script from its first line to its last.
-use Rattle.std.specs.Prelude.{ℕ, ℤ, pos, ◌+◌, ◌&&◌, nat_le, nat_lt, if◌then◌else◌, Bool, true, false, not, ◌==◌, List, [], ◌∷◌, ◌++◌, length, Option, Some, None, is_some, unwrap_or, Result, Ok, Err}
+use Rattle.std.specs.Prelude.{ℕ, ℤ, pos, ◌+◌, ◌&&◌, nat_le, nat_lt, if◌then◌else◌, Bool, true}
+use Rattle.std.specs.Prelude.{false, not, ◌==◌, List, [], ◌∷◌, ◌++◌, length, Option, Some, None}
+use Rattle.std.specs.Prelude.{is_some, unwrap_or, Result, Ok, Err}
 use Rattle.std.specs.Option.{option_map, option_and_then}
 use Rattle.std.specs.Str.{is_utf8}
 use Rattle.pct_ask.specs.Lines.{lines_of}
@@ -11,7 +13,12 @@ use Rattle.script_tree.specs.Trees.{Statement, Statements, closed_at}
 use Rattle.script_tree.specs.Trees as trees
 use Rattle.script_tree.specs.ScriptText.{ScriptText}
 use Rattle.script_tree.specs.declared.fault.ScriptFault.{ScriptFault}
-use Rattle.script_tree.specs.declared.fault.ScriptFault.TheVariants.{NotUtf8, LineTooLong, TooManyLines, BadHeader, BadToken, BadStatement, UnknownName, TwiceNamed, NumberRange, NoEnd, StrayEnd, NoThread, TooMany}
+use Rattle.script_tree.specs.declared.fault.ScriptFault.TheVariants.{NotUtf8, LineTooLong}
+use Rattle.script_tree.specs.declared.fault.ScriptFault.TheVariants.{TooManyLines, BadHeader}
+use Rattle.script_tree.specs.declared.fault.ScriptFault.TheVariants.{BadToken, BadStatement}
+use Rattle.script_tree.specs.declared.fault.ScriptFault.TheVariants.{UnknownName, TwiceNamed}
+use Rattle.script_tree.specs.declared.fault.ScriptFault.TheVariants.{NumberRange, NoEnd, StrayEnd}
+use Rattle.script_tree.specs.declared.fault.ScriptFault.TheVariants.{NoThread, TooMany}
 use Rattle.script_tree.specs.Forms.{Meant, OnVerb, IntoVerb, on_kind, into_kind, value_in}
 use Rattle.script_tree.specs.Forms as forms
 use Rattle.script_tree.specs.Lines.{version_in, threads_in}

@@ -219,8 +219,10 @@ impl Reader {
     ) -> Result<Reader, NoMemory>
         requires lawful { names_lawful (seen_form form) ≡ true }
         requires fits { value_lawful (seen_form form) ≡ true }
-        requires fresh { faults.declares_again (reading.so_far (seen_reader self)) (seen_form form) ≡ false }
-        requires room { faults.is_too_many (reading.so_far (seen_reader self)) (seen_form form) ≡ false }
+        requires fresh { faults.declares_again (reading.so_far (seen_reader self)) (seen_form form)
+            ≡ false }
+        requires room { faults.is_too_many (reading.so_far (seen_reader self)) (seen_form form)
+            ≡ false }
         ensures { IfOk result (λ r.
             seen_reader r
             ≡ reading.taken (seen_reader self) (place_ahead ahead.now) line

@@ -4,9 +4,9 @@ use Rattle.script_parse.specs.Seen.{all_seen}
 use Rattle.script_parse.specs.SeenForms.{seen_form}
 use Rattle.script_parse.specs.SeenParts.{seen_reader}
 use Rattle.script_parse.proofs.BelowSteps.{below_fault, below_taken}
-use Rattle.script_parse.proofs.HasReadForms.{no_fault_parts, in_range_lawful}
 use Rattle.script_parse.proofs.ReadAnswers.{lawful_read}
 use Rattle.script_parse.proofs.parsing.read_below.Goals as goal
+use Rattle.script_parse.proofs.FormFaults.{no_fault_parts, in_range_lawful}
 
 pub take-requires-clause-lawful : goal.take-requires-clause-lawful
 take-requires-clause-lawful c =
