@@ -173,7 +173,8 @@ IsAskOf version (Fault kind) = Unit {0}
 
 -- A line of a trace of this version, for a test with these names: the order has as many different
 -- lawful names as there are threads, there are at most 7 points, counts of steps are in 1..100000,
--- lines in 1..4096, a step's number below 2 ^ 63, and answers are i64s.
+-- lines in 1..4096, a step's number below 2 ^ 63, answers are i64s, and a verdict is one by form
+-- that the version has.
 abbrev pub IsOf : NameLists → ℕ → Form → Type 0
 IsOf names version (Version number) = (number ≡ 1) ⊎ (number ≡ 2)
 IsOf names version (Order threads) =
