@@ -22,11 +22,10 @@ pub record PointsStand (kept : PointsKept) (schedule : List ℕ) : Type 0 where
   pub taken : kept.taken ≡ length schedule
   pub values : kept.values ≡ ranks kept.order kept.points schedule
 
--- of a `DirectedPolicy`: the same with events, and how many steps each thread took
+-- of a `DirectedPolicy`: its order and events, each thread's value, and how many steps it took
 pub record EventsKept : Type 0 where
   pub order : List ℕ
   pub events : List Moment
-  pub taken : ℕ
   pub values : List ℕ
   pub own : List ℕ
 
@@ -39,9 +38,9 @@ abbrev pub own_counts : List ℕ → List ℕ → List ℕ
 own_counts order schedule =
     map (λ thread. count_by (λ taker. taker == thread) schedule) (threads_of order)
 
--- it stands for a schedule: the same, by its events, and each thread's own steps are counted
+-- it stands for a schedule: the values are the ranks after it, by its events, and each thread's own
+-- steps are counted
 pub record EventsStand (kept : EventsKept) (schedule : List ℕ) : Type 0 where
-  pub taken : kept.taken ≡ length schedule
   pub values : kept.values ≡ ranks_by_events kept.order kept.events schedule
   pub own : kept.own ≡ own_counts kept.order schedule
 

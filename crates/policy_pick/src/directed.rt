@@ -18,7 +18,6 @@ pub struct DirectedPolicy {
     order: Vec<u32>,
     events: Vec<Moment>,
     ranks: Ranks,
-    taken: u32,
     own: Vec<u32>,
 }
 
@@ -31,7 +30,6 @@ impl Model for DirectedPolicy {
     ghost view = { λ p. record {
       order = p.order.items;
       events = p.events.items;
-      taken = p.taken;
       values = p.ranks.values;
       own = p.own.items;
     } };
@@ -58,7 +56,6 @@ impl DirectedPolicy {
             order,
             events,
             ranks,
-            taken: 0,
             own,
         })
     }
@@ -77,7 +74,6 @@ impl Policy for DirectedPolicy {
     }
 
     fn took(&mut self, thread: u32) {
-        self.taken += 1;
         let number = self.own[thread as usize] + 1;
         self.own[thread as usize] = number;
         let index = index_of_moment(&self.events, thread, number);

@@ -25,7 +25,6 @@ returns-clause-stands c =
     let order = c.in_ok-order.ensures.items in
     let events = c.in_ok-events.ensures.items in
     record {
-      taken = refl;
       values = c.in_ok-ranks.ensures.by_events c.args.events.now refl ∙ ap (λ x. ranks_by_events x c.args.events.now []) (sym order) ∙ ap (λ x. ranks_by_events c.in_ok-order.order.items x []) (sym events);
       own = own_counts-first c.in_ok-order.order.items c.in_ok-own.own.items (c.in_ok-own.ensures.items_if_clones_equal (λ y e. e) ∙ ap (λ n. replicate n 0) (sym (ap length order)));
     }

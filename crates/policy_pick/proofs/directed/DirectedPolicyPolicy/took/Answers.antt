@@ -51,7 +51,6 @@ returns-then-index-gt0-clause-stands c = λ schedule stood.
     let within : c.args.thread < length f.order.items = omega (arith, ap length order, c.requires.thread.1, c.requires.thread.2) in
     let step = step-is f.order.items f.own.items f.events.items c.deref.result.now schedule c.args.thread c.index.result.now c.index_of_moment-index.result stands.own within c.index.ensures c.deref.ensures.value c.index_of_moment-index.ensures in
     record {
-      taken = omega (arith, stands.taken, length_push schedule c.args.thread);
       values = c.lower.ensures.by_events f.order.items f.events.items schedule stands.values step.given;
       own = own_counts-after f.order.items schedule f.own.items c.args.thread (c.index.result.now + 1) stands.own step.own;
     }
@@ -65,7 +64,6 @@ returns-else-index-gt0-clause-stands c = λ schedule stood.
     let within : c.args.thread < length f.order.items = omega (arith, ap length order, c.requires.thread.1, c.requires.thread.2) in
     let step = step-is f.order.items f.own.items f.events.items c.deref.result.now schedule c.args.thread c.index.result.now c.index_of_moment-index.result stands.own within c.index.ensures c.deref.ensures.value c.index_of_moment-index.ensures in
     record {
-      taken = omega (arith, stands.taken, length_push schedule c.args.thread);
       values = stands.values ∙ ranks_by_events-same f.order.items f.events.items schedule c.args.thread (omega (arith, c.if-index-gt0.false, step.given));
       own = own_counts-after f.order.items schedule f.own.items c.args.thread (c.index.result.now + 1) stands.own step.own;
     }
