@@ -45,7 +45,6 @@ use Rattle.pct_top.specs.commands.Expose.{TellsExposed, PrintsExposed, OfExpose}
 use Rattle.pct_top.specs.TakenUp.{FindsIn, IsOrderOf, ExposesIn, IsTakenUp, FoundAreTakenUp}
 use Rattle.pct_top.proofs.Work.{some_same, named_order, named_directive, named_script}
 use Rattle.pct_top.proofs.Refusals.{not_refused}
-use Rattle.pct_top.proofs.Draws.{drawn_order}
 
 -- ---- an order by its names
 
@@ -207,7 +206,7 @@ by_taken (Ok (RunSeed name seed depth steps most Find)) files printed file limit
     let is = order-of-is n (drawn_places seed 0 n) (drawn-are seed 0 n) in
     let prints = of.2.2.2 in
     let up = found_up here files name most script of.2.0 of.2.1 of.1 own.order
-    (drawn_order n own.order is) is.whole (k, of.2.2.1, refl) own.points printed status prints.0 prints.1 prints.2 prints.3 in
+    is.is_order is.whole (k, of.2.2.1, refl) own.points printed status prints.0 prints.1 prints.2 prints.3 in
     subst (λ f. IsTakenUp here files f printed.out limit) (sym same.0)
     (subst (λ l. IsTakenUp here files name printed.out l) (sym same.1) up)
 by_taken (Ok (RunSeed name seed depth steps most Find)) files printed file limit same (inr bad) status =
