@@ -1,5 +1,5 @@
 -- All tests of a batch: their crews before the first post, and their runs.
-use Rattle.std.proofs.Common.{◌≡◌, ◌<◌, ◌≤◌, ℕ, Some, List, [], ◌∷◌, ◌++◌, length, take, drop, refl, sym, ap, subst, ◌∙◌, arith, inl, inr}
+use Rattle.std.proofs.Common.{◌≡◌, ◌<◌, ℕ, List, [], ◌∷◌, ◌++◌, length, take, drop, sym, ap, subst, ◌∙◌, inl, inr}
 use Rattle.std.proofs.Math.Seq.{take-append_seam}
 use Rattle.std.specs.Prelude.{slice_get}
 use Rattle.std.proofs.lemmas.Option.{slice_get_within}
@@ -8,7 +8,7 @@ use Rattle.turn_lock.specs.Rule.{Serves}
 use Rattle.turn_lock.specs.Views.{view}
 use Rattle.worker_run.specs.Batch.{Each}
 use Rattle.worker_run.specs.Bodies.{Pending}
-use Rattle.worker_run.specs.Batches.{Holds, AreParts, AreServedParts}
+use Rattle.worker_run.specs.Batches.{AreParts, AreServedParts}
 use Rattle.worker_run.specs.Casting.{AllHeld}
 use Rattle.worker_run.specs.declared.batch.Test.{Test}
 use Rattle.worker_run.specs.declared.batch.Crew.{Crew}

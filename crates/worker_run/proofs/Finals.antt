@@ -1,14 +1,11 @@
 -- One test of a batch: its crew before the first post, and its run.
-use Rattle.std.proofs.Common.{◌≡◌, ℕ, ◌<◌, ◌≤◌, Some, None, Option, List, [], length, map, refl, sym, ap, subst, ◌∙◌, arith}
+use Rattle.std.proofs.Common.{◌≡◌, ℕ, ◌<◌, Some, List, length, map, sym, ap, subst, ◌∙◌, arith}
 use Rattle.std.proofs.lemmas.List.{length-map}
 use Rattle.pct_ask.specs.declared.Deal.{Deal}
-use Rattle.pct_ask.specs.declared.event.Event.{Event}
-use Rattle.pct_ask.specs.declared.verdict.Outcome.{Outcome}
 use Rattle.sync_store.specs.Store.{sizes_of_deal}
 use Rattle.policy_pick.specs.declared.policy.Policy.{Ghosts}
 use Rattle.policy_pick.specs.Plan.{Plan, SpeaksOf}
 use Rattle.turn_book.specs.Told.{Told, Within, new_book}
-use Rattle.turn_lock.specs.Seen.{posted_by}
 use Rattle.turn_lock.specs.Rule.{Serves, first_view}
 use Rattle.turn_lock.specs.Calls.{made, ServesAll}
 use Rattle.turn_lock.specs.Views.{view, IsOf}
@@ -19,7 +16,6 @@ use Rattle.worker_run.specs.Played.{IsPlayed, HasPlayed}
 use Rattle.worker_run.specs.Served.{IsUnposted, IsCrew, first_runners}
 use Rattle.worker_run.specs.Batch.{bodies_on, IsFrom, IsSeatOf, IsCrewOf, IsThreadTold}
 use Rattle.worker_run.specs.Tests.{bodies_in, IsTest, IsRunOf, IsStageOf}
-use Rattle.worker_run.specs.declared.runner.Runner.{Runner}
 use Rattle.worker_run.specs.declared.played.Played.{Played}
 use Rattle.worker_run.specs.declared.batch.Test.{Test}
 use Rattle.worker_run.specs.declared.batch.Stage.{Stage}

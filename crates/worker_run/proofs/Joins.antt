@@ -1,10 +1,10 @@
 -- Threads of a batch are started one place after another: what was served in the end.
-use Rattle.std.proofs.Common.{◌≡◌, ℕ, ◌+◌, ◌<◌, true, Option, Some, List, [], ◌∷◌, ◌++◌, length, map, sym, ap, subst, ◌∙◌, ◌⊎◌, inl, inr}
+use Rattle.std.proofs.Common.{◌≡◌, ℕ, List, [], ◌∷◌, ◌++◌, length, map, sym, ap, subst, ◌∙◌, ◌⊎◌, inl, inr}
 use Rattle.std.specs.Prelude.{slice_get, Vec}
 use Rattle.policy_pick.specs.declared.policy.Policy.{Ghosts}
 use Rattle.worker_run.specs.Bodies.{Pending}
 use Rattle.worker_run.specs.Batch.{is_there}
-use Rattle.worker_run.specs.Batches.{IsThere, Holds, InPlaces, ToldAt, AreSeats, AreTold, AreToldBeside}
+use Rattle.worker_run.specs.Batches.{IsThere, Holds, ToldAt, AreSeats, AreTold, AreToldBeside}
 use Rattle.worker_run.specs.declared.batch.Stage.{Stage}
 use Rattle.worker_run.specs.declared.batch.Crew.{Crew}
 use Rattle.worker_run.specs.declared.batch.Part.{Part}

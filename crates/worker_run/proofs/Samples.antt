@@ -1,6 +1,6 @@
 -- The sample threads name only what there is, and their runs by two lists of change points.
-use Rattle.std.proofs.Common.{◌≡◌, ℕ, zero, suc, ◌<◌, ◌≤◌, ◌&&◌, ℤ, pos, Bool, true, false}
-use Rattle.std.proofs.Common.{List, [], ◌∷◌, map, Some, refl, sym, ◌∙◌, subst, arith}
+use Rattle.std.proofs.Common.{◌≡◌, ℕ, zero, suc, ◌≤◌, ◌&&◌, ℤ, pos, Bool, true, false}
+use Rattle.std.proofs.Common.{List, [], ◌∷◌, map, Some, refl, sym, subst, arith}
 use Rattle.std.specs.List.{list_all}
 use Rattle.std.proofs.lemmas.Bool.{false≢true, ltb-true}
 use Rattle.pct_ask.specs.declared.ask.Ask.{Ask}

@@ -1,17 +1,15 @@
 -- One test of a batch: what a seat has seen of its threads, after calls of the lock and by the end.
-use Rattle.std.proofs.Common.{◌≡◌, ◌≢◌, ℕ, zero, suc, ◌+◌, ◌<◌, ◌≤◌, true, Option, Some, None, List, [], ◌∷◌, length, map, set, refl, sym, ap, subst, ◌∙◌, arith, ◌⊎◌, inl, inr}
+use Rattle.std.proofs.Common.{◌≡◌, ◌≢◌, ℕ, zero, suc, ◌<◌, Option, Some, None, List, [], ◌∷◌, length, set, refl, sym, ap, subst, ◌∙◌, arith, ◌⊎◌, inl, inr}
 use Rattle.std.proofs.lemmas.Bool.{cases_eq}
 use Rattle.std.proofs.lemmas.List.{get_or-set_same, get_or-set_other}
 use Rattle.pct_ask.specs.declared.Deal.{Deal}
 use Rattle.pct_ask.specs.declared.event.Standing.TheVariants.{Ended as HasEnded}
-use Rattle.turn_book.specs.Posts.{source_of}
-use Rattle.turn_book.specs.Obeys.{settled}
 use Rattle.turn_book.specs.Told.{Told, SameMaking, IsLawful, Within, standing_of}
 use Rattle.turn_lock.specs.Seen.{SameOf, ObeysPlan, posted_by}
 use Rattle.turn_lock.specs.Rule.{Serves, first_view}
 use Rattle.turn_lock.specs.Calls.{made, ServesAll}
 use Rattle.turn_lock.specs.declared.view.View.{View}
-use Rattle.turn_lock.proofs.laws.SeenBooks.{within-self, within-along}
+use Rattle.turn_lock.proofs.laws.SeenBooks.{within-along}
 use Rattle.turn_lock.proofs.laws.Standings.{same-owes}
 use Rattle.turn_lock.proofs.laws.FirstThreads.{first-below, first-has}
 use Rattle.worker_run.specs.Bodies.{Pending, pending_of}

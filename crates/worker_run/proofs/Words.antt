@@ -1,5 +1,5 @@
 -- Turns by what is said of them in brief.
-use Rattle.std.proofs.Common.{◌≡◌, ℤ, refl, ap}
+use Rattle.std.proofs.Common.{◌≡◌, ℤ, ap}
 use Rattle.turn_lock.specs.Briefs.{brief}
 use Rattle.turn_lock.specs.declared.brief.Brief.TheVariants as briefs
 use Rattle.turn_lock.specs.declared.turn.Turn.{Turn}

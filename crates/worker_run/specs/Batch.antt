@@ -1,6 +1,6 @@
 -- Tests that run at once, each under a lock of its own (this project).
 use Rattle.std.specs.Prelude.{◌≡◌, ◌<◌, ◌≤◌, ◌⊎◌, ℕ, Bool, true, false, List, [], ◌∷◌, length, map}
-use Rattle.std.specs.Prelude.{Option, Some, slice_get}
+use Rattle.std.specs.Prelude.{Some, slice_get}
 use Rattle.pct_ask.specs.declared.event.Standing.TheVariants.{Ended}
 use Rattle.sync_store.specs.Store.{sizes_of_deal}
 use Rattle.policy_pick.specs.Plan.{SpeaksOf}

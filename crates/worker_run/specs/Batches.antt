@@ -1,6 +1,6 @@
 -- Lists of tests that run at once (this project): their stages, their crews, and the parts of
 -- each place.
-use Rattle.std.specs.Prelude.{◌≡◌, ◌<◌, ◌⊎◌, ℕ, true, List, map, Option, Some, slice_get, Vec}
+use Rattle.std.specs.Prelude.{◌≡◌, ℕ, true, List, map, Some, slice_get, Vec}
 use Rattle.policy_pick.specs.declared.policy.Policy.{Ghosts}
 use Rattle.turn_lock.specs.Rule.{Serves}
 use Rattle.turn_lock.specs.Views.{view}

@@ -68,7 +68,7 @@ fn serve_if<R: Wait, P: Policy, B: Body, G: Gate>(
 }
 
 /// Starts a thread for each place, the last place first. The caller serves the bodies that no
-/// thread could be started for. Then every thread is joined, and its seats are joined to the crews'.
+/// thread could be started for. Then every thread is joined, and its seats to those of the crews.
 #[cycle(teams)]
 pub fn start_places<R: Threads + Wait + Sync, P: Policy, B: Body, G: Gate>(
     rt: &R,

@@ -1,6 +1,5 @@
 -- One more test in a list of tests.
-use Rattle.std.proofs.Common.{◌≡◌, ℕ, Some, List, [], ◌∷◌, ◌++◌, sym, subst, inl, inr}
-use Rattle.std.specs.Prelude.{slice_get}
+use Rattle.std.proofs.Common.{◌≡◌, ℕ, List, [], ◌∷◌, ◌++◌, sym, subst, inl, inr}
 use Rattle.policy_pick.specs.Plan.{Plan}
 use Rattle.worker_run.specs.Bodies.{Pending}
 use Rattle.worker_run.specs.Tests.{IsTest, AreTests}

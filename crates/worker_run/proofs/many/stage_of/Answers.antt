@@ -1,5 +1,5 @@
 use Rattle.std.proofs.Common.{ap}
-use Rattle.worker_run.proofs.Finals.{first-crew-of, first-all}
+use Rattle.worker_run.proofs.Finals.{first-crew-of}
 use Rattle.worker_run.proofs.many.stage_of.Goals as goal
 
 pub returns-clause-crew : goal.returns-clause-crew

@@ -1,4 +1,4 @@
-use Rattle.std.proofs.Common.{ℕ, sym, subst, ◌∙◌}
+use Rattle.std.proofs.Common.{sym, subst, ◌∙◌}
 use Rattle.turn_lock.specs.Calls.{made}
 use Rattle.turn_lock.specs.Views.{view}
 use Rattle.worker_run.specs.Batch.{IsServedPart, IsSeatOf, IsThreadServed}

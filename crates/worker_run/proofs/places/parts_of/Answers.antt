@@ -1,8 +1,8 @@
 use Rattle.std.specs.Prelude.{slice_get}
-use Rattle.std.proofs.Common.{◌≡◌, ◌<◌, ◌≤◌, ◌+◌, ℕ, true, length, vec_len, set, get_or, refl, sym, ap, subst, ◌∙◌, ◌++◌, ◌∷◌, [], List, arith, inl, inr}
+use Rattle.std.proofs.Common.{◌≡◌, ◌<◌, ◌+◌, ℕ, true, length, get_or, refl, sym, ap, subst, ◌∙◌, ◌++◌, ◌∷◌, [], List, arith, inl, inr}
 use Rattle.std.proofs.lemmas.Option.{slice_get-get_or, slice_get_read}
 use Rattle.worker_run.specs.Batch.{IsCrewOf, IsPart, is_there}
-use Rattle.worker_run.specs.Batches.{IsThere, Holds}
+use Rattle.worker_run.specs.Batches.{IsThere}
 use Rattle.worker_run.specs.declared.batch.Part.{Part}
 use Rattle.worker_run.proofs.Eachs.{each-set}
 use Rattle.worker_run.proofs.Loops.{Along, along-more, holds-step, there-old, there-new}

@@ -1,4 +1,4 @@
-use Rattle.std.proofs.Common.{◌≡◌, ℕ, ◌⊎◌}
+use Rattle.std.proofs.Common.{ℕ, ◌⊎◌}
 use Rattle.worker_run.specs.Batch.{IsServedPart}
 use Rattle.worker_run.specs.Batches.{AreCrews, AreParts, IsThere, Holds}
 use Rattle.worker_run.proofs.Loops.{Below}

@@ -1,6 +1,5 @@
 use Rattle.std.specs.Prelude.{slice_get}
-use Rattle.std.proofs.Common.{◌≡◌, List, true, Some, length, map, sym, ap, subst, ◌∙◌, arith}
-use Rattle.worker_run.specs.Batch.{is_there}
+use Rattle.std.proofs.Common.{◌≡◌, List, length, sym, ap, subst, ◌∙◌, arith}
 use Rattle.worker_run.specs.Batches.{AreServedParts, IsThere, ToldAt}
 use Rattle.worker_run.specs.declared.batch.Stage.{Stage}
 use Rattle.worker_run.specs.declared.batch.Crew.{Crew}
