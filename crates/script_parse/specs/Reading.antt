@@ -30,13 +30,16 @@ use Rattle.script_parse.specs.Saying.{form_in}
 
 -- ---- what a form asks of what was read
 
+-- a list without items
 abbrev pub is_empty : {X : Type 0} → List X → Bool
 is_empty xs = length xs == 0
 
+-- the block is an `if` without `else`
 abbrev pub is_if : Opening → Bool
 is_if (If line test) = true
 is_if opening = false
 
+-- the innermost of the open blocks is an `if` without `else`
 abbrev pub is_in_if : List Open → Bool
 is_in_if [] = false
 is_in_if (block ∷ blocks) = is_if block.opening
@@ -60,6 +63,7 @@ abbrev pub place_in : NameLists → Finder → NameKind → List ℕ → Option 
 place_in names find kinds.Thread name = find name
 place_in names find kind name = place_of name (list_of kind names)
 
+-- a name of this kind was declared, a thread on any line of the file
 abbrev pub is_known : NameLists → Finder → NameKind → List ℕ → Bool
 is_known names find kind name = is_some (place_in names find kind name)
 
