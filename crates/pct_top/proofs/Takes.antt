@@ -42,7 +42,7 @@ use Rattle.pct_top.specs.Printed.{Files, Printed, script_bytes, directive_bytes,
 use Rattle.pct_top.specs.Output.{OfTaken, OfCommand}
 use Rattle.pct_top.specs.commands.Find.{plan_of, IsWellFormed, told_found, PrintsFound}
 use Rattle.pct_top.specs.commands.Expose.{TellsExposed, PrintsExposed, OfExpose}
-use Rattle.pct_top.specs.TakenUp.{FindsIn, IsOrderOf, ExposesIn, IsTakenUp, FoundAreTakenUp}
+use Rattle.pct_top.specs.TakenUp.{FindsIn, OrdersTheRun, ExposesIn, IsTakenUp, FoundAreTakenUp}
 use Rattle.pct_top.proofs.Work.{some_same, named_order, named_directive, named_script}
 use Rattle.pct_top.proofs.Refusals.{not_refused}
 
@@ -150,7 +150,7 @@ module _ (taken : Taken) (files : Files) (file : List ℕ) (limit : ℕ) (script
     (deal : Deal) (of : IsDealOf script deal) (spells : Spells (take script_bytes (files file)) script)
     (order : List ℕ) (once : IsOrder order)
     (whole : length order ≡ length (script.names).threads)
-    (ordered : IsOrderOf taken script deal order) (points : List ℕ) (printed : Printed)
+    (ordered : OrdersTheRun taken script deal order) (points : List ℕ) (printed : Printed)
     (status : printed.status ≡ Found) where
   found_up : (found : FoundOut) → Finds deal (bodies_of script) order points limit found
       → IsWellFormed script.names order found → printed ≡ told_found script.names order found

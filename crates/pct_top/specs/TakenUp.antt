@@ -30,13 +30,13 @@ FindsIn (Ok (RunSeed file seed depth steps limit Find)) name most =
 FindsIn taken name most = ⊥
 
 -- the run's order, which the words give or a seed
-abbrev pub IsOrderOf : Taken → ScriptText → Deal → List ℕ → Type 0
-IsOrderOf (Ok (RunOrder file items word points limit report)) script deal order =
+abbrev pub OrdersTheRun : Taken → ScriptText → Deal → List ℕ → Type 0
+OrdersTheRun (Ok (RunOrder file items word points limit report)) script deal order =
     NamesAll script.names items order
-IsOrderOf (Ok (RunSeed file seed depth steps limit report)) script deal order =
+OrdersTheRun (Ok (RunSeed file seed depth steps limit report)) script deal order =
     (k : ℕ) × DrawsFrom script deal limit steps k
     × (order ≡ (drawn seed (length script.names.threads) k depth).order)
-IsOrderOf taken script deal order = ⊥
+OrdersTheRun taken script deal order = ⊥
 
 -- the words ask to expose the directive in another file under the order of these names, for runs of
 -- at most k steps, under this limit
@@ -57,7 +57,7 @@ pub record IsTakenUp (taken : Taken) (files : Files) (file text : List ℕ) (lim
   pub made : List Event
   pub spelled : Spells (take script_bytes (files file)) script
   pub deals : IsDealOf script deal
-  pub ordered : IsOrderOf taken script deal order
+  pub ordered : OrdersTheRun taken script deal order
   pub told : IsDirective text script.names plan
   pub leads :
       directed deal (bodies_of script) order plan.events limit ≡ Some (made, plan.verdict)
