@@ -220,7 +220,7 @@ spin, each of which is explained by itself.
     (
         "cut",
         "\
-cut, a verdict: the run has as many steps as its limit, 10000 where --limit says nothing. Usual
+cut, a verdict: the run would go on beyond its limit, 10000 steps where --limit says nothing. Usual
 cause: a loop that waits for a thread of lower priority. Write the wait as down, wait or join, or as
 a bounded number of looks.
 ",
