@@ -22,7 +22,12 @@ use Rattle.pct_top.specs.declared.settings.WordsError.{WordsError}
 use Rattle.pct_top.specs.Values.{items_of, order_in, within, number_in, step_count, step_counts, points_in, seed_in, depth_in, is_json, pieces_in}
 use Rattle.pct_top.specs.Options.{none, is_new, with_value, next_option, option_named, Given, lawful_or, with_option, without_value, and_then, options_from, one_if, count}
 use Rattle.pct_top.specs.Table.{takes}
-use Rattle.pct_top.specs.Settings.{default_limit, Taken, taken_or, made_of, limit_of, ordered, seeded, run_by, run_with, run_settings, campaign_by, campaign_with, campaign_settings, big_with, big_by, big_settings, replay_with, replay_settings, expose_by, expose_with, expose_settings, certify_with, certify_settings, settings_of, settings_by, settings, ReadsAs, ArePoints, IsDepth, AreLawful}
+use Rattle.pct_top.specs.Settings.{default_limit, Taken, taken_or, made_of, limit_of, ordered}
+use Rattle.pct_top.specs.Settings.{seeded, run_by, run_with, run_settings, campaign_by}
+use Rattle.pct_top.specs.Settings.{campaign_with, campaign_settings, big_with, big_by, big_settings}
+use Rattle.pct_top.specs.Settings.{files_with, MadeOfFiles, made_over, settings_over, replay_with}
+use Rattle.pct_top.specs.Settings.{expose_by, expose_with, certify_with, settings_of, settings_by}
+use Rattle.pct_top.specs.Settings.{settings, ReadsAs, ArePoints, IsDepth, AreLawful}
 
 -- ---- one option
 
@@ -327,6 +332,24 @@ made-lawful make next command first words s lawful is = by (options_from command
     by (Err n) was e = absurd cc
     by (Ok o) was e = taken-lawful next (make o) s (λ t made. lawful o t (all-kept command words none first o at-none was) made) e
 
+-- what a command makes of two files and options is lawful, where the options are in range
+files-lawful : (make : MadeOfFiles) → ((file second : List ℕ) → AreMade (make file second))
+    → (command : Command) (words : List (List ℕ)) (s : Settings)
+    → settings_over command make words ≡ Ok s → AreLawful s
+files-lawful make made command [] s is = absurd cc
+files-lawful make made command (file ∷ []) s is = absurd cc
+files-lawful make made command (file ∷ second ∷ words) s is =
+    made-lawful (make file second) (length words + 4) command 4 words s (made file second)
+    (by (options_from command none 4 words) is)
+  where
+    next : ℕ
+    next = length words + 4
+
+    by : (given : Given) → made_over make (files_with file second next given) ≡ Ok s
+        → made_of (make file second) next given ≡ Ok s
+    by (Err n) e = e
+    by (Ok o) e = e
+
 -- ---- an arm for each command
 
 command-lawful : (command : Command) (words : List (List ℕ)) (s : Settings) → settings_of command words ≡ Ok s → AreLawful s
@@ -340,19 +363,12 @@ command-lawful commands.Big (word ∷ words) s is = by (pieces_in word) refl is
     by : (pieces : Option ℕ) → pieces_in word ≡ pieces → big_by pieces words ≡ Ok s → AreLawful s
     by None was e = absurd cc
     by (Some pieces) was e = made-lawful (big_with pieces) (length words + 3) commands.Big 3 words s (big-made pieces (bounded 1 100 word pieces was)) e
-command-lawful commands.Replay [] s is = absurd cc
-command-lawful commands.Replay (file ∷ []) s is = absurd cc
-command-lawful commands.Replay (file ∷ trace ∷ words) s is = made-lawful (replay_with file trace) (length words + 4) commands.Replay 4 words s (replay-made file trace) is
-command-lawful commands.Expose [] s is = absurd cc
-command-lawful commands.Expose (file ∷ []) s is = absurd cc
-command-lawful commands.Expose (file ∷ directive ∷ words) s is =
-    made-lawful (expose_with file directive) (length words + 4) commands.Expose 4 words s
-    (expose-made file directive) is
-command-lawful commands.Certify [] s is = absurd cc
-command-lawful commands.Certify (file ∷ []) s is = absurd cc
-command-lawful commands.Certify (file ∷ directive ∷ words) s is =
-    made-lawful (certify_with file directive) (length words + 4) commands.Certify 4 words s
-    (certify-made file directive) is
+command-lawful commands.Replay words s is =
+    files-lawful replay_with replay-made commands.Replay words s is
+command-lawful commands.Expose words s is =
+    files-lawful expose_with expose-made commands.Expose words s is
+command-lawful commands.Certify words s is =
+    files-lawful certify_with certify-made commands.Certify words s is
 
 -- what was read of the words of a command keeps to the ranges
 pub reads_lawful : (r : Result Settings WordsError) (command : Command) (words : List (List ℕ)) → ReadsAs r (settings_of command words) → IfOk r AreLawful

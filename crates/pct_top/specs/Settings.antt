@@ -13,6 +13,7 @@ use Rattle.pct_top.specs.declared.settings.Settings.TheVariants.{RunOrder, RunSe
 use Rattle.pct_top.specs.declared.settings.Settings.TheVariants.{Replay, Expose, Certify}
 use Rattle.pct_top.specs.declared.settings.WordsError.{WordsError}
 use Rattle.pct_top.specs.declared.settings.WordsError.TheVariants.{Word, NoMemory}
+use Rattle.pct_top.specs.declared.words.TwoFiles.{TwoFiles}
 use Rattle.pct_top.specs.Table.{command_named}
 use Rattle.pct_top.specs.Values.{pieces_in}
 use Rattle.pct_top.specs.Options.{Given, none, options_from}
@@ -108,20 +109,42 @@ abbrev pub big_settings : List (List ℕ) → Taken
 big_settings [] = Err 2
 big_settings (word ∷ words) = big_by (pieces_in word) words
 
--- ---- a replay
+-- ---- two files
 
--- the replay of the trace in one file over the script in the other, whatever the options
+-- two files and options, or the number of the first word that isn't taken
+abbrev pub FilesTaken : Type 0
+FilesTaken = Result TwoFiles ℕ
+
+-- two files, and the options behind them, after which a word would have this number
+abbrev pub files_with : List ℕ → List ℕ → ℕ → Given → FilesTaken
+files_with file second next (Err number) = Err number
+files_with file second next (Ok o) =
+    Ok (record { file = file; second = second; options = o; next = next })
+
+-- after the command's word: the script's file and a second one, and then options
+abbrev pub two_files : Command → List (List ℕ) → FilesTaken
+two_files command [] = Err 2
+two_files command (file ∷ []) = Err 3
+two_files command (file ∷ second ∷ words) =
+    files_with file second (length words + 4) (options_from command none 4 words)
+
+-- what a command makes of the names of two files and of options; none where an option is missing
+abbrev pub MadeOfFiles : Type 0
+MadeOfFiles = List ℕ → List ℕ → Options → Option Settings
+
+-- the next word is missing where two files and their options make nothing
+abbrev pub made_over : MadeOfFiles → FilesTaken → Taken
+made_over make (Err number) = Err number
+made_over make (Ok given) =
+    taken_or given.next (make given.file given.second given.options)
+
+-- after the word of a command over two files
+abbrev pub settings_over : Command → MadeOfFiles → List (List ℕ) → Taken
+settings_over command make words = made_over make (two_files command words)
+
+-- the replay of the trace in one file over the script in the other; it takes no option
 abbrev pub replay_with : List ℕ → List ℕ → Options → Option Settings
 replay_with file trace o = Some (Replay file trace)
-
--- after `replay`: the script's file and the trace's, and no more, since it takes no option
-abbrev pub replay_settings : List (List ℕ) → Taken
-replay_settings [] = Err 2
-replay_settings (file ∷ []) = Err 3
-replay_settings (file ∷ trace ∷ words) =
-    made_of (replay_with file trace) (length words + 4) (options_from commands.Replay none 4 words)
-
--- ---- a directive
 
 -- the exposing of a directive under this order, for runs of at most so many steps
 abbrev pub expose_by : List ℕ → List ℕ → Options → NamedOrder → ℕ → Settings
@@ -133,26 +156,10 @@ abbrev pub expose_with : List ℕ → List ℕ → Options → Option Settings
 expose_with file directive o =
     option_and_then (λ order. option_map (expose_by file directive o order) o.steps) o.order
 
--- after `expose`: the script's file and the directive's, and then options
-abbrev pub expose_settings : List (List ℕ) → Taken
-expose_settings [] = Err 2
-expose_settings (file ∷ []) = Err 3
-expose_settings (file ∷ directive ∷ words) =
-    made_of (expose_with file directive) (length words + 4)
-    (options_from commands.Expose none 4 words)
-
 -- a number of steps is asked for
 abbrev pub certify_with : List ℕ → List ℕ → Options → Option Settings
 certify_with file directive o =
     option_map (λ steps. Certify file directive steps (limit_of o)) o.steps
-
--- after `certify`: the script's file and the directive's, and then options
-abbrev pub certify_settings : List (List ℕ) → Taken
-certify_settings [] = Err 2
-certify_settings (file ∷ []) = Err 3
-certify_settings (file ∷ directive ∷ words) =
-    made_of (certify_with file directive) (length words + 4)
-    (options_from commands.Certify none 4 words)
 
 -- ---- all words
 
@@ -161,9 +168,9 @@ abbrev pub settings_of : Command → List (List ℕ) → Taken
 settings_of (commands.Run report) words = run_settings report words
 settings_of commands.Campaign words = campaign_settings words
 settings_of commands.Big words = big_settings words
-settings_of commands.Replay words = replay_settings words
-settings_of commands.Expose words = expose_settings words
-settings_of commands.Certify words = certify_settings words
+settings_of commands.Replay words = settings_over commands.Replay replay_with words
+settings_of commands.Expose words = settings_over commands.Expose expose_with words
+settings_of commands.Certify words = settings_over commands.Certify certify_with words
 
 -- what the further words ask of the command that the first one names, if it names one
 abbrev pub settings_by : Option Command → List (List ℕ) → Taken
@@ -174,6 +181,12 @@ settings_by (Some command) words = settings_of command words
 abbrev pub settings : List (List ℕ) → Taken
 settings [] = Err 1
 settings (word ∷ words) = settings_by (command_named word) words
+
+-- what a call cuts off the words of a command are two files and options, want of memory aside
+abbrev pub GivesFiles : Result TwoFiles WordsError → FilesTaken → Type 0
+GivesFiles (Ok given) taken = taken ≡ Ok given
+GivesFiles (Err (Word number)) taken = taken ≡ Err number
+GivesFiles (Err NoMemory) taken = Unit {0}
 
 -- what a call answers is what the words ask for, want of memory aside
 abbrev pub ReadsAs : Result Settings WordsError → Taken → Type 0

@@ -3,7 +3,7 @@
 ghost use Rattle.std.specs.Prelude.{◌≡◌, Ok, IfOk};
 ghost use Rattle.pct_outside.specs.Reading.{texts_of};
 ghost use Rattle.pct_top.specs.Settings as settings;
-ghost use Rattle.pct_top.specs.Settings.{ReadsAs, AreLawful};
+ghost use Rattle.pct_top.specs.Settings.{GivesFiles, ReadsAs, AreLawful};
 
 use crate::command::Command;
 use crate::options::{NamedOrder, Options, options_in};
@@ -100,20 +100,46 @@ fn big_words(alloc: Global, words: &[String]) -> Result<Settings, WordsError>
     Ok(Settings::Big { pieces })
 }
 
-fn replay_words(alloc: Global, words: &[String]) -> Result<Settings, WordsError>
-    ensures { ReadsAs result (settings.replay_settings (texts_of words.now)) }
+/// What the words say of a command over two files.
+#[derive(Drop)]
+struct TwoFiles {
+    /// The script's file.
+    file: Text,
+    /// The file of the trace or the directive.
+    second: Text,
+    options: Options,
+    /// The number of the word that would follow.
+    next: u32,
+}
+
+/// The two files that the words give a command, and the options behind them.
+fn two_files(alloc: Global, command: Command, words: &[String]) -> Result<TwoFiles, WordsError>
+    ensures { GivesFiles result (settings.two_files command (texts_of words.now)) }
 {
     match words {
         [] => Err(WordsError::Word(2)),
         [_] => Err(WordsError::Word(3)),
-        [file, trace, others @ ..] => {
-            options_in(alloc, Command::Replay, 4, others)?;
-            Ok(Settings::Replay {
+        [file, second, others @ ..] => {
+            let (options, next) = options_in(alloc, command, 4, others)?;
+            Ok(TwoFiles {
                 file: Text::copy_of(alloc, file.as_str())?,
-                trace: Text::copy_of(alloc, trace.as_str())?,
+                second: Text::copy_of(alloc, second.as_str())?,
+                options,
+                next,
             })
         }
     }
+}
+
+fn replay_words(alloc: Global, words: &[String]) -> Result<Settings, WordsError>
+    ensures { ReadsAs result
+        (settings.settings_over Command.Replay settings.replay_with (texts_of words.now)) }
+{
+    let given = two_files(alloc, Command::Replay, words)?;
+    Ok(Settings::Replay {
+        file: given.file,
+        trace: given.second,
+    })
 }
 
 /// What is to be exposed of a directive, where the options are all there.
@@ -132,18 +158,11 @@ fn expose_with(file: Text, directive: Text, options: Options) -> Option<Settings
 }
 
 fn expose_words(alloc: Global, words: &[String]) -> Result<Settings, WordsError>
-    ensures { ReadsAs result (settings.expose_settings (texts_of words.now)) }
+    ensures { ReadsAs result
+        (settings.settings_over Command.Expose settings.expose_with (texts_of words.now)) }
 {
-    match words {
-        [] => Err(WordsError::Word(2)),
-        [_] => Err(WordsError::Word(3)),
-        [file, directive, others @ ..] => {
-            let (options, next) = options_in(alloc, Command::Expose, 4, others)?;
-            let file = Text::copy_of(alloc, file.as_str())?;
-            let directive = Text::copy_of(alloc, directive.as_str())?;
-            expose_with(file, directive, options).ok_or(WordsError::Word(next))
-        }
-    }
+    let given = two_files(alloc, Command::Expose, words)?;
+    expose_with(given.file, given.second, given.options).ok_or(WordsError::Word(given.next))
 }
 
 /// What is to be certified of a directive, where the options are all there.
@@ -159,18 +178,11 @@ fn certify_with(file: Text, directive: Text, options: Options) -> Option<Setting
 }
 
 fn certify_words(alloc: Global, words: &[String]) -> Result<Settings, WordsError>
-    ensures { ReadsAs result (settings.certify_settings (texts_of words.now)) }
+    ensures { ReadsAs result
+        (settings.settings_over Command.Certify settings.certify_with (texts_of words.now)) }
 {
-    match words {
-        [] => Err(WordsError::Word(2)),
-        [_] => Err(WordsError::Word(3)),
-        [file, directive, others @ ..] => {
-            let (options, next) = options_in(alloc, Command::Certify, 4, others)?;
-            let file = Text::copy_of(alloc, file.as_str())?;
-            let directive = Text::copy_of(alloc, directive.as_str())?;
-            certify_with(file, directive, options).ok_or(WordsError::Word(next))
-        }
-    }
+    let given = two_files(alloc, Command::Certify, words)?;
+    certify_with(given.file, given.second, given.options).ok_or(WordsError::Word(given.next))
 }
 
 /// What the words after a command's ask for.
