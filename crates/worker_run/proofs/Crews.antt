@@ -6,7 +6,7 @@ use Rattle.std.proofs.lemmas.List.{length-set, get_or-set_same, get_or-set_other
 use Rattle.pct_ask.specs.declared.Deal.{Deal}
 use Rattle.pct_ask.specs.declared.event.Standing.TheVariants.{Ended as HasEnded}
 use Rattle.turn_book.specs.Told.{Told, IsLawful, Within, standing_by, standing_of}
-use Rattle.turn_lock.specs.Seen.{SameOf, ObeysPlan, pairs_of, posted_by, owes_of}
+use Rattle.turn_lock.specs.Seen.{SameOf, pairs_of, posted_by, owes_of}
 use Rattle.turn_lock.specs.Rule.{Serves}
 use Rattle.turn_lock.specs.declared.view.View.{View}
 use Rattle.turn_lock.proofs.laws.Serving.{serves-along}
@@ -15,8 +15,7 @@ use Rattle.turn_lock.proofs.laws.SeenBooks.{within-self, within-along, same-self
 use Rattle.worker_run.specs.Bodies.{Pending}
 use Rattle.worker_run.specs.declared.runner.Runner.{Runner}
 use Rattle.worker_run.specs.Served.{Follows, IsRunning, runner_at, IsCrew, AllOwe, GoesOn, Moves, IsOver, StaysOutside, IsServed}
-use Rattle.worker_run.proofs.Running.{follows-same, running-same}
-use Rattle.worker_run.proofs.laws.RunsOver.{speaks-later, over-later}
+use Rattle.worker_run.proofs.Running.{running-same}
 
 -- ---- the seat goes on
 pub on-self : (v : View) → GoesOn v v
@@ -122,21 +121,6 @@ module _ (start : ℕ → Pending) (v u w : View) (served : IsServed start u w) 
 
 pub same-standing : (t : ℕ) (one other : Told) → SameOf t one other → standing_of other t ≡ standing_of one t
 same-standing t one other same = ap standing_by (ap (λ ps. slice_get ps (length (pairs_of other t))) same.posts ∙ ap (λ (es : List _). slice_get (posted_by one t) (length es)) same.pairs)
-
--- the seat went on afterwards, and its threads did nothing
-pub served-later : (start : ℕ → Pending) (v u w : View) → IsServed start v u → Within u.seen w.seen → ((t : ℕ) → Serves u t → SameOf t u.seen w.seen) → ((t : ℕ) → Serves u t → Serves w t) → ObeysPlan w.seen → StaysOutside v.seen w.seen
-    → IsServed start v w
-served-later start v u w served within own serves obeys outside = record {
-  within = within-along v.seen u.seen w.seen served.within within;
-  serves = λ t here. serves t (served.serves t here);
-  follows = λ t here. follows-same (start t) t u.seen w.seen (own t (served.serves t here)) (served.follows t here);
-  speaks = λ t here. speaks-later u.seen w.seen within (served.speaks t here);
-  outside = outside;
-  done = elim served.done [
-    | inl over ↦ inl (over-later u.seen w.seen within obeys over)
-    | inr ended ↦ inr (λ t here. same-standing t u.seen w.seen (own t (served.serves t here)) ∙ ended t here)
-  ];
-}
 
 -- ---- one runner
 module _ {B : Type 0} (pending : B → Pending) (start : ℕ → Pending) (t : ℕ) (runner : Runner B) (v : View) (own : IsCrew pending start t (Some runner ∷ []) v) where

@@ -2,6 +2,7 @@
 use Rattle.std.proofs.Common.{List}
 use mir.Syntax.{Sym}
 use denote.RattleType.{RattleType}
+use denote.Ref.{NamedLft}
 use denote.Struct.Struct.{Struct}
 use denote.Struct.Declared.{shape}
 use denote.Struct.Tuple.{TupleAt, type_at}
@@ -13,8 +14,8 @@ use Rattle.worker_run.specs.contracts.batch.Stage as stage
 use Rattle.worker_run.specs.contracts.batch.Part as part
 
 module _ (P B : RattleType) (policy : Ghosts P.Denot) (p : IsSend P) (b : IsSend B) where
-  pub stage-sync : IsSync (stage.the_row P B policy)
-  stage-sync = search (sendable, crosses, lock-sync) depth 40 fits 20000
+  pub stage-sync : (κ : NamedLft) → IsSync (stage.the_row κ P B policy)
+  stage-sync κ = search (sendable, crosses, lock-sync) depth 40 fits 20000
 
   pub part-send : IsSend (part.the_row P B policy)
   part-send = search (sendable, crosses, seat-send) depth 40 fits 20000

@@ -46,12 +46,6 @@ get-more (x ∷ xs) y (suc i) z e = elim (get-more xs y i z e) [
   | inr w ↦ inr (ap suc w.0, w.1)
 ]
 
--- an item in its place is changed for another of which something is the same
-pub map-set : {X Y : Type 0} (f : X → Y) (xs : List X) (i : ℕ) (x y : X) → slice_get xs i ≡ Some x → f y ≡ f x → map f (set xs i y) ≡ map f xs
-map-set f [] i x y at same = refl
-map-set f (z ∷ xs) zero x y at same = let is : z ≡ x = cc in ap (λ k. k ∷ map f xs) (same ∙ ap f (sym is))
-map-set f (z ∷ xs) (suc i) x y at same = ap (λ l. f z ∷ l) (map-set f xs i x y at same)
-
 pub get-map : {X Y : Type 0} (f : X → Y) (xs : List X) (i : ℕ) (x : X) → slice_get xs i ≡ Some x → slice_get (map f xs) i ≡ Some (f x)
 get-map f [] i x at = absurd cc
 get-map f (z ∷ xs) zero x at = let is : z ≡ x = cc in ap (λ k. Some (f k)) is
@@ -63,6 +57,27 @@ map-get f (z ∷ xs) zero y at = (z, refl, cc)
 map-get f (z ∷ xs) (suc i) y at = map-get f xs i y at
 
 -- ---- related lists
+-- a list and itself
+pub each-same : {X : Type 0} (R : X → X → Type 0) (xs : List X) → ((x : X) → R x x) → Each R xs xs
+each-same R xs self = record {
+  long = refl;
+  each = λ i x y here there. (let one = one-item xs i x y here there in subst (R x) one (self x));
+}
+
+-- what is the same of related items
+pub map-each : {X Y : Type 0} (f : X → Y) (R : X → X → Type 0) (xs ys : List X)
+    → ((x y : X) → R x y → f y ≡ f x) → Each R xs ys → map f ys ≡ map f xs
+map-each f R [] [] same all = refl
+map-each f R [] (y ∷ ys) same all = absurd (let long = all.long in omega (arith, long))
+map-each f R (x ∷ xs) [] same all = absurd (let long = all.long in omega (arith, long))
+map-each f R (x ∷ xs) (y ∷ ys) same all =
+    let first = same x y (all.each 0 x y refl refl) in
+    let rest = map-each f R xs ys same (record {
+      long = (let long = all.long in omega (arith, long));
+      each = λ i u v here there. all.each (suc i) u v here there;
+    }) in
+    λ i. first i ∷ rest i
+
 module _ {X Y : Type 0} (R : X → Y → Type 0) (xs : List X) (ys : List Y) where
   -- one item is changed for another that is related too
   pub each-set : Each R xs ys → (i : ℕ) (x : X) (y : Y) → i < length ys → slice_get xs i ≡ Some x → R x y → Each R xs (set ys i y)

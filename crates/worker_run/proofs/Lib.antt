@@ -11,6 +11,7 @@ pub mod Eachs
 pub mod Staged
 pub mod Casts
 pub mod Loops
+pub mod Backs
 pub mod Joins
 pub mod Finals
 pub mod Ends

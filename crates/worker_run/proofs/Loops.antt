@@ -7,8 +7,9 @@ use Rattle.policy_pick.specs.declared.policy.Policy.{Ghosts}
 use Rattle.turn_lock.specs.Rule.{Serves}
 use Rattle.turn_lock.specs.Views.{view}
 use Rattle.worker_run.specs.Bodies.{Pending}
-use Rattle.worker_run.specs.Batch.{Each, IsPart, IsServedPart, IsThreadTold, is_there}
-use Rattle.worker_run.specs.Batches.{IsThere, Holds, InPlaces, ToldAt, AreParts, ArePlaces}
+use Rattle.worker_run.specs.Batch.{Each, IsPart, IsServedPart, IsThreadTold, bodies_on, is_there}
+use Rattle.worker_run.specs.Batches.{IsThere, IsRoom, AreRooms, Holds, InPlaces, ToldAt, AreParts}
+use Rattle.worker_run.specs.Batches.{ArePlaces}
 use Rattle.worker_run.specs.declared.batch.Stage.{Stage}
 use Rattle.worker_run.specs.declared.batch.Crew.{Crew}
 use Rattle.worker_run.specs.declared.batch.Part.{Part}
@@ -44,6 +45,11 @@ module _ {X Y : Type 0} (R : X → Y → Type 0) (xs : List X) (ys : List Y) whe
         subst (λ (p : X × Y). R p.0 p.1) (λ j. (first j, w.1 j)) is
   ]
 
+pub along-none : {X Y : Type 0} (R : X → Y → Type 0) (xs : List X) (ys : List Y) → ys ≡ []
+    → Along R xs ys
+along-none R xs ys none i x y here there =
+    absurd (let under = slice_get_within ys i y there in omega (arith, under, ap length none))
+
 -- the places after a change stay as they were
 pub rest-set : {X : Type 0} (first xs : List X) (k : ℕ) (x : X) → ((i : ℕ) → k ≤ i → slice_get xs i ≡ slice_get first i) → (i : ℕ) → k + 1 ≤ i → slice_get (set xs k x) i ≡ slice_get first i
 rest-set first xs k x rest i above = get-set-other xs k i x (λ e. omega (arith, e)) ∙ rest i (omega arith)
@@ -76,17 +82,21 @@ module _ {P : Type 0} {policy : Ghosts P} {B : Type 0} where
     holds-new t here = record { crew = new; at = get-set-same crews k new within; serves = here }
 
     module _ (pending : B → Pending) (stages : List (Stage P B)) (stage : Stage P B) (here : slice_get stages k ≡ Some stage) where
-      pub told-new : (t : ℕ) → IsThreadTold pending stage t (view new.seat) → ToldAt pending stages (set crews k new) k t
+      pub told-new : (t : ℕ) → IsThreadTold (bodies_on pending stage) t (view new.seat)
+          → ToldAt pending stages (set crews k new) k t
       told-new t told s c first second =
           let one : stage ≡ s = one-item stages k stage s here first in
           let other : new ≡ c = one-item (set crews k new) k new c (get-set-same crews k new within) second in
-          let T : Stage P B × Crew P B policy → Type 0 = λ p. IsThreadTold pending p.0 t (view p.1.seat) in
+          let T : Stage P B × Crew P B policy → Type 0 =
+          λ p. IsThreadTold (bodies_on pending p.0) t (view p.1.seat) in
           subst T (λ j. (one j, other j)) told
 
       pub told-other : (i t : ℕ) → i ≢ k → ToldAt pending stages crews i t → ToldAt pending stages (set crews k new) i t
       told-other i t apart was s c first second = was s c first (sym (get-set-other crews k i new apart) ∙ second)
 
-      pub told-kept : ((t : ℕ) → IsThreadTold pending stage t (view crew.seat) → IsThreadTold pending stage t (view new.seat)) → (i t : ℕ) → ToldAt pending stages crews i t → ToldAt pending stages (set crews k new) i t
+      pub told-kept : ((t : ℕ) → IsThreadTold (bodies_on pending stage) t (view crew.seat)
+          → IsThreadTold (bodies_on pending stage) t (view new.seat)) → (i t : ℕ)
+          → ToldAt pending stages crews i t → ToldAt pending stages (set crews k new) i t
       told-kept step i t was = elim (cases_eq i k) [
         | inl same ↦
             let T : ℕ → Type 0 = λ n. ToldAt pending stages (set crews k new) n t in
@@ -120,24 +130,76 @@ module _ {P : Type 0} {policy : Ghosts P} {B : Type 0} where
   pub there-set : (parts : List (Part P B policy)) (k : ℕ) (part : Part P B policy) → k < length parts → is_there part ≡ true → IsThere (set parts k part) k
   there-set parts k part within is = get-map is_there (set parts k part) k part (get-set-same parts k part within) ∙ ap Some is
 
-  -- ---- one more place
-  module _ {A : Type 0} (places : List (Vec (Part P B policy) A)) (parts : Vec (Part P B policy) A) where
-    pub places-more : (pending : B → Pending) (stages : List (Stage P B)) (thread : ℕ) → length places ≡ thread → AreParts pending stages thread parts.items → ArePlaces pending stages places → ArePlaces pending stages (places ++ parts ∷ [])
-    places-more pending stages thread long are all t other at = elim (get-more places parts t other at) [
-      | inl w ↦ all t other w
-      | inr w ↦
+  -- ---- lists with room
+  pub no-rooms : {A : Type 0} (count : ℕ) (rooms : List (Vec (Part P B policy) A)) → rooms ≡ []
+      → AreRooms count rooms
+  no-rooms count rooms none t room at =
+      let under = slice_get_within rooms t room at in absurd (omega (arith, under, ap length none))
+
+  pub rooms-more : {A : Type 0} (count : ℕ) (rooms : List (Vec (Part P B policy) A))
+      (room : Vec (Part P B policy) A)
+      → AreRooms count rooms → IsRoom count room → AreRooms count (rooms ++ room ∷ [])
+  rooms-more {A = A} count rooms room all is t other at = elim (get-more rooms room t other at) [
+    | inl w ↦ all t other w
+    | inr w ↦ let R : Vec (Part P B policy) A → Type 0 = λ x. IsRoom count x in subst R w.1 is
+  ]
+
+  pub nothing-there : (parts : List (Part P B policy)) (i : ℕ) → parts ≡ [] → IsThere parts i → ⊥
+  nothing-there parts i none there =
+      let w = map-get is_there parts i true there in
+      let under = slice_get_within parts i w.0 w.1 in omega (arith, under, ap length none)
+
+  -- ---- one place gets its parts
+  -- below a place, each has its thread's parts
+  abbrev pub ArePlacesBelow : {A : Type 0} → (B → Pending) → List (Stage P B) → ℕ
+      → List (Vec (Part P B policy) A) → Type 0
+  ArePlacesBelow {A} pending stages k places = (t : ℕ) (parts : Vec (Part P B policy) A) → t < k →
+      slice_get places t ≡ Some parts → AreParts pending stages t parts.items
+
+  module _ {A : Type 0} (places : List (Vec (Part P B policy) A)) (k : ℕ) where
+    pub places-below : (pending : B → Pending) (stages : List (Stage P B))
+        (new : Vec (Part P B policy) A) → k < length places → AreParts pending stages k new.items
+        → ArePlacesBelow pending stages k places
+        → ArePlacesBelow pending stages (k + 1) (set places k new)
+    places-below pending stages new within are below t parts under at = elim (cases_eq t k) [
+      | inl same ↦
+          let one : new ≡ parts = one-item (set places k new) k new parts
+          (get-set-same places k new within) (ap (slice_get (set places k new)) (sym same)
+          ∙ at) in
           let F : ℕ × Vec (Part P B policy) A → Type 0 = λ p. AreParts pending stages p.0 p.1.items in
-          let same : thread ≡ t = sym (w.0 ∙ long) in
-          subst F (λ j. (same j, w.1 j)) are
+          subst F (λ j. (sym same j, one j)) are
+      | inr apart ↦ below t parts (omega (arith, apart))
+          (sym (get-set-other places k t new apart) ∙ at)
     ]
 
-    pub placed-old : (i t : ℕ) → InPlaces places i t → InPlaces (places ++ parts ∷ []) i t
-    placed-old i t p = record { parts = p.parts; at = get-more-old places parts t (slice_get_within places t p.parts p.at) ∙ p.at; there = p.there }
+    pub placed-here : (new : Vec (Part P B policy) A) → k < length places → (i t : ℕ) → t ≡ k
+        → IsThere new.items i → InPlaces (set places k new) i t
+    placed-here new within i t is there = record {
+      parts = new;
+      at = ap (slice_get (set places k new)) is ∙ get-set-same places k new within;
+      there = there;
+    }
 
-    pub placed-new : (i t : ℕ) → t ≡ length places → IsThere parts.items i → InPlaces (places ++ parts ∷ []) i t
-    placed-new i t is there = record { parts = parts; at = ap (slice_get (places ++ parts ∷ [])) is ∙ get-more-new places parts; there = there }
+    -- the place was empty
+    pub placed-set : (room new : Vec (Part P B policy) A) → slice_get places k ≡ Some room
+        → room.items ≡ [] → (i t : ℕ) → InPlaces places i t → InPlaces (set places k new) i t
+    placed-set room new at empty i t p = elim (cases_eq t k) [
+      | inl same ↦
+          let one : p.parts ≡ room = one-item places k p.parts room
+          (ap (slice_get places) (sym same) ∙ p.at) at in
+          absurd (nothing-there p.parts.items i
+          (ap (λ (v : Vec (Part P B policy) A). v.items) one ∙ empty) p.there)
+      | inr apart ↦
+          record {
+            parts = p.parts;
+            at = get-set-other places k t new apart ∙ p.at;
+            there = p.there;
+          }
+    ]
 
-    -- and back
+  -- ---- the last place goes
+  module _ {A : Type 0} (places : List (Vec (Part P B policy) A))
+      (parts : Vec (Part P B policy) A) where
     pub places-less : (pending : B → Pending) (stages : List (Stage P B)) → ArePlaces pending stages (places ++ parts ∷ []) → ArePlaces pending stages places
     places-less pending stages all t other at = all t other (get-more-old places parts t (slice_get_within places t other at) ∙ at)
 

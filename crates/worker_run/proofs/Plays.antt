@@ -175,7 +175,7 @@ module _ {B : Type 0} (pending : B → Pending) (bodies : List B) (deal : Deal) 
   pub here-serves : (t : ℕ) → t < length bodies → Serves v t
   here-serves t within = subst (λ (x : View). Serves x t) (sym view_is) (first-has deal.threads t (omega arith))
 
-  here-within : (t : ℕ) → Serves v t → t < length bodies
+  pub here-within : (t : ℕ) → Serves v t → t < length bodies
   here-within t here = let below = first-below deal.threads t (subst (λ (x : View). Serves x t) view_is here) in omega arith
 
   pub here-all : (t : ℕ) → t < made.deal.threads → Serves v t

@@ -1,49 +1,49 @@
 -- One test of a batch: what a seat has seen of its threads, after calls of the lock and by the end.
-use Rattle.std.proofs.Common.{◌≡◌, ◌≢◌, ℕ, zero, suc, ◌<◌, Option, Some, None, List, [], ◌∷◌, length, set, refl, sym, ap, subst, ◌∙◌, arith, ◌⊎◌, inl, inr}
+use Rattle.std.proofs.Common.{◌≡◌, ◌≢◌, ℕ, zero, suc, ◌<◌, Option, Some, None, List, [], ◌∷◌, ◌++◌}
+use Rattle.std.proofs.Common.{length, set, refl, sym, ap, subst, ◌∙◌, arith, ◌⊎◌, inl, inr}
 use Rattle.std.proofs.lemmas.Bool.{cases_eq}
 use Rattle.std.proofs.lemmas.List.{get_or-set_same, get_or-set_other}
 use Rattle.pct_ask.specs.declared.Deal.{Deal}
 use Rattle.pct_ask.specs.declared.event.Standing.TheVariants.{Ended as HasEnded}
-use Rattle.turn_book.specs.Told.{Told, SameMaking, IsLawful, Within, standing_of}
+use Rattle.turn_book.specs.Told.{Told, SameMaking, IsLawful, Within, new_book, standing_of}
 use Rattle.turn_lock.specs.Seen.{SameOf, ObeysPlan, posted_by}
 use Rattle.turn_lock.specs.Rule.{Serves, first_view}
-use Rattle.turn_lock.specs.Calls.{made, ServesAll}
+use Rattle.turn_lock.specs.Calls.{ServesAll}
 use Rattle.turn_lock.specs.declared.view.View.{View}
-use Rattle.turn_lock.proofs.laws.SeenBooks.{within-along}
 use Rattle.turn_lock.proofs.laws.Standings.{same-owes}
 use Rattle.turn_lock.proofs.laws.FirstThreads.{first-below, first-has}
 use Rattle.worker_run.specs.Bodies.{Pending, pending_of}
 use Rattle.worker_run.specs.Played.{HasPlayed}
 use Rattle.worker_run.specs.declared.runner.Runner.{Runner}
-use Rattle.worker_run.specs.declared.batch.Stage.{Stage}
-use Rattle.worker_run.specs.Served.{IsUnposted, IsRunning, runner_at, IsCrew, AllOwe, IsOver, IsServed}
-use Rattle.worker_run.specs.Batch.{bodies_on, IsFrom, IsThreadServed, IsThreadTold}
+use Rattle.worker_run.specs.Served.{IsRunning, runner_at, IsCrew, AllOwe, IsOver, IsServed}
+use Rattle.worker_run.specs.Batch.{NoneOutside, IsThreadServed, IsThreadTold}
 use Rattle.worker_run.proofs.Running.{follows-same, running-same}
 use Rattle.worker_run.proofs.Crews.{same-standing, own-thread}
 use Rattle.worker_run.proofs.laws.RunsOver.{speaks-later, over-later}
 use Rattle.turn_lock.proofs.laws.Serving.{joined-left, joined-right, joined-either}
 use Rattle.worker_run.proofs.Parting.{IsJoin, posts-none}
-use Rattle.worker_run.proofs.Plays.{has-played, joined-outcome}
+use Rattle.worker_run.proofs.Plays.{has-played, new-unposted, joined-outcome}
 
--- ---- what was seen goes on from the first book
-pub from-joined : (first : Told) (a b w : View) → IsFrom first a.seen → IsFrom first b.seen → IsJoin a b w → IsFrom first w.seen
-from-joined first a b w fa fb j = record {
-  within = within-along first a.seen w.seen fa.within j.seen.0;
-  outside = λ t beyond.
-      let one = ap (λ (d : Deal). d.threads) (j.seen.0.making).deal in
-      let other = ap (λ (d : Deal). d.threads) (j.seen.1.making).deal in
-      ap (λ (u : View). posted_by u.seen t) j.is ∙ posts-none (a.seen).posts (b.seen).posts t (fa.outside t (omega (arith, one))) (fb.outside t (omega (arith, other)));
-}
+-- ---- threads that there aren't
+pub outside-joined : (a b w : View) → NoneOutside a.seen → NoneOutside b.seen → IsJoin a b w
+    → NoneOutside w.seen
+outside-joined a b w one other j t beyond =
+    let first = ap (λ (d : Deal). d.threads) (j.seen.0.making).deal in
+    let second = ap (λ (d : Deal). d.threads) (j.seen.1.making).deal in
+    ap (λ (u : View). posted_by u.seen t) j.is
+    ∙ posts-none (a.seen).posts (b.seen).posts t
+    (one t (omega (arith, first))) (other t (omega (arith, second)))
 
-pub from-served : (first : Told) (start : ℕ → Pending) (v w : View) → IsFrom first v.seen → IsServed start v w → IsFrom first w.seen
-from-served first start v w f served = record {
-  within = within-along first v.seen w.seen f.within served.within;
-  outside = λ t beyond. let same = ap (λ (d : Deal). d.threads) ((served.within).making).deal in served.outside t beyond (f.outside t (omega (arith, same)));
-}
+pub outside-served : (start : ℕ → Pending) (v w : View) → NoneOutside v.seen → IsServed start v w
+    → NoneOutside w.seen
+outside-served start v w none served t beyond =
+    let same = ap (λ (d : Deal). d.threads) ((served.within).making).deal in
+    served.outside t beyond (none t (omega (arith, same)))
 
 -- ---- a thread of a seat that was served
-module _ {P : Type 0} {B : Type 0} (pending : B → Pending) (stage : Stage P B) where
-  pub served-thread : (t : ℕ) (v w : View) → IsServed (pending_of (bodies_on pending stage)) v w → Serves v t → IsThreadServed pending stage t w
+module _ (bodies : List Pending) where
+  pub served-thread : (t : ℕ) (v w : View) → IsServed (pending_of bodies) v w → Serves v t
+      → IsThreadServed bodies t w
   served-thread t v w served here = record {
     serves = served.serves t here;
     follows = served.follows t here;
@@ -55,10 +55,11 @@ module _ {P : Type 0} {B : Type 0} (pending : B → Pending) (stage : Stage P B)
   }
 
   -- the seat went on, and the thread did nothing
-  pub thread-later : (t : ℕ) (u w : View) → IsThreadServed pending stage t u → Within u.seen w.seen → SameOf t u.seen w.seen → Serves w t → ObeysPlan w.seen → IsThreadServed pending stage t w
+  pub thread-later : (t : ℕ) (u w : View) → IsThreadServed bodies t u → Within u.seen w.seen
+      → SameOf t u.seen w.seen → Serves w t → ObeysPlan w.seen → IsThreadServed bodies t w
   thread-later t u w served within same here obeys = record {
     serves = here;
-    follows = follows-same (pending_of (bodies_on pending stage) t) t u.seen w.seen same served.follows;
+    follows = follows-same (pending_of bodies t) t u.seen w.seen same served.follows;
     speaks = speaks-later u.seen w.seen within served.speaks;
     done = elim served.done [
       | inl over ↦ inl (over-later u.seen w.seen within obeys over)
@@ -66,21 +67,24 @@ module _ {P : Type 0} {B : Type 0} (pending : B → Pending) (stage : Stage P B)
     ];
   }
 
-  pub told-left : (t : ℕ) (a b w : View) → IsJoin a b w → IsThreadServed pending stage t a → IsThreadTold pending stage t w
+  pub told-left : (t : ℕ) (a b w : View) → IsJoin a b w → IsThreadServed bodies t a
+      → IsThreadTold bodies t w
   told-left t a b w j served = record {
     served = thread-later t a w served j.seen.0 (j.own t served.serves) (joined-left a b w t j.is served.serves) j.obeys;
     obeys = j.obeys;
     told = joined-outcome a b w j.is;
   }
 
-  pub told-right : (t : ℕ) (a b w : View) → IsJoin a b w → IsThreadServed pending stage t b → IsThreadTold pending stage t w
+  pub told-right : (t : ℕ) (a b w : View) → IsJoin a b w → IsThreadServed bodies t b
+      → IsThreadTold bodies t w
   told-right t a b w j served = record {
     served = thread-later t b w served j.seen.1 (j.theirs t served.serves) (joined-right a b w t j.is served.serves) j.obeys;
     obeys = j.obeys;
     told = joined-outcome a b w j.is;
   }
 
-  pub told-crew : (t : ℕ) (v w : View) → IsServed (pending_of (bodies_on pending stage)) v w → IsLawful w.seen → Serves v t → IsThreadTold pending stage t w
+  pub told-crew : (t : ℕ) (v w : View) → IsServed (pending_of bodies) v w → IsLawful w.seen
+      → Serves v t → IsThreadTold bodies t w
   told-crew t v w served lawful here = record { served = served-thread t v w served here; obeys = lawful.obeys; told = lawful.outcome }
 
 -- ---- a part is taken in again
@@ -138,24 +142,37 @@ all-ended seen (suc n) each = elim (all-ended seen n (λ t below. each t (omega 
   ]
 ]
 
-module _ {P : Type 0} {B : Type 0} (pending : B → Pending) (stage : Stage P B) (w : View) (from : IsFrom (made stage.lock) w.seen) (unposted : IsUnposted (made stage.lock))
-    (told : (t : ℕ) → t < (made stage.lock).deal.threads → IsThreadTold pending stage t w) where
-  abbrev first : Told
-  first = made stage.lock
+-- By what a seat of a lock has seen, each thread of the lock's was served.
+module _ (first : Told) (bodies : List Pending) (w : View) (making : SameMaking first w.seen)
+    (none : NoneOutside w.seen)
+    (told : (t : ℕ) → t < first.deal.threads → IsThreadTold bodies t w) where
+  -- a book that was made with the same, in which nothing has happened
+  abbrev blank : Told
+  blank = new_book first.deal first.limit first.plan
 
-  abbrev one : IsThreadTold pending stage 0 w
+  blank-within : Within blank w.seen
+  blank-within = record {
+    making = record { deal = making.deal; limit = making.limit; plan = making.plan };
+    rest = (w.seen).trace;
+    trace = refl;
+    posts = λ t.
+        let no = (new-unposted first.deal first.limit first.plan).posts t in
+        (posted_by w.seen t, ap (λ l. l ++ posted_by w.seen t) (sym no));
+  }
+
+  abbrev one : IsThreadTold bodies 0 w
   one = told 0 (let some = first.deal.some_thread in omega arith)
 
   same : (w.seen).deal.threads ≡ first.deal.threads
-  same = ap (λ (d : Deal). d.threads) ((from.within).making).deal
+  same = ap (λ (d : Deal). d.threads) making.deal
 
-  pub all-served : IsServed (pending_of (bodies_on pending stage)) (first_view first) w
+  all-served : IsServed (pending_of bodies) (first_view blank) w
   all-served = record {
-    within = from.within;
+    within = blank-within;
     serves = λ t here. ((told t (first-below first.deal.threads t here)).served).serves;
     follows = λ t here. ((told t (first-below first.deal.threads t here)).served).follows;
     speaks = λ t here. (one.served).speaks;
-    outside = λ t beyond none. from.outside t beyond;
+    outside = λ t beyond no. none t beyond;
     done = elim (all-ended w.seen first.deal.threads (λ t below. ((told t below).served).done)) [
       | inl over ↦ inl over
       | inr ended ↦ inr (λ t here. ended t (first-below first.deal.threads t here))
@@ -165,5 +182,25 @@ module _ {P : Type 0} {B : Type 0} (pending : B → Pending) (stage : Stage P B)
   pub all-served-threads : ServesAll w
   all-served-threads t within = ((told t (omega (arith, same))).served).serves
 
-  pub all-played : SameMaking first w.seen → HasPlayed first (bodies_on pending stage) w.seen
-  all-played making = has-played first (bodies_on pending stage) (first_view first) w making one.obeys unposted (λ t within. first-has first.deal.threads t within) all-served one.told
+  pub all-played : HasPlayed first bodies w.seen
+  all-played =
+      has-played first bodies (first_view blank) w making one.obeys
+      (new-unposted first.deal first.limit first.plan)
+      (λ t within. first-has first.deal.threads t within) all-served one.told
+
+-- The threads of one seat were told of, and it is joined to a seat that served none of them.
+module _ (first : Told) (bodies : List Pending) (left mine w : View)
+    (making : SameMaking first w.seen)
+    (none : NoneOutside left.seen) (none_too : NoneOutside mine.seen) (j : IsJoin left mine w)
+    (told : (t : ℕ) → t < first.deal.threads → IsThreadTold bodies t mine) where
+  told-after : (t : ℕ) → t < first.deal.threads → IsThreadTold bodies t w
+  told-after t below = told-right bodies t left mine w j (told t below).served
+
+  pub joined-all : ServesAll w
+  joined-all =
+      all-served-threads first bodies w making (outside-joined left mine w none none_too j)
+      told-after
+
+  pub joined-played : HasPlayed first bodies w.seen
+  joined-played =
+      all-played first bodies w making (outside-joined left mine w none none_too j) told-after

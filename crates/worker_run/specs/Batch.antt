@@ -1,21 +1,22 @@
 -- Tests that run at once, each under a lock of its own (this project).
 use Rattle.std.specs.Prelude.{◌≡◌, ◌<◌, ◌≤◌, ◌⊎◌, ℕ, Bool, true, false, List, [], ◌∷◌, length, map}
-use Rattle.std.specs.Prelude.{Some, slice_get}
+use Rattle.std.specs.Prelude.{Option, Some, None, slice_get}
 use Rattle.pct_ask.specs.declared.event.Standing.TheVariants.{Ended}
 use Rattle.sync_store.specs.Store.{sizes_of_deal}
 use Rattle.policy_pick.specs.Plan.{SpeaksOf}
 use Rattle.policy_pick.specs.declared.policy.Policy.{Ghosts}
 use Rattle.turn_book.specs.Posts.{source_of}
 use Rattle.turn_book.specs.Obeys.{settled}
-use Rattle.turn_book.specs.Told.{Told, Within, standing_of}
+use Rattle.turn_book.specs.Told.{Told, standing_of}
 use Rattle.turn_lock.specs.Seen.{ObeysPlan, posted_by}
 use Rattle.turn_lock.specs.Rule.{Serves}
 use Rattle.turn_lock.specs.Calls.{made}
 use Rattle.turn_lock.specs.Views.{view, IsOf}
 use Rattle.turn_lock.specs.declared.view.View.{View}
+use Rattle.turn_lock.specs.declared.held.TurnLock.{TurnLock}
 use Rattle.turn_lock.specs.declared.seat.Seat.{Seat}
-use Rattle.worker_run.specs.Bodies.{Pending, pending_of, AreInRange}
-use Rattle.worker_run.specs.Served.{Follows, IsCrew, AllOwe, IsOver}
+use Rattle.worker_run.specs.Bodies.{Pending, nobody, pending_of, AreInRange}
+use Rattle.worker_run.specs.Served.{Follows, IsCrew, AllOwe, IsOver, IsServed}
 use Rattle.worker_run.specs.declared.runner.Runner.{Runner}
 use Rattle.worker_run.specs.declared.batch.Stage.{Stage}
 use Rattle.worker_run.specs.declared.batch.Crew.{Crew}
@@ -30,57 +31,59 @@ pub record Each {X : Type 0} {Y : Type 0} (R : X → Y → Type 0) (xs : List X)
 
 -- ---- What follows is for this crate's own use.
 
+-- what a place's runner posts, if there is one
+abbrev pub posts_at : {B : Type 0} → (B → Pending) → Option (Runner B) → Pending
+posts_at pending None = nobody
+posts_at pending (Some runner) = pending runner.body
+
 -- what the bodies of a test post
 abbrev pub bodies_on : {P : Type 0} {B : Type 0} → (B → Pending) → Stage P B → List Pending
-bodies_on pending stage = map pending (stage.bodies).value.items
+bodies_on pending stage = map (λ place. posts_at pending place) (stage.runners).value.items
 
 -- a body for each thread, which names only what there is
 pub record IsStage {P : Type 0} {B : Type 0} (pending : B → Pending)
     (stage : Stage P B) : Type 0 where
-  pub in_range : AreInRange (sizes_of_deal (made stage.lock).deal) (bodies_on pending stage)
+  pub in_range : AreInRange (sizes_of_deal (made stage.lock.now).deal) (bodies_on pending stage)
 
--- What was seen goes on from the first book, and threads that there aren't have no posts.
-pub record IsFrom (first now : Told) : Type 0 where
-  pub within : Within first now
-  pub outside : (t : ℕ) → now.deal.threads ≤ t → posted_by now t ≡ []
+-- Threads that there aren't have no posts.
+abbrev pub NoneOutside : Told → Type 0
+NoneOutside seen = (t : ℕ) → seen.deal.threads ≤ t → posted_by seen t ≡ []
 
--- a seat of the test's lock
-pub record IsSeatOf {P : Type 0} {policy : Ghosts P} {B : Type 0} (stage : Stage P B)
+-- a seat of the lock, which has seen no posts of others
+pub record IsSeatOf {P : Type 0} {policy : Ghosts P} (lock : TurnLock P)
     (seat : Seat P policy) : Type 0 where
-  pub of : IsOf stage.lock seat
-  pub from : IsFrom (made stage.lock) (view seat).seen
+  pub of : IsOf lock seat
+  pub outside : NoneOutside (view seat).seen
 
 -- The crew's seat serves the threads that it has runners for, and none has posted.
 pub record IsCrewOf {P : Type 0} {policy : Ghosts P} {B : Type 0} (pending : B → Pending)
     (stage : Stage P B) (crew : Crew P B policy) : Type 0 where
   pub stage_is : IsStage pending stage
-  pub seat_is : IsSeatOf stage crew.seat
+  pub seat_is : IsSeatOf stage.lock.now crew.seat
   pub runs : IsCrew pending (pending_of (bodies_on pending stage)) 0 crew.runners.items
       (view crew.seat)
   pub owe : AllOwe (view crew.seat)
-  pub long : length crew.runners.items ≡ (made stage.lock).deal.threads
+  pub long : length crew.runners.items ≡ (made stage.lock.now).deal.threads
 
 -- a seat for one thread alone, with its runner, that has not posted
 pub record IsWaiting {P : Type 0} {policy : Ghosts P} {B : Type 0} (pending : B → Pending)
     (stage : Stage P B) (t : ℕ) (seat : Seat P policy) (runner : Runner B) : Type 0 where
   pub stage_is : IsStage pending stage
-  pub seat_is : IsSeatOf stage seat
+  pub seat_is : IsSeatOf stage.lock.now seat
   pub runs : IsCrew pending (pending_of (bodies_on pending stage)) t (Some runner ∷ []) (view seat)
   pub owe : AllOwe (view seat)
-  pub below : t < (made stage.lock).deal.threads
+  pub below : t < (made stage.lock.now).deal.threads
 
 -- The thread was served by its body until the run was over or it had ended.
-pub record IsThreadServed {P : Type 0} {B : Type 0} (pending : B → Pending) (stage : Stage P B)
-    (t : ℕ) (v : View) : Type 0 where
+pub record IsThreadServed (bodies : List Pending) (t : ℕ) (v : View) : Type 0 where
   pub serves : Serves v t
-  pub follows : Follows (pending_of (bodies_on pending stage) t) t v.seen
+  pub follows : Follows (pending_of bodies t) t v.seen
   pub speaks : SpeaksOf v.seen.plan v.seen.deal.threads
   pub done : IsOver v.seen ⊎ (standing_of v.seen t ≡ Ended)
 
 -- and what was seen obeys the plan, and says what became of the run
-pub record IsThreadTold {P : Type 0} {B : Type 0} (pending : B → Pending) (stage : Stage P B)
-    (t : ℕ) (v : View) : Type 0 where
-  pub served : IsThreadServed pending stage t v
+pub record IsThreadTold (bodies : List Pending) (t : ℕ) (v : View) : Type 0 where
+  pub served : IsThreadServed bodies t v
   pub obeys : ObeysPlan v.seen
   pub told : v.seen.outcome ≡ settled v.seen.plan v.seen.deal
       (source_of v.seen.posts) v.seen.limit v.seen.trace
@@ -97,7 +100,7 @@ abbrev pub IsServedPart : {P : Type 0} {policy : Ghosts P} {B : Type 0} → (B �
 IsServedPart pending stage t Absent = Unit {0}
 IsServedPart pending stage t (Waiting seat runner) = ⊥
 IsServedPart pending stage t (Served seat) =
-    IsSeatOf stage seat × IsThreadServed pending stage t (view seat)
+    IsSeatOf stage.lock.now seat × IsThreadServed (bodies_on pending stage) t (view seat)
 
 -- or is to be
 abbrev pub IsPart : {P : Type 0} {policy : Ghosts P} {B : Type 0} → (B → Pending) → Stage P B → ℕ
@@ -105,4 +108,22 @@ abbrev pub IsPart : {P : Type 0} {policy : Ghosts P} {B : Type 0} → (B → Pen
 IsPart pending stage t Absent = Unit {0}
 IsPart pending stage t (Waiting seat runner) = IsWaiting pending stage t seat runner
 IsPart pending stage t (Served seat) =
-    IsSeatOf stage seat × IsThreadServed pending stage t (view seat)
+    IsSeatOf stage.lock.now seat × IsThreadServed (bodies_on pending stage) t (view seat)
+
+-- A part that waited was served: its body was, by its seat, and the seat is of the table of which
+-- it was.
+pub record WasServed {P : Type 0} {policy : Ghosts P} {B : Type 0} (pending : B → Pending) (t : ℕ)
+    (before after : Part P B policy) : Type 0 where
+  pub seat : Seat P policy
+  pub runner : Runner B
+  pub back : Seat P policy
+  pub waited : before ≡ Waiting seat runner
+  pub is : after ≡ Served back
+  pub table : back.seat.table_id ≡ seat.seat.table_id
+  pub served : (start : ℕ → Pending) → IsCrew pending start t (Some runner ∷ []) (view seat)
+      → IsServed start (view seat) (view back)
+
+-- a part that comes back from its thread: it is as it was, or was served
+abbrev pub IsBack : {P : Type 0} {policy : Ghosts P} {B : Type 0} → (B → Pending) → ℕ
+    → Part P B policy → Part P B policy → Type 0
+IsBack pending t before after = (after ≡ before) ⊎ WasServed pending t before after

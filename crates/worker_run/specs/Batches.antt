@@ -1,12 +1,12 @@
 -- Lists of tests that run at once (this project): their stages, their crews, and the parts of
 -- each place.
-use Rattle.std.specs.Prelude.{◌≡◌, ℕ, true, List, map, Some, slice_get, Vec}
+use Rattle.std.specs.Prelude.{◌≡◌, ℕ, true, List, [], map, Some, slice_get, Vec, vec_capacity}
 use Rattle.policy_pick.specs.declared.policy.Policy.{Ghosts}
 use Rattle.turn_lock.specs.Rule.{Serves}
 use Rattle.turn_lock.specs.Views.{view}
 use Rattle.worker_run.specs.Bodies.{Pending}
 use Rattle.worker_run.specs.Batch.{Each, IsSeatOf, IsCrewOf, IsPart, IsServedPart, IsThreadTold}
-use Rattle.worker_run.specs.Batch.{is_there}
+use Rattle.worker_run.specs.Batch.{IsBack, bodies_on, is_there}
 use Rattle.worker_run.specs.declared.batch.Stage.{Stage}
 use Rattle.worker_run.specs.declared.batch.Crew.{Crew}
 use Rattle.worker_run.specs.declared.batch.Part.{Part}
@@ -14,7 +14,7 @@ use Rattle.worker_run.specs.declared.batch.Part.{Part}
 module _ {P : Type 0} {policy : Ghosts P} {B : Type 0} where
   -- the seats of the crews are their locks'
   abbrev pub AreSeats : List (Stage P B) → List (Crew P B policy) → Type 0
-  AreSeats stages crews = Each (λ stage crew. IsSeatOf stage crew.seat) stages crews
+  AreSeats stages crews = Each (λ stage crew. IsSeatOf stage.lock.now crew.seat) stages crews
 
   -- each crew is one of its test's
   abbrev pub AreCrews : (B → Pending) → List (Stage P B) → List (Crew P B policy) → Type 0
@@ -28,6 +28,10 @@ module _ {P : Type 0} {policy : Ghosts P} {B : Type 0} where
   abbrev pub AreServedParts : (B → Pending) → List (Stage P B) → ℕ → List (Part P B policy) → Type 0
   AreServedParts pending stages t parts =
       Each (λ stage part. IsServedPart pending stage t part) stages parts
+
+  -- the parts of a thread, and what came back of them
+  abbrev pub AreBack : (B → Pending) → ℕ → List (Part P B policy) → List (Part P B policy) → Type 0
+  AreBack pending t before after = Each (λ one other. IsBack pending t one other) before after
 
   -- the thread's part of test i is there
   abbrev pub IsThere : List (Part P B policy) → ℕ → Type 0
@@ -45,6 +49,16 @@ module _ {P : Type 0} {policy : Ghosts P} {B : Type 0} where
   ArePlaces {A} pending stages places = (t : ℕ) (parts : Vec (Part P B policy) A) →
       slice_get places t ≡ Some parts → AreParts pending stages t parts.items
 
+  -- an empty list, with room for so many parts
+  pub record IsRoom {A : Type 0} (count : ℕ) (room : Vec (Part P B policy) A) : Type 0 where
+    pub empty : room.items ≡ []
+    pub capacity : vec_capacity room ≡ count
+
+  -- lists that each are so
+  abbrev pub AreRooms : {A : Type 0} → ℕ → List (Vec (Part P B policy) A) → Type 0
+  AreRooms {A} count rooms = (t : ℕ) (room : Vec (Part P B policy) A) →
+      slice_get rooms t ≡ Some room → IsRoom count room
+
   -- thread t of test i has its part there
   pub record InPlaces {A : Type 0} (places : List (Vec (Part P B policy) A))
       (i t : ℕ) : Type 0 where
@@ -56,7 +70,7 @@ module _ {P : Type 0} {policy : Ghosts P} {B : Type 0} where
   abbrev pub ToldAt : (B → Pending) → List (Stage P B) → List (Crew P B policy) → ℕ → ℕ → Type 0
   ToldAt pending stages crews i t = (stage : Stage P B) (crew : Crew P B policy)
       → slice_get stages i ≡ Some stage → slice_get crews i ≡ Some crew
-      → IsThreadTold pending stage t (view crew.seat)
+      → IsThreadTold (bodies_on pending stage) t (view crew.seat)
 
   -- The threads that crews held and that had their parts were served, as the crews have seen
   -- afterwards.

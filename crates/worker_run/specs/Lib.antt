@@ -3,8 +3,6 @@ pub mod Run
 pub mod Played
 pub mod Served
 pub mod Samples
-pub mod Handed
 pub mod Batch
 pub mod Batches
 pub mod Tests
-pub mod Casting

@@ -1,15 +1,21 @@
 -- What is asked of a test that is run with others, and what is promised of its run (this project).
-use Rattle.std.specs.Prelude.{◌≡◌, ◌≤◌, ℕ, List, [], length, map, Some, slice_get}
+use Rattle.std.specs.Prelude.{◌≡◌, ◌<◌, ◌≤◌, ℕ, List, [], length, map, Some, slice_get}
 use Rattle.sync_store.specs.Store.{sizes_of_deal}
 use Rattle.rank_now.specs.declared.moment.Moment.{Moment}
 use Rattle.policy_pick.specs.Plan.{Plan, SpeaksOf, ByPoints, ByEvents}
+use Rattle.policy_pick.specs.declared.policy.Policy.{Ghosts}
 use Rattle.turn_book.specs.Told.{new_book}
+use Rattle.turn_lock.specs.Rule.{first_view}
 use Rattle.turn_lock.specs.Calls.{made}
+use Rattle.turn_lock.specs.Views.{view}
+use Rattle.turn_lock.specs.declared.held.TurnLock.{TurnLock}
 use Rattle.worker_run.specs.Bodies.{Pending, AreInRange}
 use Rattle.worker_run.specs.Run.{run, directed}
 use Rattle.worker_run.specs.Played.{IsPlayed, IsRun}
+use Rattle.worker_run.specs.Served.{first_runners}
+use Rattle.worker_run.specs.Batch.{IsThreadTold}
 use Rattle.worker_run.specs.declared.batch.Test.{Test}
-use Rattle.worker_run.specs.declared.batch.Stage.{Stage}
+use Rattle.worker_run.specs.declared.batch.Crew.{Crew}
 use Rattle.worker_run.specs.declared.played.Played.{Played}
 
 module _ {P : Type 0} {B : Type 0} (pending : B → Pending) (plan : P → Plan) where
@@ -44,7 +50,20 @@ module _ {P : Type 0} {B : Type 0} (pending : B → Pending) (plan : P → Plan)
         → IsRun (directed test.deal (bodies_in test) order events test.limit)
         ended.events ended.outcome
 
-  -- the stage is one of the test: its lock was made for it, and its bodies were the test's
-  pub record IsStageOf (test : Test P B) (stage : Stage P B) : Type 0 where
-    pub made_is : made stage.lock ≡ new_book test.deal test.limit (plan test.policy)
-    pub bodies_are : (stage.bodies).value ≡ test.bodies
+  -- the crews have seen that every thread was served
+  abbrev pub AllTold : {policy : Ghosts P} → List (Test P B) → List (Crew P B policy) → Type 0
+  AllTold {policy} tests crews = (i t : ℕ) (test : Test P B) (crew : Crew P B policy)
+      → slice_get tests i ≡ Some test → slice_get crews i ≡ Some crew → t < test.deal.threads
+      → IsThreadTold (bodies_in test) t (view crew.seat)
+
+module _ {P : Type 0} {B : Type 0} (plan : P → Plan) where
+  -- a lock that was made for the test
+  abbrev pub IsLockOf : Test P B → TurnLock P → Type 0
+  IsLockOf test lock = made lock ≡ new_book test.deal test.limit (plan test.policy)
+
+  -- a crew before the first post: it has the first seat of the test's lock, and a new runner for
+  -- each body
+  pub record IsFirstCrew {policy : Ghosts P} (test : Test P B)
+      (crew : Crew P B policy) : Type 0 where
+    pub view_is : view crew.seat ≡ first_view (new_book test.deal test.limit (plan test.policy))
+    pub runners_are : crew.runners.items ≡ first_runners test.bodies.items

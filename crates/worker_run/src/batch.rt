@@ -16,11 +16,11 @@ pub struct Test<P: Policy, B: Body> {
     pub bodies: Vec<B>,
 }
 
-/// The lock of a test that runs, and its bodies as they were at first.
+/// The lock of a test that runs, and the runners of its threads as they were at first.
 #[derive(Drop)]
-pub struct Stage<P: Policy, B: Body> {
-    pub lock: TurnLock<P>,
-    pub bodies: Snapshot<Vec<B>>,
+pub struct Stage<'l, P: Policy, B: Body> {
+    pub lock: &'l TurnLock<P>,
+    pub runners: Snapshot<Vec<Option<Runner<B>>>>,
 }
 
 /// The caller's part of a test: a seat, and the runners of the threads that it serves.

@@ -1,4 +1,4 @@
-// The run on a lent lock.
+// The run on a lent lock: the one-lock case of a batch.
 ghost use Rattle.std.specs.Prelude.{◌≡◌, ◌<◌, ◌≤◌, ◌+◌, ℕ, [], length, map, Some, OnErr, OnOk, IfOk};
 ghost use Rattle.sync_store.specs.Store.{sizes_of_deal};
 ghost use Rattle.turn_lock.specs.Rule.{Serves};
@@ -8,12 +8,15 @@ ghost use Rattle.worker_run.specs.Bodies.{AreInRange};
 ghost use Rattle.worker_run.specs.Played.{HasPlayed};
 ghost use Rattle.worker_run.specs.Served.{IsUnposted, IsWhole, first_runners};
 
+use crate::batch::{Crew, Stage};
+use crate::places::rooms_of;
 use crate::runner::Runner;
-use crate::team::start_all;
+use crate::teams::play_stages;
 use pct_ask::Body;
 use pct_outside::Gate;
 use policy_pick::Policy;
 use std::alloc::{AllocError as NoMemory, Global};
+use std::snapshot::Snapshot;
 use std::sync::Wait;
 use std::thread::Threads;
 use turn_lock::{Seat, TurnLock};
@@ -73,8 +76,20 @@ pub fn run_on<R: Threads + Wait + Sync, P: Policy, B: Body, G: Gate>(
 {
     let threads = bodies.len() as u32;
     let runners = runners_of(alloc, bodies)?;
+    let mut stages = Vec::with_capacity(alloc, 1)?;
+    let mut crews = Vec::with_capacity(alloc, 1)?;
+    let rooms = rooms_of(alloc, 1, threads)?;
+    let first = Snapshot::of(&runners);
+    stages.push_reserved(Stage {
+        lock,
+        runners: first,
+    });
     let all = split_all(lock, seat, threads);
-    let all = start_all(rt, lock, all, runners, threads, gate);
-    lock.join(seat, all);
+    crews.push_reserved(Crew { seat: all, runners });
+    let mut played = play_stages(rt, &stages, crews, rooms, gate);
+    let Some(crew) = played.pop() else {
+        unreachable!()
+    };
+    lock.join(seat, crew.seat);
     Ok(())
 }

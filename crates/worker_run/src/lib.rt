@@ -4,7 +4,6 @@
 mod batch;
 mod by_order;
 mod crew;
-mod done;
 mod lent;
 mod many;
 mod ordered;
@@ -13,7 +12,6 @@ mod places;
 mod played;
 mod run;
 mod runner;
-mod team;
 mod teams;
 
 pub use batch::Test;

@@ -1,18 +1,16 @@
 // Many tests, for which threads are started once.
-ghost use Rattle.std.specs.Prelude.{◌≡◌, ◌<◌, ◌≤◌, ℕ, length, IfOk, vec_len, vec_capacity};
-ghost use Rattle.turn_lock.specs.Rule.{Serves};
-ghost use Rattle.turn_lock.specs.Views.{view};
-ghost use Rattle.worker_run.specs.Batch.{Each, IsCrewOf};
-ghost use Rattle.worker_run.specs.Batches.{AreSeats, AreCrews};
-ghost use Rattle.worker_run.specs.Tests.{IsTest, AreTests, IsRunOf, IsStageOf};
-ghost use Rattle.worker_run.specs.Casting.{AllHeld, AllTold};
+ghost use Rattle.std.specs.Prelude.{◌≡◌, ◌≤◌, length, IfOk, vec_len, vec_capacity};
+ghost use Rattle.turn_lock.specs.Views.{IsOf};
+ghost use Rattle.worker_run.specs.Batch.{Each, IsSeatOf};
+ghost use Rattle.worker_run.specs.Batches.{AreCrews};
+ghost use Rattle.worker_run.specs.Tests.{IsTest, AreTests, IsRunOf, AllTold, IsLockOf, IsFirstCrew};
 
 use crate::batch::{Crew, Stage, Test};
 use crate::lent::runners_of;
-use crate::places::places_of;
+use crate::places::rooms_of;
 use crate::played::Played;
 use crate::run::{finish, new_lock};
-use crate::teams::start_places;
+use crate::teams::play_stages;
 use pct_ask::Body;
 use pct_outside::Gate;
 use policy_pick::Policy;
@@ -20,16 +18,17 @@ use std::alloc::{AllocError as NoMemory, Global};
 use std::snapshot::Snapshot;
 use std::sync::Wait;
 use std::thread::Threads;
+use turn_lock::TurnLock;
 
-/// A test's lock, and its crew, which has all of its threads.
-fn stage_of<P: Policy, B: Body>(
+/// A test's lock, and its crew before the first post, which has all of its threads.
+fn cast_of<P: Policy, B: Body>(
     alloc: Global,
     test: Test<P, B>,
-) -> Result<(Stage<P, B>, Crew<P, B>), NoMemory>
+) -> Result<(TurnLock<P>, Crew<P, B>), NoMemory>
     requires test { IsTest B.pending P.plan P.stands test }
-    ensures stage { IfOk result (λ r. IsStageOf B.pending P.plan test r.0) }
-    ensures crew { IfOk result (λ r. IsCrewOf B.pending r.0 r.1) }
-    ensures all { IfOk result (λ r. (t : ℕ) → t < test.deal.threads → Serves (view r.1.seat) t) }
+    ensures lock { IfOk result (λ r. IsLockOf P.plan test r.0) }
+    ensures crew { IfOk result (λ r. IsFirstCrew P.plan test r.1) }
+    ensures of { IfOk result (λ r. IsOf r.0 r.1.seat) }
 {
     let Test {
         deal,
@@ -37,39 +36,55 @@ fn stage_of<P: Policy, B: Body>(
         limit,
         bodies,
     } = test;
-    let first = Snapshot::of(&bodies);
     let (lock, seat) = new_lock(alloc, deal, policy, limit)?;
     let runners = runners_of(alloc, bodies)?;
-    let stage = Stage {
-        lock,
-        bodies: first,
-    };
-    Ok((stage, Crew { seat, runners }))
+    Ok((lock, Crew { seat, runners }))
 }
 
 /// The locks and crews of all tests.
-fn stages_of<P: Policy, B: Body>(
+fn casts_of<P: Policy, B: Body>(
     alloc: Global,
     tests: Vec<Test<P, B>>,
-) -> Result<(Vec<Stage<P, B>>, Vec<Crew<P, B>>), NoMemory>
+) -> Result<(Vec<TurnLock<P>>, Vec<Crew<P, B>>), NoMemory>
     requires tests { AreTests B.pending P.plan P.stands tests.items }
-    ensures stages { IfOk result (λ r. Each (IsStageOf B.pending P.plan) tests.items r.0.items) }
-    ensures crews { IfOk result (λ r. AreCrews B.pending r.0.items r.1.items) }
-    ensures all { IfOk result (λ r. AllHeld tests.items r.1.items) }
+    ensures locks { IfOk result (λ r. Each (IsLockOf P.plan) tests.items r.0.items) }
+    ensures crews { IfOk result (λ r. Each (IsFirstCrew P.plan) tests.items r.1.items) }
+    ensures of { IfOk result (λ r. Each (λ lock crew. IsOf lock crew.seat) r.0.items r.1.items) }
 {
-    let mut stages = Vec::with_capacity(alloc, tests.len())?;
+    let mut locks = Vec::with_capacity(alloc, tests.len())?;
     let mut crews = Vec::with_capacity(alloc, tests.len())?;
     for test in tests {
-        let (stage, crew) = stage_of(alloc, test)?;
-        stages.push(stage)?;
+        let (lock, crew) = cast_of(alloc, test)?;
+        locks.push(lock)?;
         crews.push(crew)?;
     }
-    Ok((stages, crews))
+    Ok((locks, crews))
+}
+
+/// A stage on each lock, for the crew of its place.
+fn stages_of<'l, P: Policy, B: Body>(
+    alloc: Global,
+    locks: &'l [TurnLock<P>],
+    crews: &[Crew<P, B>],
+) -> Result<Vec<Stage<'l, P, B>>, NoMemory>
+    requires { length crews.now ≡ length locks.now }
+    ensures locks { IfOk result (λ stages.
+        Each (λ lock stage. stage.lock.now ≡ lock) locks.now stages.items) }
+    ensures crews { IfOk result (λ stages.
+        Each (λ crew stage. stage.runners.value ≡ crew.runners) crews.now stages.items) }
+{
+    let mut stages = Vec::with_capacity(alloc, locks.len())?;
+    for place in 0..locks.len() {
+        let runners = Snapshot::of(&crews[place].runners);
+        let lock = &locks[place];
+        stages.push_reserved(Stage { lock, runners });
+    }
+    Ok(stages)
 }
 
 /// The most threads that a test has.
 fn most_threads<P: Policy, B: Body>(stages: &[Stage<P, B>], crews: &[Crew<P, B>]) -> u32
-    requires { AreCrews B.pending stages.now crews.now }
+    requires crews { AreCrews B.pending stages.now crews.now }
     ensures { result ≤ 64 }
 {
     let mut most = 0;
@@ -79,27 +94,52 @@ fn most_threads<P: Policy, B: Body>(stages: &[Stage<P, B>], crews: &[Crew<P, B>]
     most as u32
 }
 
+/// Plays the tests on their locks, whose crews have all of their threads.
+fn play_tests<R: Threads + Wait + Sync, P: Policy, B: Body, G: Gate>(
+    rt: &R,
+    alloc: Global,
+    tests: &Snapshot<Vec<Test<P, B>>>,
+    locks: &[TurnLock<P>],
+    crews: Vec<Crew<P, B>>,
+    gate: &G,
+) -> Result<Vec<Crew<P, B>>, NoMemory>
+    requires tests { AreTests B.pending P.plan P.stands tests.now.value.items }
+    requires locks { Each (IsLockOf P.plan) tests.now.value.items locks.now }
+    requires crews { Each (IsFirstCrew P.plan) tests.now.value.items crews.items }
+    requires of { Each (λ lock crew. IsOf lock crew.seat) locks.now crews.items }
+    ensures seats { IfOk result (λ after.
+        Each (λ lock crew. IsSeatOf lock crew.seat) locks.now after.items) }
+    ensures told { IfOk result (λ after.
+        AllTold B.pending P.plan tests.now.value.items after.items) }
+{
+    let _ = tests; // which the clauses name
+    let stages = stages_of(alloc, locks, crews.as_slice())?;
+    let most = most_threads(stages.as_slice(), crews.as_slice());
+    let rooms = rooms_of(alloc, stages.len(), most)?;
+    Ok(play_stages(rt, &stages, crews, rooms, gate))
+}
+
 /// The runs of all tests, whose seats have seen that their threads were served.
 fn runs_of<P: Policy, B: Body>(
     tests: Snapshot<Vec<Test<P, B>>>,
-    stages: Vec<Stage<P, B>>,
+    locks: Vec<TurnLock<P>>,
     crews: Vec<Crew<P, B>>,
     mut runs: Vec<Played>,
 ) -> Vec<Played>
     requires tests { AreTests B.pending P.plan P.stands tests.value.items }
-    requires stages { Each (IsStageOf B.pending P.plan) tests.value.items stages.items }
-    requires seats { AreSeats stages.items crews.items }
-    requires told { AllTold B.pending tests.value.items stages.items crews.items }
+    requires locks { Each (IsLockOf P.plan) tests.value.items locks.items }
+    requires seats { Each (λ lock crew. IsSeatOf lock crew.seat) locks.items crews.items }
+    requires told { AllTold B.pending P.plan tests.value.items crews.items }
     requires none { vec_len runs ≡ 0 }
-    requires room { vec_capacity runs ≡ length stages.items }
+    requires room { vec_capacity runs ≡ length locks.items }
     ensures { Each (IsRunOf B.pending P.plan) tests.value.items result.items }
 {
     let mut others = crews.into_iter();
-    for stage in stages {
+    for lock in locks {
         let Some(crew) = others.next() else {
             unreachable!()
         };
-        runs.push_reserved(finish(stage.lock, crew.seat));
+        runs.push_reserved(finish(lock, crew.seat));
     }
     runs
 }
@@ -119,9 +159,7 @@ pub fn run_many<R: Threads + Wait + Sync, P: Policy, B: Body, G: Gate>(
 {
     let runs = Vec::with_capacity(alloc, tests.len())?;
     let first = Snapshot::of(&tests);
-    let (stages, mut crews) = stages_of(alloc, tests)?;
-    let most = most_threads(stages.as_slice(), crews.as_slice());
-    let places = places_of(alloc, stages.as_slice(), crews.as_mut_slice(), most)?;
-    let crews = start_places(rt, &stages, crews, places, gate);
-    Ok(runs_of(first, stages, crews, runs))
+    let (locks, crews) = casts_of(alloc, tests)?;
+    let crews = play_tests(rt, alloc, &first, locks.as_slice(), crews, gate)?;
+    Ok(runs_of(first, locks, crews, runs))
 }

@@ -1,18 +1,23 @@
 // One test of a batch: its parts are taken off its crew, served, and joined to it again.
-ghost use Rattle.std.specs.Prelude.{◌≡◌, ◌⊎◌, ℕ, true};
+ghost use Rattle.std.specs.Prelude.{◌≡◌, ◌⊎◌, ℕ, ◌∷◌, [], true, Some};
+ghost use Rattle.sync_store.specs.Store.{sizes_of_deal};
 ghost use Rattle.turn_lock.specs.Rule.{Serves};
-ghost use Rattle.turn_lock.specs.Views.{view};
+ghost use Rattle.turn_lock.specs.Calls.{made};
+ghost use Rattle.turn_lock.specs.Views.{view, IsOf};
+ghost use Rattle.worker_run.specs.Bodies.{Pending};
+ghost use Rattle.worker_run.specs.Served.{IsCrew, HasCrew, AllOwe, IsServed};
 ghost use Rattle.worker_run.specs.Batch.{IsSeatOf, IsCrewOf, IsPart, IsServedPart};
-ghost use Rattle.worker_run.specs.Batch.{IsThreadTold, is_there};
+ghost use Rattle.worker_run.specs.Batch.{IsBack, IsThreadTold, bodies_on, is_there};
 
 use crate::batch::{Crew, Part, Stage};
 use crate::crew::serve_all;
-use crate::team::serve;
+use crate::runner::Runner;
 use pct_ask::Body;
 use pct_outside::Gate;
 use policy_pick::Policy;
 use std::mem;
 use std::sync::Wait;
+use turn_lock::{Brief, Seat, TurnLock};
 
 /// Takes a thread's part off a test's crew, if the test has the thread.
 pub fn part_of<P: Policy, B: Body>(
@@ -35,6 +40,40 @@ pub fn part_of<P: Policy, B: Body>(
     }
 }
 
+/// Serves the one body until it has ended or the run is over.
+fn serve<R: Wait, P: Policy, B: Body, G: Gate>(
+    rt: &R,
+    lock: &TurnLock<P>,
+    mut seat: Seat<P>,
+    thread: u32,
+    mut runner: Runner<B>,
+    gate: &G,
+) -> Seat<P>
+    requires of { IsOf lock.now seat }
+    requires crew { HasCrew (sizes_of_deal (made lock.now).deal) B.pending thread
+        (Some runner ∷ []) (view seat) }
+    requires owe { AllOwe (view seat) }
+    ensures of { IsOf lock.now result }
+    ensures served { (start : ℕ → Pending)
+        → IsCrew B.pending start thread (Some runner ∷ []) (view seat)
+        → IsServed start (view seat) (view result) }
+{
+    if runner.speak(rt, lock, &mut seat, thread, gate) {
+        return seat;
+    }
+    for _ in rt.forever() {
+        let (_, words) = lock.turn_brief(rt, &mut seat);
+        let Brief::Answer(value) = words else {
+            return seat;
+        };
+        runner.hear(value);
+        if runner.speak(rt, lock, &mut seat, thread, gate) {
+            return seat;
+        }
+    }
+    unreachable!()
+}
+
 /// Serves a thread's part, unless that was done.
 pub fn serve_part<R: Wait, P: Policy, B: Body, G: Gate>(
     rt: &R,
@@ -45,12 +84,12 @@ pub fn serve_part<R: Wait, P: Policy, B: Body, G: Gate>(
 )
     requires part { IsPart B.pending stage.now thread part.old }
     ensures served { IsServedPart B.pending stage.now thread part.new }
-    ensures there { is_there part.new ≡ is_there part.old }
+    ensures back { IsBack B.pending thread part.old part.new }
 {
     match mem::replace(part, Part::Absent) {
         Part::Absent => {}
         Part::Waiting(seat, runner) => {
-            *part = Part::Served(serve(rt, &stage.lock, seat, thread, runner, gate));
+            *part = Part::Served(serve(rt, stage.lock, seat, thread, runner, gate));
         }
         Part::Served(seat) => *part = Part::Served(seat),
     }
@@ -87,13 +126,14 @@ pub fn join_part<P: Policy, B: Body>(
     crew: &mut Crew<P, B>,
     part: &mut Part<P, B>,
 )
-    requires seat { IsSeatOf stage.now crew.old.seat }
+    requires seat { IsSeatOf stage.now.lock.now crew.old.seat }
     requires part { (t : ℕ) × IsServedPart B.pending stage.now t part.old }
-    ensures seat { IsSeatOf stage.now crew.new.seat }
-    ensures kept { (t : ℕ) → IsThreadTold B.pending stage.now t (view crew.old.seat)
-        → IsThreadTold B.pending stage.now t (view crew.new.seat) }
+    ensures seat { IsSeatOf stage.now.lock.now crew.new.seat }
+    ensures kept { (t : ℕ) → IsThreadTold (bodies_on B.pending stage.now) t (view crew.old.seat)
+        → IsThreadTold (bodies_on B.pending stage.now) t (view crew.new.seat) }
     ensures joined { (t : ℕ) → IsServedPart B.pending stage.now t part.old
-        → is_there part.old ≡ true → IsThreadTold B.pending stage.now t (view crew.new.seat) }
+        → is_there part.old ≡ true
+        → IsThreadTold (bodies_on B.pending stage.now) t (view crew.new.seat) }
 {
     if let Part::Served(seat) = mem::replace(part, Part::Absent) {
         stage.lock.join(&mut crew.seat, seat);
@@ -108,13 +148,13 @@ pub fn serve_crew<R: Wait, P: Policy, B: Body, G: Gate>(
     gate: &G,
 )
     requires crew { IsCrewOf B.pending stage.now crew.old }
-    ensures seat { IsSeatOf stage.now crew.new.seat }
+    ensures seat { IsSeatOf stage.now.lock.now crew.new.seat }
     ensures told { (t : ℕ) → Serves (view crew.old.seat) t
-        → IsThreadTold B.pending stage.now t (view crew.new.seat) }
+        → IsThreadTold (bodies_on B.pending stage.now) t (view crew.new.seat) }
 {
     serve_all(
         rt,
-        &stage.lock,
+        stage.lock,
         &mut crew.seat,
         crew.runners.as_mut_slice(),
         gate,

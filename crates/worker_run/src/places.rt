@@ -1,8 +1,8 @@
 // The tests of a batch, one after another.
-ghost use Rattle.std.specs.Prelude.{◌≡◌, ◌<◌, ◌≤◌, ◌⊎◌, ℕ, true, map, length, IfOk};
-ghost use Rattle.worker_run.specs.Batch.{is_there};
+ghost use Rattle.std.specs.Prelude.{◌≡◌, ◌≤◌, ◌⊎◌, ℕ, length, IfOk};
 ghost use Rattle.worker_run.specs.Batches.{AreSeats, AreCrews, AreParts, AreServedParts};
-ghost use Rattle.worker_run.specs.Batches.{ArePlaces, IsThere, Holds, InPlaces, ToldAt};
+ghost use Rattle.worker_run.specs.Batches.{ArePlaces, IsRoom, AreRooms, IsThere, AreBack, Holds};
+ghost use Rattle.worker_run.specs.Batches.{InPlaces, ToldAt};
 
 use crate::batch::{Crew, Part, Stage};
 use crate::parts::{join_part, part_of, serve_crew, serve_part, take_part};
@@ -12,45 +12,60 @@ use policy_pick::Policy;
 use std::alloc::{AllocError as NoMemory, Global};
 use std::sync::Wait;
 
-/// Takes a thread's parts off the crews of all tests.
-pub fn parts_of<P: Policy, B: Body>(
+/// A list for each of so many threads, with room for its part of each of so many tests.
+pub fn rooms_of<P: Policy, B: Body>(
     alloc: Global,
+    tests: usize,
+    threads: u32,
+) -> Result<Vec<Vec<Part<P, B>>>, NoMemory>
+    ensures long { IfOk result (λ rooms. length rooms.items ≡ threads) }
+    ensures rooms { IfOk result (λ rooms. AreRooms tests rooms.items) }
+{
+    let mut rooms = Vec::with_capacity(alloc, threads as usize)?;
+    for _thread in 0..threads {
+        let room = Vec::with_capacity(alloc, tests)?;
+        rooms.push_reserved(room);
+    }
+    Ok(rooms)
+}
+
+/// Takes a thread's parts off the crews of all tests, into a list with room for them.
+fn fill_parts<P: Policy, B: Body>(
     stages: &[Stage<P, B>],
     crews: &mut [Crew<P, B>],
+    parts: &mut Vec<Part<P, B>>,
     thread: u32,
-) -> Result<Vec<Part<P, B>>, NoMemory>
+)
     requires crews { AreCrews B.pending stages.now crews.old }
+    requires room { IsRoom (length stages.now) parts.old }
     ensures crews { AreCrews B.pending stages.now crews.new }
-    ensures parts { IfOk result (λ parts. AreParts B.pending stages.now thread parts.items) }
-    ensures shared { IfOk result (λ parts. (i t : ℕ) → Holds crews.old i t
-        → Holds crews.new i t ⊎ ((t ≡ thread) × IsThere parts.items i)) }
+    ensures parts { AreParts B.pending stages.now thread parts.new.items }
+    ensures shared { (i t : ℕ) → Holds crews.old i t
+        → Holds crews.new i t ⊎ ((t ≡ thread) × IsThere parts.new.items i) }
 {
-    let mut parts = Vec::with_capacity(alloc, stages.len())?;
     for place in 0..stages.len() {
         parts.push_reserved(part_of(&stages[place], &mut crews[place], thread));
     }
-    Ok(parts)
 }
 
-/// Takes the parts of the first threads off the crews, one list for each thread.
-pub fn places_of<P: Policy, B: Body>(
-    alloc: Global,
+/// Takes the parts of the first threads off the crews, into a list for each thread.
+pub fn fill_places<P: Policy, B: Body>(
     stages: &[Stage<P, B>],
     crews: &mut [Crew<P, B>],
-    most: u32,
-) -> Result<Vec<Vec<Part<P, B>>>, NoMemory>
+    places: &mut [Vec<Part<P, B>>],
+)
     requires crews { AreCrews B.pending stages.now crews.old }
-    ensures long { IfOk result (λ places. length places.items ≡ most) }
-    ensures crews { IfOk result (λ places. AreCrews B.pending stages.now crews.new) }
-    ensures places { IfOk result (λ places. ArePlaces B.pending stages.now places.items) }
-    ensures shared { IfOk result (λ places. (i t : ℕ) → Holds crews.old i t
-        → Holds crews.new i t ⊎ InPlaces places.items i t) }
+    requires rooms { AreRooms (length stages.now) places.old }
+    requires few { length places.old ≤ 64 }
+    ensures long { length places.new ≡ length places.old }
+    ensures crews { AreCrews B.pending stages.now crews.new }
+    ensures places { ArePlaces B.pending stages.now places.new }
+    ensures shared { (i t : ℕ) → Holds crews.old i t
+        → Holds crews.new i t ⊎ InPlaces places.new i t }
 {
-    let mut places = Vec::with_capacity(alloc, most as usize)?;
-    for thread in 0..most {
-        places.push_reserved(parts_of(alloc, stages, crews, thread)?);
+    for thread in 0..places.len() {
+        fill_parts(stages, crews, &mut places[thread], thread as u32);
     }
-    Ok(places)
 }
 
 /// Serves a thread's parts of all tests, the first test's first.
@@ -63,7 +78,7 @@ pub fn serve_parts<R: Wait, P: Policy, B: Body, G: Gate>(
 )
     requires parts { AreParts B.pending stages.now thread parts.old }
     ensures served { AreServedParts B.pending stages.now thread parts.new }
-    ensures there { map is_there parts.new ≡ map is_there parts.old }
+    ensures back { AreBack B.pending thread parts.old parts.new }
 {
     for place in 0..stages.len() {
         serve_part(rt, &stages[place], &mut parts[place], thread, gate);

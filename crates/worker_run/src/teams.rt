@@ -1,12 +1,11 @@
 // Each thread of a batch serves its body of the first test, then that of the second, and so on.
-ghost use Rattle.std.specs.Prelude.{◌≡◌, ◌≤◌, ℕ, map, length};
+ghost use Rattle.std.specs.Prelude.{◌≡◌, ◌≤◌, ℕ, length};
 ghost use Rattle.std.specs.Thread.{IsSync};
-ghost use Rattle.worker_run.specs.Batch.{is_there};
-ghost use Rattle.worker_run.specs.Batches.{AreCrews, AreParts, ArePlaces, AreSeats, IsThere};
-ghost use Rattle.worker_run.specs.Batches.{AreTold, AreToldBeside, ToldAt};
+ghost use Rattle.worker_run.specs.Batches.{AreCrews, AreParts, ArePlaces, AreRooms, AreSeats};
+ghost use Rattle.worker_run.specs.Batches.{AreBack, AreTold, AreToldBeside, Holds, IsThere, ToldAt};
 
 use crate::batch::{Crew, Part, Stage};
-use crate::places::{join_parts, serve_crews, serve_parts, take_parts};
+use crate::places::{fill_places, join_parts, serve_crews, serve_parts, take_parts};
 use pct_ask::Body;
 use pct_outside::Gate;
 use policy_pick::Policy;
@@ -19,19 +18,16 @@ use std::thread::{Promise, Threads};
 /// What a thread was given.
 #[derive(Drop)]
 struct GivenParts<P: Policy, B: Body> {
-    stages: Snapshot<Vec<Stage<P, B>>>,
     parts: Snapshot<Vec<Part<P, B>>>,
     thread: u32,
 }
 
 impl<P: Policy, B: Body> GivenParts<P, B> {
-    fn of(stages: &Vec<Stage<P, B>>, parts: &Vec<Part<P, B>>, thread: u32) -> GivenParts<P, B>
-        ensures stages { result.stages.value ≡ stages.now }
+    fn of(parts: &Vec<Part<P, B>>, thread: u32) -> GivenParts<P, B>
         ensures parts { result.parts.value ≡ parts.now }
         ensures thread { result.thread ≡ thread }
     {
         GivenParts {
-            stages: Snapshot::of(stages),
             parts: Snapshot::of(parts),
             thread,
         }
@@ -39,13 +35,10 @@ impl<P: Policy, B: Body> GivenParts<P, B> {
 }
 
 impl<P: Policy, B: Body> Promise<Vec<Part<P, B>>> for GivenParts<P, B> {
-    ghost use Rattle.std.specs.Prelude.{◌≡◌, map};
-    ghost use Rattle.worker_run.specs.Batch.{is_there};
-    ghost use Rattle.worker_run.specs.Batches.{AreParts};
+    ghost use Rattle.worker_run.specs.Batches.{AreBack};
 
     ghost kept_by = { λ given parts.
-        AreParts B.pending given.stages.value.items given.thread parts.items
-        × (map is_there parts.items ≡ map is_there given.parts.value.items) };
+        AreBack B.pending given.thread given.parts.value.items parts.items };
 }
 
 /// What a thread does. It gives its parts back as they are where it isn't to go.
@@ -58,8 +51,7 @@ fn serve_if<R: Wait, P: Policy, B: Body, G: Gate>(
     gate: &G,
 ) -> Vec<Part<P, B>>
     requires { AreParts B.pending stages.now.items thread parts.items }
-    ensures parts { AreParts B.pending stages.now.items thread result.items }
-    ensures there { map is_there result.items ≡ map is_there parts.items }
+    ensures { AreBack B.pending thread parts.items result.items }
 {
     if goes.load(Ordering::SeqCst) {
         serve_parts(rt, stages.as_slice(), parts.as_mut_slice(), thread, gate);
@@ -67,10 +59,35 @@ fn serve_if<R: Wait, P: Policy, B: Body, G: Gate>(
     parts
 }
 
+/// Plays the tests of the stages, which no thread has begun. A thread is started for each room, and
+/// serves its body of the first test, then that of the second, and so on. The caller serves the
+/// bodies that no thread could be started for. Afterwards the crews have seen that all were served.
+pub fn play_stages<R: Threads + Wait + Sync, P: Policy, B: Body, G: Gate>(
+    rt: &R,
+    stages: &Vec<Stage<P, B>>,
+    mut crews: Vec<Crew<P, B>>,
+    mut rooms: Vec<Vec<Part<P, B>>>,
+    gate: &G,
+) -> Vec<Crew<P, B>>
+    requires crews { AreCrews B.pending stages.now.items crews.items }
+    requires rooms { AreRooms (length stages.now.items) rooms.items }
+    requires few { length rooms.items ≤ 64 }
+    ensures seats { AreSeats stages.now.items result.items }
+    ensures told { (i t : ℕ) → Holds crews.items i t
+        → ToldAt B.pending stages.now.items result.items i t }
+{
+    fill_places(
+        stages.as_slice(),
+        crews.as_mut_slice(),
+        rooms.as_mut_slice(),
+    );
+    start_places(rt, stages, crews, rooms, gate)
+}
+
 /// Starts a thread for each place, the last place first. The caller serves the bodies that no
 /// thread could be started for. Then every thread is joined, and its seats to those of the crews.
 #[cycle(teams)]
-pub fn start_places<R: Threads + Wait + Sync, P: Policy, B: Body, G: Gate>(
+fn start_places<R: Threads + Wait + Sync, P: Policy, B: Body, G: Gate>(
     rt: &R,
     stages: &Vec<Stage<P, B>>,
     mut crews: Vec<Crew<P, B>>,
@@ -125,11 +142,10 @@ fn start_place<R: Threads + Wait + Sync, P: Policy, B: Body, G: Gate>(
             ensures { AreToldBeside B.pending stages.entry.now.items crews.items places.items
                 thread parts.items result.items }
         {
-            let promise = GivenParts::of(stages, &parts, thread);
+            let promise = GivenParts::of(&parts, thread);
             let work = move || -> Vec<Part<P, B>>
                 requires { AreParts B.pending stages.now.items thread parts.items }
-                ensures { AreParts B.pending stages.entry.now.items thread result.items
-                    × (map is_there result.items ≡ map is_there parts.items) }
+                ensures { AreBack B.pending thread parts.items result.items }
             { serve_if(rt, stages, goes, parts, thread, gate) };
             match scope.spawn_with(promise, work) {
                 Ok(child) => {

@@ -10,9 +10,9 @@ loop-place-preserved g c =
     let crews = c.args.crews.now in
     let crew = get_or crews k c.index-crews-place.result in
     let found = get-within c.args.stages.now k c.loop-place-test.true in
-    let within : k < length crews = omega (arith, c.loop-place-test.true, c.requires.long) in
+    let within : k < length crews = omega (arith, c.loop-place-test.true, c.requires.crews.long) in
     let at = slice_get-get_or crews k c.index-crews-place.result within in
-    let long = (c.requires.each k found.0 crew found.1 at).long in
-    let few = (made found.0.lock).deal.few_threads in
+    let long = (c.requires.crews.each k found.0 crew found.1 at).long in
+    let few = (made found.0.lock.now).deal.few_threads in
     let most = c.loop-place.invariant in
     omega (arith, c.max-most.ensures, c.len.ensures, crew.runners.ok.0, long)

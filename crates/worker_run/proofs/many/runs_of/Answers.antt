@@ -3,8 +3,7 @@ use Rattle.std.specs.Prelude.{slice_get}
 use Rattle.std.specs.Vec.Iter.{into_iter_items}
 use Rattle.std.proofs.lemmas.List.{length-append}
 use Rattle.std.proofs.lemmas.Option.{slice_get_within}
-use Rattle.worker_run.specs.Batch.{bodies_on}
-use Rattle.worker_run.specs.Tests.{IsRunOf}
+use Rattle.worker_run.specs.Tests.{bodies_in, IsRunOf}
 use Rattle.worker_run.specs.declared.played.Played.{Played}
 use Rattle.worker_run.proofs.Eachs.{get-middle, get-within}
 use Rattle.worker_run.proofs.Loops.{Along, along-more}
@@ -13,86 +12,136 @@ use Rattle.worker_run.proofs.many.runs_of.Goals as goal
 
 pub finish-requires-clause-of : goal.finish-requires-clause-of
 finish-requires-clause-of g c = λ κs lives.
-    let at = c.loop-stage in
+    let at = c.loop-lock in
     let i = at.invariant in
-    let stage = c.in-Some.stage in
+    let lock = c.in-Some.lock in
     let crew = c.in-Some-next.crew in
-    let steps : into_iter_items at.stage-iterator ≡ stage ∷ into_iter_items c.next.new.self = c.in-Some.ensures.steps.0 in
-    let whole = ap (λ l. at.yielded ++ l) (sym steps) ∙ i.stages ∙ c.into_iter-stage-iterator.ensures.into_iter_gives.0 in
-    let at_stage = ap (λ l. slice_get l (length at.yielded)) (sym whole) ∙ get-middle at.yielded stage (into_iter_items c.next.new.self) in
-    let csteps : into_iter_items at.others ≡ crew ∷ into_iter_items c.next-in-loop-stage.new.self = c.in-Some-next.ensures.items in
+    let steps : into_iter_items at.lock-iterator ≡ lock ∷ into_iter_items c.next.new.self =
+    c.in-Some.ensures.steps.0 in
+    let whole = ap (λ l. at.yielded ++ l) (sym steps) ∙ i.locks
+    ∙ c.into_iter-lock-iterator.ensures.into_iter_gives.0 in
+    let at_lock = ap (λ l. slice_get l (length at.yielded)) (sym whole)
+    ∙ get-middle at.yielded lock (into_iter_items c.next.new.self) in
+    let csteps : into_iter_items at.others ≡ crew ∷ into_iter_items c.next-in-loop-lock.new.self =
+    c.in-Some-next.ensures.items in
     let cwhole = ap (λ l. i.crews.0 ++ l) (sym csteps) ∙ i.crews.1 in
-    let at_crew = ap (λ n. slice_get c.args.crews.items n) (sym i.crews.2) ∙ ap (λ l. slice_get l (length i.crews.0)) (sym cwhole) ∙ get-middle i.crews.0 crew (into_iter_items c.next-in-loop-stage.new.self) in
-    (c.requires.seats.each (length at.yielded) stage crew at_stage at_crew).of
+    let at_crew = ap (λ n. slice_get c.args.crews.items n) (sym i.crews.2)
+    ∙ ap (λ l. slice_get l (length i.crews.0)) (sym cwhole)
+    ∙ get-middle i.crews.0 crew (into_iter_items c.next-in-loop-lock.new.self) in
+    (c.requires.seats.each (length at.yielded) lock crew at_lock at_crew).of
 
 pub finish-requires-clause-all : goal.finish-requires-clause-all
 finish-requires-clause-all g c = λ κs lives.
-    let at = c.loop-stage in
+    let at = c.loop-lock in
     let i = at.invariant in
     let k = length at.yielded in
-    let stage = c.in-Some.stage in
+    let lock = c.in-Some.lock in
     let crew = c.in-Some-next.crew in
-    let steps : into_iter_items at.stage-iterator ≡ stage ∷ into_iter_items c.next.new.self = c.in-Some.ensures.steps.0 in
-    let whole = ap (λ l. at.yielded ++ l) (sym steps) ∙ i.stages ∙ c.into_iter-stage-iterator.ensures.into_iter_gives.0 in
-    let at_stage = ap (λ l. slice_get l k) (sym whole) ∙ get-middle at.yielded stage (into_iter_items c.next.new.self) in
-    let csteps : into_iter_items at.others ≡ crew ∷ into_iter_items c.next-in-loop-stage.new.self = c.in-Some-next.ensures.items in
+    let steps : into_iter_items at.lock-iterator ≡ lock ∷ into_iter_items c.next.new.self =
+    c.in-Some.ensures.steps.0 in
+    let whole = ap (λ l. at.yielded ++ l) (sym steps) ∙ i.locks
+    ∙ c.into_iter-lock-iterator.ensures.into_iter_gives.0 in
+    let at_lock = ap (λ l. slice_get l k) (sym whole)
+    ∙ get-middle at.yielded lock (into_iter_items c.next.new.self) in
+    let csteps : into_iter_items at.others ≡ crew ∷ into_iter_items c.next-in-loop-lock.new.self =
+    c.in-Some-next.ensures.items in
     let cwhole = ap (λ l. i.crews.0 ++ l) (sym csteps) ∙ i.crews.1 in
-    let at_crew = ap (λ n. slice_get c.args.crews.items n) (sym i.crews.2) ∙ ap (λ l. slice_get l (length i.crews.0)) (sym cwhole) ∙ get-middle i.crews.0 crew (into_iter_items c.next-in-loop-stage.new.self) in
-    let found = get-within c.args.tests.value.items k (let under = slice_get_within c.args.stages.items k stage at_stage in omega (arith, under, c.requires.stages.long)) in
-    let seat = c.requires.seats.each k stage crew at_stage at_crew in
-    ends-all g.B.Body.pending g.P.Policy.plan g.P.Policy.stands found.0 (c.requires.tests k found.0 found.1) stage crew (c.requires.stages.each k found.0 stage found.1 at_stage) seat (λ t below. c.requires.told k t found.0 found.1 below stage crew at_stage at_crew)
+    let at_crew = ap (λ n. slice_get c.args.crews.items n) (sym i.crews.2)
+    ∙ ap (λ l. slice_get l (length i.crews.0)) (sym cwhole)
+    ∙ get-middle i.crews.0 crew (into_iter_items c.next-in-loop-lock.new.self) in
+    let found = get-within c.args.tests.value.items k
+    (let under = slice_get_within c.args.locks.items k lock at_lock in
+    omega (arith, under, c.requires.locks.long)) in
+    let seat = c.requires.seats.each k lock crew at_lock at_crew in
+    ends-all g.B.Body.pending g.P.Policy.plan g.P.Policy.stands found.0
+    (c.requires.tests k found.0 found.1) lock crew
+    (c.requires.locks.each k found.0 lock found.1 at_lock) seat
+    (λ t below. c.requires.told k t found.0 crew found.1 at_crew below)
 
 pub finish-requires-clause-played : goal.finish-requires-clause-played
 finish-requires-clause-played g c = λ κs lives.
-    let at = c.loop-stage in
+    let at = c.loop-lock in
     let i = at.invariant in
     let k = length at.yielded in
-    let stage = c.in-Some.stage in
+    let lock = c.in-Some.lock in
     let crew = c.in-Some-next.crew in
-    let steps : into_iter_items at.stage-iterator ≡ stage ∷ into_iter_items c.next.new.self = c.in-Some.ensures.steps.0 in
-    let whole = ap (λ l. at.yielded ++ l) (sym steps) ∙ i.stages ∙ c.into_iter-stage-iterator.ensures.into_iter_gives.0 in
-    let at_stage = ap (λ l. slice_get l k) (sym whole) ∙ get-middle at.yielded stage (into_iter_items c.next.new.self) in
-    let csteps : into_iter_items at.others ≡ crew ∷ into_iter_items c.next-in-loop-stage.new.self = c.in-Some-next.ensures.items in
+    let steps : into_iter_items at.lock-iterator ≡ lock ∷ into_iter_items c.next.new.self =
+    c.in-Some.ensures.steps.0 in
+    let whole = ap (λ l. at.yielded ++ l) (sym steps) ∙ i.locks
+    ∙ c.into_iter-lock-iterator.ensures.into_iter_gives.0 in
+    let at_lock = ap (λ l. slice_get l k) (sym whole)
+    ∙ get-middle at.yielded lock (into_iter_items c.next.new.self) in
+    let csteps : into_iter_items at.others ≡ crew ∷ into_iter_items c.next-in-loop-lock.new.self =
+    c.in-Some-next.ensures.items in
     let cwhole = ap (λ l. i.crews.0 ++ l) (sym csteps) ∙ i.crews.1 in
-    let at_crew = ap (λ n. slice_get c.args.crews.items n) (sym i.crews.2) ∙ ap (λ l. slice_get l (length i.crews.0)) (sym cwhole) ∙ get-middle i.crews.0 crew (into_iter_items c.next-in-loop-stage.new.self) in
-    let found = get-within c.args.tests.value.items k (let under = slice_get_within c.args.stages.items k stage at_stage in omega (arith, under, c.requires.stages.long)) in
-    let seat = c.requires.seats.each k stage crew at_stage at_crew in
-    (bodies_on g.B.Body.pending stage, ends-played g.B.Body.pending g.P.Policy.plan g.P.Policy.stands found.0 (c.requires.tests k found.0 found.1) stage crew (c.requires.stages.each k found.0 stage found.1 at_stage) seat (λ t below. c.requires.told k t found.0 found.1 below stage crew at_stage at_crew))
+    let at_crew = ap (λ n. slice_get c.args.crews.items n) (sym i.crews.2)
+    ∙ ap (λ l. slice_get l (length i.crews.0)) (sym cwhole)
+    ∙ get-middle i.crews.0 crew (into_iter_items c.next-in-loop-lock.new.self) in
+    let found = get-within c.args.tests.value.items k
+    (let under = slice_get_within c.args.locks.items k lock at_lock in
+    omega (arith, under, c.requires.locks.long)) in
+    let seat = c.requires.seats.each k lock crew at_lock at_crew in (
+      bodies_in g.B.Body.pending g.P.Policy.plan found.0,
+      ends-played g.B.Body.pending g.P.Policy.plan g.P.Policy.stands found.0
+          (c.requires.tests k found.0 found.1) lock crew
+          (c.requires.locks.each k found.0 lock found.1 at_lock) seat
+          (λ t below. c.requires.told k t found.0 crew found.1 at_crew below),
+    )
 
-pub loop-stage-preserved : goal.loop-stage-preserved
-loop-stage-preserved g c =
+pub loop-lock-preserved : goal.loop-lock-preserved
+loop-lock-preserved g c =
     let f = g.B.Body.pending in
     let plan = g.P.Policy.plan in
-    let at = c.loop-stage in
+    let at = c.loop-lock in
     let i = at.invariant in
     let k = length at.yielded in
-    let stage = c.in-Some.stage in
+    let lock = c.in-Some.lock in
     let crew = c.in-Some-next.crew in
     let rest = into_iter_items c.next.new.self in
-    let others = into_iter_items c.next-in-loop-stage.new.self in
-    let steps : into_iter_items at.stage-iterator ≡ stage ∷ rest = c.in-Some.ensures.steps.0 in
-    let whole = ap (λ l. at.yielded ++ l) (sym steps) ∙ i.stages ∙ c.into_iter-stage-iterator.ensures.into_iter_gives.0 in
-    let at_stage = ap (λ l. slice_get l k) (sym whole) ∙ get-middle at.yielded stage rest in
+    let others = into_iter_items c.next-in-loop-lock.new.self in
+    let steps : into_iter_items at.lock-iterator ≡ lock ∷ rest = c.in-Some.ensures.steps.0 in
+    let whole = ap (λ l. at.yielded ++ l) (sym steps) ∙ i.locks
+    ∙ c.into_iter-lock-iterator.ensures.into_iter_gives.0 in
+    let at_lock = ap (λ l. slice_get l k) (sym whole) ∙ get-middle at.yielded lock rest in
     let csteps : into_iter_items at.others ≡ crew ∷ others = c.in-Some-next.ensures.items in
     let cwhole = ap (λ l. i.crews.0 ++ l) (sym csteps) ∙ i.crews.1 in
     let at_crew = ap (λ n. slice_get c.args.crews.items n) (sym i.crews.2) ∙ ap (λ l. slice_get l (length i.crews.0)) (sym cwhole) ∙ get-middle i.crews.0 crew others in
     let tests = c.args.tests.value.items in
-    let found = get-within tests k (let under = slice_get_within c.args.stages.items k stage at_stage in omega (arith, under, c.requires.stages.long)) in
+    let found =
+    get-within tests k (let under = slice_get_within c.args.locks.items k lock at_lock in
+    omega (arith, under, c.requires.locks.long)) in
     let test = found.0 in
-    let seat = c.requires.seats.each k stage crew at_stage at_crew in
+    let seat = c.requires.seats.each k lock crew at_lock at_crew in
     let asked = c.requires.tests k test found.1 in
-    let is = c.requires.stages.each k test stage found.1 at_stage in
-    let told : (t : ℕ) → t < test.deal.threads → _ = λ t below. c.requires.told k t test found.1 below stage crew at_stage at_crew in
-    let played = ends-played f plan g.P.Policy.stands test asked stage crew is seat told in
-    let run = ends-run f plan g.P.Policy.stands test asked stage crew is seat told c.finish.result (c.finish.ensures (bodies_on f stage) played) in
+    let is = c.requires.locks.each k test lock found.1 at_lock in
+    let told : (t : ℕ) → t < test.deal.threads → _ =
+    λ t below. c.requires.told k t test crew found.1 at_crew below in
+    let played = ends-played f plan g.P.Policy.stands test asked lock crew is seat told in
+    let run = ends-run f plan g.P.Policy.stands test asked lock crew is seat told c.finish.result
+    (c.finish.ensures (bodies_in f plan test) played) in
     let runs = at.runs.items in
     let long : k ≡ length runs = omega (arith, i.long, at.runs.ok.0) in
     let R : List Played → Type 0 = λ l. Along (IsRunOf f plan) tests l in
     record {
-      stages = append_assoc at.yielded (stage ∷ []) rest ∙ ap (λ l. at.yielded ++ l) (sym steps) ∙ i.stages;
+      locks = append_assoc at.yielded (lock ∷ []) rest ∙ ap (λ l. at.yielded ++ l) (sym steps)
+          ∙ i.locks;
       left = (let was = i.left in let gone = c.in-Some.ensures.steps.1 in let short = ap length steps in omega arith);
-      crews = (i.crews.0 ++ crew ∷ [], append_assoc i.crews.0 (crew ∷ []) others ∙ cwhole, omega (arith, i.crews.2, length-append i.crews.0 (crew ∷ []), length-append at.yielded (stage ∷ [])));
-      long = omega (arith, c.push_reserved.ensures.len, i.long, length-append at.yielded (stage ∷ []));
+      crews = (
+        i.crews.0 ++ crew ∷ [],
+        append_assoc i.crews.0 (crew ∷ []) others ∙ cwhole,
+        omega (
+          arith,
+          i.crews.2,
+          length-append i.crews.0 (crew ∷ []),
+          length-append at.yielded (lock ∷ []),
+        ),
+      );
+      long = omega (
+        arith,
+        c.push_reserved.ensures.len,
+        i.long,
+        length-append at.yielded (lock ∷ []),
+      );
       room = c.push_reserved.ensures.capacity ∙ i.room;
       runs = subst R (sym c.push_reserved.ensures.items) (along-more (IsRunOf f plan) tests runs test c.finish.result (ap (λ n. slice_get tests n) (sym long) ∙ found.1) run i.runs);
     }

@@ -6,13 +6,13 @@ use Rattle.worker_run.specs.declared.batch.Crew.{Crew}
 use Rattle.worker_run.proofs.Loops.{Along}
 use Rattle.worker_run.proofs.many.runs_of.Given as goal
 
--- of the stages so far
-abbrev pub invariant-loop-stage : goal.invariant-loop-stage
-invariant-loop-stage g l = record {
-  stages : l.yielded ++ into_iter_items l.stage-iterator ≡ into_iter_items l.initial.stage-iterator;
-  left : into_iter_len l.stage-iterator ≡ length (into_iter_items l.stage-iterator);
+-- of the locks so far
+abbrev pub invariant-loop-lock : goal.invariant-loop-lock
+invariant-loop-lock g l = record {
+  locks : l.yielded ++ into_iter_items l.lock-iterator ≡ into_iter_items l.initial.lock-iterator;
+  left : into_iter_len l.lock-iterator ≡ length (into_iter_items l.lock-iterator);
   crews : (done : List (Crew g.row.P.Denot g.row.B.Denot g.P.Policy)) × (done ++ into_iter_items l.others ≡ l.fn.crews.items) × (length done ≡ length l.yielded);
   long : vec_len l.runs ≡ length l.yielded;
-  room : vec_capacity l.runs ≡ length l.fn.stages.items;
+  room : vec_capacity l.runs ≡ length l.fn.locks.items;
   runs : Along (IsRunOf g.B.Body.pending g.P.Policy.plan) l.tests.value.items l.runs.items;
 }

@@ -5,7 +5,7 @@ use Rattle.worker_run.specs.Bodies.{pending_of}
 use Rattle.worker_run.specs.Served.{IsCrew}
 use Rattle.worker_run.specs.Batch.{bodies_on}
 use Rattle.worker_run.specs.declared.runner.Runner.{Runner}
-use Rattle.worker_run.proofs.Staged.{from-served, told-crew}
+use Rattle.worker_run.proofs.Staged.{outside-served, told-crew}
 use Rattle.worker_run.proofs.parts.serve_crew.Goals as goal
 
 pub serve_all-requires-clause-crew : goal.serve_all-requires-clause-crew
@@ -16,7 +16,9 @@ serve_all-requires-clause-crew g c = λ κs lives.
     (start, c.requires.crew.stage_is.in_range, subst C (sym c.as_mut_slice.ensures.value) c.requires.crew.runs)
 
 pub serve_all-requires-clause-few : goal.serve_all-requires-clause-few
-serve_all-requires-clause-few g c = λ κs lives. let few = (made c.args.stage.now.lock).deal.few_threads in omega (arith, ap length c.as_mut_slice.ensures.value, c.requires.crew.long)
+serve_all-requires-clause-few g c = λ κs lives.
+    let few = (made c.args.stage.now.lock.now).deal.few_threads in
+    omega (arith, ap length c.as_mut_slice.ensures.value, c.requires.crew.long)
 
 pub returns-clause-seat : goal.returns-clause-seat
 returns-clause-seat g c =
@@ -24,7 +26,12 @@ returns-clause-seat g c =
     let start = pending_of (bodies_on f c.args.stage.now) in
     let C : List (Option (Runner g.row.B.Denot)) → Type 0 = λ l. IsCrew f start 0 l (view c.args.crew.now.seat) in
     let crew = subst C (sym c.as_mut_slice.ensures.value) c.requires.crew.runs in
-    record { of = c.serve_all.ensures.of; from = from-served (made c.args.stage.now.lock) start (view c.args.crew.now.seat) (view c.serve_all.new.seat) c.requires.crew.seat_is.from (c.serve_all.ensures.served start crew) }
+    record {
+      of = c.serve_all.ensures.of;
+      outside =
+          outside-served start (view c.args.crew.now.seat) (view c.serve_all.new.seat)
+          c.requires.crew.seat_is.outside (c.serve_all.ensures.served start crew);
+    }
 
 pub returns-clause-told : goal.returns-clause-told
 returns-clause-told g c = λ t here.
@@ -32,4 +39,6 @@ returns-clause-told g c = λ t here.
     let start = pending_of (bodies_on f c.args.stage.now) in
     let C : List (Option (Runner g.row.B.Denot)) → Type 0 = λ l. IsCrew f start 0 l (view c.args.crew.now.seat) in
     let crew = subst C (sym c.as_mut_slice.ensures.value) c.requires.crew.runs in
-    told-crew f c.args.stage.now t (view c.args.crew.now.seat) (view c.serve_all.new.seat) (c.serve_all.ensures.served start crew) (c.serve_all.ensures.lawful t here) here
+    told-crew (bodies_on f c.args.stage.now) t (view c.args.crew.now.seat)
+    (view c.serve_all.new.seat) (c.serve_all.ensures.served start crew)
+    (c.serve_all.ensures.lawful t here) here

@@ -1,11 +1,10 @@
-use Rattle.std.proofs.Common.{sym, subst, ◌∙◌}
-use Rattle.turn_lock.specs.Calls.{made}
+use Rattle.std.proofs.Common.{refl, sym, subst, ◌∙◌, inl, inr}
 use Rattle.turn_lock.specs.Views.{view}
 use Rattle.worker_run.specs.Bodies.{pending_of}
 use Rattle.worker_run.specs.Batch.{bodies_on, IsPart, IsWaiting}
 use Rattle.worker_run.specs.declared.batch.Part.{Part}
 use Rattle.worker_run.proofs.Crews.{own-serves}
-use Rattle.worker_run.proofs.Staged.{from-served, served-thread}
+use Rattle.worker_run.proofs.Staged.{outside-served, served-thread}
 use Rattle.worker_run.proofs.parts.serve_part.Goals as goal
 
 pub serve-requires-clause-of : goal.serve-requires-clause-of
@@ -41,5 +40,37 @@ returns-in-Waiting-clause-served g c =
     let w = view c.serve.result in
     let I : Part g.row.P.Denot g.row.B.Denot g.P.Policy → Type 0 = λ p. IsPart f stage c.args.thread p in
     let waits : IsWaiting f stage c.args.thread c.in-Waiting.seat c.in-Waiting.runner = subst I (sym c.replace.ensures.value ∙ c.in-Waiting.is) c.requires.part in
-    let served = c.serve.ensures.served.served start waits.runs in
-    (record { of = c.serve.ensures.of; from = from-served (made stage.lock) start v w waits.seat_is.from served }, served-thread f stage c.args.thread v w served (own-serves f start c.args.thread c.in-Waiting.runner v waits.runs))
+    let served = c.serve.ensures.served start waits.runs in (
+      record {
+        of = c.serve.ensures.of;
+        outside = outside-served start v w waits.seat_is.outside served;
+      },
+      served-thread (bodies_on f stage) c.args.thread v w served
+          (own-serves f start c.args.thread c.in-Waiting.runner v waits.runs),
+    )
+
+pub returns-in-Waiting-clause-back : goal.returns-in-Waiting-clause-back
+returns-in-Waiting-clause-back g c =
+    let f = g.B.Body.pending in
+    let stage = c.args.stage.now in
+    let I : Part g.row.P.Denot g.row.B.Denot g.P.Policy → Type 0 =
+    λ p. IsPart f stage c.args.thread p in
+    let before = sym c.replace.ensures.value ∙ c.in-Waiting.is in
+    let waits : IsWaiting f stage c.args.thread c.in-Waiting.seat c.in-Waiting.runner =
+    subst I before c.requires.part in
+    inr (record {
+      seat = c.in-Waiting.seat;
+      runner = c.in-Waiting.runner;
+      back = c.serve.result;
+      waited = before;
+      is = refl;
+      table = c.serve.ensures.of.0 ∙ sym (waits.seat_is).of.0;
+      served = c.serve.ensures.served;
+    })
+
+pub returns-in-Absent-clause-back : goal.returns-in-Absent-clause-back
+returns-in-Absent-clause-back g c =
+    inl (c.replace.ensures.after ∙ sym (sym c.replace.ensures.value ∙ c.in-Absent.is))
+
+pub returns-in-Served-clause-back : goal.returns-in-Served-clause-back
+returns-in-Served-clause-back g c = inl (sym (sym c.replace.ensures.value ∙ c.in-Served.is))

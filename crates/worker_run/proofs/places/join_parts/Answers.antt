@@ -65,7 +65,8 @@ loop-place-preserved g c =
     let at_first = sym (i.rest k (omega arith)) ∙ at_part in
     let s = c.join_part.ensures in
     record {
-      seats = each-set (λ s w. IsSeatOf s w.seat) stages crews i.seats k stage new_crew in_crews here s.seat;
+      seats = each-set (λ s w. IsSeatOf s.lock.now w.seat) stages crews i.seats k stage new_crew
+          in_crews here s.seat;
       long = length-set parts k new_part ∙ i.long;
       rest = rest-set first parts k new_part i.rest;
       kept = λ j t told. told-kept crews k crew new_crew at_crew f stages stage here s.kept j t (i.kept j t told);

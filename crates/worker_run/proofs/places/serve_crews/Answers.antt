@@ -46,7 +46,8 @@ loop-place-preserved g c =
     record {
       long = length-set crews k new ∙ i.long;
       rest = rest-set first crews k new i.rest;
-      seats = below-set (λ s w. IsSeatOf s w.seat) stages crews k stage new within here c.serve_crew.ensures.seat i.seats;
+      seats = below-set (λ s w. IsSeatOf s.lock.now w.seat) stages crews k stage new within here
+          c.serve_crew.ensures.seat i.seats;
       told = λ j t below h. elim (cases_eq j k) [
         | inl same ↦
             let mine : h.crew ≡ crew = one-item first k h.crew crew (ap (slice_get first) (sym same) ∙ h.at) (sym (i.rest k (omega arith)) ∙ there) in
@@ -63,6 +64,7 @@ returns g c =
     let stages = c.args.stages.now in
     let all : length stages ≤ c.loop-place.place = c.loop-place-test.false in
     record {
-      seats = below-all (λ s w. IsSeatOf s w.seat) stages c.loop-place.crews c.loop-place.place all i.seats (i.long ∙ c.requires.crews.long);
+      seats = below-all (λ s w. IsSeatOf s.lock.now w.seat) stages c.loop-place.crews
+          c.loop-place.place all i.seats (i.long ∙ c.requires.crews.long);
       told = λ j t h. i.told j t (let under = slice_get_within c.args.crews.now j h.crew h.at in omega (arith, all, c.requires.crews.long, under)) h;
     }

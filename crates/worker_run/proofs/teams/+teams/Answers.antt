@@ -1,6 +1,7 @@
-use Rattle.std.proofs.Common.{◌≡◌, List, length, map, rules, sym, ap, subst, ◌∙◌, arith}
+use Rattle.std.proofs.Common.{List, length, rules, sym, ap, subst, ◌∙◌, arith}
 use mir.Syntax.{named}
 use denote.Exit.{no}
+use denote.Ref.{NamedLft}
 use denote.Param.{param}
 use denote.Param.Send.{IsSend, IsSync, sendable, param_send, param_sync, arg_send, shr_send}
 use Rattle.std.proofs.Crossing.{crosses, Vec-send, Vec-sync}
@@ -10,12 +11,13 @@ use Rattle.std.specs.contracts.impls.GlobalAllocator.TheImpl.{ghosts}
 use Rattle.worker_run.specs.contracts.batch.Stage as stage
 use Rattle.worker_run.specs.contracts.batch.Part as part
 use Rattle.std.proofs.lemmas.Option.{slice_get_within}
-use Rattle.worker_run.specs.Batch.{is_there}
-use Rattle.worker_run.specs.Batches.{AreSeats, AreServedParts, AreTold, IsThere, Holds, ToldAt}
+use Rattle.worker_run.specs.Batches.{AreBack, AreSeats, AreServedParts, AreTold, IsThere, Holds}
+use Rattle.worker_run.specs.Batches.{ToldAt}
 use Rattle.worker_run.specs.declared.batch.Stage.{Stage}
 use Rattle.worker_run.specs.declared.batch.Crew.{Crew}
 use Rattle.worker_run.specs.declared.batch.Part.{Part}
 use Rattle.worker_run.proofs.Crossing.{stage-sync, part-send, captures-send}
+use Rattle.worker_run.proofs.Backs.{back-parts, back-all-there}
 use Rattle.worker_run.proofs.Ends.{written}
 use Rattle.worker_run.proofs.Joins.{told-last, told-joined, told-without, beside-same}
 use Rattle.worker_run.proofs.teams.+teams.Lts-fn-start_place-scope as scope
@@ -29,12 +31,26 @@ start_place-scope-spawn_with-requires-send-F g t c = λ κs lives.
     let body : IsSend B = search (rules, sendable) in
     let handle : IsSync (param 0 g.row.R) = param_sync 0 g.row.R (search rules) in
     let gate : IsSync (param 3 g.row.G) = param_sync 3 g.row.G (search rules) in
-    let stages : IsSync (vec.the_row (stage.the_row P B g.P.Policy) heap.the_row ghosts) = Vec-sync _ (stage-sync P B g.P.Policy policy body) in
+    let rt_lft : NamedLft = record { mir = named 6; lft = κs.1.1.1.1.1.1.0 } in
+    let stages_lft : NamedLft = record { mir = named 7; lft = κs.1.1.1.1.1.1.1.0 } in
+    let lock_lft : NamedLft = record { mir = named 8; lft = κs.1.1.1.1.1.1.1.1.0 } in
+    let goes_lft : NamedLft = record { mir = named 9; lft = κs.1.1.1.1.1.1.1.1.1.0 } in
+    let gate_lft : NamedLft = record { mir = named 10; lft = κs.1.1.1.1.1.1.1.1.1.1.0 } in
+    let stages : IsSync (vec.the_row (stage.the_row lock_lft P B g.P.Policy) heap.the_row ghosts) =
+    Vec-sync _ (stage-sync P B g.P.Policy policy body lock_lft) in
     let parts : IsSend (vec.the_row (part.the_row P B g.P.Policy) heap.the_row ghosts) = Vec-send _ (part-send P B g.P.Policy policy body) in
     param_send 2 (scope.arg-1-2 g.row.R g.row.P g.row.B g.row.G g.R.laws g.P.laws g.B.laws g.G.laws g.R.Threads g.R.Threads-dict g.R.Wait g.R.Wait-dict g.P.Policy g.P.Policy-dict g.B.Body g.B.Body-dict g.G.Gate g.G.Gate-dict g.P.Destruct-dict g.B.Destruct-dict κs)
-    (arg_send _ no (scope.of-18 g.row.R g.row.P g.row.B g.row.G g.R.laws g.P.laws g.B.laws g.G.laws g.R.Threads g.R.Threads-dict g.R.Wait g.R.Wait-dict g.P.Policy g.P.Policy-dict g.B.Body g.B.Body-dict g.G.Gate g.G.Gate-dict g.P.Destruct-dict g.B.Destruct-dict (record { mir = named 6; lft = κs.1.1.1.1.1.1.0 }) (record { mir = named 7; lft = κs.1.1.1.1.1.1.1.0 }) (record { mir = named 8; lft = κs.1.1.1.1.1.1.1.1.0 }) (record { mir = named 9; lft = κs.1.1.1.1.1.1.1.1.1.0 }))
-    (captures-send _ (scope.of-16 g.row.R g.row.P g.row.B g.row.G g.R.laws g.P.laws g.B.laws g.G.laws g.R.Threads g.R.Threads-dict g.R.Wait g.R.Wait-dict g.P.Policy g.P.Policy-dict g.B.Body g.B.Body-dict g.G.Gate g.G.Gate-dict g.P.Destruct-dict g.B.Destruct-dict (record { mir = named 6; lft = κs.1.1.1.1.1.1.0 }) (record { mir = named 7; lft = κs.1.1.1.1.1.1.1.0 }) (record { mir = named 8; lft = κs.1.1.1.1.1.1.1.1.0 }) (record { mir = named 9; lft = κs.1.1.1.1.1.1.1.1.1.0 })) (
-      shr_send (named 6) κs.1.1.1.1.1.1.0 (param 0 g.row.R) handle,
+    (arg_send _ no
+    (scope.of-20 g.row.R g.row.P g.row.B g.row.G g.R.laws g.P.laws g.B.laws g.G.laws g.R.Threads
+    g.R.Threads-dict g.R.Wait g.R.Wait-dict g.P.Policy g.P.Policy-dict g.B.Body g.B.Body-dict
+    g.G.Gate g.G.Gate-dict g.P.Destruct-dict g.B.Destruct-dict rt_lft stages_lft lock_lft
+    goes_lft gate_lft)
+    (captures-send _
+    (scope.of-18 g.row.R g.row.P g.row.B g.row.G g.R.laws g.P.laws g.B.laws g.G.laws g.R.Threads
+    g.R.Threads-dict g.R.Wait g.R.Wait-dict g.P.Policy g.P.Policy-dict g.B.Body g.B.Body-dict
+    g.G.Gate g.G.Gate-dict g.P.Destruct-dict g.B.Destruct-dict rt_lft stages_lft lock_lft
+    goes_lft gate_lft) (
+      shr_send rt_lft.mir rt_lft.lft (param 0 g.row.R) handle,
       (
         search (sendable, crosses, stages) depth 40,
         (
@@ -43,22 +59,53 @@ start_place-scope-spawn_with-requires-send-F g t c = λ κs lives.
             parts,
             (
               search (sendable, crosses) depth 40,
-              (shr_send (named 9) κs.1.1.1.1.1.1.1.1.1.0 (param 3 g.row.G) gate, tt),
+              (shr_send gate_lft.mir gate_lft.lft (param 3 g.row.G) gate, tt),
             ),
           ),
         ),
       ),
     )))
 
+pub start_place-scope-go_on-requires-clause-parts :
+    goal.start_place-scope-go_on-requires-clause-parts
+start_place-scope-go_on-requires-clause-parts g t c = λ κs lives.
+    let f = g.B.Body.pending in
+    let back : AreBack f c.captures.thread c.captures.parts.items c.join.result.items =
+    search rules in
+    back-parts f c.captures.thread c.captures.stages.now.items c.captures.parts.items
+    c.join.result.items c.requires.3 back
+
+pub start_place-scope-go_without-requires-clause-parts :
+    goal.start_place-scope-go_without-requires-clause-parts
+start_place-scope-go_without-requires-clause-parts g t c = λ κs lives.
+    let f = g.B.Body.pending in
+    let back : AreBack f c.captures.thread c.captures.parts.items c.work.result.items =
+    search rules in
+    back-parts f c.captures.thread c.captures.stages.now.items c.captures.parts.items
+    c.work.result.items c.requires.3 back
+
 pub start_place-scope-returns-in-Ok : goal.start_place-scope-returns-in-Ok
 start_place-scope-returns-in-Ok g t c =
-    let same : map is_there c.join.result.items ≡ map is_there c.captures.parts.items = search rules in
-    told-joined g.B.Body.pending c.captures.stages.now.items c.captures.crews.items c.captures.places.items c.captures.thread c.captures.parts.items c.join.result.items c.start_places-crews.result.items c.go_on.result.items same c.start_places-crews.ensures c.go_on.ensures.seats c.go_on.ensures.kept c.go_on.ensures.joined
+    let f = g.B.Body.pending in
+    let u = c.captures.thread in
+    let parts = c.captures.parts.items in
+    let back : AreBack f u parts c.join.result.items = search rules in
+    told-joined f c.captures.stages.now.items c.captures.crews.items c.captures.places.items u parts
+    c.join.result.items
+    c.start_places-crews.result.items c.go_on.result.items
+    (back-all-there f u parts c.join.result.items back)
+    c.start_places-crews.ensures c.go_on.ensures.seats c.go_on.ensures.kept c.go_on.ensures.joined
 
 pub start_place-scope-returns-in-Err : goal.start_place-scope-returns-in-Err
 start_place-scope-returns-in-Err g t c =
-    let same : map is_there c.work.result.items ≡ map is_there c.captures.parts.items = search rules in
-    beside-same g.B.Body.pending c.captures.stages.now.items c.captures.crews.items c.captures.places.items c.captures.thread c.captures.parts.items c.work.result.items c.go_without.result.items same c.go_without.ensures
+    let f = g.B.Body.pending in
+    let u = c.captures.thread in
+    let parts = c.captures.parts.items in
+    let back : AreBack f u parts c.work.result.items = search rules in
+    beside-same f c.captures.stages.now.items c.captures.crews.items c.captures.places.items u parts
+    c.work.result.items
+    c.go_without.result.items (back-all-there f u parts c.work.result.items back)
+    c.go_without.ensures
 
 pub go_without-returns : goal.go_without-returns
 go_without-returns g t c =

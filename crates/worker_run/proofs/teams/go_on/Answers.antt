@@ -4,6 +4,7 @@ use Rattle.worker_run.specs.Batches.{AreServedParts, IsThere, ToldAt}
 use Rattle.worker_run.specs.declared.batch.Stage.{Stage}
 use Rattle.worker_run.specs.declared.batch.Crew.{Crew}
 use Rattle.worker_run.specs.declared.batch.Part.{Part}
+use Rattle.worker_run.proofs.Backs.{back-all-there}
 use Rattle.worker_run.proofs.Ends.{written}
 use Rattle.worker_run.proofs.teams.go_on.Goals as goal
 
@@ -28,5 +29,7 @@ returns-clause-joined g c = λ i there.
     let I : List (Part g.row.P.Denot g.row.B.Denot g.P.Policy) → Type 0 = λ l. IsThere l i in
     let served = subst S (λ j. ((c.as_slice.ensures.value ∙ sym c.as_slice-2.ensures.value) j, sym same j)) c.serve_parts.ensures.served in
     let first = subst I (sym c.as_mut_slice.ensures.value) there in
-    let left = subst I (sym same) (ap (λ l. slice_get l i) c.serve_parts.ensures.there ∙ first) in
+    let left =
+    subst I (sym same)
+    (ap (λ l. slice_get l i) (back-all-there f t _ back c.serve_parts.ensures.back) ∙ first) in
     subst T (λ j. (c.as_slice-2.ensures.value j, sym w j)) (c.join_parts.ensures.joined i t served left)

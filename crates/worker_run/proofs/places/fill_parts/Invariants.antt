@@ -3,7 +3,7 @@ use Rattle.std.specs.Prelude.{vec_capacity}
 use Rattle.worker_run.specs.Batch.{IsPart}
 use Rattle.worker_run.specs.Batches.{AreCrews, IsThere, Holds}
 use Rattle.worker_run.proofs.Loops.{Along}
-use Rattle.worker_run.proofs.places.parts_of.Given as goal
+use Rattle.worker_run.proofs.places.fill_parts.Given as goal
 
 -- the parts so far are of the first tests; a thread that its crew had has gone into them, or its crew has it still
 abbrev pub invariant-loop-place : goal.invariant-loop-place

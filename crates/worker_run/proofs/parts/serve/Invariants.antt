@@ -3,7 +3,7 @@ use Rattle.turn_lock.specs.Seen.{owes_of}
 use Rattle.turn_lock.specs.Views.{view, IsOf}
 use Rattle.worker_run.specs.Bodies.{Pending}
 use Rattle.worker_run.specs.Served.{IsRunning, Moves}
-use Rattle.worker_run.proofs.team.serve.Given as goal
+use Rattle.worker_run.proofs.parts.serve.Given as goal
 
 abbrev pub invariant-loop : goal.invariant-loop
 invariant-loop g l = record {

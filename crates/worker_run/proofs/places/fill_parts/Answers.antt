@@ -6,7 +6,7 @@ use Rattle.worker_run.specs.Batches.{IsThere}
 use Rattle.worker_run.specs.declared.batch.Part.{Part}
 use Rattle.worker_run.proofs.Eachs.{each-set}
 use Rattle.worker_run.proofs.Loops.{Along, along-more, holds-step, there-old, there-new}
-use Rattle.worker_run.proofs.places.parts_of.Goals as goal
+use Rattle.worker_run.proofs.places.fill_parts.Goals as goal
 
 pub part_of-requires-clause-crew : goal.part_of-requires-clause-crew
 part_of-requires-clause-crew g c = λ κs lives.

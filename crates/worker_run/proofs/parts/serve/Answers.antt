@@ -10,7 +10,7 @@ use Rattle.worker_run.specs.Served.{IsRunning}
 use Rattle.worker_run.proofs.Running.{answer-asks, answer-counts, answer-running, answer-owes, other-running, moves-is, ended-told, answers-few, none-owed}
 use Rattle.worker_run.proofs.Words.{answer-turn}
 use Rattle.worker_run.proofs.Crews.{serves-on, serves-back, moves-along, own-serves, own-running, own-thread, own-served}
-use Rattle.worker_run.proofs.team.serve.Goals as goal
+use Rattle.worker_run.proofs.parts.serve.Goals as goal
 
 pub speak-requires-clause-serves : goal.speak-requires-clause-serves
 speak-requires-clause-serves g c = λ κs lives. own-serves g.B.Body.pending c.requires.crew.0 c.args.thread c.args.runner (view c.args.seat) c.requires.crew.2
@@ -22,13 +22,13 @@ pub speak-requires-clause-runs : goal.speak-requires-clause-runs
 speak-requires-clause-runs g c = λ κs lives. (c.requires.crew.0 c.args.thread, c.requires.crew.1 c.args.thread, own-running g.B.Body.pending c.requires.crew.0 c.args.thread c.args.runner (view c.args.seat) c.requires.crew.2)
 
 pub returns-then-speak-clause-served : goal.returns-then-speak-clause-served
-returns-then-speak-clause-served g c = record {
-  table = c.speak.ensures.of.0 ∙ sym c.requires.of.0;
-  served = λ start own.
-      let first = view c.args.seat in
-      let running = own-running g.B.Body.pending start c.args.thread c.args.runner first own in
-      own-served g.B.Body.pending start c.args.thread c.args.runner first own (view c.speak.new.seat) (g.B.Body.pending c.speak.new.self.body) c.speak.new.self.answered c.speak.ensures.moves.on c.speak.ensures.lawful (c.speak.ensures.runs (start c.args.thread) running) (inl (c.speak.ensures.over c.if-speak.true));
-}
+returns-then-speak-clause-served g c = λ start own.
+    let first = view c.args.seat in
+    let running = own-running g.B.Body.pending start c.args.thread c.args.runner first own in
+    own-served g.B.Body.pending start c.args.thread c.args.runner first own (view c.speak.new.seat)
+    (g.B.Body.pending c.speak.new.self.body) c.speak.new.self.answered c.speak.ensures.moves.on
+    c.speak.ensures.lawful (c.speak.ensures.runs (start c.args.thread) running)
+    (inl (c.speak.ensures.over c.if-speak.true))
 
 pub turn_brief-words-requires-clause-waits : goal.turn_brief-words-requires-clause-waits
 turn_brief-words-requires-clause-waits g c = λ κs lives.
@@ -58,16 +58,19 @@ returns-in_default g c =
     let done = ended-told v w c.turn_brief-words.result.0 c.turn_brief-words.ensures.serves None v.serves c.turn_brief-words.ensures.turn.turn not c.turn_brief-words.ensures.turn.said.0.took c.turn_brief-words.ensures.turn.said.1 in
     record {
       of = c.turn_brief-words.ensures.of;
-      served = record {
-        table = c.turn_brief-words.ensures.of.0 ∙ sym c.requires.of.0;
-        served = λ start own.
-            let running = c.loop.invariant.runs (start t) (own-running g.B.Body.pending start t c.args.runner first own) in
-            own-served g.B.Body.pending start t c.args.runner first own w (g.B.Body.pending c.loop.runner.body) c.loop.runner.answered (moves-along t first v w c.loop.invariant.moves moves).on turned.turn.lawful
-            (other-running v w t mine None c.turn_brief-words.ensures.turn.turn not turned (start t) (g.B.Body.pending c.loop.runner.body) c.loop.runner.answered running (λ q is. none-owed q is)) (elim done [
-              | inl over ↦ inl over
-              | inr ended ↦ inr (λ u here. ended u (serves-on first v u c.loop.invariant.moves.on here))
-            ]);
-      };
+      served = λ start own.
+          let running = c.loop.invariant.runs (start t)
+          (own-running g.B.Body.pending start t c.args.runner first own) in
+          own-served g.B.Body.pending start t c.args.runner first own w
+          (g.B.Body.pending c.loop.runner.body) c.loop.runner.answered
+          (moves-along t first v w c.loop.invariant.moves moves).on turned.turn.lawful
+          (other-running v w t mine None c.turn_brief-words.ensures.turn.turn not turned (start t)
+          (g.B.Body.pending c.loop.runner.body) c.loop.runner.answered running
+          (λ q is. none-owed q is)) (elim done [
+            | inl over ↦ inl over
+            | inr ended ↦
+                inr (λ u here. ended u (serves-on first v u c.loop.invariant.moves.on here))
+          ]);
     }
 
 pub hear-requires-clause-asks : goal.hear-requires-clause-asks
@@ -162,14 +165,17 @@ returns-then-speak-2-clause-served g c =
     let next : (answers : List ℤ) → then answers ≡ now (c.in-Answer.value ∷ answers) = λ answers. c.hear.ensures.body answers ∙ ap (λ a. now (a ∷ answers)) (to_z-of_z w64 c.in-Answer.value (search rules)) in
     let x = view c.speak-in-loop.new.seat in
     let moves = moves-along t first v x c.loop.invariant.moves (moves-along t v w x (moves-is v w t mine None c.turn_brief-words.ensures.turn.turn turned) c.speak-in-loop.ensures.moves) in
-    record {
-      table = c.speak-in-loop.ensures.of.0 ∙ sym c.requires.of.0;
-      served = λ begun own.
-          let N : ℕ → Type 0 = λ n. IsRunning (begun t) then n t w.seen in
-          let ran = c.loop.invariant.runs (begun t) (own-running g.B.Body.pending begun t c.args.runner first own) in
-          let told = subst N (sym c.hear.ensures.answered) (answer-running v w t mine None c.in-Answer.value took (begun t) now r.answered ran (λ q is. none-owed q is) then next) in
-          own-served g.B.Body.pending begun t c.args.runner first own x (g.B.Body.pending c.speak-in-loop.new.self.body) c.speak-in-loop.new.self.answered moves.on c.speak-in-loop.ensures.lawful (c.speak-in-loop.ensures.runs (begun t) told) (inl (c.speak-in-loop.ensures.over c.if-speak-2.true));
-    }
+    λ begun own.
+    let N : ℕ → Type 0 = λ n. IsRunning (begun t) then n t w.seen in
+    let ran = c.loop.invariant.runs (begun t)
+    (own-running g.B.Body.pending begun t c.args.runner first own) in
+    let told = subst N (sym c.hear.ensures.answered)
+    (answer-running v w t mine None c.in-Answer.value took (begun t) now r.answered ran
+    (λ q is. none-owed q is) then next) in
+    own-served g.B.Body.pending begun t c.args.runner first own x
+    (g.B.Body.pending c.speak-in-loop.new.self.body) c.speak-in-loop.new.self.answered moves.on
+    c.speak-in-loop.ensures.lawful (c.speak-in-loop.ensures.runs (begun t) told)
+    (inl (c.speak-in-loop.ensures.over c.if-speak-2.true))
 
 pub loop-preserved : goal.loop-preserved
 loop-preserved g c =
