@@ -1,3 +1,4 @@
 pub mod laws
 mod Rows
+mod Runs
 mod Examples

@@ -1,15 +1,35 @@
 -- One more row.
-use Rattle.std.proofs.Common.{◌≡◌, ℕ, ◌+◌, List, [], ◌∷◌, ◌++◌, Option, Some, map, sym, ap, ◌∙◌, arith}
-use Rattle.std.proofs.lemmas.List.{map-append}
+use Rattle.std.proofs.Common.{◌≡◌, ℕ, ◌+◌, List, [], ◌∷◌, ◌++◌, Option, Some, map, length}
+use Rattle.std.proofs.Common.{refl, sym, ap, subst, ◌∙◌, arith}
+use Rattle.std.proofs.lemmas.List.{length-append, map-append}
 use Rattle.std.proofs.lemmas.List.FromFn.{map-range_with_len_more}
 use Rattle.pct_ask.specs.declared.event.Row.{Row}
 use Rattle.campaign.specs.Rows.{Setup, row_of_seed, seed_at, rows_of}
+use Rattle.campaign.specs.Batches.{AreFirstRows}
 
-pub one-more : (setup : Setup) (first place seed : ℕ) (rows new : List Row) (row : Row) → seed ≡ seed_at first place → map Some rows ≡ rows_of setup first place → new ≡ rows ++ row ∷ []
-    → row_of_seed setup seed ≡ Some row → map Some new ≡ rows_of setup first (place + 1)
+one-more : (setup : Setup) (first place seed : ℕ) (rows new : List Row) (row : Row)
+    → seed ≡ seed_at first place → map Some rows ≡ rows_of setup first place
+    → new ≡ rows ++ row ∷ [] → row_of_seed setup seed ≡ Some row
+    → map Some new ≡ rows_of setup first (place + 1)
 one-more setup first place seed rows new row at before is made =
-    let made_at : row_of_seed setup (seed_at first place) ≡ Some row = ap (row_of_seed setup) (sym at) ∙ made in
+    let made_at : row_of_seed setup (seed_at first place) ≡ Some row =
+    ap (row_of_seed setup) (sym at) ∙ made in
     ap (map Some) is ∙ map-append Some rows (row ∷ [])
     ∙ ap (λ (l : List (Option Row)). l ++ Some row ∷ []) before
     ∙ ap (λ (r : Option Row). rows_of setup first place ++ r ∷ []) (sym made_at)
-    ∙ sym (map-range_with_len_more (λ k. row_of_seed setup (seed_at first k)) 0 place place (omega arith))
+    ∙ sym (map-range_with_len_more (λ k. row_of_seed setup (seed_at first k)) 0 place place
+    (omega arith))
+
+-- the rows of the first seeds, with that of the next one
+pub next-row : (setup : Setup) (first seed : ℕ) (rows new : List Row) (row : Row)
+    → seed ≡ seed_at first (length rows) → AreFirstRows setup first rows
+    → new ≡ rows ++ row ∷ [] → row_of_seed setup seed ≡ Some row → AreFirstRows setup first new
+next-row setup first seed rows new row at before is made =
+    one-more setup first (length rows) seed rows new row at before is made
+    ∙ ap (rows_of setup first) (sym (ap length is ∙ length-append rows (row ∷ [])))
+
+-- no rows yet
+pub no-rows : (setup : Setup) (first : ℕ) (rows : List Row) → rows ≡ []
+    → AreFirstRows setup first rows
+no-rows setup first rows none =
+    let A : List Row → Type 0 = AreFirstRows setup first in subst A (sym none) refl

@@ -1,8 +1,11 @@
-//! Campaigns: runs of a script over seeds, one after another, and a row for each.
+//! Campaigns: runs of a script over seeds, and a row for each.
 #![tactic(auto)]
 
+mod batches;
 mod one_list;
+mod seed_tests;
 mod seeds;
+mod task;
 #[cfg(test)]
 mod tests;
 

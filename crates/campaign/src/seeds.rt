@@ -1,75 +1,41 @@
-ghost use Rattle.std.specs.Prelude.{◌≡◌, ◌≤◌, length, map, Some, IfOk};
+ghost use Rattle.std.specs.Prelude.{◌≡◌, ◌≤◌, ◌*◌, length, map, Some, IfOk};
 ghost use Rattle.script_tree.specs.ScriptText.{ScriptText};
 ghost use Rattle.script_code.specs.Listing.{listing};
 ghost use Rattle.script_body.specs.Bodies.{bodies_of, AreOf};
-ghost use Rattle.campaign.specs.Rows.{row_of_seed, rows_of};
+ghost use Rattle.campaign.specs.Rows.{rows_of};
 
-use pct_ask::{Deal, Row, RowList};
+use crate::batches::add_rows;
+use crate::task::Task;
+use pct_ask::{Deal, RowList};
 use pct_outside::Gate;
-use priority_draw::Words;
-use script_body::bodies_of;
 use script_code::Code;
 use std::alloc::{AllocError as NoMemory, Global};
 use std::sync::Wait;
 use std::thread::Threads;
-use worker_run::run_by_points;
 
-/// The run of a seed, as a row. All that the row needs is taken before the run begins, and the
-/// run's trace is dropped.
-fn row_of_seed<R: Threads + Wait + Sync, G: Gate>(
-    rt: &R,
-    alloc: Global,
-    code: &Code,
-    deal: &Deal,
-    seed: u64,
-    depth: u32,
-    steps: u32,
-    limit: u32,
-    gate: &G,
-) -> Result<Row, NoMemory>
-    requires script { (script : ScriptText) × AreOf script (listing code.now) deal.now }
-    requires some_depth { 1 ≤ depth }
-    requires little_depth { depth ≤ 8 }
-    requires some_steps { 1 ≤ steps }
-    requires few_steps { steps ≤ 100000 }
-    requires some_limit { 1 ≤ limit }
-    requires low_limit { limit ≤ 100000 }
-    ensures { (script : ScriptText) → AreOf script (listing code.now) deal.now
-        → IfOk result (λ row. row_of_seed (record {
-          deal = deal.now;
-          bodies = bodies_of script;
-          depth = depth;
-          steps = steps;
-          limit = limit;
-        }) seed ≡ Some row) }
+/// How many steps the runs of a batch may have by their limits together: each takes room for all of
+/// them before it begins. It is 64 runs of the default limit.
+const MOST_STEPS: u32 = 640_000;
+
+/// The most runs of a batch.
+const MOST_RUNS: u32 = 64;
+
+/// How many runs of such a limit a batch has.
+fn batch_size(limit: u32) -> usize
+    requires some { 1 ≤ limit }
+    requires low { limit ≤ 100000 }
+    ensures some { 1 ≤ result }
+    ensures few_runs { result ≤ 64 }
+    ensures few_steps { result * limit ≤ 640000 }
 {
-    let mut words = Words::of_seed(seed);
-    let order = words.draw_order(alloc, deal.threads)?;
-    let points = words.draw_points(alloc, steps, depth - 1)?;
-    let bodies = bodies_of(alloc, code)?;
-    let own = deal.copy(alloc)?;
-    let run = run_by_points(
-        rt,
-        alloc,
-        own,
-        order.as_slice(),
-        points.as_slice(),
-        limit,
-        bodies,
-        gate,
-    )?;
-    Ok(Row {
-        seed,
-        steps: run.events.len() as u32,
-        verdict: run.verdict,
-    })
+    (MOST_STEPS / limit).min(MOST_RUNS) as usize
 }
 
-/// Runs a script's code once for each of `count` seeds from `first` on, in real threads, one seed
-/// after another; after the last seed, 2^64 - 1, comes 0. Each run goes by the order and the change
-/// points that its seed gives, points drawn from 1 to `steps` and one fewer than the depth, and has
-/// at most `limit` steps. The room for all rows is taken before the first run. The gate is passed
-/// before each post.
+/// Runs a script's code once for each of `count` seeds from `first` on, in real threads; after the
+/// last seed, 2^64 - 1, comes 0. Threads are started once for a batch of seeds, whose runs may
+/// overlap in time. Each run goes by the order and the change points that its seed gives, points
+/// drawn from 1 to `steps` and one fewer than the depth, and has at most `limit` steps. The room
+/// for all rows is taken before the first run. The gate is passed before each post.
 pub fn campaign<R: Threads + Wait + Sync, G: Gate>(
     rt: &R,
     alloc: Global,
@@ -101,11 +67,20 @@ pub fn campaign<R: Threads + Wait + Sync, G: Gate>(
           limit = limit;
         }) first count) }
 {
-    let mut rows = Vec::with_capacity(alloc, count as usize)?;
-    for place in 0..count {
-        let seed = first.wrapping_add(u64::from(place));
-        let row = row_of_seed(rt, alloc, code, deal, seed, depth, steps, limit, gate)?;
-        rows.push_reserved(row);
+    let task = Task {
+        code,
+        deal,
+        first,
+        depth,
+        steps,
+        limit,
+    };
+    let total = count as usize;
+    let size = batch_size(limit);
+    let mut rows = Vec::with_capacity(alloc, total)?;
+    'batches: while rows.len() < total {
+        let end = rows.len() + size.min(total - rows.len());
+        add_rows(rt, alloc, &task, &mut rows, end, gate)?;
     }
     Ok(RowList::from_vec(rows))
 }
