@@ -13,11 +13,12 @@ use std::alloc::{AllocError as NoMemory, Global};
 use std::sync::Wait;
 use std::thread::Threads;
 
-/// How many steps the runs of a batch may have by their limits together: each takes room for all of
-/// them before it begins. It is 64 runs of the default limit.
+/// How many steps the runs of a batch may have by their limits together. Each takes room for all of
+/// them before it begins, some 40 bytes a step as measured, so a batch takes some 25 MiB at most.
 const MOST_STEPS: u32 = 640_000;
 
-/// The most runs of a batch.
+/// The most runs of a batch. 2,000 seeds of a bounded buffer took 0.35 seconds of processor time one
+/// by one, 0.14 in batches of 16 runs, 0.12 of 64 or 128, and 0.13 of 256.
 const MOST_RUNS: u32 = 64;
 
 /// How many runs of such a limit a batch has.
