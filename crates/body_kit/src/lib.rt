@@ -10,8 +10,6 @@ mod error;
 mod kit;
 mod port;
 mod run;
-#[cfg(test)]
-mod tests;
 
 pub use asked::Asked;
 pub use error::KitError;

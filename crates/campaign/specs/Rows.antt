@@ -1,5 +1,5 @@
--- A campaign: a test is run once for each of some seeds in turn, with the order and the change
--- points that the seed gives, and each run makes a row (this project; the runs are those of the PCT
+-- A campaign: a test is run once for each of some seeds, with the order and the change points that
+-- the seed gives, and each run makes a row (this project; the runs are those of the PCT
 -- scheduler: Burckhardt, Kothari, Musuvathi, Nagarakatte, "A Randomized Scheduler with
 -- Probabilistic Guarantees of Finding Bugs", 2010).
 use Rattle.std.specs.Prelude.{ℕ, ◌+◌, ◌%◌, ◌^◌, List, length, map, Option}

@@ -6,8 +6,6 @@ mod one_list;
 mod seed_tests;
 mod seeds;
 mod task;
-#[cfg(test)]
-mod tests;
 
 pub use one_list::one_list_of_rows;
 pub use seeds::campaign;

@@ -7,8 +7,6 @@ mod fault;
 mod line;
 mod reading;
 mod row;
-#[cfg(test)]
-mod tests;
 mod writing;
 
 pub use directive::Directive;

@@ -7,10 +7,6 @@ mod found;
 mod moments;
 mod reducing;
 mod running;
-#[cfg(test)]
-mod samples;
-#[cfg(test)]
-mod tests;
 
 pub use finding::{FoundOut, find};
 pub use found::one_finding;

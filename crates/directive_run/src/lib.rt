@@ -9,8 +9,6 @@ mod directed;
 mod exposing;
 mod orders;
 mod points;
-#[cfg(test)]
-mod tests;
 
 pub use answers::{Certified, CertifyRow, CertifyRows, Exposed};
 pub use certificate::one_certificate;

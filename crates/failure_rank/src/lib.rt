@@ -3,8 +3,6 @@
 
 mod group;
 mod ranking;
-#[cfg(test)]
-mod tests;
 
 pub use group::{Group, Groups};
 pub use ranking::rank;

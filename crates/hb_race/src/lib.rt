@@ -8,8 +8,6 @@ mod object;
 mod order;
 mod race;
 mod report;
-#[cfg(test)]
-mod tests;
 
 pub use order::one_list_of_races;
 pub use race::{Race, RaceList};

@@ -5,6 +5,3 @@
 mod large;
 
 pub use large::{large_script, line_count, print_large};
-
-#[cfg(test)]
-mod tests;

@@ -9,8 +9,6 @@ mod mutex_set;
 mod nested;
 mod nesting;
 mod report;
-#[cfg(test)]
-mod tests;
 
 pub use check::check_report;
 pub use chosen::lock_order;

@@ -10,8 +10,6 @@ mod line;
 mod names;
 mod number;
 mod sequence;
-#[cfg(test)]
-mod tests;
 mod verdict;
 mod verdict_text;
 mod verdict_words;

@@ -1,131 +1,13 @@
-use crate::gates::{Gate, OpenGate, PairGate};
-use crate::host_shelves::HostShelf;
 use crate::host_sinks::HostSink;
-use crate::memory_shelves::{MemoryShelf, SureShelf};
-use crate::memory_sinks::{MemorySink, SureSink};
-use crate::shelves::{Shelf, ShelfError};
 use crate::sinks::{Sink, SinkError};
-use std::process::Abort;
-use std::test::Fail;
-use std::thread::join;
-use std::{env, fs, process};
 
-/// Reads through the trait, and compares what came.
-fn expect_read<S: Shelf>(
-    rt: &impl Abort,
-    shelf: &mut S,
-    name: &str,
-    most: u64,
-    want: Result<&str, ShelfError>,
-) {
-    match (shelf.read_up_to(name, most), want) {
-        (Ok(bytes), Ok(text)) => assert_eq!(rt; bytes.as_slice(), text.as_bytes(), "{name} {most}"),
-        (Err(error), Err(wanted)) => assert_eq!(rt; error, wanted, "{name} {most}"),
-        _ => panic!(rt; "{name} {most}"),
-    }
-}
-
-/// Puts through the trait, and compares the answer.
-fn expect_put<S: Sink>(rt: &impl Abort, sink: &mut S, piece: &str, want: Result<(), SinkError>) {
-    assert_eq!(rt; sink.put(piece.as_bytes()), want, "{piece}");
-}
-
-#[test]
-fn memory_shelf_reads(rt: HostRuntime) -> Result<(), Fail> {
-    let mut shelf = MemoryShelf::new(rt.alloc(), vec![in rt.alloc(); 3]?);
-    shelf.add("a", b"hello")?;
-    shelf.add("empty", b"")?;
-    expect_read(&rt, &mut shelf, "a", 3, Ok("hel"));
-    expect_read(&rt, &mut shelf, "a", 5, Ok("hello"));
-    expect_read(&rt, &mut shelf, "a", 5, Err(ShelfError::Failed));
-    shelf.add("a", b"new")?;
-    for (name, most, want) in [
-        ("a", 9, Ok("new")),
-        ("a", 0, Ok("")),
-        ("empty", 9, Ok("")),
-        ("none", 9, Err(ShelfError::Failed)),
-    ] {
-        expect_read(&rt, &mut shelf, name, most, want);
-    }
-    Ok(())
-}
-
-#[test]
-fn sure_shelf_reads(rt: HostRuntime) -> Result<(), Fail> {
-    let mut shelf = SureShelf::new(rt.alloc());
-    shelf.add("a", b"hello")?;
-    shelf.add("a", b"new")?;
-    expect_read(&rt, &mut shelf, "a", 2, Ok("ne"));
-    expect_read(&rt, &mut shelf, "none", 9, Ok(""));
-    Ok(())
-}
-
-#[test]
-fn memory_sinks_take(rt: HostRuntime) -> Result<(), Fail> {
-    let mut sink = MemorySink::new(rt.alloc(), vec![in rt.alloc(); 2]?);
-    expect_put(&rt, &mut sink, "ab", Ok(()));
-    expect_put(&rt, &mut sink, "cd", Err(SinkError::Failed));
-    expect_put(&rt, &mut sink, "ef", Ok(()));
-    assert_eq!(rt; sink.bytes(), b"abef".as_slice());
-
-    let mut sure = SureSink::new(rt.alloc());
-    expect_put(&rt, &mut sure, "ab", Ok(()));
-    expect_put(&rt, &mut sure, "cd", Ok(()));
-    assert_eq!(rt; sure.bytes(), b"abcd".as_slice());
-    Ok(())
-}
-
-#[test]
-fn host_shelf_reads(rt: HostRuntime) -> Result<(), Fail> {
-    let folder = env::temp_dir(&rt)?;
-    let folder = folder.as_str();
-    let id = process::id(rt.process());
-    let path = format!(in rt.alloc(); "{folder}/pct_outside_{id}")?;
-    fs::write(&rt, path.as_str(), "hello")?;
-    let mut shelf = HostShelf::new(&rt);
-    for (name, most, want) in [
-        (path.as_str(), 3, Ok("hel")),
-        (path.as_str(), 9, Ok("hello")),
-        (folder, 9, Err(ShelfError::Failed)),
-        ("", 9, Err(ShelfError::Failed)),
-    ] {
-        expect_read(&rt, &mut shelf, name, most, want);
-    }
-    fs::remove_file(&rt, path.as_str())?;
-    expect_read(&rt, &mut shelf, path.as_str(), 9, Err(ShelfError::Failed));
-    Ok(())
-}
-
-// A stream that takes nothing more is a fault.
+// A stream that takes nothing more is a fault. Other crates make no sink of such a stream.
 #[test]
 fn host_sink_takes(rt: HostRuntime) {
     let mut room = [0; 3];
     let mut sink = HostSink::new(room.as_mut_slice());
-    expect_put(&rt, &mut sink, "ab", Ok(()));
-    expect_put(&rt, &mut sink, "cd", Err(SinkError::Failed));
+    assert_eq!(rt; sink.put(b"ab"), Ok(()));
+    assert_eq!(rt; sink.put(b"cd"), Err(SinkError::Failed));
     drop(sink);
     assert_eq!(rt; room.as_slice(), b"abc".as_slice());
-    expect_put(&rt, &mut HostSink::output(rt.stdout()), "", Ok(()));
-    expect_put(&rt, &mut HostSink::errors(rt.stderr()), "", Ok(()));
-    OpenGate::new().arrive(0, 0);
-}
-
-// The first to come looks ten times and goes on unmet; the second sees that it came.
-#[test]
-fn one_thread_at_a_pair_gate(rt: HostRuntime) {
-    let gate = PairGate::new(0, 1, 10);
-    gate.arrive(0, 0);
-    gate.arrive(1, 0);
-    assert_eq!(rt; gate.met(), false);
-}
-
-// Each of two threads waits for the other; a later arrival and another thread's aren't held.
-#[test]
-fn two_threads_at_a_pair_gate(rt: HostRuntime) {
-    let gate = PairGate::new(3, 1, 1_000_000_000);
-    gate.arrive(3, 1);
-    gate.arrive(0, 0);
-    assert_eq!(rt; gate.met(), false);
-    join(&rt, || gate.arrive(1, 0), || gate.arrive(3, 0));
-    assert_eq!(rt; gate.met(), true);
 }

@@ -34,6 +34,3 @@ pub use status::Status;
 pub use text::{Text, TextList};
 pub use top::pct;
 pub use words::read_words;
-
-#[cfg(test)]
-mod tests;

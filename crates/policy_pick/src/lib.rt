@@ -6,10 +6,6 @@ mod directed;
 mod listed;
 mod pct;
 mod policy;
-#[cfg(test)]
-mod slow;
-#[cfg(test)]
-mod tests;
 mod walk;
 
 pub use chance::{Chance, Pick};

@@ -5,8 +5,6 @@
 mod moment;
 mod order;
 mod ranks;
-#[cfg(test)]
-mod tests;
 
 pub use moment::Moment;
 pub use order::RankError;

@@ -7,10 +7,6 @@ mod compare;
 mod replaying;
 mod reply;
 mod same;
-#[cfg(test)]
-mod samples;
-#[cfg(test)]
-mod tests;
 
 pub use answer::{Found, Replayed, Written};
 pub use replaying::replay;

@@ -4,8 +4,6 @@
 mod as_json;
 mod as_text;
 mod frame;
-#[cfg(test)]
-mod tests;
 
 pub use as_json::json_report;
 pub use as_text::text_report;

@@ -1,4 +1,3 @@
 pub mod Ends
 pub mod Steps
-pub mod TestScripts
 pub mod laws

@@ -5,5 +5,4 @@ pub mod Spots
 pub mod Turns
 pub mod Asking
 pub mod BodyPosts
-pub mod Samples
 pub mod Bodies

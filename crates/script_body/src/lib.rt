@@ -5,15 +5,9 @@ mod answer;
 mod ask;
 mod bodies;
 mod body;
-#[cfg(test)]
-mod drives;
 mod moving;
-#[cfg(test)]
-mod samples;
 mod settling;
 mod state;
-#[cfg(test)]
-mod tests;
 mod turn;
 mod value;
 

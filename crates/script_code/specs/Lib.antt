@@ -5,4 +5,3 @@ pub mod Rest
 pub mod Layout
 pub mod CodeOf
 pub mod Listing
-pub mod Samples

@@ -9,8 +9,6 @@ mod counting;
 mod emit;
 mod flat;
 mod held;
-#[cfg(test)]
-mod tests;
 
 pub use code::Code;
 pub use compiler::compile;

@@ -11,11 +11,7 @@ mod number;
 mod parsing;
 mod range;
 mod reader;
-#[cfg(test)]
-mod samples;
 mod statement;
-#[cfg(test)]
-mod tests;
 mod token;
 mod verb;
 

@@ -11,18 +11,6 @@ use Rattle.script_tree.specs.Trees.{TryRdLock, TryWrLock, RwUnlock}
 use Rattle.script_tree.specs.ScriptText.{ScriptText}
 use Rattle.script_tree.specs.Layout.{layout}
 
--- the names of threads and variables alone
-abbrev pub first_names : NameLists
-first_names = record {
-  threads = codes "A" ∷ codes "B" ∷ [];
-  vars = codes "low" ∷ codes "high" ∷ [];
-  mutexes = [];
-  conds = [];
-  sems = [];
-  barriers = [];
-  rwlocks = [];
-}
-
 abbrev pub every_name : NameLists
 every_name = record {
   threads = codes "A" ∷ codes "B" ∷ [];

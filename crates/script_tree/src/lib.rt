@@ -6,12 +6,8 @@ mod fault;
 mod printing;
 mod printing_statements;
 mod printing_words;
-#[cfg(test)]
-mod samples;
 mod script;
 mod stmt;
-#[cfg(test)]
-mod tests;
 
 pub use expr::{Expr, Op};
 pub use fault::ScriptFault;

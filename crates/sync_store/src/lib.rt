@@ -13,8 +13,6 @@ mod rwlocks;
 mod semaphores;
 mod steps;
 mod store;
-#[cfg(test)]
-mod tests;
 mod thread_list;
 mod touched;
 mod variables;

@@ -215,11 +215,3 @@ fault-given names bytes result line kind sound given fault = given-err result (r
 -- a text that was written is a trace, and whatever is answered of it is what was written
 pub written-trace : (names : NameLists) (bytes : List ℕ) (file : TraceFile) → AreNames names → IsRun names file → bytes ≡ trace_text (head_of file.header) names file.events file.verdict → IsTrace bytes names file
 written-trace names bytes file sound run is = record { run = run; small = rw is (trace-size names file sound run); text = is }
-
--- ---- what was read can be written
-
-pub few-steps : (names : NameLists) (file : TraceFile) (events : List Event) → IsRun names file → events ≡ file.events → length events ≤ file.header.limit
-few-steps names file events run is = rw is run.few
-
-pub all-steps : (names : NameLists) (file : TraceFile) (events : List Event) → IsRun names file → events ≡ file.events → All (IsStep names file.header.version) events
-all-steps names file events run is = rw is run.steps

@@ -6,13 +6,9 @@ mod fault;
 mod file;
 mod head;
 mod line;
-#[cfg(test)]
-mod long_tests;
 mod number;
 mod reading;
 mod row;
-#[cfg(test)]
-mod tests;
 mod writing;
 
 pub use fault::{TraceError, TraceFault};

@@ -8,8 +8,6 @@ mod known;
 mod objects;
 mod settle;
 mod taken;
-#[cfg(test)]
-mod tests;
 
 pub use book::TurnBook;
 pub use taken::{Because, Reply, Taken};

@@ -13,8 +13,6 @@ mod seat;
 mod seats;
 mod slot;
 mod steps;
-#[cfg(test)]
-mod tests;
 mod turn;
 mod turning;
 mod view;

@@ -1,11 +1,11 @@
 -- The threads of a small test (this project): the first two each read a variable and write the next
 -- number into it, and the third waits for both and checks that it is 2. Tests and examples run
 -- them.
-use Rattle.std.specs.Prelude.{nat_lt, ℕ, zero, suc, ◌+◌, ℤ, pos, Bool, true, false}
-use Rattle.std.specs.Prelude.{if◌then◌else◌, List, [], ◌∷◌, Some, None}
+use Rattle.std.specs.Prelude.{ℕ, zero, suc, ◌+◌, ℤ, pos, if◌then◌else◌}
+use Rattle.std.specs.Prelude.{List, [], ◌∷◌, Some, None}
 use Rattle.std.specs.Ordering.{int_eq}
 use Rattle.pct_ask.specs.declared.ask.Ask.{Ask}
-use Rattle.pct_ask.specs.declared.ask.Ask.TheVariants.{Read, Write, Add, Down, Join, Check}
+use Rattle.pct_ask.specs.declared.ask.Ask.TheVariants.{Read, Write, Join, Check}
 use Rattle.pct_ask.specs.declared.ask.Post.{Post}
 
 -- 1 after 0, and else 2
@@ -46,22 +46,3 @@ sample_post (suc (suc t)) steps seen = checker_post steps seen
 abbrev pub sample_pending : ℕ → ℕ → ℤ → List ℤ → Post
 sample_pending t steps seen [] = sample_post t steps seen
 sample_pending t steps seen (answer ∷ answers) = sample_pending t (steps + 1) answer answers
-
--- ---- As many threads as there may be: each adds one to a variable, and ends.
-abbrev pub adding_pending : ℕ → Bool → List ℤ → Post
-adding_pending line true answers = ends line
-adding_pending line false [] = asks (Add 0 (pos 1)) line
-adding_pending line false (answer ∷ answers) = ends line
-
--- ---- A thread of one step: it asks, and ends.
-abbrev pub once_pending : Ask → ℕ → Bool → List ℤ → Post
-once_pending ask line true answers = ends line
-once_pending ask line false [] = asks ask line
-once_pending ask line false (answer ∷ answers) = ends line
-
--- it adds to the one variable, takes from the one semaphore, or checks
-abbrev pub is_deed : Ask → Bool
-is_deed (Add x value) = nat_lt x 1
-is_deed (Down s) = nat_lt s 1
-is_deed (Check holds) = true
-is_deed ask = false

@@ -20,6 +20,3 @@ pub use lent::run_on;
 pub use many::run_many;
 pub use played::Played;
 pub use run::{run_here, run_threads};
-
-#[cfg(test)]
-mod tests;

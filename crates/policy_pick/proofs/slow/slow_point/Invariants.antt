@@ -1,6 +1,0 @@
-use Rattle.std.proofs.Common.{◌≡◌, eqb}
-use Rattle.rank_now.specs.Positions.{greatest, passes_at}
-use Rattle.policy_pick.proofs.slow.slow_point.Given as goal
-
-abbrev pub invariant-loop-place : goal.invariant-loop-place
-invariant-loop-place l = l.index ≡ greatest (passes_at (λ point. eqb point l.step) l.points) l.place

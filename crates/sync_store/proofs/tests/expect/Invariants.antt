@@ -1,6 +1,0 @@
-use Rattle.std.proofs.Common.{◌≡◌}
-use Rattle.sync_store.specs.Store.{sizes_of, sizes_of_deal}
-use Rattle.sync_store.proofs.tests.expect.Given as goal
-
-abbrev pub invariant-loop-thread : goal.invariant-loop-thread
-invariant-loop-thread g l = sizes_of l.store ≡ sizes_of_deal l.deal

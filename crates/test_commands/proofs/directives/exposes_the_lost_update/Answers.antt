@@ -1,0 +1,23 @@
+-- The lists name each of the three threads once.
+use Rattle.std.proofs.Common.{[], ◌∷◌, refl, arith}
+use Rattle.rank_now.specs.Order.{IsOrder}
+use Rattle.directive_run.proofs.laws.OrderLists.{same-order}
+use Rattle.test_commands.proofs.directives.exposes_the_lost_update.Goals as goal
+
+second_last : IsOrder (0 ∷ 2 ∷ 1 ∷ [])
+second_last = same-order 3 (0 ∷ 2 ∷ 1 ∷ []) refl (λ x. omega arith)
+
+as_declared : IsOrder (0 ∷ 1 ∷ 2 ∷ [])
+as_declared = same-order 3 (0 ∷ 1 ∷ 2 ∷ []) refl (λ x. refl)
+
+pub exposed-requires-clause-order : goal.exposed-requires-clause-order
+exposed-requires-clause-order g c = λ κs. second_last
+
+pub exposed-requires-2-clause-order : goal.exposed-requires-2-clause-order
+exposed-requires-2-clause-order g c = λ κs. second_last
+
+pub exposed-requires-3-clause-order : goal.exposed-requires-3-clause-order
+exposed-requires-3-clause-order g c = λ κs. as_declared
+
+pub exposed-requires-4-clause-order : goal.exposed-requires-4-clause-order
+exposed-requires-4-clause-order g c = λ κs. as_declared

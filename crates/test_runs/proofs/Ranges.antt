@@ -1,0 +1,89 @@
+-- The threads of the tests name only what there is.
+use Rattle.std.proofs.Common.{◌≡◌, ℕ, zero, suc, ◌≤◌, ◌&&◌, ℤ, pos, Bool, true, false}
+use Rattle.std.proofs.Common.{List, [], ◌∷◌, length, map, refl, sym, subst, arith}
+use Rattle.std.specs.List.{list_all}
+use Rattle.std.proofs.lemmas.Bool.{false≢true, ltb-true}
+use Rattle.pct_ask.specs.declared.Deal.{Deal}
+use Rattle.pct_ask.specs.declared.ask.Ask.{Ask}
+use Rattle.pct_ask.specs.declared.ask.Ask.TheVariants.{Read, Write, Add, Cas, Lock, TryLock}
+use Rattle.pct_ask.specs.declared.ask.Ask.TheVariants.{Unlock, Release, Regain, Signal, Broadcast}
+use Rattle.pct_ask.specs.declared.ask.Ask.TheVariants.{Down, TryDown, Up, Arrive, Leave, Join}
+use Rattle.pct_ask.specs.declared.ask.Ask.TheVariants.{Yield, Check, Fault, Start, Begin, RdLock}
+use Rattle.pct_ask.specs.declared.ask.Ask.TheVariants.{WrLock, TryRdLock, TryWrLock, RwUnlock}
+use Rattle.sync_store.specs.Store.{Sizes, sizes_of_deal}
+use Rattle.sync_store.specs.Enabled.{IsInRange}
+use Rattle.turn_book.specs.Told.{PostIsInRange}
+use Rattle.worker_run.specs.Bodies.{AreInRange}
+use Rattle.worker_run.specs.Samples.{sample_pending}
+use Rattle.worker_run.proofs.laws.SampleRanges.{samples-within}
+use Rattle.test_runs.specs.OneStep.{once_pending, is_deed}
+
+-- the threads of the small test, where three threads share a variable
+pub samples-fit : {X : Type 0} (deal : Deal) → length deal.vars ≡ 1 → deal.threads ≡ 3
+    → (thread steps : X → ℕ) (seen : X → ℤ) (items : List X)
+    → AreInRange (sizes_of_deal deal)
+    (map (λ b. sample_pending (thread b) (steps b) (seen b)) items)
+samples-fit deal vars threads thread steps seen items =
+    samples-within (sizes_of_deal deal) (omega (arith, vars)) (omega (arith, threads))
+    thread steps seen items
+
+-- ---- threads of one step
+module _ (sizes : Sizes) (vars : 1 ≤ sizes.vars) (sems : 1 ≤ sizes.sems) where
+  deed-within : (ask : Ask) → is_deed ask ≡ true → IsInRange sizes ask
+  deed-within (Add x value) is = let b = ltb-true x 1 is in omega arith
+  deed-within (Down s) is = let b = ltb-true s 1 is in omega arith
+  deed-within (Check holds) is = tt
+  deed-within (Read x) is = absurd (false≢true is)
+  deed-within (Write x value) is = absurd (false≢true is)
+  deed-within (Cas x old new) is = absurd (false≢true is)
+  deed-within (Lock m) is = absurd (false≢true is)
+  deed-within (TryLock m) is = absurd (false≢true is)
+  deed-within (Unlock m) is = absurd (false≢true is)
+  deed-within (Release c m) is = absurd (false≢true is)
+  deed-within (Regain c m) is = absurd (false≢true is)
+  deed-within (Signal c) is = absurd (false≢true is)
+  deed-within (Broadcast c) is = absurd (false≢true is)
+  deed-within (TryDown s) is = absurd (false≢true is)
+  deed-within (Up s) is = absurd (false≢true is)
+  deed-within (Arrive b) is = absurd (false≢true is)
+  deed-within (Leave b) is = absurd (false≢true is)
+  deed-within (Join u) is = absurd (false≢true is)
+  deed-within Yield is = absurd (false≢true is)
+  deed-within (Fault kind) is = absurd (false≢true is)
+  deed-within (Start u) is = absurd (false≢true is)
+  deed-within Begin is = absurd (false≢true is)
+  deed-within (RdLock l) is = absurd (false≢true is)
+  deed-within (WrLock l) is = absurd (false≢true is)
+  deed-within (TryRdLock l) is = absurd (false≢true is)
+  deed-within (TryWrLock l) is = absurd (false≢true is)
+  deed-within (RwUnlock l) is = absurd (false≢true is)
+
+  once-within : (ask : Ask) (line : ℕ) (asked : Bool) (answers : List ℤ) → is_deed ask ≡ true
+      → PostIsInRange sizes (once_pending ask line asked answers).ask
+  once-within ask line true answers is = tt
+  once-within ask line false [] is = deed-within ask is
+  once-within ask line false (answer ∷ answers) is = tt
+
+  -- threads that add
+  pub adders-within : {X : Type 0} (line : X → ℕ) (added : X → Bool) (items : List X)
+      → AreInRange sizes (map (λ b. once_pending (Add 0 (pos 1)) (line b) (added b)) items)
+  adders-within line added [] t answers = tt
+  adders-within line added (b ∷ items) zero answers =
+      once-within (Add 0 (pos 1)) (line b) (added b) answers refl
+  adders-within line added (b ∷ items) (suc t) answers = adders-within line added items t answers
+
+  both-true : (a b : Bool) → (a && b) ≡ true → (a ≡ true) × (b ≡ true)
+  both-true true b is = (refl, is)
+  both-true false b is = absurd (false≢true is)
+
+  pub onces-within : {X : Type 0} (line : ℕ) (ask : X → Ask) (asked : X → Bool) (make : Ask → X)
+      → ((a : Ask) → ask (make a) ≡ a) → (asks : List Ask) → list_all is_deed asks ≡ true
+      → AreInRange sizes (map (λ b. once_pending (ask b) line (asked b)) (map make asks))
+  onces-within line ask asked make same [] deeds t answers = tt
+  onces-within line ask asked make same (a ∷ asks) deeds zero answers =
+      let is = (both-true (is_deed a) (list_all is_deed asks) deeds).0 in
+      let D : Ask → Type 0 = λ x. is_deed x ≡ true in
+      once-within (ask (make a)) line (asked (make a)) answers (subst D (sym (same a)) is)
+  onces-within line ask asked make same (a ∷ asks) deeds (suc t) answers =
+      onces-within line ask asked make same asks
+      (both-true (is_deed a) (list_all is_deed asks) deeds).1 t answers

@@ -1,0 +1,28 @@
+use Rattle.std.proofs.Common.{rules, false, List, map, length, refl, sym, ap, subst, ◌∙◌, arith}
+use Rattle.std.proofs.lemmas.List.{length-map}
+use Rattle.pct_ask.specs.declared.ask.Ask.{Ask}
+use Rattle.sync_store.specs.Store.{sizes_of_deal}
+use Rattle.worker_run.specs.Bodies.{AreInRange}
+use Rattle.test_runs.specs.OneStep.{once_pending}
+use Rattle.test_runs.specs.declared.runs.batches.Once.{Once}
+use Rattle.test_runs.proofs.Ranges.{onces-within}
+use Rattle.test_runs.proofs.runs.batches.once_test.Goals as goal
+
+pub returns : goal.returns
+returns c =
+    let sizes = sizes_of_deal c.in_ok-deal.deal in
+    let made = c.in_ok-bodies.ensures in
+    let new : Ask → Once = λ ask. record { ask = ask; asked = false } in
+    let R : List Once → Type 0 =
+    λ l. AreInRange sizes (map (λ (b : Once). once_pending b.ask 7 b.asked) l) in
+    record {
+      some_steps = c.requires.some_steps;
+      few_steps = c.requires.few_steps;
+      stands = search rules;
+      speaks = search rules;
+      bodies = ap length made ∙ length-map c.args.asks.now new ∙ sym c.in_ok-deal.ensures.threads;
+      in_range = subst R (sym made) (onces-within sizes
+          (omega (arith, c.in_ok-deal.ensures.vars)) (omega (arith, c.in_ok-deal.ensures.sems))
+          7 (λ (b : Once). b.ask) (λ (b : Once). b.asked) new (λ a. refl)
+          c.args.asks.now c.requires.deeds);
+    }

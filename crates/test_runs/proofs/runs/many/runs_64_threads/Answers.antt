@@ -1,0 +1,11 @@
+use Rattle.std.proofs.Common.{arith}
+use Rattle.sync_store.specs.Store.{sizes_of_deal}
+use Rattle.test_runs.specs.declared.runs.many.Adder.{Adder}
+use Rattle.test_runs.proofs.Ranges.{adders-within}
+use Rattle.test_runs.proofs.runs.many.runs_64_threads.Goals as goal
+
+pub run_threads-requires-clause-in_range : goal.run_threads-requires-clause-in_range
+run_threads-requires-clause-in_range g c = λ κs.
+    adders-within (sizes_of_deal c.in_ok-deal.deal) (omega (arith, c.in_ok-deal.ensures.vars))
+    (omega (arith, c.in_ok-deal.ensures.sems)) (λ (b : Adder). b.line) (λ (b : Adder). b.added)
+    c.in_ok-bodies.bodies.items

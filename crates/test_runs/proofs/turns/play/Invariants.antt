@@ -1,0 +1,5 @@
+use Rattle.turn_lock.specs.Views.{IsOf}
+use Rattle.test_runs.proofs.turns.play.Given as goal
+
+abbrev pub invariant-loop : goal.invariant-loop
+invariant-loop g l = IsOf l.fn.lock l.seat

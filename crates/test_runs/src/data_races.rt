@@ -1,0 +1,291 @@
+//! The data races of lists of steps.
+ghost use Rattle.std.specs.Prelude.{IsTrue, All};
+ghost use Rattle.sync_store.specs.Store.{sizes_of_deal};
+ghost use Rattle.hb_race.specs.Ranges.{IsEventInRange};
+
+use crate::deals::fits;
+use hb_race::{Race, races};
+use pct_ask::{Ask, Deal, Event, Outcome, Sequence, Verdict};
+use std::alloc::{AllocError, Global};
+use std::process::Abort;
+use std::test::Fail;
+use worker_run::Played;
+
+/// Three threads, two variables, and another object of each kind.
+fn small_deal(alloc: Global) -> Result<Deal, AllocError> {
+    Ok(Deal {
+        threads: 3,
+        vars: Sequence::from_vec(vec![in alloc; 0, 0]?),
+        mutexes: 1,
+        conds: 1,
+        sems: Sequence::from_vec(vec![in alloc; 1]?),
+        barriers: Sequence::from_vec(vec![in alloc; 2]?),
+        rwlocks: 1,
+    })
+}
+
+/// Whether a step is by one of the threads, and asks for what there is.
+fn is_in_range(deal: &Deal, event: &Event) -> bool
+    ensures { IsTrue result → IsEventInRange (sizes_of_deal deal.now) event.now }
+{
+    event.thread < deal.threads && fits(deal, &event.ask)
+}
+
+fn are_in_range(deal: &Deal, events: &[Event]) -> bool
+    ensures { IsTrue result → All (IsEventInRange (sizes_of_deal deal.now)) events.now }
+{
+    events.iter().all(|event| is_in_range(deal, event))
+}
+
+/// Steps of threads, each with its ask and its answer, have these races.
+fn expect(
+    rt: &impl Abort,
+    alloc: Global,
+    steps: &[(u32, Ask, i64)],
+    expected: &[Race],
+) -> Result<(), Fail> {
+    let mut events = Vec::new(alloc);
+    for (thread, ask, answer) in steps {
+        events.push(Event {
+            thread: *thread,
+            line: 1,
+            ask: *ask,
+            answer: *answer,
+        })?;
+    }
+    let deal = small_deal(alloc)?;
+    let played = Played {
+        events: Sequence::from_vec(events),
+        outcome: Outcome::Verdict(Verdict::Passed),
+    };
+    assert!(rt; played.events.len() <= 100_000);
+    assert!(rt; are_in_range(&deal, played.events.as_slice()));
+    let found = races(alloc, &deal, &played)?;
+    assert_eq!(rt; found.as_slice(), expected);
+    Ok(())
+}
+
+/// Two threads add to a variable by a read and a write, and a third joins both and reads it.
+#[test]
+fn one_race(rt: HostRuntime) -> Result<(), Fail> {
+    let steps = [
+        (0, Ask::Read { var: 0 }, 0),
+        (0, Ask::Write { var: 0, value: 1 }, 0),
+        (1, Ask::Read { var: 0 }, 1),
+        (1, Ask::Write { var: 0, value: 2 }, 0),
+        (2, Ask::Join { thread: 0 }, 0),
+        (2, Ask::Join { thread: 1 }, 0),
+        (2, Ask::Read { var: 0 }, 2),
+        (2, Ask::Check { holds: true }, 0),
+    ];
+    let race = Race {
+        var: 0,
+        first: 2,
+        second: 3,
+    };
+    expect(&rt, rt.alloc(), &steps, &[race])
+}
+
+/// The same mutex is held round both writes.
+#[test]
+fn no_race(rt: HostRuntime) -> Result<(), Fail> {
+    let steps = [
+        (0, Ask::Lock { mutex: 0 }, 0),
+        (0, Ask::Write { var: 0, value: 1 }, 0),
+        (0, Ask::Unlock { mutex: 0 }, 0),
+        (1, Ask::Lock { mutex: 0 }, 0),
+        (1, Ask::Write { var: 0, value: 2 }, 0),
+        (1, Ask::Unlock { mutex: 0 }, 0),
+    ];
+    expect(&rt, rt.alloc(), &steps, &[])
+}
+
+/// A failed exchange after a plain write does not hide the write from a later read, and an addition
+/// of another thread comes after the one before it, with all that came before that.
+#[test]
+fn atomic_accesses(rt: HostRuntime) -> Result<(), Fail> {
+    let exchange = Ask::Cas {
+        var: 0,
+        old: 5,
+        new: 6,
+    };
+    let steps = [
+        (0, Ask::Write { var: 0, value: 1 }, 0),
+        (0, exchange, 0),
+        (0, Ask::Write { var: 1, value: 1 }, 0),
+        (0, Ask::Add { var: 1, value: 1 }, 1),
+        (1, Ask::Read { var: 0 }, 1),
+        (1, Ask::Add { var: 1, value: 1 }, 2),
+        (1, Ask::Read { var: 1 }, 3),
+        (2, Ask::Read { var: 1 }, 3),
+    ];
+    let exchanged = Race {
+        var: 0,
+        first: 1,
+        second: 5,
+    };
+    let added = Race {
+        var: 1,
+        first: 6,
+        second: 8,
+    };
+    expect(&rt, rt.alloc(), &steps, &[exchanged, added])
+}
+
+/// What one thread does, with its answer, then another, with its answer, and whether that is an
+/// edge. Thread 0 is the first, thread 1 the other.
+const PAIRS: [(Ask, i64, Ask, i64, bool); 26] = [
+    (Ask::Unlock { mutex: 0 }, 0, Ask::Lock { mutex: 0 }, 0, true),
+    (
+        Ask::Unlock { mutex: 0 },
+        0,
+        Ask::TryLock { mutex: 0 },
+        1,
+        true,
+    ),
+    (
+        Ask::Unlock { mutex: 0 },
+        0,
+        Ask::TryLock { mutex: 0 },
+        0,
+        false,
+    ),
+    (
+        Ask::Unlock { mutex: 0 },
+        0,
+        Ask::Regain { cond: 0, mutex: 0 },
+        0,
+        true,
+    ),
+    (
+        Ask::Release { cond: 0, mutex: 0 },
+        0,
+        Ask::Lock { mutex: 0 },
+        0,
+        true,
+    ),
+    (Ask::Lock { mutex: 0 }, 0, Ask::Lock { mutex: 0 }, 0, false),
+    (
+        Ask::Signal { cond: 0 },
+        1,
+        Ask::Regain { cond: 0, mutex: 0 },
+        0,
+        true,
+    ),
+    (
+        Ask::Signal { cond: 0 },
+        0,
+        Ask::Regain { cond: 0, mutex: 0 },
+        0,
+        false,
+    ),
+    (
+        Ask::Broadcast { cond: 0 },
+        2,
+        Ask::Regain { cond: 0, mutex: 0 },
+        0,
+        true,
+    ),
+    (
+        Ask::Broadcast { cond: 0 },
+        0,
+        Ask::Regain { cond: 0, mutex: 0 },
+        0,
+        false,
+    ),
+    (Ask::Up { sem: 0 }, 0, Ask::Down { sem: 0 }, 0, true),
+    (Ask::Up { sem: 0 }, 0, Ask::TryDown { sem: 0 }, 1, true),
+    (Ask::Up { sem: 0 }, 0, Ask::TryDown { sem: 0 }, 0, false),
+    (
+        Ask::Arrive { barrier: 0 },
+        0,
+        Ask::Leave { barrier: 0 },
+        1,
+        true,
+    ),
+    (
+        Ask::Arrive { barrier: 0 },
+        0,
+        Ask::Arrive { barrier: 0 },
+        0,
+        false,
+    ),
+    (Ask::Yield, 0, Ask::Join { thread: 0 }, 0, true),
+    (Ask::Yield, 0, Ask::Join { thread: 2 }, 0, false),
+    (Ask::Start { thread: 1 }, 0, Ask::Begin, 0, true),
+    (Ask::Start { thread: 2 }, 0, Ask::Begin, 0, false),
+    (
+        Ask::RwUnlock { rwlock: 0 },
+        0,
+        Ask::RdLock { rwlock: 0 },
+        0,
+        true,
+    ),
+    (
+        Ask::RwUnlock { rwlock: 0 },
+        0,
+        Ask::WrLock { rwlock: 0 },
+        0,
+        true,
+    ),
+    (
+        Ask::RwUnlock { rwlock: 0 },
+        0,
+        Ask::TryRdLock { rwlock: 0 },
+        1,
+        true,
+    ),
+    (
+        Ask::RwUnlock { rwlock: 0 },
+        0,
+        Ask::TryWrLock { rwlock: 0 },
+        1,
+        true,
+    ),
+    (
+        Ask::RwUnlock { rwlock: 0 },
+        0,
+        Ask::TryWrLock { rwlock: 0 },
+        0,
+        false,
+    ),
+    (
+        Ask::RdLock { rwlock: 0 },
+        0,
+        Ask::RdLock { rwlock: 0 },
+        0,
+        false,
+    ),
+    (
+        Ask::Add { var: 1, value: 1 },
+        0,
+        Ask::Add { var: 1, value: 1 },
+        1,
+        true,
+    ),
+];
+
+/// Two threads write, and an edge lies between the writes or none.
+#[test]
+fn edges(rt: HostRuntime) -> Result<(), Fail> {
+    let write = Ask::Write { var: 0, value: 1 };
+    let race = Race {
+        var: 0,
+        first: 1,
+        second: 4,
+    };
+    for (first, told, second, answer, ordered) in &PAIRS {
+        let steps = [
+            (0, write, 0),
+            (0, *first, *told),
+            (1, *second, *answer),
+            (1, write, 0),
+        ];
+        if *ordered {
+            expect(&rt, rt.alloc(), &steps, &[])?;
+        } else {
+            expect(&rt, rt.alloc(), &steps, &[race])?;
+        }
+    }
+    Ok(())
+}

@@ -1,0 +1,158 @@
+//! Threads of a test's own, each with a port.
+ghost use Rattle.std.specs.Prelude.{◌≡◌, ◌≤◌, ℕ, true, length};
+ghost use Rattle.std.specs.Thread.{IsSync};
+ghost use Rattle.turn_lock.specs.Seen.{owes_of};
+ghost use Rattle.turn_lock.specs.Rule.{Serves};
+ghost use Rattle.turn_lock.specs.Calls.{ServesAll};
+ghost use Rattle.turn_lock.specs.Views.{view, IsOf};
+
+use crate::deals::deal_of;
+use crate::steps::{IN_ORDER, READ};
+use body_kit::{Asked, Kit, KitError};
+use pct_ask::{Ask, EventList, Outcome, Verdict};
+use policy_pick::Pct;
+use std::process::Abort;
+use std::sync::Wait;
+use std::test::Fail;
+use std::thread::{Threads, join};
+use turn_lock::Seat;
+
+/// What was read, and 0 where the run is over.
+fn value_of(asked: Asked) -> i64 {
+    match asked {
+        Asked::Answer(value) => value,
+        Asked::Over(_) => 0,
+    }
+}
+
+/// A thread of the kit's reads a number, and writes the next.
+fn count<R: Wait>(rt: &R, kit: &Kit, mut seat: Seat<Pct>, thread: u32, line: u32) -> Seat<Pct>
+    requires of { IsOf kit.now seat }
+    requires serves { Serves (view seat) thread }
+    requires owes { owes_of (view seat).seen thread ≡ true }
+    requires line { line ≤ 8 }
+    requires vars { 1 ≤ length (view seat).seen.deal.vars }
+    ensures of { IsOf kit.now result }
+    ensures serves { Serves (view result) thread }
+{
+    let mut port = kit.port(&mut seat, thread);
+    let seen = value_of(port.ask(rt, READ, line));
+    let value = seen.wrapping_add(1);
+    port.ask(rt, Ask::Write { var: 0, value }, line + 1);
+    port.end(rt, line + 2)
+}
+
+/// A thread of the kit's waits for both counters, and checks the number.
+fn check<R: Wait>(rt: &R, kit: &Kit, mut seat: Seat<Pct>) -> Seat<Pct>
+    requires of { IsOf kit.now seat }
+    requires serves { Serves (view seat) 2 }
+    requires owes { owes_of (view seat).seen 2 ≡ true }
+    requires vars { 1 ≤ length (view seat).seen.deal.vars }
+    requires threads { 2 ≤ (view seat).seen.deal.threads }
+    ensures of { IsOf kit.now result }
+    ensures serves { Serves (view result) 2 }
+{
+    let mut port = kit.port(&mut seat, 2);
+    port.ask(rt, Ask::Join { thread: 0 }, 12);
+    port.ask(rt, Ask::Join { thread: 1 }, 13);
+    let holds = value_of(port.ask(rt, READ, 14)) == 2;
+    port.ask(rt, Ask::Check { holds }, 15);
+    port.end(rt, 16)
+}
+
+/// The three threads run, and their seats are joined.
+fn run_all<R: Threads + Wait + Sync>(
+    rt: &R,
+    owned: Kit,
+    mut seat: Seat<Pct>,
+) -> (EventList, Option<Outcome>)
+    requires of { IsOf owned seat }
+    requires all { ServesAll (view seat) }
+    requires owe { (t : ℕ) → owes_of (view seat).seen t ≡ true }
+    requires threads { (view seat).seen.deal.threads ≡ 3 }
+    requires vars { length (view seat).seen.deal.vars ≡ 1 }
+{
+    let kit = &owned;
+    let one = kit.split(&mut seat, 0);
+    let other = kit.split(&mut seat, 1);
+    let last = kit.split(&mut seat, 2);
+    let (one, (other, last)) = join(
+        rt,
+        move || -> Seat<Pct>
+            requires { IsOf kit.now one
+                × Serves (view one) 0
+                × (owes_of (view one).seen 0 ≡ true)
+                × (1 ≤ length (view one).seen.deal.vars) }
+            ensures { IsOf kit.entry.now result × Serves (view result) 0 }
+        { count(rt, kit, one, 0, 4) },
+        move || -> (Seat<Pct>, Seat<Pct>)
+            requires { IsSync R.row
+                × (IsOf kit.now other
+                × Serves (view other) 1
+                × (owes_of (view other).seen 1 ≡ true)
+                × (1 ≤ length (view other).seen.deal.vars))
+                × (IsOf kit.now last
+                × Serves (view last) 2
+                × (owes_of (view last).seen 2 ≡ true)
+                × (1 ≤ length (view last).seen.deal.vars)
+                × (2 ≤ (view last).seen.deal.threads)) }
+            ensures { IsOf kit.entry.now result.0
+                × Serves (view result.0) 1
+                × IsOf kit.entry.now result.1
+                × Serves (view result.1) 2 }
+        {
+            join(
+                rt,
+                move || -> Seat<Pct>
+                    requires { IsOf kit.now other
+                        × Serves (view other) 1
+                        × (owes_of (view other).seen 1 ≡ true)
+                        × (1 ≤ length (view other).seen.deal.vars) }
+                    ensures { IsOf kit.entry.now result × Serves (view result) 1 }
+                { count(rt, kit, other, 1, 8) },
+                move || -> Seat<Pct>
+                    requires { IsOf kit.now last
+                        × Serves (view last) 2
+                        × (owes_of (view last).seen 2 ≡ true)
+                        × (1 ≤ length (view last).seen.deal.vars)
+                        × (2 ≤ (view last).seen.deal.threads) }
+                    ensures { IsOf kit.entry.now result × Serves (view result) 2 }
+                { check(rt, kit, last) },
+            )
+        },
+    );
+    owned.join(&mut seat, one);
+    owned.join(&mut seat, other);
+    owned.join(&mut seat, last);
+    owned.close(seat).into_parts()
+}
+
+#[test]
+fn counts_in_order(rt: HostRuntime) -> Result<(), Fail> {
+    let deal = deal_of(rt.alloc(), 3)?;
+    let (kit, seat) = Kit::open(rt.alloc(), deal, &[0, 1, 2], &[], 10_000)?;
+    let (events, outcome) = run_all(&rt, kit, seat);
+    assert_eq!(rt; events.as_slice(), IN_ORDER.as_slice());
+    assert_eq!(rt; outcome, Some(Outcome::Verdict(Verdict::Passed)));
+    Ok(())
+}
+
+/// Whether a kit is refused with these counts.
+fn is_wrong_count(error: &KitError, had: u32, named: u32) -> bool {
+    matches!(error, KitError::WrongCount { bodies, order } if *bodies == had && *order == named)
+}
+
+#[test]
+fn refuses_an_order(rt: HostRuntime) -> Result<(), Fail> {
+    let deal = deal_of(rt.alloc(), 3)?;
+    match Kit::open(rt.alloc(), deal, &[0, 1], &[], 10_000) {
+        Ok(_) => assert!(rt; false),
+        Err(error) => assert!(rt; is_wrong_count(&error, 3, 2)),
+    }
+    let deal = deal_of(rt.alloc(), 3)?;
+    match Kit::open(rt.alloc(), deal, &[0, 0, 1], &[], 10_000) {
+        Ok(_) => assert!(rt; false),
+        Err(error) => assert!(rt; matches!(error, KitError::NotAnOrder { at: 1 })),
+    }
+    Ok(())
+}

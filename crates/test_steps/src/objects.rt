@@ -1,0 +1,366 @@
+ghost use Rattle.std.specs.Prelude.{◌≡◌};
+ghost use Rattle.sync_store.specs.Store.{sizes_of, sizes_of_deal};
+
+use crate::samples::fits;
+use pct_ask::{Ask, Deal, FaultKind, MisuseKind, Sequence, Standing, Verdict};
+use std::alloc::{AllocError, Global};
+use std::process::Abort;
+use std::test::Fail;
+use sync_store::{Applied, Ready, Store, Touched};
+
+/// What becomes of an ask while all other threads have ended.
+#[derive(Clone, Copy, Debug, PartialEq, Eq)]
+enum Seen {
+    Told(i64),
+    Waits,
+    Ends(Verdict),
+}
+
+const LINE: u32 = 7;
+
+/// Three threads, and an object or two of each kind.
+fn small_deal(alloc: Global) -> Result<Deal, AllocError> {
+    Ok(Deal {
+        threads: 3,
+        vars: Sequence::from_vec(vec![in alloc; 5]?),
+        mutexes: 2,
+        conds: 1,
+        sems: Sequence::from_vec(vec![in alloc; 1, 2_147_483_647]?),
+        barriers: Sequence::from_vec(vec![in alloc; 1, 3]?),
+        rwlocks: 1,
+    })
+}
+
+fn see(rt: &impl Abort, deal: &Deal, store: &mut Store, thread: u32, ask: Ask) -> Seen
+    requires { sizes_of store.old ≡ sizes_of_deal deal.now }
+    ensures { sizes_of store.new ≡ sizes_of_deal deal.now }
+{
+    assert_eq!(rt; deal.threads, 3);
+    assert!(rt; thread < 3);
+    assert!(rt; fits(deal, &ask));
+    let mut standings = [Standing::Ended; 3];
+    standings[thread as usize] = Standing::Asks;
+    match store.ready(&standings, thread, &ask) {
+        Ready::Yes => match store.apply(thread, LINE, &ask) {
+            Applied::Answer(answer) => Seen::Told(answer),
+            Applied::Ends(verdict) => Seen::Ends(verdict),
+        },
+        Ready::No => Seen::Waits,
+        Ready::Unknown { .. } => panic!(rt; "no thread is away"),
+    }
+}
+
+fn expect(rt: &impl Abort, deal: &Deal, store: &mut Store, steps: &[(u32, Ask, Seen)])
+    requires { sizes_of store.old ≡ sizes_of_deal deal.now }
+    ensures { sizes_of store.new ≡ sizes_of_deal deal.now }
+{
+    for (thread, ask, wanted) in steps {
+        let seen = see(rt, deal, store, *thread, *ask);
+        assert_eq!(rt; seen, *wanted, "{thread} {ask:?}");
+    }
+}
+
+fn misuse(thread: u32, kind: MisuseKind) -> Seen {
+    Seen::Ends(Verdict::Misuse {
+        thread,
+        line: LINE,
+        kind,
+    })
+}
+
+fn fault(thread: u32, kind: FaultKind) -> Seen {
+    Seen::Ends(Verdict::Fault {
+        thread,
+        line: LINE,
+        kind,
+    })
+}
+
+/// An addition to the variable.
+fn add(value: i64) -> Ask {
+    Ask::Add { var: 0, value }
+}
+
+/// A compare-and-swap of the variable.
+fn exchange(old: i64, new: i64) -> Ask {
+    Ask::Cas { var: 0, old, new }
+}
+
+#[test]
+fn variables(rt: HostRuntime) -> Result<(), Fail> {
+    let deal = small_deal(rt.alloc())?;
+    let mut store = Store::new(rt.alloc(), &deal)?;
+    let steps = [
+        (0, Ask::Read { var: 0 }, Seen::Told(5)),
+        (1, Ask::Write { var: 0, value: 7 }, Seen::Told(0)),
+        (0, add(3), Seen::Told(7)),
+        (1, add(i64::MAX), fault(1, FaultKind::Overflow)),
+        (0, exchange(10, i64::MIN), Seen::Told(1)),
+        (0, exchange(10, 1), Seen::Told(0)),
+        (1, add(-1), fault(1, FaultKind::Overflow)),
+        (2, Ask::Read { var: 0 }, Seen::Told(i64::MIN)),
+    ];
+    expect(&rt, &deal, &mut store, &steps);
+    Ok(())
+}
+
+#[test]
+fn mutexes(rt: HostRuntime) -> Result<(), Fail> {
+    let deal = small_deal(rt.alloc())?;
+    let mut store = Store::new(rt.alloc(), &deal)?;
+    let steps = [
+        (0, Ask::Unlock { mutex: 0 }, misuse(0, MisuseKind::NotOwner)),
+        (0, Ask::Lock { mutex: 0 }, Seen::Told(0)),
+        (0, Ask::Lock { mutex: 0 }, Seen::Waits),
+        (1, Ask::Lock { mutex: 0 }, Seen::Waits),
+        (1, Ask::TryLock { mutex: 0 }, Seen::Told(0)),
+        (1, Ask::Unlock { mutex: 0 }, misuse(1, MisuseKind::NotOwner)),
+        (1, Ask::Lock { mutex: 1 }, Seen::Told(0)),
+        (0, Ask::Unlock { mutex: 0 }, Seen::Told(0)),
+        (1, Ask::TryLock { mutex: 0 }, Seen::Told(1)),
+        (1, Ask::Unlock { mutex: 0 }, Seen::Told(0)),
+    ];
+    expect(&rt, &deal, &mut store, &steps);
+    Ok(())
+}
+
+// A signal is lost where nobody waits. Three threads wait with two mutexes and are woken together.
+#[test]
+fn conditions(rt: HostRuntime) -> Result<(), Fail> {
+    let deal = small_deal(rt.alloc())?;
+    let mut store = Store::new(rt.alloc(), &deal)?;
+    let steps = [
+        (
+            0,
+            Ask::Release { cond: 0, mutex: 0 },
+            misuse(0, MisuseKind::NotOwner),
+        ),
+        (0, Ask::Signal { cond: 0 }, Seen::Told(0)),
+        (0, Ask::Lock { mutex: 0 }, Seen::Told(0)),
+        (0, Ask::Release { cond: 0, mutex: 0 }, Seen::Told(0)),
+        (1, Ask::Lock { mutex: 1 }, Seen::Told(0)),
+        (1, Ask::Release { cond: 0, mutex: 1 }, Seen::Told(0)),
+        (2, Ask::Lock { mutex: 0 }, Seen::Told(0)),
+        (2, Ask::Release { cond: 0, mutex: 0 }, Seen::Told(0)),
+        (0, Ask::Regain { cond: 0, mutex: 0 }, Seen::Waits),
+        (0, Ask::Broadcast { cond: 0 }, Seen::Told(3)),
+        (0, Ask::Broadcast { cond: 0 }, Seen::Told(0)),
+        (2, Ask::Regain { cond: 0, mutex: 0 }, Seen::Told(0)),
+        (0, Ask::Regain { cond: 0, mutex: 0 }, Seen::Waits),
+        (1, Ask::Regain { cond: 0, mutex: 1 }, Seen::Told(0)),
+        (2, Ask::Unlock { mutex: 0 }, Seen::Told(0)),
+        (2, Ask::Regain { cond: 0, mutex: 0 }, Seen::Waits),
+        (0, Ask::Regain { cond: 0, mutex: 0 }, Seen::Told(0)),
+    ];
+    expect(&rt, &deal, &mut store, &steps);
+    Ok(())
+}
+
+// A thread that waits twice stands on the list once, and signals wake the longest waiter first.
+#[test]
+fn waits_twice(rt: HostRuntime) -> Result<(), Fail> {
+    let deal = small_deal(rt.alloc())?;
+    let mut store = Store::new(rt.alloc(), &deal)?;
+    let steps = [
+        (0, Ask::Lock { mutex: 0 }, Seen::Told(0)),
+        (0, Ask::Release { cond: 0, mutex: 0 }, Seen::Told(0)),
+        (1, Ask::Lock { mutex: 1 }, Seen::Told(0)),
+        (1, Ask::Release { cond: 0, mutex: 1 }, Seen::Told(0)),
+        (0, Ask::Lock { mutex: 0 }, Seen::Told(0)),
+        (0, Ask::Release { cond: 0, mutex: 0 }, Seen::Told(0)),
+        (2, Ask::Signal { cond: 0 }, Seen::Told(1)),
+        (1, Ask::Regain { cond: 0, mutex: 1 }, Seen::Waits),
+        (0, Ask::Lock { mutex: 0 }, Seen::Told(0)),
+        (0, Ask::Release { cond: 0, mutex: 0 }, Seen::Told(0)),
+        (2, Ask::Signal { cond: 0 }, Seen::Told(1)),
+        (1, Ask::Regain { cond: 0, mutex: 1 }, Seen::Told(0)),
+        (2, Ask::Signal { cond: 0 }, Seen::Told(1)),
+        (2, Ask::Signal { cond: 0 }, Seen::Told(0)),
+        (0, Ask::Regain { cond: 0, mutex: 0 }, Seen::Told(0)),
+        (0, Ask::Unlock { mutex: 0 }, Seen::Told(0)),
+        (0, Ask::Regain { cond: 0, mutex: 0 }, Seen::Waits),
+    ];
+    expect(&rt, &deal, &mut store, &steps);
+    Ok(())
+}
+
+#[test]
+fn semaphores(rt: HostRuntime) -> Result<(), Fail> {
+    let deal = small_deal(rt.alloc())?;
+    let mut store = Store::new(rt.alloc(), &deal)?;
+    let steps = [
+        (0, Ask::Down { sem: 0 }, Seen::Told(0)),
+        (0, Ask::Down { sem: 0 }, Seen::Waits),
+        (1, Ask::TryDown { sem: 0 }, Seen::Told(0)),
+        (1, Ask::Up { sem: 0 }, Seen::Told(0)),
+        (0, Ask::TryDown { sem: 0 }, Seen::Told(1)),
+        (0, Ask::TryDown { sem: 0 }, Seen::Told(0)),
+        (2, Ask::Up { sem: 1 }, misuse(2, MisuseKind::SemFull)),
+        (2, Ask::Down { sem: 1 }, Seen::Told(0)),
+        (2, Ask::Up { sem: 1 }, Seen::Told(0)),
+        (2, Ask::Up { sem: 1 }, misuse(2, MisuseKind::SemFull)),
+    ];
+    expect(&rt, &deal, &mut store, &steps);
+    Ok(())
+}
+
+// A barrier of one, and one of three at which the threads meet twice. A thread that arrives again
+// before it has left keeps its old entry.
+#[test]
+fn barriers(rt: HostRuntime) -> Result<(), Fail> {
+    let deal = small_deal(rt.alloc())?;
+    let mut store = Store::new(rt.alloc(), &deal)?;
+    let steps = [
+        (0, Ask::Leave { barrier: 0 }, Seen::Waits),
+        (0, Ask::Arrive { barrier: 0 }, Seen::Told(0)),
+        (0, Ask::Leave { barrier: 0 }, Seen::Told(1)),
+        (0, Ask::Leave { barrier: 0 }, Seen::Waits),
+        (0, Ask::Arrive { barrier: 1 }, Seen::Told(0)),
+        (0, Ask::Arrive { barrier: 1 }, Seen::Told(0)),
+        (1, Ask::Arrive { barrier: 1 }, Seen::Told(0)),
+        (0, Ask::Leave { barrier: 1 }, Seen::Waits),
+        (2, Ask::Arrive { barrier: 1 }, Seen::Told(0)),
+        (0, Ask::Leave { barrier: 1 }, Seen::Told(0)),
+        (1, Ask::Leave { barrier: 1 }, Seen::Told(0)),
+        (2, Ask::Arrive { barrier: 1 }, Seen::Told(0)),
+        (1, Ask::Arrive { barrier: 1 }, Seen::Told(0)),
+        (0, Ask::Arrive { barrier: 1 }, Seen::Told(0)),
+        (2, Ask::Leave { barrier: 1 }, Seen::Told(1)),
+        (2, Ask::Leave { barrier: 1 }, Seen::Waits),
+        (1, Ask::Leave { barrier: 1 }, Seen::Told(0)),
+        (0, Ask::Leave { barrier: 1 }, Seen::Told(1)),
+    ];
+    expect(&rt, &deal, &mut store, &steps);
+    Ok(())
+}
+
+#[test]
+fn threads(rt: HostRuntime) -> Result<(), Fail> {
+    let deal = small_deal(rt.alloc())?;
+    let mut store = Store::new(rt.alloc(), &deal)?;
+    assert!(rt; deal.threads == 3);
+    let failed = Verdict::Failed {
+        thread: 1,
+        line: LINE,
+    };
+    let steps = [
+        (0, Ask::Join { thread: 1 }, Seen::Told(0)),
+        (0, Ask::Join { thread: 0 }, Seen::Waits),
+        (0, Ask::Yield, Seen::Told(0)),
+        (0, Ask::Check { holds: true }, Seen::Told(0)),
+        (1, Ask::Check { holds: false }, Seen::Ends(failed)),
+        (
+            2,
+            Ask::Fault {
+                kind: FaultKind::Spin,
+            },
+            fault(2, FaultKind::Spin),
+        ),
+        (1, Ask::Begin, Seen::Waits),
+        (0, Ask::Start { thread: 1 }, Seen::Told(0)),
+        (1, Ask::Begin, Seen::Told(0)),
+        (
+            2,
+            Ask::Start { thread: 1 },
+            misuse(2, MisuseKind::AlreadyStarted),
+        ),
+    ];
+    expect(&rt, &deal, &mut store, &steps);
+    Ok(())
+}
+
+#[test]
+fn read_write_locks(rt: HostRuntime) -> Result<(), Fail> {
+    let deal = small_deal(rt.alloc())?;
+    let mut store = Store::new(rt.alloc(), &deal)?;
+    let steps = [
+        (
+            2,
+            Ask::RwUnlock { rwlock: 0 },
+            misuse(2, MisuseKind::NotOwner),
+        ),
+        (0, Ask::RdLock { rwlock: 0 }, Seen::Told(0)),
+        (1, Ask::TryRdLock { rwlock: 0 }, Seen::Told(1)),
+        (2, Ask::WrLock { rwlock: 0 }, Seen::Waits),
+        (2, Ask::TryWrLock { rwlock: 0 }, Seen::Told(0)),
+        (
+            2,
+            Ask::RwUnlock { rwlock: 0 },
+            misuse(2, MisuseKind::NotOwner),
+        ),
+        (0, Ask::RwUnlock { rwlock: 0 }, Seen::Told(0)),
+        (1, Ask::RwUnlock { rwlock: 0 }, Seen::Told(0)),
+        (2, Ask::WrLock { rwlock: 0 }, Seen::Told(0)),
+        (2, Ask::WrLock { rwlock: 0 }, Seen::Waits),
+        (0, Ask::RdLock { rwlock: 0 }, Seen::Waits),
+        (0, Ask::TryRdLock { rwlock: 0 }, Seen::Told(0)),
+        (0, Ask::TryWrLock { rwlock: 0 }, Seen::Told(0)),
+        (
+            0,
+            Ask::RwUnlock { rwlock: 0 },
+            misuse(0, MisuseKind::NotOwner),
+        ),
+        (2, Ask::RwUnlock { rwlock: 0 }, Seen::Told(0)),
+        (0, Ask::TryWrLock { rwlock: 0 }, Seen::Told(1)),
+        (0, Ask::RwUnlock { rwlock: 0 }, Seen::Told(0)),
+    ];
+    expect(&rt, &deal, &mut store, &steps);
+    Ok(())
+}
+
+#[test]
+fn read_holds(rt: HostRuntime) -> Result<(), Fail> {
+    let deal = small_deal(rt.alloc())?;
+    let mut store = Store::new(rt.alloc(), &deal)?;
+    let read = Ask::RdLock { rwlock: 0 };
+    for _ in 0..1000 {
+        assert_eq!(rt; see(&rt, &deal, &mut store, 0, read), Seen::Told(0));
+    }
+    let steps = [
+        (0, read, misuse(0, MisuseKind::TooManyReads)),
+        (0, Ask::TryRdLock { rwlock: 0 }, Seen::Told(0)),
+        (1, read, Seen::Told(0)),
+        (0, Ask::RwUnlock { rwlock: 0 }, Seen::Told(0)),
+        (0, read, Seen::Told(0)),
+    ];
+    expect(&rt, &deal, &mut store, &steps);
+    Ok(())
+}
+
+// The answer to a join goes with its target, and no other ask looks at the other threads.
+#[test]
+fn joins(rt: HostRuntime) -> Result<(), Fail> {
+    let deal = small_deal(rt.alloc())?;
+    let store = Store::new(rt.alloc(), &deal)?;
+    let standings = [Standing::Asks, Standing::Away, Standing::Ended];
+    let join = |thread| Ask::Join { thread };
+    for (ask, wanted) in [
+        (join(0), Ready::No),
+        (join(1), Ready::Unknown { target: 1 }),
+        (join(2), Ready::Yes),
+        (Ask::Lock { mutex: 1 }, Ready::Yes),
+        (Ask::Begin, Ready::No),
+    ] {
+        assert_eq!(rt; deal.threads, 3);
+        assert!(rt; fits(&deal, &ask));
+        assert_eq!(rt; store.ready(&standings, 0, &ask), wanted, "{ask:?}");
+        assert!(rt; !store.is_started(1));
+    }
+    Ok(())
+}
+
+#[test]
+fn touched_objects(rt: HostRuntime) {
+    for (ask, wanted) in [
+        (Ask::Read { var: 1 }, Touched::Nothing),
+        (Ask::Regain { cond: 1, mutex: 2 }, Touched::Mutex(2)),
+        (Ask::Broadcast { cond: 1 }, Touched::Cond(1)),
+        (Ask::TryDown { sem: 3 }, Touched::Sem(3)),
+        (Ask::Leave { barrier: 4 }, Touched::Barrier(4)),
+        (Ask::Start { thread: 5 }, Touched::Thread(5)),
+        (Ask::Begin, Touched::Nothing),
+        (Ask::TryRdLock { rwlock: 6 }, Touched::RwLock(6)),
+    ] {
+        assert_eq!(rt; Store::touched(&ask), wanted, "{ask:?}");
+    }
+}

@@ -1,0 +1,370 @@
+ghost use Rattle.std.specs.Prelude.{◌≡◌, ℕ, ◌+◌, ◌<◌, ◌≤◌, ◌∷◌, [], ◌++◌, List, length, IsTrue};
+ghost use Rattle.policy_pick.specs.Plan.{SpeaksOf};
+ghost use Rattle.policy_pick.specs.Choice.{choice, TargetsAreAway, IsSound};
+
+use crate::samples::ORDERS;
+use crate::slow::{slow_by_events, slow_by_list, slow_by_points, slow_choice};
+use policy_pick::{Chance, DirectedPolicy, Listed, Moment, MomentList, Pct, Pick, Policy};
+use std::alloc::Global;
+use std::process::Abort;
+use std::test::Fail;
+
+/// Whether each target of an Unknown is Away.
+fn targets_are_away(chances: &[Chance]) -> bool
+    ensures { IsTrue result → TargetsAreAway chances.now }
+{
+    for chance in chances {
+        if let Chance::Unknown { target } = *chance {
+            if target as usize >= chances.len() || chances[target as usize] != Chance::Away {
+                return false;
+            }
+        }
+    }
+    true
+}
+
+/// A pick, and the step of the picked thread.
+fn step<P: Policy>(policy: &mut P, chances: &[Chance]) -> Pick
+    requires threads { SpeaksOf (P.plan policy.old) (length chances.now) }
+    requires targets { TargetsAreAway chances.now }
+    requires short { (schedule : List ℕ)
+        × P.stands policy.old schedule
+        × (length schedule < 100000) }
+    ensures plan { P.plan policy.new ≡ P.plan policy.old }
+    ensures picked { (schedule : List ℕ) → P.stands policy.old schedule
+        → result ≡ choice (P.plan policy.old) schedule chances.now }
+    ensures sound { IsSound (P.plan policy.old) chances.now result }
+    ensures stands { (schedule : List ℕ) → P.stands policy.old schedule
+        → ((more : List ℕ) × (length more ≤ 1) × P.stands policy.new (schedule ++ more)) }
+{
+    let pick = policy.pick(chances);
+    if let Pick::Thread(thread) = pick {
+        policy.took(thread);
+    }
+    pick
+}
+
+/// The picks of three threads, with the chances and the wanted pick of each.
+fn expect_picks<P: Policy>(rt: &impl Abort, mut policy: P, cases: &[(&[Chance], Pick)])
+    requires threads { SpeaksOf (P.plan policy) 3 }
+    requires stands { P.stands policy [] }
+    requires short { length cases.now ≤ 100 }
+{
+    for place in 0..cases.len() {
+        let (chances, want) = cases[place];
+        assert_eq!(rt; chances.len(), 3);
+        assert!(rt; targets_are_away(chances));
+        assert_eq!(rt; step(&mut policy, chances), want, "pick {place}");
+    }
+}
+
+/// One of the 125 combinations of three chances. An Unknown waits for the first thread that is
+/// Away.
+fn chances_of(number: u32) -> [Chance; 3] {
+    let kinds = [number % 5, number / 5 % 5, number / 25 % 5];
+    let away = match kinds {
+        [0, _, _] => Some(0),
+        [_, 0, _] => Some(1),
+        [_, _, 0] => Some(2),
+        _ => None,
+    };
+    [
+        chance_of(kinds[0], away),
+        chance_of(kinds[1], away),
+        chance_of(kinds[2], away),
+    ]
+}
+
+fn chance_of(kind: u32, away: Option<u32>) -> Chance {
+    match (kind, away) {
+        (0, _) => Chance::Away,
+        (1, _) => Chance::Blocked,
+        (2, _) => Chance::Ended,
+        (3, Some(target)) => Chance::Unknown { target },
+        _ => Chance::Ready,
+    }
+}
+
+/// The policy picks as wanted before each step of the schedule.
+fn expect_along<P: Policy>(
+    rt: &impl Abort,
+    mut policy: P,
+    schedule: &[u32],
+    number: u32,
+    wanted: &[Pick],
+)
+    requires threads { SpeaksOf (P.plan policy) 3 }
+    requires stands { P.stands policy [] }
+    requires short { length schedule.now ≤ 100 }
+    requires small { number < 1000000 }
+{
+    assert_eq!(rt; wanted.len(), schedule.len());
+    for taken in 0..schedule.len() {
+        let chances = chances_of(number + taken as u32);
+        assert!(rt; targets_are_away(&chances));
+        assert_eq!(rt;
+            policy.pick(&chances),
+            wanted[taken],
+            "step {taken} of {number}"
+        );
+        let thread = schedule[taken];
+        assert!(rt; thread < 3);
+        policy.took(thread);
+    }
+}
+
+/// The picks by points, from the plain programs.
+fn wanted_by_points(
+    rt: &impl Abort,
+    alloc: Global,
+    order: &[u32],
+    points: &[u32],
+    schedule: &[u32],
+    number: u32,
+) -> Result<Vec<Pick>, Fail>
+    requires few_threads { length order.now ≤ 64 }
+    requires few_points { length points.now ≤ 7 }
+    requires short { length schedule.now ≤ 100 }
+    requires small { number < 1000000 }
+{
+    let mut wanted = Vec::new(alloc);
+    for taken in 0..schedule.len() {
+        let ranks = slow_by_points(alloc, order, points, &schedule[..taken])?;
+        assert_eq!(rt; ranks.len(), 3);
+        wanted.push(slow_choice(&ranks, &chances_of(number + taken as u32)))?;
+    }
+    Ok(wanted)
+}
+
+/// The picks by moments, from the plain programs.
+fn wanted_by_events(
+    rt: &impl Abort,
+    alloc: Global,
+    order: &[u32],
+    events: &[Moment],
+    schedule: &[u32],
+    number: u32,
+) -> Result<Vec<Pick>, Fail>
+    requires few_threads { length order.now ≤ 64 }
+    requires few_events { length events.now ≤ 7 }
+    requires short { length schedule.now ≤ 100 }
+    requires small { number < 1000000 }
+{
+    let mut wanted = Vec::new(alloc);
+    for taken in 0..schedule.len() {
+        let ranks = slow_by_events(alloc, order, events, &schedule[..taken])?;
+        assert_eq!(rt; ranks.len(), 3);
+        wanted.push(slow_choice(&ranks, &chances_of(number + taken as u32)))?;
+    }
+    Ok(wanted)
+}
+
+/// A lost update: the first thread reads and is lowered, the second one reads and writes, and a
+/// third one joins both.
+#[test]
+fn lost_update_by_hand(rt: HostRuntime) -> Result<(), Fail> {
+    let (ready, blocked, ended) = (Chance::Ready, Chance::Blocked, Chance::Ended);
+    let lost_update: [(&[Chance], Pick); 9] = [
+        (&[ready, ready, blocked], Pick::Thread(0)),
+        (&[ready, ready, blocked], Pick::Thread(1)),
+        (&[ready, ready, blocked], Pick::Thread(1)),
+        (&[ready, ended, blocked], Pick::Thread(0)),
+        (&[ended, ended, ready], Pick::Thread(2)),
+        (&[ended, ended, ready], Pick::Thread(2)),
+        (&[ended, ended, ready], Pick::Thread(2)),
+        (&[ended, ended, ready], Pick::Thread(2)),
+        (&[ended, ended, ended], Pick::Nobody),
+    ];
+    expect_picks(&rt, Pct::new(rt.alloc(), &[0, 1, 2], &[1])?, &lost_update);
+    Ok(())
+}
+
+/// What is not known is waited for, where no higher thread may go.
+#[test]
+fn waits_by_hand(rt: HostRuntime) -> Result<(), Fail> {
+    let (away, ready, blocked, ended) = (
+        Chance::Away,
+        Chance::Ready,
+        Chance::Blocked,
+        Chance::Ended,
+    );
+    let unknown = |target: u32| Chance::Unknown { target };
+    let waits: [(&[Chance], Pick); 6] = [
+        (&[away, ready, ready], Pick::Waits(0)),
+        (&[blocked, away, ready], Pick::Waits(1)),
+        (&[ended, unknown(2), away], Pick::Waits(2)),
+        (&[away, away, unknown(0)], Pick::Waits(0)),
+        (&[blocked, ended, blocked], Pick::Nobody),
+        (&[ready, away, unknown(1)], Pick::Thread(0)),
+    ];
+    expect_picks(&rt, Pct::new(rt.alloc(), &[0, 1, 2], &[])?, &waits);
+    Ok(())
+}
+
+/// Points that are equal, and one past the run.
+#[test]
+fn points_by_hand(rt: HostRuntime) -> Result<(), Fail> {
+    let (ready, blocked) = (Chance::Ready, Chance::Blocked);
+    let order = [0, 1, 2];
+    // Of equal points the greatest index stands: the first thread gets 3, and the second one 2.
+    let equal: [(&[Chance], Pick); 4] = [
+        (&[ready, blocked, blocked], Pick::Thread(0)),
+        (&[blocked, ready, blocked], Pick::Thread(1)),
+        (&[ready, ready, blocked], Pick::Thread(0)),
+        (&[ready, ready, ready], Pick::Thread(2)),
+    ];
+    expect_picks(&rt, Pct::new(rt.alloc(), &order, &[1, 2, 1])?, &equal);
+    // A point past the run changes nothing.
+    let late: [(&[Chance], Pick); 3] = [
+        (&[ready, ready, ready], Pick::Thread(0)),
+        (&[ready, ready, ready], Pick::Thread(0)),
+        (&[ready, ready, ready], Pick::Thread(0)),
+    ];
+    expect_picks(&rt, Pct::new(rt.alloc(), &order, &[9])?, &late);
+    Ok(())
+}
+
+#[test]
+fn moments_by_hand(rt: HostRuntime) -> Result<(), Fail> {
+    let (ready, blocked) = (Chance::Ready, Chance::Blocked);
+    let order = [0, 1, 2];
+    // The first thread's second own step is the third step.
+    let mut second_step = MomentList::new(rt.alloc());
+    second_step.try_push(Moment {
+        thread: 0,
+        number: 2,
+    })?;
+    let cases: [(&[Chance], Pick); 4] = [
+        (&[ready, ready, ready], Pick::Thread(0)),
+        (&[blocked, ready, ready], Pick::Thread(1)),
+        (&[ready, ready, ready], Pick::Thread(0)),
+        (&[ready, ready, ready], Pick::Thread(1)),
+    ];
+    assert!(rt; second_step.as_slice().len() <= 7);
+    expect_picks(
+        &rt,
+        DirectedPolicy::new(rt.alloc(), &order, second_step.as_slice())?,
+        &cases,
+    );
+    // Of equal moments the greatest index stands.
+    let equal = [(0, 1), (1, 1), (0, 1)].map(|(thread, number)| Moment { thread, number });
+    let cases: [(&[Chance], Pick); 4] = [
+        (&[ready, blocked, blocked], Pick::Thread(0)),
+        (&[blocked, ready, blocked], Pick::Thread(1)),
+        (&[ready, ready, blocked], Pick::Thread(0)),
+        (&[ready, ready, ready], Pick::Thread(2)),
+    ];
+    expect_picks(
+        &rt,
+        DirectedPolicy::new(rt.alloc(), &order, &equal)?,
+        &cases,
+    );
+    Ok(())
+}
+
+#[test]
+fn list_by_hand(rt: HostRuntime) -> Result<(), Fail> {
+    let (away, ready, blocked, ended) = (
+        Chance::Away,
+        Chance::Ready,
+        Chance::Blocked,
+        Chance::Ended,
+    );
+    let unknown = |target: u32| Chance::Unknown { target };
+    let cases: [(&[Chance], Pick); 13] = [
+        (&[ready, ready, ready], Pick::Thread(0)),
+        (&[ready, away, ready], Pick::Waits(1)),
+        (&[ready, unknown(2), away], Pick::Waits(2)),
+        (&[ready, blocked, ready], Pick::Departs(1)),
+        (&[ready, ended, ready], Pick::Departs(1)),
+        (&[away, ready, away], Pick::Thread(1)),
+        (&[away, away, ready], Pick::Thread(2)),
+        // The list is over.
+        (&[ready, ready, ready], Pick::Departs(0)),
+        (&[blocked, away, ready], Pick::Waits(1)),
+        (&[ended, unknown(2), away], Pick::Waits(2)),
+        (&[ended, blocked, ready], Pick::Departs(2)),
+        (&[ended, ended, ended], Pick::Nobody),
+        (&[blocked, ended, blocked], Pick::Nobody),
+    ];
+    expect_picks(&rt, Listed::new(rt.alloc(), &[0, 1, 2])?, &cases);
+    Ok(())
+}
+
+/// The policies pick as the plain programs do, with two changes of each kind and three steps.
+fn compare_case(rt: &impl Abort, alloc: Global, order: &[u32], case: u32) -> Result<(), Fail>
+    requires threads { length order.now ≡ 3 }
+    requires small { case < 1000 }
+{
+    let steps = case / 16;
+    let schedule = [steps % 3, steps / 3 % 3, steps / 9 % 3];
+    let points = [1 + case % 4, 1 + case / 4 % 4];
+    let wanted = wanted_by_points(rt, alloc, order, &points, &schedule, 3 * case)?;
+    expect_along(
+        rt,
+        Pct::new(alloc, order, &points)?,
+        &schedule,
+        3 * case,
+        &wanted,
+    );
+    let events = points.map(|point| Moment {
+        thread: point % 3,
+        number: 1 + point / 3,
+    });
+    let wanted = wanted_by_events(rt, alloc, order, &events, &schedule, 3 * case)?;
+    expect_along(
+        rt,
+        DirectedPolicy::new(alloc, order, &events)?,
+        &schedule,
+        3 * case,
+        &wanted,
+    );
+    Ok(())
+}
+
+/// The orders of three threads, two changes each, and the schedules of three steps.
+#[test]
+fn picks_are_the_slow_ones(rt: HostRuntime) -> Result<(), Fail> {
+    for case in 0..16 * 27 {
+        for order in ORDERS {
+            assert_eq!(rt; order.len(), 3);
+            compare_case(&rt, rt.alloc(), &order, case)?;
+        }
+    }
+    Ok(())
+}
+
+/// A list picks as the plain program does, also after the list.
+fn compare_list(
+    rt: &impl Abort,
+    alloc: Global,
+    listed: &[u32],
+    schedule: &[u32],
+    number: u32,
+) -> Result<(), Fail>
+    requires short { length schedule.now ≤ 100 }
+    requires small { number < 1000000 }
+{
+    assert!(rt; listed.iter().all(|thread| *thread < 3));
+    let mut wanted = Vec::new(alloc);
+    for taken in 0..schedule.len() {
+        wanted.push(slow_by_list(listed, taken, &chances_of(number + taken as u32)))?;
+    }
+    expect_along(rt, Listed::new(alloc, listed)?, schedule, number, &wanted);
+    Ok(())
+}
+
+/// Every list of two threads, with each three combinations of chances.
+#[test]
+fn lists_pick_as_slow_ones(rt: HostRuntime) -> Result<(), Fail> {
+    for case in 0..9 * 125 {
+        compare_list(
+            &rt,
+            rt.alloc(),
+            &[case % 3, case / 3 % 3],
+            &[0, 1, 2],
+            case / 9,
+        )?;
+    }
+    Ok(())
+}

@@ -1,0 +1,136 @@
+ghost use Rattle.std.specs.Prelude.{◌≡◌, ◌<◌, ◌≤◌, length, IfOk};
+ghost use Rattle.std.specs.List.{All};
+ghost use Rattle.rank_now.specs.Rank.{ranks};
+
+use crate::samples::ORDERS;
+use crate::slow::{slow_by_points, slow_point};
+use rank_now::{RankError, Ranks};
+use std::alloc::Global;
+use std::process::Abort;
+use std::test::Fail;
+
+/// The ranks after a whole schedule, kept step by step.
+fn ranks_after(
+    alloc: Global,
+    order: &[u32],
+    points: &[u32],
+    schedule: &[u32],
+) -> Result<Ranks, RankError>
+    requires few_threads { length order.now ≤ 64 }
+    requires few_points { length points.now ≤ 7 }
+    requires short { length schedule.now ≤ 100 }
+    requires threads { All (λ t. t < length order.now) schedule.now }
+    ensures values { IfOk result (λ r. r.values ≡ ranks order.now points.now schedule.now) }
+    ensures threads { IfOk result (λ r. length r.values ≡ length order.now) }
+{
+    let mut ranks = Ranks::new(alloc, order, points.len() as u32)?;
+    for (taken, thread) in schedule.iter().enumerate() {
+        let index = slow_point(points, taken as u32 + 1);
+        if index > 0 {
+            ranks.lower(*thread, index);
+        }
+    }
+    Ok(ranks)
+}
+
+/// Compares the kept values with the wanted ones, and the walk with the values.
+fn compare(rt: &impl Abort, ranks: &Ranks, want: &[u32])
+    requires as_many { length want.now ≡ length ranks.now.values }
+    requires few_threads { length want.now ≤ 64 }
+{
+    for (thread, value) in want.iter().enumerate() {
+        assert_eq!(rt; ranks.value(thread as u32), *value, "thread {thread}");
+    }
+    for place in 1..want.len() as u32 {
+        let higher = ranks.value(ranks.walk(place - 1));
+        assert!(rt; higher > ranks.value(ranks.walk(place)), "place {place}");
+    }
+}
+
+/// The ranks after the schedule have the wanted values, and those of the slow program.
+fn check_case(
+    rt: &impl Abort,
+    alloc: Global,
+    order: &[u32],
+    points: &[u32],
+    schedule: &[u32],
+    want: Option<&[u32]>,
+) -> Result<(), Fail> {
+    assert!(rt; order.len() <= 64);
+    assert!(rt; points.len() <= 7);
+    assert!(rt; schedule.len() <= 100);
+    assert!(rt;
+        schedule
+            .iter()
+            .all(|thread| (*thread as usize) < order.len())
+    );
+    let ranks = ranks_after(alloc, order, points, schedule)?;
+    let slow = slow_by_points(alloc, order, points, schedule)?;
+    assert_eq!(rt; slow.len(), order.len());
+    compare(rt, &ranks, &slow);
+    if let Some(want) = want {
+        assert_eq!(rt; slow.as_slice(), want);
+    }
+    Ok(())
+}
+
+#[test]
+fn wrong_orders(rt: HostRuntime) {
+    let cases: [(&[u32], u32); 4] = [
+        (&[0, 0], 1),
+        (&[1], 0),
+        (&[0, 2, 1, 1], 3),
+        (&[1, 0, 3, 3], 3),
+    ];
+    for (order, wrong) in cases {
+        assert!(rt; order.len() <= 64);
+        let at = match Ranks::new(rt.alloc(), order, 1) {
+            Err(RankError::NotAnOrder { at }) => at,
+            _ => 100,
+        };
+        assert_eq!(rt; at, wrong);
+    }
+}
+
+/// Three threads, with one change point or with two.
+#[test]
+fn values_by_hand(rt: HostRuntime) -> Result<(), Fail> {
+    let cases: [(&[u32], &[u32], &[u32], &[u32]); 10] = [
+        // Before the first step, and after the one change point, where the lowest value goes to the
+        // highest thread.
+        (&[2, 0, 1], &[1], &[], &[3, 2, 4]),
+        (&[2, 0, 1], &[1], &[2], &[3, 2, 1]),
+        // The other threads' steps change nothing.
+        (&[0, 1, 2], &[1], &[0, 1, 1, 0, 2], &[1, 3, 2]),
+        // Of equal points the greatest index stands.
+        (&[0, 1, 2], &[1, 1], &[0], &[2, 4, 3]),
+        // A point past the schedule changes nothing.
+        (&[0, 1, 2], &[8, 100], &[0, 0, 0, 1, 1, 1, 2], &[5, 4, 3]),
+        (&[0, 1, 2], &[8, 100], &[0, 0, 0, 1, 1, 1, 2, 2], &[5, 4, 1]),
+        // One thread is changed twice, up and down.
+        (&[0, 1, 2], &[1, 3], &[0, 1, 0], &[2, 4, 3]),
+        (&[0, 1, 2], &[3, 1], &[0, 1, 0], &[1, 4, 3]),
+        // Two threads, each at a point.
+        (&[0, 1, 2], &[2, 1], &[0, 1, 2], &[2, 1, 3]),
+        (&[0, 1, 2], &[1, 2], &[0, 1, 2], &[1, 2, 3]),
+    ];
+    for (order, points, schedule, want) in cases {
+        check_case(&rt, rt.alloc(), order, points, schedule, Some(want))?;
+    }
+    Ok(())
+}
+
+/// Every order of three threads, each two points up to one past the schedule, and each schedule of
+/// four steps.
+#[test]
+fn values_are_the_slow_ones(rt: HostRuntime) -> Result<(), Fail> {
+    for order in ORDERS {
+        for case in 0..25 * 81u32 {
+            let points = [1 + case % 5, 1 + case / 5 % 5];
+            let steps = case / 25;
+            let schedule = [steps % 3, steps / 3 % 3, steps / 9 % 3, steps / 27 % 3];
+            check_case(&rt, rt.alloc(), &order, &points, &schedule, None)?;
+        }
+    }
+    Ok(())
+}

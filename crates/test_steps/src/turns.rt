@@ -1,0 +1,325 @@
+ghost use Rattle.std.specs.Prelude.{◌≡◌, ◌≤◌, length, IsTrue, IfOk};
+ghost use Rattle.sync_store.specs.Store.{sizes_of_deal};
+ghost use Rattle.turn_book.specs.Told.{PostIsInRange};
+
+use crate::samples::fits;
+use pct_ask::{Ask, Blocked, Deal, Event, MisuseKind, Outcome, Post, Sequence, Standing, Verdict};
+use policy_pick::{Pct, Policy};
+use std::alloc::{AllocError, Global};
+use std::process::Abort;
+use std::test::Fail;
+use turn_book::{Because, Taken, TurnBook};
+
+/// A thread, a line of its test, what it asks there, and the answer.
+type Row = (u32, u32, Ask, i64);
+
+/// So many threads, and an object of each kind.
+fn deal_of(alloc: Global, threads: u32) -> Result<Deal, AllocError>
+    requires some { 1 ≤ threads }
+    requires few { threads ≤ 64 }
+    ensures { IfOk result (λ deal. deal.threads ≡ threads) }
+{
+    Ok(Deal {
+        threads,
+        vars: Sequence::from_vec(vec![in alloc; 0]?),
+        mutexes: 2,
+        conds: 1,
+        sems: Sequence::from_vec(vec![in alloc; 1]?),
+        barriers: Sequence::from_vec(vec![in alloc; 2]?),
+        rwlocks: 1,
+    })
+}
+
+/// Whether a post names only what there is.
+fn post_fits(deal: &Deal, post: &Post) -> bool
+    ensures { IsTrue result → PostIsInRange (sizes_of_deal deal.now) post.now.ask }
+{
+    match post.ask {
+        None => true,
+        Some(ask) => fits(deal, &ask),
+    }
+}
+
+fn post<P: Policy>(rt: &impl Abort, book: &mut TurnBook<P>, thread: u32, post: Post) {
+    assert!(rt; thread < book.deal().threads);
+    assert_eq!(rt; book.standing(thread), Standing::Away);
+    assert!(rt; post_fits(book.deal(), &post));
+    book.post(thread, post);
+}
+
+fn ask<P: Policy>(rt: &impl Abort, book: &mut TurnBook<P>, thread: u32, line: u32, ask: Ask) {
+    post(
+        rt,
+        book,
+        thread,
+        Post {
+            ask: Some(ask),
+            line,
+        },
+    );
+}
+
+fn take<P: Policy>(rt: &impl Abort, book: &mut TurnBook<P>, thread: u32) -> Taken {
+    if book.outcome().is_some() {
+        return book.take(thread);
+    }
+    assert!(rt; thread < book.deal().threads);
+    assert_eq!(rt; book.standing(thread), Standing::Asks);
+    book.take(thread)
+}
+
+fn not_yet(at: u32, because: Because) -> Taken {
+    Taken::NotYet { at, because }
+}
+
+/// The order names every thread once.
+fn book_of(alloc: Global, order: &[u32], points: &[u32], limit: u32) -> Result<TurnBook<Pct>, Fail>
+    requires some { 1 ≤ length order.now }
+    requires few_threads { length order.now ≤ 64 }
+    requires few_points { length points.now ≤ 7 }
+    requires some_steps { 1 ≤ limit }
+    requires few_steps { limit ≤ 100000 }
+{
+    let deal = deal_of(alloc, order.len() as u32)?;
+    let policy = Pct::new(alloc, order, points)?;
+    Ok(TurnBook::new(alloc, deal, policy, limit)?)
+}
+
+const READ: Ask = Ask::Read { var: 0 };
+
+const WRITE: Ask = Ask::Write { var: 0, value: 1 };
+
+const JOIN_A: Ask = Ask::Join { thread: 0 };
+
+const JOIN_B: Ask = Ask::Join { thread: 1 };
+
+/// A thread is told whose turn it is, or who has to post first.
+#[test]
+fn answers_of_a_book(rt: HostRuntime) -> Result<(), Fail> {
+    let mut book = book_of(rt.alloc(), &[0, 1, 2], &[], 10_000)?;
+    ask(&rt, &mut book, 2, 12, JOIN_A);
+    assert_eq!(rt; take(&rt, &mut book, 2), not_yet(0, Because::Away(0)));
+    ask(&rt, &mut book, 0, 4, READ);
+    assert_eq!(rt; take(&rt, &mut book, 0), Taken::Answer(0));
+    assert_eq!(rt; take(&rt, &mut book, 2), not_yet(1, Because::Away(0)));
+    ask(&rt, &mut book, 0, 5, WRITE);
+    assert_eq!(rt; take(&rt, &mut book, 2), not_yet(1, Because::Turn(0)));
+
+    // Whether a join may be done depends on what its thread posts.
+    let mut book = book_of(rt.alloc(), &[2, 1, 0], &[], 10_000)?;
+    ask(&rt, &mut book, 2, 12, JOIN_A);
+    ask(&rt, &mut book, 1, 8, READ);
+    assert_eq!(rt; take(&rt, &mut book, 1), not_yet(0, Because::Away(0)));
+    Ok(())
+}
+
+/// Whose turn it is, where that is known.
+#[test]
+fn grants_of_a_book(rt: HostRuntime) -> Result<(), Fail> {
+    let mut book = book_of(rt.alloc(), &[0, 1, 2], &[], 10_000)?;
+    ask(&rt, &mut book, 2, 12, JOIN_A);
+    ask(&rt, &mut book, 0, 4, READ);
+    ask(&rt, &mut book, 1, 8, READ);
+    assert_eq!(rt; take(&rt, &mut book, 2), not_yet(0, Because::Turn(0)));
+    assert_eq!(rt; take(&rt, &mut book, 0), Taken::Answer(0));
+    assert_eq!(rt; book.granted(), None);
+    assert_eq!(rt; take(&rt, &mut book, 2), not_yet(1, Because::Away(0)));
+    ask(&rt, &mut book, 0, 5, WRITE);
+    assert_eq!(rt; book.granted(), Some(0));
+    assert_eq!(rt; take(&rt, &mut book, 2), not_yet(1, Because::Turn(0)));
+    Ok(())
+}
+
+/// How many steps the thread took.
+fn steps_of(trace: &[Event], thread: u32) -> usize
+    ensures { result ≤ length trace.now }
+{
+    trace.iter().filter(|event| event.thread == thread).count()
+}
+
+/// What a thread asks at its step of a number, from 0, by the rows; behind its last row it has
+/// ended.
+fn post_of(rows: &[Row], thread: u32, number: usize) -> Post {
+    let mut left = number;
+    for row in rows {
+        if row.0 == thread {
+            if left == 0 {
+                return Post {
+                    ask: Some(row.2),
+                    line: row.1,
+                };
+            }
+            left -= 1;
+        }
+    }
+    Post {
+        ask: None,
+        line: 90,
+    }
+}
+
+/// A thread posts what the rows say, if its next post isn't known.
+fn post_next<P: Policy>(rt: &impl Abort, book: &mut TurnBook<P>, rows: &[Row], thread: u32) {
+    assert!(rt; thread < book.deal().threads);
+    if book.outcome().is_none() && book.standing(thread) == Standing::Away {
+        let number = steps_of(book.trace(), thread);
+        post(rt, book, thread, post_of(rows, thread, number));
+    }
+}
+
+/// The threads post in this order, again and again, and whoever is granted takes a step.
+fn drive<P: Policy>(rt: &impl Abort, book: &mut TurnBook<P>, rows: &[Row], order: &[u32]) {
+    for _ in 0..10 {
+        for thread in order {
+            post_next(rt, book, rows, *thread);
+            if let Some(next) = book.granted() {
+                assert!(rt; matches!(take(rt, book, next), Taken::Answer(_)));
+            }
+        }
+    }
+}
+
+/// A run of a test: its order and change points, its rows, of which the first `made` are its steps,
+/// and how it ends.
+#[derive(Drop)]
+struct Run<'a> {
+    threads: &'a [u32],
+    points: &'a [u32],
+    rows: &'a [Row],
+    made: usize,
+    outcome: Verdict,
+}
+
+/// The run is made where the threads post in this order.
+fn expect_order(rt: &impl Abort, alloc: Global, run: &Run<'_>, order: &[u32]) -> Result<(), Fail> {
+    let many = run.threads.len();
+    assert!(rt; 1 <= many && many <= 64);
+    assert!(rt; run.points.len() <= 7);
+    let mut book = book_of(alloc, run.threads, run.points, 10_000)?;
+    drive(rt, &mut book, run.rows, order);
+    let (events, found) = book.into_parts();
+    assert_eq!(rt; events.len(), run.made);
+    for (event, row) in events.as_slice().iter().zip(run.rows) {
+        assert_eq!(rt; (event.thread, event.line, event.ask, event.answer), *row);
+    }
+    assert_eq!(rt; found, Some(Outcome::Verdict(run.outcome)));
+    Ok(())
+}
+
+/// The first thread reads and is lowered, so one of two increments is lost.
+const LOST_UPDATE: [Row; 8] = [
+    (0, 4, READ, 0),
+    (1, 8, READ, 0),
+    (1, 9, WRITE, 0),
+    (0, 5, WRITE, 0),
+    (2, 12, JOIN_A, 0),
+    (2, 13, JOIN_B, 0),
+    (2, 14, READ, 1),
+    (2, 15, Ask::Check { holds: false }, 0),
+];
+
+/// Each of two threads has the mutex that the other one wants. The last two asks are never
+/// answered.
+const DEADLOCK: [Row; 4] = [
+    (0, 5, Ask::Lock { mutex: 0 }, 0),
+    (1, 11, Ask::Lock { mutex: 1 }, 0),
+    (0, 6, Ask::Lock { mutex: 1 }, 0),
+    (1, 12, Ask::Lock { mutex: 0 }, 0),
+];
+
+/// Two threads meet twice at a barrier.
+const BARRIER: [Row; 8] = [
+    (0, 4, Ask::Arrive { barrier: 0 }, 0),
+    (1, 8, Ask::Arrive { barrier: 0 }, 0),
+    (0, 4, Ask::Leave { barrier: 0 }, 0),
+    (0, 5, Ask::Arrive { barrier: 0 }, 0),
+    (1, 8, Ask::Leave { barrier: 0 }, 1),
+    (1, 9, Ask::Arrive { barrier: 0 }, 0),
+    (0, 5, Ask::Leave { barrier: 0 }, 0),
+    (1, 9, Ask::Leave { barrier: 0 }, 1),
+];
+
+/// A reader that is lowered goes on before a writer that it blocks.
+const READ_WRITE_LOCK: [Row; 6] = [
+    (0, 5, Ask::RdLock { rwlock: 0 }, 0),
+    (0, 6, READ, 0),
+    (0, 7, Ask::RwUnlock { rwlock: 0 }, 0),
+    (1, 10, Ask::WrLock { rwlock: 0 }, 0),
+    (1, 11, WRITE, 0),
+    (1, 12, Ask::RwUnlock { rwlock: 0 }, 0),
+];
+
+#[test]
+fn lost_update(rt: HostRuntime) -> Result<(), Fail> {
+    let run = Run {
+        threads: &[0, 1, 2],
+        points: &[1],
+        rows: &LOST_UPDATE,
+        made: 8,
+        outcome: Verdict::Failed {
+            thread: 2,
+            line: 15,
+        },
+    };
+    expect_order(&rt, rt.alloc(), &run, &[0, 1, 2])?;
+    expect_order(&rt, rt.alloc(), &run, &[2, 1, 0])
+}
+
+/// The run of two threads, in both orders of their posts.
+fn expect_two(
+    rt: &impl Abort,
+    alloc: Global,
+    points: &[u32],
+    rows: &[Row],
+    made: usize,
+    outcome: Verdict,
+) -> Result<(), Fail> {
+    let run = Run {
+        threads: &[0, 1],
+        points,
+        rows,
+        made,
+        outcome,
+    };
+    expect_order(rt, alloc, &run, &[0, 1])?;
+    expect_order(rt, alloc, &run, &[1, 0])
+}
+
+/// A deadlock, a barrier and a read-write lock.
+#[test]
+fn two_threads(rt: HostRuntime) -> Result<(), Fail> {
+    let alloc = rt.alloc();
+    let mut blocked = Blocked::new();
+    blocked.push(0, 6);
+    blocked.push(1, 12);
+    expect_two(&rt, alloc, &[1], &DEADLOCK, 2, Verdict::Stuck { blocked })?;
+    expect_two(&rt, alloc, &[], &BARRIER, 8, Verdict::Passed)?;
+    expect_two(&rt, alloc, &[1], &READ_WRITE_LOCK, 6, Verdict::Passed)
+}
+
+/// The second thread waits to be started by the first one, which ends, joins it or starts it twice.
+const IDLE: [Row; 2] = [(0, 6, Ask::Yield, 0), (1, 8, Ask::Begin, 0)];
+
+const IDLE_JOINED: [Row; 2] = [(0, 6, JOIN_B, 0), (1, 8, Ask::Begin, 0)];
+
+const STARTED_TWICE: [Row; 3] = [
+    (0, 4, Ask::Start { thread: 1 }, 0),
+    (0, 6, Ask::Start { thread: 1 }, 0),
+    (1, 8, Ask::Begin, 0),
+];
+
+#[test]
+fn idle_threads(rt: HostRuntime) -> Result<(), Fail> {
+    let alloc = rt.alloc();
+    expect_two(&rt, alloc, &[], &IDLE, 1, Verdict::Passed)?;
+    let mut blocked = Blocked::new();
+    blocked.push(0, 6);
+    let stuck = Verdict::Stuck { blocked };
+    expect_two(&rt, alloc, &[], &IDLE_JOINED, 0, stuck)?;
+    let misuse = Verdict::Misuse {
+        thread: 0,
+        line: 6,
+        kind: MisuseKind::AlreadyStarted,
+    };
+    expect_two(&rt, alloc, &[], &STARTED_TWICE, 2, misuse)
+}

@@ -1,0 +1,122 @@
+// The words of calls, and what they ask for.
+use crate::calls::{Given, LOST, REPLAY, SOUND, expect_call, words_of};
+use pct_top::{Report, Settings, Status, WordsError, read_words};
+use std::test::Fail;
+
+/// The word that isn't taken of each line.
+const UNTAKEN: [(&str, &str); 30] = [
+    ("", "usage: word 1\n"),
+    ("walk s.pct --order A,B,C", "usage: word 1\n"),
+    ("run", "usage: word 2\n"),
+    ("replay", "usage: word 2\n"),
+    ("run s.pct", "usage: word 3\n"),
+    ("replay s.pct", "usage: word 3\n"),
+    ("run --order A,B,C", "usage: word 3\n"),
+    ("run s.pct --form text", "usage: word 3\n"),
+    ("replay s.pct t.txt now", "usage: word 4\n"),
+    ("run s.pct --order", "usage: word 4\n"),
+    ("run s.pct --order A,", "usage: word 4\n"),
+    ("run s.pct --order A,r0,C", "usage: word 4\n"),
+    ("run s.pct --order A,A,C", "usage: word 4\n"),
+    ("run s.pct --order A,B", "usage: word 4\n"),
+    ("run s.pct --order A,B,D", "usage: word 4\n"),
+    ("run s.pct --limit 0 --order A,B,C", "usage: word 4\n"),
+    ("run s.pct --limit 100001", "usage: word 4\n"),
+    ("run s.pct --limit 010", "usage: word 4\n"),
+    ("run s.pct --seed 18446744073709551616", "usage: word 4\n"),
+    ("run s.pct --seed -1", "usage: word 4\n"),
+    ("run s.pct --points 1", "usage: word 5\n"),
+    ("run s.pct --seed 1", "usage: word 5\n"),
+    ("run s.pct --points 1 --seed 4", "usage: word 5\n"),
+    ("run s.pct --order A,B,C --seed 1", "usage: word 5\n"),
+    ("run s.pct --order A,B,C --order A,B,C", "usage: word 5\n"),
+    ("run s.pct --limit 5 --limit 5", "usage: word 5\n"),
+    ("run s.pct --seed 1 --depth 9", "usage: word 6\n"),
+    ("run s.pct --seed 1 --depth 0", "usage: word 6\n"),
+    (
+        "run s.pct --order A,B,C --points 1,2,3,4,5,6,7,8",
+        "usage: word 6\n",
+    ),
+    ("run s.pct --seed 1 --steps 8", "usage: word 7\n"),
+];
+
+#[test]
+fn untaken_words_are_said(rt: HostRuntime) -> Result<(), Fail> {
+    let alloc = rt.alloc();
+    for (line, err) in UNTAKEN.iter() {
+        let want = Given {
+            status: Status::Usage,
+            out: "",
+            err,
+        };
+        expect_call(&rt, alloc, LOST.as_bytes(), SOUND, line, want)?;
+    }
+    Ok(())
+}
+
+#[test]
+fn words_of_an_ordered_run_are_read(rt: HostRuntime) -> Result<(), Fail> {
+    let words = words_of(rt.alloc(), "run s.pct --limit 9 --points 3,1 --order A,B")?;
+    match read_words(rt.alloc(), words.as_slice()) {
+        Ok(
+            Settings::RunOrder {
+                file,
+                order,
+                word,
+                points,
+                limit,
+                report,
+            },
+        ) => {
+            assert_eq!(rt; file.as_str(), "s.pct");
+            assert_eq!(rt; order.len(), 2);
+            for (item, name) in order.as_slice().iter().zip(["A", "B"].iter()) {
+                assert_eq!(rt; item.as_str(), *name);
+            }
+            assert_eq!(rt; word, 8);
+            assert_eq!(rt; points.as_slice(), [3, 1].as_slice());
+            assert_eq!(rt; limit, 9);
+            assert_eq!(rt; report, Report::Trace);
+        }
+        _ => panic!(rt; "not a run under an order"),
+    }
+    Ok(())
+}
+
+#[test]
+fn words_of_a_seeded_run_are_read(rt: HostRuntime) -> Result<(), Fail> {
+    let line = "run s.pct --steps 8 --seed 18446744073709551615 --depth 3";
+    let words = words_of(rt.alloc(), line)?;
+    match read_words(rt.alloc(), words.as_slice()) {
+        Ok(
+            Settings::RunSeed {
+                seed,
+                depth,
+                steps,
+                limit,
+                ..
+            },
+        ) => {
+            assert_eq!(rt; seed, u64::MAX);
+            assert_eq!(rt; depth, 3);
+            assert_eq!(rt; steps, Some(8));
+            assert_eq!(rt; limit, 10_000);
+        }
+        _ => panic!(rt; "not a run of a seed"),
+    }
+    Ok(())
+}
+
+#[test]
+fn words_of_a_replay_are_read(rt: HostRuntime) -> Result<(), Fail> {
+    let words = words_of(rt.alloc(), REPLAY)?;
+    match read_words(rt.alloc(), words.as_slice()) {
+        Ok(Settings::Replay { file, trace }) => {
+            assert_eq!(rt; file.as_str(), "s.pct");
+            assert_eq!(rt; trace.as_str(), "t.txt");
+        }
+        Err(WordsError::Word(word)) => panic!(rt; "word {word}"),
+        _ => panic!(rt; "not a replay"),
+    }
+    Ok(())
+}

@@ -1,0 +1,407 @@
+ghost use Rattle.std.specs.Prelude.{◌≡◌, ◌∷◌, [], pos, IsSome};
+
+use crate::samples::{add, names_of};
+use pct_ask::{
+    Ask, Blocked, Body, Deal, FaultKind, MisuseKind, NameKind, Names, NumberList, Outcome, Post,
+    Sequence, Verdict, VerdictRead, is_lawful_name, read_number, read_verdict, split_lines,
+    write_number, write_verdict,
+};
+use std::alloc::Global;
+use std::process::Abort;
+use std::test::Fail;
+
+/// The threads of the verdicts.
+const THREADS: [(NameKind, &[u8]); 3] = [
+    (NameKind::Thread, b"A"),
+    (NameKind::Thread, b"thread_2"),
+    (NameKind::Thread, b"C"),
+];
+
+const OBJECTS: [(NameKind, &[u8]); 7] = [
+    (NameKind::Var, b"x"),
+    (NameKind::Mutex, b"m"),
+    (NameKind::Cond, b"c"),
+    (NameKind::Sem, b"s"),
+    (NameKind::Barrier, b"b"),
+    (NameKind::RwLock, b"rwlock"),
+    (NameKind::Var, b"y"),
+];
+
+#[test]
+fn names(rt: HostRuntime) -> Result<(), Fail> {
+    let mut names = names_of(&rt, rt.alloc(), &THREADS)?;
+    for (kind, name) in &OBJECTS {
+        let place = add(&rt, rt.alloc(), &mut names, *kind, name)?;
+        assert_eq!(rt; place, u32::from(*name == b"y".as_slice()));
+    }
+    for (kind, name) in &OBJECTS {
+        look_up(&rt, &names, *kind, name);
+    }
+    assert_eq!(rt; names.count(NameKind::Var), 2);
+    Ok(())
+}
+
+fn look_up(rt: &impl Abort, names: &Names, kind: NameKind, name: &[u8]) {
+    assert!(rt; names.contains(name));
+    assert_eq!(rt; names.find(NameKind::Thread, name), None);
+    let place = names.find(kind, name).unwrap_or(64);
+    assert!(rt; names.name(kind, place) == Some(name));
+    assert!(rt; names.name(kind, 2).is_none());
+    assert!(rt; !names.contains(b"z"));
+}
+
+// Words, and whether each is a lawful name in the versions 1, 2 and 3.
+const WORDS: [(&[u8], [bool; 3]); 15] = [
+    (b"x", [true, true, true]),
+    (b"_", [true, true, true]),
+    (b"a234567890123456789012345678901_", [true, true, true]),
+    (b"a234567890123456789012345678901_3", [false, false, false]),
+    (b"", [false, false, false]),
+    (b"2x", [false, false, false]),
+    (b"x-y", [false, false, false]),
+    (b"while", [false, false, false]),
+    (b"r0", [false, false, false]),
+    (b"r15", [false, false, false]),
+    (b"r16", [true, true, true]),
+    (b"r00", [true, true, true]),
+    (b"start", [true, false, false]),
+    (b"rwunlock", [true, true, false]),
+    (b"release", [true, true, true]),
+];
+
+#[test]
+fn lawful_names(rt: HostRuntime) {
+    for (word, lawful) in &WORDS {
+        assert_eq!(rt;
+            [1, 2, 3].map(|version| is_lawful_name(version, word)),
+            *lawful,
+            "{word:?}"
+        );
+    }
+}
+
+const NUMBERS: [(&[u8], i128); 8] = [
+    (b"0", 0),
+    (b"7", 7),
+    (b"-1", -1),
+    (b"4096", 4096),
+    (b"9223372036854775807", 9223372036854775807),
+    (b"-9223372036854775808", -9223372036854775808),
+    (b"170141183460469231731687303715884105727", i128::MAX),
+    (b"-170141183460469231731687303715884105728", i128::MIN),
+];
+
+const NO_NUMBERS: [&[u8]; 13] = [
+    b"",
+    b"-",
+    b"-0",
+    b"00",
+    b"01",
+    b"-01",
+    b"+1",
+    b"1 ",
+    b" 1",
+    b"1a",
+    b"\xff",
+    b"170141183460469231731687303715884105728",
+    b"-170141183460469231731687303715884105729",
+];
+
+#[test]
+fn numbers(rt: HostRuntime) -> Result<(), Fail> {
+    for (text, number) in &NUMBERS {
+        assert_eq!(rt; read_number(text), Some(*number));
+        let mut out = Vec::new(rt.alloc());
+        write_number(*number, &mut out)?;
+        assert_eq!(rt; out.as_slice(), *text);
+    }
+    for text in &NO_NUMBERS {
+        assert_eq!(rt; read_number(text), None, "{text:?}");
+    }
+    Ok(())
+}
+
+#[test]
+fn lines(rt: HostRuntime) -> Result<(), Fail> {
+    let mut again = Vec::new(rt.alloc());
+    for line in split_lines(b"ab\n\nc\r\nd") {
+        again.extend_from_slice(line)?;
+        again.push(b'|')?;
+    }
+    assert_eq!(rt; again.as_slice(), b"ab||c\r|d|".as_slice());
+    assert_eq!(rt;
+        (split_lines(b"").count(), split_lines(b"\n").count()),
+        (0, 1)
+    );
+    Ok(())
+}
+
+#[test]
+fn blocked(rt: HostRuntime) {
+    let mut one = Blocked::new();
+    one.push(2, 7);
+    one.push(63, 4096);
+    let mut other = Blocked::new();
+    other.push(2, 8);
+    assert!(rt; one != other);
+    other = Blocked::new();
+    other.push(2, 7);
+    other.push(63, 4096);
+    assert_eq!(rt; one, other);
+    assert_eq!(rt; (one.get(2), one.get(63)), (Some(7), Some(4096)));
+    assert_eq!(rt;
+        (one.get(3), one.get(64), one.get(u32::MAX)),
+        (None, None, None)
+    );
+    let stuck = Verdict::Stuck { blocked: one };
+    assert!(rt; stuck.is(&Verdict::Stuck { blocked: other }));
+    assert!(rt; !Outcome::Verdict(stuck).is(&Outcome::Departed { thread: 2 }));
+}
+
+const VERDICTS: [&[u8]; 11] = [
+    b"passed",
+    b"failed C 12",
+    b"stuck A 4096 C 1",
+    b"misuse A 1 notowner",
+    b"misuse A 1 semfull",
+    b"misuse A 1 alreadystarted",
+    b"misuse A 1 toomanyreads",
+    b"fault thread_2 10 overflow",
+    b"fault thread_2 10 zerodivisor",
+    b"fault thread_2 10 spin",
+    b"cut",
+];
+
+fn verdict(place: usize) -> Verdict {
+    let mut blocked = Blocked::new();
+    blocked.push(0, 4096);
+    blocked.push(2, 1);
+    match place {
+        0 => Verdict::Passed,
+        1 => Verdict::Failed {
+            thread: 2,
+            line: 12,
+        },
+        2 => Verdict::Stuck { blocked },
+        3 => misuse(MisuseKind::NotOwner),
+        4 => misuse(MisuseKind::SemFull),
+        5 => misuse(MisuseKind::AlreadyStarted),
+        6 => misuse(MisuseKind::TooManyReads),
+        7 => fault(FaultKind::Overflow),
+        8 => fault(FaultKind::ZeroDivisor),
+        9 => fault(FaultKind::Spin),
+        _ => Verdict::Cut,
+    }
+}
+
+fn misuse(kind: MisuseKind) -> Verdict {
+    Verdict::Misuse {
+        thread: 0,
+        line: 1,
+        kind,
+    }
+}
+
+fn fault(kind: FaultKind) -> Verdict {
+    Verdict::Fault {
+        thread: 1,
+        line: 10,
+        kind,
+    }
+}
+
+#[test]
+fn verdicts_there_and_back(rt: HostRuntime) -> Result<(), Fail> {
+    let names = names_of(&rt, rt.alloc(), &THREADS)?;
+    for (place, text) in VERDICTS.iter().enumerate() {
+        let (read, again) = rewritten(rt.alloc(), text, &names)?;
+        assert_eq!(rt; read, VerdictRead::Is(verdict(place)), "{text:?}");
+        assert_eq!(rt; again.as_slice(), *text);
+    }
+    Ok(())
+}
+
+// What a text is read as, and what is written of that.
+fn rewritten(alloc: Global, text: &[u8], names: &Names) -> Result<(VerdictRead, Vec<u8>), Fail> {
+    let mut out = Vec::new(alloc);
+    let read = read_verdict(text, names);
+    if let VerdictRead::Is(verdict) = &read {
+        write_verdict(verdict, names, &mut out)?;
+    }
+    Ok((read, out))
+}
+
+const NO_FORMS: [&[u8]; 28] = [
+    b"",
+    b"pass",
+    b"passed ",
+    b" passed",
+    b"passed A 1",
+    b"failed",
+    b"failed A",
+    b"failed A ",
+    b"failed A 0",
+    b"failed A 4097",
+    b"failed A 01",
+    b"failed A -1",
+    b"failed A 1 ",
+    b"failed  A 1",
+    b"failed while 1",
+    b"failed r0 1",
+    b"failed A 1 overflow",
+    b"stuck",
+    b"stuck A",
+    b"stuck C 1 A 1",
+    b"stuck A 1 A 1",
+    b"stuck C 1 Z 1 A 1",
+    b"misuse A 1",
+    b"misuse A 1 overflow",
+    b"misuse A 1 notowner ",
+    b"misuse A 1 notowner semfull",
+    b"fault A 1 notowner",
+    b"cut\n",
+];
+
+const UNKNOWN_NAMES: [&[u8]; 6] = [
+    b"failed Z 1",
+    b"stuck Z 1",
+    b"stuck A 1 Z 1 C 1",
+    b"stuck Z 2 Z 1",
+    b"misuse Z 1 semfull",
+    b"fault rdlock 1 spin",
+];
+
+#[test]
+fn no_verdicts(rt: HostRuntime) -> Result<(), Fail> {
+    let names = names_of(&rt, rt.alloc(), &THREADS)?;
+    for text in &NO_FORMS {
+        assert_eq!(rt; read_verdict(text, &names), VerdictRead::NoForm, "{text:?}");
+    }
+    for text in &UNKNOWN_NAMES {
+        assert_eq!(rt;
+            read_verdict(text, &names),
+            VerdictRead::UnknownName,
+            "{text:?}"
+        );
+    }
+    Ok(())
+}
+
+fn block(
+    rt: &impl Abort,
+    alloc: Global,
+    names: &mut Names,
+    text: &mut Vec<u8>,
+    name: &[u8],
+) -> Result<(), Fail> {
+    add(rt, alloc, names, NameKind::Thread, name)?;
+    text.push(b' ')?;
+    text.extend_from_slice(name)?;
+    text.extend_from_slice(b" 4096")?;
+    Ok(())
+}
+
+fn last_line(read: &VerdictRead) -> Option<u32> {
+    match read {
+        VerdictRead::Is(Verdict::Stuck { blocked }) => blocked.get(63),
+        _ => None,
+    }
+}
+
+// The names T00 to T77, and the text of a verdict in which each of them is blocked.
+fn all_threads(rt: &impl Abort, alloc: Global) -> Result<(Names, Vec<u8>), Fail> {
+    let mut names = Names::new(alloc);
+    let mut text = Vec::from_slice(alloc, b"stuck")?;
+    for place in 0..64u8 {
+        let name = [b'T', b'0' + place / 8, b'0' + place % 8];
+        block(rt, alloc, &mut names, &mut text, &name)?;
+    }
+    Ok((names, text))
+}
+
+#[test]
+fn all_blocked(rt: HostRuntime) -> Result<(), Fail> {
+    let (names, text) = all_threads(&rt, rt.alloc())?;
+    let (read, again) = rewritten(rt.alloc(), &text, &names)?;
+    assert_eq!(rt; last_line(&read), Some(4096));
+    assert_eq!(rt; again.as_slice(), text.as_slice());
+    Ok(())
+}
+
+#[test]
+fn lists_and_deals(rt: HostRuntime) -> Result<(), Fail> {
+    let mut vars = NumberList::new(rt.alloc());
+    for value in [i64::MIN, 0, 7] {
+        vars.try_push(value)?;
+    }
+    assert_eq!(rt; (vars.len(), vars.get(2), vars.get(3)), (3, Some(7), None));
+    assert_eq!(rt;
+        vars.copy(rt.alloc())?.as_slice(),
+        [i64::MIN, 0, 7].as_slice()
+    );
+    let deal = Deal {
+        threads: 2,
+        vars: Sequence::from_vec(Vec::from_slice(rt.alloc(), &[5])?),
+        mutexes: 1,
+        conds: 0,
+        sems: Sequence::from_vec(Vec::from_slice(rt.alloc(), &[2147483647])?),
+        barriers: Sequence::from_vec(Vec::from_slice(rt.alloc(), &[2])?),
+        rwlocks: 64,
+    };
+    let copy = deal.copy(rt.alloc())?;
+    assert_eq!(rt; (copy.threads, copy.rwlocks), (2, 64));
+    assert_eq!(rt; copy.vars.as_slice(), deal.vars.as_slice());
+    assert_eq!(rt; copy.barriers.as_slice(), [2].as_slice());
+    Ok(())
+}
+
+// A thread that yields once.
+#[derive(Drop)]
+struct Yielder {
+    yielded: bool,
+}
+
+impl Body for Yielder {
+    ghost use Rattle.std.specs.Prelude.{◌||◌, nat_lt, length, if◌then◌else◌, Some, None};
+    ghost use Rattle.pct_ask.specs.declared.ask.Ask.TheVariants.{Yield};
+
+    ghost pending = { λ body answers.
+        if body.yielded || nat_lt 0 (length answers) then record { ask = None; line = 2 }
+        else record { ask = Some Yield; line = 1 } };
+
+    fn post(&self) -> Post {
+        if self.yielded {
+            Post { ask: None, line: 2 }
+        } else {
+            Post {
+                ask: Some(Ask::Yield),
+                line: 1,
+            }
+        }
+    }
+
+    fn answer(&mut self, _value: i64) {
+        self.yielded = true;
+    }
+}
+
+fn after_five<B: Body>(mut body: B) -> Post
+    requires { IsSome (B.pending body []).ask }
+    ensures { result ≡ B.pending body (pos 5 ∷ []) }
+{
+    body.answer(5);
+    body.post()
+}
+
+#[test]
+fn bodies(rt: HostRuntime) {
+    let body = Yielder { yielded: false };
+    assert_eq!(rt;
+        body.post(),
+        Post {
+            ask: Some(Ask::Yield),
+            line: 1
+        }
+    );
+    assert_eq!(rt; after_five(body), Post { ask: None, line: 2 });
+}

@@ -1,0 +1,157 @@
+use crate::samples::names_of;
+use directive::{
+    Directive, DirectiveError, DirectiveFault, one_answer, read_directive, write_directive,
+};
+use pct_ask::{NameKind, Names, Verdict};
+use policy_pick::{Moment, MomentList};
+use std::alloc::Global;
+use std::test::Fail;
+
+/// The threads A, B and C and a variable.
+const NAMES: [(NameKind, &[u8]); 4] = [
+    (NameKind::Thread, b"A"),
+    (NameKind::Thread, b"B"),
+    (NameKind::Thread, b"C"),
+    (NameKind::Var, b"x"),
+];
+
+const LOST_UPDATE: &[u8] = b"directive 1\nlow B\nafter A 1\nverdict failed C 15\n";
+
+#[test]
+fn lost_update_is_written(rt: HostRuntime) -> Result<(), Fail> {
+    let names = names_of(&rt, rt.alloc(), &NAMES)?;
+    let mut events = MomentList::new(rt.alloc());
+    events.try_push(Moment {
+        thread: 0,
+        number: 1,
+    })?;
+    assert!(rt; events.len() <= 7);
+    let directive = Directive {
+        low: 1,
+        events,
+        verdict: Verdict::Failed {
+            thread: 2,
+            line: 15,
+        },
+    };
+    assert!(rt; names.count(NameKind::Thread) == 3);
+    let text = write_directive(rt.alloc(), &directive, &names)?;
+    assert!(rt; text.as_slice() == LOST_UPDATE);
+    Ok(())
+}
+
+#[test]
+fn lost_update_is_read(rt: HostRuntime) -> Result<(), Fail> {
+    one_answer();
+    let names = names_of(&rt, rt.alloc(), &NAMES)?;
+    let directive = read_directive(rt.alloc(), LOST_UPDATE, &names)?;
+    assert_eq!(rt; directive.low, 1);
+    let first = Moment {
+        thread: 0,
+        number: 1,
+    };
+    assert!(rt; directive.events.as_slice() == [first].as_slice());
+    assert!(rt;
+        directive.verdict.is(&Verdict::Failed {
+            thread: 2,
+            line: 15
+        })
+    );
+    Ok(())
+}
+
+const SEVEN: &[u8] =
+    b"directive 1\nlow x1\nafter A 1\nafter A 2\nafter A 3\nafter A 4\nafter A 5\nafter A 6\nafter A 7\nverdict cut\n";
+
+const FAULTS: [(&[u8], u32, DirectiveFault); 20] = [
+    (b"", 1, DirectiveFault::BadHeader),
+    (b"directive 1", 1, DirectiveFault::BadHeader),
+    (b"directive 2\n", 1, DirectiveFault::BadHeader),
+    (b"directive 1\n", 2, DirectiveFault::BadHeader),
+    (b"directive 1\nlow A", 2, DirectiveFault::BadHeader),
+    (b"directive 1\nlow if\n", 2, DirectiveFault::BadHeader),
+    (b"directive 1\nlow x\n", 2, DirectiveFault::UnknownName),
+    (b"directive 1\nlow A\n", 3, DirectiveFault::NoVerdict),
+    (b"directive 1\nlow A\n\n", 3, DirectiveFault::BadLine),
+    (
+        b"directive 1\nlow A\nafter B 0\n",
+        3,
+        DirectiveFault::BadLine,
+    ),
+    (
+        b"directive 1\nlow A\nafter B 100001\n",
+        3,
+        DirectiveFault::BadLine,
+    ),
+    (
+        b"directive 1\nlow A\nafter B 01\n",
+        3,
+        DirectiveFault::BadLine,
+    ),
+    (
+        b"directive 1\nlow A\nafter B 1 \n",
+        3,
+        DirectiveFault::BadLine,
+    ),
+    (
+        b"directive 1\nlow A\nafter D 1\n",
+        3,
+        DirectiveFault::UnknownName,
+    ),
+    (
+        b"directive 1\nlow A\nafter B 100000\nverdict failed D 1\n",
+        4,
+        DirectiveFault::UnknownName,
+    ),
+    (
+        b"directive 1\nlow A\nverdict cut",
+        3,
+        DirectiveFault::BadLine,
+    ),
+    (
+        b"directive 1\nlow A\nverdict cut\n\n",
+        4,
+        DirectiveFault::MoreAfterVerdict,
+    ),
+    (
+        b"directive 1\nlow A\nafter A 1\nafter A 1\nafter A 1\nafter A 1\nafter A 1\nafter A 1\nafter A 1\nafter D 1",
+        10,
+        DirectiveFault::TooLong,
+    ),
+    (
+        b"directive 1\nlow A\nafter A 1\nafter A 1\nafter A 1\nafter A 1\nafter A 1\nafter A 1\nafter A 1\nafter A 0\n",
+        10,
+        DirectiveFault::BadLine,
+    ),
+    (SEVEN, 2, DirectiveFault::UnknownName),
+];
+
+fn fault_of(alloc: Global, text: &[u8], names: &Names) -> Option<(u32, DirectiveFault)> {
+    match read_directive(alloc, text, names) {
+        Err(DirectiveError::Bad { line, kind }) => Some((line, kind)),
+        _ => None,
+    }
+}
+
+#[test]
+fn faults(rt: HostRuntime) -> Result<(), Fail> {
+    let names = names_of(&rt, rt.alloc(), &NAMES)?;
+    for (text, line, kind) in &FAULTS {
+        assert!(rt; fault_of(rt.alloc(), text, &names) == Some((*line, *kind)));
+    }
+    Ok(())
+}
+
+#[test]
+fn sizes(rt: HostRuntime) -> Result<(), Fail> {
+    let names = names_of(&rt, rt.alloc(), &NAMES)?;
+    let text = vec![in rt.alloc(); b'x'; 65537]?;
+    assert!(rt;
+        fault_of(rt.alloc(), text.as_slice(), &names) == Some((1, DirectiveFault::TooLong))
+    );
+    let text = vec![in rt.alloc(); b'x'; 65536]?;
+    assert!(rt;
+        fault_of(rt.alloc(), text.as_slice(), &names) == Some((1, DirectiveFault::BadHeader))
+    );
+    Ok(())
+}

@@ -1,0 +1,92 @@
+ghost use Rattle.std.specs.Prelude.{◌≡◌, ◌<◌, All, length, IfOk};
+
+use crate::samples::names_of;
+use failure_rank::{Group, Groups};
+use pct_ask::{NameKind, Names, Row, RowList, Verdict};
+use report_text::{Frame, json_report, text_report};
+use std::alloc::{AllocError as NoMemory, Global};
+use std::process::Abort;
+use std::test::Fail;
+
+const PASSING: &[u8] =
+    b"campaign 1\nthreads 1\nsteps 1\ndepth 1\nlimit 10000\n7 0 passed\n8 0 passed\ngroups 0\n";
+
+const FAILING: &[u8] =
+    b"campaign 1\nthreads 1\nsteps 1\ndepth 2\nlimit 10000\n7 1 failed A 3\n8 1 failed A 3\ngroups 1\n2 1 7 failed A 3\n";
+
+const FAILING_AS_JSON: &[u8] =
+    b"{\"depth\":2,\"groups\":[{\"count\":2,\"first\":7,\"steps\":1,\"verdict\":\"failed A 3\"}],\"limit\":10000,\"rows\":[[7,1,\"failed A 3\"],[8,1,\"failed A 3\"]],\"steps\":1,\"threads\":1}\n";
+
+/// The one name of a campaign's test.
+const ONE_THREAD: [(NameKind, &[u8]); 1] = [(NameKind::Thread, b"A")];
+
+fn one_thread(rt: &impl Abort, alloc: Global) -> Result<Names, Fail>
+    ensures { IfOk result (λ names. 0 < length names.threads) }
+{
+    let names = names_of(rt, alloc, &ONE_THREAD)?;
+    assert!(rt; names.count(NameKind::Thread) == 1);
+    Ok(names)
+}
+
+fn frame_of(depth: u32) -> Frame {
+    Frame {
+        threads: 1,
+        steps: 1,
+        depth,
+        limit: 10000,
+    }
+}
+
+fn two_rows(alloc: Global, steps: u32, verdict: &Verdict) -> Result<RowList, NoMemory>
+    ensures { IfOk result (All (λ row. row.verdict ≡ verdict.now)) }
+{
+    let mut rows = RowList::new(alloc);
+    for seed in 7..9 {
+        rows.try_push(Row {
+            seed,
+            steps,
+            verdict: *verdict,
+        })?;
+    }
+    Ok(rows)
+}
+
+fn one_group(alloc: Global, verdict: &Verdict) -> Result<Groups, NoMemory>
+    ensures { IfOk result (All (λ group. group.verdict ≡ verdict.now)) }
+{
+    let mut groups = Groups::new(alloc);
+    groups.try_push(Group {
+        verdict: *verdict,
+        count: 2,
+        steps: 1,
+        first: 7,
+    })?;
+    Ok(groups)
+}
+
+fn expect(rt: &impl Abort, found: &[u8], told: &[u8]) {
+    assert!(rt; found == told);
+}
+
+#[test]
+fn passing_campaign(rt: HostRuntime) -> Result<(), Fail> {
+    let names = one_thread(&rt, rt.alloc())?;
+    let rows = two_rows(rt.alloc(), 0, &Verdict::Passed)?;
+    let groups = Groups::new(rt.alloc());
+    let text = text_report(rt.alloc(), &frame_of(1), &rows, &groups, &names)?;
+    expect(&rt, text.as_slice(), PASSING);
+    Ok(())
+}
+
+#[test]
+fn failing_campaign(rt: HostRuntime) -> Result<(), Fail> {
+    let names = one_thread(&rt, rt.alloc())?;
+    let verdict = Verdict::Failed { thread: 0, line: 3 };
+    let rows = two_rows(rt.alloc(), 1, &verdict)?;
+    let groups = one_group(rt.alloc(), &verdict)?;
+    let text = text_report(rt.alloc(), &frame_of(2), &rows, &groups, &names)?;
+    expect(&rt, text.as_slice(), FAILING);
+    let json = json_report(rt.alloc(), &frame_of(2), &rows, &groups, &names)?;
+    expect(&rt, json.as_slice(), FAILING_AS_JSON);
+    Ok(())
+}

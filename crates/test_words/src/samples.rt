@@ -1,0 +1,28 @@
+//! The names of tests.
+use pct_ask::{NameKind, Names, is_lawful_name};
+use std::alloc::Global;
+use std::process::Abort;
+use std::test::Fail;
+
+/// Adds a name, and tells its place among those of its kind.
+pub fn add(
+    rt: &impl Abort,
+    alloc: Global,
+    names: &mut Names,
+    kind: NameKind,
+    name: &[u8],
+) -> Result<u32, Fail> {
+    assert!(rt; is_lawful_name(1, name));
+    assert!(rt; !names.contains(name));
+    assert!(rt; names.count(kind) < 64);
+    Ok(names.add(alloc, kind, name)?)
+}
+
+/// The names of a test, each with its kind.
+pub fn names_of(rt: &impl Abort, alloc: Global, all: &[(NameKind, &[u8])]) -> Result<Names, Fail> {
+    let mut names = Names::new(alloc);
+    for (kind, name) in all {
+        add(rt, alloc, &mut names, *kind, name)?;
+    }
+    Ok(names)
+}

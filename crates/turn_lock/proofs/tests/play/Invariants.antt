@@ -1,5 +1,0 @@
-use Rattle.turn_lock.specs.Views.{IsOf}
-use Rattle.turn_lock.proofs.tests.play.Given as goal
-
-abbrev pub invariant-loop : goal.invariant-loop
-invariant-loop g l = IsOf l.fn.lock l.seat

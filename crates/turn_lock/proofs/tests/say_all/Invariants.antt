@@ -1,5 +1,0 @@
-use Rattle.turn_lock.specs.Views.{IsOf}
-use Rattle.turn_lock.proofs.tests.say_all.Given as goal
-
-abbrev pub invariant-loop-thread : goal.invariant-loop-thread
-invariant-loop-thread g l = IsOf l.fn.lock l.seat
