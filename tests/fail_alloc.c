@@ -1,6 +1,6 @@
 // An allocator to be preloaded, which refuses one request for memory: the one whose number is in the
-// environment's FAIL_AT, counted from 1. Where COUNT_IN names a file, it keeps the number of requests there, as a
-// 64-bit number of the machine.
+// environment's FAIL_AT, counted from 1; or each from the one in FAIL_FROM on. Where COUNT_IN names a file, it keeps
+// the number of requests there, as a 64-bit number of the machine.
 //
 //   cc -shared -fPIC -o fail_alloc.so fail_alloc.c -ldl
 //   FAIL_AT=3 LD_PRELOAD=./fail_alloc.so bin/pct run examples/stale_read.pct --order A,B
@@ -15,7 +15,7 @@
 
 static atomic_long own_count;
 static atomic_long *requests = &own_count;
-static long refused;
+static long refused, refused_from;
 
 // A program with threads may end without its exit handlers, so the number lies in the file from the start.
 static atomic_long *count_in(const char *name) {
@@ -28,15 +28,18 @@ static atomic_long *count_in(const char *name) {
 
 __attribute__((constructor)) static void begin(void) {
     const char *number = getenv("FAIL_AT");
+    const char *from = getenv("FAIL_FROM");
     const char *name = getenv("COUNT_IN");
     if (name) requests = count_in(name);
     // The requests before the program's own code, as of the C library's start, don't count.
     atomic_store(requests, 0);
     refused = number ? atol(number) : 0;
+    refused_from = from ? atol(from) : 0;
 }
 
 static int is_refused(void) {
-    if (atomic_fetch_add(requests, 1) + 1 != refused) return 0;
+    long request = atomic_fetch_add(requests, 1) + 1;
+    if (request != refused && (!refused_from || request < refused_from)) return 0;
     errno = ENOMEM;
     return 1;
 }
