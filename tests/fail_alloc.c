@@ -1,6 +1,6 @@
 // An allocator to be preloaded, which refuses one request for memory: the one whose number is in the
-// environment's FAIL_AT, counted from 1; or each from the one in FAIL_FROM on. Where COUNT_IN names a file, it keeps
-// the number of requests there, as a 64-bit number of the machine.
+// environment's FAIL_AT, counted from 1; or each from the one in FAIL_FROM on. Where COUNT_IN names
+// a file, it keeps the number of requests there, as a 64-bit number of the machine.
 //
 //   cc -shared -fPIC -o fail_alloc.so fail_alloc.c -ldl
 //   FAIL_AT=3 LD_PRELOAD=./fail_alloc.so bin/pct run examples/stale_read.pct --order A,B
