@@ -65,10 +65,3 @@ all_read find state part n left all rest none below = sym rest ∙ ap (read_from
 pub end_fits : (bytes : List ℕ) (find : Finder) (part : Part) → length bytes ≤ 1048576 → are_blank (lines_of bytes) ≡ false → ((name : List ℕ) → find name ≡ place_of name (threads_in (lines_of bytes)))
     → read_from saturated find None 1 (lines_of bytes) ≡ Ok (script_of part) → IsScript (script_of part)
 end_fits bytes find part small says same e = read_fits bytes (script_of part) (read_by bytes find (Ok (script_of part)) small says same e)
-
--- a text that is too long, and one of blank lines
-pub large_read : (bytes : List ℕ) → 1048576 < length bytes → ◌≡◌ {A = Found} (read saturated bytes) (Err (1, fault.TooMany))
-large_read bytes large = rw (lt-ltb 1048576 (length bytes) large) refl
-
-pub blank_read : (bytes : List ℕ) → length bytes ≤ 1048576 → are_blank (lines_of bytes) ≡ true → ◌≡◌ {A = Found} (read saturated bytes) (Err (1, blank_text_fault (lines_of bytes)))
-blank_read bytes small blank = rw (le-ltb 1048576 (length bytes) small, blank) refl
