@@ -1,6 +1,6 @@
 -- Reading finds the one first fault of a text.
-use Rattle.std.proofs.Common.{◌≡◌, ℕ, ◌≤◌, inl, inr, Bool, true, false, cond, length, List, [], ◌∷◌, ◌++◌, Option, Some, None, Ok, Err, refl, sym, ◌∙◌, arith, subst}
-use Rattle.std.specs.Prelude.{nat_le, nat_lt, not, ◌&&◌, ◌==◌, unwrap_or, is_some}
+use Rattle.std.proofs.Common.{◌≡◌, ℕ, ◌≤◌, inl, inr, Bool, true, false, cond, length, List, [], ◌∷◌, Option, Some, None, Ok, Err, refl, sym, ◌∙◌, arith, subst}
+use Rattle.std.specs.Prelude.{nat_lt, not, ◌&&◌, ◌==◌, unwrap_or, is_some}
 use Rattle.std.specs.Str.{is_utf8, chars}
 use lib.Utf8.{encode}
 use Rattle.std.proofs.lemmas.Bool.{cases_lt, lt-ltb, le-ltb}

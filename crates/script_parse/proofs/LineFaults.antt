@@ -12,7 +12,7 @@ use Rattle.script_tree.specs.Lines.{tokens_in, version_of}
 use Rattle.script_tree.specs.Faults as faults
 use Rattle.script_tree.specs.Faults.{Place, SoFar, earlier, is_declared, are_blank, IsBelow, HasForm, HasFormWith, IsFaulty, rank, IsFirstKind}
 use Rattle.script_parse.specs.Part.{Part}
-use Rattle.script_parse.specs.Reading.{Finder, is_empty, so_far, is_known, form_fault, taken, bytes_fault}
+use Rattle.script_parse.specs.Reading.{is_empty, so_far, is_known}
 use Rattle.script_parse.proofs.Choices.{some_is, clash, unflip, flipped}
 use Rattle.script_parse.proofs.FormWhole.{form_read}
 use Rattle.script_parse.proofs.FirstKinds.{Tells}

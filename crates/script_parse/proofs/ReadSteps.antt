@@ -1,19 +1,17 @@
 -- The steps of reading a text, as the code takes them.
-use Rattle.std.proofs.Common.{◌≡◌, ℕ, ◌+◌, ◌≤◌, ◌<◌, true, false, length, List, [], ◌∷◌, Option, Some, None, Result, Ok, Err, refl, sym, ap, ◌∙◌, subst, arith}
+use Rattle.std.proofs.Common.{◌≡◌, ℕ, ◌+◌, ◌≤◌, ◌<◌, false, length, List, [], ◌∷◌, Option, Some, None, Result, Ok, Err, refl, sym, ap, ◌∙◌, subst, arith}
 use Rattle.std.specs.Prelude.{◌==◌}
-use Rattle.std.proofs.lemmas.Bool.{le-ltb, lt-ltb}
 use Rattle.std.proofs.lemmas.Bool.Decides.{nat_tests}
 use Rattle.pct_ask.specs.Lines.{lines_of}
 use Rattle.pct_ask.specs.NameLists.{place_of}
 use Rattle.script_tree.specs.ScriptText.{ScriptText}
 use Rattle.script_tree.specs.declared.fault.ScriptFault.{ScriptFault}
-use Rattle.script_tree.specs.declared.fault.ScriptFault.TheVariants as fault
 use Rattle.script_tree.specs.Fitting.{IsScript}
 use Rattle.script_tree.specs.Lines.{threads_in}
 use Rattle.script_tree.specs.Faults.{are_blank}
 use Rattle.script_parse.specs.Numbers.{saturated}
 use Rattle.script_parse.specs.Part.{Part}
-use Rattle.script_parse.specs.Reading.{Finder, is_empty, line_taken, read_from, read, script_of, finished, blank_text_fault}
+use Rattle.script_parse.specs.Reading.{Finder, is_empty, line_taken, read_from, read, script_of, finished}
 use Rattle.script_parse.proofs.ReadAnswers.{read_by, read_fits}
 use Rattle.script_parse.proofs.Runs.{some_there}
 

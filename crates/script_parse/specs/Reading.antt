@@ -1,5 +1,5 @@
 -- Reading a script from its first line to its last.
-use Rattle.std.specs.Prelude.{ℕ, ℤ, pos, ◌+◌, ◌&&◌, nat_le, nat_lt, if◌then◌else◌, Bool, true}
+use Rattle.std.specs.Prelude.{ℕ, ℤ, pos, ◌+◌, ◌&&◌, nat_lt, if◌then◌else◌, Bool, true}
 use Rattle.std.specs.Prelude.{false, not, ◌==◌, List, [], ◌∷◌, ◌++◌, length, Option, Some, None}
 use Rattle.std.specs.Prelude.{is_some, unwrap_or, Result, Ok, Err}
 use Rattle.std.specs.Option.{option_map, option_and_then}
