@@ -1,6 +1,8 @@
 -- What a form asks of the lines before it is what it asks of what was read of them.
-use Rattle.std.proofs.Common.{◌≡◌, ℕ, suc, ◌+◌, ◌-◌, ◌<◌, Bool, true, false, cond, length, List, [], ◌∷◌, ◌++◌, Some, None, refl, sym, ap, ◌∙◌, arith}
-use Rattle.std.specs.Prelude.{nat_le, nat_lt, not, ◌||◌, ◌==◌, codes, is_some, count_by, unwrap_or, pos}
+use Rattle.std.proofs.Common.{◌≡◌, ℕ, suc, ◌+◌, ◌-◌, ◌<◌, ◌≤◌, Bool, true, false, cond, length}
+use Rattle.std.proofs.Common.{List, [], ◌∷◌, ◌++◌, Option, Some, None, refl, sym, ap, ◌∙◌, arith}
+use Rattle.std.specs.Prelude.{nat_le, nat_lt, not, ◌&&◌, ◌||◌, ◌==◌, codes, is_some, count_by}
+use Rattle.std.specs.Prelude.{unwrap_or, pos}
 use Rattle.std.specs.List.{prefix_len}
 use Rattle.std.specs.Str.{bytes_eq}
 use Rattle.std.proofs.Math.Path.{fun_ext}
@@ -11,9 +13,9 @@ use Rattle.pct_ask.specs.Words.{is_among}
 use Rattle.pct_ask.specs.NameLists.{NameLists, list_of, place_of}
 use Rattle.pct_ask.specs.declared.names.NameKind.{NameKind}
 use Rattle.pct_ask.specs.declared.names.NameKind.TheVariants as kinds
-use Rattle.script_tree.specs.Expressions.{register_word}
 use Rattle.std.proofs.lemmas.Bool.{le-leb, lt-ltb}
-use Rattle.script_tree.specs.Forms.{Cut, Meant, Thread, Yield, Assert, Set, If, While, kind_word, has_value, is_plain, value_in, tokens_of_form, IsOf, Means}
+use Rattle.script_tree.specs.Forms.{Cut, Meant, Thread, Yield, Assert, Set, If, While, value_in}
+use Rattle.script_tree.specs.Forms.{tokens_of_form, IsOf, Means}
 use Rattle.script_tree.specs.Lines.{version_of, begins, named, names_of, opens, depth, threads_in}
 use Rattle.script_tree.specs.Faults as faults
 use Rattle.script_tree.specs.Faults.{Place, SoFar, earlier, is_declared}
@@ -22,21 +24,18 @@ use Rattle.script_parse.specs.Part as parts
 use Rattle.script_parse.specs.Reading as reading
 use Rattle.script_parse.specs.Reading.{Finder, is_empty, is_if, is_in_if, so_far, is_known, taken}
 use Rattle.script_parse.proofs.Meanings.{by_meaning}
-use Rattle.script_parse.proofs.Standing.{Lines, Stands, depth_is, is_if_at, quiet_at, on_quiet, into_quiet, said_stands, plain_stands, valued_stands, opens_stands, quiet_names, declared_names, end_stands_at, else_stands_at, count_push, names_push, nameless_at, plain_opens_none, kind_ends_none}
-use Rattle.script_parse.proofs.Choices.{unflip}
+use Rattle.script_parse.proofs.Standing.{Lines, Stands, depth_is, is_if_at, quiet_at, on_quiet}
+use Rattle.script_parse.proofs.Standing.{into_quiet, said_stands, plain_stands, valued_stands}
+use Rattle.script_parse.proofs.Standing.{opens_stands, quiet_names, declared_names, end_stands_at}
+use Rattle.script_parse.proofs.Standing.{else_stands_at, count_push, names_push}
+use Rattle.script_parse.proofs.Choices.{unflip, same_bytes, clash}
 
 open_opening : parts.Opening → Open
 open_opening opening = record { opening = opening; done = [] }
 
-one_tests : (n : ℕ) → nat_le 1 n ≡ not (n == 0)
-one_tests n = grind (arith, nat_tests)
-
 at_zero : (blocks : List Open) → is_if_at 0 blocks ≡ is_in_if blocks
 at_zero [] = refl
 at_zero (block ∷ blocks) = refl
-
-less_tests : (n : ℕ) → nat_le 1 (n - 1) ≡ nat_le 2 n
-less_tests n = grind (arith, nat_tests)
 
 more_tests : (p l : ℕ) → nat_lt (1 + p) (suc l) ≡ nat_lt p l
 more_tests p l = grind (arith, nat_tests)
@@ -61,27 +60,6 @@ is_some-place name names = some_within (prefix_len (λ n. not (bytes_eq name n))
 
 some_left : (names : List (List ℕ)) (name : List ℕ) → is_empty (names ++ name ∷ []) ≡ false
 some_left names name = let some : 0 < length (names ++ name ∷ []) = omega (arith, length_push names name) in grind (arith, nat_tests)
-
-valued_opens_none : (kind : NameKind) → has_value kind ≡ true → opens (Word (kind_word kind) ∷ []) ≡ false
-valued_opens_none kinds.Var h = refl
-valued_opens_none kinds.Sem h = refl
-valued_opens_none kinds.Barrier h = refl
-valued_opens_none kind h = absurd cc
-
-plain_no_thread : (kind : NameKind) (name : List ℕ) (rest : List Token) → is_plain kind ≡ true → named kinds.Thread (Word (kind_word kind) ∷ Word name ∷ rest) ≡ None
-plain_no_thread kinds.Mutex name rest h = refl
-plain_no_thread kinds.Cond name rest h = refl
-plain_no_thread kinds.RwLock name rest h = refl
-plain_no_thread kind name rest h = absurd cc
-
-valued_no_thread : (kind : NameKind) (name : List ℕ) (rest : List Token) → has_value kind ≡ true → named kinds.Thread (Word (kind_word kind) ∷ Word name ∷ rest) ≡ None
-valued_no_thread kinds.Var name rest h = refl
-valued_no_thread kinds.Sem name rest h = refl
-valued_no_thread kinds.Barrier name rest h = refl
-valued_no_thread kind name rest h = absurd cc
-
-abbrev tail_of : ℕ → List ℕ → List Token
-tail_of reg object = Word (register_word reg) ∷ Word object ∷ []
 
 -- what is read with a line that has no fault stands for it too
 pub taken_stands : (version : ℕ) (part : Part) (find : Finder) (n : ℕ) (lines : Lines) → Stands part lines → (cut : Cut) (meant : Meant) → Means cut meant → IsOf version cut → faults.closes_nothing (so_far part) meant ≡ false → Stands (taken part find n meant) (lines ++ tokens_of_form cut ∷ [])
@@ -135,65 +113,64 @@ module _ (part : Part) (place : Place) (s : Stands part (earlier place)) where
 
 -- ---- what is open behind a line, and whether a thread began
 
-module _ (part : Part) (lines : Lines) (s : Stands part lines) where
-  open_behind : (line : List Token) → depth (lines ++ line ∷ []) ≡ (count_by (begins (codes "end")) lines + length part.open_blocks + cond (opens line) 1 0) - (count_by (begins (codes "end")) lines + cond (begins (codes "end") line) 1 0)
-  open_behind line = rw (count_push opens lines line, count_push (begins (codes "end")) lines line, s.depths) refl
+ends_opens : (line : List Token) → begins (codes "end") line ≡ true → opens line ≡ false
+ends_opens (Word word ∷ rest) e =
+    ap (λ (w : List ℕ). opens (Word w ∷ rest)) (same_bytes word (codes "end") e)
+ends_opens line e = absurd cc
 
-  opened_behind : (line : List Token) → opens line ≡ true → begins (codes "end") line ≡ false → nat_le 1 (depth (lines ++ line ∷ [])) ≡ true
-  opened_behind line o e = rw (open_behind line, o, e) (le-leb 1 _ (omega arith))
+one_le : (b : Bool) → cond b 1 0 ≤ 1
+one_le true = omega arith
+one_le false = omega arith
 
-  quiet_behind : (line : List Token) → opens line ≡ false → begins (codes "end") line ≡ false → nat_le 1 (depth (lines ++ line ∷ [])) ≡ not (is_empty part.open_blocks)
-  quiet_behind line o e =
-      let same : depth (lines ++ line ∷ []) ≡ length part.open_blocks = open_behind line ∙ rw (o, e) (omega arith) in
-      rw same (one_tests (length part.open_blocks))
+begun_tests : (o e : ℕ) → e ≤ o → nat_le 1 ((o + 1) - (e + 0)) ≡ true
+begun_tests o e h = le-leb 1 _ (omega arith)
 
-  closed_behind : (line : List Token) → opens line ≡ false → begins (codes "end") line ≡ true → nat_le 1 (depth (lines ++ line ∷ [])) ≡ nat_le 2 (length part.open_blocks)
-  closed_behind line o e =
-      let same : depth (lines ++ line ∷ []) ≡ length part.open_blocks - 1 = open_behind line ∙ rw (o, e) (omega arith) in
-      rw same (less_tests (length part.open_blocks))
+ended_tests : (o e : ℕ) → nat_le 1 ((o + 0) - (e + 1)) ≡ nat_le 2 (o - e)
+ended_tests o e = grind (arith, nat_tests)
 
-  pub leaves_open_same : (version : ℕ) (cut : Cut) (meant : Meant) → Means cut meant → IsOf version cut → nat_le 1 (depth (lines ++ tokens_of_form cut ∷ [])) ≡ reading.leaves_open part meant
-  leaves_open_same version = by_meaning (λ cut meant. IsOf version cut → nat_le 1 (depth (lines ++ tokens_of_form cut ∷ [])) ≡ reading.leaves_open part meant) (record {
-    plain = λ kind name of. quiet_behind _ (plain_opens_none kind of.0) (kind_ends_none kind).0;
-    valued = λ kind name value of. quiet_behind _ (valued_opens_none kind of.0) (kind_ends_none kind).0;
-    thread = λ name of. opened_behind _ refl refl;
-    on = λ verb object of. quiet_behind _ (on_quiet verb (Word object ∷ [])).opens_none (on_quiet verb (Word object ∷ [])).ends_none;
-    into = λ verb reg object of. quiet_behind _ (into_quiet verb (tail_of reg object)).opens_none (into_quiet verb (tail_of reg object)).ends_none;
-    write = λ var value tree of. quiet_behind _ refl refl;
-    add = λ reg var value tree of. quiet_behind _ refl refl;
-    cas = λ reg var old new a b of. quiet_behind _ refl refl;
-    wait = λ waiting mutex of. quiet_behind _ refl refl;
-    yield = λ of. quiet_behind _ refl refl;
-    assert = λ test tree of. quiet_behind _ refl refl;
-    set = λ reg value tree of. quiet_behind _ refl refl;
-    when = λ test tree of. opened_behind _ refl refl;
-    while = λ test tree of. opened_behind _ refl refl;
-    end = λ of. closed_behind _ refl refl;
-    otherwise = λ of. quiet_behind _ refl refl;
-  })
+other_tests : (o e : ℕ) → nat_le 1 ((o + 0) - (e + 0)) ≡ not ((o - e) == 0)
+other_tests o e = grind (arith, nat_tests)
 
-  named_behind : (line : List Token) → named kinds.Thread line ≡ None → is_empty (names_of kinds.Thread (lines ++ line ∷ [])) ≡ is_empty part.names.threads
-  named_behind line n = rw (names_push kinds.Thread lines line, n, append-nil (names_of kinds.Thread lines), s.names kinds.Thread) refl
+module _ (lines : Lines) (line : List Token) where
+  abbrev begun : ℕ
+  begun = count_by opens lines
 
-  thread_behind : (name : List ℕ) → is_empty (names_of kinds.Thread (lines ++ (Word (codes "thread") ∷ Word name ∷ []) ∷ [])) ≡ false
-  thread_behind name = rw (names_push kinds.Thread lines (Word (codes "thread") ∷ Word name ∷ [])) (some_left (names_of kinds.Thread lines) name)
+  abbrev ended : ℕ
+  ended = count_by (begins (codes "end")) lines
 
-  pub lacks_thread_same : (version : ℕ) (cut : Cut) (meant : Meant) → Means cut meant → IsOf version cut → is_empty (names_of kinds.Thread (lines ++ tokens_of_form cut ∷ [])) ≡ reading.lacks_thread part meant
-  lacks_thread_same version = by_meaning (λ cut meant. IsOf version cut → is_empty (names_of kinds.Thread (lines ++ tokens_of_form cut ∷ [])) ≡ reading.lacks_thread part meant) (record {
-    plain = λ kind name of. named_behind _ (plain_no_thread kind name [] of.0);
-    valued = λ kind name value of. named_behind _ (valued_no_thread kind name (Symbol (codes "=") ∷ value) of.0);
-    thread = λ name of. thread_behind name;
-    on = λ verb object of. named_behind _ ((on_quiet verb (Word object ∷ [])).nameless kinds.Thread);
-    into = λ verb reg object of. named_behind _ ((into_quiet verb (tail_of reg object)).nameless kinds.Thread);
-    write = λ var value tree of. named_behind _ refl;
-    add = λ reg var value tree of. named_behind _ refl;
-    cas = λ reg var old new a b of. named_behind _ refl;
-    wait = λ waiting mutex of. named_behind _ refl;
-    yield = λ of. named_behind _ refl;
-    assert = λ test tree of. named_behind _ (nameless_at (codes "assert") test kinds.Thread refl);
-    set = λ reg value tree of. named_behind _ refl;
-    when = λ test tree of. named_behind _ (nameless_at (codes "if") test kinds.Thread refl);
-    while = λ test tree of. named_behind _ (nameless_at (codes "while") test kinds.Thread refl);
-    end = λ of. named_behind _ refl;
-    otherwise = λ of. named_behind _ refl;
-  })
+  depth_behind : depth (lines ++ line ∷ [])
+      ≡ (begun + cond (opens line) 1 0) - (ended + cond (begins (codes "end") line) 1 0)
+  depth_behind = rw (count_push opens lines line, count_push (begins (codes "end")) lines line) refl
+
+  open_by : (o e : Bool) → (e ≡ true → o ≡ false) → ended ≤ begun
+      → nat_le 1 ((begun + cond o 1 0) - (ended + cond e 1 0))
+      ≡ (o || cond e (nat_le 2 (depth lines)) (not (depth lines == 0)))
+  open_by true true h few = clash (h refl)
+  open_by true false h few = begun_tests begun ended few
+  open_by false true h few = ended_tests begun ended
+  open_by false false h few = other_tests begun ended
+
+  -- where no more blocks ended than began before, the line leaves a block open where one is open
+  -- behind it
+  pub leaves_open_same : ended ≤ begun
+      → nat_le 1 (depth (lines ++ line ∷ [])) ≡ faults.leaves_open (faults.so_far lines) line
+  leaves_open_same few =
+      ap (nat_le 1) depth_behind
+      ∙ open_by (opens line) (begins (codes "end") line) (ends_opens line) few
+
+  -- behind a line with a block open no more blocks ended than began before
+  pub few_ended : 1 ≤ depth (lines ++ line ∷ []) → ended ≤ begun
+  few_ended deep = omega (arith, depth_behind, one_le (opens line))
+
+  thread_by : (name : Option (List ℕ)) → named kinds.Thread line ≡ name
+      → is_empty (names_of kinds.Thread (lines ++ line ∷ []))
+      ≡ (not (is_some name) && is_empty (names_of kinds.Thread lines))
+  thread_by None e =
+      rw (names_push kinds.Thread lines line, e, append-nil (names_of kinds.Thread lines)) refl
+  thread_by (Some name) e =
+      rw (names_push kinds.Thread lines line, e) (some_left (names_of kinds.Thread lines) name)
+
+  -- no thread began up to the line where none of the lines up to it names one
+  pub lacks_thread_same : is_empty (names_of kinds.Thread (lines ++ line ∷ []))
+      ≡ faults.lacks_thread (faults.so_far lines) line
+  lacks_thread_same = thread_by (named kinds.Thread line) refl

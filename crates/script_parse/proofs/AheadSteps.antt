@@ -20,10 +20,7 @@ no_thread_more texts line e = filter_map-append thread_in texts (line ∷ []) �
 pub thread_more : (texts : List (List ℕ)) (line name : List ℕ) → thread_in line ≡ Some name → threads_in (texts ++ line ∷ []) ≡ threads_in texts ++ name ∷ []
 thread_more texts line name e = filter_map-append thread_in texts (line ∷ []) ∙ rw e refl
 
--- a line that is no text begins no thread, nor does one that can't be cut into tokens
-pub no_text : (line : List ℕ) → is_utf8 line ≡ false → thread_in line ≡ None
-no_text line u = rw u refl
-
+-- a line that can't be cut into tokens begins no thread
 pub no_tokens : (line : List ℕ) → tokens_of line ≡ None → thread_in line ≡ None
 no_tokens line e = by (is_utf8 line) refl
   where

@@ -45,9 +45,6 @@ pub bind_some : {A B : Type 0} (f : A → Option B) (o : Option A) (y : B) → o
 bind_some f None y e = absurd cc
 bind_some f (Some x) y e = (x, refl, e)
 
-pub bind_at : {A B : Type 0} (f : A → Option B) (o : Option A) (x : A) → o ≡ Some x → option_and_then f o ≡ f x
-bind_at f o x e = rw e refl
-
 -- equal texts by their test
 pub same_bytes : (a b : List ℕ) → bytes_eq a b ≡ true → a ≡ b
 same_bytes a b h = (bytes_eq-Decides a b).0 h

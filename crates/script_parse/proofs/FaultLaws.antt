@@ -1,6 +1,6 @@
 -- Reading finds the one first fault of a text.
-use Rattle.std.proofs.Common.{◌≡◌, ℕ, ◌≤◌, inl, inr, Bool, true, false, cond, length, List, [], ◌∷◌, ◌++◌, Option, Some, None, Ok, Err, refl, sym, ◌∙◌, arith, subst}
-use Rattle.std.specs.Prelude.{nat_le, nat_lt, not, ◌&&◌, ◌==◌, unwrap_or, is_some}
+use Rattle.std.proofs.Common.{◌≡◌, ℕ, ◌≤◌, inl, inr, Bool, true, false, cond, length, List, [], ◌∷◌, Option, Some, None, Ok, Err, refl, sym, ◌∙◌, arith, subst}
+use Rattle.std.specs.Prelude.{nat_lt, not, ◌&&◌, ◌==◌, unwrap_or, is_some}
 use Rattle.std.specs.Str.{is_utf8, chars}
 use lib.Utf8.{encode}
 use Rattle.std.proofs.lemmas.Bool.{cases_lt, lt-ltb, le-ltb}
@@ -10,9 +10,10 @@ use Rattle.script_tree.specs.ScriptText.{ScriptText}
 use Rattle.script_tree.specs.declared.fault.ScriptFault.{ScriptFault}
 use Rattle.script_tree.specs.declared.fault.ScriptFault.TheVariants as fault
 use Rattle.script_tree.specs.Forms.{Cut, Meant}
-use Rattle.script_tree.specs.Lines.{tokens_in, names_of, depth}
-use Rattle.pct_ask.specs.declared.names.NameKind.TheVariants as kinds
-use Rattle.script_tree.specs.Faults.{Place, earlier, are_blank, IsFirstKind, IsFirstLine, HasForm, judged_lines, IsFirstFault, IsFault}
+use Rattle.script_tree.specs.Lines.{tokens_in}
+use Rattle.script_tree.specs.Faults.{Place, so_far_at, leaves_open, lacks_thread, are_blank}
+use Rattle.script_tree.specs.Faults.{IsFirstKind, IsFirstLine, HasForm, judged_lines, IsFirstFault}
+use Rattle.script_tree.specs.Faults.{IsFault}
 use Rattle.script_parse.specs.Reading.{is_empty, bytes_fault, blank_text_fault, read, read_from}
 use Rattle.script_parse.proofs.ExpressionWhole.{exact}
 use Rattle.script_parse.proofs.FirstKinds.{first_in, in_order}
@@ -32,15 +33,12 @@ blank_chain true l k s un tw ra ne st nt tm = refl
 blank_chain false true k s un tw ra ne st nt tm = refl
 blank_chain false false k s un tw ra ne st nt tm = refl
 
-bytes_first : (line : List ℕ) → bytes_fault 1 line ≡ cond (not (is_utf8 line)) (Some fault.NotUtf8) (cond (nat_lt 256 (length line)) (Some fault.LineTooLong) None)
-bytes_first line = refl
-
 blank_first : (line : List ℕ) (rest : List (List ℕ)) → are_blank (line ∷ rest) ≡ true → IsFirstKind (at_place [] line rest) (unwrap_or (bytes_fault 1 line) fault.BadHeader)
 blank_first line rest b =
     let place : Place = at_place [] line rest in
     let no_form : (cut : Cut) (meant : Meant) → ¬ HasForm place cut meant = λ cut meant h. clash h.is_below.below in
-    let open_behind : Bool = is_empty rest && nat_le 1 (depth (earlier place ++ tokens_in line ∷ [])) in
-    let threadless : Bool = is_empty rest && is_empty (names_of kinds.Thread (earlier place ++ tokens_in line ∷ [])) in
+    let open_behind : Bool = is_empty rest && leaves_open (so_far_at place) (tokens_in line) in
+    let threadless : Bool = is_empty rest && lacks_thread (so_far_at place) (tokens_in line) in
     first_formless place true _ false open_behind threadless no_form (always (inr (refl, b))) (tells_token (tokens_of line)) (never (λ h. clash h.0.below))
     (tells_end_any place) (tells_thread_any place) (some_fault (unwrap_or (bytes_fault 1 line) fault.BadHeader)) (blank_chain (not (is_utf8 line)) (nat_lt 256 (length line)) (not (is_some (tokens_of line))) false false false false open_behind false threadless false)
 

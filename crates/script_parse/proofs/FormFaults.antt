@@ -8,7 +8,6 @@ use Rattle.script_tree.specs.Ranges.{value_fits}
 use Rattle.script_tree.specs.Faults as faults
 use Rattle.script_parse.specs.Part.{Part}
 use Rattle.script_parse.specs.Lawful.{value_lawful}
-use Rattle.script_parse.specs.Reading as reading
 use Rattle.script_parse.specs.Reading.{Finder, so_far, is_known, form_fault}
 use Rattle.script_parse.proofs.Choices.{unflip}
 
@@ -31,9 +30,9 @@ no_fault_parts part find last tokens meant e =
     let b = failed_none (faults.uses_unknown (is_known part.names find) meant) _ _ a.1 in
     let c = failed_none (faults.declares_again (so_far part) meant) _ _ b.1 in
     let d = failed_none (ranges.is_out_of_range tokens meant) _ _ c.1 in
-    let f = failed_none (last && reading.leaves_open part meant) _ _ d.1 in
+    let f = failed_none (last && faults.leaves_open (so_far part) tokens) _ _ d.1 in
     let g = failed_none (faults.closes_nothing (so_far part) meant) _ _ f.1 in
-    let h = failed_none (last && reading.lacks_thread part meant) _ _ g.1 in
+    let h = failed_none (last && faults.lacks_thread (so_far part) tokens) _ _ g.1 in
     let i = failed_none (faults.is_too_many (so_far part) meant) _ _ h.1 in
     record { stands = unflip (faults.may_stand (so_far part) meant) a.0; known = b.0; fresh = c.0; in_range = d.0; closes = g.0; few = i.0 }
 

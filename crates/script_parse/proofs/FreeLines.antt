@@ -1,5 +1,6 @@
 -- A line of a form without a fault is taken.
-use Rattle.std.proofs.Common.{◌≡◌, ℕ, Bool, true, false, length, List, [], ◌∷◌, ◌++◌, Option, Some, None, Ok, refl, sym, ap, ◌∙◌, subst}
+use Rattle.std.proofs.Common.{◌≡◌, ℕ, Bool, true, false, length, List, [], ◌∷◌, ◌++◌, Option, Some}
+use Rattle.std.proofs.Common.{None, Ok, refl, sym, ap, ◌∙◌, subst, arith}
 use Rattle.std.specs.Prelude.{◌&&◌, nat_le}
 use Rattle.std.specs.Prelude.{unwrap_or}
 use Rattle.pct_ask.specs.Tokens.{Token, tokens_of}
@@ -7,15 +8,17 @@ use Rattle.pct_ask.specs.declared.names.NameKind.TheVariants as kinds
 use Rattle.script_tree.specs.Forms.{Cut, Meant, tokens_of_form, IsOf, Means, IsForm}
 use Rattle.script_tree.specs.Lines.{tokens_in}
 use Rattle.script_tree.specs.Grammar.{Says}
+use Rattle.script_tree.specs.Faults as faults
+use Rattle.script_tree.specs.Faults.{SoFar}
 use Rattle.script_tree.specs.Ranges as ranges
 use Rattle.script_parse.specs.Part.{Part}
-use Rattle.script_parse.specs.Reading as reading
-use Rattle.script_parse.specs.Reading.{Finder, is_empty, form_fault, taken, tokens_taken}
+use Rattle.script_parse.specs.Reading.{Finder, is_empty, so_far, form_fault, taken, tokens_taken}
 use Rattle.script_parse.specs.Saying.{form_in}
 use Rattle.script_parse.proofs.ExpressionWhole.{exact}
 use Rattle.script_parse.proofs.FormWhole.{form_read}
 use Rattle.script_parse.proofs.Standing.{Stands, depth_is}
-use Rattle.script_parse.proofs.Agreeing.{taken_stands, leaves_open_same, lacks_thread_same}
+use Rattle.script_parse.proofs.Agreeing.{taken_stands, same_so_far, leaves_open_same}
+use Rattle.script_parse.proofs.Agreeing.{lacks_thread_same}
 use Rattle.script_parse.proofs.Runs.{IsFree}
 
 -- what was read is a whole script: no block is open, and there is a thread
@@ -35,17 +38,39 @@ module _ (version : ℕ) (part : Part) (find : Finder) (n : ℕ) (last : Bool) (
   next_stands : Stands (taken part find n meant) (lines ++ tokens_of_form cut ∷ [])
   next_stands = taken_stands version part find n lines s cut meant means of free.closes
 
-  none_open : last ≡ true → reading.leaves_open part meant ≡ false
-  none_open e = sym (leaves_open_same part lines s version cut meant means of) ∙ ap (nat_le 1) (depth_is (taken part find n meant) (lines ++ tokens_of_form cut ∷ []) next_stands ∙ (whole e).closed)
+  abbrev line : List Token
+  line = tokens_of_form cut
 
-  a_thread : last ≡ true → reading.lacks_thread part meant ≡ false
-  a_thread e = sym (lacks_thread_same part lines s version cut meant means of) ∙ ap is_empty (next_stands.names kinds.Thread) ∙ (whole e).threads
+  said_same : (test : SoFar → List Token → Bool)
+      → test (faults.so_far lines) line ≡ test (so_far part) line
+  said_same test = ap (λ (read : SoFar). test read line) (same_so_far part lines s)
 
-  pub no_form_fault : (tokens : List Token) → ranges.is_out_of_range tokens meant ≡ false → form_fault part find last tokens meant ≡ None
-  no_form_fault tokens range =
-      let closed = last_none last (reading.leaves_open part meant) none_open in
-      let some = last_none last (reading.lacks_thread part meant) a_thread in
+  none_open : last ≡ true → faults.leaves_open (so_far part) line ≡ false
+  none_open e =
+      sym (leaves_open_same lines line (omega (arith, s.depths))
+      ∙ said_same faults.leaves_open)
+      ∙ ap (nat_le 1) (depth_is (taken part find n meant) (lines ++ line ∷ []) next_stands
+      ∙ (whole e).closed)
+
+  a_thread : last ≡ true → faults.lacks_thread (so_far part) line ≡ false
+  a_thread e =
+      sym (lacks_thread_same lines line ∙ said_same faults.lacks_thread)
+      ∙ ap is_empty (next_stands.names kinds.Thread) ∙ (whole e).threads
+
+  no_fault : ranges.is_out_of_range line meant ≡ false
+      → form_fault part find last line meant ≡ None
+  no_fault range =
+      let closed = last_none last (faults.leaves_open (so_far part) line) none_open in
+      let some = last_none last (faults.lacks_thread (so_far part) line) a_thread in
       rw (free.stands, free.known, free.fresh, range, closed, free.closes, some, free.few) refl
+
+  pub no_form_fault : (tokens : List Token) → tokens ≡ tokens_of_form cut
+      → ranges.is_out_of_range tokens meant ≡ false
+      → form_fault part find last tokens meant ≡ None
+  no_form_fault tokens spelled range =
+      let in_range : ranges.is_out_of_range line meant ≡ false =
+      subst (λ (ts : List Token). ranges.is_out_of_range ts meant ≡ false) spelled range in
+      ap (λ (ts : List Token). form_fault part find last ts meant) spelled ∙ no_fault in_range
 
 module _ (part : Part) (find : Finder) (n : ℕ) (last : Bool) (lines : List (List Token)) (s : Stands part lines) (text : List ℕ) (meant : Meant) (says : Says part.version text meant) (free : IsFree part find meant) (whole : WholeAfter last (taken part find n meant)) where
   formed : (tokens : List Token) → tokens_in text ≡ tokens → IsForm part.version tokens says.0 meant
@@ -66,4 +91,9 @@ module _ (part : Part) (find : Finder) (n : ℕ) (last : Bool) (lines : List (Li
   said_taken (Some (token ∷ tokens)) e =
       let here : tokens_in text ≡ token ∷ tokens = ap (λ (ts : Option (List Token)). unwrap_or ts []) e in
       let form = formed (token ∷ tokens) here in
-      rw (read_form (token ∷ tokens) here, no_form_fault part.version part find n last lines s says.0 meant form.means form.of free whole (token ∷ tokens) (in_range (token ∷ tokens) here)) refl
+      rw (
+        read_form (token ∷ tokens) here,
+        no_form_fault part.version part find n last lines s
+            says.0 meant form.means form.of free whole (token ∷ tokens) form.spelled
+            (in_range (token ∷ tokens) here),
+      ) refl

@@ -1,6 +1,6 @@
 -- The lines down to the header.
 use Rattle.std.proofs.Common.{◌≡◌, ℕ, ◌+◌, ◌-◌, inl, inr, Bool, true, false, cond, length, List, [], ◌∷◌, ◌++◌, reverse, Option, Some, None, Ok, Err, refl, sym, ap, ◌∙◌, append_assoc, arith, subst}
-use Rattle.std.specs.Prelude.{nat_le, not, ◌&&◌, codes, count_by, is_some}
+use Rattle.std.specs.Prelude.{nat_le, not, ◌&&◌, ◌==◌, codes, count_by, is_some}
 use Rattle.std.specs.Str.{bytes_eq}
 use Rattle.std.proofs.lemmas.List.{append-nil}
 use Rattle.std.proofs.lemmas.List.Folds.{list_all-append}
@@ -19,7 +19,7 @@ use Rattle.script_parse.specs.Reading.{Finder, is_empty, unless, header_taken, s
 use Rattle.script_parse.proofs.Choices.{some, passed, same_bytes, clash}
 use Rattle.script_parse.proofs.ExpressionWhole.{exact}
 use Rattle.script_parse.proofs.FirstKinds.{Tells, first_in, in_order, IsFirst}
-use Rattle.script_parse.proofs.Standing.{Lines, Stands, depth_is, count_push, names_push, reverse_push}
+use Rattle.script_parse.proofs.Standing.{Lines, Stands, count_push, names_push, reverse_push}
 use Rattle.script_parse.proofs.LineFaults.{tells_end_any, tells_thread_any}
 use Rattle.script_parse.proofs.LineSteps.{Step, fault_of, tests, never, always, bytes_at, bad_chain, some_none, cut_tokens, says_something, first_formless}
 
@@ -135,9 +135,14 @@ module _ (find : Finder) (place : Place) (q : AreQuiet (earlier place)) (above :
       let here : tokens_in place.line ≡ token ∷ tokens = cut_tokens place.line (token ∷ tokens) e in
       let b : is_blank_line place.line ≡ false = says_something place.line token tokens e in
       let w : version_in (tokens_in place.line) ≡ Some version = ap version_in here ∙ v in
-      let next = begun_stands (earlier place) (tokens_in place.line) version w q in
-      let no_open : nat_le 1 (depth (earlier place ++ tokens_in place.line ∷ [])) ≡ false = rw (depth_is (start version) (earlier place ++ tokens_in place.line ∷ []) next) refl in
-      let no_name : is_empty (names_of kinds.Thread (earlier place ++ tokens_in place.line ∷ [])) ≡ true = rw (next.names kinds.Thread) refl in
+      let header = header_is (tokens_in place.line) version w in
+      let deep : depth (earlier place) ≡ 0 = omega (arith, q.opens_none) in
+      let no_open : faults.leaves_open (faults.so_far_at place) (tokens_in place.line) ≡ false =
+      ap (faults.leaves_open (faults.so_far_at place)) header.1
+      ∙ ap (λ (n : ℕ). not (n == 0)) deep in
+      let no_name : faults.lacks_thread (faults.so_far_at place) (tokens_in place.line) ≡ true =
+      ap (faults.lacks_thread (faults.so_far_at place)) header.1
+      ∙ ap (λ (names : List (List ℕ)). is_empty names) (q.names kinds.Thread) in
       first_formless place false false false (is_empty place.after && false) (is_empty place.after && true) no_form (never (good_header version b w)) (never (λ n. some_none (sym n ∙ e))) (never (λ h. not_below h.0))
       (subst (λ (x : Bool). Tells (is_empty place.after && x) (faults.NoEnd place)) no_open (tells_end_any place)) (subst (λ (x : Bool). Tells (is_empty place.after && x) (faults.NoThread place)) no_name (tells_thread_any place)) (fault_of top_step) (rw (bytes_at place, e, v) (good_chain _ _ _ (is_empty place.after) (start version)))
 

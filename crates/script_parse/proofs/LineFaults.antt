@@ -1,24 +1,23 @@
 -- A line's own fault is what is found as it is read.
-use Rattle.std.proofs.Common.{◌≡◌, ℕ, suc, Bool, true, false, length, List, [], ◌∷◌, ◌++◌, refl, sym, ap, ◌∙◌, arith, subst}
-use Rattle.std.specs.Prelude.{nat_le, not, ◌&&◌, ◌==◌}
+use Rattle.std.proofs.Common.{◌≡◌, ℕ, suc, Bool, true, false, length, List, [], ◌∷◌, refl, sym, ap}
+use Rattle.std.proofs.Common.{◌∙◌, arith, subst}
+use Rattle.std.specs.Prelude.{not, ◌&&◌, ◌==◌}
 use Rattle.std.proofs.lemmas.Bool.Decides.{nat_tests}
-use Rattle.std.proofs.lemmas.Bool.{and_parts, leb-true, le-leb}
+use Rattle.std.proofs.lemmas.Bool.{and_parts}
 use Rattle.pct_ask.specs.Tokens.{Token}
 use Rattle.pct_ask.specs.declared.names.NameKind.{NameKind}
-use Rattle.pct_ask.specs.declared.names.NameKind.TheVariants as kinds
-use Rattle.script_tree.specs.Forms.{Cut, Meant, tokens_of_form, IsForm}
+use Rattle.script_tree.specs.Forms.{Cut, Meant, IsForm}
 use Rattle.script_tree.specs.Ranges as ranges
-use Rattle.script_tree.specs.Lines.{tokens_in, version_of, names_of, depth}
+use Rattle.script_tree.specs.Lines.{tokens_in, version_of}
 use Rattle.script_tree.specs.Faults as faults
 use Rattle.script_tree.specs.Faults.{Place, SoFar, earlier, is_declared, are_blank, IsBelow, HasForm, HasFormWith, IsFaulty, rank, IsFirstKind}
 use Rattle.script_parse.specs.Part.{Part}
-use Rattle.script_parse.specs.Reading as reading
-use Rattle.script_parse.specs.Reading.{Finder, is_empty, so_far, is_known, form_fault, taken, bytes_fault}
+use Rattle.script_parse.specs.Reading.{is_empty, so_far, is_known}
 use Rattle.script_parse.proofs.Choices.{some_is, clash, unflip, flipped}
 use Rattle.script_parse.proofs.FormWhole.{form_read}
 use Rattle.script_parse.proofs.FirstKinds.{Tells}
-use Rattle.script_parse.proofs.Standing.{Lines, Stands}
-use Rattle.script_parse.proofs.Agreeing.{same_so_far, found, known_same, leaves_open_same, lacks_thread_same}
+use Rattle.script_parse.proofs.Standing.{Stands}
+use Rattle.script_parse.proofs.Agreeing.{same_so_far, found, known_same}
 
 pub empty_is : {A : Type 0} (xs : List A) → is_empty xs ≡ true → xs ≡ []
 empty_is [] e = refl
@@ -32,19 +31,50 @@ pub both_hold : {P : Type 0} (a b : Bool) → (a && b) ≡ false → a ≡ true 
 both_hold true b e h k = clash (sym k ∙ e)
 both_hold false b e h k = absurd cc
 
-pub tells_end_any : (place : Place) → Tells (is_empty place.after && nat_le 1 (depth (earlier place ++ tokens_in place.line ∷ []))) (faults.NoEnd place)
-tells_end_any place =
-    let open_ : Bool = nat_le 1 (depth (earlier place ++ tokens_in place.line ∷ [])) in (
-      λ e. let p = and_parts (is_empty place.after) open_ e in (empty_is place.after p.0, leb-true 1 _ p.1),
-      λ e w. both_hold (is_empty place.after) open_ e (is_empty_of place.after w.0) (le-leb 1 _ w.1),
-    )
+-- ---- a line that may be the last one
 
-pub tells_thread_any : (place : Place) → Tells (is_empty place.after && is_empty (names_of kinds.Thread (earlier place ++ tokens_in place.line ∷ []))) (faults.NoThread place)
+tells_last : (place : Place) (test : Bool)
+    → Tells (is_empty place.after && test) (faults.is_last place × (test ≡ true))
+tells_last place test = (
+  λ e. let p = and_parts (is_empty place.after) test e in (empty_is place.after p.0, p.1),
+  λ e w. both_hold (is_empty place.after) test e (is_empty_of place.after w.0) w.1,
+)
+
+pub tells_end_any : (place : Place)
+    → Tells
+    (is_empty place.after && faults.leaves_open (faults.so_far_at place) (tokens_in place.line))
+    (faults.NoEnd place)
+tells_end_any place =
+    tells_last place (faults.leaves_open (faults.so_far_at place) (tokens_in place.line))
+
+pub tells_thread_any : (place : Place)
+    → Tells
+    (is_empty place.after && faults.lacks_thread (faults.so_far_at place) (tokens_in place.line))
+    (faults.NoThread place)
 tells_thread_any place =
-    let none : Bool = is_empty (names_of kinds.Thread (earlier place ++ tokens_in place.line ∷ [])) in (
-      λ e. let p = and_parts (is_empty place.after) none e in (empty_is place.after p.0, empty_is _ p.1),
-      λ e w. both_hold (is_empty place.after) none e (is_empty_of place.after w.0) (is_empty_of _ w.1),
-    )
+    tells_last place (faults.lacks_thread (faults.so_far_at place) (tokens_in place.line))
+
+-- tests of what was read and of the line's tokens tell so, too
+module _ (part : Part) (place : Place) (s : Stands part (earlier place)) (tokens : List Token)
+    (here : tokens_in place.line ≡ tokens) where
+  last_same : (test : SoFar → List Token → Bool)
+      → test (faults.so_far_at place) (tokens_in place.line) ≡ test (so_far part) tokens
+  last_same test =
+      ap (λ (lines : SoFar). test lines (tokens_in place.line)) (same_so_far part (earlier place) s)
+      ∙ ap (test (so_far part)) here
+
+  pub tells_end :
+      Tells (is_empty place.after && faults.leaves_open (so_far part) tokens) (faults.NoEnd place)
+  tells_end =
+      subst (λ (b : Bool). Tells (is_empty place.after && b) (faults.NoEnd place))
+      (last_same faults.leaves_open) (tells_end_any place)
+
+  pub tells_thread :
+      Tells (is_empty place.after && faults.lacks_thread (so_far part) tokens)
+      (faults.NoThread place)
+  tells_thread =
+      subst (λ (b : Bool). Tells (is_empty place.after && b) (faults.NoThread place))
+      (last_same faults.lacks_thread) (tells_thread_any place)
 
 -- ---- a line below the header, of some form
 
@@ -103,16 +133,3 @@ module _ (part : Part) (place : Place) (s : Stands part (earlier place)) (below 
 
   pub tells_many : Tells (faults.may_stand (so_far part) meant && faults.is_too_many (so_far part) meant) (faults.TooMany place)
   tells_many = tells_here faults.is_too_many
-
-  behind_is : earlier place ++ tokens_in place.line ∷ [] ≡ earlier place ++ tokens_of_form cut ∷ []
-  behind_is = ap (λ (ts : List Token). earlier place ++ ts ∷ []) is_form.spelled
-
-  pub tells_end : Tells (is_empty place.after && reading.leaves_open part meant) (faults.NoEnd place)
-  tells_end =
-      let same : nat_le 1 (depth (earlier place ++ tokens_in place.line ∷ [])) ≡ reading.leaves_open part meant = ap (λ (ls : Lines). nat_le 1 (depth ls)) behind_is ∙ leaves_open_same part (earlier place) s part.version cut meant is_form.means is_form.of in
-      subst (λ (b : Bool). Tells (is_empty place.after && b) (faults.NoEnd place)) same (tells_end_any place)
-
-  pub tells_thread : Tells (is_empty place.after && reading.lacks_thread part meant) (faults.NoThread place)
-  tells_thread =
-      let same : is_empty (names_of kinds.Thread (earlier place ++ tokens_in place.line ∷ [])) ≡ reading.lacks_thread part meant = ap (λ (ls : Lines). is_empty (names_of kinds.Thread ls)) behind_is ∙ lacks_thread_same part (earlier place) s part.version cut meant is_form.means is_form.of in
-      subst (λ (b : Bool). Tells (is_empty place.after && b) (faults.NoThread place)) same (tells_thread_any place)

@@ -1,17 +1,17 @@
 -- Each line's step finds its first fault, or stands for the line.
-use Rattle.std.proofs.Common.{◌≡◌, ℕ, ◌+◌, inl, inr, Bool, true, false, cond, length, List, [], ◌∷◌, ◌++◌, Option, Some, None, Result, Ok, Err, refl, sym, ap, ◌∙◌, arith, subst}
-use Rattle.std.specs.Prelude.{nat_le, nat_lt, not, ◌&&◌, ◌==◌}
+use Rattle.std.proofs.Common.{◌≡◌, ℕ, ◌+◌, inl, inr, Bool, true, false, cond, length, List, [], ◌∷◌, Option, Some, None, Result, Ok, Err, refl, sym, ap, ◌∙◌, arith, subst}
+use Rattle.std.specs.Prelude.{nat_le, nat_lt, not, ◌&&◌}
 use Rattle.std.specs.Str.{is_utf8}
 use Rattle.std.proofs.lemmas.List.{append-nil}
 use Rattle.std.proofs.lemmas.Bool.Decides.{nat_tests}
 use Rattle.std.proofs.lemmas.Bool.{leb-true, le-leb, ltb-true, lt-ltb}
 use Rattle.pct_ask.specs.Tokens.{Token, tokens_of}
-use Rattle.pct_ask.specs.declared.names.NameKind.TheVariants as kinds
 use Rattle.script_tree.specs.declared.fault.ScriptFault.{ScriptFault}
 use Rattle.script_tree.specs.declared.fault.ScriptFault.TheVariants as fault
 use Rattle.script_tree.specs.Forms.{Cut, Meant, IsForm}
-use Rattle.script_tree.specs.Lines.{tokens_in, is_blank_line, version_of, names_of, depth}
+use Rattle.script_tree.specs.Lines.{tokens_in, is_blank_line, version_of}
 use Rattle.script_tree.specs.Faults as faults
+use Rattle.script_tree.specs.Ranges as ranges
 use Rattle.script_tree.specs.Faults.{Place, earlier, are_blank, IsBelow, HasForm, HasFormWith, IsFaulty, IsFirstKind}
 use Rattle.script_parse.specs.Part.{Part}
 use Rattle.script_parse.specs.Saying.{form_in}
@@ -21,7 +21,7 @@ use Rattle.script_parse.proofs.ExpressionWhole.{exact}
 use Rattle.script_parse.proofs.FormWhole.{form_read}
 use Rattle.script_parse.proofs.FormSound.{form_says}
 use Rattle.script_parse.proofs.FirstKinds.{Tells, first_in, in_order, IsFirst, is_first}
-use Rattle.script_parse.proofs.Standing.{Lines, Stands, depth_is, blank_stands}
+use Rattle.script_parse.proofs.Standing.{Stands}
 use Rattle.script_parse.proofs.Agreeing.{found}
 use Rattle.script_parse.proofs.LineFaults.{tells_statement, tells_unknown, tells_twice, tells_range, tells_stray, tells_many, tells_end, tells_thread, tells_end_any, tells_thread_any}
 
@@ -143,9 +143,6 @@ blank_chain false true t ne nt next = refl
 blank_chain false false true ne nt next = refl
 blank_chain false false false ne nt next = wrapped_fault _ next
 
-some_tests : (n : ℕ) → nat_le 1 n ≡ not (n == 0)
-some_tests n = grind (arith, nat_tests)
-
 never_formed : (place : Place) (test : Meant → Bool) → ((cut : Cut) (meant : Meant) → ¬ HasForm place cut meant) → Tells false (HasFormWith test place)
 never_formed place test h = never (λ w. h w.0 w.1 w.2)
 
@@ -200,12 +197,13 @@ module _ (part : Part) (place : Place) (s : Stands part (earlier place)) (below 
         statement = tells_statement part place s is_below has.0 meant is_form;
         unknown = tells_unknown part place s is_below has.0 meant is_form;
         twice = tells_twice part place s is_below has.0 meant is_form;
-        range = tells_range part place s is_below has.0 meant is_form;
-        no_end = tells_end part place s is_below has.0 meant is_form;
+        range = subst (λ (ts : List Token). Tells (may && ranges.is_out_of_range ts meant)
+            (faults.NumberRange place)) here (tells_range part place s is_below has.0 meant is_form);
+        no_end = tells_end part place s (token ∷ tokens) here;
         stray = tells_stray part place s is_below has.0 meant is_form;
-        no_thread = tells_thread part place s is_below has.0 meant is_form;
+        no_thread = tells_thread part place s (token ∷ tokens) here;
         many = tells_many part place s is_below has.0 meant is_form;
-      }) (fault_of step) (rw (bytes_at place, e, f, ← here) (form_chain _ _ _ may _ _ _ _ _ _ _ _))
+      }) (fault_of step) (rw (bytes_at place, e, f) (form_chain _ _ _ may _ _ _ _ _ _ _ _))
 
   -- a line of no form
   bad_step : (token : Token) (tokens : List Token) → tokens_of place.line ≡ Some (token ∷ tokens) → form_in exact part.version (token ∷ tokens) ≡ None → IsFirst (fault_of step) place
@@ -235,12 +233,10 @@ module _ (part : Part) (place : Place) (s : Stands part (earlier place)) (below 
       let here : tokens_in place.line ≡ [] = rw e refl in
       let is_blank : is_blank_line place.line ≡ true = rw e refl in
       let none : (cut : Cut) (meant : Meant) → ¬ HasForm place cut meant = λ cut meant h. clash (sym is_blank ∙ h.is_below.says) in
-      let next = blank_stands part (earlier place) s in
-      let behind : earlier place ++ tokens_in place.line ∷ [] ≡ earlier place ++ [] ∷ [] = ap (λ (ts : List Token). earlier place ++ ts ∷ []) here in
-      let open_same : nat_le 1 (depth (earlier place ++ tokens_in place.line ∷ [])) ≡ not (is_empty part.open_blocks) = ap (λ (ls : Lines). nat_le 1 (depth ls)) behind ∙ rw (depth_is part (earlier place ++ [] ∷ []) next) (some_tests (length part.open_blocks)) in
-      let thread_same : is_empty (names_of kinds.Thread (earlier place ++ tokens_in place.line ∷ [])) ≡ is_empty part.names.threads = ap (λ (ls : Lines). is_empty (names_of kinds.Thread ls)) behind ∙ rw (next.names kinds.Thread) refl in
-      first_formless place false false false (is_empty place.after && not (is_empty part.open_blocks)) (is_empty place.after && is_empty part.names.threads) none (never (no_header place below)) (never (λ n. some_none (sym n ∙ e))) (never (λ h. clash (sym is_blank ∙ h.0.says)))
-      (subst (λ (b : Bool). Tells (is_empty place.after && b) (faults.NoEnd place)) open_same (tells_end_any place)) (subst (λ (b : Bool). Tells (is_empty place.after && b) (faults.NoThread place)) thread_same (tells_thread_any place)) (fault_of step) (rw (bytes_at place, e) (blank_chain _ _ _ _ _ part))
+      first_formless place false false false _ _ none (never (no_header place below))
+      (never (λ n. some_none (sym n ∙ e))) (never (λ h. clash (sym is_blank ∙ h.0.says)))
+      (tells_end part place s [] here) (tells_thread part place s [] here) (fault_of step)
+      (rw (bytes_at place, e) (blank_chain _ _ _ _ _ part))
 
   -- whatever a line below the header is
   pub below_step : IsFirst (fault_of step) place

@@ -1,19 +1,17 @@
 -- The steps of reading a text, as the code takes them.
-use Rattle.std.proofs.Common.{◌≡◌, ℕ, ◌+◌, ◌≤◌, ◌<◌, true, false, length, List, [], ◌∷◌, Option, Some, None, Result, Ok, Err, refl, sym, ap, ◌∙◌, subst, arith}
+use Rattle.std.proofs.Common.{◌≡◌, ℕ, ◌+◌, ◌≤◌, ◌<◌, false, length, List, [], ◌∷◌, Option, Some, None, Result, Ok, Err, refl, sym, ap, ◌∙◌, subst, arith}
 use Rattle.std.specs.Prelude.{◌==◌}
-use Rattle.std.proofs.lemmas.Bool.{le-ltb, lt-ltb}
 use Rattle.std.proofs.lemmas.Bool.Decides.{nat_tests}
 use Rattle.pct_ask.specs.Lines.{lines_of}
 use Rattle.pct_ask.specs.NameLists.{place_of}
 use Rattle.script_tree.specs.ScriptText.{ScriptText}
 use Rattle.script_tree.specs.declared.fault.ScriptFault.{ScriptFault}
-use Rattle.script_tree.specs.declared.fault.ScriptFault.TheVariants as fault
 use Rattle.script_tree.specs.Fitting.{IsScript}
 use Rattle.script_tree.specs.Lines.{threads_in}
 use Rattle.script_tree.specs.Faults.{are_blank}
 use Rattle.script_parse.specs.Numbers.{saturated}
 use Rattle.script_parse.specs.Part.{Part}
-use Rattle.script_parse.specs.Reading.{Finder, is_empty, line_taken, read_from, read, script_of, finished, blank_text_fault}
+use Rattle.script_parse.specs.Reading.{Finder, is_empty, line_taken, read_from, read, script_of, finished}
 use Rattle.script_parse.proofs.ReadAnswers.{read_by, read_fits}
 use Rattle.script_parse.proofs.Runs.{some_there}
 
@@ -65,10 +63,3 @@ all_read find state part n left all rest none below = sym rest ∙ ap (read_from
 pub end_fits : (bytes : List ℕ) (find : Finder) (part : Part) → length bytes ≤ 1048576 → are_blank (lines_of bytes) ≡ false → ((name : List ℕ) → find name ≡ place_of name (threads_in (lines_of bytes)))
     → read_from saturated find None 1 (lines_of bytes) ≡ Ok (script_of part) → IsScript (script_of part)
 end_fits bytes find part small says same e = read_fits bytes (script_of part) (read_by bytes find (Ok (script_of part)) small says same e)
-
--- a text that is too long, and one of blank lines
-pub large_read : (bytes : List ℕ) → 1048576 < length bytes → ◌≡◌ {A = Found} (read saturated bytes) (Err (1, fault.TooMany))
-large_read bytes large = rw (lt-ltb 1048576 (length bytes) large) refl
-
-pub blank_read : (bytes : List ℕ) → length bytes ≤ 1048576 → are_blank (lines_of bytes) ≡ true → ◌≡◌ {A = Found} (read saturated bytes) (Err (1, blank_text_fault (lines_of bytes)))
-blank_read bytes small blank = rw (le-ltb 1048576 (length bytes) small, blank) refl

@@ -6,7 +6,7 @@ use Rattle.std.proofs.lemmas.List.{append-nil, map_push, map-append, length_push
 use Rattle.std.proofs.lemmas.List.Sums.{AllPass-from_list_all}
 use Rattle.std.proofs.lemmas.List.Elements.{All-nil, filter_map-append}
 use Rattle.std.proofs.lemmas.List.Folds.{list_all-append}
-use Rattle.std.proofs.lemmas.Bool.{and_parts, ltb-false}
+use Rattle.std.proofs.lemmas.Bool.{and_parts, ltb-false, le-leb}
 use Rattle.pct_ask.specs.Lines.{lines_of}
 use Rattle.pct_ask.specs.Tokens.{Token, Word, Number, tokens_of}
 use Rattle.pct_ask.specs.Words.{is_name}
@@ -24,6 +24,7 @@ use Rattle.script_parse.specs.Part.{Open, Part}
 use Rattle.script_parse.specs.Reading.{is_empty, line_taken, then_read, read_from, read, script_of, blank_text_fault}
 use Rattle.script_parse.proofs.ExpressionWhole.{exact}
 use Rattle.script_parse.proofs.Standing.{Lines, Stands, depth_is}
+use Rattle.script_parse.proofs.Agreeing.{leaves_open_same, few_ended, lacks_thread_same}
 use Rattle.script_parse.proofs.LineSteps.{Step}
 use Rattle.script_parse.proofs.Headers.{quiet_none}
 use Rattle.script_parse.proofs.TextFaults.{Found, TellsFault, StandsBefore, ok_is, err_ok, line_next, all_tell, finder_of, at_place, none_at_first}
@@ -123,10 +124,22 @@ ended lines part l s t =
     let behind : map tokens_in lines ≡ map tokens_in l.front ++ tokens_in l.last ∷ [] = ap (map tokens_in) l.cut ∙ map_push tokens_in l.front l.last in
     let no_end : ¬ faults.NoEnd (at_place l.front l.last []) = t l.front [] l.last l.cut fault.NoEnd in
     let no_thread : ¬ faults.NoThread (at_place l.front l.last []) = t l.front [] l.last l.cut fault.NoThread in
-    let deep : depth (map tokens_in lines) ≡ length part.open_blocks = depth_is part (map tokens_in lines) s in
+    let front : Lines = map tokens_in l.front in
+    let line : List Token = tokens_in l.last in
+    let deep : depth (front ++ line ∷ []) ≡ length part.open_blocks =
+    ap depth (sym behind) ∙ depth_is part (map tokens_in lines) s in
+    let same_names : names_of kinds.Thread (front ++ line ∷ []) ≡ part.names.threads =
+    ap (names_of kinds.Thread) (sym behind) ∙ s.names kinds.Thread in
     record {
-      closed = none_left part.open_blocks (λ h. no_end (refl, subst (λ (ls : Lines). 1 ≤ depth ls) behind (omega (arith, deep, h))));
-      some_thread = some_left part.names.threads (λ h. no_thread (refl, ap (names_of kinds.Thread) (sym behind) ∙ s.names kinds.Thread ∙ h));
+      closed = none_left part.open_blocks (λ h.
+          let open_ : 1 ≤ depth (front ++ line ∷ []) = omega (arith, deep, h) in
+          no_end (
+            refl,
+            sym (leaves_open_same front line (few_ended front line open_))
+                ∙ le-leb 1 _ open_,
+          ));
+      some_thread = some_left part.names.threads (λ h.
+          no_thread (refl, sym (lacks_thread_same front line) ∙ ap is_empty (same_names ∙ h)));
     }
 
 spelled_part : (bytes : List ℕ) (part : Part) → length bytes ≤ 1048576 → Reads (threads_in (lines_of bytes)) part (lines_of bytes) → Stands part (map tokens_in (lines_of bytes)) → IsEnded part → Spells bytes (script_of part)

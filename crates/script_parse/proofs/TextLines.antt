@@ -4,9 +4,6 @@ use Rattle.script_tree.specs.Forms.{Meant}
 use Rattle.script_tree.specs.Lines.{is_blank_line}
 use Rattle.script_tree.specs.Grammar.{Line, Says, AreLines}
 
-last_blank : (version n : ℕ) (text : List ℕ) → is_blank_line text ≡ true → AreLines version n (text ∷ []) []
-last_blank version n text b = inl (b, refl)
-
 pub blank_more : (version n : ℕ) (texts : List (List ℕ)) (text : List ℕ) (lines : List Line) → AreLines version n texts lines → is_blank_line text ≡ true → AreLines version n (texts ++ text ∷ []) lines
 blank_more version n [] text lines h b = inl (b, h)
 blank_more version n (t ∷ ts) text lines (inl h) b = inl (h.0, blank_more version (n + 1) ts text lines h.1 b)

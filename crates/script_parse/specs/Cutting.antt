@@ -1,5 +1,6 @@
 -- What is known while a line is cut into tokens.
-use Rattle.std.specs.Prelude.{◌≡◌, ℕ, zero, suc, ◌<◌, List, [], ◌∷◌, length, take, drop, false, Some, None}
+use Rattle.std.specs.Prelude.{◌≡◌, ℕ, zero, suc, ◌<◌, List, [], ◌∷◌, length, take, drop, false}
+use Rattle.std.specs.Prelude.{Some, None}
 use Rattle.std.specs.Option.{option_map}
 use Rattle.pct_ask.specs.Characters.{is_blank}
 use Rattle.pct_ask.specs.Tokens.{before, pieces_of, tokens_of}

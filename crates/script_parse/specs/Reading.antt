@@ -1,5 +1,5 @@
 -- Reading a script from its first line to its last.
-use Rattle.std.specs.Prelude.{ℕ, ℤ, pos, ◌+◌, ◌&&◌, nat_le, nat_lt, if◌then◌else◌, Bool, true}
+use Rattle.std.specs.Prelude.{ℕ, ℤ, pos, ◌+◌, ◌&&◌, nat_lt, if◌then◌else◌, Bool, true}
 use Rattle.std.specs.Prelude.{false, not, ◌==◌, List, [], ◌∷◌, ◌++◌, length, Option, Some, None}
 use Rattle.std.specs.Prelude.{is_some, unwrap_or, Result, Ok, Err}
 use Rattle.std.specs.Option.{option_map, option_and_then}
@@ -24,7 +24,7 @@ use Rattle.script_tree.specs.Forms as forms
 use Rattle.script_tree.specs.Lines.{version_in, threads_in}
 use Rattle.script_tree.specs.Ranges.{is_out_of_range}
 use Rattle.script_tree.specs.Faults.{SoFar, are_blank, may_stand, uses_unknown, declares_again}
-use Rattle.script_tree.specs.Faults.{closes_nothing, is_too_many}
+use Rattle.script_tree.specs.Faults.{leaves_open, closes_nothing, lacks_thread, is_too_many}
 use Rattle.script_parse.specs.Part.{Opening, Thread, If, Else, While, Open, Part}
 use Rattle.script_parse.specs.Saying.{form_in}
 
@@ -67,19 +67,6 @@ place_in names find kind name = place_of name (list_of kind names)
 abbrev pub is_known : NameLists → Finder → NameKind → List ℕ → Bool
 is_known names find kind name = is_some (place_in names find kind name)
 
--- blocks are open behind the line
-abbrev pub leaves_open : Part → Meant → Bool
-leaves_open part (forms.Thread name) = true
-leaves_open part (forms.If test) = true
-leaves_open part (forms.While test) = true
-leaves_open part forms.End = nat_le 2 (length part.open_blocks)
-leaves_open part form = not (is_empty part.open_blocks)
-
--- no thread began up to the line
-abbrev pub lacks_thread : Part → Meant → Bool
-lacks_thread part (forms.Thread name) = false
-lacks_thread part form = is_empty part.names.threads
-
 -- the first fault of a line of this form; `last` tells whether it is the last line
 abbrev pub form_fault : Part → Finder → Bool → List Token → Meant → Option ScriptFault
 form_fault part find last tokens form =
@@ -87,9 +74,9 @@ form_fault part find last tokens form =
     else (if uses_unknown (is_known part.names find) form then Some UnknownName
     else (if declares_again (so_far part) form then Some TwiceNamed
     else (if is_out_of_range tokens form then Some NumberRange
-    else (if last && leaves_open part form then Some NoEnd
+    else (if last && leaves_open (so_far part) tokens then Some NoEnd
     else (if closes_nothing (so_far part) form then Some StrayEnd
-    else (if last && lacks_thread part form then Some NoThread
+    else (if last && lacks_thread (so_far part) tokens then Some NoThread
     else (if is_too_many (so_far part) form then Some TooMany
     else None)))))))
 
@@ -221,8 +208,8 @@ after_fault (Some kind) next = Err kind
 -- a blank line: it may be the last one
 abbrev pub blank_fault : Part → Bool → Option ScriptFault
 blank_fault part last =
-    if last && not (is_empty part.open_blocks) then Some NoEnd
-    else (if last && is_empty part.names.threads then Some NoThread else None)
+    if last && leaves_open (so_far part) [] then Some NoEnd
+    else (if last && lacks_thread (so_far part) [] then Some NoThread else None)
 
 abbrev pub form_taken : Part → Finder → ℕ → Bool → List Token → Option Meant
     → Result Part ScriptFault

@@ -1,6 +1,7 @@
 -- What the tokens of a line say, read from the first word on. Digits in expressions stand for the
 -- numbers that `number` gives them.
-use Rattle.std.specs.Prelude.{ℕ, ℤ, ◌+◌, ◌&&◌, Bool, false, nat_le, if◌then◌else◌, List, [], ◌∷◌, Option, Some, None, take, drop, codes}
+use Rattle.std.specs.Prelude.{ℕ, ℤ, ◌+◌, ◌&&◌, Bool, false, nat_le, if◌then◌else◌, List, [], ◌∷◌}
+use Rattle.std.specs.Prelude.{Option, Some, None, take, drop, codes}
 use Rattle.std.specs.List.{position}
 use Rattle.std.specs.Option.{option_map, option_and_then}
 use Rattle.std.specs.Str.{bytes_eq}
@@ -8,7 +9,9 @@ use Rattle.pct_ask.specs.Words.{is_name}
 use Rattle.pct_ask.specs.Tokens.{Token, Word, Number, Symbol}
 use Rattle.pct_ask.specs.declared.names.NameKind.{NameKind}
 use Rattle.pct_ask.specs.declared.names.NameKind.TheVariants as kinds
-use Rattle.script_tree.specs.Forms.{OnVerb, IntoVerb, Meant, Plain, Valued, Thread, On, Into, Write, Add, Cas, Wait, Yield, Assert, Set, If, While, End, Else, is_plain, has_value, kind_since, on_since, into_since}
+use Rattle.script_tree.specs.Forms.{OnVerb, IntoVerb, Meant, Plain, Valued, Thread, On, Into, Write}
+use Rattle.script_tree.specs.Forms.{Add, Cas, Wait, Yield, Assert, Set, If, While, End, Else}
+use Rattle.script_tree.specs.Forms.{is_plain, has_value, kind_since, on_since, into_since}
 use Rattle.script_parse.specs.Registers.{register_in}
 use Rattle.script_parse.specs.Machine.{expression_in}
 use Rattle.script_parse.specs.Words.{on_verb_in, into_verb_in, kind_in}

@@ -3,7 +3,9 @@ use Rattle.std.specs.Prelude.{ℕ, if◌then◌else◌, List, Option, Some, None
 use Rattle.std.specs.Str.{bytes_eq}
 use Rattle.pct_ask.specs.declared.names.NameKind.{NameKind}
 use Rattle.pct_ask.specs.declared.names.NameKind.TheVariants as kinds
-use Rattle.script_tree.specs.Forms.{OnVerb, Lock, Unlock, Signal, Broadcast, Down, Up, Join, Start, RdLock, WrLock, RwUnlock, IntoVerb, Read, TryLock, TryDown, Arrive, TryRdLock, TryWrLock}
+use Rattle.script_tree.specs.Forms.{OnVerb, Lock, Unlock, Signal, Broadcast, Down, Up, Join, Start}
+use Rattle.script_tree.specs.Forms.{RdLock, WrLock, RwUnlock, IntoVerb, Read, TryLock, TryDown}
+use Rattle.script_tree.specs.Forms.{Arrive, TryRdLock, TryWrLock}
 
 abbrev pub on_verb_in : List ℕ → Option OnVerb
 on_verb_in word =

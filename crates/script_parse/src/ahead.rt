@@ -1,6 +1,7 @@
 //! What is known of a whole text before its lines are read.
 
-ghost use Rattle.std.specs.Prelude.{◌≡◌, ◌≤◌, ◌<◌, ◌-◌, ◌^◌, ◌++◌, ◌∷◌, [], List, ℕ, length, IfOk, OnOk, Some};
+ghost use Rattle.std.specs.Prelude.{◌≡◌, ◌≤◌, ◌<◌, ◌-◌, ◌^◌, ◌++◌, ◌∷◌, [], List, ℕ, length, IfOk};
+ghost use Rattle.std.specs.Prelude.{OnOk, Some};
 ghost use Rattle.std.specs.Option.{option_map};
 ghost use Rattle.std.specs.Str.{is_utf8};
 ghost use Rattle.pct_ask.specs.Lines.{lines_of};
@@ -15,7 +16,8 @@ use pct_ask::split_lines;
 use std::alloc::{AllocError as NoMemory, Global};
 use std::collections::BTreeMap;
 
-/// The threads that lines of the text begin, sound or not, how many lines it has, and whether all of them are blank.
+/// The threads that lines of the text begin, sound or not, how many lines it has, and whether all
+/// of them are blank.
 #[derive(Drop)]
 pub struct Ahead<'a> {
     places: BTreeMap<&'a [u8], u32>,

@@ -22,7 +22,8 @@ const REGISTERS: [&[u8]; 16] = [
     b"r13", b"r14", b"r15",
 ];
 
-/// What waits for what follows: a parenthesis for its end, an operator for its part or its right part.
+/// What waits for what follows: a parenthesis for its end, an operator for its part or its right
+/// part.
 #[derive(Drop)]
 pub enum Frame {
     Paren,
@@ -31,7 +32,8 @@ pub enum Frame {
     Two(Op, Expr),
 }
 
-/// What was read of an expression: what waits, the innermost last, and the value that was read last, if one was.
+/// What was read of an expression: what waits, the innermost last, and the value that was read last,
+/// if one was.
 #[derive(Drop)]
 pub struct Pending {
     frames: Vec<Frame>,
@@ -107,7 +109,8 @@ fn strength(op: Op) -> u32
     }
 }
 
-/// The level of an operator's left part: its own, so that it groups to the left, but no comparison for a comparison.
+/// The level of an operator's left part: its own, so that it groups to the left, but no comparison
+/// for a comparison.
 fn left_level(op: Op) -> u32
     ensures { result ≡ language.left_level op }
 {

@@ -1,6 +1,6 @@
 //! The forms that a line may have.
 
-ghost use Rattle.std.specs.Prelude.{◌≡◌, ◌<◌, ◌≤◌, length, is_some, if◌then◌else◌, Some, None, IfOk, IfSome};
+ghost use Rattle.std.specs.Prelude.{◌≡◌, IfOk};
 ghost use Rattle.std.specs.List.{position};
 ghost use Rattle.std.specs.Option.{option_map};
 ghost use Rattle.script_parse.specs.Seen.{seen, all_seen};

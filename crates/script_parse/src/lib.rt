@@ -2,6 +2,7 @@
 #![tactic(auto)]
 
 mod ahead;
+mod begin;
 mod blocks;
 mod declaration;
 mod expression;

@@ -204,13 +204,15 @@ pub fn parse(alloc: Global, bytes: &[u8]) -> Result<Script, ScriptError>
     read_text(alloc, bytes)
 }
 
-/// A law of the language, and no work: each text spells one script or has one first fault, and never both.
+/// A law of the language, and no work: each text spells one script or has one first fault, and never
+/// both.
 pub fn one_answer()
     ensures { EachHasOneAnswer }
 {}
 
-/// A law of the language, and no work: what is printed of a script, where it is no longer than a script may be, spells
-/// that script with the lines of the print, and nothing else. So it is parsed as that.
+/// A law of the language, and no work: what is printed of a script, where it is no longer than a
+/// script may be, spells that script with the lines of the print, and nothing else. So it is parsed
+/// as that.
 pub fn print_is_read()
     ensures { PrintIsRead }
 {}

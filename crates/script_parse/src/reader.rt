@@ -1,6 +1,6 @@
 //! A script below its header, read line by line.
 
-ghost use Rattle.std.specs.Prelude.{◌≡◌, ◌<◌, not, false, true, length, Some, None, IfOk};
+ghost use Rattle.std.specs.Prelude.{◌≡◌, ◌<◌, not, false, true, length, Some, IfOk};
 ghost use Rattle.pct_ask.specs.Words.{is_name, is_among};
 ghost use Rattle.pct_ask.specs.NameLists.{list_of, all_names};
 ghost use Rattle.script_tree.specs.Fitting.{IsScript};
@@ -16,6 +16,7 @@ ghost use Rattle.script_parse.specs.Lawful.{names_lawful, value_lawful};
 ghost use Rattle.script_parse.specs.Reading as reading;
 
 use crate::ahead::Ahead;
+use crate::begin::{begins, names_thread, opens};
 use crate::blocks::{OpenBlock, Opening, depth, is_closed, is_in_if, open_block, push_statement};
 use crate::form::Form;
 use crate::number::first_value;
@@ -114,14 +115,17 @@ impl Reader {
         }
     }
 
-    /// Whether blocks are open behind a line of this form.
-    fn leaves_open(&self, form: &Form<'_>) -> bool
-        ensures { result ≡ reading.leaves_open (seen_reader self.now) (seen_form form.now) }
+    /// Whether a block is open behind a line with these tokens.
+    fn leaves_open(&self, tokens: &[Token<'_>]) -> bool
+        ensures { result
+            ≡ faults.leaves_open (reading.so_far (seen_reader self.now)) (all_seen tokens.now) }
     {
-        match form {
-            Form::Thread { .. } | Form::If { .. } | Form::While { .. } => true,
-            Form::End => depth(&self.open_blocks) >= 2,
-            _ => !is_closed(&self.open_blocks),
+        if opens(tokens) {
+            true
+        } else if begins(b"end", tokens) {
+            depth(&self.open_blocks) >= 2
+        } else {
+            !is_closed(&self.open_blocks)
         }
     }
 
@@ -136,13 +140,12 @@ impl Reader {
         }
     }
 
-    fn lacks_thread(&self, form: &Form<'_>) -> bool
-        ensures { result ≡ reading.lacks_thread (seen_reader self.now) (seen_form form.now) }
+    /// Whether no thread began up to a line with these tokens.
+    fn lacks_thread(&self, tokens: &[Token<'_>]) -> bool
+        ensures { result
+            ≡ faults.lacks_thread (reading.so_far (seen_reader self.now)) (all_seen tokens.now) }
     {
-        match form {
-            Form::Thread { .. } => false,
-            _ => !self.has_thread(),
-        }
+        !names_thread(tokens) && !self.has_thread()
     }
 
     fn most_threads(&self) -> u32
@@ -183,11 +186,11 @@ impl Reader {
             Some(ScriptFault::TwiceNamed)
         } else if is_out_of_range(tokens, form) {
             Some(ScriptFault::NumberRange)
-        } else if last && self.leaves_open(form) {
+        } else if last && self.leaves_open(tokens) {
             Some(ScriptFault::NoEnd)
         } else if self.closes_nothing(form) {
             Some(ScriptFault::StrayEnd)
-        } else if last && self.lacks_thread(form) {
+        } else if last && self.lacks_thread(tokens) {
             Some(ScriptFault::NoThread)
         } else if self.is_too_many(form) {
             Some(ScriptFault::TooMany)
@@ -211,7 +214,7 @@ impl Reader {
 
     /// Takes a line that has no fault.
     pub fn take(
-        mut self,
+        self,
         alloc: Global,
         ahead: &Ahead<'_>,
         line: u32,
@@ -246,13 +249,7 @@ impl Reader {
             Form::While { test } => self.opened(alloc, Opening::While { line, test }),
             Form::End => self.ended(line),
             Form::Else => self.turned(alloc, line),
-            form => match statement_on(&self.names, ahead, line, form) {
-                None => Ok(self),
-                Some(stmt) => {
-                    push_statement(&mut self.open_blocks, stmt)?;
-                    Ok(self)
-                }
-            },
+            form => self.with_statement(ahead, line, form),
         }
     }
 
@@ -335,6 +332,24 @@ impl Reader {
                 test,
                 body: block,
             }),
+        }
+    }
+
+    /// Takes a line that opens and closes no block, with the statement that it has, if any.
+    fn with_statement(
+        self,
+        ahead: &Ahead<'_>,
+        line: u32,
+        form: Form<'_>,
+    ) -> Result<Reader, NoMemory>
+        ensures { IfOk result (λ r.
+            seen_reader r
+            ≡ reading.said (seen_reader self)
+            (reading.statement_on self.names (place_ahead ahead.now) line (seen_form form.entry))) }
+    {
+        match statement_on(&self.names, ahead, line, form) {
+            None => Ok(self),
+            Some(stmt) => self.said(stmt),
         }
     }
 

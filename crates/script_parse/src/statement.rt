@@ -3,7 +3,8 @@
 ghost use Rattle.std.specs.Prelude.{◌≡◌};
 ghost use Rattle.std.specs.Option.{option_map};
 ghost use Rattle.script_tree.specs.Forms as language;
-ghost use Rattle.script_tree.specs.Seen.{statement};
+ghost use Rattle.script_tree.specs.Seen.{expression, statement};
+ghost use Rattle.script_tree.specs.Trees as trees;
 ghost use Rattle.script_parse.specs.SeenForms.{seen_on, seen_into, seen_form};
 ghost use Rattle.script_parse.specs.Ahead.{place_ahead};
 ghost use Rattle.script_parse.specs.Reading as reading;
@@ -11,7 +12,7 @@ ghost use Rattle.script_parse.specs.Reading as reading;
 use crate::ahead::Ahead;
 use crate::form::{Form, IntoVerb, OnVerb};
 use pct_ask::{NameKind, Names};
-use script_tree::Stmt;
+use script_tree::{Expr, Stmt};
 
 /// The kind of the object that a statement is on.
 pub fn on_kind(verb: OnVerb) -> NameKind
@@ -121,7 +122,21 @@ fn into_statement(verb: IntoVerb, line: u32, reg: u32, place: u32) -> Stmt
     }
 }
 
-/// The statement on a line, where the names that it uses are known and it opens and closes no block.
+#[tactic(auto, using(script_tree::proofs::laws::SeenParts::seen_laws))]
+fn cas_statement(line: u32, reg: u32, var: u32, old: Expr, new: Expr) -> Stmt
+    ensures { statement result ≡ trees.Cas line reg var (expression old) (expression new) }
+{
+    Stmt::Cas {
+        line,
+        reg,
+        var,
+        old,
+        new,
+    }
+}
+
+/// The statement on a line, where the names that it uses are known and it opens and closes no
+/// block.
 #[tactic(auto, using(script_tree::proofs::laws::SeenParts::seen_laws))]
 pub fn statement_on(names: &Names, ahead: &Ahead<'_>, line: u32, form: Form<'_>) -> Option<Stmt>
     ensures { option_map statement result
@@ -151,13 +166,7 @@ pub fn statement_on(names: &Names, ahead: &Ahead<'_>, line: u32, form: Form<'_>)
         }
         Form::Cas { reg, var, old, new } => {
             let var = place_in(names, ahead, NameKind::Var, var)?;
-            Some(Stmt::Cas {
-                line,
-                reg,
-                var,
-                old,
-                new,
-            })
+            Some(cas_statement(line, reg, var, old, new))
         }
         Form::Wait { cond, mutex } => {
             let cond = place_in(names, ahead, NameKind::Cond, cond)?;

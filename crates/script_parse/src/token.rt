@@ -4,7 +4,8 @@ ghost use Rattle.std.specs.Prelude.{◌≡◌, ◌≢◌, ◌+◌, ◌^◌, ◌<
 ghost use Rattle.std.specs.List.{prefix_len, list_all};
 ghost use Rattle.std.specs.Option.{option_map};
 ghost use Rattle.pct_ask.specs.Characters as characters;
-ghost use Rattle.pct_ask.specs.Tokens.{pieces_of, tokens_of, token_of as token_in, is_short_symbol as is_short, is_long_symbol as is_long};
+ghost use Rattle.pct_ask.specs.Tokens.{pieces_of, tokens_of, token_of as token_in};
+ghost use Rattle.pct_ask.specs.Tokens.{is_short_symbol as is_short, is_long_symbol as is_long};
 ghost use Rattle.script_parse.specs.Cutting.{BeginsPlain, BeginsWithPiece, IsNext};
 ghost use Rattle.script_parse.specs.Seen.{seen, all_seen};
 

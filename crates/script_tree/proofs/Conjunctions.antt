@@ -27,6 +27,3 @@ third_of_4 a b c d h = right_true (a && b) c (left_true (a && b && c) d h)
 
 pub third_of_5 : (a b c d e : Bool) → (a && b && c && d && e) ≡ true → c ≡ true
 third_of_5 a b c d e h = third_of_4 a b c d (left_true (a && b && c && d) e h)
-
-pub fourth_of_5 : (a b c d e : Bool) → (a && b && c && d && e) ≡ true → d ≡ true
-fourth_of_5 a b c d e h = right_true (a && b && c) d (left_true (a && b && c && d) e h)

@@ -70,9 +70,6 @@ name_is_word version name lawful =
 name_cut : (version : ℕ) (name : List ℕ) → IsName version name → IsCut name (Word name ∷ [])
 name_cut version name lawful = word_cut name (name_is_word version name lawful)
 
-register_cut : (register : ℕ) → register < 16 → IsCut (register_word register) (Word (register_word register) ∷ [])
-register_cut register within = word_cut (register_word register) (register_is_word register within)
-
 on_is_word : (verb : OnVerb) → is_word (on_word verb) ≡ true
 on_is_word forms.Lock = refl
 on_is_word forms.Unlock = refl

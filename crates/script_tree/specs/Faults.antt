@@ -1,7 +1,8 @@
 -- The first faulty line of a text and what is wrong with it: for each kind of fault, which lines
 -- have it (this project).
-use Rattle.std.specs.Prelude.{◌≡◌, ℕ, ◌+◌, ◌<◌, ◌≤◌, ◌⊎◌, ◌==◌, ◌&&◌, nat_le, Bool, true, false}
-use Rattle.std.specs.Prelude.{not, List, [], ◌∷◌, ◌++◌, length, map, None, codes, reverse}
+use Rattle.std.specs.Prelude.{◌≡◌, ℕ, ◌+◌, ◌<◌, ◌≤◌, ◌⊎◌, ◌==◌, ◌&&◌, ◌||◌, nat_le, Bool, true}
+use Rattle.std.specs.Prelude.{false, not, if◌then◌else◌, List, [], ◌∷◌, ◌++◌, length, map, None}
+use Rattle.std.specs.Prelude.{is_some, codes, reverse}
 use Rattle.std.specs.List.{list_all}
 use Rattle.std.specs.Str.{is_utf8}
 use Rattle.pct_ask.specs.Lines.{lines_of}
@@ -16,8 +17,8 @@ use Rattle.script_tree.specs.Forms.{Cut, Meant, Plain, Valued, Thread, On, Into,
 use Rattle.script_tree.specs.Forms.{Wait, If, While, End, Else, IsForm, on_kind, into_kind}
 use Rattle.script_tree.specs.Ranges.{is_out_of_range}
 use Rattle.script_tree.specs.Fitting.{most_threads}
-use Rattle.script_tree.specs.Lines.{tokens_in, is_blank_line, version_in, version_of, begins}
-use Rattle.script_tree.specs.Lines.{names_of, depth, opener, threads_in}
+use Rattle.script_tree.specs.Lines.{tokens_in, is_blank_line, version_in, version_of, begins, opens}
+use Rattle.script_tree.specs.Lines.{named, names_of, depth, opener, threads_in}
 
 -- a line in its text, with the lines before it and those after it
 pub record Place : Type 0 where
@@ -143,6 +144,17 @@ closes_nothing lines End = is_outside lines
 closes_nothing lines Else = not lines.in_if
 closes_nothing lines form = false
 
+-- A block is open behind a line with these tokens: it begins one, or it is an `end` with two blocks
+-- open, or any other line with one.
+abbrev pub leaves_open : SoFar → List Token → Bool
+leaves_open lines tokens =
+    opens tokens
+    || (if begins (codes "end") tokens then nat_le 2 lines.depth else not (is_outside lines))
+
+-- no thread began up to a line with these tokens
+abbrev pub lacks_thread : SoFar → List Token → Bool
+lacks_thread lines tokens = not (is_some (named kinds.Thread tokens)) && is_threadless lines
+
 -- one thread, object or nested block more than a script may have; the thread isn't counted among
 -- the 32 nested blocks
 abbrev pub is_too_many : SoFar → Meant → Bool
@@ -199,7 +211,7 @@ NumberRange place = HasFormWith (is_out_of_range (tokens_in place.line)) place
 
 -- it is the last line, and a block is open after it
 abbrev pub NoEnd : Place → Type 0
-NoEnd place = is_last place × (1 ≤ depth (earlier place ++ tokens_in place.line ∷ []))
+NoEnd place = is_last place × (leaves_open (so_far_at place) (tokens_in place.line) ≡ true)
 
 -- it is an `end` with no open block, or an `else` with no `if` that it could belong to
 abbrev pub StrayEnd : Place → Type 0
@@ -207,8 +219,7 @@ StrayEnd place = HasFormWith (closes_nothing (so_far_at place)) place
 
 -- it is the last line, and no line of the text begins a thread
 abbrev pub NoThread : Place → Type 0
-NoThread place =
-    is_last place × (names_of kinds.Thread (earlier place ++ tokens_in place.line ∷ []) ≡ [])
+NoThread place = is_last place × (lacks_thread (so_far_at place) (tokens_in place.line) ≡ true)
 
 -- it begins one thread or nested block more than a script may have, or declares such an object
 abbrev pub TooMany : Place → Type 0

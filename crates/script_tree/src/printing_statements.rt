@@ -9,7 +9,7 @@ ghost use Rattle.script_tree.specs.Expressions.{register_word};
 ghost use Rattle.pct_ask.specs.TraceText.{name_at};
 ghost use Rattle.script_tree.specs.Grammar.{statement_lines};
 ghost use Rattle.script_tree.specs.Layout.{spaced, expression_text};
-ghost use Rattle.script_tree.specs.Printing.{printed, are_ranged, is_ranged, names_one};
+ghost use Rattle.script_tree.specs.Printing.{printed, are_ranged, is_ranged, is_single, names_one};
 
 use crate::expr::Expr;
 use crate::printing_words::{name_at, push_expression, push_last, push_spaced, register_word};
@@ -44,6 +44,39 @@ fn push_statement(stmt: &Stmt, names: &Names, out: &mut Vec<u8>) -> Result<(), N
         (are_ranged (statement_lines names.now (statement stmt.now)) ≡ true) }
 {
     match stmt {
+        Stmt::If {
+            test,
+            then,
+            otherwise,
+            ..
+        } => {
+            push_test(b"if", test, out)?;
+            push_statements(then, names, out)?;
+            if let Some(otherwise) = otherwise {
+                push_last(b"else", out)?;
+                push_statements(otherwise, names, out)?;
+            }
+            push_last(b"end", out)
+        }
+        Stmt::While { test, body, .. } => {
+            push_test(b"while", test, out)?;
+            push_statements(body, names, out)?;
+            push_last(b"end", out)
+        }
+        _ => push_single(stmt, names, out),
+    }
+}
+
+// A statement of one line: it has no blocks.
+fn push_single(stmt: &Stmt, names: &Names, out: &mut Vec<u8>) -> Result<(), NoMemory>
+    requires { is_single (statement stmt.now) ≡ true }
+    ensures written { OnOk result
+        (out.new.items
+        ≡ out.old.items ++ printed (statement_lines names.now (statement stmt.now))) }
+    ensures ranged { OnOk result
+        (are_ranged (statement_lines names.now (statement stmt.now)) ≡ true) }
+{
+    match stmt {
         Stmt::Write { var, value, .. } => push_write(*var, value, names, out),
         Stmt::Add {
             reg,
@@ -65,25 +98,7 @@ fn push_statement(stmt: &Stmt, names: &Names, out: &mut Vec<u8>) -> Result<(), N
             push_spaced(b"set", out)?;
             push_test(register_word(*reg), value, out)
         }
-        Stmt::If {
-            test,
-            then,
-            otherwise,
-            ..
-        } => {
-            push_test(b"if", test, out)?;
-            push_statements(then, names, out)?;
-            if let Some(otherwise) = otherwise {
-                push_last(b"else", out)?;
-                push_statements(otherwise, names, out)?;
-            }
-            push_last(b"end", out)
-        }
-        Stmt::While { test, body, .. } => {
-            push_test(b"while", test, out)?;
-            push_statements(body, names, out)?;
-            push_last(b"end", out)
-        }
+        Stmt::If { .. } | Stmt::While { .. } => unreachable!(),
         _ => push_named(stmt, names, out),
     }
 }
