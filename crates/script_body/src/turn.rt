@@ -1,9 +1,9 @@
-ghost use Rattle.std.specs.Prelude.{◌≡◌, ◌<◌, [], true, length};
+ghost use Rattle.std.specs.Prelude.{◌≡◌, ◌<◌, ℤ, List, [], true, length};
 ghost use Rattle.script_tree.specs.Seen.{statement};
 ghost use Rattle.script_tree.specs.Trees.{line_of};
 ghost use Rattle.script_tree.specs.Moves.{act};
 ghost use Rattle.script_code.specs.Listing.{listing};
-ghost use Rattle.script_code.specs.Placed.{listing_of, is_lone};
+ghost use Rattle.script_code.specs.Placed.{listing_of, is_lone, has_no_expression};
 ghost use Rattle.script_code.specs.FlatPosts.{flat_head};
 ghost use Rattle.script_body.specs.Spots.{spot_of};
 ghost use Rattle.script_body.specs.Turns.{turn_of};
@@ -50,6 +50,38 @@ fn posts(line: u32, ask: Ask) -> Turn
     })
 }
 
+// What a statement without blocks and expressions does first, whatever the registers hold.
+fn plain_turn(stmt: &Stmt, halfway: bool) -> Turn
+    requires { has_no_expression (statement stmt.now) ≡ true }
+    ensures { (registers : List ℤ) → result
+        ≡ turn_of (line_of (statement stmt.now)) (act [] registers halfway (statement stmt.now)) }
+{
+    match stmt {
+        Stmt::Read { line, var, .. } => posts(*line, Ask::Read { var: *var }),
+        Stmt::Lock { line, mutex } => posts(*line, Ask::Lock { mutex: *mutex }),
+        Stmt::TryLock { line, mutex, .. } => posts(*line, Ask::TryLock { mutex: *mutex }),
+        Stmt::Unlock { line, mutex } => posts(*line, Ask::Unlock { mutex: *mutex }),
+        Stmt::Wait { line, cond, mutex } => posts(*line, wait_ask(*cond, *mutex, halfway)),
+        Stmt::Signal { line, cond } => posts(*line, Ask::Signal { cond: *cond }),
+        Stmt::Broadcast { line, cond } => posts(*line, Ask::Broadcast { cond: *cond }),
+        Stmt::Down { line, sem } => posts(*line, Ask::Down { sem: *sem }),
+        Stmt::TryDown { line, sem, .. } => posts(*line, Ask::TryDown { sem: *sem }),
+        Stmt::Up { line, sem } => posts(*line, Ask::Up { sem: *sem }),
+        Stmt::Arrive { line, barrier, .. } => posts(*line, arrive_ask(*barrier, halfway)),
+        Stmt::Join { line, thread } => posts(*line, Ask::Join { thread: *thread }),
+        Stmt::Yield { line } => posts(*line, Ask::Yield),
+        Stmt::Start { line, thread } => posts(*line, Ask::Start { thread: *thread }),
+        Stmt::RdLock { line, rwlock } => posts(*line, Ask::RdLock { rwlock: *rwlock }),
+        Stmt::WrLock { line, rwlock } => posts(*line, Ask::WrLock { rwlock: *rwlock }),
+        Stmt::TryRdLock { line, rwlock, .. } => posts(*line, Ask::TryRdLock { rwlock: *rwlock }),
+        Stmt::TryWrLock { line, rwlock, .. } => posts(*line, Ask::TryWrLock { rwlock: *rwlock }),
+        Stmt::RwUnlock { line, rwlock } => posts(*line, Ask::RwUnlock { rwlock: *rwlock }),
+        Stmt::Write { .. } | Stmt::Add { .. } | Stmt::Cas { .. } => unreachable!(),
+        Stmt::Assert { .. } | Stmt::Set { .. } => unreachable!(),
+        Stmt::If { .. } | Stmt::While { .. } => unreachable!(),
+    }
+}
+
 // What a statement without blocks does first.
 fn lone_turn(stmt: &Stmt, registers: &Registers, halfway: bool) -> Turn
     requires { is_lone (statement stmt.now) ≡ true }
@@ -58,7 +90,6 @@ fn lone_turn(stmt: &Stmt, registers: &Registers, halfway: bool) -> Turn
         (act [] registers.now halfway (statement stmt.now)) }
 {
     match stmt {
-        Stmt::Read { line, var, .. } => posts(*line, Ask::Read { var: *var }),
         Stmt::Write { line, var, value } => posts(
             *line,
             write_ask(*var, value_of(value, registers)),
@@ -79,26 +110,8 @@ fn lone_turn(stmt: &Stmt, registers: &Registers, halfway: bool) -> Turn
             *line,
             cas_ask(*var, value_of(old, registers), value_of(new, registers)),
         ),
-        Stmt::Lock { line, mutex } => posts(*line, Ask::Lock { mutex: *mutex }),
-        Stmt::TryLock { line, mutex, .. } => posts(*line, Ask::TryLock { mutex: *mutex }),
-        Stmt::Unlock { line, mutex } => posts(*line, Ask::Unlock { mutex: *mutex }),
-        Stmt::Wait { line, cond, mutex } => posts(*line, wait_ask(*cond, *mutex, halfway)),
-        Stmt::Signal { line, cond } => posts(*line, Ask::Signal { cond: *cond }),
-        Stmt::Broadcast { line, cond } => posts(*line, Ask::Broadcast { cond: *cond }),
-        Stmt::Down { line, sem } => posts(*line, Ask::Down { sem: *sem }),
-        Stmt::TryDown { line, sem, .. } => posts(*line, Ask::TryDown { sem: *sem }),
-        Stmt::Up { line, sem } => posts(*line, Ask::Up { sem: *sem }),
-        Stmt::Arrive { line, barrier, .. } => posts(*line, arrive_ask(*barrier, halfway)),
-        Stmt::Join { line, thread } => posts(*line, Ask::Join { thread: *thread }),
-        Stmt::Yield { line } => posts(*line, Ask::Yield),
         Stmt::Assert { line, test } => posts(*line, check_ask(value_of(test, registers))),
         Stmt::Set { line, .. } => Turn::Moves { line: *line },
-        Stmt::Start { line, thread } => posts(*line, Ask::Start { thread: *thread }),
-        Stmt::RdLock { line, rwlock } => posts(*line, Ask::RdLock { rwlock: *rwlock }),
-        Stmt::WrLock { line, rwlock } => posts(*line, Ask::WrLock { rwlock: *rwlock }),
-        Stmt::TryRdLock { line, rwlock, .. } => posts(*line, Ask::TryRdLock { rwlock: *rwlock }),
-        Stmt::TryWrLock { line, rwlock, .. } => posts(*line, Ask::TryWrLock { rwlock: *rwlock }),
-        Stmt::RwUnlock { line, rwlock } => posts(*line, Ask::RwUnlock { rwlock: *rwlock }),
-        Stmt::If { .. } | Stmt::While { .. } => unreachable!(),
+        _ => plain_turn(stmt, halfway),
     }
 }

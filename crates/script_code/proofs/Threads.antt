@@ -1,5 +1,7 @@
 -- The threads of a script from one of them on.
-use Rattle.std.proofs.Common.{◌≡◌, ℕ, ◌+◌, ◌<◌, ◌≤◌, ◌||◌, ◌&&◌, cond, zero, suc, Bool, true, false, List, [], ◌∷◌, ◌++◌, length, map, get_or, drop, refl, sym, ap, ap₂, ◌∙◌, subst, arith, append_assoc, append-nil}
+use Rattle.std.proofs.Common.{◌≡◌, ℕ, ◌+◌, ◌<◌, ◌≤◌, ◌||◌, ◌&&◌, cond, zero, suc, Bool, true, false}
+use Rattle.std.proofs.Common.{List, [], ◌∷◌, ◌++◌, length, map, get_or, drop, refl, sym, ap, ap₂}
+use Rattle.std.proofs.Common.{◌∙◌, subst, arith, append_assoc, append-nil}
 use Rattle.std.specs.List.{list_all, list_any}
 use Rattle.std.proofs.lemmas.List.{drop_all, drop_more, length-map, map-append}
 use Rattle.std.proofs.lemmas.Bool.Decides.{nat_tests}
@@ -17,15 +19,21 @@ use Rattle.script_tree.specs.declared.stmt.ThreadText.{ThreadText}
 use Rattle.script_code.specs.declared.flat.Flat.{Flat}
 use Rattle.script_code.specs.declared.flat.Flat.TheVariants as flats
 use Rattle.script_code.specs.Operations.{End, operation, operations, listings}
-use Rattle.script_code.specs.Layout.{beginning, codes_of, body_code, thread_code, code_from, script_code}
+use Rattle.script_code.specs.Layout.{beginning, codes_of, body_code, thread_code, code_from}
+use Rattle.script_code.specs.Layout.{script_code}
 
 abbrev pub threads_from : Script → ℕ → List Thread
 threads_from script i = map thread (drop i script.threads.items)
 
-pub threads_next : (script : Script) (i : ℕ) (t : ThreadText) → i < length script.threads.items → t ≡ get_or script.threads.items i t → threads_from script i ≡ thread t ∷ threads_from script (i + 1)
-threads_next script i t below e = ap (λ l. map thread l) (drop_more script.threads.items i t below ∙ ap (λ x. x ∷ drop (i + 1) script.threads.items) (sym e))
+pub threads_next : (script : Script) (i : ℕ) (t : ThreadText) → i < length script.threads.items
+    → t ≡ get_or script.threads.items i t
+    → threads_from script i ≡ thread t ∷ threads_from script (i + 1)
+threads_next script i t below e =
+    ap (λ l. map thread l) (drop_more script.threads.items i t below
+    ∙ ap (λ x. x ∷ drop (i + 1) script.threads.items) (sym e))
 
-pub threads_end : (script : Script) (i : ℕ) → length script.threads.items ≤ i → threads_from script i ≡ []
+pub threads_end : (script : Script) (i : ℕ) → length script.threads.items ≤ i
+    → threads_from script i ≡ []
 threads_end script i past = ap (λ l. map thread l) (drop_all i script.threads.items past)
 
 -- whether one of the threads from a place on starts the thread t
@@ -40,31 +48,46 @@ or_false : (a : Bool) → (a || false) ≡ a
 or_false true = refl
 or_false false = refl
 
-pub starts_next : (script : Script) (i t : ℕ) (th : ThreadText) (old new whole : Bool) → i < length script.threads.items → th ≡ get_or script.threads.items i th →
-    (old || starts_from script i t) ≡ whole → new ≡ (old || any_starts t (block th.body)) → (new || starts_from script (i + 1) t) ≡ whole
+pub starts_next : (script : Script) (i t : ℕ) (th : ThreadText) (old new whole : Bool)
+    → i < length script.threads.items → th ≡ get_or script.threads.items i th →
+    (old || starts_from script i t) ≡ whole → new ≡ (old || any_starts t (block th.body))
+    → (new || starts_from script (i + 1) t) ≡ whole
 starts_next script i t th old new whole below e h n =
-    let next = ap (λ l. list_any (λ (x : Thread). any_starts t x.body) l) (threads_next script i th below e) in
-    ap (λ b. b || starts_from script (i + 1) t) n ∙ or_assoc old (any_starts t (block th.body)) (starts_from script (i + 1) t) ∙ ap (λ b. old || b) (sym next) ∙ h
+    let next = ap (λ l. list_any (λ (x : Thread). any_starts t x.body) l)
+    (threads_next script i th below e) in
+    ap (λ b. b || starts_from script (i + 1) t) n
+    ∙ or_assoc old (any_starts t (block th.body)) (starts_from script (i + 1) t)
+    ∙ ap (λ b. old || b) (sym next) ∙ h
 
-pub starts_all : (script : Script) (i t : ℕ) (marked whole : Bool) → length script.threads.items ≤ i → (marked || starts_from script i t) ≡ whole → marked ≡ whole
+pub starts_all : (script : Script) (i t : ℕ) (marked whole : Bool) → length script.threads.items ≤ i
+    → (marked || starts_from script i t) ≡ whole → marked ≡ whole
 starts_all script i t marked whole past h =
-    let none = ap (λ l. list_any (λ (x : Thread). any_starts t x.body) l) (threads_end script i past) in
+    let none = ap (λ l. list_any (λ (x : Thread). any_starts t x.body) l)
+    (threads_end script i past) in
     sym (or_false marked) ∙ ap (λ b. marked || b) (sym none) ∙ h
 
 -- the code of a thread, as it is made
-pub thread_code_is : (held : Bool) (t : Thread) → thread_code held t ≡ beginning held t.line ++ body_code (length (beginning held t.line)) t.body
+pub thread_code_is : (held : Bool) (t : Thread)
+    → thread_code held t ≡ beginning held t.line
+    ++ body_code (length (beginning held t.line)) t.body
 thread_code_is false t = refl
 thread_code_is true t = refl
 
 -- one more list
-pub listings_next : (script : Script) (old new : List (List Flat)) (list : List Flat) (i : ℕ) (th : ThreadText) (held : Bool) →
-    i < length script.threads.items → th ≡ get_or script.threads.items i th → new ≡ old ++ list ∷ [] → held ≡ is_held (text script) i →
-    operations list ≡ thread_code held (thread th) → listings old ++ code_from (text script) i (threads_from script i) ≡ script_code (text script) →
-    listings new ++ code_from (text script) (i + 1) (threads_from script (i + 1)) ≡ script_code (text script)
+pub listings_next : (script : Script) (old new : List (List Flat)) (list : List Flat) (i : ℕ)
+    (th : ThreadText) (held : Bool) →
+    i < length script.threads.items → th ≡ get_or script.threads.items i th → new ≡ old ++ list ∷ []
+    → held ≡ is_held (text script) i →
+    operations list ≡ thread_code held (thread th)
+    → listings old ++ code_from (text script) i (threads_from script i)
+    ≡ script_code (text script) →
+    listings new ++ code_from (text script) (i + 1) (threads_from script (i + 1))
+    ≡ script_code (text script)
 listings_next script old new list i th held below e n h made so_far =
     let rest = code_from (text script) (i + 1) (threads_from script (i + 1)) in
     let next = ap (λ l. code_from (text script) i l) (threads_next script i th below e) in
-    let here : operations list ≡ thread_code (is_held (text script) i) (thread th) = made ∙ ap (λ b. thread_code b (thread th)) h in
+    let here : operations list ≡ thread_code (is_held (text script) i) (thread th) =
+    made ∙ ap (λ b. thread_code b (thread th)) h in
     ap (λ l. listings l ++ rest) n
     ∙ ap (λ l. l ++ rest) (map-append operations old (list ∷ []))
     ∙ append_assoc (listings old) (operations list ∷ []) rest
@@ -72,15 +95,18 @@ listings_next script old new list i th held below e n h made so_far =
     ∙ ap (λ l. listings old ++ l) (sym next)
     ∙ so_far
 
-pub listings_all : (script : Script) (threads : List (List Flat)) (i : ℕ) → length script.threads.items ≤ i →
-    listings threads ++ code_from (text script) i (threads_from script i) ≡ script_code (text script) → listings threads ≡ script_code (text script)
+pub listings_all : (script : Script) (threads : List (List Flat)) (i : ℕ)
+    → length script.threads.items ≤ i →
+    listings threads ++ code_from (text script) i (threads_from script i)
+    ≡ script_code (text script) → listings threads ≡ script_code (text script)
 listings_all script threads i past h =
     let none = ap (λ l. code_from (text script) i l) (threads_end script i past) in
     sym (append-nil (listings threads)) ∙ ap (λ l. listings threads ++ l) (sym none) ∙ h
 
 pub thread_made : (held : Bool) (th : ThreadText) (ops emitted made : List Flat) (end : ℕ) →
     operations ops ≡ beginning held th.line → end ≡ length ops + counts_of (block th.body) →
-    operations emitted ≡ operations ops ++ codes_of (length ops) end (block th.body) → made ≡ emitted ++ flats.End th.body.end_line ∷ [] →
+    operations emitted ≡ operations ops ++ codes_of (length ops) end (block th.body)
+    → made ≡ emitted ++ flats.End th.body.end_line ∷ [] →
     operations made ≡ thread_code held (thread th)
 thread_made held th ops emitted made end begun at_end e m =
     let first = beginning held th.line in
@@ -90,28 +116,40 @@ thread_made held th ops emitted made end begun at_end e m =
     ∙ map-append operation emitted (flats.End th.body.end_line ∷ [])
     ∙ ap (λ l. l ++ End th.body.end_line ∷ []) e
     ∙ append_assoc (operations ops) (codes_of (length ops) end body) (End th.body.end_line ∷ [])
-    ∙ ap₂ (λ l (k : ℕ). l ++ (codes_of (length ops) k body ++ End th.body.end_line ∷ [])) begun at_end
-    ∙ ap₂ (λ (k line : ℕ). first ++ (codes_of k (k + counts_of body) body ++ End line ∷ [])) n (sym (end_line-block th.body))
+    ∙ ap₂ (λ l (k : ℕ). l ++ (codes_of (length ops) k body ++ End th.body.end_line ∷ [])) begun
+    at_end
+    ∙ ap₂ (λ (k line : ℕ). first ++ (codes_of k (k + counts_of body) body ++ End line ∷ [])) n
+    (sym (end_line-block th.body))
     ∙ sym (thread_code_is held (thread th))
 
-fits_at : (p : Thread → Bool) (xs : List ThreadText) (i : ℕ) (t : ThreadText) → list_all p (map thread xs) ≡ true → i < length xs → t ≡ get_or xs i t → p (thread t) ≡ true
+fits_at : (p : Thread → Bool) (xs : List ThreadText) (i : ℕ) (t : ThreadText)
+    → list_all p (map thread xs) ≡ true → i < length xs → t ≡ get_or xs i t → p (thread t) ≡ true
 fits_at p [] i t all below e = absurd (omega arith)
-fits_at p (x ∷ xs) zero t all below e = ap (λ y. p (thread y)) e ∙ left_true (p (thread x)) (list_all p (map thread xs)) all
-fits_at p (x ∷ xs) (suc i) t all below e = fits_at p xs i t (right_true (p (thread x)) (list_all p (map thread xs)) all) (omega arith) e
+fits_at p (x ∷ xs) zero t all below e =
+    ap (λ y. p (thread y)) e ∙ left_true (p (thread x)) (list_all p (map thread xs)) all
+fits_at p (x ∷ xs) (suc i) t all below e =
+    fits_at p xs i t (right_true (p (thread x)) (list_all p (map thread xs)) all) (omega arith) e
 
-pub few_statements : (script : Script) (i : ℕ) (t : ThreadText) → IsScript (text script) → i < length script.threads.items → t ≡ get_or script.threads.items i t → counts_of (block t.body) ≤ 4096
+pub few_statements : (script : Script) (i : ℕ) (t : ThreadText) → IsScript (text script)
+    → i < length script.threads.items → t ≡ get_or script.threads.items i t
+    → counts_of (block t.body) ≤ 4096
 few_statements script i t sound below e =
     let version = script.version in
     let names = script.names in
-    let fits = fits_at (thread_fits version names) script.threads.items i t sound.threads_fit below e in
-    let few = right_true (line_fits t.line && statements_fit version names 32 (block t.body)) (nat_le (counts_of (block t.body)) 4096) fits in
+    let fits = fits_at (thread_fits version names) script.threads.items i t sound.threads_fit below
+    e in
+    let few = right_true (line_fits t.line && statements_fit version names 32 (block t.body))
+    (nat_le (counts_of (block t.body)) 4096) fits in
     grind (arith, nat_tests)
 
 pub few_threads : (script : Script) → IsScript (text script) → length script.threads.items ≤ 64
 few_threads script sound =
-    let n : length (map thread script.threads.items) ≡ length script.threads.items = length-map script.threads.items thread in
-    most (nat_le 3 script.version) (subst (λ (k : ℕ). k ≤ cond (nat_le 3 script.version) 64 16) n sound.few_threads)
+    let n : length (map thread script.threads.items) ≡ length script.threads.items =
+    length-map script.threads.items thread in
+    most (nat_le 3 script.version) (subst (λ (k : ℕ). k ≤ cond (nat_le 3 script.version) 64 16) n
+    sound.few_threads)
   where
-    most : (b : Bool) → length script.threads.items ≤ cond b 64 16 → length script.threads.items ≤ 64
+    most : (b : Bool) → length script.threads.items ≤ cond b 64 16
+        → length script.threads.items ≤ 64
     most true h = h
     most false h = omega arith

@@ -2,13 +2,19 @@
 use Rattle.std.proofs.Common.{◌≡◌, ℕ, Bool, true, false, not, Some, refl, sym, ap, ◌∙◌}
 use Rattle.std.proofs.lemmas.Bool.{ne_eqb, both_ways}
 use Rattle.pct_ask.specs.declared.Ask.{Ask}
-use Rattle.pct_ask.specs.declared.Ask.TheVariants.{Read, Write, Add, Cas, Lock, TryLock, Unlock, Release, Regain, Signal, Broadcast, Down, TryDown, Up, Arrive, Leave, Join, Yield, Check, Fault, Start, Begin, RdLock, WrLock, TryRdLock, TryWrLock, RwUnlock}
+use Rattle.pct_ask.specs.declared.Ask.TheVariants.{Read, Write, Add, Cas, Lock, TryLock, Unlock}
+use Rattle.pct_ask.specs.declared.Ask.TheVariants.{Release, Regain, Signal, Broadcast, Down}
+use Rattle.pct_ask.specs.declared.Ask.TheVariants.{TryDown, Up, Arrive, Leave, Join, Yield, Check}
+use Rattle.pct_ask.specs.declared.Ask.TheVariants.{Fault, Start, Begin, RdLock, WrLock, TryRdLock}
+use Rattle.pct_ask.specs.declared.Ask.TheVariants.{TryWrLock, RwUnlock}
 use Rattle.sync_store.specs.Store.{StoreState}
 use Rattle.sync_store.specs.Enabled.{enabled, others_ended}
 use Rattle.sync_store.specs.Ready.{awaited}
 
 -- an ask is as enabled where the thread that it joins, if any, has ended as well
-pub enabled_by_target : (store : StoreState) (ended also : ℕ → Bool) (t : ℕ) (ask : Ask) → ((u : ℕ) → awaited ask ≡ Some u → ended u ≡ also u) → enabled store ended t ask ≡ enabled store also t ask
+pub enabled_by_target : (store : StoreState) (ended also : ℕ → Bool) (t : ℕ) (ask : Ask)
+    → ((u : ℕ) → awaited ask ≡ Some u → ended u ≡ also u)
+    → enabled store ended t ask ≡ enabled store also t ask
 enabled_by_target store ended also t (Read x) same = refl
 enabled_by_target store ended also t (Write x value) same = refl
 enabled_by_target store ended also t (Add x value) same = refl
@@ -38,7 +44,9 @@ enabled_by_target store ended also t (TryWrLock l) same = refl
 enabled_by_target store ended also t (RwUnlock l) same = refl
 
 -- an enabled ask of a thread that hasn't ended is enabled where all others have ended
-pub enabled_beside_ended : (store : StoreState) (ended : ℕ → Bool) (t : ℕ) (ask : Ask) → ended t ≡ false → enabled store ended t ask ≡ true → enabled store (others_ended t) t ask ≡ true
+pub enabled_beside_ended : (store : StoreState) (ended : ℕ → Bool) (t : ℕ) (ask : Ask)
+    → ended t ≡ false → enabled store ended t ask ≡ true
+    → enabled store (others_ended t) t ask ≡ true
 enabled_beside_ended store ended t (Read x) going e = e
 enabled_beside_ended store ended t (Write x value) going e = e
 enabled_beside_ended store ended t (Add x value) going e = e
@@ -55,7 +63,8 @@ enabled_beside_ended store ended t (TryDown s) going e = e
 enabled_beside_ended store ended t (Up s) going e = e
 enabled_beside_ended store ended t (Arrive b) going e = e
 enabled_beside_ended store ended t (Leave b) going e = e
-enabled_beside_ended store ended t (Join u) going e = ap not (ne_eqb u t (λ same. both_ways (ended t) going (ap ended (sym same) ∙ e)))
+enabled_beside_ended store ended t (Join u) going e =
+    ap not (ne_eqb u t (λ same. both_ways (ended t) going (ap ended (sym same) ∙ e)))
 enabled_beside_ended store ended t Yield going e = e
 enabled_beside_ended store ended t (Check holds) going e = e
 enabled_beside_ended store ended t (Fault kind) going e = e

@@ -1,5 +1,7 @@
 -- Lists of threads: who is on them, and that they never outgrow their room.
-use Rattle.std.proofs.Common.{◌≡◌, ℕ, ◌<◌, ◌≤◌, Bool, true, false, not, ◌&&◌, ◌||◌, nat_eq, List, [], ◌∷◌, ◌++◌, length, All, slice_index_or, slice_set, replicate, refl, sym, ap, subst, ◌∙◌, arith}
+use Rattle.std.proofs.Common.{◌≡◌, ℕ, ◌<◌, ◌≤◌, Bool, true, false, not, ◌&&◌, ◌||◌, nat_eq, List}
+use Rattle.std.proofs.Common.{[], ◌∷◌, ◌++◌, length, All, slice_index_or, slice_set, replicate}
+use Rattle.std.proofs.Common.{refl, sym, ap, subst, ◌∙◌, arith}
 use Rattle.std.specs.List.{IsDistinct, range_with_len, AllByRecursion}
 use Rattle.std.proofs.lemmas.List.Elements.{All-head, All-tail, All-nil, All-push, All-filter}
 use Rattle.std.proofs.lemmas.List.Folds.{list_any-append, list_any_at}
@@ -25,16 +27,19 @@ once-push t (x ∷ xs) h e =
     let apart : is_on x (xs ++ t ∷ []) ≡ false = is_on-push x t xs ∙ grind arith in
     (apart, once-push t xs h.1 off)
 
-pub is_on-without : (u t : ℕ) (xs : List ℕ) → is_on u (without t xs) ≡ (is_on u xs && not (nat_eq t u))
+pub is_on-without : (u t : ℕ) (xs : List ℕ)
+    → is_on u (without t xs) ≡ (is_on u xs && not (nat_eq t u))
 is_on-without u t xs =
-    is_member-filter nat_eq_equiv (λ v. not (nat_eq t v)) u (λ v e. ap (λ w. not (nat_eq t w)) (eqb-true u v e)) xs
+    is_member-filter nat_eq_equiv (λ v. not (nat_eq t v)) u
+    (λ v e. ap (λ w. not (nat_eq t w)) (eqb-true u v e)) xs
 
 pub once-without : (t : ℕ) (xs : List ℕ) → IsOnce xs → IsOnce (without t xs)
 once-without t [] h = tt
 once-without t (x ∷ xs) h =
     let rest = once-without t xs h.1 in
     let apart : is_on x (without t xs) ≡ false = is_on-without x t xs ∙ and_left _ _ h.0 in
-    cond_both (not (nat_eq t x)) (x ∷ without t xs) (without t xs) IsOnce (λ _. (apart, rest)) (λ _. rest)
+    cond_both (not (nat_eq t x)) (x ∷ without t xs) (without t xs) IsOnce (λ _. (apart, rest))
+    (λ _. rest)
 
 pub below_on : (q : ℕ) (xs : List ℕ) → All (λ t. t < 64) xs → is_on q xs ≡ true → q < 64
 below_on q [] h e = grind arith
@@ -46,9 +51,11 @@ below_on q (x ∷ xs) h e =
 pub on_range : (q : ℕ) → q < 64 → is_on q (range_with_len 0 64) ≡ true
 on_range q h =
     list_any_at (nat_eq q) (range_with_len 0 64) q 0 (rw (length-range_with_len 0 64) h)
-    (eq-eqb q (slice_index_or (range_with_len 0 64) q 0) (omega (arith, get_or-range_with_len 0 64 q 0 h)))
+    (eq-eqb q (slice_index_or (range_with_len 0 64) q 0)
+    (omega (arith, get_or-range_with_len 0 64 q 0 h)))
 
-none_from_off : (x : ℕ) (ys : List ℕ) → is_on x ys ≡ false → AllByRecursion (λ y. nat_eq x y ≡ false) ys
+none_from_off : (x : ℕ) (ys : List ℕ) → is_on x ys ≡ false
+    → AllByRecursion (λ y. nat_eq x y ≡ false) ys
 none_from_off x [] e = tt
 none_from_off x (y ∷ ys) e =
     let parts = or_parts (nat_eq x y) (is_on x ys) e in
@@ -62,21 +69,32 @@ distinct_from_once (x ∷ xs) h = (none_from_off x xs h.0, distinct_from_once xs
 -- a list of different threads isn't longer than there may be threads
 pub length_few : (xs : List ℕ) → IsOnce xs → All (λ t. t < 64) xs → length xs ≤ 64
 length_few xs once below =
-    rw (length-range_with_len 0 64) at (length-le_from_is_member nat_eq_equiv xs (range_with_len 0 64) (distinct_from_once xs once) (λ q e. on_range q (below_on q xs below e)))
+    rw (length-range_with_len 0 64) at
+    (length-le_from_is_member nat_eq_equiv xs (range_with_len 0 64) (distinct_from_once xs once)
+    (λ q e. on_range q (below_on q xs below e)))
 
 -- and has room for one that isn't there
-pub length_room : (t : ℕ) (xs : List ℕ) → IsOnce xs → All (λ u. u < 64) xs → is_on t xs ≡ false → t < 64 → length xs < 64
+pub length_room : (t : ℕ) (xs : List ℕ) → IsOnce xs → All (λ u. u < 64) xs → is_on t xs ≡ false
+    → t < 64 → length xs < 64
 length_room t xs once below off fits =
-    let more = length_few (xs ++ t ∷ []) (once-push t xs once off) (All-push (λ u. u < 64) xs t below fits) in
+    let more = length_few (xs ++ t ∷ []) (once-push t xs once off)
+    (All-push (λ u. u < 64) xs t below fits) in
     omega (arith, length_push xs t)
 
-set_marked : (present : List Bool) (t u : ℕ) → length present ≡ 64 → t < 64 → (on : Bool) → slice_index_or present u false ≡ on → slice_index_or (slice_set present t true) u false ≡ (on || nat_eq u t)
+set_marked : (present : List Bool) (t u : ℕ) → length present ≡ 64 → t < 64 → (on : Bool)
+    → slice_index_or present u false ≡ on
+    → slice_index_or (slice_set present t true) u false ≡ (on || nat_eq u t)
 set_marked present t u l fits on e = grind (arith, nat_tests, common_steps)
 
-pub added : (xs ys : List ℕ) (room room' : ℕ) (present : List Bool) (t : ℕ) → IsThreadList xs room present → length present ≡ 64 → t < 64 → slice_index_or present t false ≡ false → ys ≡ xs ++ t ∷ [] → room' ≡ room → IsThreadList ys room' (slice_set present t true)
+pub added : (xs ys : List ℕ) (room room' : ℕ) (present : List Bool) (t : ℕ)
+    → IsThreadList xs room present → length present ≡ 64 → t < 64
+    → slice_index_or present t false ≡ false → ys ≡ xs ++ t ∷ [] → room' ≡ room
+    → IsThreadList ys room' (slice_set present t true)
 added xs ys room room' present t h l fits off e r =
     let off' : is_on t xs ≡ false = sym (h.marked t fits) ∙ off in
-    let marked_at : (u : ℕ) → u < 64 → slice_index_or (slice_set present t true) u false ≡ (is_on u xs || nat_eq u t) = λ u below. set_marked present t u l fits _ (h.marked u below) in
+    let marked_at : (u : ℕ) → u < 64 → slice_index_or (slice_set present t true) u false
+    ≡ (is_on u xs || nat_eq u t) = λ u below.
+    set_marked present t u l fits _ (h.marked u below) in
     record {
       once = subst IsOnce (sym e) (once-push t xs h.once off');
       below = subst (All (λ u. u < 64)) (sym e) (All-push (λ u. u < 64) xs t h.below fits);
@@ -84,7 +102,8 @@ added xs ys room room' present t h l fits off e r =
       reserved = omega (arith, h.reserved);
     }
 
-pub emptied : (xs : List ℕ) (room : ℕ) → xs ≡ [] → 64 ≤ room → IsThreadList xs room (replicate 64 false)
+pub emptied : (xs : List ℕ) (room : ℕ) → xs ≡ [] → 64 ≤ room
+    → IsThreadList xs room (replicate 64 false)
 emptied xs room e r = record {
   once = subst IsOnce (sym e) tt;
   below = subst (All (λ u. u < 64)) (sym e) (All-nil (λ u. u < 64));
@@ -92,14 +111,22 @@ emptied xs room e r = record {
   reserved = r;
 }
 
-unset_marked : (present : List Bool) (t u : ℕ) → length present ≡ 64 → t < 64 → (on : Bool) → slice_index_or present u false ≡ on → slice_index_or (slice_set present t false) u false ≡ (on && not (nat_eq t u))
+unset_marked : (present : List Bool) (t u : ℕ) → length present ≡ 64 → t < 64 → (on : Bool)
+    → slice_index_or present u false ≡ on
+    → slice_index_or (slice_set present t false) u false ≡ (on && not (nat_eq t u))
 unset_marked present t u l fits on e = grind (arith, nat_tests, common_steps)
 
-pub departed : (xs ys : List ℕ) (room room' : ℕ) (present : List Bool) (t : ℕ) → IsThreadList xs room present → length present ≡ 64 → t < 64 → ys ≡ without t xs → room' ≡ room → IsThreadList ys room' (slice_set present t false)
+pub departed : (xs ys : List ℕ) (room room' : ℕ) (present : List Bool) (t : ℕ)
+    → IsThreadList xs room present → length present ≡ 64 → t < 64 → ys ≡ without t xs → room' ≡ room
+    → IsThreadList ys room' (slice_set present t false)
 departed xs ys room room' present t h l fits e r = record {
   once = subst IsOnce (sym e) (once-without t xs h.once);
-  below = subst (All (λ u. u < 64)) (sym e) (All-filter (λ u. not (nat_eq t u)) (λ u. u < 64) xs h.below);
-  marked = λ u below. unset_marked present t u l fits _ (h.marked u below) ∙ sym (is_on-without u t xs) ∙ ap (is_on u) (sym e);
+  below =
+      subst (All (λ u. u < 64)) (sym e)
+      (All-filter (λ u. not (nat_eq t u)) (λ u. u < 64) xs h.below);
+  marked =
+      λ u below. unset_marked present t u l fits _ (h.marked u below) ∙ sym (is_on-without u t xs)
+      ∙ ap (is_on u) (sym e);
   reserved = omega (arith, h.reserved);
 }
 

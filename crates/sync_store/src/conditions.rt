@@ -1,4 +1,4 @@
-ghost use Rattle.std.specs.Prelude.{◌≡◌, ◌<◌, ◌≤◌, [], ◌∷◌, pos, min, length, replicate, IfOk};
+ghost use Rattle.std.specs.Prelude.{◌≡◌, ◌<◌, ◌≤◌, [], pos, min, length, replicate, IfOk};
 ghost use Rattle.sync_store.specs.Store.{is_on, new_condition, condition_of, with_condition};
 ghost use Rattle.sync_store.specs.Store.{with_owner};
 ghost use Rattle.sync_store.specs.Effect.{onto, without, all_onto, signalled, effect, store_after};

@@ -1,4 +1,4 @@
-ghost use Rattle.std.specs.Prelude.{◌≡◌, ◌<◌, ◌+◌, ◌-◌, if◌then◌else◌, is_some, is_none, nat_lt};
+ghost use Rattle.std.specs.Prelude.{◌≡◌, ◌<◌, ◌+◌, if◌then◌else◌, is_some, is_none, nat_lt};
 ghost use Rattle.std.specs.Prelude.{length, replicate, slice_index, IfOk, MatchOption};
 ghost use Rattle.sync_store.specs.Store.{new_rwlock, rwlock_of, with_rwlock};
 ghost use Rattle.sync_store.specs.Enabled.{is_unread};

@@ -1,4 +1,4 @@
-ghost use Rattle.std.specs.Prelude.{◌≡◌, ◌<◌, length, IfOk};
+ghost use Rattle.std.specs.Prelude.{◌≡◌, ◌<◌, IfOk};
 ghost use Rattle.sync_store.specs.Store.{first, is_on, sizes_of, sizes_of_deal};
 ghost use Rattle.sync_store.specs.Effect.{effect, store_after, applied_of};
 ghost use Rattle.sync_store.specs.Stepped.{applied_by};

@@ -1,12 +1,17 @@
 -- The bodies of a script's code are those of the script, and name only what its deal has.
-use Rattle.std.proofs.Common.{◌≡◌, ℕ, ℤ, suc, ◌+◌, ◌<◌, List, [], ◌∷◌, ◌++◌, length, get_or, map, take, Some, None, Option, sym, ap, subst, ◌∙◌, arith, inl, inr}
+use Rattle.std.proofs.Common.{◌≡◌, ℕ, ℤ, suc, ◌+◌, ◌<◌, List, [], ◌∷◌, ◌++◌, length, get_or, map}
+use Rattle.std.proofs.Common.{take, Some, None, Option, sym, ap, subst, ◌∙◌, arith, inl, inr}
 use Rattle.std.proofs.lemmas.Bool.{cases_lt}
 use Rattle.std.proofs.lemmas.List.{ext_get_or, get_or_past, length-map, map-append}
 use Rattle.std.proofs.Math.ListN.{get_or-map}
 use Rattle.std.proofs.Math.Seq.{take-suc}
 use Rattle.std.proofs.lemmas.List.FromFn.{length-map-range_with_len, get_or-map-range_with_len}
 use Rattle.pct_ask.specs.declared.ask.Ask.{Ask}
-use Rattle.pct_ask.specs.declared.ask.Ask.TheVariants.{Read, Write, Add, Cas, Lock, TryLock, Unlock, Release, Regain, Signal, Broadcast, Down, TryDown, Up, Arrive, Leave, Join, Yield, Check, Fault, Start, Begin, RdLock, WrLock, TryRdLock, TryWrLock, RwUnlock}
+use Rattle.pct_ask.specs.declared.ask.Ask.TheVariants.{Read, Write, Add, Cas, Lock, TryLock, Unlock}
+use Rattle.pct_ask.specs.declared.ask.Ask.TheVariants.{Release, Regain, Signal, Broadcast, Down}
+use Rattle.pct_ask.specs.declared.ask.Ask.TheVariants.{TryDown, Up, Arrive, Leave, Join, Yield}
+use Rattle.pct_ask.specs.declared.ask.Ask.TheVariants.{Check, Fault, Start, Begin, RdLock, WrLock}
+use Rattle.pct_ask.specs.declared.ask.Ask.TheVariants.{TryRdLock, TryWrLock, RwUnlock}
 use Rattle.pct_ask.specs.declared.ask.Post.{Post}
 use Rattle.pct_ask.specs.declared.Deal.{Deal}
 use Rattle.sync_store.specs.Store.{sizes_of_deal}
@@ -33,25 +38,33 @@ same_posts : (f g : Pending) → ((answers : List ℤ) → f answers ≡ g answe
 same_posts f g same = λ j answers. same answers j
 
 -- one more body, where each posts what `posts` tells of it
-pub one_more : {X : Type 0} (posts : X → Pending) (code : List (List Operation)) (bodies new : List X) (body : X) (t : ℕ) → t < length code → map posts bodies ≡ map flat_pending (take t code) → new ≡ bodies ++ body ∷ []
-    → ((answers : List ℤ) → posts body answers ≡ flat_pending (listing_of code t) answers) → map posts new ≡ map flat_pending (take (t + 1) code)
+pub one_more : {X : Type 0} (posts : X → Pending) (code : List (List Operation))
+    (bodies new : List X) (body : X) (t : ℕ) → t < length code
+    → map posts bodies ≡ map flat_pending (take t code) → new ≡ bodies ++ body ∷ []
+    → ((answers : List ℤ) → posts body answers ≡ flat_pending (listing_of code t) answers)
+    → map posts new ≡ map flat_pending (take (t + 1) code)
 one_more posts code bodies new body t within before is same =
     let step : t + 1 ≡ suc t = omega arith in
     ap (map posts) is ∙ map-append posts bodies (body ∷ []) ∙ ap (λ l. l ++ posts body ∷ []) before
-    ∙ ap (λ p. map flat_pending (take t code) ++ p ∷ []) (same_posts (posts body) (flat_pending (listing_of code t)) same)
+    ∙ ap (λ p. map flat_pending (take t code) ++ p ∷ [])
+    (same_posts (posts body) (flat_pending (listing_of code t)) same)
     ∙ sym (map-append flat_pending (take t code) (listing_of code t ∷ []))
     ∙ ap (map flat_pending) (sym (take-suc code t [] within) ∙ ap (λ n. take n code) (sym step))
 
 -- what the code of each thread posts is what the script's thread does
-pub code_bodies : (script : ScriptText) (code : List (List Operation)) → IsCodeOf script code → map flat_pending code ≡ bodies_of script
+pub code_bodies : (script : ScriptText) (code : List (List Operation)) → IsCodeOf script code
+    → map flat_pending code ≡ bodies_of script
 code_bodies script code of =
     let n = length script.threads in
     let long = length-map code flat_pending in
     let long_too = length-map-range_with_len (pending script) 0 n in
-    ext_get_or (flat_pending []) (map flat_pending code) (bodies_of script) (omega (arith, long, long_too, of.threads)) (λ i within.
+    ext_get_or (flat_pending []) (map flat_pending code) (bodies_of script)
+    (omega (arith, long, long_too, of.threads)) (λ i within.
     let below : i < n = omega (arith, long, of.threads) in
-    get_or-map flat_pending code i [] ∙ same_posts (flat_pending (get_or code i [])) (pending script i) (of.posts i below)
-    ∙ sym (get_or-map-range_with_len (pending script) 0 n i i (flat_pending []) below (omega arith)))
+    get_or-map flat_pending code i []
+    ∙ same_posts (flat_pending (get_or code i [])) (pending script i) (of.posts i below)
+    ∙ sym (get_or-map-range_with_len (pending script) 0 n i i (flat_pending []) below
+    (omega arith)))
 
 -- an ask that names only what the deal has is in its range
 ask_in_range : (deal : Deal) (ask : Ask) → NamesOnly deal ask → IsInRange (sizes_of_deal deal) ask
@@ -83,31 +96,41 @@ ask_in_range deal (TryRdLock l) h = h
 ask_in_range deal (TryWrLock l) h = h
 ask_in_range deal (RwUnlock l) h = h
 
-post_in_range : (deal : Deal) (ask : Option Ask) → AsksOnly deal ask → AskIsInRange (sizes_of_deal deal) ask
+post_in_range : (deal : Deal) (ask : Option Ask) → AsksOnly deal ask
+    → AskIsInRange (sizes_of_deal deal) ask
 post_in_range deal None h = tt
 post_in_range deal (Some ask) h = ask_in_range deal ask h
 
-bodies_in_range : (script : ScriptText) (code : List (List Operation)) (deal : Deal) → AreOf script code deal → AskInRange (sizes_of_deal deal) (bodies_of script)
+bodies_in_range : (script : ScriptText) (code : List (List Operation)) (deal : Deal)
+    → AreOf script code deal → AskInRange (sizes_of_deal deal) (bodies_of script)
 bodies_in_range script code deal of t answers =
     let n = length script.threads in
     let P : Pending → Type 0 = λ posts. AskIsInRange (sizes_of_deal deal) (posts answers).ask in
     elim (cases_lt t n) [
       | inl below ↦
           let at = get_or-map-range_with_len (pending script) 0 n t t nobody below (omega arith) in
-          subst P (sym at) (post_in_range deal (pending script t answers).ask (pending_named script deal of.sound of.is_deal t below answers).ask)
+          subst P (sym at) (post_in_range deal (pending script t answers).ask
+          (pending_named script deal of.sound of.is_deal t below answers).ask)
       | inr past ↦
           let long = length-map-range_with_len (pending script) 0 n in
           subst P (sym (get_or_past (bodies_of script) t nobody (omega (arith, long, past)))) tt
     ]
 
 -- bodies that post what the code does are one for each thread of a deal like the script's
-pub one_each : {X : Type 0} (bodies : List X) (posts : X → Pending) (script : ScriptText) (code : List (List Operation)) (deal own : Deal) → AreOf script code deal → own ≡ deal → map posts bodies ≡ map flat_pending code → length bodies ≡ own.threads
+pub one_each : {X : Type 0} (bodies : List X) (posts : X → Pending) (script : ScriptText)
+    (code : List (List Operation)) (deal own : Deal) → AreOf script code deal → own ≡ deal
+    → map posts bodies ≡ map flat_pending code → length bodies ≡ own.threads
 one_each bodies posts script code deal own of same are =
-    sym (length-map bodies posts) ∙ ap length are ∙ length-map code flat_pending ∙ (of.is_code).threads ∙ (of.sound).same_threads ∙ sym (of.is_deal).threads ∙ ap (λ (d : Deal). d.threads) (sym same)
+    sym (length-map bodies posts) ∙ ap length are ∙ length-map code flat_pending
+    ∙ (of.is_code).threads ∙ (of.sound).same_threads ∙ sym (of.is_deal).threads
+    ∙ ap (λ (d : Deal). d.threads) (sym same)
 
 -- and they name only what it has
-pub all_in_range : {X : Type 0} (bodies : List X) (posts : X → Pending) (script : ScriptText) (code : List (List Operation)) (deal own : Deal) → AreOf script code deal → own ≡ deal → map posts bodies ≡ map flat_pending code → AskInRange (sizes_of_deal own) (map posts bodies)
+pub all_in_range : {X : Type 0} (bodies : List X) (posts : X → Pending) (script : ScriptText)
+    (code : List (List Operation)) (deal own : Deal) → AreOf script code deal → own ≡ deal
+    → map posts bodies ≡ map flat_pending code → AskInRange (sizes_of_deal own) (map posts bodies)
 all_in_range bodies posts script code deal own of same are =
     let B : List Pending → Type 0 = λ bs. AskInRange (sizes_of_deal own) bs in
     let D : Deal → Type 0 = λ d. AskInRange (sizes_of_deal d) (bodies_of script) in
-    subst B (sym (are ∙ code_bodies script code of.is_code)) (subst D (sym same) (bodies_in_range script code deal of))
+    subst B (sym (are ∙ code_bodies script code of.is_code))
+    (subst D (sym same) (bodies_in_range script code deal of))

@@ -6,4 +6,5 @@ use Rattle.script_body.proofs.bodies.bodies_of.Given as goal
 
 -- the bodies so far are those of the first threads
 abbrev pub invariant-loop-thread : goal.invariant-loop-thread
-invariant-loop-thread l = map pending_of l.bodies.items ≡ map flat_pending (take l.thread (listing l.code))
+invariant-loop-thread l =
+    map pending_of l.bodies.items ≡ map flat_pending (take l.thread (listing l.code))

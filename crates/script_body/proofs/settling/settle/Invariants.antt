@@ -12,5 +12,7 @@ use Rattle.script_body.proofs.settling.settle.Given as goal
 abbrev pub invariant-loop : goal.invariant-loop
 invariant-loop l = record {
   inside : l.state.place < length (listing_of (listing l.code) l.thread);
-  same : stand_of (listing_of (listing l.code) l.thread) (spot_of l.initial.state) ≡ stand (flat_head (listing_of (listing l.code) l.thread)) (last_spot (listing_of (listing l.code) l.thread)) (most_moves - l.counter) (spot_of l.state);
+  same : stand_of (listing_of (listing l.code) l.thread) (spot_of l.initial.state)
+      ≡ stand (flat_head (listing_of (listing l.code) l.thread))
+      (last_spot (listing_of (listing l.code) l.thread)) (most_moves - l.counter) (spot_of l.state);
 }

@@ -10,4 +10,5 @@ pub value_of-requires-in-Cas-2 : goal.value_of-requires-in-Cas-2
 value_of-requires-in-Cas-2 c =
     let a = c.in-Cas in
     let s = ap statement a.is ∙ statement-Cas a.line a.reg a.var a.old a.new in
-    (and_parts (reg_fits a.reg && expression_fits (expression a.old)) (expression_fits (expression a.new)) (subst (λ x. is_lone x ≡ true) s c.requires)).1
+    (and_parts (reg_fits a.reg && expression_fits (expression a.old))
+    (expression_fits (expression a.new)) (subst (λ x. is_lone x ≡ true) s c.requires)).1

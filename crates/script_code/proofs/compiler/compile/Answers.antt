@@ -15,22 +15,37 @@ compile_thread-requires c =
     let script = c.args.script.now in
     let items = c.deref-text-items.ensures.value in
     let th = c.text-item.result in
-    let below : c.loop-t.t < length script.threads.items = subst (λ l. c.loop-t.t < length l) items c.loop-t-test.true in
-    few_statements script c.loop-t.t th script.sound below (subst (λ l. th ≡ get_or l c.loop-t.t th) items c.text-item.is)
+    let below : c.loop-t.t < length script.threads.items =
+    subst (λ l. c.loop-t.t < length l) items c.loop-t-test.true in
+    few_statements script c.loop-t.t th script.sound below
+    (subst (λ l. th ≡ get_or l c.loop-t.t th) items c.text-item.is)
 
 pub invariant_of-result : goal.invariant_of-result
 invariant_of-result c =
     let script = c.args.script.now in
-    let past : length script.threads.items ≤ c.loop-t.t = subst (λ l. length l ≤ c.loop-t.t) c.deref-text-items.ensures.value c.loop-t-test.false in
+    let past : length script.threads.items ≤ c.loop-t.t =
+    subst (λ l. length l ≤ c.loop-t.t) c.deref-text-items.ensures.value c.loop-t-test.false in
     let all = listings_all script c.loop-t.threads c.loop-t.t past c.loop-t.invariant in
     let n = length-code_from (text script) 0 (text script).threads in
     record {
-      few = omega (arith, few_threads script script.sound, ap length all, length-map c.loop-t.threads operations, length-map script.threads.items thread);
-      placed = subst (λ l. list_all is_listing l ≡ true) (sym all) (all_listed (text script) script.sound);
+      few =
+          omega (
+            arith,
+            few_threads script script.sound,
+            ap length all,
+            length-map c.loop-t.threads operations,
+            length-map script.threads.items thread,
+          );
+      placed =
+          subst (λ l. list_all is_listing l ≡ true) (sym all)
+          (all_listed (text script) script.sound);
     }
 
 pub returns : goal.returns
 returns c =
     let script = c.args.script.now in
-    let past : length script.threads.items ≤ c.loop-t.t = subst (λ l. length l ≤ c.loop-t.t) c.deref-text-items.ensures.value c.loop-t-test.false in
-    subst (IsCodeOf (text script)) (sym (listings_all script c.loop-t.threads c.loop-t.t past c.loop-t.invariant)) (is_code_of (text script))
+    let past : length script.threads.items ≤ c.loop-t.t =
+    subst (λ l. length l ≤ c.loop-t.t) c.deref-text-items.ensures.value c.loop-t-test.false in
+    subst (IsCodeOf (text script)) (sym
+    (listings_all script c.loop-t.threads c.loop-t.t past c.loop-t.invariant))
+    (is_code_of (text script))

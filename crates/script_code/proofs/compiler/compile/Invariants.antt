@@ -9,8 +9,12 @@ use Rattle.script_code.proofs.compiler.compile.Given as goal
 
 -- the threads that are marked, and those that later threads start, are the ones that are held
 abbrev pub invariant-loop-started : goal.invariant-loop-started
-invariant-loop-started l = (t : ℕ) → t < 64 → (slice_index_or l.held t false || starts_from l.script l.started-index t) ≡ is_held (text l.script) t
+invariant-loop-started l = (t : ℕ) → t < 64
+    → (slice_index_or l.held t false || starts_from l.script l.started-index t)
+    ≡ is_held (text l.script) t
 
 -- the lists that are made, and those that aren't yet, are all
 abbrev pub invariant-loop-t : goal.invariant-loop-t
-invariant-loop-t l = listings l.threads ++ code_from (text l.script) l.t (threads_from l.script l.t) ≡ script_code (text l.script)
+invariant-loop-t l =
+    listings l.threads ++ code_from (text l.script) l.t (threads_from l.script l.t)
+    ≡ script_code (text l.script)

@@ -12,4 +12,5 @@ decreases-counts_of l = goal.size-counts_of l
 
 -- what is counted and what isn't yet are all
 abbrev pub invariant-counts_of-loop-stmt : goal.invariant-counts_of-loop-stmt
-invariant-counts_of-loop-stmt l = l.sum + counts_of (from l.body l.stmt-index) ≡ counts_of (block l.body)
+invariant-counts_of-loop-stmt l =
+    l.sum + counts_of (from l.body l.stmt-index) ≡ counts_of (block l.body)

@@ -15,6 +15,8 @@ decreases-emit_stmt l = goal.size-emit_stmt l
 -- what is emitted and what isn't yet are all
 abbrev pub invariant-emit_block-loop-i : goal.invariant-emit_block-loop-i
 invariant-emit_block-loop-i l = record {
-  emitted : operations l.ops.items ++ codes_of (length l.ops.items) l.next (from l.body l.i) ≡ operations l.initial.ops.items ++ codes_of (length l.initial.ops.items) l.next (block l.body);
+  emitted : operations l.ops.items ++ codes_of (length l.ops.items) l.next (from l.body l.i)
+      ≡ operations l.initial.ops.items
+      ++ codes_of (length l.initial.ops.items) l.next (block l.body);
   room : length l.ops.items + counts_of (from l.body l.i) < 2 ^ 32;
 }

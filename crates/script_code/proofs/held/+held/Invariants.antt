@@ -13,4 +13,6 @@ decreases-mark_all_started l = goal.size-mark_all_started l
 
 -- what is marked, and what isn't yet, are all
 abbrev pub invariant-mark_all_started-loop-stmt : goal.invariant-mark_all_started-loop-stmt
-invariant-mark_all_started-loop-stmt l = (t : ℕ) → t < length l.initial.held → (slice_index_or l.held t false || any_starts t (from l.body l.stmt-index)) ≡ (slice_index_or l.initial.held t false || any_starts t (block l.body))
+invariant-mark_all_started-loop-stmt l = (t : ℕ) → t < length l.initial.held
+    → (slice_index_or l.held t false || any_starts t (from l.body l.stmt-index))
+    ≡ (slice_index_or l.initial.held t false || any_starts t (block l.body))

@@ -7,10 +7,12 @@ pub returns-then-not-has : goal.returns-then-not-has
 returns-then-not-has c =
     let list = c.self.inside in
     let off : is_on c.args.thread list.threads ≡ false = grind arith in
-    rw (← c.self.view_is) (releases-onto list.serial c.args.thread c.args.serial list.threads c.add.new.self (omega (arith, c.self.told, c.requires)) off c.add.ensures)
+    rw (← c.self.view_is) (releases-onto list.serial c.args.thread c.args.serial list.threads
+    c.add.new.self (omega (arith, c.self.told, c.requires)) off c.add.ensures)
 
 pub returns-else-not-has : goal.returns-else-not-has
 returns-else-not-has c =
     let list = c.self.inside in
     let on : is_on c.args.thread list.threads ≡ true = grind arith in
-    rw (← c.self.view_is) (let_through-again list.serial c.args.thread c.args.serial list.threads on)
+    rw (← c.self.view_is) (let_through-again list.serial c.args.thread c.args.serial list.threads
+    on)

@@ -6,4 +6,5 @@ use Rattle.sync_store.proofs.release_list.ReleaseList.leave.Goals as goal
 pub returns : goal.returns
 returns c =
     let list = c.self.inside in
-    rw (← c.self.view_is) (ap (releases_by list.serial) c.leave.ensures ∙ without-by list.serial c.args.thread list.threads)
+    rw (← c.self.view_is) (ap (releases_by list.serial) c.leave.ensures
+    ∙ without-by list.serial c.args.thread list.threads)

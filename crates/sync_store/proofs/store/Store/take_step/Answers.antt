@@ -6,9 +6,12 @@ use Rattle.sync_store.proofs.store.Store.take_step.Goals as goal
 
 pub returns-clause-sizes : goal.returns-clause-sizes
 returns-clause-sizes c =
-    ap sizes_of c.step.ensures.store ∙ sizes_after c.args.thread c.args.line c.args.self.now c.args.ask.now
+    ap sizes_of c.step.ensures.store ∙ sizes_after c.args.thread c.args.line c.args.self.now
+    c.args.ask.now
 
 pub returns-clause-others : goal.returns-clause-others
 returns-clause-others c =
-    let P : StoreState → Type 0 = λ after. KeepsOthers c.args.thread (touched_of c.args.ask.now) c.args.self.now after in
-    subst P (sym c.step.ensures.store) (others_after c.args.thread c.args.line c.args.self.now c.args.ask.now)
+    let P : StoreState → Type 0 = λ after.
+    KeepsOthers c.args.thread (touched_of c.args.ask.now) c.args.self.now after in
+    subst P (sym c.step.ensures.store)
+    (others_after c.args.thread c.args.line c.args.self.now c.args.ask.now)

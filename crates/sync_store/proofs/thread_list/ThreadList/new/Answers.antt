@@ -5,4 +5,5 @@ use Rattle.sync_store.proofs.thread_list.ThreadList.new.Goals as goal
 pub invariant_of-result : goal.invariant_of-result
 invariant_of-result c =
     let list = c.in_ok-with_capacity.field-0 in
-    emptied list.items _ c.in_ok-with_capacity.ensures.items (omega (arith, c.in_ok-with_capacity.ensures.exact))
+    emptied list.items _ c.in_ok-with_capacity.ensures.items
+    (omega (arith, c.in_ok-with_capacity.ensures.exact))
