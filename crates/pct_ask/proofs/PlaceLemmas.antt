@@ -1,7 +1,8 @@
 -- Facts on the threads that can't go on.
 use Rattle.std.proofs.Common.{◌≡◌, ◌≢◌, ℕ, ◌+◌, ◌*◌, ◌/◌, ◌%◌, ◌^◌, ◌<◌, ◌≤◌, Bool, true, false}
 use Rattle.std.proofs.Common.{Option, Some, None, List, [], ◌∷◌, ◌++◌, length, map, set, get_or}
-use Rattle.std.proofs.Common.{zero, suc, refl, add-one, sym, ◌∙◌, ap, arith, lit<, inl, inr, bit_and, bit_or, w64}
+use Rattle.std.proofs.Common.{zero, suc, refl, add-one, sym, ◌∙◌, ap, arith, lit<, inl, inr}
+use Rattle.std.proofs.Common.{bit_and, bit_or, w64}
 use Rattle.std.specs.Int.{bit_at}
 use Rattle.std.specs.List.{All}
 use Rattle.std.specs.Bool.{Decides}
