@@ -25,5 +25,6 @@ pub use names::{NameKind, Names};
 pub use number::{number_in, read_number, write_number};
 pub use sequence::{NumberList, OrderList, PointList, Sequence};
 pub use verdict::{MisuseKind, Outcome, Verdict};
-pub use verdict_text::{VerdictRead, read_verdict, write_verdict};
-pub use words::is_lawful_name;
+pub use verdict_text::{VerdictRead, fault_word, read_verdict, write_verdict};
+pub use verdict_words::fault_kind;
+pub use words::{is_among, is_lawful_name};

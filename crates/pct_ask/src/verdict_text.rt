@@ -145,7 +145,8 @@ fn misuse_word(kind: MisuseKind) -> &'static [u8]
     }
 }
 
-fn fault_word(kind: FaultKind) -> &'static [u8]
+/// The word for a fault, in verdicts and in asks.
+pub fn fault_word(kind: FaultKind) -> &'static [u8]
     ensures { result.now ≡ fault_word kind }
 {
     match kind {

@@ -123,7 +123,7 @@ fn read_kind(head: &[u8], rest: Option<&[u8]>) -> Option<PlacedKind>
     } else if head == MISUSE {
         Some(PlacedKind::Misused(read_misuse(word)?))
     } else if head == FAULT {
-        Some(PlacedKind::Faulted(read_fault(word)?))
+        Some(PlacedKind::Faulted(fault_kind(word)?))
     } else {
         None
     }
@@ -145,7 +145,8 @@ fn read_misuse(word: &[u8]) -> Option<MisuseKind>
     }
 }
 
-fn read_fault(word: &[u8]) -> Option<FaultKind>
+/// The fault that a word stands for, in verdicts and in asks.
+pub fn fault_kind(word: &[u8]) -> Option<FaultKind>
     ensures { result ≡ fault_kind word.now }
 {
     if word == OVERFLOW {

@@ -1,4 +1,4 @@
-ghost use Rattle.std.specs.Prelude.{◌≡◌, ◌≤◌, ◌<◌, length};
+ghost use Rattle.std.specs.Prelude.{◌≡◌, ◌≤◌, ◌<◌, length, map};
 ghost use Rattle.std.specs.List.{list_all, list_any};
 ghost use Rattle.std.specs.Str.{bytes_eq};
 ghost use Rattle.pct_ask.specs.Words.{is_word, is_among, first_keywords, keywords, registers};
@@ -101,7 +101,14 @@ fn is_keyword(version: u32, word: &[u8]) -> bool
     }
 }
 
-fn is_among(word: &[u8], words: &[&[u8]]) -> bool
+/// Whether a word is one of these.
+pub fn is_among(word: &[u8], words: &[&[u8]]) -> bool
+    ensures { result ≡ is_among word.now (map (λ other. other.now) words.now) }
+{
+    holds_word(words, word)
+}
+
+fn holds_word(words: &[&[u8]], word: &[u8]) -> bool
     ensures { result ≡ list_any (λ other. bytes_eq word.now other.now) words.now }
 {
     words.iter().any(|other| word == *other)
