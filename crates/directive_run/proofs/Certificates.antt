@@ -3,7 +3,7 @@ use Rattle.std.specs.Prelude.{slice_get}
 use Rattle.std.specs.List.{All}
 use Rattle.std.proofs.Common.{◌≡◌, ◌≢◌, ℕ, zero, suc, ◌+◌, ◌-◌, ◌*◌, ◌^◌, ◌<◌, ◌≤◌, Some, List, [], ◌∷◌, ◌++◌, length, take, drop, refl, sym, ap, subst, ◌∙◌, arith}
 use Rattle.std.proofs.Math.Nat.{pow-suc, pow-le-pow_left, pow-le-pow_right, mul-le-mul_left}
-use Rattle.std.proofs.lemmas.List.{length-map}
+use Rattle.std.proofs.lemmas.List.{length-append, length-map}
 use Rattle.std.proofs.lemmas.List.Elements.{All-nil, All-cons, All-head, All-tail}
 use Rattle.pct_ask.specs.declared.Deal.{Deal}
 use Rattle.pct_ask.specs.declared.event.Event.{Event}
@@ -14,14 +14,14 @@ use Rattle.worker_run.specs.Bodies.{Pending}
 use Rattle.worker_run.specs.Run.{run, directed}
 use Rattle.directive.specs.declared.directive.Directive.{Directive}
 use Rattle.directive_run.specs.Points.{point_of_moment, points_of}
-use Rattle.directive_run.specs.Exposing.{IsWithin, IsTooLong}
+use Rattle.directive_run.specs.Exposing.{IsWithin}
 use Rattle.directive_run.specs.Orders.{factorial, low_orders}
 use Rattle.directive_run.specs.Counting.{pointlists, hits_under}
 use Rattle.directive_run.specs.Guarantees.{IsLed}
 use Rattle.directive_run.specs.Certifying.{IsPointed, AreRows, IsCertified, IsFirstOther, IsRefuted, IsTooLongUnder}
-use Rattle.directive_run.specs.Tested.{IsOther, Tells}
-use Rattle.directive_run.specs.declared.certifying.Tested.{Tested}
-use Rattle.directive_run.specs.declared.certifying.Tested.TheVariants.{Led, Other, TooLong}
+use Rattle.directive_run.specs.Tested.{DirectedSetup, IsOther, Tells}
+use Rattle.directive_run.specs.declared.judging.Tested.{Tested}
+use Rattle.directive_run.specs.declared.judging.Tested.TheVariants.{Led, Other, TooLong}
 use Rattle.directive_run.specs.declared.answers.CertifyRow.{CertifyRow}
 use Rattle.directive_run.proofs.laws.ExposedPoints.{exposed-run, points-within}
 use Rattle.directive_run.proofs.laws.OrderLists.{IsLowOrder, low-orders-all, low-order-listed, length-low-orders}
@@ -167,11 +167,29 @@ module _ (deal : Deal) (bodies : List Pending) (directive : Directive) (steps li
       cut (o ∷ orders) zero at = ap (λ z. z ∷ orders) (let same : o ≡ order = cc in same)
       cut (o ∷ orders) (suc k) at = ap (λ z. o ∷ z) (cut orders k at)
 
-  pub refuted : (rows : List CertifyRow) (place : ℕ) (order slice : List ℕ) (tested : Tested) (verdict : Verdict) → directive.low < deal.threads → deal.threads ≤ 7 → slice_get (low_orders deal.threads directive.low) place ≡ Some order → Rows (take place (low_orders deal.threads directive.low)) rows → slice ≡ order → Tells deal bodies slice directive.events directive.verdict steps limit tested → tested ≡ Other verdict → IsRefuted deal bodies directive steps limit order verdict
-  refuted rows place order slice tested verdict low few at are same tells is =
-      let T : Tested → Type 0 = Tells deal bodies slice directive.events directive.verdict steps limit in
-      let O : List ℕ → Type 0 = λ o. IsOther deal bodies o directive.events directive.verdict steps limit verdict in
-      let found = subst O same (subst T is tells) in
+  abbrev all : List (List ℕ)
+  all = low_orders deal.threads directive.low
+
+  abbrev setup : DirectedSetup
+  setup = record {
+    deal = deal;
+    bodies = bodies;
+    directive = directive;
+    steps = steps;
+    limit = limit;
+  }
+
+  abbrev TellsHere : List ℕ → Tested → Type 0
+  TellsHere order = Tells setup order
+
+  pub refuted : (rows : List CertifyRow) (order : List ℕ) (tested : Tested) (verdict : Verdict)
+      → directive.low < deal.threads → deal.threads ≤ 7
+      → slice_get all (length rows) ≡ Some order → Rows (take (length rows) all) rows
+      → TellsHere order tested → tested ≡ Other verdict
+      → IsRefuted deal bodies directive steps limit order verdict
+  refuted rows order tested verdict low few at are tells is =
+      let place = length rows in
+      let found = subst (TellsHere order) is tells in
       let sound = low-at deal.threads directive.low place order low at in
       record {
         first = first-other rows place order few at are;
@@ -184,31 +202,43 @@ module _ (deal : Deal) (bodies : List Pending) (directive : Directive) (steps li
         apart = found.apart;
       }
 
-  pub too-long-under : (rows : List CertifyRow) (place : ℕ) (order slice : List ℕ) (tested : Tested) (many : ℕ) → directive.low < deal.threads → deal.threads ≤ 7 → slice_get (low_orders deal.threads directive.low) place ≡ Some order → Rows (take place (low_orders deal.threads directive.low)) rows → slice ≡ order → Tells deal bodies slice directive.events directive.verdict steps limit tested → tested ≡ TooLong many → IsTooLongUnder deal bodies directive steps limit order many
-  too-long-under rows place order slice tested many low few at are same tells is =
-      let T : Tested → Type 0 = Tells deal bodies slice directive.events directive.verdict steps limit in
-      let O : List ℕ → Type 0 = λ o. IsTooLong deal bodies o directive.events steps limit many in
+  pub too-long-under : (rows : List CertifyRow) (order : List ℕ) (tested : Tested) (many : ℕ)
+      → directive.low < deal.threads → deal.threads ≤ 7
+      → slice_get all (length rows) ≡ Some order → Rows (take (length rows) all) rows
+      → TellsHere order tested → tested ≡ TooLong many
+      → IsTooLongUnder deal bodies directive steps limit order many
+  too-long-under rows order tested many low few at are tells is =
+      let place = length rows in
       let sound = low-at deal.threads directive.low place order low at in
       record {
         first = first-other rows place order few at are;
         is_order = sound.is_order;
         whole = sound.whole;
         last = sound.last;
-        too_long = subst O same (subst T is tells);
+        too_long = subst (TellsHere order) is tells;
       }
 
   -- one more row
-  pub next-row : (rows after : List CertifyRow) (place : ℕ) (order slice points : List ℕ) (tested : Tested) → slice_get (low_orders deal.threads directive.low) place ≡ Some order → Rows (take place (low_orders deal.threads directive.low)) rows → slice ≡ order → Tells deal bodies slice directive.events directive.verdict steps limit tested → tested ≡ Led points → after ≡ rows ++ record { order = order; points = points } ∷ [] → Rows (take (place + 1) (low_orders deal.threads directive.low)) after
-  next-row rows after place order slice points tested at are same tells is pushed =
-      let all = low_orders deal.threads directive.low in
-      let T : Tested → Type 0 = Tells deal bodies slice directive.events directive.verdict steps limit in
-      let O : List ℕ → Type 0 = λ o. Pointed o points in
+  pub next-row : (rows after : List CertifyRow) (order points : List ℕ) (tested : Tested)
+      → slice_get all (length rows) ≡ Some order → Rows (take (length rows) all) rows
+      → TellsHere order tested → tested ≡ Led points
+      → after ≡ rows ++ record { order = order; points = points } ∷ []
+      → Rows (take (length after) all) after
+  next-row rows after order points tested at are tells is pushed =
+      let place = length rows in
+      let row : CertifyRow = record { order = order; points = points } in
+      let longer : length after ≡ place + 1 = ap length pushed ∙ length-append rows (row ∷ []) in
+      let N : ℕ → Type 0 = λ n. Rows (take n all) after in
       let L : List (List ℕ) → Type 0 = λ os. Rows os after in
       let A : List CertifyRow → Type 0 = λ rs. Rows (take place all ++ order ∷ []) rs in
-      subst L (sym (take-next all place order at)) (subst A (sym pushed) (rows-push (take place all) rows order (record { order = order; points = points }) are refl (subst O same (subst T is tells))))
+      let led = subst (TellsHere order) is tells in
+      let more = rows-push (take place all) rows order row are refl led in
+      let next = sym (take-next all place order at) in
+      subst N (sym longer) (subst L next (subst A (sym pushed) more))
 
-  pub all-rows : (rows : List CertifyRow) (place : ℕ) → directive.low < deal.threads → factorial (deal.threads - 1) ≤ place → Rows (take place (low_orders deal.threads directive.low)) rows → Rows (low_orders deal.threads directive.low) rows
+  pub all-rows : (rows : List CertifyRow) (place : ℕ) → directive.low < deal.threads
+      → factorial (deal.threads - 1) ≤ place → Rows (take place all) rows → Rows all rows
   all-rows rows place low end are =
-      let all = low_orders deal.threads directive.low in
       let L : List (List ℕ) → Type 0 = λ os. Rows os rows in
-      subst L (take-whole all place (omega (arith, length-low-orders deal.threads directive.low low))) are
+      let long = length-low-orders deal.threads directive.low low in
+      subst L (take-whole all place (omega (arith, long))) are

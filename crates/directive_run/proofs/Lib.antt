@@ -3,3 +3,5 @@ pub mod Walk
 pub mod Exposure
 pub mod Places
 pub mod Certificates
+mod OrderRuns
+mod Decided

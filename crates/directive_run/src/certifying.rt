@@ -1,19 +1,17 @@
 //! Whether every order that places a directive's thread last leads to its verdict.
 
-ghost use Rattle.std.specs.Prelude.{◌≡◌, ◌≤◌, ◌<◌, ◌*◌, ◌^◌, length, IfOk};
-ghost use Rattle.rank_now.specs.Order.{IsOrder};
+ghost use Rattle.std.specs.Prelude.{◌≡◌, ◌≤◌, ◌<◌, ◌*◌, ◌^◌, IfOk};
 ghost use Rattle.script_tree.specs.ScriptText.{ScriptText};
 ghost use Rattle.script_code.specs.Listing.{listing};
 ghost use Rattle.script_body.specs.Bodies.{bodies_of, AreOf};
 ghost use Rattle.directive_run.specs.Certifying.{Certifies};
-ghost use Rattle.directive_run.specs.Tested.{Tells};
 
-use crate::answers::{Certified, CertifyRow, CertifyRows};
-use crate::directed::directed_run;
-use crate::orders::{factorial, order_at};
-use crate::points::points_of;
+use crate::answers::{Certified, CertifyRows};
+use crate::batches::try_orders;
+use crate::orders::factorial;
+use crate::task::Task;
 use directive::Directive;
-use pct_ask::{Deal, PointList, Verdict};
+use pct_ask::Deal;
 use pct_outside::Gate;
 use script_code::Code;
 use std::alloc::{AllocError as NoMemory, Global};
@@ -22,48 +20,22 @@ use std::thread::Threads;
 
 const MOST_THREADS: u32 = 7;
 
-/// What one order leads to.
-#[derive(Drop)]
-pub enum Tested {
-    /// To the verdict: these are the points by which it does.
-    Led(PointList),
-    /// To another verdict.
-    Other(Verdict),
-    /// To more steps than there may be.
-    TooLong(u32),
-}
+/// How many steps the runs of a batch may have by their limits together. Each takes room for all of
+/// them before it begins, some 40 bytes a step, so a batch takes some 25 MiB at most.
+const MOST_STEPS: u32 = 640_000;
 
-/// Runs a script under one order and a directive's moments.
-fn test_order<R: Threads + Wait + Sync, G: Gate>(
-    rt: &R,
-    alloc: Global,
-    code: &Code,
-    deal: &Deal,
-    order: &[u32],
-    directive: &Directive,
-    steps: u32,
-    limit: u32,
-    gate: &G,
-) -> Result<Tested, NoMemory>
-    requires script { (script : ScriptText) × AreOf script (listing code.now) deal.now }
-    requires order { IsOrder order.now }
-    requires whole { length order.now ≡ deal.now.threads }
-    requires some_limit { 1 ≤ limit }
-    requires small_limit { limit ≤ 100000 }
-    ensures { (script : ScriptText) → AreOf script (listing code.now) deal.now
-        → IfOk result (Tells deal.now (bodies_of script) order.now
-        directive.now.events directive.now.verdict steps limit) }
+/// The most runs of a batch, as many as a campaign's.
+const MOST_RUNS: u32 = 64;
+
+/// How many runs of such a limit a batch may have.
+fn batch_size(limit: u32) -> u32
+    requires some { 1 ≤ limit }
+    requires low { limit ≤ 100000 }
+    ensures some { 1 ≤ result }
+    ensures few_runs { result ≤ 64 }
+    ensures few_steps { result * limit ≤ 640000 }
 {
-    let events = directive.events.as_slice();
-    let whole = directed_run(rt, alloc, code, deal, order, events, limit, gate)?;
-    let many = whole.events.len() as u32;
-    if many > steps {
-        return Ok(Tested::TooLong(many));
-    }
-    if !whole.verdict.is(&directive.verdict) {
-        return Ok(Tested::Other(whole.verdict));
-    }
-    Ok(Tested::Led(points_of(alloc, whole.events.as_slice(), steps, events)?))
+    (MOST_STEPS / limit).min(MOST_RUNS)
 }
 
 /// In how many choices of an order and so many points at least one leads to the verdict.
@@ -81,7 +53,8 @@ fn bound_of(threads: u32, steps: u32, points: usize) -> u128
 }
 
 /// Runs a script under each order that places a directive's thread last, and tells whether each
-/// leads to the directive's verdict within `steps` steps.
+/// leads to the directive's verdict within `steps` steps. Runs are made at once in batches, of one
+/// order first and then of twice as many each time.
 pub fn certify<R: Threads + Wait + Sync, G: Gate>(
     rt: &R,
     alloc: Global,
@@ -105,25 +78,24 @@ pub fn certify<R: Threads + Wait + Sync, G: Gate>(
     if threads > MOST_THREADS {
         return Ok(Certified::TooManyThreads { threads });
     }
+    let task = Task {
+        code,
+        deal,
+        directive,
+        steps,
+        limit,
+    };
     let mut rows = CertifyRows::new(alloc);
-    for place in 0..factorial(threads - 1) {
-        let order = order_at(alloc, threads, directive.low, place)?;
-        let order_slice = order.as_slice();
-        match test_order(
-            rt,
-            alloc,
-            code,
-            deal,
-            order_slice,
-            directive,
-            steps,
-            limit,
-            gate,
-        )? {
-            Tested::Led(points) => rows.try_push(CertifyRow { order, points })?,
-            Tested::Other(verdict) => return Ok(Certified::Refuted { order, verdict }),
-            Tested::TooLong(steps) => return Ok(Certified::TooLong { order, steps }),
+    let total = factorial(threads - 1);
+    let most = batch_size(limit);
+    let mut size: u32 = 1;
+    let mut end = 0;
+    'batches: while end < total {
+        end += size.min(total - end);
+        if let Some(certified) = try_orders(rt, alloc, &task, &mut rows, end, gate)? {
+            return Ok(certified);
         }
+        size = most.min(2 * size);
     }
     let bound = bound_of(threads, steps, directive.events.len());
     Ok(Certified::Yes { bound, rows })

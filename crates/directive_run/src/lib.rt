@@ -3,12 +3,16 @@
 #![tactic(auto)]
 
 mod answers;
+mod batches;
 mod certificate;
 mod certifying;
 mod directed;
 mod exposing;
+mod judging;
+mod order_tests;
 mod orders;
 mod points;
+mod task;
 
 pub use answers::{Certified, CertifyRow, CertifyRows, Exposed};
 pub use certificate::one_certificate;

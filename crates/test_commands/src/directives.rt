@@ -2,7 +2,7 @@
 ghost use Rattle.std.specs.Prelude.{◌≤◌, length};
 ghost use Rattle.rank_now.specs.Order.{IsOrder};
 
-use crate::scripts::{ADDERS, EIGHT, FAILED, FIRST_OF_A, ONE, SEVEN, code_and_deal};
+use crate::scripts::{ADDERS, EIGHT, FAILED, FIRST_OF_A, LAST_FAILS, ONE, SEVEN, code_and_deal};
 use directive::Directive;
 use directive_run::{Certified, CertifyRow, Exposed, certify, expose};
 use pct_ask::{Outcome, Verdict};
@@ -91,6 +91,21 @@ fn refutes_another_thread(rt: HostRuntime) -> Result<(), Fail> {
         Certified::Refuted { order, verdict } => {
             assert!(rt; order.as_slice() == [1, 0, 2].as_slice());
             assert_eq!(rt; verdict, Verdict::Passed);
+        }
+        _ => assert!(rt; false),
+    }
+    Ok(())
+}
+
+// The fifth order decides, which is neither the first nor the last of its batch.
+#[test]
+fn refutes_within_a_batch(rt: HostRuntime) -> Result<(), Fail> {
+    let alloc = rt.alloc();
+    let told = directive(alloc, 3, &[], Verdict::Passed)?;
+    match certified(&rt, alloc, LAST_FAILS, &told, 8, 10_000)? {
+        Certified::Refuted { order, verdict } => {
+            assert!(rt; order.as_slice() == [1, 2, 0, 3].as_slice());
+            assert_eq!(rt; verdict, Verdict::Failed { thread: 0, line: 5 });
         }
         _ => assert!(rt; false),
     }

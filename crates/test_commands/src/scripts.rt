@@ -28,6 +28,13 @@ pub(crate) const FIRST_OF_A: Moment = Moment {
     number: 1,
 };
 
+/// The first thread fails where it comes after both of the two that add to x.
+pub(crate) const LAST_FAILS: &[u8] = b"script 1\nvar x = 0\n\
+    thread A\n  read r0 x\n  assert r0 < 2\nend\n\
+    thread B\n  add r0 x 1\nend\n\
+    thread C\n  add r0 x 1\nend\n\
+    thread D\nend\n";
+
 /// No thread of these does anything.
 pub(crate) const ONE: &[u8] = b"script 1\nthread A\nend\n";
 

@@ -1,31 +1,64 @@
--- The orders come one after another, and each is led to the verdict or is the answer.
-use Rattle.std.proofs.Common.{◌*◌, ◌^◌, length, sym, subst, ap, ◌∙◌, arith}
-use Rattle.rank_now.specs.Order.{IsOrder}
+-- The batches come one after another, until the orders are all led to the verdict or one decides.
+use Rattle.std.proofs.Common.{◌≡◌, ◌+◌, ◌-◌, ◌*◌, ◌^◌, ◌≤◌, min, length, ap, ◌∙◌, arith}
+use Rattle.std.proofs.Math.Nat.{le-min, min-le_left, min-le_right}
 use Rattle.script_body.specs.Bodies.{bodies_of}
-use Rattle.directive_run.proofs.Certificates.{low-at, refuted, too-long-under, next-row, all-rows, certified}
+use Rattle.directive_run.specs.Tested.{DirectedSetup}
+use Rattle.directive_run.proofs.Certificates.{all-rows, certified}
+use Rattle.directive_run.proofs.Decided.{decided, undecided}
 use Rattle.directive_run.proofs.certifying.certify.Goals as goal
 
-pub test_order-requires-clause-order : goal.test_order-requires-clause-order
-test_order-requires-clause-order g c κs within =
-    subst IsOrder (sym c.as_slice-order_slice.ensures) (low-at c.args.deal.now.threads c.args.directive.now.low c.loop-place.place c.in_ok-order.order c.requires.low c.in_ok-order.ensures).is_order
+pub batches-preserved : goal.batches-preserved
+batches-preserved g c =
+    let script = c.requires.script in
+    let setup : DirectedSetup = record {
+      deal = c.args.deal.now;
+      bodies = bodies_of script.0;
+      directive = c.args.directive.now;
+      steps = c.args.steps;
+      limit = c.args.limit;
+    } in
+    let at = c.batches.invariant in
+    let tried = c.in_ok-certified.ensures in
+    let left = c.factorial-total.result - c.batches.end in
+    let most = c.batch_size-most.result in
+    let twice = 2 * c.batches.size in
+    let step : c.min-end.result ≡ min c.batches.size left = c.min-end.ensures in
+    let next : c.min-size.result ≡ min most twice = c.min-size.ensures in
+    let double : 1 ≤ twice = omega (arith, at.some) in
+    let some : 1 ≤ min most twice = le-min c.batch_size-most.ensures.some double in
+    record {
+      within = omega (arith, at.within, step, min-le_right c.batches.size left);
+      some = omega (arith, next, some);
+      few = omega (arith, next, min-le_left most twice);
+      long = undecided setup c.try_orders.new.rows (c.batches.end + c.min-end.result)
+          c.in_ok-certified.field-0 c.in_default.is (tried.answer script.0 script.1);
+      rows = tried.rows;
+    }
 
-pub test_order-requires-clause-whole : goal.test_order-requires-clause-whole
-test_order-requires-clause-whole g c κs within =
-    ap length c.as_slice-order_slice.ensures ∙ (low-at c.args.deal.now.threads c.args.directive.now.low c.loop-place.place c.in_ok-order.order c.requires.low c.in_ok-order.ensures).whole
-
-pub returns-in-Other : goal.returns-in-Other
-returns-in-Other g c = λ script of.
-    refuted c.args.deal.now (bodies_of script) c.args.directive.now c.args.steps c.args.limit c.loop-place.rows c.loop-place.place c.in_ok-order.order c.as_slice-order_slice.result.now c.in_ok-points.field-0 c.in-Other.verdict c.requires.low (omega (arith, c.if-threads-gt-MOST_THREADS.false)) c.in_ok-order.ensures (c.loop-place.invariant script of) c.as_slice-order_slice.ensures (c.in_ok-points.ensures script of) c.in-Other.is
-
-pub returns-in-TooLong : goal.returns-in-TooLong
-returns-in-TooLong g c = λ script of.
-    too-long-under c.args.deal.now (bodies_of script) c.args.directive.now c.args.steps c.args.limit c.loop-place.rows c.loop-place.place c.in_ok-order.order c.as_slice-order_slice.result.now c.in_ok-points.field-0 c.in-TooLong.steps c.requires.low (omega (arith, c.if-threads-gt-MOST_THREADS.false)) c.in_ok-order.ensures (c.loop-place.invariant script of) c.as_slice-order_slice.ensures (c.in_ok-points.ensures script of) c.in-TooLong.is
-
-pub loop-place-preserved : goal.loop-place-preserved
-loop-place-preserved g c = λ script of.
-    next-row c.args.deal.now (bodies_of script) c.args.directive.now c.args.steps c.args.limit c.loop-place.rows c.try_push.new.self c.loop-place.place c.in_ok-order.order c.as_slice-order_slice.result.now c.in-Led.points c.in_ok-points.field-0 c.in_ok-order.ensures (c.loop-place.invariant script of) c.as_slice-order_slice.ensures (c.in_ok-points.ensures script of) c.in-Led.is c.in_ok-try_push-in-Led.ensures.ok
+pub returns-in-Some : goal.returns-in-Some
+returns-in-Some g c = λ script of.
+    let setup : DirectedSetup = record {
+      deal = c.args.deal.now;
+      bodies = bodies_of script;
+      directive = c.args.directive.now;
+      steps = c.args.steps;
+      limit = c.args.limit;
+    } in
+    decided setup c.try_orders.new.rows (c.batches.end + c.min-end.result)
+    c.in_ok-certified.field-0 c.in-Some.certified c.in-Some.is
+    (c.in_ok-certified.ensures.answer script of)
 
 pub returns : goal.returns
 returns g c = λ script of.
-    let rows = all-rows c.args.deal.now (bodies_of script) c.args.directive.now c.args.steps c.args.limit c.loop-place.rows c.loop-place.place c.requires.low (omega (arith, c.factorial-place-end.ensures, c.loop-place-test.false)) (c.loop-place.invariant script of) in
-    certified c.args.deal.now (bodies_of script) c.args.directive.now c.args.steps c.args.limit c.requires.low c.loop-place.rows c.bound_of-bound.result c.requires.some_steps (omega (arith, c.if-threads-gt-MOST_THREADS.false)) rows (c.bound_of-bound.ensures ∙ ap (λ n. c.args.deal.now.threads * c.args.steps ^ n) c.len.ensures)
+    let deal = c.args.deal.now in
+    let directive = c.args.directive.now in
+    let few : deal.threads ≤ 7 = omega (arith, c.if-threads-gt-MOST_THREADS.false) in
+    let at = c.batches.invariant in
+    let rows =
+    all-rows deal (bodies_of script) directive c.args.steps c.args.limit c.batches.rows
+    (length c.batches.rows) c.requires.low
+    (omega (arith, c.factorial-total.ensures, c.batches-test.false, at.long))
+    (at.rows script of) in
+    certified deal (bodies_of script) directive c.args.steps c.args.limit c.requires.low
+    c.batches.rows c.bound_of-bound.result c.requires.some_steps few rows
+    (c.bound_of-bound.ensures ∙ ap (λ n. deal.threads * c.args.steps ^ n) c.len.ensures)

@@ -1,0 +1,58 @@
+-- The directed run is too long, has another verdict, or is the run of its moments' points.
+use Rattle.std.proofs.Common.{◌≡◌, ◌≢◌, true, false, refl, ap, ◌∙◌, arith}
+use Rattle.turn_book.specs.Posts.{schedule_of}
+use Rattle.directive_run.specs.Points.{points_of}
+use Rattle.directive_run.specs.Tested.{directed_setup, run_of_order}
+use Rattle.directive_run.proofs.Exposure.{too-long}
+use Rattle.directive_run.proofs.Certificates.{pointed, other}
+use Rattle.directive_run.proofs.OrderRuns.{ended-run}
+use Rattle.directive_run.proofs.judging.test_run.Goals as goal
+
+pub verdict-verdict-requires : goal.verdict-verdict-requires
+verdict-verdict-requires c = let run = c.requires.run.2.run in (run.verdict, run.ends)
+
+pub returns-then-many-task : goal.returns-then-many-task
+returns-then-many-task c = λ script order is.
+    let setup = directed_setup script c.args.task.now in
+    let events = setup.directive.events in
+    let made = c.args.played.now.events in
+    let verdict = c.verdict-verdict.result in
+    let ran =
+    ended-run (run_of_order setup order) made c.args.played.now.outcome verdict is.run
+    c.verdict-verdict.ensures in
+    too-long setup.deal setup.bodies order events events setup.steps setup.limit c.len-many.result
+    made verdict refl ran c.len-many.ensures c.if-many-task.true
+
+pub returns-then-not-is : goal.returns-then-not-is
+returns-then-not-is c = λ script order is.
+    let setup = directed_setup script c.args.task.now in
+    let events = setup.directive.events in
+    let made = c.args.played.now.events in
+    let verdict = c.verdict-verdict.result in
+    let ran =
+    ended-run (run_of_order setup order) made c.args.played.now.outcome verdict is.run
+    c.verdict-verdict.ensures in
+    let apart : verdict ≢ setup.directive.verdict = λ same.
+    let yes : c.is.result ≡ true = c.is.ensures.1 same in
+    let no : c.is.result ≡ false = c.if-not-is.true in
+    cc in
+    other setup.deal setup.bodies order events events setup.directive.verdict verdict setup.steps
+    setup.limit made refl ran apart
+    (omega (arith, c.len-many.ensures, c.if-many-task.false))
+
+pub returns : goal.returns
+returns c = λ script order is.
+    let setup = directed_setup script c.args.task.now in
+    let events = setup.directive.events in
+    let made = c.args.played.now.events in
+    let verdict = c.verdict-verdict.result in
+    let moments = c.as_slice-moments.result.now in
+    let ran =
+    ended-run (run_of_order setup order) made c.args.played.now.outcome verdict is.run
+    c.verdict-verdict.ensures in
+    pointed setup.deal setup.bodies order events events setup.directive.verdict verdict setup.steps
+    setup.limit made c.in_ok-points_of.field-0 refl ran (c.is.ensures.0 c.if-not-is.false)
+    (omega (arith, c.len-many.ensures, c.if-many-task.false))
+    (c.in_ok-points_of.ensures
+    ∙ ap (λ es. points_of (schedule_of es) setup.steps moments) c.as_slice.ensures
+    ∙ ap (points_of (schedule_of made) setup.steps) c.as_slice-moments.ensures)
