@@ -11,7 +11,8 @@ use Rattle.pct_ask.specs.declared.verdict_text.VerdictRead.{VerdictRead}
 use Rattle.pct_ask.specs.declared.verdict_text.VerdictRead.TheVariants.{Is, NoForm, UnknownName}
 use Rattle.pct_ask.specs.VerdictWords.{words_of}
 use Rattle.trace_text.specs.Lawful.{is_of_second}
-use Rattle.trace_text.specs.reader.Numbers.{value_of, natural_of, count_of}
+use Rattle.pct_ask.specs.VerdictWords.{line_number}
+use Rattle.trace_text.specs.reader.Numbers.{value_of, natural_of}
 use Rattle.trace_text.specs.reader.Asks.{object, ask_on_three}
 use Rattle.trace_text.specs.reader.StepLines.{tells_reads, end_of, event_of, step_of, step_of_words, row_of}
 use Rattle.trace_text.specs.reader.Seen.{seen}
@@ -48,11 +49,19 @@ end-verdict version text read verdict is apart = rw (is, other-version version a
 
 -- ---- the words of a step
 
-pub step-unanswered : (names : NameLists) (number thread line : List ℕ) (ask : Option (Option Ask)) (sign answer : List ℕ) (n : ℕ) (t : Option ℕ) (l : ℕ) (a : Option Ask) → natural_of number ≡ Some n → object names Thread thread ≡ Some t → count_of 1 4096 line ≡ Some l → ask ≡ Some a → bytes_eq sign (codes "=") ≡ true → value_of answer ≡ None → step_of names number thread line ask sign answer ≡ None
+pub step-unanswered : (names : NameLists) (number thread line : List ℕ) (ask : Option (Option Ask))
+    (sign answer : List ℕ) (n : ℕ) (t : Option ℕ) (l : ℕ) (a : Option Ask)
+    → natural_of number ≡ Some n → object names Thread thread ≡ Some t → line_number line ≡ Some l
+    → ask ≡ Some a → bytes_eq sign (codes "=") ≡ true → value_of answer ≡ None
+    → step_of names number thread line ask sign answer ≡ None
 unfolding step_of
 step-unanswered names number thread line ask sign answer n t l a p q r s u v = rw (p, q, r, s, u, v)
 
-pub step-whole : (names : NameLists) (number thread line : List ℕ) (ask : Option (Option Ask)) (sign answer : List ℕ) (n : ℕ) (t : Option ℕ) (l : ℕ) (a : Option Ask) (v : ℤ) → natural_of number ≡ Some n → object names Thread thread ≡ Some t → count_of 1 4096 line ≡ Some l → ask ≡ Some a → bytes_eq sign (codes "=") ≡ true → value_of answer ≡ Some v → step_of names number thread line ask sign answer ≡ Some (Step n (event_of t l a v))
+pub step-whole : (names : NameLists) (number thread line : List ℕ) (ask : Option (Option Ask))
+    (sign answer : List ℕ) (n : ℕ) (t : Option ℕ) (l : ℕ) (a : Option Ask) (v : ℤ)
+    → natural_of number ≡ Some n → object names Thread thread ≡ Some t → line_number line ≡ Some l
+    → ask ≡ Some a → bytes_eq sign (codes "=") ≡ true → value_of answer ≡ Some v
+    → step_of names number thread line ask sign answer ≡ Some (Step n (event_of t l a v))
 unfolding step_of
 step-whole names number thread line ask sign answer n t l a v p q r s u w = rw (p, q, r, s, u, w)
 

@@ -12,7 +12,9 @@ use Rattle.pct_ask.specs.declared.names.NameKind.TheVariants.{Thread}
 use Rattle.pct_ask.specs.declared.ask.Ask.{Ask}
 use Rattle.pct_ask.specs.declared.event.Event.{Event}
 use Rattle.pct_ask.proofs.laws.SplitWords.{join-words_of}
-use Rattle.trace_text.specs.reader.Numbers.{value_of, natural_of, count_of}
+use Rattle.pct_ask.specs.VerdictWords.{line_number}
+use Rattle.pct_ask.proofs.laws.Decimals.{number_in-decimal, number_in-Some}
+use Rattle.trace_text.specs.reader.Numbers.{value_of, natural_of}
 use Rattle.trace_text.specs.reader.Asks.{object}
 use Rattle.trace_text.specs.reader.StepLines.{event_of, step_of_parts, step_of, step_of_words, end_of, row_of}
 use Rattle.trace_text.specs.Forms.{AskForm, words_of_ask, words_of_form, IsOf, HasUnknown, AsksUnknown, IsUndeclared}
@@ -20,7 +22,7 @@ use Rattle.trace_text.specs.Forms as forms
 use Rattle.trace_text.specs.declared.row.Row.TheVariants.{Step}
 use Rattle.trace_text.proofs.Values.{value_of-Some, Some-value_of}
 use Rattle.trace_text.proofs.AskWords.{ask_in}
-use Rattle.trace_text.proofs.StepWords.{natural-decimal, decimal-natural, count-decimal, decimal-count, step_words, read-words}
+use Rattle.trace_text.proofs.StepWords.{natural-decimal, decimal-natural, step_words, read-words}
 use Rattle.trace_text.proofs.Ends.{row-step}
 use Rattle.trace_text.proofs.Rows.{end-no-step, digit-first}
 use Rattle.trace_text.proofs.AskForms.{object-inv, object-lawful, ask-form, ask-read, few-ask_words}
@@ -89,10 +91,11 @@ step-spelled number thread line sign answer n l v ask asked p q r s t = rw (p, q
 form-parts : (names : NameLists) (version : ℕ) (number thread line : List ℕ) (ask : List (List ℕ)) (sign answer : List ℕ) (n : ℕ) (event : Option Event) → 1 ≤ version → step_of names number thread line (ask_in names version ask) sign answer ≡ Some (Step n event) → IsStepWords names version (step_words number thread line ask sign answer) n event
 unfolding step_of
 form-parts names version number thread line ask sign answer n event some h =
-    let p = parts-inv (natural_of number) (object names Thread thread) (count_of 1 4096 line) (ask_in names version ask) (bytes_eq sign (codes "=")) (value_of answer) n event h in
+    let p = parts-inv (natural_of number) (object names Thread thread) (line_number line)
+    (ask_in names version ask) (bytes_eq sign (codes "=")) (value_of answer) n event h in
     let number_is = natural-decimal number n p.number_is in
     let thread_is = object-inv names Thread thread p.t p.thread_is in
-    let line_is = count-decimal 1 4096 line p.l p.line_is in
+    let line_is = number_in-Some 1 4096 p.l line p.line_is in
     let ask_is = ask-form names version ask p.a some p.ask_is in
     let sign_is = (bytes_eq-Decides sign (codes "=")).0 p.sign_is in
     let answer_is = Some-value_of answer p.v p.answer_is in
@@ -101,8 +104,10 @@ form-parts names version number thread line ask sign answer n event some h =
       line = p.l;
       ask = ask_is.ask;
       answer = p.v;
-      words_are = step-spelled number thread line sign answer (decimal n) (decimal p.l) (number_text p.v) ask (words_of_ask ask_is.ask) number_is.0 line_is.0 ask_is.words_are sign_is answer_is.0;
-      of = (number_is.1, thread_is.0, (line_is.1, line_is.2), ask_is.of, answer_is.1);
+      words_are = step-spelled number thread line sign answer (decimal n) (decimal p.l)
+          (number_text p.v) ask (words_of_ask ask_is.ask) number_is.0 line_is.2 ask_is.words_are
+          sign_is answer_is.0;
+      of = (number_is.1, thread_is.0, (line_is.0, line_is.1), ask_is.of, answer_is.1);
       unknown = λ none. unknown-by names thread ask_is.ask p.t p.a thread_is.1 ask_is.unknown (event-lost p.t p.l p.a p.v event p.event_is none);
     }
 
@@ -154,7 +159,13 @@ step-read names version text n thread line ask answer which words of =
       is = row-step names version text (no-verdict n (decimal line ∷ (words_of_ask ask ++ codes "=" ∷ number_text answer ∷ [])) thread text of.0 words)
           ∙ ap (step_of_words names version) words
           ∙ read-words names version (decimal n) thread (decimal line) (words_of_ask ask) (codes "=") (number_text answer) (few-ask_words ask)
-          ∙ rw (decimal-natural n of.0, object-lawful names Thread thread of.1, decimal-count 1 4096 line of.2.0 of.2.1 (omega arith), asked.is, value_of-Some answer of.4);
+          ∙ rw (
+            decimal-natural n of.0,
+            object-lawful names Thread thread of.1,
+            number_in-decimal 1 4096 line (decimal line) of.2.0 of.2.1 (omega arith) refl,
+            asked.is,
+            value_of-Some answer of.4,
+          );
       unknown = λ none. lost-event (place_of thread names.threads) line asked.read answer (by asked.read asked.unknown none);
     }
   where
