@@ -1,4 +1,4 @@
-ghost use Rattle.std.specs.Prelude.{◌≡◌, ◌≤◌, ◌*◌, length, map, Some, IfOk};
+ghost use Rattle.std.specs.Prelude.{◌≡◌, ◌≤◌, ◌*◌, map, Some, IfOk};
 ghost use Rattle.script_tree.specs.ScriptText.{ScriptText};
 ghost use Rattle.script_code.specs.Listing.{listing};
 ghost use Rattle.script_body.specs.Bodies.{bodies_of, AreOf};
@@ -17,8 +17,8 @@ use std::thread::Threads;
 /// them before it begins, some 40 bytes a step as measured, so a batch takes some 25 MiB at most.
 const MOST_STEPS: u32 = 640_000;
 
-/// The most runs of a batch. 2,000 seeds of a bounded buffer took 0.35 seconds of processor time one
-/// by one, 0.14 in batches of 16 runs, 0.12 of 64 or 128, and 0.13 of 256.
+/// The most runs of a batch. 2,000 seeds of a bounded buffer took 0.35 seconds of processor time
+/// one by one, 0.14 in batches of 16 runs, 0.12 of 64 or 128, and 0.13 of 256.
 const MOST_RUNS: u32 = 64;
 
 /// How many runs of such a limit a batch has.

@@ -1,5 +1,5 @@
 // The threads of the queue, as bodies.
-ghost use Rattle.std.specs.Prelude.{◌≡◌, pos};
+ghost use Rattle.std.specs.Prelude.{◌≡◌};
 
 use pct_ask::{Ask, Body, Post};
 
@@ -31,7 +31,7 @@ pub struct Worker {
 
 impl Worker {
     ghost use Rattle.kit_example.specs.Queue.{taker, putter, ask_at, line_at, step_after};
-    ghost use Rattle.kit_example.specs.Queue.{left_after, worker_after};
+    ghost use Rattle.kit_example.specs.Queue.{left_after};
 
     /// Takes one item.
     pub fn taker(filled: u32, emptied: u32) -> Worker

@@ -1,9 +1,10 @@
 -- What a call does to the streams, from what comes of its words.
-use Rattle.std.proofs.Common.{◌≡◌, ℕ, List, [], ◌∷◌, inl, inr, Option, Some, Result, Ok, Err, refl, sym, subst, ap, ◌∙◌}
+use Rattle.std.proofs.Common.{◌≡◌, ℕ, List, [], inl, inr, Some, Result, Ok, Err, refl, sym, subst}
 use Rattle.pct_outside.specs.Piece.{Appended, AppendedPart}
 use Rattle.pct_outside.proofs.laws.Pieces.{Appended-nil, AppendedPart-nil}
 use Rattle.pct_top.specs.declared.refusal.Refusal.{Refusal}
-use Rattle.pct_top.specs.declared.refusal.Refusal.TheVariants.{Usage, Script, Trace, Directive, Read, Write, Memory}
+use Rattle.pct_top.specs.declared.refusal.Refusal.TheVariants.{Usage, Script, Trace, Directive}
+use Rattle.pct_top.specs.declared.refusal.Refusal.TheVariants.{Read, Write, Memory}
 use Rattle.pct_top.specs.declared.settings.Settings.{Settings}
 use Rattle.pct_top.specs.declared.outcome.Outcome.{Outcome}
 use Rattle.pct_top.specs.declared.status.Status.{Status}
@@ -15,14 +16,18 @@ use Rattle.pct_top.specs.Printed.{Files, Printed, refused}
 use Rattle.pct_top.specs.Output.{OfTaken, Output}
 use Rattle.pct_top.specs.Outcome.{printed_of, Shows, Comes}
 use Rattle.pct_top.specs.Outside.{ShelfTold, StreamTold, Outside}
-use Rattle.pct_top.specs.Call.{IsAnswer, PrintsOne, PutsAll, PutsOutcome, RefusedFirst, ReadFailed, ReadsScript, ReadsSecond, Answers, RefusedWords, CanRun, Completes, PrintsAll, Prints, IsExact, PrintsWhole, Refuses, Ends, IsCall}
+use Rattle.pct_top.specs.Call.{IsAnswer, PrintsOne, PutsAll, PutsOutcome, RefusedFirst, ReadFailed}
+use Rattle.pct_top.specs.Call.{Answers, RefusedWords, CanRun, Completes, PrintsAll, IsExact}
+use Rattle.pct_top.specs.Call.{PrintsWhole, Refuses, Ends, IsCall}
 use Rattle.pct_top.proofs.OneReport.{told_answers}
 use Rattle.pct_top.proofs.OnePrinted.{one_printed, printed_answers}
 
 -- ---- what is put
 
 module _ (taken : Taken) (shelf shelf' : ShelfTold) where
-  pub answers_refused : (stream : StreamTold) (refusal : Refusal) → Comes (OfTaken taken) shelf.files (ReadFailed taken shelf shelf') (Err refusal) → Answers taken shelf shelf' stream stream (Err refusal)
+  pub answers_refused : (stream : StreamTold) (refusal : Refusal)
+      → Comes (OfTaken taken) shelf.files (ReadFailed taken shelf shelf') (Err refusal)
+      → Answers taken shelf shelf' stream stream (Err refusal)
   answers_refused stream (Usage word) h = (refl, h)
   answers_refused stream (Script line kind) h = (refl, h)
   answers_refused stream (Trace line kind) h = (refl, h)
@@ -31,33 +36,48 @@ module _ (taken : Taken) (shelf shelf' : ShelfTold) where
   answers_refused stream Write h = absurd h
   answers_refused stream Memory h = inl refl
 
-  pub answers_put : (before after : StreamTold) (outcome : Outcome) (r : Result Status Refusal) → Shows (OfTaken taken) shelf.files (printed_of outcome) → PutsOutcome (printed_of outcome) before after r → Answers taken shelf shelf' before after r
-  answers_put before after outcome (Ok status) h p = (subst IsAnswer (sym p.1) (told_answers outcome.text.items outcome.done), λ files e. (printed_of outcome, h files e, p))
+  pub answers_put : (before after : StreamTold) (outcome : Outcome) (r : Result Status Refusal)
+      → Shows (OfTaken taken) shelf.files (printed_of outcome)
+      → PutsOutcome (printed_of outcome) before after r → Answers taken shelf shelf' before after r
+  answers_put before after outcome (Ok status) h p = (
+    subst IsAnswer (sym p.1) (told_answers outcome.text.items outcome.done),
+    λ files e. (printed_of outcome, h files e, p),
+  )
   answers_put before after outcome (Err (Usage word)) h p = absurd p
   answers_put before after outcome (Err (Script line kind)) h p = absurd p
   answers_put before after outcome (Err (Trace line kind)) h p = absurd p
   answers_put before after outcome (Err (Directive line kind)) h p = absurd p
   answers_put before after outcome (Err Read) h p = absurd p
-  answers_put before after outcome (Err Write) h p = (p.0, λ files e. (printed_of outcome, h files e, (refl, p.1)))
-  answers_put before after outcome (Err Memory) h p = inr (λ files e. (printed_of outcome, h files e, (refl, p)))
+  answers_put before after outcome (Err Write) h p =
+      (p.0, λ files e. (printed_of outcome, h files e, (refl, p.1)))
+  answers_put before after outcome (Err Memory) h p =
+      inr (λ files e. (printed_of outcome, h files e, (refl, p)))
 
 -- the words were read as these settings
-pub answers_taken : (taken : Taken) (asked : Settings) (shelf shelf' : ShelfTold) (before after : StreamTold) (r : Result Status Refusal) → ReadsAs (Ok asked) taken → Answers (Ok asked) shelf shelf' before after r → Answers taken shelf shelf' before after r
-answers_taken taken asked shelf shelf' before after r reads h = subst (λ (t : Taken). Answers t shelf shelf' before after r) (sym reads) h
+pub answers_taken : (taken : Taken) (asked : Settings) (shelf shelf' : ShelfTold)
+    (before after : StreamTold) (r : Result Status Refusal) → ReadsAs (Ok asked) taken
+    → Answers (Ok asked) shelf shelf' before after r → Answers taken shelf shelf' before after r
+answers_taken taken asked shelf shelf' before after r reads h =
+    subst (λ (t : Taken). Answers t shelf shelf' before after r) (sym reads) h
 
-pub answers_untaken : (taken : Taken) (word : ℕ) (shelf : ShelfTold) (stream : StreamTold) → taken ≡ Err word → Answers taken shelf shelf stream stream (Err (Usage word))
-answers_untaken taken word shelf stream is = (refl, λ files e. subst (λ (t : Taken). OfTaken t files (refused (Usage word))) (sym is) refl)
+pub answers_untaken : (taken : Taken) (word : ℕ) (shelf : ShelfTold) (stream : StreamTold)
+    → taken ≡ Err word → Answers taken shelf shelf stream stream (Err (Usage word))
+answers_untaken taken word shelf stream is =
+    (refl, λ files e. subst (λ (t : Taken). OfTaken t files (refused (Usage word))) (sym is) refl)
 
 -- ---- words that aren't taken
 
-pub refused_not : (taken : Taken) (asked : Settings) (r : Result Status Refusal) → ReadsAs (Ok asked) taken → RefusedFirst taken r
+pub refused_not : (taken : Taken) (asked : Settings) (r : Result Status Refusal)
+    → ReadsAs (Ok asked) taken → RefusedFirst taken r
 refused_not taken asked r reads = subst (λ (t : Taken). RefusedFirst t r) (sym reads) tt
 
-refused_ran : (taken : Taken) (status : Status) → RefusedFirst taken (Ok status) → RefusedWords taken status
+refused_ran : (taken : Taken) (status : Status) → RefusedFirst taken (Ok status)
+    → RefusedWords taken status
 refused_ran (Ok asked) status h = tt
 refused_ran (Err number) status h = absurd h
 
-refused_said : (taken : Taken) (refusal : Refusal) → RefusedFirst taken (Err refusal) → RefusedWords taken (status_of_refusal refusal)
+refused_said : (taken : Taken) (refusal : Refusal) → RefusedFirst taken (Err refusal)
+    → RefusedWords taken (status_of_refusal refusal)
 refused_said (Ok asked) refusal h = tt
 refused_said (Err number) (Usage word) h = tt
 refused_said (Err number) (Script line kind) h = absurd h
@@ -76,16 +96,22 @@ module _ (words : List (List ℕ)) (found left : Outside) where
   abbrev Is : Result Status Refusal → Type 0
   Is r = Answers taken found.shelf left.shelf found.output left.output r
 
-  says_nothing : (line : List ℕ) → line ≡ [] → left.errors ≡ found.errors → Says line found.errors left.errors
+  says_nothing : (line : List ℕ) → line ≡ [] → left.errors ≡ found.errors
+      → Says line found.errors left.errors
   says_nothing line none same =
       let P : StreamTold → Type 0 = λ s. Says line found.errors s in
-      subst P (sym same) (inl (subst (λ l. Appended l (found.errors).written (found.errors).written) (sym none) (Appended-nil (found.errors).written)))
+      subst P (sym same) (inl (subst (λ l. Appended l (found.errors).written (found.errors).written)
+      (sym none) (Appended-nil (found.errors).written)))
 
-  whole : (status : Status) → left.errors ≡ found.errors → PrintsOne taken (found.shelf).files (PutsAll found.output left.output status) → PrintsWhole words found left status
-  whole status same p = λ files e. let q = p files e in (q.0, q.1, (q.2.1, q.2.0, says_nothing (q.0).err q.2.2 same))
+  whole : (status : Status) → left.errors ≡ found.errors
+      → PrintsOne taken (found.shelf).files (PutsAll found.output left.output status)
+      → PrintsWhole words found left status
+  whole status same p = λ files e. let q = p files e in
+      (q.0, q.1, (q.2.1, q.2.0, says_nothing (q.0).err q.2.2 same))
 
   -- a command was carried out, and nothing was said
-  ends_ran : (status : Status) → left.errors ≡ found.errors → Is (Ok status) → Ends words found left status
+  ends_ran : (status : Status) → left.errors ≡ found.errors → Is (Ok status)
+      → Ends words found left status
   ends_ran statuses.Done same p = (same, whole statuses.Done same p.1)
   ends_ran statuses.Found same p = (same, whole statuses.Found same p.1)
   ends_ran statuses.Usage same p = absurd p.0
@@ -96,14 +122,23 @@ module _ (words : List (List ℕ)) (found left : Outside) where
   ends_ran statuses.WriteFault same p = absurd p.0
   ends_ran statuses.NoMemory same p = absurd p.0
 
-  put_nothing : left.output ≡ found.output → Appended [] (found.output).written (left.output).written
-  put_nothing same = subst (λ (s : StreamTold). Appended [] (found.output).written s.written) (sym same) (Appended-nil (found.output).written)
+  put_nothing : left.output ≡ found.output
+      → Appended [] (found.output).written (left.output).written
+  put_nothing same =
+      subst (λ (s : StreamTold). Appended [] (found.output).written s.written) (sym same)
+      (Appended-nil (found.output).written)
 
-  refuses : (refusal : Refusal) → left.output ≡ found.output → Shows (OfTaken taken) (found.shelf).files (refused refusal) → Says (refusal_line refusal) found.errors left.errors → Refuses words found left (status_of_refusal refusal)
-  refuses refusal same shows says = (same, λ files e. (refused refusal, shows files e, (refl, put_nothing same, says)))
+  refuses : (refusal : Refusal) → left.output ≡ found.output
+      → Shows (OfTaken taken) (found.shelf).files (refused refusal)
+      → Says (refusal_line refusal) found.errors left.errors
+      → Refuses words found left (status_of_refusal refusal)
+  refuses refusal same shows says =
+      (same, λ files e. (refused refusal, shows files e, (refl, put_nothing same, says)))
 
   -- there is no whole output, and this was said
-  ends_said : (refusal : Refusal) → Is (Err refusal) → Says (refusal_line refusal) found.errors left.errors → Ends words found left (status_of_refusal refusal)
+  ends_said : (refusal : Refusal) → Is (Err refusal)
+      → Says (refusal_line refusal) found.errors left.errors
+      → Ends words found left (status_of_refusal refusal)
   ends_said (Usage word) p says = refuses (Usage word) p.0 p.1 says
   ends_said (Script line kind) p says = refuses (Script line kind) p.0 p.1 says
   ends_said (Trace line kind) p says = refuses (Trace line kind) p.0 p.1 says
@@ -114,11 +149,17 @@ module _ (words : List (List ℕ)) (found left : Outside) where
 
   -- ---- what is printed is all that may be
 
-  exact_whole : (status : Status) → PrintsWhole words found left status → (files : Files) → (found.shelf).files ≡ Some files → (printed : Printed) → Output words files printed → PrintsAll found left status printed
-  exact_whole status h files is printed may = let q = h files is in subst (PrintsAll found left status) (one_printed taken files q.0 printed q.1 may) q.2
+  exact_whole : (status : Status) → PrintsWhole words found left status → (files : Files)
+      → (found.shelf).files ≡ Some files → (printed : Printed) → Output words files printed
+      → PrintsAll found left status printed
+  exact_whole status h files is printed may = let q = h files is in
+      subst (PrintsAll found left status) (one_printed taken files q.0 printed q.1 may) q.2
 
-  part : (has : Printed → Type 0) → PrintsOne taken (found.shelf).files has → (files : Files) → (found.shelf).files ≡ Some files → (printed : Printed) → Output words files printed → has printed
-  part has h files is printed may = let q = h files is in subst has (one_printed taken files q.0 printed q.1 may) q.2
+  part : (has : Printed → Type 0) → PrintsOne taken (found.shelf).files has → (files : Files)
+      → (found.shelf).files ≡ Some files → (printed : Printed) → Output words files printed
+      → has printed
+  part has h files is printed may = let q = h files is in
+      subst has (one_printed taken files q.0 printed q.1 may) q.2
 
   exact : (status : Status) → Ends words found left status → IsExact words found left status
   exact statuses.Done h = exact_whole statuses.Done h.1
@@ -130,37 +171,58 @@ module _ (words : List (List ℕ)) (found left : Outside) where
   exact statuses.ReadFault h = λ files is printed may. h.0
   exact statuses.WriteFault h = λ files is printed may. (part _ h.1 files is printed may).1
   exact statuses.NoMemory h = λ files is printed may. elim h.0 [
-    | inl same ↦ subst (λ (s : StreamTold). AppendedPart printed.out (found.output).written s.written) (sym same) (AppendedPart-nil printed.out (found.output).written)
+    | inl same ↦ subst (λ (s : StreamTold).
+        AppendedPart printed.out (found.output).written s.written) (sym same)
+        (AppendedPart-nil printed.out (found.output).written)
     | inr some ↦ (part _ some files is printed may).1
   ]
 
   -- ---- what can run does
 
-  made : (status : Status) → PrintsWhole words found left status → (files : Files) → (found.shelf).files ≡ Some files → CanRun taken files → IsAnswer status
-  made status h files is can = let q = h files is in subst IsAnswer (sym q.2.0) (printed_answers taken files q.0 can q.1)
+  made : (status : Status) → PrintsWhole words found left status → (files : Files)
+      → (found.shelf).files ≡ Some files → CanRun taken files → IsAnswer status
+  made status h files is can = let q = h files is in
+      subst IsAnswer (sym q.2.0) (printed_answers taken files q.0 can q.1)
 
   completes : (status : Status) → Ends words found left status → Completes words found left status
   completes statuses.Done h = λ files is can unread unfaulted. inl tt
   completes statuses.Found h = λ files is can unread unfaulted. inl tt
-  completes statuses.Usage h = λ files is can unread unfaulted. inl (made statuses.Usage h.1 files is can)
-  completes statuses.BadScript h = λ files is can unread unfaulted. inl (made statuses.BadScript h.1 files is can)
-  completes statuses.BadTrace h = λ files is can unread unfaulted. inl (made statuses.BadTrace h.1 files is can)
-  completes statuses.BadDirective h = λ files is can unread unfaulted. inl (made statuses.BadDirective h.1 files is can)
-  completes statuses.ReadFault h = λ files is can unread unfaulted. let read = h.1 in absurd (elim read.2 [
-    | inl script ↦ unread read.0 (inl script) read.1
-    | inr second ↦ unread read.0 (inr second.0) read.1
-  ])
+  completes statuses.Usage h =
+      λ files is can unread unfaulted. inl (made statuses.Usage h.1 files is can)
+  completes statuses.BadScript h =
+      λ files is can unread unfaulted. inl (made statuses.BadScript h.1 files is can)
+  completes statuses.BadTrace h =
+      λ files is can unread unfaulted. inl (made statuses.BadTrace h.1 files is can)
+  completes statuses.BadDirective h =
+      λ files is can unread unfaulted. inl (made statuses.BadDirective h.1 files is can)
+  completes statuses.ReadFault h = λ files is can unread unfaulted. let read = h.1 in
+      absurd (elim read.2 [
+        | inl script ↦ unread read.0 (inl script) read.1
+        | inr second ↦ unread read.0 (inr second.0) read.1
+      ])
   completes statuses.WriteFault h = λ files is can unread unfaulted. absurd (unfaulted h.0)
   completes statuses.NoMemory h = λ files is can unread unfaulted. inr refl
 
   -- ---- all of it
 
-  call_of : (status : Status) → Ends words found left status → RefusedWords taken status → IsCall words found left status
-  call_of status ends words_refused = record { ends = ends; refused = words_refused; complete = completes status ends; exact = exact status ends }
+  call_of : (status : Status) → Ends words found left status → RefusedWords taken status
+      → IsCall words found left status
+  call_of status ends words_refused = record {
+    ends = ends;
+    refused = words_refused;
+    complete = completes status ends;
+    exact = exact status ends;
+  }
 
-  pub call_ran : (status : Status) → left.errors ≡ found.errors → Is (Ok status) → RefusedFirst taken (Ok status) → IsCall words found left status
-  call_ran status same p first = call_of status (ends_ran status same p) (refused_ran taken status first)
+  pub call_ran : (status : Status) → left.errors ≡ found.errors → Is (Ok status)
+      → RefusedFirst taken (Ok status) → IsCall words found left status
+  call_ran status same p first =
+      call_of status (ends_ran status same p) (refused_ran taken status first)
 
-  pub call_said : (status : Status) (refusal : Refusal) → status ≡ status_of_refusal refusal → Is (Err refusal) → RefusedFirst taken (Err refusal) → Says (refusal_line refusal) found.errors left.errors → IsCall words found left status
+  pub call_said : (status : Status) (refusal : Refusal) → status ≡ status_of_refusal refusal
+      → Is (Err refusal) → RefusedFirst taken (Err refusal)
+      → Says (refusal_line refusal) found.errors left.errors → IsCall words found left status
   call_said status refusal is p first says =
-      subst (IsCall words found left) (sym is) (call_of (status_of_refusal refusal) (ends_said refusal p says) (refused_said taken refusal first))
+      subst (IsCall words found left) (sym is)
+      (call_of (status_of_refusal refusal) (ends_said refusal p says)
+      (refused_said taken refusal first))

@@ -1,5 +1,6 @@
 -- What comes of a command, from what the calls below did.
-use Rattle.std.proofs.Common.{◌≡◌, ℕ, List, [], ◌∷◌, inl, inr, Option, Some, None, Result, Ok, Err, refl, sym, subst, ap, take, ◌∙◌, arith}
+use Rattle.std.proofs.Common.{◌≡◌, ℕ, List, [], ◌∷◌, inl, inr, Option, Some, Result, Ok, Err, refl}
+use Rattle.std.proofs.Common.{subst, ap, take, ◌∙◌, arith}
 use Rattle.std.proofs.lemmas.List.{append_assoc}
 use Rattle.pct_ask.specs.declared.Deal.{Deal}
 use Rattle.pct_ask.specs.NameLists.{NameLists}
@@ -8,35 +9,45 @@ use Rattle.script_tree.specs.ScriptText.{ScriptText}
 use Rattle.script_tree.specs.ScriptSeen.{text}
 use Rattle.script_tree.specs.Grammar.{Spells}
 use Rattle.directive.specs.declared.directive.Directive.{Directive}
-use Rattle.trace_text.specs.Trace.{IsTrace}
 use Rattle.trace_text.specs.declared.file.TraceFile.{TraceFile}
 use Rattle.pct_top.specs.declared.refusal.Refusal.{Refusal}
-use Rattle.pct_top.specs.declared.refusal.Refusal.TheVariants.{Usage, Script, Trace, Directive as BadDirective, Read, Write, Memory}
+use Rattle.pct_top.specs.declared.refusal.Refusal.TheVariants.{Usage, Script, Trace}
+use Rattle.pct_top.specs.declared.refusal.Refusal.TheVariants.{Directive as BadDirective, Read}
+use Rattle.pct_top.specs.declared.refusal.Refusal.TheVariants.{Write, Memory}
 use Rattle.pct_top.specs.declared.outcome.Outcome.{Outcome}
 use Rattle.pct_top.specs.declared.settings.Settings.{Settings}
 use Rattle.pct_top.specs.declared.test.Test.{Test}
 use Rattle.pct_top.specs.Ready.{IsReady}
-use Rattle.pct_top.specs.Ordered.{NamesAll, OrderFits}
-use Rattle.pct_top.specs.Printed.{Files, Printed, refused, trace_bytes, directive_bytes, OfScript, OfOrder, OfTrace, OfDirective}
+use Rattle.pct_top.specs.Ordered.{NamesAll}
+use Rattle.pct_top.specs.Printed.{Files, Printed, refused, trace_bytes, directive_bytes, OfScript}
+use Rattle.pct_top.specs.Printed.{OfOrder, OfTrace, OfDirective}
 use Rattle.pct_top.specs.Priorities.{GivesOrder}
-use Rattle.pct_top.specs.Output.{script_file, script_text, order_given, second_file}
+use Rattle.pct_top.specs.Output.{script_file, script_text}
 use Rattle.pct_top.specs.Outcome.{printed_of, Gives, Shows, Comes}
-use Rattle.pct_top.specs.Files.{HasText, KeepsNames, Misses, GivesTest, GivesTrace, HasTrace, GivesDirective, HasDirective}
+use Rattle.pct_top.specs.Files.{HasText, KeepsNames, Misses, GivesTest, GivesTrace, HasTrace}
+use Rattle.pct_top.specs.Files.{GivesDirective, HasDirective}
 use Rattle.pct_top.specs.Outside.{ShelfTold}
 use Rattle.pct_top.specs.Call.{Gained, MissesSecond, ReadFailed}
 
 -- ---- what was read
 
 -- what holds of the bytes that were read holds of the file's first
-pub first_bytes : (told : Option Files) (file : List ℕ) (most : ℕ) (bytes : List ℕ) (P : List ℕ → Type 0) → FirstOf told file most bytes → P bytes → (files : Files) → told ≡ Some files → P (take most (files file))
-first_bytes told file most bytes P first p = λ files e. let is : FirstOf (Some files) file most bytes = subst (λ t. FirstOf t file most bytes) e first in subst P is p
+pub first_bytes : (told : Option Files) (file : List ℕ) (most : ℕ) (bytes : List ℕ)
+    (P : List ℕ → Type 0) → FirstOf told file most bytes → P bytes → (files : Files)
+    → told ≡ Some files → P (take most (files file))
+first_bytes told file most bytes P first p =
+    λ files e. let is : FirstOf (Some files) file most bytes =
+    subst (λ t. FirstOf t file most bytes) e first in subst P is p
 
 -- the name of a read that failed is a new one
-missed_one : (name : List ℕ) (failed failed' : List (List ℕ)) → failed' ≡ with_name failed name → Gained name failed failed'
+missed_one : (name : List ℕ) (failed failed' : List (List ℕ)) → failed' ≡ with_name failed name
+    → Gained name failed failed'
 missed_one name failed failed' is = (name ∷ [], is, (0, omega arith, refl))
 
-missed_after : (name : List ℕ) (failed middle failed' : List (List ℕ)) → KeepsNames failed middle → failed' ≡ with_name middle name → Gained name failed failed'
-missed_after name failed middle failed' (inl same) is = missed_one name failed failed' (is ∙ ap (λ l. with_name l name) same)
+missed_after : (name : List ℕ) (failed middle failed' : List (List ℕ)) → KeepsNames failed middle
+    → failed' ≡ with_name middle name → Gained name failed failed'
+missed_after name failed middle failed' (inl same) is =
+    missed_one name failed failed' (is ∙ ap (λ l. with_name l name) same)
 missed_after name failed middle failed' (inr one) is = (
   one.0 ∷ name ∷ [],
   is ∙ ap (λ l. with_name l name) one.1 ∙ append_assoc failed (one.0 ∷ []) (name ∷ []),
@@ -46,7 +57,8 @@ missed_after name failed middle failed' (inr one) is = (
 -- ---- refusals
 
 -- what one script gives doesn't look at files
-pub comes_plain : (of : Printed → Type 0) (told : Option Files) (missed : Type 0) (r : Result Outcome Refusal) → Gives of r → Comes (λ files. of) told missed r
+pub comes_plain : (of : Printed → Type 0) (told : Option Files) (missed : Type 0)
+    (r : Result Outcome Refusal) → Gives of r → Comes (λ files. of) told missed r
 comes_plain of told missed (Ok outcome) h = λ files e. h
 comes_plain of told missed (Err (Usage word)) h = λ files e. h
 comes_plain of told missed (Err (Script line kind)) h = λ files e. h
@@ -57,7 +69,9 @@ comes_plain of told missed (Err Write) h = absurd h
 comes_plain of told missed (Err Memory) h = tt
 
 -- what a failed read has for a cause has another cause
-pub comes_as : (of : Files → Printed → Type 0) (told : Option Files) (missed other : Type 0) → (missed → other) → (r : Result Outcome Refusal) → Comes of told missed r → Comes of told other r
+pub comes_as : (of : Files → Printed → Type 0) (told : Option Files) (missed other : Type 0)
+    → (missed → other) → (r : Result Outcome Refusal) → Comes of told missed r
+    → Comes of told other r
 comes_as of told missed other therefore (Ok outcome) h = h
 comes_as of told missed other therefore (Err (Usage word)) h = h
 comes_as of told missed other therefore (Err (Script line kind)) h = h
@@ -67,8 +81,22 @@ comes_as of told missed other therefore (Err Read) h = therefore h
 comes_as of told missed other therefore (Err Write) h = h
 comes_as of told missed other therefore (Err Memory) h = h
 
+-- what may be printed whatever the files are, where none is read
+pub gives_comes : (of : Files → Printed → Type 0) (told : Option Files) (missed : Type 0)
+    (r : Result Outcome Refusal) → ((files : Files) → Gives (of files) r) → Comes of told missed r
+gives_comes of told missed (Ok outcome) h = λ files e. h files
+gives_comes of told missed (Err (Usage word)) h = λ files e. h files
+gives_comes of told missed (Err (Script line kind)) h = λ files e. h files
+gives_comes of told missed (Err (Trace line kind)) h = λ files e. h files
+gives_comes of told missed (Err (BadDirective line kind)) h = λ files e. h files
+gives_comes of told missed (Err Read) h = absurd (h (λ name. []))
+gives_comes of told missed (Err Write) h = h (λ name. [])
+gives_comes of told missed (Err Memory) h = tt
+
 -- an order that isn't given
-pub order_refused : (names : NameLists) (items : List (List ℕ)) (word : ℕ) (of : List ℕ → Printed → Type 0) (refusal : Refusal) → GivesOrder names items word (Err refusal) → Gives (OfOrder names items word of) (Err refusal)
+pub order_refused : (names : NameLists) (items : List (List ℕ)) (word : ℕ)
+    (of : List ℕ → Printed → Type 0) (refusal : Refusal) → GivesOrder names items word (Err refusal)
+    → Gives (OfOrder names items word of) (Err refusal)
 order_refused names items word of (Usage n) h = inr (h.1, ap (λ w. refused (Usage w)) h.0)
 order_refused names items word of (Script line kind) h = absurd h
 order_refused names items word of (Trace line kind) h = absurd h
@@ -77,12 +105,14 @@ order_refused names items word of Read h = absurd h
 order_refused names items word of Write h = absurd h
 order_refused names items word of Memory h = tt
 
-module _ (told : Option Files) (file : List ℕ) (names : NameLists) (of : TraceFile → Printed → Type 0) (missed : Type 0) where
+module _ (told : Option Files) (file : List ℕ) (names : NameLists)
+    (of : TraceFile → Printed → Type 0) (missed : Type 0) where
   abbrev OfFile : Files → Printed → Type 0
   OfFile files printed = OfTrace (take trace_bytes (files file)) names of printed
 
   -- there is no trace
-  pub trace_refused : (refusal : Refusal) → GivesTrace told file names missed (Err refusal) → Comes OfFile told missed (Err refusal)
+  pub trace_refused : (refusal : Refusal) → GivesTrace told file names missed (Err refusal)
+      → Comes OfFile told missed (Err refusal)
   trace_refused (Usage word) h = absurd h
   trace_refused (Script line kind) h = absurd h
   trace_refused (Trace line kind) h = λ files e. inr (line, kind, h files e, refl)
@@ -92,7 +122,8 @@ module _ (told : Option Files) (file : List ℕ) (names : NameLists) (of : Trace
   trace_refused Memory h = tt
 
   -- what is printed of the trace
-  pub trace_shown : (trace : TraceFile) (printed : Printed) → HasTrace told file names trace → of trace printed → Shows OfFile told printed
+  pub trace_shown : (trace : TraceFile) (printed : Printed) → HasTrace told file names trace
+      → of trace printed → Shows OfFile told printed
   trace_shown trace printed has h = λ files e. inl (trace, has.1 files e, h)
 
 module _ (told : Option Files) (file : List ℕ) (names : NameLists)
@@ -155,12 +186,14 @@ module _ (told : Option Files) (names : NameLists) (items : List (List ℕ)) (wo
 
 -- ---- a command over its script
 
-module _ (told : Option Files) (source : Files → List ℕ) (over : Files → ScriptText → Deal → Printed → Type 0) (missed : Type 0) where
+module _ (told : Option Files) (source : Files → List ℕ)
+    (over : Files → ScriptText → Deal → Printed → Type 0) (missed : Type 0) where
   abbrev Of : Files → Printed → Type 0
   Of files printed = OfScript (source files) (over files) printed
 
   -- there is no test
-  pub comes_untested : (missed_script : Type 0) → (missed_script → missed) → (refusal : Refusal) → GivesTest told source missed_script (Err refusal) → Comes Of told missed (Err refusal)
+  pub comes_untested : (missed_script : Type 0) → (missed_script → missed) → (refusal : Refusal)
+      → GivesTest told source missed_script (Err refusal) → Comes Of told missed (Err refusal)
   comes_untested m therefore (Usage word) h = absurd h
   comes_untested m therefore (Script line kind) h = λ files e. inr (line, kind, h files e, refl)
   comes_untested m therefore (Trace line kind) h = absurd h
@@ -169,27 +202,42 @@ module _ (told : Option Files) (source : Files → List ℕ) (over : Files → S
   comes_untested m therefore Write h = absurd h
   comes_untested m therefore Memory h = tt
 
-  module _ (test : Test) (spells : HasText told source (λ bytes. Spells bytes (text test.script))) (ready : IsReady test) where
-    shown : (printed : Printed) → Shows (λ files. over files (text test.script) test.deal) told printed → Shows Of told printed
-    shown printed h = λ files e. inl (text test.script, spells files e, (test.deal, ready.is_deal, h files e))
+  module _ (test : Test) (spells : HasText told source (λ bytes. Spells bytes (text test.script)))
+      (ready : IsReady test) where
+    shown : (printed : Printed) → Shows (λ files. over files (text test.script) test.deal) told
+        printed → Shows Of told printed
+    shown printed h =
+        λ files e. inl (text test.script, spells files e, (test.deal, ready.is_deal, h files e))
 
-    pub comes_tested : (missed_second : Type 0) → (missed_second → missed) → (r : Result Outcome Refusal) → Comes (λ files. over files (text test.script) test.deal) told missed_second r → Comes Of told missed r
+    pub comes_tested : (missed_second : Type 0) → (missed_second → missed)
+        → (r : Result Outcome Refusal) → Comes (λ files. over files (text test.script) test.deal)
+        told missed_second r → Comes Of told missed r
     comes_tested m therefore (Ok outcome) h = shown (printed_of outcome) h
     comes_tested m therefore (Err (Usage word)) h = shown (refused (Usage word)) h
     comes_tested m therefore (Err (Script line kind)) h = shown (refused (Script line kind)) h
     comes_tested m therefore (Err (Trace line kind)) h = shown (refused (Trace line kind)) h
-    comes_tested m therefore (Err (BadDirective line kind)) h = shown (refused (BadDirective line kind)) h
+    comes_tested m therefore (Err (BadDirective line kind)) h =
+        shown (refused (BadDirective line kind)) h
     comes_tested m therefore (Err Read) h = therefore h
     comes_tested m therefore (Err Write) h = absurd h
     comes_tested m therefore (Err Memory) h = tt
 
 -- ---- the reads that a call is missed by
 
-pub script_missed : (settings : Settings) (before after : ShelfTold) → Misses (script_file settings) before.failed after.failed → ReadFailed (Ok settings) before after
-script_missed settings before after h = (h.0, missed_one h.0 before.failed after.failed h.2, inl h.1)
+pub script_missed : (settings : Settings) (before after : ShelfTold)
+    → Misses (script_file settings) before.failed after.failed
+    → ReadFailed (Ok settings) before after
+script_missed settings before after h =
+    (h.0, missed_one h.0 before.failed after.failed h.2, inl h.1)
 
-pub second_missed : (settings : Settings) (before after : ShelfTold) (middle : List (List ℕ)) (script : ScriptText) → HasText before.files (script_text settings) (λ bytes. Spells bytes script)
-    → KeepsNames before.failed middle → MissesSecond settings script middle after.failed → ReadFailed (Ok settings) before after
+pub second_missed : (settings : Settings) (before after : ShelfTold) (middle : List (List ℕ))
+    (script : ScriptText) → HasText before.files (script_text settings)
+    (λ bytes. Spells bytes script)
+    → KeepsNames before.failed middle → MissesSecond settings script middle after.failed
+    → ReadFailed (Ok settings) before after
 second_missed settings before after middle script spells keeps h =
-    let second = h.0 in
-    (second.0, missed_after second.0 before.failed middle after.failed keeps second.2, inr (second.1, λ files e. (script, spells files e, h.1)))
+    let second = h.0 in (
+      second.0,
+      missed_after second.0 before.failed middle after.failed keeps second.2,
+      inr (second.1, λ files e. (script, spells files e, h.1)),
+    )

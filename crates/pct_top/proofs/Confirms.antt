@@ -1,5 +1,6 @@
 -- What a run prints whole is confirmed by its replay.
-use Rattle.std.proofs.Common.{◌≡◌, ◌⊎◌, ℕ, ◌<◌, inl, inr, List, length, Ok, Err, Some, None, Option, refl, sym, subst, ap, take, ◌∙◌, arith}
+use Rattle.std.proofs.Common.{◌≡◌, ◌⊎◌, ℕ, ◌<◌, inl, inr, List, length, Ok, Some, refl, sym, subst}
+use Rattle.std.proofs.Common.{ap, take, ◌∙◌, arith}
 use Rattle.std.specs.Prelude.{All, Bool, true, codes, ◌∷◌}
 use Rattle.std.proofs.lemmas.List.{take_all, append-nil}
 use Rattle.std.proofs.lemmas.List.Elements.{All-map}
@@ -14,20 +15,20 @@ use Rattle.script_tree.specs.DealOf.{IsDealOf}
 use Rattle.script_tree.specs.Grammar.{Spells}
 use Rattle.trace_text.specs.declared.file.TraceFile.{TraceFile}
 use Rattle.trace_text.specs.Trace.{IsTrace}
-use Rattle.policy_pick.specs.Plan.{ByPoints, ByList}
-use Rattle.turn_book.specs.Posts.{schedule_of}
+use Rattle.policy_pick.specs.Plan.{ByPoints}
 use Rattle.script_body.specs.Bodies.{bodies_of}
 use Rattle.worker_run.specs.Run.{Run}
 use Rattle.worker_run.proofs.laws.WholeRuns.{run-played}
 use Rattle.replay_run.specs.declared.answer.Replayed.TheVariants.{Confirmed}
 use Rattle.replay_run.specs.Replay.{IsReplay}
 use Rattle.replay_run.proofs.laws.ListedRuns.{listed_again}
-use Rattle.pct_top.specs.declared.refusal.Refusal.TheVariants.{Usage, Script, Directive as BadDirective}
+use Rattle.pct_top.specs.declared.refusal.Refusal.TheVariants.{Usage, Script}
+use Rattle.pct_top.specs.declared.refusal.Refusal.TheVariants.{Directive as BadDirective}
 use Rattle.pct_top.specs.declared.settings.Report.TheVariants.{Trace}
 use Rattle.pct_top.specs.declared.settings.Settings.TheVariants.{RunOrder, RunSeed, Expose}
 use Rattle.pct_top.specs.Settings.{Taken, settings}
 use Rattle.pct_top.specs.Printed.{Files, Printed, told, script_bytes, trace_bytes}
-use Rattle.pct_top.specs.Runs.{run_of, is_passed, file_of, traced, told_trace, TellsRun}
+use Rattle.pct_top.specs.Runs.{run_of, is_passed, file_of, traced, TellsRun}
 use Rattle.pct_top.specs.commands.Run.{PrintsTrace}
 use Rattle.pct_top.specs.commands.Replay.{replied}
 use Rattle.pct_top.specs.commands.Expose.{TellsExposed}
@@ -36,7 +37,8 @@ use Rattle.directive_run.specs.declared.answers.Exposed.{Exposed}
 use Rattle.directive_run.specs.declared.answers.Exposed.TheVariants.{Points, TooLong}
 use Rattle.pct_top.specs.Output.{OfTaken}
 use Rattle.pct_top.specs.Call.{IsAnswer}
-use Rattle.pct_top.specs.Confirmed.{RunsFile, TellsVerdict, confirmed, IsConfirmed, IsConfirmedTrace, RunsAreConfirmed, ExposesFile, TellsLong, ExposedAreConfirmed}
+use Rattle.pct_top.specs.Confirmed.{RunsFile, confirmed, IsConfirmedTrace, RunsAreConfirmed}
+use Rattle.pct_top.specs.Confirmed.{ExposesFile, TellsLong, ExposedAreConfirmed}
 use Rattle.pct_top.proofs.Refusals.{not_refused}
 
 -- what the law says of one output
@@ -57,14 +59,18 @@ module _ (script : ScriptText) (deal : Deal) (of : IsDealOf script deal) (order 
   replayed : IsReplay deal (bodies_of script) file (Confirmed file.verdict)
   replayed =
       let run = whole.run in
-      let known : All (λ (e : Event). e.thread < deal.threads) file.events = λ k d within. omega (arith, ((run.steps) k d within).thread, of.threads) in
+      let known : All (λ (e : Event). e.thread < deal.threads) file.events =
+      λ k d within. omega (arith, ((run.steps) k d within).thread, of.threads) in
       let threads : deal.threads ≡ length order = of.threads ∙ sym (run.head).every in
       let listed = All-map (λ t. t < deal.threads) (λ (e : Event). e.thread) file.events known in
-      let made = run-played deal (bodies_of script) order points limit ended.0 ended.1 threads runs in
+      let made = run-played deal (bodies_of script) order points limit ended.0 ended.1 threads
+      runs in
       record {
         made = ended.0;
         outcome = Ends ended.1;
-        played = listed_again (ByPoints order points) deal (bodies_of script) limit ended.0 ended.1 threads (λ departs. departs) (deal.few_threads, listed) made;
+        played =
+            listed_again (ByPoints order points) deal (bodies_of script) limit ended.0 ended.1
+            threads (λ departs. departs) (deal.few_threads, listed) made;
         tells = (refl, refl, refl);
       }
 
@@ -72,9 +78,13 @@ module _ (script : ScriptText) (deal : Deal) (of : IsDealOf script deal) (order 
   out_is = ap (λ (p : Printed). p.out) tells.is
 
   one_line : confirmed script.names ended.1 ≡ replied script (Confirmed ended.1)
-  one_line = ap (λ (text : List ℕ). told text true) (sym (append-nil (line_text (codes "confirmed" ∷ verdict_words (named script.names ended.1)))))
+  one_line =
+      ap (λ (text : List ℕ). told text true)
+      (sym (append-nil (line_text (codes "confirmed"
+      ∷ verdict_words (named script.names ended.1)))))
 
-  confirms : (files : Files) (name : List ℕ) → Spells (take script_bytes (files name)) script → IsSo files name printed
+  confirms : (files : Files) (name : List ℕ) → Spells (take script_bytes (files name)) script
+      → IsSo files name printed
   confirms files name spells = (
     script,
     ended.1,
@@ -82,11 +92,21 @@ module _ (script : ScriptText) (deal : Deal) (of : IsDealOf script deal) (order 
     (file, subst (λ text. IsTrace text script.names file) (sym out_is) whole, refl),
     λ later trace same written.
         let text : take trace_bytes (later trace) ≡ traced script order points limit ended =
-        ap (take trace_bytes) (written ∙ out_is) ∙ take_all trace_bytes (traced script order points limit ended) (omega (arith, whole.small)) in
+        ap (take trace_bytes) (written ∙ out_is)
+        ∙ take_all trace_bytes (traced script order points limit ended)
+        (omega (arith, whole.small)) in
         inl (
           script,
           subst (λ bytes. Spells (take script_bytes bytes) script) (sym same) spells,
-          (deal, of, inl (file, subst (λ bytes. IsTrace bytes script.names file) (sym text) whole, (Confirmed ended.1, replayed, one_line))),
+          (
+            deal,
+            of,
+            inl (
+              file,
+              subst (λ bytes. IsTrace bytes script.names file) (sym text) whole,
+              (Confirmed ended.1, replayed, one_line),
+            ),
+          ),
         ),
   )
 
@@ -98,18 +118,26 @@ traced_so script deal of order points limit printed prints =
     confirms script deal of order points limit printed prints.0 (is_passed (prints.0).1) prints.1
     prints.2
 
-by_taken : (taken : Taken) (files : Files) (printed : Printed) (name : List ℕ) → RunsFile taken name → OfTaken taken files printed → IsAnswer printed.status → IsSo files name printed
-by_taken (Ok (RunOrder file order word points limit Trace)) files printed name same (inl of) answers = elim of.2.2 [
-  | inl given ↦ subst (λ n. IsSo files n printed) (sym same) (traced_so of.0 of.2.0 of.2.1 given.0 points limit printed given.2 files file of.1)
-  | inr none ↦ absurd (not_refused IsAnswer (Usage word) printed none.1 (λ h. h) answers)
-]
-by_taken (Ok (RunOrder file order word points limit Trace)) files printed name same (inr bad) answers = absurd (not_refused IsAnswer (Script bad.0 bad.1) printed bad.3 (λ h. h) answers)
-by_taken (Ok (RunSeed file seed depth steps limit Trace)) files printed name same (inl of) answers = subst (λ n. IsSo files n printed) (sym same) (traced_so of.0 of.2.0 of.2.1 _ _ limit printed of.2.2.2 files file of.1)
-by_taken (Ok (RunSeed file seed depth steps limit Trace)) files printed name same (inr bad) answers = absurd (not_refused IsAnswer (Script bad.0 bad.1) printed bad.3 (λ h. h) answers)
+by_taken : (taken : Taken) (files : Files) (printed : Printed) (name : List ℕ) → RunsFile taken name
+    → OfTaken taken files printed → IsAnswer printed.status → IsSo files name printed
+by_taken (Ok (RunOrder file order word points limit Trace)) files printed name same (inl of)
+    answers = elim of.2.2 [
+      | inl given ↦ subst (λ n. IsSo files n printed) (sym same)
+          (traced_so of.0 of.2.0 of.2.1 given.0 points limit printed given.2 files file of.1)
+      | inr none ↦ absurd (not_refused IsAnswer (Usage word) printed none.1 (λ h. h) answers)
+    ]
+by_taken (Ok (RunOrder file order word points limit Trace)) files printed name same (inr bad)
+    answers = absurd (not_refused IsAnswer (Script bad.0 bad.1) printed bad.3 (λ h. h) answers)
+by_taken (Ok (RunSeed file seed depth steps limit Trace)) files printed name same (inl of) answers =
+    subst (λ n. IsSo files n printed) (sym same)
+    (traced_so of.0 of.2.0 of.2.1 _ _ limit printed of.2.2.2 files file of.1)
+by_taken (Ok (RunSeed file seed depth steps limit Trace)) files printed name same (inr bad)
+    answers = absurd (not_refused IsAnswer (Script bad.0 bad.1) printed bad.3 (λ h. h) answers)
 by_taken taken files printed name same of answers = absurd same
 
 pub runs_confirmed : RunsAreConfirmed
-runs_confirmed words files printed name same of answers = by_taken (settings words) files printed name same of answers
+runs_confirmed words files printed name same of answers =
+    by_taken (settings words) files printed name same of answers
 
 -- ---- what a directive exposes
 
@@ -118,7 +146,8 @@ exposed_so : (script : ScriptText) (deal : Deal) → IsDealOf script deal → (o
     → TellsExposed script deal order limit verdict exposed printed → (files : Files)
     (name : List ℕ) → Spells (take script_bytes (files name)) script
     → TellsLong printed ⊎ IsSo files name printed
-exposed_so script deal of order limit verdict (Points points played) printed tells files name spells =
+exposed_so script deal of order limit verdict (Points points played) printed tells files name
+    spells =
     inr (confirms script deal of order points limit printed tells.0
     (same_verdict (tells.0).1 verdict) tells.1 tells.2 files name spells)
 exposed_so script deal of order limit verdict (TooLong many) printed tells files name spells =
@@ -127,16 +156,20 @@ exposed_so script deal of order limit verdict (TooLong many) printed tells files
 exposed_by : (taken : Taken) (files : Files) (printed : Printed) (name : List ℕ)
     → ExposesFile taken name → OfTaken taken files printed → IsAnswer printed.status
     → TellsLong printed ⊎ IsSo files name printed
-exposed_by (Ok (Expose file directive order word steps limit)) files printed name same (inl of) answers = elim of.2.2 [
-  | inl given ↦ elim given.2 [
-    | inl plan ↦ subst (λ n. TellsLong printed ⊎ IsSo files n printed) (sym same)
-        (exposed_so of.0 of.2.0 of.2.1 given.0 limit (plan.0).verdict (plan.2).0 printed (plan.2).2
-        files file of.1)
-    | inr bad ↦ absurd (not_refused IsAnswer (BadDirective bad.0 bad.1) printed bad.3 (λ h. h) answers)
-  ]
-  | inr none ↦ absurd (not_refused IsAnswer (Usage word) printed none.1 (λ h. h) answers)
-]
-exposed_by (Ok (Expose file directive order word steps limit)) files printed name same (inr bad) answers =
+exposed_by (Ok (Expose file directive order word steps limit)) files printed name same (inl of)
+    answers = elim of.2.2 [
+      | inl given ↦ elim given.2 [
+        | inl plan ↦ subst (λ n. TellsLong printed ⊎ IsSo files n printed) (sym same)
+            (exposed_so of.0 of.2.0 of.2.1 given.0 limit (plan.0).verdict (plan.2).0 printed
+            (plan.2).2
+            files file of.1)
+        | inr bad ↦ absurd (not_refused IsAnswer (BadDirective bad.0 bad.1) printed bad.3 (λ h. h)
+            answers)
+      ]
+      | inr none ↦ absurd (not_refused IsAnswer (Usage word) printed none.1 (λ h. h) answers)
+    ]
+exposed_by (Ok (Expose file directive order word steps limit)) files printed name same (inr bad)
+    answers =
     absurd (not_refused IsAnswer (Script bad.0 bad.1) printed bad.3 (λ h. h) answers)
 exposed_by taken files printed name same of answers = absurd same
 

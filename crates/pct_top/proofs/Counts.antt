@@ -1,5 +1,6 @@
 -- Where `certify` is done, its directive is counted.
-use Rattle.std.proofs.Common.{◌≡◌, ℕ, ◌*◌, ◌^◌, ◌≤◌, inl, inr, List, length, Ok, Err, take, sym, ap, subst, ◌∙◌}
+use Rattle.std.proofs.Common.{◌≡◌, ℕ, ◌*◌, ◌^◌, ◌≤◌, inl, inr, List, length, Ok, sym, ap, subst}
+use Rattle.std.proofs.Common.{◌∙◌}
 use Rattle.pct_ask.specs.declared.Deal.{Deal}
 use Rattle.script_tree.specs.ScriptText.{ScriptText}
 use Rattle.script_tree.specs.DealOf.{IsDealOf}
@@ -10,7 +11,8 @@ use Rattle.directive_run.specs.Orders.{factorial}
 use Rattle.directive_run.specs.Counting.{hits}
 use Rattle.directive_run.specs.Certifying.{Certifies}
 use Rattle.directive_run.specs.declared.answers.Certified.{Certified}
-use Rattle.directive_run.specs.declared.answers.Certified.TheVariants.{Yes, Refuted, TooLong, TooManyThreads}
+use Rattle.directive_run.specs.declared.answers.Certified.TheVariants.{Yes, Refuted, TooLong}
+use Rattle.directive_run.specs.declared.answers.Certified.TheVariants.{TooManyThreads}
 use Rattle.pct_top.specs.declared.refusal.Refusal.TheVariants.{Script, Directive as BadDirective}
 use Rattle.pct_top.specs.declared.settings.Settings.TheVariants.{Certify}
 use Rattle.pct_top.specs.declared.status.Status.{Status}
@@ -46,27 +48,31 @@ IsDone status = status ≡ Done
 by_taken : (taken : Taken) (files : Files) (printed : Printed) (file directive : List ℕ)
     (k limit : ℕ) → CertifiesFile taken file directive k limit → OfTaken taken files printed
     → printed.status ≡ Done → IsCounted files file directive k limit
-by_taken (Ok (Certify name other steps most)) files printed file directive k limit same (inl of) done = elim of.2.2 [
-  | inl plan ↦
-      let script = of.0 in
-      let is_done = sym (ap (λ (p : Printed). p.status) (plan.2).2) ∙ done in
-      let counted = counted_by script of.2.0 of.2.1 plan.0 steps most (plan.2).0 (plan.2).1 is_done in
-      let whole : IsCounted files name other steps most = record {
-        script = script;
-        deal = of.2.0;
-        plan = plain plan.0;
-        spelled = of.1;
-        deals = of.2.1;
-        told = plan.1;
-        counted = counted;
-      } in
-      subst (λ f. IsCounted files f directive k limit) (sym same.0)
-      (subst (λ d. IsCounted files name d k limit) (sym same.1)
-      (subst (λ s. IsCounted files name other s limit) (sym same.2)
-      (subst (λ l. IsCounted files name other steps l) (sym same.3) whole)))
-  | inr bad ↦ absurd (not_refused IsDone (BadDirective bad.0 bad.1) printed bad.3 (λ e. cc) done)
-]
-by_taken (Ok (Certify name other steps most)) files printed file directive k limit same (inr bad) done =
+by_taken (Ok (Certify name other steps most)) files printed file directive k limit same (inl of)
+    done = elim of.2.2 [
+      | inl plan ↦
+          let script = of.0 in
+          let is_done = sym (ap (λ (p : Printed). p.status) (plan.2).2) ∙ done in
+          let counted = counted_by script of.2.0 of.2.1 plan.0 steps most (plan.2).0 (plan.2).1
+          is_done in
+          let whole : IsCounted files name other steps most = record {
+            script = script;
+            deal = of.2.0;
+            plan = plain plan.0;
+            spelled = of.1;
+            deals = of.2.1;
+            told = plan.1;
+            counted = counted;
+          } in
+          subst (λ f. IsCounted files f directive k limit) (sym same.0)
+          (subst (λ d. IsCounted files name d k limit) (sym same.1)
+          (subst (λ s. IsCounted files name other s limit) (sym same.2)
+          (subst (λ l. IsCounted files name other steps l) (sym same.3) whole)))
+      | inr bad ↦ absurd (not_refused IsDone (BadDirective bad.0 bad.1) printed bad.3 (λ e. cc)
+          done)
+    ]
+by_taken (Ok (Certify name other steps most)) files printed file directive k limit same (inr bad)
+    done =
     absurd (not_refused IsDone (Script bad.0 bad.1) printed bad.3 (λ e. cc) done)
 by_taken taken files printed file directive k limit same of done = absurd same
 

@@ -64,11 +64,14 @@ deal_by x f = record {
 by-data : (one other : Deal) → data_of one ≡ data_of other → one ≡ other
 unfolding facts_of
 by-data one other same =
-    let P : ℕ × List ℤ × ℕ × ℕ × List ℤ × List ℤ × ℕ → Type 0 = λ x. (f : Facts x) → one ≡ deal_by x f in
-    let here : P (data_of one) = λ f. ap (deal_by (data_of one)) (facts-prop (data_of one) (facts_of one) f) in
+    let P : ℕ × List ℤ × ℕ × ℕ × List ℤ × List ℤ × ℕ → Type 0 = λ x. (f : Facts x)
+    → one ≡ deal_by x f in
+    let here : P (data_of one) = λ f.
+    ap (deal_by (data_of one)) (facts-prop (data_of one) (facts_of one) f) in
     subst P same here (facts_of other)
 
-pub one_deal : (script : ScriptText) (one other : Deal) → IsDealOf script one → IsDealOf script other → one ≡ other
+pub one_deal : (script : ScriptText) (one other : Deal) → IsDealOf script one
+    → IsDealOf script other → one ≡ other
 one_deal script one other a b =
     let threads : one.threads ≡ other.threads = a.threads ∙ sym b.threads in
     let vars : one.vars ≡ other.vars = a.vars ∙ sym b.vars in

@@ -4,5 +4,7 @@ use Rattle.std.specs.Prelude.{All}
 use Rattle.priority_draw.specs.Drawing.{IsStep}
 use Rattle.trace_text.specs.Lawful.{IsStepCount}
 
-pub drawn_points : (steps : ℕ) (points : List ℕ) → IsStepCount steps → All (IsStep steps) points → All IsStepCount points
-drawn_points steps points fits all = λ k d within. let is = all k d within in (is.first, omega (arith, is.last, fits.1))
+pub drawn_points : (steps : ℕ) (points : List ℕ) → IsStepCount steps → All (IsStep steps) points
+    → All IsStepCount points
+drawn_points steps points fits all = λ k d within. let is = all k d within in
+    (is.first, omega (arith, is.last, fits.1))

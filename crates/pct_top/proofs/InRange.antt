@@ -1,10 +1,14 @@
 -- The steps of a run name only what its deal has.
-use Rattle.std.proofs.Common.{◌≡◌, ℕ, ◌<◌, List, [], ◌∷◌, length, refl, sym, ap, subst, arith}
+use Rattle.std.proofs.Common.{ℕ, ◌<◌, List, [], ◌∷◌, length, ap, arith}
 use Rattle.std.specs.Prelude.{All}
 use Rattle.std.proofs.lemmas.List.Elements.{All-nil, All-cons, All-head, All-tail}
 use Rattle.pct_ask.specs.declared.Deal.{Deal}
 use Rattle.pct_ask.specs.declared.ask.Ask.{Ask}
-use Rattle.pct_ask.specs.declared.ask.Ask.TheVariants.{Read, Write, Add, Cas, Lock, TryLock, Unlock, Release, Regain, Signal, Broadcast, Down, TryDown, Up, Arrive, Leave, Join, Yield, Check, Fault, Start, Begin, RdLock, WrLock, TryRdLock, TryWrLock, RwUnlock}
+use Rattle.pct_ask.specs.declared.ask.Ask.TheVariants.{Read, Write, Add, Cas, Lock, TryLock, Unlock}
+use Rattle.pct_ask.specs.declared.ask.Ask.TheVariants.{Release, Regain, Signal, Broadcast, Down}
+use Rattle.pct_ask.specs.declared.ask.Ask.TheVariants.{TryDown, Up, Arrive, Leave, Join, Yield}
+use Rattle.pct_ask.specs.declared.ask.Ask.TheVariants.{Check, Fault, Start, Begin, RdLock, WrLock}
+use Rattle.pct_ask.specs.declared.ask.Ask.TheVariants.{TryRdLock, TryWrLock, RwUnlock}
 use Rattle.pct_ask.specs.declared.event.Event.{Event}
 use Rattle.sync_store.specs.Store.{sizes_of_deal}
 use Rattle.sync_store.specs.Enabled.{IsInRange}
@@ -13,7 +17,8 @@ use Rattle.script_tree.specs.Fitting.{IsScript}
 use Rattle.script_tree.specs.DealOf.{IsDealOf}
 use Rattle.trace_text.specs.Lawful.{HasObjects, NamesKnown}
 
-module _ (script : ScriptText) (deal : Deal) (sound : IsScript script) (of : IsDealOf script deal) (version : ℕ) where
+module _ (script : ScriptText) (deal : Deal) (sound : IsScript script) (of : IsDealOf script deal)
+    (version : ℕ) where
   var : (x : ℕ) → x < length (script.names).vars → x < length deal.vars
   var x h = omega (arith, h, ap length of.vars, sound.same_vars)
 
@@ -35,7 +40,8 @@ module _ (script : ScriptText) (deal : Deal) (sound : IsScript script) (of : IsD
   rwlock : (l : ℕ) → l < length (script.names).rwlocks → l < deal.rwlocks
   rwlock l h = omega (arith, h, of.rwlocks)
 
-  pub in_range : (ask : Ask) → HasObjects script.names version ask → IsInRange (sizes_of_deal deal) ask
+  pub in_range : (ask : Ask) → HasObjects script.names version ask
+      → IsInRange (sizes_of_deal deal) ask
   in_range (Read x) h = var x h
   in_range (Write x value) h = var x h
   in_range (Add x value) h = var x h
@@ -65,10 +71,13 @@ module _ (script : ScriptText) (deal : Deal) (sound : IsScript script) (of : IsD
   in_range (RwUnlock l) h = rwlock l h.0
 
   -- what holds of each step whose thread and ask are in range
-  pub all_in_range : (P : Event → Type 0) → ((event : Event) → event.thread < deal.threads → IsInRange (sizes_of_deal deal) event.ask → P event)
+  pub all_in_range : (P : Event → Type 0)
+      → ((event : Event) → event.thread < deal.threads → IsInRange (sizes_of_deal deal) event.ask
+      → P event)
       → (events : List Event) → All (NamesKnown script.names version) events → All P events
   all_in_range P each [] known = All-nil P
   all_in_range P each (event ∷ events) known =
       let here = All-head (NamesKnown script.names version) event events known in
-      All-cons P event events (each event (thread event.thread here.thread) (in_range event.ask here.objects))
+      All-cons P event events (each event (thread event.thread here.thread)
+      (in_range event.ask here.objects))
       (all_in_range P each events (All-tail (NamesKnown script.names version) event events known))

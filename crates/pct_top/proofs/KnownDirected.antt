@@ -1,13 +1,9 @@
 -- What a directive leads to names only what the script has.
-use Rattle.std.proofs.Common.{◌≡◌, ℕ, ◌≤◌, List, length, Option, Some, refl, ap, sym, ◌∙◌, arith}
-use Rattle.std.specs.Prelude.{All}
+use Rattle.std.proofs.Common.{◌≡◌, ℕ, ◌≤◌, List, length, refl, ap, sym, ◌∙◌, arith}
 use Rattle.std.proofs.lemmas.List.{length-map}
 use Rattle.std.proofs.lemmas.List.Elements.{All-weaker}
-use Rattle.pct_ask.specs.NameLists.{NameLists}
 use Rattle.pct_ask.specs.declared.Deal.{Deal}
-use Rattle.pct_ask.specs.declared.event.Event.{Event}
 use Rattle.pct_ask.specs.declared.verdict.Outcome.TheVariants.{Verdict as Ends}
-use Rattle.pct_ask.specs.declared.verdict.Verdict.{Verdict}
 use Rattle.rank_now.specs.Order.{IsOrder}
 use Rattle.rank_now.specs.declared.moment.Moment.{Moment}
 use Rattle.script_tree.specs.ScriptText.{ScriptText}
@@ -18,21 +14,21 @@ use Rattle.turn_book.specs.Posts.{schedule_of}
 use Rattle.script_body.specs.Bodies.{bodies_of}
 use Rattle.trace_text.specs.Lawful.{IsStepCount}
 use Rattle.worker_run.specs.declared.played.Played.{Played}
-use Rattle.worker_run.specs.Run.{run, directed}
 use Rattle.worker_run.proofs.laws.WholeRuns.{run-played, directed-played}
 use Rattle.directive.specs.declared.directive.Directive.{Directive}
-use Rattle.directive_run.specs.Points.{points_of, point_of_moment}
+use Rattle.directive_run.specs.Points.{point_of_moment}
 use Rattle.directive_run.specs.Exposing.{IsWithin, IsExposed}
 use Rattle.directive_run.specs.Certifying.{Certifies}
 use Rattle.directive_run.specs.declared.answers.Certified.{Certified}
-use Rattle.directive_run.specs.declared.answers.Certified.TheVariants.{Yes, Refuted, TooLong, TooManyThreads}
+use Rattle.directive_run.specs.declared.answers.Certified.TheVariants.{Yes, Refuted, TooLong}
+use Rattle.directive_run.specs.declared.answers.Certified.TheVariants.{TooManyThreads}
 use Rattle.pct_top.specs.Known.{AreKnown}
 use Rattle.pct_top.specs.Priorities.{ArePriorities}
-use Rattle.pct_top.specs.declared.priorities.Priorities.{Priorities}
 use Rattle.pct_top.specs.commands.KnownCertificate.{IsKnownCertificate}
 use Rattle.pct_top.proofs.KnownRuns.{known-run}
 
-module _ (script : ScriptText) (deal : Deal) (sound : IsScript script) (of : IsDealOf script deal) where
+module _ (script : ScriptText) (deal : Deal) (sound : IsScript script)
+    (of : IsDealOf script deal) where
   -- ---- a certificate
 
   pub known-certificate : (directive : Directive) (steps limit : ℕ) (certified : Certified)

@@ -1,5 +1,6 @@
 -- The rows of a script's campaign name only what the script has.
-use Rattle.std.proofs.Common.{◌≡◌, ℕ, ◌≤◌, List, [], ◌∷◌, length, map, Option, Some, None, refl, sym, subst, ap, ◌∙◌, arith}
+use Rattle.std.proofs.Common.{◌≡◌, ℕ, List, [], ◌∷◌, length, map, Option, Some, None, refl, sym}
+use Rattle.std.proofs.Common.{subst, ap}
 use Rattle.std.specs.Prelude.{All}
 use Rattle.std.specs.Option.{option_map}
 use Rattle.std.specs.List.{range_with_len}
@@ -7,7 +8,6 @@ use Rattle.std.proofs.lemmas.List.Elements.{All-nil, All-cons}
 use Rattle.pct_ask.specs.declared.Deal.{Deal}
 use Rattle.pct_ask.specs.declared.event.Row.{Row}
 use Rattle.pct_ask.specs.declared.verdict.Outcome.TheVariants.{Verdict as Ends}
-use Rattle.pct_ask.specs.declared.verdict.Verdict.{Verdict}
 use Rattle.script_tree.specs.ScriptText.{ScriptText}
 use Rattle.script_tree.specs.Fitting.{IsScript}
 use Rattle.script_tree.specs.DealOf.{IsDealOf}
@@ -23,7 +23,8 @@ use Rattle.pct_top.specs.commands.Campaign.{setup_of}
 use Rattle.pct_top.proofs.KnownRuns.{known-run}
 
 -- what holds of each row that there is holds of all rows
-each-row : (P : Row → Type 0) (row_at : ℕ → Option Row) → ((place : ℕ) (row : Row) → row_at place ≡ Some row → P row)
+each-row : (P : Row → Type 0) (row_at : ℕ → Option Row)
+    → ((place : ℕ) (row : Row) → row_at place ≡ Some row → P row)
     → (places : List ℕ) (rows : List Row) → map Some rows ≡ map row_at places → All P rows
 each-row P row_at each places [] same = All-nil P
 each-row P row_at each [] (row ∷ rows) same = absurd cc
@@ -32,27 +33,38 @@ each-row P row_at each (place ∷ places) (row ∷ rows) same =
     let others : map Some rows ≡ map row_at places = cc in
     All-cons P row rows (each place row here) (each-row P row_at each places rows others)
 
-module _ (script : ScriptText) (deal : Deal) (sound : IsScript script) (of : IsDealOf script deal) (depth steps limit : ℕ) where
+module _ (script : ScriptText) (deal : Deal) (sound : IsScript script) (of : IsDealOf script deal)
+    (depth steps limit : ℕ) where
   abbrev setup : Setup
   setup = setup_of script deal depth steps limit
 
   whole : (seed : ℕ) → deal.threads ≡ length (drawn seed deal.threads steps depth).order
-  whole seed = sym (order-of-is deal.threads (drawn_places seed 0 deal.threads) (drawn-are seed 0 deal.threads)).whole
+  whole seed =
+      sym (order-of-is deal.threads (drawn_places seed 0 deal.threads)
+      (drawn-are seed 0 deal.threads)).whole
 
-  ended-known : (seed : ℕ) (ended : Run) → run_of_seed setup seed ≡ Some ended → IsWritable script.names ended.1
+  ended-known : (seed : ℕ) (ended : Run) → run_of_seed setup seed ≡ Some ended
+      → IsWritable script.names ended.1
   ended-known seed ended is =
       let gives = drawn seed deal.threads steps depth in
-      let played = run-played deal setup.bodies gives.order gives.points limit ended.0 ended.1 (whole seed) is in
-      let known = known-run script deal sound of (ByPoints gives.order gives.points) limit ended.0 ended.1 (Ends ended.1) refl played in
+      let played = run-played deal setup.bodies gives.order gives.points limit ended.0 ended.1
+      (whole seed) is in
+      let known = known-run script deal sound of (ByPoints gives.order gives.points) limit ended.0
+      ended.1 (Ends ended.1) refl played in
       record { named = (known.end).threads; whole = (known.end).whole }
 
-  row-known : (seed : ℕ) (whole_run : Option Run) (row : Row) → run_of_seed setup seed ≡ whole_run → option_map (row_of seed) whole_run ≡ Some row → IsWritable script.names row.verdict
+  row-known : (seed : ℕ) (whole_run : Option Run) (row : Row) → run_of_seed setup seed ≡ whole_run
+      → option_map (row_of seed) whole_run ≡ Some row → IsWritable script.names row.verdict
   row-known seed None row is made = absurd cc
   row-known seed (Some ended) row is made =
-      let same : ended.1 ≡ row.verdict = let e : row_of seed ended ≡ row = cc in ap (λ (r : Row). r.verdict) e in
+      let same : ended.1 ≡ row.verdict = let e : row_of seed ended ≡ row = cc in
+      ap (λ (r : Row). r.verdict) e in
       subst (IsWritable script.names) same (ended-known seed ended is)
 
-  pub rows-known : (first count : ℕ) (rows : List Row) → map Some rows ≡ rows_of setup first count → All (λ row. IsWritable script.names row.verdict) rows
+  pub rows-known : (first count : ℕ) (rows : List Row) → map Some rows ≡ rows_of setup first count
+      → All (λ row. IsWritable script.names row.verdict) rows
   rows-known first count rows are =
-      each-row (λ row. IsWritable script.names row.verdict) (λ place. row_of_seed setup (seed_at first place))
-      (λ place row is. row-known (seed_at first place) (run_of_seed setup (seed_at first place)) row refl is) (range_with_len 0 count) rows are
+      each-row (λ row. IsWritable script.names row.verdict)
+      (λ place. row_of_seed setup (seed_at first place))
+      (λ place row is. row-known (seed_at first place) (run_of_seed setup (seed_at first place)) row
+      refl is) (range_with_len 0 count) rows are

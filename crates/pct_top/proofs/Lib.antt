@@ -1,6 +1,8 @@
 mod KnownRuns
 mod OptionNumbers
 mod OptionLists
+mod OptionRanges
+mod OptionSettings
 mod Draws
 mod Replies
 mod Deals

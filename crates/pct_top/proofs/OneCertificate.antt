@@ -14,7 +14,8 @@ use Rattle.directive_run.specs.Certifying.{Certifies}
 use Rattle.directive_run.specs.declared.answers.Certified.{Certified}
 use Rattle.directive_run.proofs.laws.OneAnswer.{certified-once}
 use Rattle.pct_top.specs.Printed.{Printed}
-use Rattle.pct_top.specs.commands.Certify.{certificate_text, is_certified, told_certificate, PrintsCertificate, OfCertify}
+use Rattle.pct_top.specs.commands.Certify.{certificate_text, is_certified, told_certificate}
+use Rattle.pct_top.specs.commands.Certify.{PrintsCertificate, OfCertify}
 use Rattle.pct_top.specs.Call.{IsAnswer}
 use Rattle.pct_top.proofs.Work.{one_of_directive, directive_fits}
 use Rattle.pct_top.proofs.OneReport.{answers_as}

@@ -17,11 +17,12 @@ use Rattle.directive_run.specs.declared.answers.Exposed.{Exposed}
 use Rattle.directive_run.specs.declared.answers.Exposed.TheVariants.{Points, TooLong}
 use Rattle.directive_run.proofs.laws.OneAnswer.{exposed-once}
 use Rattle.pct_top.specs.Ordered.{OrderFits}
-use Rattle.pct_top.specs.Printed.{Printed, told, OfDirective}
+use Rattle.pct_top.specs.Printed.{Printed, OfDirective}
 use Rattle.pct_top.specs.Runs.{traced, told_trace}
 use Rattle.pct_top.specs.commands.Expose.{long_text, TellsExposed, PrintsExposed, OfExpose}
 use Rattle.pct_top.specs.Call.{IsAnswer}
-use Rattle.pct_top.proofs.Work.{some_same, one_of_order, order_fits, one_of_directive, directive_fits}
+use Rattle.pct_top.proofs.Work.{some_same, one_of_order, order_fits, one_of_directive}
+use Rattle.pct_top.proofs.Work.{directive_fits}
 use Rattle.pct_top.proofs.OneReport.{answers_as}
 
 module _ (script : ScriptText) (deal : Deal) (limit : ℕ) where

@@ -14,10 +14,16 @@ use Rattle.pct_top.proofs.Work.{one_of_trace, trace_fits}
 use Rattle.pct_top.proofs.OneReport.{answers_as}
 
 module _ (bytes : List ℕ) (script : ScriptText) (deal : Deal) (are : AreNames script.names) where
-  pub one_reply : (p q : Printed) → OfReplay bytes script deal p → OfReplay bytes script deal q → p ≡ q
-  one_reply p q a b = one_of_trace bytes script.names are (PrintsReply script deal) (λ file p q one two.
-      one.2 ∙ ap (replied script) (one_replay deal (bodies_of script) file one.0 two.0 one.1 two.1) ∙ sym two.2) p q a b
+  pub one_reply : (p q : Printed) → OfReplay bytes script deal p → OfReplay bytes script deal q
+      → p ≡ q
+  one_reply p q a b =
+      one_of_trace bytes script.names are (PrintsReply script deal) (λ file p q one two.
+      one.2 ∙ ap (replied script) (one_replay deal (bodies_of script) file one.0 two.0 one.1 two.1)
+      ∙ sym two.2) p q a b
 
-  pub reply_answers : (p : Printed) → (file : TraceFile) × IsTrace bytes script.names file → OfReplay bytes script deal p → IsAnswer p.status
-  reply_answers p fits a = trace_fits bytes script.names are (PrintsReply script deal) (λ (q : Printed). IsAnswer q.status) (λ file q is.
+  pub reply_answers : (p : Printed) → (file : TraceFile) × IsTrace bytes script.names file
+      → OfReplay bytes script deal p → IsAnswer p.status
+  reply_answers p fits a =
+      trace_fits bytes script.names are (PrintsReply script deal)
+      (λ (q : Printed). IsAnswer q.status) (λ file q is.
       answers_as q (reply_text script.names is.0) (is_confirmed is.0) is.2) p fits a

@@ -1,30 +1,44 @@
 -- Words behind spaces, joined to a line.
-use Rattle.std.proofs.Common.{◌≡◌, ℕ, List, [], ◌∷◌, ◌++◌, length, ◌≤◌, take, map, refl, sym, ap, ◌∙◌, append_assoc}
+use Rattle.std.proofs.Common.{◌≡◌, ℕ, List, [], ◌∷◌, ◌++◌, length, ◌≤◌, take, map, refl, sym, ap}
+use Rattle.std.proofs.Common.{◌∙◌, append_assoc}
 use Rattle.std.specs.List.{join_with_byte}
 use Rattle.std.proofs.lemmas.List.{append-nil, take_all}
 use Rattle.pct_ask.specs.TraceText.{line_text}
 use Rattle.trace_text.specs.Spaced.{spaced}
 
-join-spaced : (word : List ℕ) (words : List (List ℕ)) → join_with_byte 32 (word ∷ words) ≡ word ++ spaced words
+join-spaced : (word : List ℕ) (words : List (List ℕ))
+    → join_with_byte 32 (word ∷ words) ≡ word ++ spaced words
 join-spaced word [] = sym (append-nil word)
-join-spaced word (next ∷ words) = ap (λ (rest : List ℕ). word ++ (32 ∷ rest)) (join-spaced next words)
+join-spaced word (next ∷ words) =
+    ap (λ (rest : List ℕ). word ++ (32 ∷ rest)) (join-spaced next words)
 
-pub line-spaced : (old word : List ℕ) (words : List (List ℕ)) → (old ++ (word ++ spaced words)) ++ 10 ∷ [] ≡ old ++ line_text (word ∷ words)
+pub line-spaced : (old word : List ℕ) (words : List (List ℕ))
+    → (old ++ (word ++ spaced words)) ++ 10 ∷ [] ≡ old ++ line_text (word ∷ words)
 line-spaced old word words =
-    append_assoc old (word ++ spaced words) (10 ∷ []) ∙ ap (λ (line : List ℕ). old ++ (line ++ 10 ∷ [])) (sym (join-spaced word words))
+    append_assoc old (word ++ spaced words) (10 ∷ [])
+    ∙ ap (λ (line : List ℕ). old ++ (line ++ 10 ∷ [])) (sym (join-spaced word words))
 
-pub line-of-four : (old a b c d : List ℕ) → (((((old ++ a) ++ 32 ∷ b) ++ 32 ∷ c) ++ 32 ∷ d) ++ 10 ∷ []) ≡ old ++ line_text (a ∷ b ∷ c ∷ d ∷ [])
+pub line-of-four : (old a b c d : List ℕ)
+    → (((((old ++ a) ++ 32 ∷ b) ++ 32 ∷ c) ++ 32 ∷ d) ++ 10 ∷ [])
+    ≡ old ++ line_text (a ∷ b ∷ c ∷ d ∷ [])
 line-of-four old a b c d = simp append_assoc
 
-pub line-of-five : (old a b c d e : List ℕ) → ((((((old ++ a) ++ 32 ∷ b) ++ 32 ∷ c) ++ 32 ∷ d) ++ 32 ∷ e) ++ 10 ∷ []) ≡ old ++ line_text (a ∷ b ∷ c ∷ d ∷ e ∷ [])
+pub line-of-five : (old a b c d e : List ℕ)
+    → ((((((old ++ a) ++ 32 ∷ b) ++ 32 ∷ c) ++ 32 ∷ d) ++ 32 ∷ e) ++ 10 ∷ [])
+    ≡ old ++ line_text (a ∷ b ∷ c ∷ d ∷ e ∷ [])
 line-of-five old a b c d e =
-    ap (λ (line : List ℕ). line ++ 10 ∷ []) (append_assoc (((old ++ a) ++ 32 ∷ b) ++ 32 ∷ c) (32 ∷ d) (32 ∷ e)) ∙ line-of-four old a b c (d ++ 32 ∷ e)
+    ap (λ (line : List ℕ). line ++ 10 ∷ [])
+    (append_assoc (((old ++ a) ++ 32 ∷ b) ++ 32 ∷ c) (32 ∷ d) (32 ∷ e))
+    ∙ line-of-four old a b c (d ++ 32 ∷ e)
 
 -- a list of words that was gone through to its end
-pub line-of-all : {X : Type 0} (f : X → List ℕ) (old word now after : List ℕ) (xs : List X) (i : ℕ) → length xs ≤ i → now ≡ old ++ (word ++ spaced (map f (take i xs))) → after ≡ now ++ 10 ∷ []
+pub line-of-all : {X : Type 0} (f : X → List ℕ) (old word now after : List ℕ) (xs : List X) (i : ℕ)
+    → length xs ≤ i → now ≡ old ++ (word ++ spaced (map f (take i xs))) → after ≡ now ++ 10 ∷ []
     → after ≡ old ++ line_text (word ∷ map f xs)
 line-of-all f old word now after xs i past is ends =
-    ends ∙ ap (λ (line : List ℕ). line ++ 10 ∷ []) (is ∙ ap (λ (ys : List _). old ++ (word ++ spaced (map f ys))) (take_all i xs past)) ∙ line-spaced old word (map f xs)
+    ends ∙ ap (λ (line : List ℕ). line ++ 10 ∷ [])
+    (is ∙ ap (λ (ys : List _). old ++ (word ++ spaced (map f ys))) (take_all i xs past))
+    ∙ line-spaced old word (map f xs)
 
 -- the words behind an order's names, joined to its line
 spaced-append : (words more : List (List ℕ)) → spaced (words ++ more) ≡ spaced words ++ spaced more

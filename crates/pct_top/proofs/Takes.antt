@@ -1,5 +1,6 @@
 -- What `find` finds is taken up by `expose`.
-use Rattle.std.proofs.Common.{◌≡◌, ℕ, suc, ◌≤◌, ◌<◌, inl, inr, List, [], ◌∷◌, length, map, Option, Some, Ok, Err, Bool, true, take, refl, sym, ap, subst, ◌∙◌, arith}
+use Rattle.std.proofs.Common.{◌≡◌, ℕ, suc, ◌≤◌, ◌<◌, inl, inr, List, [], ◌∷◌, length, map, Some, Ok}
+use Rattle.std.proofs.Common.{Bool, true, take, refl, sym, ap, subst, ◌∙◌, arith}
 use Rattle.std.specs.Prelude.{slice_index}
 use Rattle.std.specs.Option.{option_map, option_and_then}
 use Rattle.std.proofs.lemmas.List.{take_all}
@@ -7,7 +8,6 @@ use Rattle.pct_ask.specs.NameLists.{NameLists, AreNames}
 use Rattle.pct_ask.specs.VerdictText.{thread_name}
 use Rattle.pct_ask.specs.declared.Deal.{Deal}
 use Rattle.pct_ask.specs.declared.event.Event.{Event}
-use Rattle.pct_ask.specs.declared.verdict.Verdict.{Verdict}
 use Rattle.pct_ask.proofs.laws.Names.{place_of-thread}
 use Rattle.pct_ask.proofs.laws.SameVerdicts.{verdict-Decides}
 use Rattle.rank_now.specs.Order.{IsOrder}
@@ -18,7 +18,7 @@ use Rattle.script_tree.specs.ScriptText.{ScriptText}
 use Rattle.script_tree.specs.DealOf.{IsDealOf}
 use Rattle.script_tree.specs.Grammar.{Spells}
 use Rattle.script_body.specs.Bodies.{bodies_of}
-use Rattle.worker_run.specs.Run.{Run, run, directed}
+use Rattle.worker_run.specs.Run.{Run, directed}
 use Rattle.directive.specs.declared.directive.Directive.{Directive}
 use Rattle.directive.specs.DirectiveText.{DirectiveText}
 use Rattle.directive.specs.Directive.{IsDirective}
@@ -40,7 +40,7 @@ use Rattle.pct_top.specs.Ordered.{threads_named, NamesAll}
 use Rattle.pct_top.specs.Runs.{told_trace}
 use Rattle.pct_top.specs.Printed.{Files, Printed, script_bytes, directive_bytes, OfDirective}
 use Rattle.pct_top.specs.Output.{OfTaken, OfCommand}
-use Rattle.pct_top.specs.commands.Find.{plan_of, IsWellFormed, told_found, PrintsFound}
+use Rattle.pct_top.specs.commands.Find.{plan_of, IsWellFormed, told_found}
 use Rattle.pct_top.specs.commands.Expose.{TellsExposed, PrintsExposed, OfExpose}
 use Rattle.pct_top.specs.TakenUp.{FindsIn, OrdersTheRun, ExposesIn, IsTakenUp, FoundAreTakenUp}
 use Rattle.pct_top.proofs.Work.{some_same, named_order, named_directive, named_script}
@@ -120,7 +120,8 @@ module _ (script : ScriptText) (deal : Deal) (of : IsDealOf script deal) (order 
       → ExposesIn taken file other (map (thread_name script.names) order) k limit
       → later file ≡ files file → later other ≡ text → (printed : Printed)
       → OfTaken taken later printed → printed.status ≡ Done
-  later_done files file text spells told (Ok (Expose name directive items word steps most)) later other asks here there printed prints =
+  later_done files file text spells told (Ok (Expose name directive items word steps most)) later
+      other asks here there printed prints =
       let names = script.names in
       let bytes : take directive_bytes (later directive) ≡ text =
       ap (λ n. take directive_bytes (later n)) (sym asks.1)
@@ -142,12 +143,14 @@ module _ (script : ScriptText) (deal : Deal) (of : IsDealOf script deal) (order 
       let B : List ℕ → Type 0 = λ b. OfExpose b mine word k limit script deal printed in
       of_expose spells.names text told word printed
       (subst B bytes (subst L (sym asks.4) (subst K (sym asks.3) (subst I (sym asks.2) shown))))
-  later_done files file text spells told taken later other asks here there printed prints = absurd asks
+  later_done files file text spells told taken later other asks here there printed prints =
+      absurd asks
 
 -- ---- what is found
 
 module _ (taken : Taken) (files : Files) (file : List ℕ) (limit : ℕ) (script : ScriptText)
-    (deal : Deal) (of : IsDealOf script deal) (spells : Spells (take script_bytes (files file)) script)
+    (deal : Deal) (of : IsDealOf script deal)
+    (spells : Spells (take script_bytes (files file)) script)
     (order : List ℕ) (once : IsOrder order)
     (whole : length order ≡ length (script.names).threads)
     (ordered : OrdersTheRun taken script deal order) (points : List ℕ) (printed : Printed)
@@ -172,7 +175,8 @@ module _ (taken : Taken) (files : Files) (file : List ℕ) (limit : ℕ) (script
         told = told;
         leads = leads.is_directed;
         takes = λ words later other k asks here there long.
-            later_done script deal of order once whole limit plan leads.made leads.is_directed k long
+            later_done script deal of order once whole limit plan leads.made leads.is_directed k
+            long
             files file printed.out spells told (settings words) later other asks here there;
       }
   found_up (Passes steps) finds form is =
@@ -185,19 +189,22 @@ IsFinding status = status ≡ Found
 by_taken : (taken : Taken) (files : Files) (printed : Printed) (file : List ℕ) (limit : ℕ)
     → FindsIn taken file limit → OfTaken taken files printed → printed.status ≡ Found
     → IsTakenUp taken files file printed.out limit
-by_taken (Ok (RunOrder name items word points most Find)) files printed file limit same (inl of) status = elim of.2.2 [
-  | inl given ↦
-      let here : Taken = Ok (RunOrder name items word points most Find) in
-      let prints = given.2 in
-      let up = found_up here files name most of.0 of.2.0 of.2.1 of.1 given.0 (given.1).once
-      (given.1).whole given.1 points printed status prints.0 prints.1 prints.2 prints.3 in
-      subst (λ f. IsTakenUp here files f printed.out limit) (sym same.0)
-      (subst (λ l. IsTakenUp here files name printed.out l) (sym same.1) up)
-  | inr none ↦ absurd (not_refused IsFinding (Usage word) printed none.1 (λ e. cc) status)
-]
-by_taken (Ok (RunOrder name items word points most Find)) files printed file limit same (inr bad) status =
+by_taken (Ok (RunOrder name items word points most Find)) files printed file limit same (inl of)
+    status = elim of.2.2 [
+      | inl given ↦
+          let here : Taken = Ok (RunOrder name items word points most Find) in
+          let prints = given.2 in
+          let up = found_up here files name most of.0 of.2.0 of.2.1 of.1 given.0 (given.1).once
+          (given.1).whole given.1 points printed status prints.0 prints.1 prints.2 prints.3 in
+          subst (λ f. IsTakenUp here files f printed.out limit) (sym same.0)
+          (subst (λ l. IsTakenUp here files name printed.out l) (sym same.1) up)
+      | inr none ↦ absurd (not_refused IsFinding (Usage word) printed none.1 (λ e. cc) status)
+    ]
+by_taken (Ok (RunOrder name items word points most Find)) files printed file limit same (inr bad)
+    status =
     absurd (not_refused IsFinding (Script bad.0 bad.1) printed bad.3 (λ e. cc) status)
-by_taken (Ok (RunSeed name seed depth steps most Find)) files printed file limit same (inl of) status =
+by_taken (Ok (RunSeed name seed depth steps most Find)) files printed file limit same (inl of)
+    status =
     let here : Taken = Ok (RunSeed name seed depth steps most Find) in
     let script = of.0 in
     let n = length (script.names).threads in
@@ -206,10 +213,12 @@ by_taken (Ok (RunSeed name seed depth steps most Find)) files printed file limit
     let is = order-of-is n (drawn_places seed 0 n) (drawn-are seed 0 n) in
     let prints = of.2.2.2 in
     let up = found_up here files name most script of.2.0 of.2.1 of.1 own.order
-    is.is_order is.whole (k, of.2.2.1, refl) own.points printed status prints.0 prints.1 prints.2 prints.3 in
+    is.is_order is.whole (k, of.2.2.1, refl) own.points printed status prints.0 prints.1 prints.2
+    prints.3 in
     subst (λ f. IsTakenUp here files f printed.out limit) (sym same.0)
     (subst (λ l. IsTakenUp here files name printed.out l) (sym same.1) up)
-by_taken (Ok (RunSeed name seed depth steps most Find)) files printed file limit same (inr bad) status =
+by_taken (Ok (RunSeed name seed depth steps most Find)) files printed file limit same (inr bad)
+    status =
     absurd (not_refused IsFinding (Script bad.0 bad.1) printed bad.3 (λ e. cc) status)
 by_taken taken files printed file limit same of status = absurd same
 

@@ -1,5 +1,6 @@
 -- The order of work prints one thing: of a script, of an order of its threads and of a trace.
-use Rattle.std.proofs.Common.{◌≡◌, ℕ, inl, inr, List, length, Option, Some, None, Ok, Err, sym, subst, ap, ◌∙◌}
+use Rattle.std.proofs.Common.{◌≡◌, ℕ, inl, inr, List, length, Option, Some, None, Ok, Err, sym}
+use Rattle.std.proofs.Common.{subst, ap, ◌∙◌}
 use Rattle.pct_ask.specs.declared.Deal.{Deal}
 use Rattle.pct_ask.specs.NameLists.{NameLists, AreNames}
 use Rattle.script_tree.specs.declared.fault.ScriptFault.{ScriptFault}
@@ -21,9 +22,10 @@ use Rattle.directive.specs.declared.fault.DirectiveFault.{DirectiveFault}
 use Rattle.directive.specs.DirectiveText.{DirectiveText}
 use Rattle.directive.specs.Directive.{IsDirective}
 use Rattle.directive.specs.Faults.{IsDirectiveFault}
-use Rattle.directive.specs.Answers.{told as plain, TellsOne, FailsOnce}
+use Rattle.directive.specs.Answers.{told as plain}
 use Rattle.directive.proofs.Laws.{each-has-one}
-use Rattle.pct_top.specs.declared.refusal.Refusal.TheVariants.{Script, Trace, Directive as BadDirective}
+use Rattle.pct_top.specs.declared.refusal.Refusal.TheVariants.{Script, Trace}
+use Rattle.pct_top.specs.declared.refusal.Refusal.TheVariants.{Directive as BadDirective}
 use Rattle.pct_top.specs.Ordered.{NamesAll, OrderFits}
 use Rattle.pct_top.specs.Printed.{Printed, refused, OfScript, OfOrder, OfTrace, OfDirective}
 use Rattle.pct_top.proofs.Deals.{one_deal}
@@ -38,8 +40,10 @@ some_same a b e = ap (given_or a) e
 
 -- ---- an order
 
-module _ (names : NameLists) (items : List (List ℕ)) (word : ℕ) (of : List ℕ → Printed → Type 0) where
-  pub one_of_order : ((order : List ℕ) (p q : Printed) → of order p → of order q → p ≡ q) → (p q : Printed) → OfOrder names items word of p → OfOrder names items word of q → p ≡ q
+module _ (names : NameLists) (items : List (List ℕ)) (word : ℕ)
+    (of : List ℕ → Printed → Type 0) where
+  pub one_of_order : ((order : List ℕ) (p q : Printed) → of order p → of order q → p ≡ q)
+      → (p q : Printed) → OfOrder names items word of p → OfOrder names items word of q → p ≡ q
   one_of_order one p q (inl a) (inl b) =
       let same : a.0 ≡ b.0 = some_same a.0 b.0 (sym (a.1).named ∙ (b.1).named) in
       one b.0 p q (subst (λ (o : List ℕ). of o p) same a.2) b.2
@@ -48,7 +52,8 @@ module _ (names : NameLists) (items : List (List ℕ)) (word : ℕ) (of : List �
   one_of_order one p q (inr a) (inr b) = a.1 ∙ sym b.1
 
   -- an order that fits isn't refused
-  pub order_fits : (P : Printed → Type 0) → ((order : List ℕ) (p : Printed) → of order p → P p) → (p : Printed) → OrderFits names (Some items) → OfOrder names items word of p → P p
+  pub order_fits : (P : Printed → Type 0) → ((order : List ℕ) (p : Printed) → of order p → P p)
+      → (p : Printed) → OrderFits names (Some items) → OfOrder names items word of p → P p
   order_fits P has p fits (inl a) = has a.0 p a.2
   order_fits P has p fits (inr a) = absurd (a.0 fits.0 fits.1)
 
@@ -62,20 +67,24 @@ module _ (names : NameLists) (items : List (List ℕ)) (word : ℕ) (of : List �
 -- ---- a trace
 
 module _ (bytes : List ℕ) (names : NameLists) (are : AreNames names) where
-  one_trace : (file other : TraceFile) → IsTrace bytes names file → IsTrace bytes names other → file ≡ other
+  one_trace : (file other : TraceFile) → IsTrace bytes names file → IsTrace bytes names other
+      → file ≡ other
   one_trace file other a b = elim (written-answer names bytes other (Ok file) are b a) [
     | inl e ↦ cc
     | inr e ↦ absurd cc
   ]
 
-  traced_no_fault : (file : TraceFile) (line : ℕ) (kind : TraceFault) → IsTrace bytes names file → ¬ IsTraceFault bytes names line kind
-  traced_no_fault file line kind a b = elim (written-answer names bytes file (Err (Bad line kind)) are a b) [
-    | inl e ↦ absurd cc
-    | inr e ↦ absurd cc
-  ]
+  traced_no_fault : (file : TraceFile) (line : ℕ) (kind : TraceFault) → IsTrace bytes names file
+      → ¬ IsTraceFault bytes names line kind
+  traced_no_fault file line kind a b =
+      elim (written-answer names bytes file (Err (Bad line kind)) are a b) [
+        | inl e ↦ absurd cc
+        | inr e ↦ absurd cc
+      ]
 
   module _ (of : TraceFile → Printed → Type 0) where
-    pub one_of_trace : ((file : TraceFile) (p q : Printed) → of file p → of file q → p ≡ q) → (p q : Printed) → OfTrace bytes names of p → OfTrace bytes names of q → p ≡ q
+    pub one_of_trace : ((file : TraceFile) (p q : Printed) → of file p → of file q → p ≡ q)
+        → (p q : Printed) → OfTrace bytes names of p → OfTrace bytes names of q → p ≡ q
     one_of_trace one p q (inl a) (inl b) =
         let same = one_trace a.0 b.0 a.1 b.1 in
         one b.0 p q (subst (λ (f : TraceFile). of f p) same a.2) b.2
@@ -83,10 +92,13 @@ module _ (bytes : List ℕ) (names : NameLists) (are : AreNames names) where
     one_of_trace one p q (inr a) (inl b) = absurd (traced_no_fault b.0 a.0 a.1 b.1 a.2)
     one_of_trace one p q (inr a) (inr b) =
         let same = one-fault (length bytes) names (pieces_of bytes) a.0 b.0 a.1 b.1 a.2 b.2 in
-        a.3 ∙ ap (λ n. refused (Trace n a.1)) same.0 ∙ ap (λ (k : TraceFault). refused (Trace b.0 k)) same.1 ∙ sym b.3
+        a.3 ∙ ap (λ n. refused (Trace n a.1)) same.0
+        ∙ ap (λ (k : TraceFault). refused (Trace b.0 k)) same.1 ∙ sym b.3
 
     -- a trace isn't refused
-    pub trace_fits : (P : Printed → Type 0) → ((file : TraceFile) (p : Printed) → of file p → P p) → (p : Printed) → (file : TraceFile) × IsTrace bytes names file → OfTrace bytes names of p → P p
+    pub trace_fits : (P : Printed → Type 0) → ((file : TraceFile) (p : Printed) → of file p → P p)
+        → (p : Printed) → (file : TraceFile) × IsTrace bytes names file → OfTrace bytes names of p
+        → P p
     trace_fits P has p fits (inl a) = has a.0 p a.2
     trace_fits P has p fits (inr a) = absurd (traced_no_fault fits.0 a.0 a.1 fits.1 a.2)
 
@@ -123,8 +135,10 @@ module _ (bytes : List ℕ) (names : NameLists) (are : AreNames names) where
         → (p q : Printed) → OfDirective bytes names of p → OfDirective bytes names of q → p ≡ q
     one_of_directive one p q (inl a) (inl b) =
         one a.0 b.0 p q (one_plan (plain a.0) (plain b.0) a.1 b.1) a.2 b.2
-    one_of_directive one p q (inl a) (inr b) = absurd (directive_no_fault (plain a.0) b.0 b.1 a.1 b.2)
-    one_of_directive one p q (inr a) (inl b) = absurd (directive_no_fault (plain b.0) a.0 a.1 b.1 a.2)
+    one_of_directive one p q (inl a) (inr b) =
+        absurd (directive_no_fault (plain a.0) b.0 b.1 a.1 b.2)
+    one_of_directive one p q (inr a) (inl b) =
+        absurd (directive_no_fault (plain b.0) a.0 a.1 b.1 a.2)
     one_of_directive one p q (inr a) (inr b) =
         let same = one_directive_fault a.0 b.0 a.1 b.1 a.2 b.2 in
         a.3 ∙ ap (λ n. refused (BadDirective n a.1)) same.0
@@ -149,7 +163,9 @@ module _ (bytes : List ℕ) (names : NameLists) (are : AreNames names) where
 -- ---- a script
 
 module _ (bytes : List ℕ) (of : ScriptText → Deal → Printed → Type 0) where
-  pub one_of_script : ((script : ScriptText) (deal : Deal) (p q : Printed) → AreNames script.names → of script deal p → of script deal q → p ≡ q) → (p q : Printed) → OfScript bytes of p → OfScript bytes of q → p ≡ q
+  pub one_of_script : ((script : ScriptText) (deal : Deal) (p q : Printed) → AreNames script.names
+      → of script deal p → of script deal q → p ≡ q) → (p q : Printed) → OfScript bytes of p
+      → OfScript bytes of q → p ≡ q
   one_of_script one p q (inl a) (inl b) =
       let script = b.0 in
       let same = one_script bytes a.0 b.0 a.1 b.1 in
@@ -161,16 +177,20 @@ module _ (bytes : List ℕ) (of : ScriptText → Deal → Printed → Type 0) wh
   one_of_script one p q (inr a) (inl b) = absurd (spelled_no_fault bytes b.0 a.0 a.1 b.1 a.2)
   one_of_script one p q (inr a) (inr b) =
       let same = one_fault bytes a.0 b.0 a.1 b.1 a.2 b.2 in
-      a.3 ∙ ap (λ n. refused (Script n a.1)) same.0 ∙ ap (λ (k : ScriptFault). refused (Script b.0 k)) same.1 ∙ sym b.3
+      a.3 ∙ ap (λ n. refused (Script n a.1)) same.0
+      ∙ ap (λ (k : ScriptFault). refused (Script b.0 k)) same.1 ∙ sym b.3
 
   -- a script that is spelled isn't refused
-  pub script_fits : (P : Printed → Type 0) (script : ScriptText) → Spells bytes script → ((deal : Deal) (p : Printed) → AreNames script.names → of script deal p → P p) → (p : Printed) → OfScript bytes of p → P p
+  pub script_fits : (P : Printed → Type 0) (script : ScriptText) → Spells bytes script
+      → ((deal : Deal) (p : Printed) → AreNames script.names → of script deal p → P p)
+      → (p : Printed) → OfScript bytes of p → P p
   script_fits P script spells has p (inl a) =
       let same = one_script bytes a.0 script a.1 spells in
       let T : ScriptText → Type 0 = λ s. (deal : Deal) × IsDealOf s deal × of s deal p in
       let moved : T script = subst T same a.2 in
       has moved.0 p spells.names moved.2
-  script_fits P script spells has p (inr a) = absurd (spelled_no_fault bytes script a.0 a.1 spells a.2)
+  script_fits P script spells has p (inr a) =
+      absurd (spelled_no_fault bytes script a.0 a.1 spells a.2)
 
   -- where the bytes spell this script, this is printed of it and of what its threads share
   pub named_script : (script : ScriptText) (deal : Deal) → Spells bytes script

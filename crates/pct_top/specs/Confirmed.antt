@@ -1,6 +1,6 @@
 -- Replaying a written trace gives its verdict, said of the program: what `run` prints whole,
 -- `replay` confirms (this project).
-use Rattle.std.specs.Prelude.{◌≡◌, ◌⊎◌, ℕ, true, false, List, [], ◌∷◌, Ok, Err, codes, take}
+use Rattle.std.specs.Prelude.{◌≡◌, ◌⊎◌, ℕ, true, false, List, [], ◌∷◌, Ok, codes, take}
 use Rattle.pct_ask.specs.NameLists.{NameLists}
 use Rattle.pct_ask.specs.VerdictText.{named, verdict_words}
 use Rattle.pct_ask.specs.TraceText.{line_text}

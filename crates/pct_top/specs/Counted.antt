@@ -1,6 +1,6 @@
 -- The count of a certified directive, said of the program: where `certify` is done, so many of the
 -- choices of an order and points lead to the directive's verdict (this project).
-use Rattle.std.specs.Prelude.{◌≡◌, ℕ, ◌*◌, ◌^◌, ◌≤◌, List, length, Ok, Err, take}
+use Rattle.std.specs.Prelude.{◌≡◌, ℕ, ◌*◌, ◌^◌, ◌≤◌, List, length, Ok, take}
 use Rattle.pct_ask.specs.declared.Deal.{Deal}
 use Rattle.script_tree.specs.ScriptText.{ScriptText}
 use Rattle.script_tree.specs.DealOf.{IsDealOf}

@@ -17,7 +17,7 @@ use Rattle.pct_top.specs.declared.refusal.Refusal.TheVariants.{Script, Trace}
 use Rattle.pct_top.specs.declared.refusal.Refusal.TheVariants.{Directive as BadDirective, Read}
 use Rattle.pct_top.specs.declared.refusal.Refusal.TheVariants.{Memory}
 use Rattle.pct_top.specs.declared.test.Test.{Test}
-use Rattle.pct_top.specs.Printed.{Files, script_bytes, trace_bytes, directive_bytes}
+use Rattle.pct_top.specs.Printed.{Files, trace_bytes, directive_bytes}
 
 -- where the files are told, this text of them has that
 abbrev pub HasText : Option Files → (Files → List ℕ) → (List ℕ → Type 0) → Type 0

@@ -13,6 +13,7 @@ pub mod Priorities
 pub mod Known
 pub mod commands
 pub mod Reports
+pub mod Reported
 pub mod Output
 pub mod Outcome
 pub mod Files

@@ -1,5 +1,5 @@
 -- What comes of a command, before anything is put.
-use Rattle.std.specs.Prelude.{◌≡◌, ℕ, List, Option, Some, Result, Ok, Err}
+use Rattle.std.specs.Prelude.{◌≡◌, Option, Some, Result, Ok, Err}
 use Rattle.pct_top.specs.declared.refusal.Refusal.{Refusal}
 use Rattle.pct_top.specs.declared.refusal.Refusal.TheVariants.{Usage, Script, Trace, Directive}
 use Rattle.pct_top.specs.declared.refusal.Refusal.TheVariants.{Read, Write, Memory}

@@ -1,7 +1,7 @@
 -- What a call puts on the output and says on the error stream, and how it ends, by the order of
 -- work: the script is read and parsed, then an order is looked up, then a second file is read and
 -- parsed, and then the runs are made (this project).
-use Rattle.std.specs.Prelude.{◌≡◌, ℕ, ◌⊎◌, Bool, if◌then◌else◌, List, [], Option, Some, None}
+use Rattle.std.specs.Prelude.{◌≡◌, ℕ, ◌⊎◌, Bool, if◌then◌else◌, List, []}
 use Rattle.pct_ask.specs.NameLists.{NameLists}
 use Rattle.pct_ask.specs.declared.Deal.{Deal}
 use Rattle.script_tree.specs.declared.fault.ScriptFault.{ScriptFault}

@@ -1,6 +1,6 @@
 -- What `find` prints is a directive that `expose` takes, and whose verdict it finds again (this
 -- project).
-use Rattle.std.specs.Prelude.{◌≡◌, ℕ, ◌≤◌, List, length, map, Some, Ok, Err, take}
+use Rattle.std.specs.Prelude.{◌≡◌, ℕ, ◌≤◌, List, length, map, Some, Ok, take}
 use Rattle.pct_ask.specs.VerdictText.{thread_name}
 use Rattle.pct_ask.specs.declared.Deal.{Deal}
 use Rattle.pct_ask.specs.declared.event.Event.{Event}

@@ -1,11 +1,13 @@
 //! From the settings to a command's outcome: an arm for each command.
 
-ghost use Rattle.std.specs.Prelude.{◌≡◌, Ok, IfOk};
+ghost use Rattle.std.specs.Prelude.{◌≡◌, Ok, IfOk, IsSome};
 ghost use Rattle.script_tree.specs.ScriptSeen.{text};
 ghost use Rattle.pct_top.specs.Settings.{AreLawful};
 ghost use Rattle.pct_top.specs.Ready.{IsReady};
-ghost use Rattle.pct_top.specs.Output.{script_file, script_text, OfCommand, OfTaken};
-ghost use Rattle.pct_top.specs.Outcome.{Comes};
+ghost use Rattle.pct_top.specs.Printed.{Files};
+ghost use Rattle.pct_top.specs.Reported.{report_asked};
+ghost use Rattle.pct_top.specs.Output.{script_file, script_text, second_file, OfCommand, OfTaken};
+ghost use Rattle.pct_top.specs.Outcome.{Gives, Comes};
 ghost use Rattle.pct_top.specs.Files.{GivesTest, KeepsNames, Misses};
 ghost use Rattle.pct_top.specs.Call.{MissesSecond, ReadFailed};
 
@@ -41,21 +43,19 @@ fn test_of<H: Shelf>(alloc: Global, settings: &Settings, shelf: &mut H) -> Resul
     }
 }
 
-/// What comes of a command over its script.
-fn command_outcome<R: Threads + Wait + Sync, H: Shelf, G: Gate>(
+/// What comes of a command that reports on one run.
+fn run_outcome<R: Threads + Wait + Sync, G: Gate>(
     rt: &R,
     alloc: Global,
     settings: &Settings,
     test: &Test,
-    shelf: &mut H,
     gate: &G,
 ) -> Result<Outcome, Refusal>
     requires lawful { AreLawful settings.now }
     requires ready { IsReady test.now }
-    ensures { Comes (λ files. OfCommand settings.now files (text test.now.script) test.now.deal)
-        (H.files shelf.old)
-        (MissesSecond settings.now (text test.now.script) (H.failed shelf.old) (H.failed shelf.new))
-        result }
+    requires report { IsSome (report_asked settings.now) }
+    ensures { (files : Files)
+        → Gives (OfCommand settings.now files (text test.now.script) test.now.deal) result }
 {
     match settings {
         Settings::RunOrder {
@@ -76,18 +76,28 @@ fn command_outcome<R: Threads + Wait + Sync, H: Shelf, G: Gate>(
         } => Ok(report_seed(
             rt, alloc, *report, test, *seed, *depth, *steps, *limit, gate,
         )?),
-        Settings::Campaign {
-            first,
-            count,
-            depth,
-            steps,
-            limit,
-            json,
-            ..
-        } => Ok(seeds::report_on(
-            rt, alloc, test, *first, *count, *depth, *steps, *limit, *json, gate,
-        )?),
-        Settings::Big { pieces } => Ok(big::big_of(rt, alloc, test, *pieces, gate)?),
+        _ => unreachable!(),
+    }
+}
+
+/// What comes of a command over its script and a second file.
+fn second_outcome<R: Threads + Wait + Sync, H: Shelf, G: Gate>(
+    rt: &R,
+    alloc: Global,
+    settings: &Settings,
+    test: &Test,
+    shelf: &mut H,
+    gate: &G,
+) -> Result<Outcome, Refusal>
+    requires lawful { AreLawful settings.now }
+    requires ready { IsReady test.now }
+    requires second { IsSome (second_file settings.now) }
+    ensures { Comes (λ files. OfCommand settings.now files (text test.now.script) test.now.deal)
+        (H.files shelf.old)
+        (MissesSecond settings.now (text test.now.script) (H.failed shelf.old) (H.failed shelf.new))
+        result }
+{
+    match settings {
         Settings::Replay { trace, .. } => {
             replay::reply_to_file(rt, alloc, test, trace.as_str(), shelf, gate)
         }
@@ -113,6 +123,44 @@ fn command_outcome<R: Threads + Wait + Sync, H: Shelf, G: Gate>(
             let directive = directive.as_str();
             certify::certify_file(rt, alloc, test, directive, *steps, *limit, shelf, gate)
         }
+        _ => unreachable!(),
+    }
+}
+
+/// What comes of a command over its script.
+fn command_outcome<R: Threads + Wait + Sync, H: Shelf, G: Gate>(
+    rt: &R,
+    alloc: Global,
+    settings: &Settings,
+    test: &Test,
+    shelf: &mut H,
+    gate: &G,
+) -> Result<Outcome, Refusal>
+    requires lawful { AreLawful settings.now }
+    requires ready { IsReady test.now }
+    ensures { Comes (λ files. OfCommand settings.now files (text test.now.script) test.now.deal)
+        (H.files shelf.old)
+        (MissesSecond settings.now (text test.now.script) (H.failed shelf.old) (H.failed shelf.new))
+        result }
+{
+    match settings {
+        Settings::RunOrder { .. } => run_outcome(rt, alloc, settings, test, gate),
+        Settings::RunSeed { .. } => run_outcome(rt, alloc, settings, test, gate),
+        Settings::Campaign {
+            first,
+            count,
+            depth,
+            steps,
+            limit,
+            json,
+            ..
+        } => Ok(seeds::report_on(
+            rt, alloc, test, *first, *count, *depth, *steps, *limit, *json, gate,
+        )?),
+        Settings::Big { pieces } => Ok(big::big_of(rt, alloc, test, *pieces, gate)?),
+        Settings::Replay { .. } => second_outcome(rt, alloc, settings, test, shelf, gate),
+        Settings::Expose { .. } => second_outcome(rt, alloc, settings, test, shelf, gate),
+        Settings::Certify { .. } => second_outcome(rt, alloc, settings, test, shelf, gate),
     }
 }
 

@@ -1,7 +1,7 @@
 //! The values of options.
 
 ghost use Rattle.std.specs.Prelude.{◌≡◌, ◌≤◌, IfOk, IfSome};
-ghost use Rattle.std.specs.List.{slice_split, list_all};
+ghost use Rattle.std.specs.List.{list_all};
 ghost use Rattle.pct_ask.specs.Words.{is_name};
 ghost use Rattle.pct_top.specs.Values as values;
 

@@ -1,5 +1,5 @@
 -- What may be written of a finding: it names only what the script has.
-use Rattle.std.specs.Prelude.{ℕ, ◌≤◌, List, length, All}
+use Rattle.std.specs.Prelude.{◌≤◌, List, length, All}
 use Rattle.pct_ask.specs.NameLists.{NameLists}
 use Rattle.pct_ask.specs.VerdictText.{HasNames, IsWhole}
 use Rattle.pct_ask.specs.declared.verdict.Verdict.{Verdict}

@@ -1,6 +1,6 @@
 //! `big`: the campaign of the large script, counted.
 
-ghost use Rattle.std.specs.Prelude.{◌≡◌, ◌≤◌, List, length, IfOk};
+ghost use Rattle.std.specs.Prelude.{◌≡◌, ◌≤◌, IfOk};
 ghost use Rattle.std.specs.List.{flat_map};
 ghost use Rattle.pct_ask.specs.TraceText.{line_text};
 ghost use Rattle.script_tree.specs.ScriptSeen.{text};

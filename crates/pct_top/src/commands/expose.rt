@@ -1,9 +1,7 @@
 //! `expose`: the run that a directive exposes under an order.
 
-ghost use Rattle.std.specs.Prelude.{◌≡◌, ℕ, List, length, IfOk, Some, take};
+ghost use Rattle.std.specs.Prelude.{◌≡◌, length, IfOk, Some, take};
 ghost use Rattle.rank_now.specs.Order.{IsOrder};
-ghost use Rattle.directive.specs.Answers.{told as plain};
-ghost use Rattle.directive.specs.Directive.{IsDirective};
 ghost use Rattle.directive_run.specs.Exposing.{Exposes};
 ghost use Rattle.script_body.specs.Bodies.{bodies_of};
 ghost use Rattle.script_tree.specs.ScriptSeen.{text};

@@ -1,6 +1,6 @@
 //! `replay`: a trace is run again, and the reply is written line by line.
 
-ghost use Rattle.std.specs.Prelude.{◌≡◌, ℕ, [], ◌∷◌, ◌++◌, List, Some, OnOk, IfOk, take, codes};
+ghost use Rattle.std.specs.Prelude.{◌≡◌, ℕ, ◌∷◌, ◌++◌, List, Some, OnOk, IfOk, take, codes};
 ghost use Rattle.pct_ask.specs.TraceText.{line_text};
 ghost use Rattle.script_tree.specs.ScriptSeen.{text};
 ghost use Rattle.trace_text.specs.Trace.{IsTrace};

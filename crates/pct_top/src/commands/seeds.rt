@@ -1,7 +1,6 @@
 //! `campaign`: the report on a script's runs over seeds.
 
-ghost use Rattle.std.specs.Prelude.{◌≡◌, List, length, All, IfOk, IfSome};
-ghost use Rattle.pct_ask.specs.declared.event.Row.{Row};
+ghost use Rattle.std.specs.Prelude.{◌≡◌, All, IfOk, IfSome};
 ghost use Rattle.script_tree.specs.ScriptSeen.{text};
 ghost use Rattle.trace_text.specs.Lawful.{IsStepCount};
 ghost use Rattle.report_text.specs.Report.{IsWritable};

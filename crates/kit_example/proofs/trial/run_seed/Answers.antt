@@ -12,7 +12,8 @@ run_boxed-requires-clause-in_range g c = λ κs p.
     let mutexes : 1 ≤ sizes.mutexes = omega (arith, is.mutexes) in
     let one : c.args.filled < sizes.conds = omega (arith, is.conds, c.requires.filled) in
     let other : c.args.emptied < sizes.conds = omega (arith, is.conds, c.requires.emptied) in
-    boxed-in-range sizes _ c.in_ok-bodies.bodies.items c.args.one c.args.other c.args.last c.in_ok-bodies.ensures
+    boxed-in-range sizes _ c.in_ok-bodies.bodies.items c.args.one c.args.other c.args.last
+    c.in_ok-bodies.ensures
     (taker-in-range sizes vars mutexes c.args.filled c.args.emptied one other _ c.requires.one)
     (taker-in-range sizes vars mutexes c.args.filled c.args.emptied one other _ c.requires.other)
     (putter-in-range sizes vars mutexes c.args.filled c.args.emptied one other _ c.requires.last)

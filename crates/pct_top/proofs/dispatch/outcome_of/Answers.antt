@@ -11,19 +11,37 @@ use Rattle.pct_top.proofs.dispatch.outcome_of.Goals as goal
 pub returns-in-Err : goal.returns-in-Err
 returns-in-Err g c =
     let settings = c.args.settings.now in
-    let before : ShelfTold = record { files = g.H.Shelf.files c.args.shelf.now; failed = g.H.Shelf.failed c.args.shelf.now } in
-    let after : ShelfTold = record { files = g.H.Shelf.files c.test_of.new.shelf; failed = g.H.Shelf.failed c.test_of.new.shelf } in
-    comes_untested before.files (script_text settings) (OfCommand settings) (ReadFailed (Ok settings) before after) (Misses (script_file settings) before.failed after.failed) (script_missed settings before after) c.in-Err.refusal c.in-Err.ensures.test
+    let before : ShelfTold = record {
+      files = g.H.Shelf.files c.args.shelf.now;
+      failed = g.H.Shelf.failed c.args.shelf.now;
+    } in
+    let after : ShelfTold = record {
+      files = g.H.Shelf.files c.test_of.new.shelf;
+      failed = g.H.Shelf.failed c.test_of.new.shelf;
+    } in
+    comes_untested before.files (script_text settings) (OfCommand settings)
+    (ReadFailed (Ok settings) before after)
+    (Misses (script_file settings) before.failed after.failed)
+    (script_missed settings before after) c.in-Err.refusal c.in-Err.ensures.test
 
 pub returns-in-Ok : goal.returns-in-Ok
 returns-in-Ok g c =
     let settings = c.args.settings.now in
     let test = c.in-Ok.test in
     let script = text test.script in
-    let before : ShelfTold = record { files = g.H.Shelf.files c.args.shelf.now; failed = g.H.Shelf.failed c.args.shelf.now } in
+    let before : ShelfTold = record {
+      files = g.H.Shelf.files c.args.shelf.now;
+      failed = g.H.Shelf.failed c.args.shelf.now;
+    } in
     let middle = g.H.Shelf.failed c.test_of.new.shelf in
-    let after : ShelfTold = record { files = g.H.Shelf.files c.command_outcome.new.shelf; failed = g.H.Shelf.failed c.command_outcome.new.shelf } in
+    let after : ShelfTold = record {
+      files = g.H.Shelf.files c.command_outcome.new.shelf;
+      failed = g.H.Shelf.failed c.command_outcome.new.shelf;
+    } in
     let missed : Type 0 = MissesSecond settings script middle after.failed in
-    comes_tested before.files (script_text settings) (OfCommand settings) (ReadFailed (Ok settings) before after) test c.in-Ok.ensures.test c.in-Ok.ensures.ready
-    missed (second_missed settings before after middle script c.in-Ok.ensures.test c.in-Ok.ensures.keeps) c.command_outcome.result
-    (subst (λ told. Comes (λ files. OfCommand settings files script test.deal) told missed c.command_outcome.result) c.in-Ok.ensures.files c.command_outcome.ensures)
+    comes_tested before.files (script_text settings) (OfCommand settings)
+    (ReadFailed (Ok settings) before after) test c.in-Ok.ensures.test c.in-Ok.ensures.ready
+    missed (second_missed settings before after middle script c.in-Ok.ensures.test
+    c.in-Ok.ensures.keeps) c.command_outcome.result
+    (subst (λ told. Comes (λ files. OfCommand settings files script test.deal) told missed
+    c.command_outcome.result) c.in-Ok.ensures.files c.command_outcome.ensures)

@@ -6,4 +6,5 @@ use Rattle.pct_top.proofs.lines.name_of.Goals as goal
 
 pub returns-in-None : goal.returns-in-None
 returns-in-None c =
-    sym (sym (unwrap_or-slice_get (list_of c.args.kind c.args.names.now) c.args.id []) ∙ ap (λ o. unwrap_or o []) (sym c.in-None.ensures.name))
+    sym (sym (unwrap_or-slice_get (list_of c.args.kind c.args.names.now) c.args.id [])
+    ∙ ap (λ o. unwrap_or o []) (sym c.in-None.ensures.name))

@@ -1,11 +1,13 @@
-use Rattle.std.proofs.Common.{◌≡◌, List, ℕ, ◌++◌, take, drop, ap, sym, ◌∙◌, subst, append_assoc, arith}
+use Rattle.std.proofs.Common.{◌≡◌, List, ℕ, ◌++◌, take, drop, ap, sym, ◌∙◌, subst, append_assoc}
+use Rattle.std.proofs.Common.{arith}
 use Rattle.std.proofs.lemmas.List.{take-append-drop}
 use Rattle.pct_outside.specs.Piece.{AppendedPart}
 use Rattle.pct_outside.proofs.laws.Pieces.{Appended-then, AppendedPart-then, AppendedPart-longer}
 use Rattle.pct_top.proofs.printing.put_lines.Goals as goal
 
 -- what is left is the line and what follows it
-cut : (rest line others : List ℕ) (n : ℕ) → line ≡ take n rest → others ≡ drop n rest → rest ≡ line ++ others
+cut : (rest line others : List ℕ) (n : ℕ) → line ≡ take n rest → others ≡ drop n rest
+    → rest ≡ line ++ others
 cut rest line others n front back = rw (front, back) (sym (take-append-drop n rest))
 
 pub loop-rest-preserved : goal.loop-rest-preserved
@@ -14,10 +16,12 @@ loop-rest-preserved g c =
     let line = c.split_at.result.0.now in
     let others = c.split_at.result.1.now in
     let written = g.O.Sink.written in
-    let next = cut c.loop-rest.rest.now line others c.line_length.result c.split_at.ensures.front c.split_at.ensures.back in (
+    let next = cut c.loop-rest.rest.now line others c.line_length.result c.split_at.ensures.front
+    c.split_at.ensures.back in (
       done ++ line,
       split ∙ ap (λ (x : List ℕ). done ++ x) next ∙ sym (append_assoc done line others),
-      Appended-then done line (written c.args.out.now) (written c.loop-rest.out) (written c.put.new.self) appended c.in-Ok.ensures.whole,
+      Appended-then done line (written c.args.out.now) (written c.loop-rest.out)
+          (written c.put.new.self) appended c.in-Ok.ensures.whole,
       omega arith,
       omega arith,
     )
@@ -28,6 +32,11 @@ returns-in-Err-clause-part g c =
     let line = c.split_at.result.0.now in
     let others = c.split_at.result.1.now in
     let written = g.O.Sink.written in
-    let next = cut c.loop-rest.rest.now line others c.line_length.result c.split_at.ensures.front c.split_at.ensures.back in
-    subst (λ (x : List ℕ). AppendedPart x (written c.args.out.now) (written c.put.new.self)) (sym (split ∙ ap (λ (x : List ℕ). done ++ x) next))
-    (AppendedPart-then done (line ++ others) (written c.args.out.now) (written c.loop-rest.out) (written c.put.new.self) appended (AppendedPart-longer line others (written c.loop-rest.out) (written c.put.new.self) c.in-Err.ensures.part))
+    let next = cut c.loop-rest.rest.now line others c.line_length.result c.split_at.ensures.front
+    c.split_at.ensures.back in
+    subst (λ (x : List ℕ). AppendedPart x (written c.args.out.now) (written c.put.new.self))
+    (sym (split ∙ ap (λ (x : List ℕ). done ++ x) next))
+    (AppendedPart-then done (line ++ others) (written c.args.out.now) (written c.loop-rest.out)
+    (written c.put.new.self) appended
+    (AppendedPart-longer line others (written c.loop-rest.out) (written c.put.new.self)
+    c.in-Err.ensures.part))

@@ -7,5 +7,6 @@ returns-clause-are c = record {
   order = c.in_ok-order.ensures.order.is_order;
   whole = c.in_ok-order.ensures.order.whole;
   few_points = omega (arith, c.in_ok-points.ensures.count, c.requires.depth.1);
-  points_fit = drawn_points c.args.steps c.in_ok-points.points c.requires.steps c.in_ok-points.ensures.steps;
+  points_fit =
+      drawn_points c.args.steps c.in_ok-points.points c.requires.steps c.in_ok-points.ensures.steps;
 }

@@ -8,10 +8,15 @@ use Rattle.pct_top.proofs.values.number_in.Goals as goal
 
 pub returns-in_err-number-clause-number : goal.returns-in_err-number-clause-number
 returns-in_err-number-clause-number c =
-    c.from_residual.ensures ∙ sym (ap (number_in c.args.low c.args.high) (sym c.as_bytes.ensures.value) ∙ number_in-none c.args.low c.args.high c.as_bytes.result.now c.read_number.result (omega arith) c.read_number.ensures.every c.in_err-number.was)
+    c.from_residual.ensures ∙ sym (ap (number_in c.args.low c.args.high)
+    (sym c.as_bytes.ensures.value) ∙ number_in-none c.args.low c.args.high c.as_bytes.result.now
+    c.read_number.result (omega arith) c.read_number.ensures.every c.in_err-number.was)
 
 pub returns-clause-number : goal.returns-clause-number
 returns-clause-number c =
     let number = c.in_ok-number.number in
-    c.in_range.ensures.number ∙ ap (in_range c.args.low c.args.high) (to_z-of_z w128 number c.in_ok-number.ensures.fits)
-    ∙ sym (ap (number_in c.args.low c.args.high) (sym c.as_bytes.ensures.value) ∙ number_in-number c.args.low c.args.high c.as_bytes.result.now number (omega arith) c.in_ok-number.ensures.fits c.in_ok-number.ensures.spelled)
+    c.in_range.ensures.number ∙ ap (in_range c.args.low c.args.high)
+    (to_z-of_z w128 number c.in_ok-number.ensures.fits)
+    ∙ sym (ap (number_in c.args.low c.args.high) (sym c.as_bytes.ensures.value)
+    ∙ number_in-number c.args.low c.args.high c.as_bytes.result.now number (omega arith)
+    c.in_ok-number.ensures.fits c.in_ok-number.ensures.spelled)

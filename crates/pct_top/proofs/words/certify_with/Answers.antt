@@ -1,5 +1,5 @@
 use Rattle.std.proofs.Common.{rules}
-use Rattle.pct_top.proofs.OptionLists.{certified_is}
+use Rattle.pct_top.proofs.OptionSettings.{certified_is}
 use Rattle.pct_top.proofs.words.certify_with.Goals as goal
 
 pub returns : goal.returns

@@ -1,6 +1,6 @@
 use Rattle.std.proofs.Common.{ℕ, List, ap, rules, ◌∙◌}
 use Rattle.pct_top.specs.Settings.{expose_with}
-use Rattle.pct_top.proofs.OptionLists.{exposed_is}
+use Rattle.pct_top.proofs.OptionSettings.{exposed_is}
 use Rattle.pct_top.proofs.words.expose_with.Goals as goal
 
 pub returns : goal.returns

@@ -1,4 +1,4 @@
-use Rattle.std.proofs.Common.{◌≡◌, ◌≤◌, ℕ, List, length, map, Some, None, Bool, ap, sym, subst, ◌∙◌, arith}
+use Rattle.std.proofs.Common.{◌≡◌, ℕ, List, Bool, ap, sym, ◌∙◌, arith}
 use Rattle.std.specs.List.{flat_map}
 use Rattle.pct_ask.specs.TraceText.{line_text}
 use Rattle.pct_ask.specs.declared.event.Row.{Row}
@@ -11,17 +11,26 @@ use Rattle.pct_top.specs.commands.Big.{big_lines, script_lines, told_big}
 use Rattle.pct_top.proofs.commands.big.big_of.Goals as goal
 
 -- the counts are those of these lines, rows and groups
-told_as : (written : List ℕ) (done : Bool) (pieces lines k : ℕ) (rows others : List Row) (groups more : List Group) → written ≡ flat_map line_text (big_lines lines k others more) → done ≡ all_pass others → lines ≡ script_lines pieces → others ≡ rows → more ≡ groups → told written done ≡ told_big pieces k rows groups
+told_as : (written : List ℕ) (done : Bool) (pieces lines k : ℕ) (rows others : List Row)
+    (groups more : List Group) → written ≡ flat_map line_text (big_lines lines k others more)
+    → done ≡ all_pass others → lines ≡ script_lines pieces → others ≡ rows → more ≡ groups
+    → told written done ≡ told_big pieces k rows groups
 told_as written done pieces lines k rows others groups more are passes counted same alike =
-    ap (λ w. told w done) are ∙ ap (told (flat_map line_text (big_lines lines k others more))) passes
+    ap (λ w. told w done) are ∙ ap (told (flat_map line_text (big_lines lines k others more)))
+    passes
     ∙ ap (λ n. told (flat_map line_text (big_lines n k others more)) (all_pass others)) counted
-    ∙ ap (λ rs. told (flat_map line_text (big_lines (script_lines pieces) k rs more)) (all_pass rs)) same
+    ∙ ap (λ rs. told (flat_map line_text (big_lines (script_lines pieces) k rs more)) (all_pass rs))
+    same
     ∙ ap (told_big pieces k rows) alike
 
 pub rank-requires : goal.rank-requires
 rank-requires g c =
     let script = text c.args.test.now.script in
-    omega (arith, length-rows (setup_of script c.args.test.now.deal 3 c.in_ok-steps.steps 10000) 1 20 c.in_ok-rows.rows (c.in_ok-rows.ensures script c.requires.ready))
+    omega (
+      arith,
+      length-rows (setup_of script c.args.test.now.deal 3 c.in_ok-steps.steps 10000) 1
+          20 c.in_ok-rows.rows (c.in_ok-rows.ensures script c.requires.ready),
+    )
 
 pub returns : goal.returns
 returns g c =
@@ -34,8 +43,15 @@ returns g c =
       (
         rows,
         groups,
-        record { are = c.in_ok-rows.ensures script c.requires.ready; ranked = c.in_ok-groups.ensures.ranking },
-        told_as c.in_ok-text.text.items c.all_pass-done.result c.args.pieces c.line_count-lines.result c.in_ok-steps.steps rows c.as_slice.result.now groups c.as_slice-2.result.now
-            c.in_ok-text.ensures (c.all_pass-done.ensures ∙ ap all_pass (c.as_slice-3.ensures ∙ sym c.as_slice.ensures)) c.line_count-lines.ensures c.as_slice.ensures c.as_slice-2.ensures,
+        record {
+          are = c.in_ok-rows.ensures script c.requires.ready;
+          ranked = c.in_ok-groups.ensures.ranking;
+        },
+        told_as c.in_ok-text.text.items c.all_pass-done.result c.args.pieces
+            c.line_count-lines.result c.in_ok-steps.steps rows c.as_slice.result.now groups
+            c.as_slice-2.result.now
+            c.in_ok-text.ensures (c.all_pass-done.ensures
+            ∙ ap all_pass (c.as_slice-3.ensures ∙ sym c.as_slice.ensures))
+            c.line_count-lines.ensures c.as_slice.ensures c.as_slice-2.ensures,
       ),
     )

@@ -1,4 +1,4 @@
-use Rattle.std.proofs.Common.{ℕ, List, Some, Ok, Err, subst, take}
+use Rattle.std.proofs.Common.{ℕ, List, Some, Err, subst, take}
 use Rattle.pct_ask.specs.NameLists.{NameLists}
 use Rattle.script_tree.specs.ScriptSeen.{text}
 use Rattle.directive.specs.declared.directive.Directive.{Directive}

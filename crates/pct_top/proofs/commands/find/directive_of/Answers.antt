@@ -18,11 +18,13 @@ find-requires-clause-script g c κs within = (text c.args.test.now.script, c.req
 pub find-requires-clause-points : goal.find-requires-clause-points
 find-requires-clause-points g c κs within =
     subst (All (λ point. 1 ≤ point)) (sym c.as_slice-points.ensures)
-    (All-weaker IsStepCount (λ point. 1 ≤ point) (λ point fits. fits.0) c.args.priorities.points (c.requires.priorities).points_fit)
+    (All-weaker IsStepCount (λ point. 1 ≤ point) (λ point fits. fits.0) c.args.priorities.points
+    (c.requires.priorities).points_fit)
 
 pub write_found-requires-clause-some : goal.write_found-requires-clause-some
 write_found-requires-clause-some g c =
-    let whole : length c.args.priorities.order ≡ c.args.test.now.deal.threads = (c.requires.priorities).whole in
+    let whole : length c.args.priorities.order ≡ c.args.test.now.deal.threads =
+    (c.requires.priorities).whole in
     let some : 1 ≤ c.args.test.now.deal.threads = c.args.test.now.deal.some_thread in
     omega (arith, ap length c.as_slice-order.ensures)
 
@@ -37,7 +39,8 @@ write_found-requires-clause-low g c =
     let below : last_of order < length order =
     ((c.requires.priorities).order).below (length order - 1) (omega arith) in
     let low : last_of order < length names.threads = omega arith in
-    subst (λ (o : List ℕ). last_of o < length c.names.result.now.threads) (sym c.as_slice-order.ensures)
+    subst (λ (o : List ℕ). last_of o < length c.names.result.now.threads)
+    (sym c.as_slice-order.ensures)
     (subst (λ (n : NameLists). last_of order < length n.threads) (sym c.names.ensures) low)
 
 pub write_found-requires-clause-known : goal.write_found-requires-clause-known
@@ -45,25 +48,36 @@ write_found-requires-clause-known g c =
     let test = c.args.test.now in
     let ready = c.requires.ready in
     let script = text test.script in
-    let O : List ℕ → Type 0 = λ o. Finds test.deal (bodies_of script) o c.as_slice-points.result.now c.args.limit c.in_ok-found.found in
-    let P : List ℕ → Type 0 = λ p. Finds test.deal (bodies_of script) c.args.priorities.order p c.args.limit c.in_ok-found.found in
-    let finds = subst P c.as_slice-points.ensures (subst O c.as_slice-order.ensures (c.in_ok-found.ensures script ready)) in
+    let O : List ℕ → Type 0 = λ o. Finds test.deal (bodies_of script) o c.as_slice-points.result.now
+    c.args.limit c.in_ok-found.found in
+    let P : List ℕ → Type 0 = λ p. Finds test.deal (bodies_of script) c.args.priorities.order p
+    c.args.limit c.in_ok-found.found in
+    let finds = subst P c.as_slice-points.ensures
+    (subst O c.as_slice-order.ensures (c.in_ok-found.ensures script ready)) in
     subst (λ (names : NameLists). IsKnownFinding names c.in_ok-found.found) (sym c.names.ensures)
-    (known-finding script test.deal ready.sound ready.is_deal c.args.priorities.order c.args.priorities.points c.args.limit c.in_ok-found.found
-    (sym (c.requires.priorities).whole) (c.requires.priorities).few_points (c.requires.limit).1 finds)
+    (known-finding script test.deal ready.sound ready.is_deal c.args.priorities.order
+    c.args.priorities.points c.args.limit c.in_ok-found.found
+    (sym (c.requires.priorities).whole) (c.requires.priorities).few_points (c.requires.limit).1
+    finds)
 
 pub returns : goal.returns
 returns g c =
     let test = c.args.test.now in
     let script = text test.script in
     let found = c.in_ok-found.found in
-    let O : List ℕ → Type 0 = λ o. Finds test.deal (bodies_of script) o c.as_slice-points.result.now c.args.limit found in
-    let P : List ℕ → Type 0 = λ p. Finds test.deal (bodies_of script) c.args.priorities.order p c.args.limit found in
-    let finds = subst P c.as_slice-points.ensures (subst O c.as_slice-order.ensures (c.in_ok-found.ensures script c.requires.ready)) in
-    let written = c.in_ok-text.ensures.text ∙ ap (λ (names : NameLists). found_text names c.as_slice-order.result.now found) c.names.ensures
+    let O : List ℕ → Type 0 = λ o. Finds test.deal (bodies_of script) o c.as_slice-points.result.now
+    c.args.limit found in
+    let P : List ℕ → Type 0 = λ p. Finds test.deal (bodies_of script) c.args.priorities.order p
+    c.args.limit found in
+    let finds = subst P c.as_slice-points.ensures
+    (subst O c.as_slice-order.ensures (c.in_ok-found.ensures script c.requires.ready)) in
+    let written = c.in_ok-text.ensures.text
+    ∙ ap (λ (names : NameLists). found_text names c.as_slice-order.result.now found)
+    c.names.ensures
     ∙ ap (λ (order : List ℕ). found_text script.names order found) c.as_slice-order.ensures in
     let done = c.passes-done.ensures in
     let N : NameLists → Type 0 = λ names. IsWellFormed names c.as_slice-order.result.now found in
     let W : List ℕ → Type 0 = λ order. IsWellFormed script.names order found in
-    let form = subst W c.as_slice-order.ensures (subst N c.names.ensures c.in_ok-text.ensures.form) in
+    let form = subst W c.as_slice-order.ensures
+    (subst N c.names.ensures c.in_ok-text.ensures.form) in
     (found, finds, form, λ i. told (written i) (done i))

@@ -1,4 +1,4 @@
-use Rattle.std.proofs.Common.{◌≡◌, ℕ, List, Some, Bool, length, ◌≤◌, sym, subst, ap, ◌∙◌, arith}
+use Rattle.std.proofs.Common.{◌≡◌, ℕ, List, Some, length, ◌≤◌, sym, subst, ap, ◌∙◌, arith}
 use Rattle.pct_ask.specs.NameLists.{NameLists}
 use Rattle.pct_ask.specs.declared.event.Event.{Event}
 use Rattle.script_tree.specs.ScriptSeen.{text}
@@ -15,7 +15,9 @@ pub lock_order-requires-clause-in_range : goal.lock_order-requires-clause-in_ran
 lock_order-requires-clause-in_range g c =
     let test = c.args.test.now in
     let ready = c.requires.ready in
-    let of = all_in_range (text test.script) test.deal ready.sound ready.is_deal (trace_version (text test.script)) (NamesOnly test.deal) (λ event at has. record { thread = at; ask = has })
+    let of = all_in_range (text test.script) test.deal ready.sound ready.is_deal
+    (trace_version (text test.script)) (NamesOnly test.deal)
+    (λ event at has. record { thread = at; ask = has })
     c.in_ok-run.run'.events c.in_ok-run.ensures.known.steps in
     subst (AreInRange test.deal) (sym c.as_slice.ensures) of
 
@@ -30,10 +32,22 @@ returns g c =
     let test = c.args.test.now in
     let script = text test.script in
     let ended : Run = (c.in_ok-run.run'.events, c.in_ok-run.run'.verdict) in
-    let O : List ℕ → Type 0 = λ o. run_of script test.deal o c.as_slice-points.result.now c.args.limit ≡ Some ended in
-    let P : List ℕ → Type 0 = λ p. run_of script test.deal c.args.priorities.order p c.args.limit ≡ Some ended in
-    let run = subst P c.as_slice-points.ensures (subst O c.as_slice-order.ensures c.in_ok-run.ensures.run) in
-    let E : List Event → Type 0 = λ events. IsChosen test.deal.mutexes events c.in_ok-report.report in
-    let written = c.in_ok-text.ensures ∙ ap (λ (names : NameLists). lock_text names c.in_ok-report.report) c.names.ensures in
-    let done = c.is_order-done.ensures in
-    (ended, run, (c.in_ok-report.report, subst E c.as_slice.ensures c.in_ok-report.ensures.chosen, λ i. told (written i) (done i)))
+    let O : List ℕ → Type 0 = λ o. run_of script test.deal o c.as_slice-points.result.now
+    c.args.limit ≡ Some ended in
+    let P : List ℕ → Type 0 = λ p. run_of script test.deal c.args.priorities.order p c.args.limit
+    ≡ Some ended in
+    let run = subst P c.as_slice-points.ensures
+    (subst O c.as_slice-order.ensures c.in_ok-run.ensures.run) in
+    let E : List Event → Type 0 = λ events.
+    IsChosen test.deal.mutexes events c.in_ok-report.report in
+    let written = c.in_ok-text.ensures
+    ∙ ap (λ (names : NameLists). lock_text names c.in_ok-report.report) c.names.ensures in
+    let done = c.is_order-done.ensures in (
+      ended,
+      run,
+      (
+        c.in_ok-report.report,
+        subst E c.as_slice.ensures c.in_ok-report.ensures.chosen,
+        λ i. told (written i) (done i),
+      ),
+    )

@@ -19,4 +19,6 @@ returns c =
       c.in_ok-push_number.ensures,
       c.in_ok-extend_from_slice.ensures.items,
     )
-    (line-of-five c.args.out.now.items (codes "nest") (decimal nesting.step) (thread_name names nesting.thread) (name_at names.mutexes nesting.held) (name_at names.mutexes nesting.taken))
+    (line-of-five c.args.out.now.items (codes "nest") (decimal nesting.step)
+    (thread_name names nesting.thread) (name_at names.mutexes nesting.held)
+    (name_at names.mutexes nesting.taken))

@@ -5,4 +5,6 @@ use Rattle.trace_text.specs.Spaced.{spaced}
 use Rattle.pct_top.proofs.commands.locks.push_order.Given as goal
 
 abbrev pub invariant-loop-mutex : goal.invariant-loop-mutex
-invariant-loop-mutex l = l.out.items ≡ l.fn.out.items ++ (codes "order" ++ spaced (map (name_at l.names.mutexes) (take l.mutex-index l.mutexes)))
+invariant-loop-mutex l =
+    l.out.items ≡ l.fn.out.items ++ (codes "order"
+    ++ spaced (map (name_at l.names.mutexes) (take l.mutex-index l.mutexes)))

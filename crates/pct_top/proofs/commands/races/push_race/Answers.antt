@@ -15,4 +15,5 @@ returns c =
       c.name_of.ensures,
       c.in_ok-extend_from_slice.ensures.items,
     )
-    (line-of-four c.args.out.now.items (codes "race") (name_at names.vars race.var) (decimal race.first) (decimal race.second))
+    (line-of-four c.args.out.now.items (codes "race") (name_at names.vars race.var)
+    (decimal race.first) (decimal race.second))

@@ -1,4 +1,4 @@
-use Rattle.std.proofs.Common.{◌≡◌, ℕ, List, Some, Bool, length, ◌≤◌, eqb, sym, subst, ap, ◌∙◌, arith}
+use Rattle.std.proofs.Common.{◌≡◌, ℕ, List, Some, length, ◌≤◌, eqb, sym, subst, ap, ◌∙◌, arith}
 use Rattle.std.specs.Prelude.{All}
 use Rattle.pct_ask.specs.NameLists.{NameLists}
 use Rattle.pct_ask.specs.declared.event.Event.{Event}
@@ -18,7 +18,9 @@ pub races-requires-clause-in_range : goal.races-requires-clause-in_range
 races-requires-clause-in_range g c =
     let test = c.args.test.now in
     let ready = c.requires.ready in
-    let of = all_in_range (text test.script) test.deal ready.sound ready.is_deal (trace_version (text test.script)) (IsEventInRange (sizes_of_deal test.deal)) (λ event at has. (at, has))
+    let of = all_in_range (text test.script) test.deal ready.sound ready.is_deal
+    (trace_version (text test.script)) (IsEventInRange (sizes_of_deal test.deal))
+    (λ event at has. (at, has))
     c.in_ok-run.run'.events c.in_ok-run.ensures.known.steps in
     subst (All (IsEventInRange (sizes_of_deal test.deal))) (sym (c.from.ensures).0) of
 
@@ -33,11 +35,22 @@ returns g c =
     let test = c.args.test.now in
     let script = text test.script in
     let ended : Run = (c.in_ok-run.run'.events, c.in_ok-run.run'.verdict) in
-    let O : List ℕ → Type 0 = λ o. run_of script test.deal o c.as_slice-points.result.now c.args.limit ≡ Some ended in
-    let P : List ℕ → Type 0 = λ p. run_of script test.deal c.args.priorities.order p c.args.limit ≡ Some ended in
-    let run = subst P c.as_slice-points.ensures (subst O c.as_slice-order.ensures c.in_ok-run.ensures.run) in
+    let O : List ℕ → Type 0 = λ o. run_of script test.deal o c.as_slice-points.result.now
+    c.args.limit ≡ Some ended in
+    let P : List ℕ → Type 0 = λ p. run_of script test.deal c.args.priorities.order p c.args.limit
+    ≡ Some ended in
+    let run = subst P c.as_slice-points.ensures
+    (subst O c.as_slice-order.ensures c.in_ok-run.ensures.run) in
     let E : List Event → Type 0 = λ events. AreRaces events c.in_ok-found.found in
-    let written = c.in_ok-text.ensures ∙ ap (λ (names : NameLists). race_text names c.as_slice.result.now) c.names.ensures
+    let written = c.in_ok-text.ensures
+    ∙ ap (λ (names : NameLists). race_text names c.as_slice.result.now) c.names.ensures
     ∙ ap (λ (races : List Race). race_text script.names races) c.as_slice.ensures in
-    let done = ap (λ n. eqb n 0) c.len-done.ensures in
-    (ended, run, (c.in_ok-found.found, subst E (c.from.ensures).0 c.in_ok-found.ensures, λ i. told (written i) (done i)))
+    let done = ap (λ n. eqb n 0) c.len-done.ensures in (
+      ended,
+      run,
+      (
+        c.in_ok-found.found,
+        subst E (c.from.ensures).0 c.in_ok-found.ensures,
+        λ i. told (written i) (done i),
+      ),
+    )

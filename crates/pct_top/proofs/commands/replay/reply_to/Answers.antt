@@ -12,7 +12,9 @@ write_reply-requires g c =
     let test = c.args.test.now in
     let ready = c.requires.ready in
     subst (λ names. IsKnownReply names c.in_ok-reply.reply) (sym c.names.ensures)
-    (known_reply (text test.script) test.deal ready.sound ready.is_deal c.requires.trace.0 c.args.told.now c.requires.trace.1 c.in_ok-reply.reply (c.in_ok-reply.ensures.replay (text test.script) ready))
+    (known_reply (text test.script) test.deal ready.sound ready.is_deal c.requires.trace.0
+    c.args.told.now c.requires.trace.1 c.in_ok-reply.reply
+    (c.in_ok-reply.ensures.replay (text test.script) ready))
 
 pub returns : goal.returns
 returns g c =
@@ -20,6 +22,7 @@ returns g c =
     let reply = c.in_ok-reply.reply in (
       reply,
       c.in_ok-reply.ensures.replay (text test.script) c.requires.ready,
-      ap (λ (t : List ℕ). told t c.is_confirmed-done.result) (c.in_ok-text.ensures ∙ ap (λ names. reply_text names reply) c.names.ensures)
+      ap (λ (t : List ℕ). told t c.is_confirmed-done.result)
+          (c.in_ok-text.ensures ∙ ap (λ names. reply_text names reply) c.names.ensures)
           ∙ ap (told (reply_text (text test.script).names reply)) c.is_confirmed-done.ensures,
     )

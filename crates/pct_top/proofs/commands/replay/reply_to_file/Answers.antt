@@ -10,6 +10,9 @@ returns-in-Err g c =
     let test = c.args.test.now in
     let script = text test.script in
     let told = g.H.Shelf.files c.args.shelf.now in
-    let missed : Type 0 = Misses (Some c.args.trace.now) (g.H.Shelf.failed c.args.shelf.now) (g.H.Shelf.failed c.read_told.new.shelf) in
-    trace_refused told c.args.trace.now script.names (PrintsReply script test.deal) missed c.in-Err.refusal
-    (subst (λ names. GivesTrace told c.args.trace.now names missed (Err c.in-Err.refusal)) c.names.ensures c.in-Err.ensures)
+    let missed : Type 0 = Misses (Some c.args.trace.now) (g.H.Shelf.failed c.args.shelf.now)
+    (g.H.Shelf.failed c.read_told.new.shelf) in
+    trace_refused told c.args.trace.now script.names (PrintsReply script test.deal) missed
+    c.in-Err.refusal
+    (subst (λ names. GivesTrace told c.args.trace.now names missed (Err c.in-Err.refusal))
+    c.names.ensures c.in-Err.ensures)

@@ -10,8 +10,10 @@ use Rattle.pct_top.specs.Outcome.{printed_of}
 use Rattle.pct_top.specs.commands.Run.{PrintsTrace}
 use Rattle.pct_top.proofs.commands.run.trace_of.Goals as goal
 
-is_told : {E : Type 0} (script : ScriptText) (deal : Deal) (order points : List ℕ) (limit : ℕ) (ended : Run) (r : Result Outcome E) → run_of script deal order points limit ≡ Some ended
-    → IfOk r (λ o. TellsRun script order points limit ended (is_passed ended.1) (printed_of o)) → IfOk r (λ o. PrintsTrace script deal order points limit (printed_of o))
+is_told : {E : Type 0} (script : ScriptText) (deal : Deal) (order points : List ℕ) (limit : ℕ)
+    (ended : Run) (r : Result Outcome E) → run_of script deal order points limit ≡ Some ended
+    → IfOk r (λ o. TellsRun script order points limit ended (is_passed ended.1) (printed_of o))
+    → IfOk r (λ o. PrintsTrace script deal order points limit (printed_of o))
 is_told script deal order points limit ended (Ok o) run h = (ended, run, h)
 is_told script deal order points limit ended (Err e) run h = tt
 
@@ -20,9 +22,14 @@ returns g c =
     let test = c.args.test.now in
     let script = text test.script in
     let ended : Run = (c.in_ok-run.run'.events, c.in_ok-run.run'.verdict) in
-    let O : List ℕ → Type 0 = λ o. run_of script test.deal o c.as_slice-points.result.now c.args.limit ≡ Some ended in
-    let P : List ℕ → Type 0 = λ p. run_of script test.deal c.args.priorities.order p c.args.limit ≡ Some ended in
+    let O : List ℕ → Type 0 = λ o. run_of script test.deal o c.as_slice-points.result.now
+    c.args.limit ≡ Some ended in
+    let P : List ℕ → Type 0 = λ p. run_of script test.deal c.args.priorities.order p c.args.limit
+    ≡ Some ended in
     let T : Bool → Type 0 = λ done. IfOk c.told_trace.result (λ o.
-    TellsRun script c.args.priorities.order c.args.priorities.points c.args.limit ended done (printed_of o)) in
-    is_told script test.deal c.args.priorities.order c.args.priorities.points c.args.limit ended c.told_trace.result (subst P c.as_slice-points.ensures (subst O c.as_slice-order.ensures c.in_ok-run.ensures.run))
+    TellsRun script c.args.priorities.order c.args.priorities.points c.args.limit ended done
+    (printed_of o)) in
+    is_told script test.deal c.args.priorities.order c.args.priorities.points c.args.limit ended
+    c.told_trace.result (subst P c.as_slice-points.ensures
+    (subst O c.as_slice-order.ensures c.in_ok-run.ensures.run))
     (subst T c.is_passed-done.ensures c.told_trace.ensures)

@@ -5,4 +5,5 @@ use Rattle.pct_top.specs.Runs.{is_passed}
 use Rattle.pct_top.proofs.commands.seeds.all_pass.Given as goal
 
 abbrev pub invariant-loop-row : goal.invariant-loop-row
-invariant-loop-row l = list_all (λ (row : Row). is_passed row.verdict) (take l.row-index l.rows) ≡ true
+invariant-loop-row l =
+    list_all (λ (row : Row). is_passed row.verdict) (take l.row-index l.rows) ≡ true

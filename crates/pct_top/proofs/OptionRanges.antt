@@ -1,0 +1,363 @@
+-- The ranges that the options of a list of words keep to, and so the settings that they make.
+use Rattle.std.proofs.Common.{◌≡◌, ℕ, suc, ◌+◌, ◌≤◌, Bool, true, false, cond, ◌&&◌, List, [], ◌∷◌}
+use Rattle.std.proofs.Common.{length, Option, Some, None, Result, Ok, Err, refl, ap, subst, arith}
+use Rattle.std.specs.Prelude.{All, IfSome, IfOk, nat_le, decimal}
+use Rattle.std.specs.Option.{option_map, option_and_then, unwrap_or}
+use Rattle.std.specs.Str.{bytes_eq}
+use Rattle.std.specs.Str.Parse.{digits_value}
+use Rattle.std.proofs.lemmas.Bool.{and_parts}
+use Rattle.std.proofs.lemmas.Bool.Decides.{nat_tests}
+use Rattle.std.proofs.lemmas.List.Elements.{All-cons, All-nil}
+use Rattle.std.proofs.lemmas.Option.{option_and_then_some, cond_some}
+use Rattle.trace_text.specs.Lawful.{IsStepCount}
+use Rattle.pct_top.specs.declared.command.Command.{Command}
+use Rattle.pct_top.specs.declared.command.Command.TheVariants as commands
+use Rattle.pct_top.specs.declared.options.OptionName.{OptionName}
+use Rattle.pct_top.specs.declared.options.OptionName.TheVariants.{Order, Points, Limit, Seed, Depth}
+use Rattle.pct_top.specs.declared.options.OptionName.TheVariants.{Steps, From, Count, Form}
+use Rattle.pct_top.specs.declared.options.Options.{Options}
+use Rattle.pct_top.specs.declared.options.NamedOrder.{NamedOrder}
+use Rattle.pct_top.specs.declared.settings.Report.{Report}
+use Rattle.pct_top.specs.declared.settings.Settings.{Settings}
+use Rattle.pct_top.specs.declared.settings.Settings.TheVariants.{RunSeed, Big, Replay, Certify}
+use Rattle.pct_top.specs.declared.settings.WordsError.{WordsError}
+use Rattle.pct_top.specs.Values.{items_of, order_in, within, number_in, step_count, step_counts}
+use Rattle.pct_top.specs.Values.{points_in, seed_in, depth_in, is_json, pieces_in}
+use Rattle.pct_top.specs.Options.{none, with_value, next_option, Given, lawful_or, with_option}
+use Rattle.pct_top.specs.Options.{without_value, and_then, options_from}
+use Rattle.pct_top.specs.Settings.{default_limit, taken_or, made_of, limit_of, ordered, run_by}
+use Rattle.pct_top.specs.Settings.{run_with, campaign_by, campaign_with, big_with, big_by}
+use Rattle.pct_top.specs.Settings.{files_with, MadeOfFiles, made_over, settings_over, replay_with}
+use Rattle.pct_top.specs.Settings.{expose_by, expose_with, certify_with, settings_of, ReadsAs}
+use Rattle.pct_top.specs.Settings.{ArePoints, IsDepth, AreLawful}
+use Rattle.pct_top.proofs.OptionLists.{changed}
+
+-- ---- ranges
+
+in_bounds : (low high n m : ℕ) → within low high n ≡ Some m → (low ≤ m) × (m ≤ high)
+in_bounds low high n m is =
+    let parts = cond_some (nat_le low n && nat_le n high) n m is in
+    let both = and_parts (nat_le low n) (nat_le n high) parts.0 in
+    let first = both.0 in
+    let last = both.1 in
+    let same = parts.1 in (
+      let least : low ≤ n = grind (arith, nat_tests) in
+          omega (arith, least, same),
+      let most : n ≤ high = grind (arith, nat_tests) in
+          omega (arith, most, same),
+    )
+
+bounded-by : (low high m : ℕ) (canonical : Bool) (n : ℕ)
+    → cond canonical (within low high n) None ≡ Some m → (low ≤ m) × (m ≤ high)
+bounded-by low high m true n is = in_bounds low high n m is
+bounded-by low high m false n is = absurd cc
+
+bounded : (low high : ℕ) (word : List ℕ) (m : ℕ) → number_in low high word ≡ Some m
+    → (low ≤ m) × (m ≤ high)
+unfolding number_in
+bounded low high word m is =
+    bounded-by low high m (bytes_eq (decimal (digits_value 10 word)) word) (digits_value 10 word) is
+
+map_parts : {A B : Type 0} (f : A → B) (o : Option A) (y : B) → option_map f o ≡ Some y
+    → (x : A) × (o ≡ Some x) × (f x ≡ y)
+map_parts f None y is = absurd cc
+map_parts f (Some x) y is = (x, refl, cc)
+
+record AreCounts (items : List (List ℕ)) (counts : List ℕ) : Type 0 where
+  long : length counts ≡ length items
+  fit : All IsStepCount counts
+
+are_counts : (items : List (List ℕ)) (counts : List ℕ) → step_counts items ≡ Some counts
+    → AreCounts items counts
+are_counts [] counts is = let same : [] ≡ counts = cc in
+    subst (AreCounts []) same (record { long = refl; fit = All-nil IsStepCount })
+are_counts (item ∷ items) counts is =
+    option_and_then_some (λ n. option_map (λ ns. n ∷ ns) (step_counts items)) (step_count item)
+    counts is (λ n at rest.
+    let parts = map_parts (λ ns. n ∷ ns) (step_counts items) counts rest in
+    let others = are_counts items parts.0 parts.1 in
+    subst (AreCounts (item ∷ items)) parts.2
+    (record {
+      long = ap suc others.long;
+      fit =
+          All-cons IsStepCount n parts.0 (bounded 1 100000 item n at) others.fit;
+    }))
+
+points_fit : (value : List ℕ) (points : List ℕ) → points_in value ≡ Some points → ArePoints points
+points_fit value points is = by (nat_le (length (items_of value)) 7) refl is
+  where
+    by : (few : Bool) → nat_le (length (items_of value)) 7 ≡ few
+        → cond few (step_counts (items_of value)) None ≡ Some points
+        → (length points ≤ 7) × All IsStepCount points
+    by false test h = absurd cc
+    by true test h =
+        let counts = are_counts (items_of value) points h in
+        let few : length (items_of value) ≤ 7 = grind (arith, nat_tests) in
+        (omega (arith, few, counts.long), counts.fit)
+
+record AreInRange (o : Options) : Type 0 where
+  points : IfSome o.points ArePoints
+  limit : IfSome o.limit IsStepCount
+  depth : IfSome o.depth IsDepth
+  steps : IfSome o.steps IsStepCount
+  count : IfSome o.count IsStepCount
+
+at-none : AreInRange none
+at-none = record { points = tt; limit = tt; depth = tt; steps = tt; count = tt }
+
+range-kept : (o : Options) (name : OptionName) (word : ℕ) (value : List ℕ) (more : Options)
+    → AreInRange o → lawful_or word (with_value o word name value) ≡ Ok more → AreInRange more
+range-kept o Order word value more r is =
+    let x = changed (λ items. record o { order = Some (record { items = items; word = word }) })
+    word (order_in value) more is in
+    subst AreInRange x.2 (record {
+      points = r.points;
+      limit = r.limit;
+      depth = r.depth;
+      steps = r.steps;
+      count = r.count;
+    })
+range-kept o Points word value more r is =
+    let x = changed (λ points. record o { points = Some points }) word (points_in value) more is in
+    subst AreInRange x.2 (record {
+      points = points_fit value x.0 x.1;
+      limit = r.limit;
+      depth = r.depth;
+      steps = r.steps;
+      count = r.count;
+    })
+range-kept o Limit word value more r is =
+    let x = changed (λ limit. record o { limit = Some limit }) word (step_count value) more is in
+    subst AreInRange x.2 (record {
+      points = r.points;
+      limit = bounded 1 100000 value x.0 x.1;
+      depth = r.depth;
+      steps = r.steps;
+      count = r.count;
+    })
+range-kept o Seed word value more r is =
+    let x = changed (λ seed. record o { seed = Some seed }) word (seed_in value) more is in
+    subst AreInRange x.2 (record {
+      points = r.points;
+      limit = r.limit;
+      depth = r.depth;
+      steps = r.steps;
+      count = r.count;
+    })
+range-kept o Depth word value more r is =
+    let x = changed (λ depth. record o { depth = Some depth }) word (depth_in value) more is in
+    subst AreInRange x.2 (record {
+      points = r.points;
+      limit = r.limit;
+      depth = bounded 1 8 value x.0 x.1;
+      steps = r.steps;
+      count = r.count;
+    })
+range-kept o Steps word value more r is =
+    let x = changed (λ steps. record o { steps = Some steps }) word (step_count value) more is in
+    subst AreInRange x.2 (record {
+      points = r.points;
+      limit = r.limit;
+      depth = r.depth;
+      steps = bounded 1 100000 value x.0 x.1;
+      count = r.count;
+    })
+range-kept o From word value more r is =
+    let x = changed (λ from. record o { from = Some from }) word (seed_in value) more is in
+    subst AreInRange x.2 (record {
+      points = r.points;
+      limit = r.limit;
+      depth = r.depth;
+      steps = r.steps;
+      count = r.count;
+    })
+range-kept o Count word value more r is =
+    let x = changed (λ many. record o { count = Some many }) word (step_count value) more is in
+    subst AreInRange x.2 (record {
+      points = r.points;
+      limit = r.limit;
+      depth = r.depth;
+      steps = r.steps;
+      count = bounded 1 100000 value x.0 x.1;
+    })
+range-kept o Form word value more r is =
+    let x = changed (λ json. record o { json = Some json }) word (is_json value) more is in
+    subst AreInRange x.2 (record {
+      points = r.points;
+      limit = r.limit;
+      depth = r.depth;
+      steps = r.steps;
+      count = r.count;
+    })
+
+next-kept : (o : Options) (number : ℕ) (value : List ℕ) (name : Option OptionName) (more : Options)
+    → AreInRange o → with_option o number value name ≡ Ok more → AreInRange more
+next-kept o number value None more r is = absurd cc
+next-kept o number value (Some name) more r is = range-kept o name (number + 1) value more r is
+
+all-kept : (command : Command) (words : List (List ℕ)) (o : Options) (number : ℕ) (last : Options)
+    → AreInRange o → options_from command o number words ≡ Ok last → AreInRange last
+all-kept command [] o number last r is = let same : o ≡ last = cc in subst AreInRange same r
+all-kept command (word ∷ []) o number last r is = absurd (no-value (next_option command o word) is)
+  where
+    no-value : (name : Option OptionName) → without_value number name ≡ Ok last → ⊥
+    no-value None e = cc
+    no-value (Some name) e = cc
+all-kept command (word ∷ value ∷ words) o number last r is =
+    by (λ more. all-kept command words more (number + 2) last)
+    (with_option o number value (next_option command o word)) refl is
+  where
+    by : ((more : Options) → AreInRange more
+        → options_from command more (number + 2) words ≡ Ok last → AreInRange last)
+        → (given : Given) → with_option o number value (next_option command o word) ≡ given
+        → and_then (λ more. options_from command more (number + 2) words) given ≡ Ok last
+        → AreInRange last
+    by further (Err n) was e = absurd cc
+    by further (Ok more) was e =
+        further more (next-kept o number value (next_option command o word) more r was) e
+
+-- ---- the ranges of settings
+
+limit-fits : (o : Options) → AreInRange o → IsStepCount (limit_of o)
+unfolding default_limit
+limit-fits o r = by o.limit r.limit
+  where
+    by : (limit : Option ℕ) → IfSome limit IsStepCount → IsStepCount (unwrap_or limit default_limit)
+    by None h = (omega arith, omega arith)
+    by (Some limit) h = h
+
+points-or : (points : Option (List ℕ)) → IfSome points ArePoints → ArePoints (unwrap_or points [])
+points-or None h = (omega arith, All-nil IsStepCount)
+points-or (Some points) h = h
+
+-- what options make is lawful, where they are in range
+AreMade : (Options → Option Settings) → Type 0
+AreMade make = (o : Options) (s : Settings) → AreInRange o → make o ≡ Some s → AreLawful s
+
+run-made : (report : Report) (file : List ℕ) → AreMade (run_with report file)
+unfolding AreMade
+run-made report file = λ o s r is. by o s r o.order is
+  where
+    by : (o : Options) (s : Settings) → AreInRange o → (order : Option NamedOrder)
+        → run_by report file o order ≡ Some s → AreLawful s
+    by o s r (Some order) is = let same : ordered report file o order ≡ s = cc in
+        subst AreLawful same (points-or o.points r.points, limit-fits o r)
+    by o s r None is =
+        option_and_then_some (λ seed. option_map
+        (λ depth. RunSeed file seed depth o.steps (limit_of o) report) o.depth) o.seed s is
+        (λ seed at made.
+        let parts = map_parts (λ depth. RunSeed file seed depth o.steps (limit_of o) report) o.depth
+        s made in
+        let depth : IfSome (Some parts.0) IsDepth = subst (λ x. IfSome x IsDepth) parts.1 r.depth in
+        subst AreLawful parts.2 (depth, r.steps, limit-fits o r))
+
+campaign-made : (file : List ℕ) → AreMade (campaign_with file)
+unfolding AreMade
+campaign-made file = λ o s r is.
+    option_and_then_some (λ first. option_and_then
+    (λ many. option_map (campaign_by file o first many) o.depth) o.count) o.from s is
+    (λ first at made.
+    option_and_then_some (λ many. option_map (campaign_by file o first many) o.depth) o.count s made
+    (λ many told more.
+    let parts = map_parts (campaign_by file o first many) o.depth s more in
+    let depth : IfSome (Some parts.0) IsDepth = subst (λ x. IfSome x IsDepth) parts.1 r.depth in
+    let number : IfSome (Some many) IsStepCount = subst (λ x. IfSome x IsStepCount) told r.count in
+    subst AreLawful parts.2 (number, depth, r.steps, limit-fits o r)))
+
+big-made : (pieces : ℕ) → (1 ≤ pieces) × (pieces ≤ 100) → AreMade (big_with pieces)
+unfolding AreMade
+big-made pieces fits = λ o s r is. let same : Big pieces ≡ s = cc in subst AreLawful same fits
+
+replay-made : (file trace : List ℕ) → AreMade (replay_with file trace)
+unfolding AreMade
+replay-made file trace = λ o s r is. let same : Replay file trace ≡ s = cc in
+    subst AreLawful same tt
+
+expose-made : (file directive : List ℕ) → AreMade (expose_with file directive)
+unfolding AreMade
+expose-made file directive = λ o s r is.
+    option_and_then_some (λ order. option_map (expose_by file directive o order) o.steps) o.order s
+    is (λ order at made.
+    let parts = map_parts (expose_by file directive o order) o.steps s made in
+    let steps : IfSome (Some parts.0) IsStepCount =
+    subst (λ x. IfSome x IsStepCount) parts.1 r.steps in
+    subst AreLawful parts.2 (steps, limit-fits o r))
+
+certify-made : (file directive : List ℕ) → AreMade (certify_with file directive)
+unfolding AreMade
+certify-made file directive = λ o s r is.
+    let parts = map_parts (λ steps. Certify file directive steps (limit_of o)) o.steps s is in
+    let steps : IfSome (Some parts.0) IsStepCount =
+    subst (λ x. IfSome x IsStepCount) parts.1 r.steps in
+    subst AreLawful parts.2 (steps, limit-fits o r)
+
+taken-lawful : (next : ℕ) (made : Option Settings) (s : Settings)
+    → ((t : Settings) → made ≡ Some t → AreLawful t) → taken_or next made ≡ Ok s → AreLawful s
+taken-lawful next None s lawful is = absurd cc
+taken-lawful next (Some t) s lawful is = let same : t ≡ s = cc in
+    subst AreLawful same (lawful t refl)
+
+made-lawful : (make : Options → Option Settings) (next : ℕ) (command : Command) (first : ℕ)
+    (words : List (List ℕ)) (s : Settings) → AreMade make
+    → made_of make next (options_from command none first words) ≡ Ok s → AreLawful s
+unfolding AreMade
+made-lawful make next command first words s lawful is =
+    by (options_from command none first words) refl is
+  where
+    by : (given : Given) → options_from command none first words ≡ given
+        → made_of make next given ≡ Ok s → AreLawful s
+    by (Err n) was e = absurd cc
+    by (Ok o) was e =
+        taken-lawful next (make o) s (λ t made.
+        lawful o t (all-kept command words none first o at-none was) made) e
+
+-- what a command makes of two files and options is lawful, where the options are in range
+files-lawful : (make : MadeOfFiles) → ((file second : List ℕ) → AreMade (make file second))
+    → (command : Command) (words : List (List ℕ)) (s : Settings)
+    → settings_over command make words ≡ Ok s → AreLawful s
+files-lawful make made command [] s is = absurd cc
+files-lawful make made command (file ∷ []) s is = absurd cc
+files-lawful make made command (file ∷ second ∷ words) s is =
+    made-lawful (make file second) (length words + 4) command 4 words s (made file second)
+    (by (options_from command none 4 words) is)
+  where
+    next : ℕ
+    next = length words + 4
+
+    by : (given : Given) → made_over make (files_with file second next given) ≡ Ok s
+        → made_of (make file second) next given ≡ Ok s
+    by (Err n) e = e
+    by (Ok o) e = e
+
+-- ---- an arm for each command
+
+command-lawful : (command : Command) (words : List (List ℕ)) (s : Settings)
+    → settings_of command words ≡ Ok s → AreLawful s
+command-lawful (commands.Run report) [] s is = absurd cc
+command-lawful (commands.Run report) (file ∷ words) s is =
+    made-lawful (run_with report file) (length words + 3) (commands.Run report) 3 words s
+    (run-made report file) is
+command-lawful commands.Campaign [] s is = absurd cc
+command-lawful commands.Campaign (file ∷ words) s is =
+    made-lawful (campaign_with file) (length words + 3) commands.Campaign 3 words s
+    (campaign-made file) is
+command-lawful commands.Big [] s is = absurd cc
+command-lawful commands.Big (word ∷ words) s is = by (pieces_in word) refl is
+  where
+    by : (pieces : Option ℕ) → pieces_in word ≡ pieces → big_by pieces words ≡ Ok s → AreLawful s
+    by None was e = absurd cc
+    by (Some pieces) was e =
+        made-lawful (big_with pieces) (length words + 3) commands.Big 3 words s
+        (big-made pieces (bounded 1 100 word pieces was)) e
+command-lawful commands.Replay words s is =
+    files-lawful replay_with replay-made commands.Replay words s is
+command-lawful commands.Expose words s is =
+    files-lawful expose_with expose-made commands.Expose words s is
+command-lawful commands.Certify words s is =
+    files-lawful certify_with certify-made commands.Certify words s is
+
+-- what was read of the words of a command keeps to the ranges
+pub reads_lawful : (r : Result Settings WordsError) (command : Command) (words : List (List ℕ))
+    → ReadsAs r (settings_of command words) → IfOk r AreLawful
+reads_lawful (Ok s) command words reads = command-lawful command words s reads
+reads_lawful (Err e) command words reads = tt

@@ -1,0 +1,58 @@
+use Rattle.std.proofs.Common.{ℕ, List, Some, take, subst}
+use Rattle.script_tree.specs.ScriptSeen.{text}
+use Rattle.pct_top.specs.Printed.{Files, Printed, trace_bytes, directive_bytes}
+use Rattle.pct_top.specs.Ordered.{OrderFits}
+use Rattle.pct_top.specs.Files.{Misses}
+use Rattle.pct_top.specs.Outcome.{Comes}
+use Rattle.pct_top.specs.commands.Replay.{OfReplay}
+use Rattle.pct_top.specs.commands.Expose.{OfExpose}
+use Rattle.pct_top.specs.commands.Certify.{OfCertify}
+use Rattle.pct_top.proofs.Comes.{comes_as}
+use Rattle.pct_top.proofs.dispatch.second_outcome.Goals as goal
+
+pub returns-in-Replay : goal.returns-in-Replay
+returns-in-Replay g c =
+    let test = c.args.test.now in
+    let told = g.H.Shelf.files c.args.shelf.now in
+    let failed = g.H.Shelf.failed c.args.shelf.now in
+    let failed' = g.H.Shelf.failed c.reply_to_file.new.shelf in
+    let P : List ℕ → Type 0 = λ name.
+    Comes (λ files. OfReplay (take trace_bytes (files name)) (text test.script) test.deal) told
+    (Misses (Some name) failed failed') c.reply_to_file.result in
+    let missed : Type 0 = Misses (Some c.in-Replay.trace) failed failed' in
+    rw c.in-Replay.is (comes_as (λ files.
+    OfReplay (take trace_bytes (files c.in-Replay.trace)) (text test.script) test.deal) told
+    missed (missed × Unit {0}) (λ m. (m, tt)) c.reply_to_file.result
+    (subst P c.as_str.ensures c.reply_to_file.ensures))
+
+pub returns-in-Expose : goal.returns-in-Expose
+returns-in-Expose g c =
+    let test = c.args.test.now in
+    let script = text test.script in
+    let told = g.H.Shelf.files c.args.shelf.now in
+    let failed = g.H.Shelf.failed c.args.shelf.now in
+    let failed' = g.H.Shelf.failed c.expose_file.new.shelf in
+    let asked = c.in-Expose in
+    let P : List ℕ → Type 0 = λ name. Comes
+    (λ files. OfExpose (take directive_bytes (files name)) asked.order asked.word asked.steps
+    asked.limit script test.deal)
+    told (Misses (Some name) failed failed' × OrderFits script.names (Some asked.order))
+    c.expose_file.result in
+    rw c.in-Expose.is (subst P c.as_str-directive.ensures c.expose_file.ensures)
+
+pub returns-in-Certify : goal.returns-in-Certify
+returns-in-Certify g c =
+    let test = c.args.test.now in
+    let script = text test.script in
+    let told = g.H.Shelf.files c.args.shelf.now in
+    let failed = g.H.Shelf.failed c.args.shelf.now in
+    let failed' = g.H.Shelf.failed c.certify_file.new.shelf in
+    let asked = c.in-Certify in
+    let Of : List ℕ → Files → Printed → Type 0 = λ name files.
+    OfCertify (take directive_bytes (files name)) asked.steps asked.limit script test.deal in
+    let P : List ℕ → Type 0 = λ name.
+    Comes (Of name) told (Misses (Some name) failed failed') c.certify_file.result in
+    let missed : Type 0 = Misses (Some asked.directive) failed failed' in
+    rw c.in-Certify.is (comes_as (Of asked.directive) told missed (missed × Unit {0})
+    (λ m. (m, tt)) c.certify_file.result
+    (subst P c.as_str-directive-in-Certify.ensures c.certify_file.ensures))
