@@ -1,6 +1,7 @@
 -- When a line of a text is faulty by no kind, and which kind is its first.
 use Rattle.std.proofs.Common.{◌≡◌, ◌⊎◌, ℕ, ◌+◌, ◌-◌, ◌<◌, ◌≤◌, List, zero, suc, inl, inr, refl, arith}
 use Rattle.pct_ask.specs.NameLists.{NameLists}
+use Rattle.pct_ask.proofs.laws.FirstFaults.{one_first_fault}
 use Rattle.directive.specs.Forms.{IsAfterText, IsVerdictText, HasUnknownLow, HasUnknownAfter, HasUnknownVerdict}
 use Rattle.directive.specs.Lines.{line_at, IsThere}
 use Rattle.directive.specs.Faults.{IsFirstLine, IsSecondLine, IsLaterLine, IsBelow, IsFaulty, rank, IsFirstFault}
@@ -201,19 +202,5 @@ two-ranks NoVerdict NoVerdict e = refl
 two-ranks MoreAfterVerdict MoreAfterVerdict e = refl
 two-ranks a b e = absurd (omega arith)
 
-orders : (a b : ℕ) → (a < b) ⊎ ((b < a) ⊎ (a ≡ b))
-orders a b = grind arith
-
 pub first-only : (size : ℕ) (names : NameLists) (all : List (List ℕ)) (m n : ℕ) (a b : DirectiveFault) → IsFirstFault size names all m a → IsFirstFault size names all n b → (m ≡ n) × (a ≡ b)
-first-only size names all m n a b one two = elim (orders m n) [
-  | inl less ↦ absurd (two.first_line m a less one.faulty)
-  | inr other ↦ elim other [
-    | inl more ↦ absurd (one.first_line n b more two.faulty)
-    | inr same ↦ (same, by same (orders (rank a) (rank b)))
-  ]
-]
-  where
-    by : m ≡ n → (rank a < rank b) ⊎ ((rank b < rank a) ⊎ (rank a ≡ rank b)) → a ≡ b
-    by same (inl less) = absurd (two.first_kind a less (let moved : IsFaulty size names all n a = rw (← same) one.faulty in moved))
-    by same (inr (inl more)) = absurd (one.first_kind b more (let moved : IsFaulty size names all m b = rw same two.faulty in moved))
-    by same (inr (inr e)) = two-ranks a b e
+first-only size names all = one_first_fault rank (IsFaulty size names all) two-ranks

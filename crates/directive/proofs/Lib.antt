@@ -1,5 +1,4 @@
 pub mod Cuts
-pub mod Numbers
 pub mod Bodies
 pub mod Rows
 pub mod Places

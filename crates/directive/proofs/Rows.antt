@@ -17,10 +17,11 @@ use Rattle.pct_ask.proofs.laws.SplitWords.{words_of-join, join-words_of, solid-b
 use Rattle.pct_ask.proofs.laws.VerdictsRead.{ReadsAs-words, ReadsAs-only}
 use Rattle.directive.specs.DirectiveText.{verdict_line}
 use Rattle.directive.specs.Forms.{IsNumber, IsLow, IsAfter, IsVerdict, IsAfterText, IsVerdictText, HasUnknownVerdict}
-use Rattle.directive.specs.Reading.{low_words, low_in, moment_row, after_words, end_of, row_of, number_in}
+use Rattle.directive.specs.Reading.{low_words, low_in, moment_row, after_words, end_of, row_of}
 use Rattle.directive.specs.declared.row.Row.{Row}
 use Rattle.directive.specs.declared.row.Row.TheVariants.{After, End}
-use Rattle.directive.proofs.Numbers.{number_in-decimal, number_in-Some}
+use Rattle.pct_ask.specs.Numbers.{step_count}
+use Rattle.pct_ask.proofs.laws.Decimals.{number_in-decimal, number_in-Some}
 use Rattle.directive.proofs.Bodies.{row-after}
 
 same-word : (word other : List ℕ) → bytes_eq word other ≡ true → word ≡ other
@@ -92,7 +93,11 @@ row_of-IsAfter names text name number is =
     let other : bytes_eq (take 8 text) (codes "verdict ") ≡ false = ap (λ t. bytes_eq (take 8 t) (codes "verdict ")) is.spelled in
     row-after names text other
     ∙ ap (after_words names) (after-cut text name number is)
-    ∙ rw (is.lawful, number_in-decimal number (decimal number) is.range refl)
+    ∙ rw (
+      is.lawful,
+      number_in-decimal 1 100000 number (decimal number) is.range.0 is.range.1
+          (omega arith) refl,
+    )
 
 record Moments (names : NameLists) (words : List (List ℕ)) (row : Row) : Type 0 where
   name : List ℕ
@@ -102,16 +107,21 @@ record Moments (names : NameLists) (words : List (List ℕ)) (row : Row) : Type 
   words_are : words ≡ codes "after" ∷ name ∷ decimal number ∷ []
   row_is : After (place_of name names.threads) number ≡ row
 
-moment-by : (names : NameLists) (b c : Bool) (head name digits : List ℕ) (number : Option ℕ) (row : Row) → bytes_eq head (codes "after") ≡ b → is_name 1 name ≡ c → number_in digits ≡ number → (if b then moment_row names (if c then Some name else None) number else None) ≡ Some row → Moments names (head ∷ name ∷ digits ∷ []) row
+moment-by : (names : NameLists) (b c : Bool) (head name digits : List ℕ) (number : Option ℕ)
+    (row : Row) → bytes_eq head (codes "after") ≡ b → is_name 1 name ≡ c
+    → step_count digits ≡ number → (if b then moment_row names
+    (if c then Some name else None) number else None) ≡ Some row
+    → Moments names (head ∷ name ∷ digits ∷ []) row
 moment-by names true true head name digits (Some n) row e f g h =
-    let k = number_in-Some n digits g in
+    let k = number_in-Some 1 100000 n digits g in
     let same : After (place_of name names.threads) n ≡ row = cc in
     record {
       name = name;
       number = n;
       lawful_name = f;
-      range = k.0;
-      words_are = ap (λ w. w ∷ name ∷ digits ∷ []) (same-word head (codes "after") e) ∙ ap (λ w. codes "after" ∷ name ∷ w ∷ []) k.1;
+      range = (k.0, k.1);
+      words_are = ap (λ w. w ∷ name ∷ digits ∷ []) (same-word head (codes "after") e)
+          ∙ ap (λ w. codes "after" ∷ name ∷ w ∷ []) k.2;
       row_is = same;
     }
 moment-by names true true head name digits None row e f g h = absurd cc
@@ -123,7 +133,8 @@ moment-spelled names [] row h = absurd cc
 moment-spelled names (a ∷ []) row h = absurd cc
 moment-spelled names (a ∷ b ∷ []) row h = absurd cc
 moment-spelled names (head ∷ name ∷ digits ∷ []) row h =
-    moment-by names (bytes_eq head (codes "after")) (is_name 1 name) head name digits (number_in digits) row refl refl refl h
+    moment-by names (bytes_eq head (codes "after")) (is_name 1 name) head name digits
+    (step_count digits) row refl refl refl h
 moment-spelled names (a ∷ b ∷ c ∷ d ∷ words) row h = absurd cc
 
 -- ---- the line of a verdict

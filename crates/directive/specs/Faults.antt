@@ -1,6 +1,7 @@
 -- The fault of a text that is no directive: its first faulty line, and the first kind by which that
 -- line is faulty (this project).
 use Rattle.std.specs.Prelude.{◌≡◌, ℕ, ◌-◌, ◌<◌, ◌≤◌, ◌⊎◌, true, List, length, codes}
+use Rattle.pct_ask.specs.FirstFaults as texts
 use Rattle.pct_ask.specs.NameLists.{NameLists}
 use Rattle.directive.specs.Forms.{IsLow, IsAfterText, IsVerdictText, HasUnknownLow, HasUnknownAfter}
 use Rattle.directive.specs.Forms.{HasUnknownVerdict}
@@ -89,14 +90,10 @@ rank UnknownName = 3
 rank NoVerdict = 4
 rank MoreAfterVerdict = 5
 
--- The line is faulty by the kind and by none before it, and no line before is faulty.
-pub record IsFirstFault (size : ℕ) (names : NameLists) (pieces : List (List ℕ)) (line : ℕ)
-    (kind : DirectiveFault) : Type 0 where
-  pub faulty : IsFaulty size names pieces line kind
-  pub first_kind : (other : DirectiveFault) → rank other < rank kind
-      → ¬ IsFaulty size names pieces line other
-  pub first_line : (before : ℕ) (other : DirectiveFault) → before < line
-      → ¬ IsFaulty size names pieces before other
+-- the first of its lines that is faulty, and the first kind by which that line is
+abbrev pub IsFirstFault : ℕ → NameLists → List (List ℕ) → ℕ → DirectiveFault → Type 0
+IsFirstFault size names pieces line kind =
+    texts.IsFirstFault rank (IsFaulty size names pieces) line kind
 
 -- the text's fault
 abbrev pub IsDirectiveFault : List ℕ → NameLists → ℕ → DirectiveFault → Type 0

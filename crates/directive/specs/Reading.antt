@@ -1,9 +1,8 @@
 -- Reading a directive from its first line to its last.
-use Rattle.std.specs.Prelude.{ℕ, ℤ, pos, negsuc, ◌+◌, ◌&&◌, nat_le, nat_lt, if◌then◌else◌, List, []}
-use Rattle.std.specs.Prelude.{◌∷◌, length, take, drop, Option, Some, None, Result, Ok, Err, codes}
-use Rattle.std.specs.Prelude.{decimal}
+use Rattle.std.specs.Prelude.{ℕ, ◌+◌, nat_lt, if◌then◌else◌, List, [], ◌∷◌, length, take, drop}
+use Rattle.std.specs.Prelude.{Option, Some, None, Result, Ok, Err, codes}
 use Rattle.std.specs.Str.{bytes_eq}
-use Rattle.std.specs.Str.Parse.{digits_value}
+use Rattle.pct_ask.specs.Numbers.{step_count}
 use Rattle.pct_ask.specs.Words.{is_name}
 use Rattle.pct_ask.specs.NameLists.{NameLists, place_of}
 use Rattle.pct_ask.specs.VerdictWords.{words_of, verdict_of_words}
@@ -26,17 +25,6 @@ use Rattle.directive.specs.declared.fault.DirectiveFault.TheVariants.{MoreAfterV
 abbrev pub Fault : Type 0
 Fault = ℕ × DirectiveFault
 
--- a number, where it is in 1..100000
-abbrev pub ranged : ℤ → Option ℕ
-ranged (pos n) = if nat_le 1 n && nat_le n 100000 then Some n else None
-ranged (negsuc n) = None
-
--- the number in 1..100000 of which the word is the canonical decimal
-unfoldable pub number_in : List ℕ → Option ℕ
-number_in word =
-    if bytes_eq (decimal (digits_value 10 word)) word
-    then ranged (pos (digits_value 10 word)) else None
-
 abbrev pub lawful : List ℕ → Option (List ℕ)
 lawful name = if is_name 1 name then Some name else None
 
@@ -54,7 +42,7 @@ moment_row names (Some name) None = None
 moment_row names (Some name) (Some number) = Some (After (place_of name names.threads) number)
 
 abbrev pub moment_of : NameLists → List ℕ → List ℕ → Option Row
-moment_of names name number = moment_row names (lawful name) (number_in number)
+moment_of names name number = moment_row names (lawful name) (step_count number)
 
 -- the moment that an `after` line tells by its words
 abbrev pub after_words : NameLists → List (List ℕ) → Option Row

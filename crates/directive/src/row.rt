@@ -2,13 +2,14 @@
 
 ghost use Rattle.std.specs.Prelude.{◌≡◌, IfOk};
 ghost use Rattle.std.specs.Option.{option_copied};
+ghost use Rattle.pct_ask.specs.Numbers as numbers;
 ghost use Rattle.pct_ask.specs.VerdictWords.{words_of, verdict_of_words};
 ghost use Rattle.directive.specs.Reading as reading;
 ghost use Rattle.directive.specs.Seen.{seen};
 
 use crate::fault::DirectiveFault;
 use crate::line::first_words;
-use pct_ask::{NameKind, Names, Verdict, VerdictRead, is_lawful_name, read_number, read_verdict};
+use pct_ask::{NameKind, Names, Verdict, VerdictRead, is_lawful_name, number_in, read_verdict};
 use policy_pick::Moment;
 use std::alloc::{AllocError as NoMemory, Global};
 
@@ -33,21 +34,11 @@ pub enum Sound {
 }
 
 /// The number of a step, from 1, that a canonical decimal spells.
-fn number_in(word: &[u8]) -> Option<u32>
-    ensures { result ≡ reading.number_in word.now }
+fn step_count(word: &[u8]) -> Option<u32>
+    ensures { result ≡ numbers.step_count word.now }
 {
-    let number = read_number(word)?;
-    as_number(number)
-}
-
-fn as_number(number: i128) -> Option<u32>
-    ensures { result ≡ reading.ranged number }
-{
-    if 1 <= number && number <= 100_000 {
-        Some(number as u32)
-    } else {
-        None
-    }
+    let number = number_in(1, 100_000, word)?;
+    Some(number as u32)
 }
 
 fn lawful(name: &[u8]) -> Option<&[u8]>
@@ -82,7 +73,7 @@ fn moment_of(names: &Names, name: &[u8], number: &[u8]) -> Option<Row>
     ensures { result ≡ reading.moment_of names.now name.now number.now }
 {
     let name = lawful(name)?;
-    let number = number_in(number)?;
+    let number = step_count(number)?;
     let thread = names.find(NameKind::Thread, name);
     Some(Row::After { thread, number })
 }

@@ -1,5 +1,6 @@
 pub mod PlaceLemmas
 pub mod NumberLemmas
+pub mod RangeLemmas
 pub mod LineLemmas
 pub mod VerdictWordLemmas
 pub mod StuckLemmas

@@ -1,14 +1,9 @@
 -- Facts on how the words of a verdict's text are read.
-use Rattle.std.specs.Prelude.{◌&&◌, nat_le, codes, decimal, FitsSigned, if◌then◌else◌}
-use Rattle.std.specs.Int.{w128}
-use Rattle.std.proofs.lemmas.Int.{fits_signed_from_abs}
+use Rattle.std.specs.Prelude.{nat_le, codes, decimal, if◌then◌else◌}
 use Rattle.std.specs.Str.{bytes_eq}
-use Rattle.std.specs.Str.Parse.{digits_value}
-use Rattle.std.proofs.Common.{◌≡◌, ℕ, ◌+◌, ◌<◌, ◌≤◌, Bool, true, false, List, [], ◌∷◌, ◌++◌, Bor, ℤ, pos, negsuc, Option, Some, None, refl, sym, ◌∙◌, ap, arith}
-use Rattle.std.proofs.lemmas.Fmt.{decimal_is_IsNumeral}
+use Rattle.std.proofs.Common.{◌≡◌, ℕ, ◌+◌, ◌<◌, ◌≤◌, Bool, true, false, List, [], ◌∷◌, ◌++◌, Bor}
+use Rattle.std.proofs.Common.{Option, Some, None, refl, sym, ◌∙◌, ap, arith}
 use Rattle.std.proofs.lemmas.Bool.Decides.{nat_tests}
-use Rattle.std.proofs.lemmas.Slice.Eq.{bytes_eq-Decides}
-use Rattle.pct_ask.specs.Numbers.{number_text}
 use Rattle.pct_ask.specs.Words.{is_name}
 use Rattle.pct_ask.specs.NameLists.{NameLists, AreNames, place_of}
 use Rattle.pct_ask.specs.declared.names.NameKind.TheVariants.{Thread}
@@ -17,77 +12,23 @@ use Rattle.std.specs.List.{All}
 use Rattle.std.proofs.lemmas.List.Elements.{All-push, All-weaker}
 use Rattle.std.proofs.lemmas.List.Quantifiers.{position-Some}
 use Rattle.pct_ask.specs.VerdictText.{IsLine}
-use Rattle.pct_ask.specs.VerdictWords.{words_of, words_after, line_number, line_in_range, place_by, stuck_step, first_place, placed_kind, placed_words, stuck_words, verdict_of_words}
+use Rattle.pct_ask.specs.VerdictWords.{words_of, words_after, line_number, place_by, stuck_step}
+use Rattle.pct_ask.specs.VerdictWords.{first_place, placed_kind, placed_words, stuck_words}
+use Rattle.pct_ask.specs.VerdictWords.{verdict_of_words}
 use Rattle.pct_ask.specs.declared.verdict_text.VerdictRead.{VerdictRead}
 use Rattle.pct_ask.specs.declared.verdict_text.VerdictRead.TheVariants.{NoForm}
 use Rattle.pct_ask.proofs.laws.SplitWords.{words_of-some}
+use Rattle.pct_ask.proofs.laws.Decimals.{number_in-decimal, number_in-Some}
 
 -- a line's decimal is read as the line
 pub line_number-decimal : (line : ℕ) (word : List ℕ) → IsLine line → word ≡ decimal line → line_number word ≡ Some line
-unfolding line_number
 line_number-decimal line word range is =
-    let value : digits_value 10 word ≡ line = ap (digits_value 10) is ∙ (decimal_is_IsNumeral line (omega arith)).1 in
-    let same : bytes_eq (decimal line) word ≡ true = (bytes_eq-Decides (decimal line) word).1 (sym is) in
-    let low : nat_le 1 line ≡ true = grind (arith, nat_tests) in
-    let high : nat_le line 4096 ≡ true = grind (arith, nat_tests) in
-    rw (value, same, low, high)
-
-line-tests : (a b c : Bool) (n line : ℕ) → (if a && b && c then Some n else None) ≡ Some line → (a ≡ true) × (b ≡ true) × (c ≡ true) × (n ≡ line)
-line-tests true true true n line h = (refl, refl, refl, cc)
-line-tests true true false n line h = cc
-line-tests true false c n line h = cc
-line-tests false b c n line h = cc
+    number_in-decimal 1 4096 line word range.0 range.1 (omega arith) is
 
 -- and only that
 pub line_number-Some : (line : ℕ) (word : List ℕ) → line_number word ≡ Some line → IsLine line × (word ≡ decimal line)
-unfolding line_number
 line_number-Some line word h =
-    let t = line-tests (bytes_eq (decimal (digits_value 10 word)) word) (nat_le 1 (digits_value 10 word)) (nat_le (digits_value 10 word) 4096) (digits_value 10 word) line h in
-    let value = t.3 in
-    let low : nat_le 1 line ≡ true = rw value at t.1 in
-    let high : nat_le line 4096 ≡ true = rw value at t.2 in
-    ((grind (arith, nat_tests), grind (arith, nat_tests)), sym ((bytes_eq-Decides (decimal (digits_value 10 word)) word).0 t.0) ∙ ap decimal value)
-
--- a word that is no line's decimal
-pub line_number-None : (word : List ℕ) → ((line : ℕ) → IsLine line → word ≡ decimal line → ⊥) → line_number word ≡ None
-line_number-None word none = by (line_number word) refl
-  where
-    by : (r : Option ℕ) → line_number word ≡ r → r ≡ None
-    by None e = refl
-    by (Some line) e = let is = line_number-Some line word e in absurd (none line is.0 is.1)
-
-fits-line : (line : ℕ) → IsLine line → FitsSigned w128 (pos line)
-fits-line line range = fits_signed_from_abs w128 (pos line) (omega arith)
-
--- a word that spells no number
-pub no-number : (word : List ℕ) (read : Option ℤ) → ((z : ℤ) → FitsSigned w128 z → word ≡ number_text z → read ≡ Some z) → read ≡ None → line_number word ≡ None
-no-number word read every was =
-    line_number-None word (λ line range is. let some : None ≡ Some (pos line) = sym was ∙ every (pos line) (fits-line line range) is in cc)
-
-in-range : (n line : ℕ) → (if nat_le 1 n && nat_le n 4096 then Some n else None) ≡ Some line → IsLine line × (n ≡ line)
-in-range n line h = by (nat_le 1 n) (nat_le n 4096) refl refl h
-  where
-    by : (low high : Bool) → nat_le 1 n ≡ low → nat_le n 4096 ≡ high → (if low && high then Some n else None) ≡ Some line → IsLine line × (n ≡ line)
-    by true true l u e = let same : n ≡ line = cc in ((grind (arith, nat_tests), grind (arith, nat_tests)), same)
-    by true false l u e = cc
-    by false high l u e = cc
-
--- a word that spells a number is a line's where the number is in range
-pub line_number-number : (word : List ℕ) (number : ℤ) → word ≡ number_text number → ((z : ℤ) → FitsSigned w128 z → word ≡ number_text z → Some number ≡ Some z) → line_in_range number ≡ line_number word
-line_number-number word (pos n) is every = by (line_in_range (pos n)) refl
-  where
-    by : (r : Option ℕ) → line_in_range (pos n) ≡ r → r ≡ line_number word
-    by (Some line) e = let k = in-range n line e in sym (line_number-decimal line word k.0 (is ∙ ap decimal k.1))
-    by None e =
-        sym (line_number-None word (λ line range spelled.
-        let some : Some (pos n) ≡ Some (pos line) = every (pos line) (fits-line line range) spelled in
-        let same : n ≡ line = cc in
-        let low : nat_le 1 n ≡ true = grind (arith, nat_tests) in
-        let high : nat_le n 4096 ≡ true = grind (arith, nat_tests) in
-        let there : Some n ≡ None = rw (low, high) at e in
-        cc))
-line_number-number word (negsuc n) is every =
-    sym (line_number-None word (λ line range spelled. let some : Some (negsuc n) ≡ Some (pos line) = every (pos line) (fits-line line range) spelled in cc))
+    let k = number_in-Some 1 4096 line word h in ((k.0, k.1), k.2)
 
 -- two words or more after a place make no kind
 pub placed_kind-longer : (head word text : List ℕ) → placed_kind head (word ∷ words_of text) ≡ None

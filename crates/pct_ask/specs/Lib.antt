@@ -6,6 +6,7 @@ pub mod Words
 pub mod Rows
 pub mod NameLists
 pub mod Numbers
+pub mod FirstFaults
 pub mod VerdictText
 pub mod VerdictPieces
 pub mod VerdictWords

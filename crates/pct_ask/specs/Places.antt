@@ -1,6 +1,7 @@
 -- Threads, each with a line of the test (this project): those of a run in which nobody can go on.
-use Rattle.std.specs.Prelude.{ℕ, ◌+◌, ◌<◌, ◌==◌, ◌&&◌, Bool, if◌then◌else◌, Option, Some, None}
-use Rattle.std.specs.Prelude.{List, [], ◌∷◌, map, All, zero, suc}
+use Rattle.std.specs.Prelude.{◌≡◌, ℕ, ◌+◌, ◌*◌, ◌/◌, ◌%◌, ◌^◌, ◌<◌, ◌==◌, ◌&&◌, Bool}
+use Rattle.std.specs.Prelude.{if◌then◌else◌, Option, Some, None, List, [], ◌∷◌, length, map, All}
+use Rattle.std.specs.Prelude.{zero, suc}
 use Rattle.std.specs.List.Sorted.{IsStrictlyIncreasing}
 use Rattle.std.specs.Cmp.Lexicographic.{pointwise}
 
@@ -27,6 +28,30 @@ lines_from thread (suc n) [] = None ∷ lines_from (thread + 1) n []
 lines_from thread (suc n) (place ∷ places) =
     if place.0 == thread then Some place.1 ∷ lines_from (thread + 1) n places
     else None ∷ lines_from (thread + 1) n (place ∷ places)
+
+-- so many numbers under as many bits: each is a line where its bit, from the lowest on, is set
+abbrev pub known_lines : ℕ → List ℕ → List (Option ℕ)
+known_lines bits [] = []
+known_lines bits (number ∷ numbers) =
+    (if bits % 2 == 1 then Some number else None) ∷ known_lines (bits / 2) numbers
+
+-- back: the bits of those that are lines
+abbrev pub line_bits : List (Option ℕ) → ℕ
+line_bits [] = 0
+line_bits (None ∷ lines) = 2 * line_bits lines
+line_bits (Some line ∷ lines) = 2 * line_bits lines + 1
+
+-- and the numbers, with 0 for each that is no line
+abbrev pub line_numbers : List (Option ℕ) → List ℕ
+line_numbers [] = []
+line_numbers (None ∷ lines) = 0 ∷ line_numbers lines
+line_numbers (Some line ∷ lines) = line ∷ line_numbers lines
+
+-- 64 numbers under 64 bits, with 0 wherever the bit isn't set
+pub record AreKnown (bits : ℕ) (numbers : List ℕ) : Type 0 where
+  pub long : length numbers ≡ 64
+  pub narrow : bits < 2 ^ 64
+  pub zeros : line_numbers (known_lines bits numbers) ≡ numbers
 
 -- whether two places have the same thread and the same line
 abbrev pub same_place : ℕ × ℕ → ℕ × ℕ → Bool

@@ -1,12 +1,11 @@
 -- How the words of a text are read as a verdict, one after another (this project).
-use Rattle.std.specs.Prelude.{ℕ, ℤ, pos, negsuc, ◌+◌, Bool, true, false, ◌&&◌, ◌==◌, nat_le}
-use Rattle.std.specs.Prelude.{if◌then◌else◌, Option, Some, None, List, [], ◌∷◌, ◌++◌, codes}
-use Rattle.std.specs.Prelude.{decimal, length}
+use Rattle.std.specs.Prelude.{ℕ, ◌+◌, Bool, true, false, ◌==◌, nat_le, if◌then◌else◌, Option, Some}
+use Rattle.std.specs.Prelude.{None, List, [], ◌∷◌, ◌++◌, codes, length}
 use Rattle.std.proofs.Common.{Bor}
 use Rattle.std.specs.List.{slice_split}
 use Rattle.std.specs.Option.{option_map}
 use Rattle.std.specs.Str.{bytes_eq}
-use Rattle.std.specs.Str.Parse.{digits_value}
+use Rattle.pct_ask.specs.Numbers.{number_in}
 use Rattle.pct_ask.specs.Words.{is_name}
 use Rattle.pct_ask.specs.NameLists.{NameLists, place_of}
 use Rattle.pct_ask.specs.declared.ask.FaultKind.{FaultKind}
@@ -36,19 +35,9 @@ abbrev pub length_after : Option (Bor (List ℕ)) → ℕ
 length_after None = 0
 length_after (Some rest) = length rest.now + 1
 
--- a number as a line of a test, where it may be one
-abbrev pub line_in_range : ℤ → Option ℕ
-line_in_range (pos n) = if nat_le 1 n && nat_le n 4096 then Some n else None
-line_in_range (negsuc n) = None
-
 -- the line of a test that a word spells
-unfoldable pub line_number : List ℕ → Option ℕ
-line_number word =
-    if bytes_eq (decimal (digits_value 10 word)) word
-    && nat_le 1 (digits_value 10 word)
-    && nat_le (digits_value 10 word) 4096
-    then Some (digits_value 10 word)
-    else None
+abbrev pub line_number : List ℕ → Option ℕ
+line_number word = number_in 1 4096 word
 
 -- a place and the words after it, where its name is lawful and its line is a test's; its name may
 -- be no thread's

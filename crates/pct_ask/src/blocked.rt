@@ -1,8 +1,9 @@
 ghost use Rattle.std.specs.Prelude.{◌≡◌, ◌<◌, [], ◌∷◌, ◌++◌, All};
 ghost use Rattle.std.specs.Cmp.{partial_equiv_from_equiv};
-ghost use Rattle.std.specs.Hash.{slice, option, u32};
+ghost use Rattle.std.specs.Hash.{slice, u32, u64};
 ghost use Rattle.std.proofs.Common.{ap};
-ghost use Rattle.pct_ask.specs.Places.{AreRising, line_of, lines_from, same_places};
+ghost use Rattle.pct_ask.specs.Places.{AreRising, line_of, same_places};
+ghost use Rattle.pct_ask.specs.Places.{lines_from, line_bits, line_numbers};
 ghost use Rattle.pct_ask.specs.PlaceLaws.{same_places-Decides, same_places-equivalence};
 
 use std::hash::{Hash, Hasher};
@@ -12,25 +13,33 @@ use std::marker::Model;
 /// Contracts see the list of pairs of a thread and a line, in rising order of threads.
 #[derive(Clone, Copy, Debug)]
 pub struct Blocked {
-    lines: [Option<u32>; 64],
+    /// A bit for each thread, the lowest for thread 0: whether it can't go on.
+    threads: u64,
+    /// The line of each thread that can't go on, and 0 for the others.
+    lines: [u32; 64],
 }
 
 impl Model for Blocked {
-    ghost use Rattle.std.specs.Prelude.{◌≡◌, ℕ, List, length};
-    ghost use Rattle.std.proofs.Common.{ap};
+    ghost use Rattle.std.specs.Prelude.{ℕ, List};
     ghost use Rattle.pct_ask.specs.Places.{places_from, lines_from};
-    ghost use Rattle.pct_ask.specs.PlaceLaws.{lines_of_places};
+    ghost use Rattle.pct_ask.specs.Places.{known_lines, line_bits, line_numbers, AreKnown};
+    ghost use Rattle.pct_ask.specs.PlaceLaws.{bits-back, numbers-back};
 
     ghost Value = { List (ℕ × ℕ) };
 
-    ghost view = { λ b. places_from 0 b.lines };
+    ghost view = { λ b. places_from 0 (known_lines b.threads b.lines) };
 
-    ghost invariant = { λ b. length b.lines ≡ 64 };
+    ghost invariant = { λ b. AreKnown b.threads b.lines };
 
-    ghost inverse = { λ places. record { lines = lines_from 0 64 places } };
+    ghost inverse = { λ places. record {
+      threads = line_bits (lines_from 0 64 places);
+      lines = line_numbers (lines_from 0 64 places);
+    } };
 
-    ghost inverse_ok = { λ b long.
-        ap (λ lines. record { lines = lines }) (lines_of_places b.lines long) };
+    ghost inverse_ok = { λ b known i. record {
+      threads = bits-back b.threads b.lines known i;
+      lines = numbers-back b.threads b.lines known i;
+    } };
 }
 
 impl PartialEq for Blocked {
@@ -39,7 +48,7 @@ impl PartialEq for Blocked {
     ghost laws = { partial_equiv_from_equiv same_places-equivalence };
 
     fn eq(&self, other: &Self) -> bool {
-        self.lines == other.lines
+        self.threads == other.threads && self.lines == other.lines
     }
 }
 
@@ -48,13 +57,17 @@ impl Eq for Blocked {
 }
 
 impl Hash for Blocked {
-    ghost hash_input = { λ places. slice (option u32) (lines_from 0 64 places) };
+    ghost hash_input = { λ places.
+        u64 (line_bits (lines_from 0 64 places))
+        ++ slice u32 (line_numbers (lines_from 0 64 places)) };
 
     ghost respects_eq = { λ x y same.
-        ap (λ places. slice (option u32) (lines_from 0 64 places))
+        ap (λ places. u64 (line_bits (lines_from 0 64 places))
+        ++ slice u32 (line_numbers (lines_from 0 64 places)))
         ((same_places-Decides x y).0 same) };
 
     fn hash<H: Hasher>(&self, state: &mut H) {
+        self.threads.hash(state);
         self.lines.hash(state);
     }
 }
@@ -64,7 +77,10 @@ impl Blocked {
     pub fn new() -> Self
         ensures { result ≡ [] }
     {
-        Blocked { lines: [None; 64] }
+        Blocked {
+            threads: 0,
+            lines: [0; 64],
+        }
     }
 
     /// Adds a thread above those that are there.
@@ -73,7 +89,8 @@ impl Blocked {
         requires above { All (λ place. place.0 < thread) self.old }
         ensures { self.new ≡ self.old ++ (thread, line) ∷ [] }
     {
-        self.lines[thread as usize] = Some(line);
+        self.threads |= 1 << thread;
+        self.lines[thread as usize] = line;
     }
 
     /// The line at which a thread asks.
@@ -81,10 +98,14 @@ impl Blocked {
         ensures line { result ≡ line_of thread self.now }
         ensures rising { AreRising self.now }
     {
-        let lines = &self.lines;
+        let threads = self.threads;
         if thread >= 64 {
             return None;
         }
-        lines[thread as usize]
+        if (threads >> thread) & 1 == 1 {
+            Some(self.lines[thread as usize])
+        } else {
+            None
+        }
     }
 }

@@ -22,7 +22,7 @@ pub use deal::Deal;
 pub use event::{Event, EventList, Row, RowList, Standing};
 pub use line::{Lines, split_lines};
 pub use names::{NameKind, Names};
-pub use number::{read_number, write_number};
+pub use number::{number_in, read_number, write_number};
 pub use sequence::{NumberList, OrderList, PointList, Sequence};
 pub use verdict::{MisuseKind, Outcome, Verdict};
 pub use verdict_text::{VerdictRead, fault_word, read_verdict, write_verdict};

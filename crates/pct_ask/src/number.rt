@@ -1,5 +1,6 @@
-ghost use Rattle.std.specs.Prelude.{◌≡◌, ◌++◌, ℤ, IfSome, OnOk, OnErr, Some, FitsSigned};
+ghost use Rattle.std.specs.Prelude.{◌≡◌, ◌≤◌, ◌++◌, ℤ, IfSome, OnOk, OnErr, Some, FitsSigned};
 ghost use Rattle.std.specs.Int.{w128};
+ghost use Rattle.pct_ask.specs.Numbers as numbers;
 ghost use Rattle.pct_ask.specs.Numbers.{number_text};
 
 use itoa::Buffer;
@@ -26,6 +27,26 @@ pub fn read_number(text: &[u8]) -> Option<i128>
     } else {
         None
     }
+}
+
+fn in_range(low: u64, high: u64, number: i128) -> Option<u64>
+    ensures number { result ≡ numbers.in_range low high number }
+    ensures most { IfSome result (λ found. found ≤ high) }
+{
+    if i128::from(low) <= number && number <= i128::from(high) {
+        Some(number as u64)
+    } else {
+        None
+    }
+}
+
+/// The number in a range of which the text is the canonical decimal.
+pub fn number_in(low: u64, high: u64, text: &[u8]) -> Option<u64>
+    ensures number { result ≡ numbers.number_in low high text.now }
+    ensures most { IfSome result (λ number. number ≤ high) }
+{
+    let number = read_number(text)?;
+    in_range(low, high, number)
 }
 
 /// Writes a number's canonical decimal at the end. After an `Err` the bytes are as before.

@@ -4,14 +4,14 @@ ghost use Rattle.std.specs.Prelude.{◌≡◌, ◌<◌, ◌≤◌, ◌==◌, ◌
 ghost use Rattle.std.specs.Prelude.{position, MatchOption, IfSome};
 ghost use Rattle.pct_ask.specs.NameLists.{AreNames};
 ghost use Rattle.pct_ask.specs.VerdictWords.{words_of, words_after, length_after, line_number};
-ghost use Rattle.pct_ask.specs.VerdictWords.{line_in_range, first_place, misuse_kind, fault_kind};
+ghost use Rattle.pct_ask.specs.VerdictWords.{first_place, misuse_kind, fault_kind};
 ghost use Rattle.pct_ask.specs.VerdictWords.{placed_kind, verdict_at, placed_words, stuck_words};
 ghost use Rattle.pct_ask.specs.VerdictWords.{bare_word, verdict_of_words};
 
 use crate::ask::FaultKind;
 use crate::blocked::Blocked;
 use crate::names::{NameKind, Names};
-use crate::number::read_number;
+use crate::number::number_in;
 use crate::verdict::{MisuseKind, Verdict};
 use crate::verdict_text::VerdictRead;
 use crate::words::is_lawful_name;
@@ -209,18 +209,8 @@ fn read_place<'a>(text: &'a [u8], names: &Names) -> Option<PlaceRead<'a>>
 fn read_line(word: &[u8]) -> Option<u32>
     ensures { result ≡ line_number word.now }
 {
-    let number = read_number(word)?;
-    as_line(number)
-}
-
-fn as_line(number: i128) -> Option<u32>
-    ensures { result ≡ line_in_range number }
-{
-    if 1 <= number && number <= 4096 {
-        Some(number as u32)
-    } else {
-        None
-    }
+    let number = number_in(1, 4096, word)?;
+    Some(number as u32)
 }
 
 // The first word, and what comes after the space that ends it.

@@ -15,13 +15,18 @@ use Rattle.pct_ask.specs.declared.ask.FaultKind.{FaultKind}
 use Rattle.pct_ask.specs.declared.ask.Ask.{Ask}
 use Rattle.pct_ask.specs.declared.ask.Ask.TheVariants as asks
 use Rattle.trace_text.specs.reader.Numbers.{value_of}
-use Rattle.trace_text.specs.reader.Asks.{has_form, object_at, object, kind_of, ask_of, bare_ask, holds_of, with_operand, plain_ask, on_object, ask_by, ask_on_one, with_value, on_both, ask_on_two, exchange, ask_on_three}
+use Rattle.trace_text.specs.reader.Asks.{has_form, object_at, object, kind_of, ask_of, bare_ask}
+use Rattle.trace_text.specs.reader.Asks.{holds_of, with_operand, plain_ask, on_object, ask_by}
+use Rattle.trace_text.specs.reader.Asks.{ask_on_one, with_value, on_both, ask_on_two, exchange}
+use Rattle.trace_text.specs.reader.Asks.{ask_on_three}
 use Rattle.trace_text.specs.declared.asks.WordsRead.{WordsRead}
 use Rattle.trace_text.specs.declared.asks.WordsRead.TheVariants.{Is, NoForm, UnknownName}
-use Rattle.trace_text.specs.Forms.{Verb, AskForm, verb_word, verb_kind, verb_since, words_of_ask, IsName, IsAskOf, AsksUnknown}
+use Rattle.trace_text.specs.Forms.{Verb, AskForm, verb_word, verb_kind, verb_since, words_of_ask}
+use Rattle.trace_text.specs.Forms.{IsName, IsAskOf, AsksUnknown}
 use Rattle.trace_text.specs.Forms as forms
 use Rattle.trace_text.proofs.Values.{value_of-Some, Some-value_of}
-use Rattle.trace_text.proofs.AskWords.{Among, kind-among, holds-by, fault-by, second, check-known, fault-known, ask_in, HasFewWords}
+use Rattle.trace_text.proofs.AskWords.{Among, kind-among, holds-by, fault-by, second, check-known}
+use Rattle.trace_text.proofs.AskWords.{fault-known, ask_in, HasFewWords}
 
 same-word : (word other : List ℕ) → bytes_eq word other ≡ true → word ≡ other
 same-word word other e = (bytes_eq-Decides word other).0 e
@@ -49,15 +54,24 @@ not-first version (inr two) h = two
 
 -- ---- an object
 
-pub object-inv : (names : NameLists) (kind : NameKind) (word : List ℕ) → has_form (object names kind word) ≡ true → IsName word × (object names kind word ≡ UnknownName → place_of word (list_of kind names) ≡ None)
-object-inv names kind word form = by (is_name 1 word) (place_of word (list_of kind names)) refl refl (object names kind word) refl form
+pub object-inv : (names : NameLists) (kind : NameKind) (word : List ℕ)
+    → has_form (object names kind word) ≡ true
+    → IsName word × (object names kind word ≡ UnknownName
+    → place_of word (list_of kind names) ≡ None)
+object-inv names kind word form = by (is_name 1 word) (place_of word (list_of kind names)) refl refl
+    (object names kind word) refl form
   where
-    by : (b : Bool) (place : Option ℕ) → is_name 1 word ≡ b → place_of word (list_of kind names) ≡ place → (found : WordsRead ℕ) → (if◌then◌else◌ {A = WordsRead ℕ} b (object_at place) NoForm) ≡ found → has_form found ≡ true → IsName word × (found ≡ UnknownName → place_of word (list_of kind names) ≡ None)
+    by : (b : Bool) (place : Option ℕ) → is_name 1 word ≡ b
+        → place_of word (list_of kind names) ≡ place → (found : WordsRead ℕ)
+        → (if◌then◌else◌ {A = WordsRead ℕ} b (object_at place) NoForm) ≡ found
+        → has_form found ≡ true → IsName word × (found ≡ UnknownName
+        → place_of word (list_of kind names) ≡ None)
     by true None e p found k form' = (e, λ unknown. p)
     by true (Some id) e p found k form' = (e, λ unknown. absurd (not-unknown id found k unknown))
     by false place e p found k form' = absurd (no-form found k form')
 
-pub object-lawful : (names : NameLists) (kind : NameKind) (word : List ℕ) → IsName word → object names kind word ≡ object_at (place_of word (list_of kind names))
+pub object-lawful : (names : NameLists) (kind : NameKind) (word : List ℕ) → IsName word
+    → object names kind word ≡ object_at (place_of word (list_of kind names))
 object-lawful names kind word lawful = rw lawful
 
 -- a lawful name has a form, and is unknown where it has no place
@@ -119,7 +133,8 @@ kind-verb version forms.RwUnlock which h = kind-second version forms.RwUnlock wh
 -- ---- what is read as an ask is one by form
 
 -- the words are those of an ask by form, which has an unknown name where one was read
-pub record IsAskWords (names : NameLists) (version : ℕ) (words : List (List ℕ)) (read : WordsRead Ask) : Type 0 where
+pub record IsAskWords (names : NameLists) (version : ℕ) (words : List (List ℕ))
+    (read : WordsRead Ask) : Type 0 where
   pub ask : AskForm
   pub words_are : words ≡ words_of_ask ask
   pub of : IsAskOf version ask
@@ -134,39 +149,87 @@ triple a b c x y z p q r = rw (p, q, r)
 four : (a b c d x y z w : List ℕ) → a ≡ x → b ≡ y → c ≡ z → d ≡ w → a ∷ b ∷ c ∷ d ∷ [] ≡ x ∷ y ∷ z ∷ w ∷ []
 four a b c d x y z w p q r s = rw (p, q, r, s)
 
-bare-form : (names : NameLists) (version : ℕ) (word : List ℕ) (read : WordsRead Ask) → bare_ask word ≡ read → has_form read ≡ true → IsAskWords names version (word ∷ []) read
-bare-form names version word read h form = by (bytes_eq word (codes "yield")) (bytes_eq word (codes "begin")) refl refl h
+bare-form : (names : NameLists) (version : ℕ) (word : List ℕ) (read : WordsRead Ask)
+    → bare_ask word ≡ read → has_form read ≡ true → IsAskWords names version (word ∷ []) read
+bare-form names version word read h form = by (bytes_eq word (codes "yield"))
+    (bytes_eq word (codes "begin")) refl refl h
   where
-    by : (a b : Bool) → bytes_eq word (codes "yield") ≡ a → bytes_eq word (codes "begin") ≡ b → (if◌then◌else◌ {A = WordsRead Ask} a (Is asks.Yield) (if b then Is asks.Begin else NoForm)) ≡ read → IsAskWords names version (word ∷ []) read
-    by true b ea eb k = record { ask = forms.Yield; words_are = ap (λ w. w ∷ []) (same-word word (codes "yield") ea); of = tt; unknown = λ unknown. absurd (not-unknown asks.Yield read k unknown) }
-    by false true ea eb k = record { ask = forms.Begin; words_are = ap (λ w. w ∷ []) (same-word word (codes "begin") eb); of = tt; unknown = λ unknown. absurd (not-unknown asks.Begin read k unknown) }
+    by : (a b : Bool) → bytes_eq word (codes "yield") ≡ a → bytes_eq word (codes "begin") ≡ b
+        → (if◌then◌else◌ {A = WordsRead Ask} a (Is asks.Yield)
+        (if b then Is asks.Begin else NoForm)) ≡ read → IsAskWords names version (word ∷ []) read
+    by true b ea eb k = record {
+      ask = forms.Yield;
+      words_are =
+          ap (λ w. w ∷ []) (same-word word (codes "yield") ea);
+      of = tt;
+      unknown =
+          λ unknown. absurd (not-unknown asks.Yield read k unknown);
+    }
+    by false true ea eb k = record {
+      ask = forms.Begin;
+      words_are =
+          ap (λ w. w ∷ []) (same-word word (codes "begin") eb);
+      of = tt;
+      unknown =
+          λ unknown. absurd (not-unknown asks.Begin read k unknown);
+    }
     by false false ea eb k = absurd (no-form read k form)
 
-operand-inv : {A : Type 0} (ask : A → Ask) (operand : Option A) (read : WordsRead Ask) → with_operand ask operand ≡ read → has_form read ≡ true → (x : A) × (operand ≡ Some x) × (Is (ask x) ≡ read)
+operand-inv : {A : Type 0} (ask : A → Ask) (operand : Option A) (read : WordsRead Ask)
+    → with_operand ask operand ≡ read → has_form read ≡ true
+    → (x : A) × (operand ≡ Some x) × (Is (ask x) ≡ read)
 operand-inv ask None read h form = absurd (no-form read h form)
 operand-inv ask (Some x) read h form = (x, refl, h)
 
-plain-form : (names : NameLists) (version : ℕ) (word operand : List ℕ) (read : WordsRead Ask) → plain_ask word operand ≡ read → has_form read ≡ true → IsAskWords names version (word ∷ operand ∷ []) read
-plain-form names version word operand read h form = by (bytes_eq word (codes "check")) (bytes_eq word (codes "fault")) refl refl h
+plain-form : (names : NameLists) (version : ℕ) (word operand : List ℕ) (read : WordsRead Ask)
+    → plain_ask word operand ≡ read → has_form read ≡ true
+    → IsAskWords names version (word ∷ operand ∷ []) read
+plain-form names version word operand read h form =
+    by (bytes_eq word (codes "check")) (bytes_eq word (codes "fault")) refl refl h
   where
-    by : (a b : Bool) → bytes_eq word (codes "check") ≡ a → bytes_eq word (codes "fault") ≡ b → (if◌then◌else◌ {A = WordsRead Ask} a (with_operand asks.Check (holds_of operand)) (if b then with_operand asks.Fault (fault_kind operand) else NoForm)) ≡ read → IsAskWords names version (word ∷ operand ∷ []) read
+    by : (a b : Bool) → bytes_eq word (codes "check") ≡ a → bytes_eq word (codes "fault") ≡ b
+        → (if◌then◌else◌ {A = WordsRead Ask} a (with_operand asks.Check (holds_of operand))
+        (if b then with_operand asks.Fault (fault_kind operand) else NoForm)) ≡ read
+        → IsAskWords names version (word ∷ operand ∷ []) read
     by true b ea eb k =
         let m = operand-inv (λ (holds : Bool). asks.Check holds) (holds_of operand) read k form in
         let spelled = holds-by operand m.0 (bytes_eq operand (codes "1")) (bytes_eq operand (codes "0")) refl refl m.1 in
-        record { ask = forms.Check m.0; words_are = pair word operand (codes "check") (check_word m.0) (same-word word (codes "check") ea) spelled; of = tt; unknown = λ unknown. absurd (not-unknown (asks.Check m.0) read m.2 unknown) }
+        record {
+          ask = forms.Check m.0;
+          words_are =
+              pair word operand (codes "check") (check_word m.0) (same-word word (codes "check") ea)
+              spelled;
+          of = tt;
+          unknown = λ unknown. absurd
+              (not-unknown (asks.Check m.0) read m.2 unknown);
+        }
     by false true ea eb k =
-        let m = operand-inv (λ (kind : FaultKind). asks.Fault kind) (fault_kind operand) read k form in
+        let m = operand-inv (λ (kind : FaultKind). asks.Fault kind) (fault_kind operand) read k
+        form in
         let spelled = fault-by operand m.0 (bytes_eq operand (codes "overflow")) (bytes_eq operand (codes "zerodivisor")) (bytes_eq operand (codes "spin")) refl refl refl m.1 in
-        record { ask = forms.Fault m.0; words_are = pair word operand (codes "fault") (fault_word m.0) (same-word word (codes "fault") eb) spelled; of = tt; unknown = λ unknown. absurd (not-unknown (asks.Fault m.0) read m.2 unknown) }
+        record {
+          ask = forms.Fault m.0;
+          words_are =
+              pair word operand (codes "fault") (fault_word m.0) (same-word word (codes "fault") eb)
+              spelled;
+          of = tt;
+          unknown = λ unknown. absurd
+              (not-unknown (asks.Fault m.0) read m.2 unknown);
+        }
     by false false ea eb k = absurd (no-form read k form)
 
 -- an ask of an object has its form, and an unknown name only of it
-place-inv : (ask : ℕ → Ask) (place : WordsRead ℕ) (read : WordsRead Ask) → on_object ask place ≡ read → has_form read ≡ true → (has_form place ≡ true) × (read ≡ UnknownName → place ≡ UnknownName)
+place-inv : (ask : ℕ → Ask) (place : WordsRead ℕ) (read : WordsRead Ask)
+    → on_object ask place ≡ read → has_form read ≡ true
+    → (has_form place ≡ true) × (read ≡ UnknownName → place ≡ UnknownName)
 place-inv ask (Is x) read h form = (refl, λ unknown. absurd (not-unknown (ask x) read h unknown))
 place-inv ask NoForm read h form = absurd (no-form read h form)
 place-inv ask UnknownName read h form = (refl, λ unknown. refl)
 
-on-form : (names : NameLists) (version : ℕ) (kind : NameKind) (word operand : List ℕ) (read : WordsRead Ask) → 1 ≤ version → kind_of version word ≡ Some kind → ask_by names (Some kind) word operand ≡ read → has_form read ≡ true → IsAskWords names version (word ∷ operand ∷ []) read
+on-form : (names : NameLists) (version : ℕ) (kind : NameKind) (word operand : List ℕ)
+    (read : WordsRead Ask) → 1 ≤ version → kind_of version word ≡ Some kind
+    → ask_by names (Some kind) word operand ≡ read → has_form read ≡ true
+    → IsAskWords names version (word ∷ operand ∷ []) read
 on-form names version kind word operand read some k h form =
     let m = place-inv (ask_of kind word) (object names kind operand) read h form in
     let o = object-inv names kind operand m.0 in
@@ -175,83 +238,162 @@ on-form names version kind word operand read some k h form =
       ask = forms.On verb.0 operand;
       words_are = ap (λ w. w ∷ operand ∷ []) verb.1;
       of = (verb.2.1, o.0);
-      unknown = λ unknown. ap (λ kd. place_of operand (list_of kd names)) verb.2.0 ∙ o.1 (m.1 unknown);
+      unknown = λ unknown. ap (λ kd. place_of operand (list_of kd names)) verb.2.0
+          ∙ o.1 (m.1 unknown);
     }
 
-one-form : (names : NameLists) (version : ℕ) (word operand : List ℕ) (read : WordsRead Ask) → 1 ≤ version → ask_on_one names version word operand ≡ read → has_form read ≡ true → IsAskWords names version (word ∷ operand ∷ []) read
+one-form : (names : NameLists) (version : ℕ) (word operand : List ℕ) (read : WordsRead Ask)
+    → 1 ≤ version → ask_on_one names version word operand ≡ read → has_form read ≡ true
+    → IsAskWords names version (word ∷ operand ∷ []) read
 unfolding ask_on_one
 one-form names version word operand read some h form = by (kind_of version word) refl h
   where
-    by : (kind : Option NameKind) → kind_of version word ≡ kind → ask_by names kind word operand ≡ read → IsAskWords names version (word ∷ operand ∷ []) read
+    by : (kind : Option NameKind) → kind_of version word ≡ kind
+        → ask_by names kind word operand ≡ read
+        → IsAskWords names version (word ∷ operand ∷ []) read
     by None k b = plain-form names version word operand read b form
     by (Some kind) k b = on-form names version kind word operand read some k b form
 
-value-inv : (ask : ℕ → ℤ → Ask) (place : WordsRead ℕ) (value : Option ℤ) (read : WordsRead Ask) → with_value ask place value ≡ read → has_form read ≡ true → (v : ℤ) × (value ≡ Some v) × (has_form place ≡ true) × (read ≡ UnknownName → place ≡ UnknownName)
+value-inv : (ask : ℕ → ℤ → Ask) (place : WordsRead ℕ) (value : Option ℤ) (read : WordsRead Ask)
+    → with_value ask place value ≡ read → has_form read ≡ true
+    → (v : ℤ) × (value ≡ Some v) × (has_form place ≡ true) × (read ≡ UnknownName
+    → place ≡ UnknownName)
 value-inv ask place None read h form = absurd (no-form read h form)
-value-inv ask place (Some v) read h form = let m = place-inv (λ x. ask x v) place read h form in (v, refl, m.0, m.1)
+value-inv ask place (Some v) read h form = let m =
+    place-inv (λ x. ask x v) place read h form in (v, refl, m.0, m.1)
 
-both-inv : (ask : ℕ → ℕ → Ask) (c m : WordsRead ℕ) (read : WordsRead Ask) → on_both ask c m ≡ read → has_form read ≡ true → (has_form c ≡ true) × (has_form m ≡ true) × (read ≡ UnknownName → (c ≡ UnknownName) ⊎ (m ≡ UnknownName))
+both-inv : (ask : ℕ → ℕ → Ask) (c m : WordsRead ℕ) (read : WordsRead Ask) → on_both ask c m ≡ read
+    → has_form read ≡ true → (has_form c ≡ true) × (has_form m ≡ true) × (read ≡ UnknownName
+    → (c ≡ UnknownName) ⊎ (m ≡ UnknownName))
 both-inv ask NoForm m read h form = absurd (no-form read h form)
 both-inv ask UnknownName (Is y) read h form = (refl, refl, λ unknown. inl refl)
 both-inv ask UnknownName NoForm read h form = absurd (no-form read h form)
 both-inv ask UnknownName UnknownName read h form = (refl, refl, λ unknown. inl refl)
-both-inv ask (Is x) (Is y) read h form = (refl, refl, λ unknown. absurd (not-unknown (ask x y) read h unknown))
+both-inv ask (Is x) (Is y) read h form = (
+  refl,
+  refl,
+  λ unknown. absurd
+      (not-unknown (ask x y) read h unknown),
+)
 both-inv ask (Is x) NoForm read h form = absurd (no-form read h form)
 both-inv ask (Is x) UnknownName read h form = (refl, refl, λ unknown. inr refl)
 
-two-by : (names : NameLists) (version : ℕ) (word a b : List ℕ) (read : WordsRead Ask) (w p r g : Bool) → has_form read ≡ true → bytes_eq word (codes "write") ≡ w → bytes_eq word (codes "add") ≡ p → bytes_eq word (codes "release") ≡ r → bytes_eq word (codes "regain") ≡ g
-    → (if w then with_value asks.Write (object names kinds.Var a) (value_of b) else (if p then with_value asks.Add (object names kinds.Var a) (value_of b) else (if r then on_both asks.Release (object names kinds.Cond a) (object names kinds.Mutex b) else (if g then on_both asks.Regain (object names kinds.Cond a) (object names kinds.Mutex b) else NoForm)))) ≡ read → IsAskWords names version (word ∷ a ∷ b ∷ []) read
+two-by : (names : NameLists) (version : ℕ) (word a b : List ℕ) (read : WordsRead Ask)
+    (w p r g : Bool) → has_form read ≡ true → bytes_eq word (codes "write") ≡ w
+    → bytes_eq word (codes "add") ≡ p → bytes_eq word (codes "release") ≡ r
+    → bytes_eq word (codes "regain") ≡ g
+    → (if w then with_value asks.Write (object names kinds.Var a) (value_of b) else
+    (if p then with_value asks.Add (object names kinds.Var a) (value_of b) else
+    (if r then on_both asks.Release (object names kinds.Cond a) (object names kinds.Mutex b)
+    else (if g then on_both asks.Regain (object names kinds.Cond a) (object names kinds.Mutex b)
+    else NoForm)))) ≡ read → IsAskWords names version (word ∷ a ∷ b ∷ []) read
 two-by names version word a b read true p r g form ew ep er eg h =
     let i = value-inv asks.Write (object names kinds.Var a) (value_of b) read h form in
     let o = object-inv names kinds.Var a i.2 in
     let v = Some-value_of b i.0 i.1 in
-    record { ask = forms.Write a i.0; words_are = triple word a b (codes "write") a (number_text i.0) (same-word word (codes "write") ew) refl v.0; of = (o.0, v.1); unknown = λ unknown. o.1 (i.3 unknown) }
+    record {
+      ask = forms.Write a i.0;
+      words_are =
+          triple word a b (codes "write") a (number_text i.0) (same-word word (codes "write") ew) refl
+          v.0;
+      of = (o.0, v.1);
+      unknown = λ unknown. o.1 (i.3 unknown);
+    }
 two-by names version word a b read false true r g form ew ep er eg h =
     let i = value-inv asks.Add (object names kinds.Var a) (value_of b) read h form in
     let o = object-inv names kinds.Var a i.2 in
     let v = Some-value_of b i.0 i.1 in
-    record { ask = forms.Add a i.0; words_are = triple word a b (codes "add") a (number_text i.0) (same-word word (codes "add") ep) refl v.0; of = (o.0, v.1); unknown = λ unknown. o.1 (i.3 unknown) }
+    record {
+      ask = forms.Add a i.0;
+      words_are =
+          triple word a b (codes "add") a (number_text i.0) (same-word word (codes "add") ep) refl
+          v.0;
+      of = (o.0, v.1);
+      unknown = λ unknown. o.1 (i.3 unknown);
+    }
 two-by names version word a b read false false true g form ew ep er eg h =
-    let i = both-inv asks.Release (object names kinds.Cond a) (object names kinds.Mutex b) read h form in
+    let i = both-inv asks.Release (object names kinds.Cond a) (object names kinds.Mutex b) read h
+    form in
     let c = object-inv names kinds.Cond a i.0 in
     let m = object-inv names kinds.Mutex b i.1 in
-    record { ask = forms.Release a b; words_are = ap (λ x. x ∷ a ∷ b ∷ []) (same-word word (codes "release") er); of = (c.0, m.0); unknown = λ unknown. either c.1 m.1 (i.2 unknown) }
+    record {
+      ask = forms.Release a b;
+      words_are =
+          ap (λ x. x ∷ a ∷ b ∷ []) (same-word word (codes "release") er);
+      of = (c.0, m.0);
+      unknown =
+          λ unknown. either c.1 m.1 (i.2 unknown);
+    }
 two-by names version word a b read false false false true form ew ep er eg h =
-    let i = both-inv asks.Regain (object names kinds.Cond a) (object names kinds.Mutex b) read h form in
+    let i = both-inv asks.Regain (object names kinds.Cond a) (object names kinds.Mutex b) read h
+    form in
     let c = object-inv names kinds.Cond a i.0 in
     let m = object-inv names kinds.Mutex b i.1 in
-    record { ask = forms.Regain a b; words_are = ap (λ x. x ∷ a ∷ b ∷ []) (same-word word (codes "regain") eg); of = (c.0, m.0); unknown = λ unknown. either c.1 m.1 (i.2 unknown) }
-two-by names version word a b read false false false false form ew ep er eg h = absurd (no-form read h form)
+    record {
+      ask = forms.Regain a b;
+      words_are =
+          ap (λ x. x ∷ a ∷ b ∷ []) (same-word word (codes "regain") eg);
+      of = (c.0, m.0);
+      unknown =
+          λ unknown. either c.1 m.1 (i.2 unknown);
+    }
+two-by names version word a b read false false false false form ew ep er eg h =
+    absurd (no-form read h form)
 
-two-form : (names : NameLists) (version : ℕ) (word a b : List ℕ) (read : WordsRead Ask) → ask_on_two names word a b ≡ read → has_form read ≡ true → IsAskWords names version (word ∷ a ∷ b ∷ []) read
+two-form : (names : NameLists) (version : ℕ) (word a b : List ℕ) (read : WordsRead Ask)
+    → ask_on_two names word a b ≡ read → has_form read ≡ true
+    → IsAskWords names version (word ∷ a ∷ b ∷ []) read
 unfolding ask_on_two
 two-form names version word a b read h form =
-    two-by names version word a b read (bytes_eq word (codes "write")) (bytes_eq word (codes "add")) (bytes_eq word (codes "release")) (bytes_eq word (codes "regain")) form refl refl refl refl h
+    two-by names version word a b read (bytes_eq word (codes "write")) (bytes_eq word (codes "add"))
+    (bytes_eq word (codes "release")) (bytes_eq word (codes "regain")) form refl refl refl refl
+    h
 
-exchange-inv : (place : WordsRead ℕ) (old new : Option ℤ) (read : WordsRead Ask) → exchange place old new ≡ read → has_form read ≡ true → (u : ℤ) × (v : ℤ) × (old ≡ Some u) × (new ≡ Some v) × (has_form place ≡ true) × (read ≡ UnknownName → place ≡ UnknownName)
+exchange-inv : (place : WordsRead ℕ) (old new : Option ℤ) (read : WordsRead Ask)
+    → exchange place old new ≡ read → has_form read ≡ true
+    → (u : ℤ) × (v : ℤ) × (old ≡ Some u) × (new ≡ Some v) × (has_form
+    place ≡ true) × (read ≡ UnknownName → place ≡ UnknownName)
 exchange-inv place None new read h form = absurd (no-form read h form)
 exchange-inv place (Some u) None read h form = absurd (no-form read h form)
-exchange-inv place (Some u) (Some v) read h form = let m = place-inv (λ x. asks.Cas x u v) place read h form in (u, v, refl, refl, m.0, m.1)
+exchange-inv place (Some u) (Some v) read h form = let m =
+    place-inv (λ x. asks.Cas x u v) place read h form in (u, v, refl, refl, m.0, m.1)
 
-three-by : (names : NameLists) (version : ℕ) (word a b c : List ℕ) (read : WordsRead Ask) (w : Bool) → has_form read ≡ true → bytes_eq word (codes "cas") ≡ w → (if w then exchange (object names kinds.Var a) (value_of b) (value_of c) else NoForm) ≡ read → IsAskWords names version (word ∷ a ∷ b ∷ c ∷ []) read
+three-by : (names : NameLists) (version : ℕ) (word a b c : List ℕ) (read : WordsRead Ask) (w : Bool)
+    → has_form read ≡ true → bytes_eq word (codes "cas") ≡ w
+    → (if w then exchange (object names kinds.Var a) (value_of b) (value_of c) else NoForm) ≡ read
+    → IsAskWords names version (word ∷ a ∷ b ∷ c ∷ []) read
 three-by names version word a b c read true form ew h =
     let i = exchange-inv (object names kinds.Var a) (value_of b) (value_of c) read h form in
     let o = object-inv names kinds.Var a i.4 in
     let u = Some-value_of b i.0 i.2 in
     let v = Some-value_of c i.1 i.3 in
-    record { ask = forms.Cas a i.0 i.1; words_are = four word a b c (codes "cas") a (number_text i.0) (number_text i.1) (same-word word (codes "cas") ew) refl u.0 v.0; of = (o.0, u.1, v.1); unknown = λ unknown. o.1 (i.5 unknown) }
+    record {
+      ask = forms.Cas a i.0 i.1;
+      words_are =
+          four word a b c (codes "cas") a (number_text i.0) (number_text i.1)
+          (same-word word (codes "cas") ew) refl u.0 v.0;
+      of = (o.0, u.1, v.1);
+      unknown =
+          λ unknown. o.1 (i.5 unknown);
+    }
 three-by names version word a b c read false form ew h = absurd (no-form read h form)
 
-three-form : (names : NameLists) (version : ℕ) (word a b c : List ℕ) (read : WordsRead Ask) → ask_on_three names word a b c ≡ read → has_form read ≡ true → IsAskWords names version (word ∷ a ∷ b ∷ c ∷ []) read
+three-form : (names : NameLists) (version : ℕ) (word a b c : List ℕ) (read : WordsRead Ask)
+    → ask_on_three names word a b c ≡ read → has_form read ≡ true
+    → IsAskWords names version (word ∷ a ∷ b ∷ c ∷ []) read
 unfolding ask_on_three
-three-form names version word a b c read h form = three-by names version word a b c read (bytes_eq word (codes "cas")) form refl h
+three-form names version word a b c read h form =
+    three-by names version word a b c read (bytes_eq word (codes "cas")) form refl h
 
-pub ask-form : (names : NameLists) (version : ℕ) (words : List (List ℕ)) (read : WordsRead Ask) → 1 ≤ version → ask_in names version words ≡ read → has_form read ≡ true → IsAskWords names version words read
+pub ask-form : (names : NameLists) (version : ℕ) (words : List (List ℕ)) (read : WordsRead Ask)
+    → 1 ≤ version → ask_in names version words ≡ read → has_form read ≡ true
+    → IsAskWords names version words read
 ask-form names version [] read some h form = absurd (no-form read h form)
 ask-form names version (a ∷ []) read some h form = bare-form names version a read h form
 ask-form names version (a ∷ b ∷ []) read some h form = one-form names version a b read some h form
 ask-form names version (a ∷ b ∷ c ∷ []) read some h form = two-form names version a b c read h form
-ask-form names version (a ∷ b ∷ c ∷ d ∷ []) read some h form = three-form names version a b c d read h form
+ask-form names version (a ∷ b ∷ c ∷ d ∷ []) read some h form =
+    three-form names version a b c d read h form
 ask-form names version (a ∷ b ∷ c ∷ d ∷ e ∷ words) read some h form = absurd (no-form read h form)
 
 -- ---- an ask by form is read
@@ -274,9 +416,11 @@ on-read names version verb object which of =
     let place = place_of object (list_of kind names) in
     record {
       read = on_object (ask_of kind (verb_word verb)) (object_at place);
-      is = ap (λ kd. ask_by names kd (verb_word verb) object) (kind-verb version verb which of.0) ∙ ap (on_object (ask_of kind (verb_word verb))) (object-lawful names kind object of.1);
+      is = ap (λ kd. ask_by names kd (verb_word verb) object) (kind-verb version verb which of.0)
+          ∙ ap (on_object (ask_of kind (verb_word verb))) (object-lawful names kind object of.1);
       form = placed-ask (ask_of kind (verb_word verb)) place;
-      unknown = λ none. ap (λ (p : Option ℕ). on_object (ask_of kind (verb_word verb)) (object_at p)) none;
+      unknown = λ none. ap (λ (p : Option ℕ). on_object (ask_of kind (verb_word verb))
+          (object_at p)) none;
     }
 
 write-read : (names : NameLists) (version : ℕ) (var : List ℕ) (value : ℤ) → IsAskOf version (forms.Write var value) → IsAskRead names version (forms.Write var value)
@@ -306,13 +450,15 @@ cas-read names version var old new of = record {
   unknown = λ none. ap (λ (p : Option ℕ). on_object (λ y. asks.Cas y old new) (object_at p)) none;
 }
 
-both-form : (ask : ℕ → ℕ → Ask) (x y : Option ℕ) → has_form (on_both ask (object_at x) (object_at y)) ≡ true
+both-form : (ask : ℕ → ℕ → Ask) (x y : Option ℕ)
+    → has_form (on_both ask (object_at x) (object_at y)) ≡ true
 both-form ask None None = refl
 both-form ask None (Some y) = refl
 both-form ask (Some x) None = refl
 both-form ask (Some x) (Some y) = refl
 
-none-both : (ask : ℕ → ℕ → Ask) (x y : Option ℕ) → (x ≡ None) ⊎ (y ≡ None) → on_both ask (object_at x) (object_at y) ≡ UnknownName
+none-both : (ask : ℕ → ℕ → Ask) (x y : Option ℕ) → (x ≡ None) ⊎ (y ≡ None)
+    → on_both ask (object_at x) (object_at y) ≡ UnknownName
 none-both ask None None none = refl
 none-both ask None (Some y) none = refl
 none-both ask (Some x) None none = refl
@@ -322,7 +468,8 @@ none-both ask (Some x) (Some y) (inr none) = absurd cc
 release-read : (names : NameLists) (version : ℕ) (cond mutex : List ℕ) → IsAskOf version (forms.Release cond mutex) → IsAskRead names version (forms.Release cond mutex)
 unfolding ask_on_two
 release-read names version cond mutex of = record {
-  read = on_both asks.Release (object_at (place_of cond names.conds)) (object_at (place_of mutex names.mutexes));
+  read = on_both asks.Release (object_at (place_of cond names.conds))
+      (object_at (place_of mutex names.mutexes));
   is = rw (object-lawful names kinds.Cond cond of.0, object-lawful names kinds.Mutex mutex of.1);
   form = both-form asks.Release (place_of cond names.conds) (place_of mutex names.mutexes);
   unknown = λ none. none-both asks.Release (place_of cond names.conds) (place_of mutex names.mutexes) none;
@@ -331,7 +478,8 @@ release-read names version cond mutex of = record {
 regain-read : (names : NameLists) (version : ℕ) (cond mutex : List ℕ) → IsAskOf version (forms.Regain cond mutex) → IsAskRead names version (forms.Regain cond mutex)
 unfolding ask_on_two
 regain-read names version cond mutex of = record {
-  read = on_both asks.Regain (object_at (place_of cond names.conds)) (object_at (place_of mutex names.mutexes));
+  read = on_both asks.Regain (object_at (place_of cond names.conds))
+      (object_at (place_of mutex names.mutexes));
   is = rw (object-lawful names kinds.Cond cond of.0, object-lawful names kinds.Mutex mutex of.1);
   form = both-form asks.Regain (place_of cond names.conds) (place_of mutex names.mutexes);
   unknown = λ none. none-both asks.Regain (place_of cond names.conds) (place_of mutex names.mutexes) none;
@@ -344,10 +492,26 @@ ask-read names version (forms.Add var value) which of = add-read names version v
 ask-read names version (forms.Cas var old new) which of = cas-read names version var old new of
 ask-read names version (forms.Release cond mutex) which of = release-read names version cond mutex of
 ask-read names version (forms.Regain cond mutex) which of = regain-read names version cond mutex of
-ask-read names version forms.Yield which of = record { read = Is asks.Yield; is = refl; form = refl; unknown = λ none. absurd none }
-ask-read names version forms.Begin which of = record { read = Is asks.Begin; is = refl; form = refl; unknown = λ none. absurd none }
-ask-read names version (forms.Check holds) which of = record { read = Is (asks.Check holds); is = check-known names version holds; form = refl; unknown = λ none. absurd none }
-ask-read names version (forms.Fault kind) which of = record { read = Is (asks.Fault kind); is = fault-known names version kind; form = refl; unknown = λ none. absurd none }
+ask-read names version forms.Yield which of = record
+    { read = Is asks.Yield; is = refl; form = refl; unknown = λ none. absurd none }
+ask-read names version forms.Begin which of = record
+    { read = Is asks.Begin; is = refl; form = refl; unknown = λ none. absurd none }
+ask-read names version (forms.Check holds) which of =
+    record {
+      read = Is (asks.Check holds);
+      is = check-known names version holds;
+      form =
+          refl;
+      unknown = λ none. absurd none;
+    }
+ask-read names version (forms.Fault kind) which of =
+    record {
+      read = Is (asks.Fault kind);
+      is = fault-known names version kind;
+      form =
+          refl;
+      unknown = λ none. absurd none;
+    }
 
 pub few-ask_words : (ask : AskForm) → HasFewWords (words_of_ask ask)
 few-ask_words (forms.On verb object) = tt

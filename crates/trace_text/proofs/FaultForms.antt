@@ -12,7 +12,9 @@ use Rattle.trace_text.specs.Lines.{line_at, text_in, is_whole}
 use Rattle.trace_text.specs.reader.Heads.{order_in, points_in, limit_in}
 use Rattle.trace_text.specs.Forms.{AskForm, Form, words_of_form, IsOf, HasUnknown}
 use Rattle.trace_text.specs.Forms as forms
-use Rattle.trace_text.specs.Faults.{text_at, version_of, HasForm, IsStepLine, IsVerdictLine, IsOpen, IsInBody, IsNextNumber, IsFaulty, IsFirstFault}
+use Rattle.trace_text.specs.Faults.{text_at, is_there, version_of, HasForm, IsStepLine}
+use Rattle.trace_text.specs.Faults.{IsVerdictLine, IsOpen, IsInBody, IsNextNumber, IsFaulty}
+use Rattle.trace_text.specs.Faults.{IsFirstFault}
 use Rattle.trace_text.specs.reader.Reading.{Fault}
 use Rattle.trace_text.specs.reader.StepLines.{row_of}
 use Rattle.trace_text.specs.declared.row.Row.{Row}
@@ -24,7 +26,10 @@ use Rattle.trace_text.proofs.StepForms.{step-form, step-read}
 use Rattle.trace_text.proofs.EndForms.{never, end-form, end-read}
 use Rattle.trace_text.proofs.HeadForms.{version-form, version-read, same-version, one-or-two, order-form, order-read, unknown-told, unknown-read, points-form, points-read, limit-form, limit-read}
 use Rattle.trace_text.proofs.FaultTests as tests
-use Rattle.trace_text.proofs.FaultTests.{limit_of, row_at, is_there, is_verdict, has_verdict, is_in_body, number_in, number_before, is_past, has_unknown, is_other_number, is_head_line, has_unknown_thread, is_faulty, IsFirstFound}
+use Rattle.trace_text.proofs.FaultTests.{limit_of, row_at, is_verdict, has_verdict, is_in_body}
+use Rattle.trace_text.proofs.FaultTests.{number_in, number_before, is_past, has_unknown}
+use Rattle.trace_text.proofs.FaultTests.{is_other_number, is_head_line, has_unknown_thread}
+use Rattle.trace_text.proofs.FaultTests.{is_faulty, IsFirstFound}
 use Rattle.trace_text.proofs.FaultBodies.{IsTold}
 
 -- ---- tests

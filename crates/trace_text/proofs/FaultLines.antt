@@ -7,8 +7,11 @@ use Rattle.pct_ask.specs.declared.event.Event.{Event}
 use Rattle.pct_ask.specs.declared.verdict.Verdict.{Verdict}
 use Rattle.trace_text.specs.Lines.{is_empty, line_at, text_in, is_whole}
 use Rattle.trace_text.specs.reader.StepLines.{row_of}
-use Rattle.trace_text.specs.Faults.{rank}
-use Rattle.trace_text.proofs.FaultTests.{version_of, limit_of, row_at, is_there, is_verdict, has_verdict, is_in_body, number_before, is_past, has_unknown, is_other_number, is_head_line, has_unknown_thread, is_faulty}
+use Rattle.trace_text.specs.Faults.{is_there, rank}
+use Rattle.trace_text.proofs.FaultTests.{version_of, limit_of, row_at, is_verdict, has_verdict}
+use Rattle.trace_text.proofs.FaultTests.{is_in_body, number_before, is_past, has_unknown}
+use Rattle.trace_text.proofs.FaultTests.{is_other_number, is_head_line, has_unknown_thread}
+use Rattle.trace_text.proofs.FaultTests.{is_faulty}
 use Rattle.trace_text.specs.reader.Heads.{order_in}
 use Rattle.trace_text.specs.reader.Reading.{unended_fault, judged}
 use Rattle.trace_text.specs.declared.row.Row.{Row}

@@ -10,6 +10,7 @@ use Rattle.pct_ask.specs.declared.names.NameKind.{NameKind}
 use Rattle.pct_ask.specs.declared.names.NameKind.TheVariants.{Thread, Var, Mutex, Cond, Sem, Barrier, RwLock}
 use Rattle.trace_text.specs.reader.Asks.{ask_on_one}
 use Rattle.trace_text.specs.Faults.{IsTraceFault}
+use Rattle.pct_ask.specs.Numbers.{number_in}
 use Rattle.trace_text.specs.reader.Numbers.{value_of}
 use Rattle.trace_text.specs.reader.Reading.{Fault, read}
 use Rattle.trace_text.specs.Rows.{some_names}
@@ -68,37 +69,37 @@ unfolding value_of digits
 head-without-end = found (codes "trace 1\norder A B\npoints\nlimit 9") 4 BadHeader refl
 
 pub leading-zero : IsTraceFault (codes "trace 1\norder A B\npoints\nlimit 9\n01 A 4 read x = 0\nverdict cut\n") some_names 5 BadLine
-unfolding row_of step_of ask_on_one value_of digits
+unfolding row_of step_of ask_on_one value_of number_in digits
 leading-zero = found (codes "trace 1\norder A B\npoints\nlimit 9\n01 A 4 read x = 0\nverdict cut\n") 5 BadLine refl
 
 pub cut-line : IsTraceFault (codes "trace 1\norder A B\npoints\nlimit 9\n1 A 4 re") some_names 5 BadLine
-unfolding row_of step_of ask_on_one value_of digits
+unfolding row_of step_of ask_on_one value_of number_in digits
 cut-line = found (codes "trace 1\norder A B\npoints\nlimit 9\n1 A 4 re") 5 BadLine refl
 
 pub lock-of-second-version : IsTraceFault (codes "trace 1\norder A B\npoints\nlimit 9\n1 A 5 rdlock l = 0\nverdict cut\n") some_names 5 BadLine
-unfolding row_of step_of ask_on_one value_of digits
+unfolding row_of step_of ask_on_one value_of number_in digits
 lock-of-second-version = found (codes "trace 1\norder A B\npoints\nlimit 9\n1 A 5 rdlock l = 0\nverdict cut\n") 5 BadLine refl
 
 pub unknown-variable : IsTraceFault (codes "trace 1\norder A B\npoints\nlimit 9\n1 A 4 read y = 0\nverdict cut\n") some_names 5 UnknownName
-unfolding row_of step_of ask_on_one value_of digits
+unfolding row_of step_of ask_on_one value_of number_in digits
 unknown-variable = found (codes "trace 1\norder A B\npoints\nlimit 9\n1 A 4 read y = 0\nverdict cut\n") 5 UnknownName refl
 
 pub first-is-second : IsTraceFault (codes "trace 1\norder A B\npoints\nlimit 9\n2 A 4 read x = 0\nverdict cut\n") some_names 5 OutOfOrder
-unfolding row_of step_of ask_on_one value_of digits
+unfolding row_of step_of ask_on_one value_of number_in digits
 first-is-second = found (codes "trace 1\norder A B\npoints\nlimit 9\n2 A 4 read x = 0\nverdict cut\n") 5 OutOfOrder refl
 
 pub step-zero : IsTraceFault (codes "trace 1\norder A B\npoints\nlimit 9\n0 A 4 read x = 0\nverdict cut\n") some_names 5 OutOfOrder
-unfolding row_of step_of ask_on_one value_of digits
+unfolding row_of step_of ask_on_one value_of number_in digits
 step-zero = found (codes "trace 1\norder A B\npoints\nlimit 9\n0 A 4 read x = 0\nverdict cut\n") 5 OutOfOrder refl
 
 pub past-the-limit : IsTraceFault (codes "trace 1\norder A B\npoints\nlimit 1\n2 A 4 read y = 0\nverdict cut\n") some_names 5 TooLong
-unfolding row_of step_of ask_on_one value_of digits
+unfolding row_of step_of ask_on_one value_of number_in digits
 past-the-limit = found (codes "trace 1\norder A B\npoints\nlimit 1\n2 A 4 read y = 0\nverdict cut\n") 5 TooLong refl
 
 pub no-verdict : IsTraceFault (codes "trace 1\norder A B\npoints\nlimit 9\n1 A 4 yield = 0\n") some_names 6 NoVerdict
-unfolding row_of step_of ask_on_one value_of digits
+unfolding row_of step_of ask_on_one value_of number_in digits
 no-verdict = found (codes "trace 1\norder A B\npoints\nlimit 9\n1 A 4 yield = 0\n") 6 NoVerdict refl
 
 pub after-the-verdict : IsTraceFault (codes "trace 1\norder A B\npoints\nlimit 9\nverdict cut\nx\n") some_names 6 MoreAfterVerdict
-unfolding row_of step_of ask_on_one value_of digits
+unfolding row_of step_of ask_on_one value_of number_in digits
 after-the-verdict = found (codes "trace 1\norder A B\npoints\nlimit 9\nverdict cut\nx\n") 6 MoreAfterVerdict refl

@@ -2,10 +2,10 @@
 use Rattle.std.specs.Prelude.{◌≡◌, ℕ, ◌+◌, ◌-◌, ◌<◌, zero, suc, ◌==◌, ◌&&◌, ◌||◌, Bool, true, false, not, nat_le, nat_lt, if◌then◌else◌, List, Option, Some, None, is_some, is_none}
 use Rattle.std.specs.Option.{unwrap_or}
 use Rattle.pct_ask.specs.NameLists.{NameLists}
-use Rattle.trace_text.specs.Lines.{is_empty, line_at, text_in, is_whole}
+use Rattle.trace_text.specs.Lines.{line_at, text_in, is_whole}
 use Rattle.trace_text.specs.reader.Heads.{version_in, order_in, threads_of, points_in, limit_in}
 use Rattle.trace_text.specs.reader.StepLines.{row_of}
-use Rattle.trace_text.specs.Faults.{rank}
+use Rattle.trace_text.specs.Faults.{is_there, rank}
 use Rattle.trace_text.specs.declared.row.Row.{Row}
 use Rattle.trace_text.specs.declared.row.Row.TheVariants.{Step, End}
 use Rattle.trace_text.specs.declared.fault.TraceFault.{TraceFault}
@@ -22,10 +22,6 @@ limit_of pieces = unwrap_or (limit_in (text_in (line_at pieces 4))) 0
 
 abbrev pub row_at : NameLists → List (List ℕ) → ℕ → Option Row
 row_at names pieces k = row_of names (version_of pieces) (text_in (line_at pieces k))
-
--- there is a byte of line k
-abbrev pub is_there : List (List ℕ) → ℕ → Bool
-is_there pieces k = is_whole (line_at pieces k) || not (is_empty (text_in (line_at pieces k)))
 
 abbrev pub is_verdict : Option Row → Bool
 is_verdict None = false

@@ -12,7 +12,9 @@ use Rattle.pct_ask.specs.Words.{is_name, is_among}
 use Rattle.pct_ask.specs.NameLists.{NameLists, AreDistinct, place_of}
 use Rattle.pct_ask.specs.VerdictWords.{words_of}
 use Rattle.pct_ask.proofs.laws.SplitWords.{join-words_of, words_of-join}
-use Rattle.trace_text.specs.reader.Heads.{version_in, are_different, are_order_names, order_words, order_in, onto, all_of, points_in, limit_in}
+use Rattle.trace_text.specs.reader.Heads.{version_in, are_different, are_order_names, order_words}
+use Rattle.trace_text.specs.reader.Heads.{order_in, points_in, limit_in}
+use Rattle.pct_ask.specs.Numbers.{onto, all_of}
 use Rattle.trace_text.specs.Forms.{words_of_form, IsName, IsOf, HasUnknown}
 use Rattle.trace_text.specs.Forms as forms
 use Rattle.trace_text.proofs.FaultTests.{has_unknown_thread}

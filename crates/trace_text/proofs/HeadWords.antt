@@ -11,7 +11,9 @@ use Rattle.trace_text.specs.declared.fault.TraceFault.TheVariants.{BadHeader}
 use Rattle.pct_ask.specs.Words.{is_name, is_among}
 use Rattle.pct_ask.specs.NameLists.{NameLists}
 use Rattle.trace_text.specs.Lines.{pieces_of}
-use Rattle.trace_text.specs.reader.Heads.{are_different, are_order_names, order_words, order_in, threads_of, step_counts, onto, point_words, limit_words}
+use Rattle.trace_text.specs.reader.Heads.{are_different, are_order_names, order_words, order_in}
+use Rattle.trace_text.specs.reader.Heads.{threads_of, point_words, limit_words}
+use Rattle.pct_ask.specs.Numbers.{step_counts, onto}
 use Rattle.trace_text.specs.reader.Reading.{Fault, ◌>>=◌, head_value, head_line, known, order_line}
 use Rattle.trace_text.specs.reader.Seen.{seen, pieces_after, cut_value}
 
@@ -139,7 +141,9 @@ order_line-lost names pieces piece after most words value e cut all are is got =
 
 -- ---- different words
 
-pub different-first : (words others : List (Bor (List ℕ))) (word : Bor (List ℕ)) (among : Bool) → words ≡ word ∷ others → among ≡ is_among word.now (seen others) → are_different (seen words) ≡ (not among && are_different (seen others))
+pub different-first : (words others : List (Bor (List ℕ))) (word : Bor (List ℕ)) (among : Bool)
+    → words ≡ word ∷ others → among ≡ is_among word.now (seen others)
+    → are_different (seen words) ≡ (not among && are_different (seen others))
 different-first words others word among are is =
     rw (are, ← is)
 

@@ -17,10 +17,12 @@ use Rattle.pct_ask.specs.declared.names.NameKind.TheVariants.{Thread}
 use Rattle.pct_ask.proofs.laws.Names.{place_of-Some}
 use Rattle.pct_ask.proofs.laws.SplitWords.{join-words_of, words_of-join}
 use Rattle.trace_text.specs.Lawful.{IsStepCount}
-use Rattle.trace_text.specs.reader.Numbers.{count_of}
-use Rattle.trace_text.specs.reader.Heads.{version_in, are_different, are_order_names, order_words, order_in, onto, all_of, threads_of, step_counts, point_words, points_in, limit_words, limit_in}
+use Rattle.pct_ask.specs.Numbers.{onto, all_of, step_count, step_counts}
+use Rattle.pct_ask.proofs.laws.Decimals.{number_in-decimal, number_in-Some}
+use Rattle.trace_text.specs.reader.Heads.{version_in, are_different, are_order_names, order_words}
+use Rattle.trace_text.specs.reader.Heads.{order_in, threads_of, point_words, points_in, limit_words}
+use Rattle.trace_text.specs.reader.Heads.{limit_in}
 use Rattle.trace_text.proofs.Names.{place_of-kind, name-lawful}
-use Rattle.trace_text.proofs.StepWords.{count-decimal, decimal-count}
 use Rattle.trace_text.proofs.Bytes.{AreHigh, high-by, name-high, decimal-high, are-solid}
 
 same-word : (word other : List ℕ) → bytes_eq word other ≡ true → word ≡ other
@@ -211,11 +213,11 @@ order-known names order sound all once long =
 
 -- ---- the points and the limit
 
-point-told : (word : List ℕ) (n : ℕ) → count_of 1 100000 word ≡ Some n → (word ≡ decimal n) × IsStepCount n
-point-told word n h = let c = count-decimal 1 100000 word n h in (c.0, (c.1, c.2))
+point-told : (word : List ℕ) (n : ℕ) → step_count word ≡ Some n → (word ≡ decimal n) × IsStepCount n
+point-told word n h = let k = number_in-Some 1 100000 n word h in (k.2, (k.0, k.1))
 
-point-known : (n : ℕ) → IsStepCount n → count_of 1 100000 (decimal n) ≡ Some n
-point-known n h = decimal-count 1 100000 n h.0 h.1 (omega arith)
+point-known : (n : ℕ) → IsStepCount n → step_count (decimal n) ≡ Some n
+point-known n h = number_in-decimal 1 100000 n (decimal n) h.0 h.1 (omega arith) refl
 
 pub points-told : (text : List ℕ) (points : List ℕ) → points_in text ≡ Some points → (text ≡ join_with_byte 32 (codes "points" ∷ map decimal points)) × (length points ≤ 7) × All IsStepCount points
 points-told text points h = by (words_of text) refl h
@@ -226,7 +228,7 @@ points-told text points h = by (words_of text) refl h
         let g = guarded (bytes_eq head (codes "points") && nat_le (length others) 7) (step_counts others) points h in
         let head_is = same-word head (codes "points") (and-left (bytes_eq head (codes "points")) (nat_le (length others) 7) g.0) in
         let few = and-right (bytes_eq head (codes "points")) (nat_le (length others) 7) g.0 in
-        let told = all-told (count_of 1 100000) decimal IsStepCount others points point-told g.1 in
+        let told = all-told step_count decimal IsStepCount others points point-told g.1 in
         let as_long : length others ≡ length points = ap (λ (ws : List (List ℕ)). length ws) told.0 ∙ length-map points decimal in
         (sym (join-words_of text) ∙ ap (join_with_byte 32) (is ∙ ap (λ w. w ∷ others) head_is ∙ ap (λ ws. codes "points" ∷ ws) told.0), grind (arith, nat_tests), told.1)
 
@@ -244,7 +246,7 @@ points-known points few all =
     let solid = are-solid (codes "points" ∷ map decimal points) (points-line-high points all) in
     let cut = words_of-join (codes "points") (map decimal points) solid.0 solid.1 in
     let short : nat_le (length (map decimal points)) 7 ≡ true = let l : length (map decimal points) ≡ length points = length-map points decimal in grind (arith, nat_tests) in
-    ap point_words cut ∙ rw short (all-known (count_of 1 100000) decimal IsStepCount points point-known all)
+    ap point_words cut ∙ rw short (all-known step_count decimal IsStepCount points point-known all)
 
 pub limit-told : (text : List ℕ) (limit : ℕ) → limit_in text ≡ Some limit → (text ≡ join_with_byte 32 (codes "limit" ∷ decimal limit ∷ [])) × IsStepCount limit
 limit-told text limit h = by (words_of text) refl h
@@ -253,7 +255,7 @@ limit-told text limit h = by (words_of text) refl h
     by [] is h = absurd cc
     by (head ∷ []) is h = absurd cc
     by (head ∷ number ∷ []) is h =
-        let g = guarded (bytes_eq head (codes "limit")) (count_of 1 100000 number) limit h in
+        let g = guarded (bytes_eq head (codes "limit")) (step_count number) limit h in
         let told = point-told number limit g.1 in
         (sym (join-words_of text) ∙ ap (join_with_byte 32) (is ∙ ap (λ w. w ∷ number ∷ []) (same-word head (codes "limit") g.0) ∙ ap (λ w. codes "limit" ∷ w ∷ []) told.0), told.1)
     by (head ∷ number ∷ more ∷ words) is h = absurd cc

@@ -6,15 +6,18 @@ use Rattle.std.proofs.lemmas.Bool.Decides.{nat_tests}
 use Rattle.std.proofs.lemmas.Slice.Eq.{bytes_eq-Decides}
 use Rattle.pct_ask.specs.NameLists.{NameLists, AreNames}
 use Rattle.pct_ask.specs.Numbers.{number_text}
+use Rattle.pct_ask.specs.VerdictWords.{line_number}
+use Rattle.pct_ask.proofs.laws.Decimals.{number_in-decimal, number_in-Some}
 use Rattle.pct_ask.specs.VerdictText.{thread_name}
 use Rattle.pct_ask.specs.TraceText.{ask_words, event_words}
 use Rattle.pct_ask.specs.declared.names.NameKind.TheVariants.{Thread}
 use Rattle.pct_ask.specs.declared.ask.Ask.{Ask}
 use Rattle.pct_ask.specs.declared.event.Event.{Event}
 use Rattle.trace_text.specs.Lawful.{IsStep}
-use Rattle.trace_text.specs.reader.Numbers.{value_of, natural, within, natural_of, count_of}
+use Rattle.trace_text.specs.reader.Numbers.{value_of, natural, natural_of}
 use Rattle.trace_text.specs.reader.Asks.{has_form, known, object}
-use Rattle.trace_text.specs.reader.StepLines.{event_of, numbered_step, step_of_parts, step_of, step_of_words}
+use Rattle.trace_text.specs.reader.StepLines.{event_of, numbered_step, step_of_parts, step_of}
+use Rattle.trace_text.specs.reader.StepLines.{step_of_words}
 use Rattle.trace_text.specs.declared.asks.WordsRead.{WordsRead}
 use Rattle.trace_text.specs.declared.asks.WordsRead.TheVariants.{Is, NoForm, UnknownName}
 use Rattle.trace_text.specs.declared.row.Row.TheVariants.{Step}
@@ -40,29 +43,10 @@ natural-decimal word n h =
 pub decimal-natural : (n : ℕ) → n < 2 ^ 63 → natural_of (decimal n) ≡ Some n
 decimal-natural n h = ap natural (value_of-Some (pos n) (fits-natural n h))
 
-within-inv : (low high : ℕ) (m : Option ℕ) (n : ℕ) → within low high m ≡ Some n → (m ≡ Some n) × (low ≤ n) × (n ≤ high)
-within-inv low high None n h = absurd cc
-within-inv low high (Some m) n h = by (nat_le low m) (nat_le m high) refl refl h
-  where
-    by : (a b : Bool) → nat_le low m ≡ a → nat_le m high ≡ b → (if a && b then Some m else None) ≡ Some n → (Some m ≡ Some n) × (low ≤ n) × (n ≤ high)
-    by true true p q e = let same = some_is m n e in (e, grind (arith, nat_tests), grind (arith, nat_tests))
-    by true false p q e = absurd cc
-    by false b p q e = absurd cc
-
-pub count-decimal : (low high : ℕ) (word : List ℕ) (n : ℕ) → count_of low high word ≡ Some n → (word ≡ decimal n) × (low ≤ n) × (n ≤ high)
-count-decimal low high word n h =
-    let i = within-inv low high (natural_of word) n h in
-    ((natural-decimal word n i.0).0, i.1, i.2)
-
-pub decimal-count : (low high n : ℕ) → low ≤ n → n ≤ high → high < 2 ^ 63 → count_of low high (decimal n) ≡ Some n
-decimal-count low high n above below small =
-    let a : nat_le low n ≡ true = grind (arith, nat_tests) in
-    let b : nat_le n high ≡ true = grind (arith, nat_tests) in
-    ap (within low high) (decimal-natural n (omega arith)) ∙ rw (a, b)
-
 -- ---- a step by its parts
 
-record Parts (number : Option ℕ) (thread : WordsRead ℕ) (line : Option ℕ) (ask : WordsRead Ask) (sign : Bool) (answer : Option ℤ) (n : ℕ) (event : Event) : Type 0 where
+record Parts (number : Option ℕ) (thread : WordsRead ℕ) (line : Option ℕ) (ask : WordsRead Ask)
+    (sign : Bool) (answer : Option ℤ) (n : ℕ) (event : Event) : Type 0 where
   number_is : number ≡ Some n
   thread_is : thread ≡ Is event.thread
   line_is : line ≡ Some event.line
@@ -86,22 +70,39 @@ known-is (Is y) x h = ap (λ z. Is z) (some_is y x h)
 known-is NoForm x h = absurd cc
 known-is UnknownName x h = absurd cc
 
-numbered-inv : (m : ℕ) (thread : WordsRead ℕ) (l : ℕ) (ask : WordsRead Ask) (v : ℤ) (n : ℕ) (event : Event) → numbered_step m thread l ask v ≡ Some (Step n (Some event)) → Parts (Some m) thread (Some l) ask true (Some v) n event
+numbered-inv : (m : ℕ) (thread : WordsRead ℕ) (l : ℕ) (ask : WordsRead Ask) (v : ℤ) (n : ℕ)
+    (event : Event) → numbered_step m thread l ask v ≡ Some (Step n (Some event))
+    → Parts (Some m) thread (Some l) ask true (Some v) n event
 numbered-inv m thread l ask v n event h = by (has_form thread && has_form ask) h
   where
-    by : (b : Bool) → (if b then Some (Step m (event_of (known thread) l (known ask) v)) else None) ≡ Some (Step n (Some event)) → Parts (Some m) thread (Some l) ask true (Some v) n event
+    by : (b : Bool) → (if b then Some (Step m (event_of (known thread) l (known ask) v)) else
+        None) ≡ Some (Step n (Some event)) → Parts (Some m) thread (Some l) ask true (Some v) n
+        event
     by true k =
         let r = row-inv m n (event_of (known thread) l (known ask) v) event k in
         let e = event-inv (known thread) l (known ask) v event r.1 in
-        record { number_is = ap (λ x. Some x) r.0; thread_is = known-is thread event.thread e.0; line_is = ap (λ x. Some x) e.1; ask_is = known-is ask event.ask e.2; sign_is = refl; answer_is = ap (λ x. Some x) e.3 }
+        record {
+          number_is = ap (λ x. Some x) r.0;
+          thread_is =
+              known-is thread event.thread e.0;
+          line_is = ap (λ x. Some x) e.1;
+          ask_is =
+              known-is ask event.ask e.2;
+          sign_is = refl;
+          answer_is = ap (λ x. Some x) e.3;
+        }
     by false k = absurd cc
 
-parts-inv : (number : Option ℕ) (thread : WordsRead ℕ) (line : Option ℕ) (ask : WordsRead Ask) (sign : Bool) (answer : Option ℤ) (n : ℕ) (event : Event) → step_of_parts number thread line ask sign answer ≡ Some (Step n (Some event)) → Parts number thread line ask sign answer n event
+parts-inv : (number : Option ℕ) (thread : WordsRead ℕ) (line : Option ℕ) (ask : WordsRead Ask)
+    (sign : Bool) (answer : Option ℤ) (n : ℕ) (event : Event)
+    → step_of_parts number thread line ask sign answer ≡ Some (Step n (Some event))
+    → Parts number thread line ask sign answer n event
 parts-inv None thread line ask sign answer n event h = absurd cc
 parts-inv (Some m) thread None ask sign answer n event h = absurd cc
 parts-inv (Some m) thread (Some l) ask false answer n event h = absurd cc
 parts-inv (Some m) thread (Some l) ask true None n event h = absurd cc
-parts-inv (Some m) thread (Some l) ask true (Some v) n event h = numbered-inv m thread l ask v n event h
+parts-inv (Some m) thread (Some l) ask true (Some v) n event h =
+    numbered-inv m thread l ask v n event h
 
 -- the words of a step
 abbrev pub step_words : List ℕ → List ℕ → List ℕ → List (List ℕ) → List ℕ → List ℕ → List (List ℕ)
@@ -124,16 +125,22 @@ pub record IsStepLine (names : NameLists) (version : ℕ) (words : List (List �
 told-parts : (names : NameLists) (version : ℕ) (number thread line : List ℕ) (ask : List (List ℕ)) (sign answer : List ℕ) (n : ℕ) (event : Event) → step_of names number thread line (ask_in names version ask) sign answer ≡ Some (Step n (Some event)) → IsStepLine names version (step_words number thread line ask sign answer) n event
 unfolding step_of
 told-parts names version number thread line ask sign answer n event h =
-    let p = parts-inv (natural_of number) (object names Thread thread) (count_of 1 4096 line) (ask_in names version ask) (bytes_eq sign (codes "=")) (value_of answer) n event h in
+    let p = parts-inv (natural_of number) (object names Thread thread) (line_number line)
+    (ask_in names version ask) (bytes_eq sign (codes "=")) (value_of answer) n event h in
     let number_is = (natural-decimal number n p.number_is).0 in
     let thread_is = known-object names Thread thread event.thread p.thread_is in
-    let line_is = count-decimal 1 4096 line event.line p.line_is in
+    let line_is = number_in-Some 1 4096 event.line line p.line_is in
     let ask_is = ask-told names version ask event.ask p.ask_is in
     let sign_is = (bytes_eq-Decides sign (codes "=")).0 p.sign_is in
     let answer_is = Some-value_of answer event.answer p.answer_is in
     record {
-      words_are = rw (number_is, ← thread_is.1, line_is.0, ask_is.words_are, sign_is, answer_is.0);
-      lawful = record { thread = thread_is.0; line = (line_is.1, line_is.2); ask = ask_is.lawful; answer = answer_is.1 };
+      words_are = rw (number_is, ← thread_is.1, line_is.2, ask_is.words_are, sign_is, answer_is.0);
+      lawful = record {
+        thread = thread_is.0;
+        line = (line_is.0, line_is.1);
+        ask = ask_is.lawful;
+        answer = answer_is.1;
+      };
     }
 
 none-step : (n : ℕ) (event : Event) → None ≡ Some (Step n (Some event)) → ⊥
@@ -158,4 +165,11 @@ pub words-known : (names : NameLists) (version n : ℕ) (event : Event) → AreN
 unfolding step_of
 words-known names version n event sound step small =
     read-words names version (decimal n) (thread_name names event.thread) (decimal event.line) (ask_words names event.ask) (codes "=") (number_text event.answer) (few-words names event.ask)
-    ∙ rw (decimal-natural n small, object-known names Thread event.thread sound step.thread, decimal-count 1 4096 event.line step.line.0 step.line.1 (omega arith), ask-known names version event.ask sound step.ask, value_of-Some event.answer step.answer)
+    ∙ rw (
+      decimal-natural n small,
+      object-known names Thread event.thread sound step.thread,
+      number_in-decimal 1 4096 event.line (decimal event.line) step.line.0 step.line.1
+          (omega arith) refl,
+      ask-known names version event.ask sound step.ask,
+      value_of-Some event.answer step.answer,
+    )

@@ -3,6 +3,7 @@
 use Rattle.std.specs.Prelude.{◌≡◌, ◌≢◌, ℕ, ℤ, ◌+◌, ◌-◌, ◌<◌, ◌≤◌, ◌⊎◌, ◌||◌, Bool, true, false, not}
 use Rattle.std.specs.Prelude.{if◌then◌else◌, List, length, codes}
 use Rattle.std.specs.Str.{bytes_eq}
+use Rattle.pct_ask.specs.FirstFaults as texts
 use Rattle.pct_ask.specs.NameLists.{NameLists}
 use Rattle.pct_ask.specs.VerdictText.{NamedVerdict}
 use Rattle.pct_ask.specs.VerdictWords.{words_of}
@@ -139,14 +140,10 @@ rank kinds.OutOfOrder = 4
 rank kinds.NoVerdict = 5
 rank kinds.MoreAfterVerdict = 6
 
--- The line is faulty by the kind and by none before it, and no line before is faulty.
-pub record IsFirstFault (size : ℕ) (names : NameLists) (pieces : List (List ℕ)) (line : ℕ)
-    (kind : TraceFault) : Type 0 where
-  pub faulty : IsFaulty size names pieces line kind
-  pub first_kind : (other : TraceFault) → rank other < rank kind
-      → ¬ IsFaulty size names pieces line other
-  pub first_line : (before : ℕ) (other : TraceFault) → before < line
-      → ¬ IsFaulty size names pieces before other
+-- the first of its lines that is faulty, and the first kind by which that line is
+abbrev pub IsFirstFault : ℕ → NameLists → List (List ℕ) → ℕ → TraceFault → Type 0
+IsFirstFault size names pieces line kind =
+    texts.IsFirstFault rank (IsFaulty size names pieces) line kind
 
 -- the text's fault
 abbrev pub IsTraceFault : List ℕ → NameLists → ℕ → TraceFault → Type 0

@@ -3,6 +3,7 @@
 ghost use Rattle.std.specs.Prelude.{◌≡◌, IfOk};
 ghost use Rattle.std.specs.List.{list_all};
 ghost use Rattle.std.specs.Option.{option_map};
+ghost use Rattle.pct_ask.specs.Numbers.{step_counts};
 ghost use Rattle.pct_ask.specs.Words as lexis;
 ghost use Rattle.pct_ask.specs.VerdictWords.{words_of};
 ghost use Rattle.trace_text.specs.reader.Heads as heads;
@@ -146,7 +147,7 @@ pub fn read_order<'a>(
 }
 
 fn step_counts(alloc: Global, words: &[&[u8]]) -> Result<Option<PointList>, NoMemory>
-    ensures { IfOk result (λ points. points ≡ heads.step_counts (seen words.now)) }
+    ensures { IfOk result (λ points. points ≡ step_counts (seen words.now)) }
 {
     let mut points = PointList::new(alloc);
     let mut rest = words;

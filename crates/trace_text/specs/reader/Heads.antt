@@ -2,12 +2,11 @@
 use Rattle.std.specs.Prelude.{ℕ, ◌==◌, ◌&&◌, Bool, true, not, nat_le, if◌then◌else◌, List, [], ◌∷◌}
 use Rattle.std.specs.Prelude.{length, Option, Some, None, codes}
 use Rattle.std.specs.List.{list_all}
-use Rattle.std.specs.Option.{option_map}
 use Rattle.std.specs.Str.{bytes_eq}
+use Rattle.pct_ask.specs.Numbers.{all_of, step_count, step_counts}
 use Rattle.pct_ask.specs.Words.{is_name, is_among}
 use Rattle.pct_ask.specs.NameLists.{NameLists, place_of}
 use Rattle.pct_ask.specs.VerdictWords.{words_of}
-use Rattle.trace_text.specs.reader.Numbers.{count_of}
 
 -- trace 1, trace 2
 abbrev pub version_in : List ℕ → Option ℕ
@@ -35,23 +34,9 @@ order_words names (head ∷ words) =
 abbrev pub order_in : NameLists → List ℕ → Option (List (List ℕ))
 order_in names text = order_words names (words_of text)
 
--- a list with one more in front, where there are both
-abbrev pub onto : {A : Type 0} → Option A → Option (List A) → Option (List A)
-onto None others = None
-onto (Some x) others = option_map (λ xs. x ∷ xs) others
-
--- what each word is, in their order, where each is something
-abbrev pub all_of : (List ℕ → Option ℕ) → List (List ℕ) → Option (List ℕ)
-all_of says [] = Some []
-all_of says (word ∷ words) = onto (says word) (all_of says words)
-
 -- the threads of these names, where each is one's
 abbrev pub threads_of : NameLists → List (List ℕ) → Option (List ℕ)
 threads_of names words = all_of (λ word. place_of word names.threads) words
-
--- numbers in 1..100000
-abbrev pub step_counts : List (List ℕ) → Option (List ℕ)
-step_counts words = all_of (count_of 1 100000) words
 
 -- the numbers behind the word `points`
 abbrev pub point_words : List (List ℕ) → Option (List ℕ)
@@ -66,7 +51,7 @@ points_in text = point_words (words_of text)
 -- the number behind the word `limit`
 abbrev pub limit_words : List (List ℕ) → Option ℕ
 limit_words (head ∷ number ∷ []) =
-    if bytes_eq head (codes "limit") then count_of 1 100000 number else None
+    if bytes_eq head (codes "limit") then step_count number else None
 limit_words words = None
 
 -- limit NUMBER: a number in 1..100000

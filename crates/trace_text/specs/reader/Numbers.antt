@@ -1,6 +1,6 @@
 -- How the numbers of a trace are read: canonical decimals (this project).
-use Rattle.std.specs.Prelude.{ℕ, ℤ, pos, negsuc, zero, suc, ◌^◌, ◌==◌, ◌&&◌, Bool, nat_le, nat_lt}
-use Rattle.std.specs.Prelude.{if◌then◌else◌, List, [], ◌∷◌, Option, Some, None}
+use Rattle.std.specs.Prelude.{ℕ, ℤ, pos, negsuc, zero, suc, ◌^◌, ◌==◌, Bool, nat_lt, List, [], ◌∷◌}
+use Rattle.std.specs.Prelude.{if◌then◌else◌, Option, Some, None}
 use Rattle.std.specs.Str.{bytes_eq}
 use Rattle.std.specs.Str.Parse.{digits_value}
 use Rattle.pct_ask.specs.Numbers.{number_text}
@@ -34,15 +34,6 @@ natural None = None
 natural (Some (pos n)) = Some n
 natural (Some (negsuc n)) = None
 
--- the number, where it is in a range
-abbrev pub within : ℕ → ℕ → Option ℕ → Option ℕ
-within low high None = None
-within low high (Some n) = if nat_le low n && nat_le n high then Some n else None
-
 -- a number from 0 on
 abbrev pub natural_of : List ℕ → Option ℕ
 natural_of word = natural (value_of word)
-
--- a number in a range
-abbrev pub count_of : ℕ → ℕ → List ℕ → Option ℕ
-count_of low high word = within low high (natural_of word)

@@ -4,13 +4,13 @@ use Rattle.std.specs.Prelude.{◌∷◌, take, drop, Option, Some, None, codes}
 use Rattle.std.specs.List.{ends_with}
 use Rattle.std.specs.Str.{bytes_eq}
 use Rattle.pct_ask.specs.NameLists.{NameLists}
-use Rattle.pct_ask.specs.VerdictWords.{words_of, verdict_of_words}
+use Rattle.pct_ask.specs.VerdictWords.{words_of, line_number, verdict_of_words}
 use Rattle.pct_ask.specs.declared.names.NameKind.TheVariants.{Thread}
 use Rattle.pct_ask.specs.declared.ask.Ask.{Ask}
 use Rattle.pct_ask.specs.declared.event.Event.{Event}
 use Rattle.pct_ask.specs.declared.verdict_text.VerdictRead.{VerdictRead}
 use Rattle.pct_ask.specs.declared.verdict_text.VerdictRead.TheVariants.{Is, NoForm, UnknownName}
-use Rattle.trace_text.specs.reader.Numbers.{value_of, natural_of, count_of}
+use Rattle.trace_text.specs.reader.Numbers.{value_of, natural_of}
 use Rattle.trace_text.specs.reader.Asks.{has_form, known, object, bare_ask, ask_on_one, ask_on_two}
 use Rattle.trace_text.specs.reader.Asks.{ask_on_three}
 use Rattle.trace_text.specs.Lawful.{is_of_second}
@@ -46,7 +46,7 @@ step_of_parts (Some n) thread (Some line) ask true (Some answer) =
 unfoldable pub step_of : NameLists → List ℕ → List ℕ → List ℕ → WordsRead Ask → List ℕ → List ℕ
     → Option Row
 step_of names number thread line ask sign answer =
-    step_of_parts (natural_of number) (object names Thread thread) (count_of 1 4096 line) ask
+    step_of_parts (natural_of number) (object names Thread thread) (line_number line) ask
     (bytes_eq sign (codes "=")) (value_of answer)
 
 -- STEP THREAD LINE ASK = ANSWER, where ASK has one word to four

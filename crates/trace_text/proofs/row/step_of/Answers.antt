@@ -10,7 +10,11 @@ pub returns-in_err-answer : goal.returns-in_err-answer
 returns-in_err-answer c =
     let around = c.args.around.now in
     c.from_residual-in_err-answer.ensures
-    ∙ sym (step-unanswered c.args.names.now around.number.now around.thread.now around.line.now c.args.ask around.sign.now around.answer.now c.in_ok-number.number c.in_ok-line.line (sym c.natural_of.ensures ∙ c.in_ok-number.was) (sym c.count_of.ensures ∙ c.in_ok-line.was) (sym c.is_sign.ensures ∙ c.if-not-is_sign.false) (sym c.value_of.ensures ∙ c.in_err-answer.was))
+    ∙ sym (step-unanswered c.args.names.now around.number.now around.thread.now around.line.now
+    c.args.ask around.sign.now around.answer.now c.in_ok-number.number c.in_ok-line.line
+    (sym c.natural_of.ensures ∙ c.in_ok-number.was) (sym c.count_of.ensures ∙ c.in_ok-line.was)
+    (sym c.is_sign.ensures ∙ c.if-not-is_sign.false)
+    (sym c.value_of.ensures ∙ c.in_err-answer.was))
 
 pub returns : goal.returns
 returns c =
@@ -20,4 +24,8 @@ returns c =
     let number = c.in_ok-number.number in
     let line = c.in_ok-line.line in
     c.numbered_step.ensures
-    ∙ rw (c.object-thread.ensures, to_z-of_z w64 c.in_ok-answer.answer fits) (sym (step-whole c.args.names.now around.number.now around.thread.now around.line.now c.args.ask around.sign.now around.answer.now number line c.in_ok-answer.answer (sym c.natural_of.ensures ∙ c.in_ok-number.was) (sym c.count_of.ensures ∙ c.in_ok-line.was) (sym c.is_sign.ensures ∙ c.if-not-is_sign.false) value))
+    ∙ rw (c.object-thread.ensures, to_z-of_z w64 c.in_ok-answer.answer fits)
+    (sym (step-whole c.args.names.now around.number.now around.thread.now around.line.now
+    c.args.ask around.sign.now around.answer.now number line c.in_ok-answer.answer
+    (sym c.natural_of.ensures ∙ c.in_ok-number.was) (sym c.count_of.ensures ∙ c.in_ok-line.was)
+    (sym c.is_sign.ensures ∙ c.if-not-is_sign.false) value))
