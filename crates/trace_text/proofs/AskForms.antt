@@ -1,6 +1,5 @@
 -- An ask is read of the words of its form, and of nothing else.
 use Rattle.std.specs.Prelude.{codes, map, if◌then◌else◌}
-use Rattle.std.specs.Option.{option_map}
 use Rattle.std.specs.Str.{bytes_eq}
 use Rattle.std.proofs.Common.{◌≡◌, ◌⊎◌, ℕ, ◌≤◌, Bool, true, false, ◌||◌, List, [], ◌∷◌, ℤ, Option, Some, None, refl, ap, ◌∙◌, inl, inr, arith}
 use Rattle.std.proofs.lemmas.Slice.Eq.{bytes_eq-Decides}
@@ -16,24 +15,34 @@ use Rattle.pct_ask.specs.declared.ask.FaultKind.{FaultKind}
 use Rattle.pct_ask.specs.declared.ask.Ask.{Ask}
 use Rattle.pct_ask.specs.declared.ask.Ask.TheVariants as asks
 use Rattle.trace_text.specs.reader.Numbers.{value_of}
-use Rattle.trace_text.specs.reader.Asks.{object, kind_of, ask_of, bare_ask, holds_of, plain_ask, ask_by, ask_on_one, with_value, both, waiting, ask_on_two, exchange, ask_on_three}
-use Rattle.trace_text.specs.Forms.{Verb, AskForm, verb_word, verb_kind, verb_since, words_of_ask, IsName, IsAskOf, IsUndeclared, AsksUnknown}
+use Rattle.trace_text.specs.reader.Asks.{has_form, object_at, object, kind_of, ask_of, bare_ask}
+use Rattle.trace_text.specs.reader.Asks.{holds_of, with_operand, plain_ask, on_object, ask_by}
+use Rattle.trace_text.specs.reader.Asks.{ask_on_one, with_value, on_both, ask_on_two, exchange}
+use Rattle.trace_text.specs.reader.Asks.{ask_on_three}
+use Rattle.trace_text.specs.declared.asks.WordsRead.{WordsRead}
+use Rattle.trace_text.specs.declared.asks.WordsRead.TheVariants.{Is, NoForm, UnknownName}
+use Rattle.trace_text.specs.Forms.{Verb, AskForm, verb_word, verb_kind, verb_since, words_of_ask}
+use Rattle.trace_text.specs.Forms.{IsName, IsAskOf, AsksUnknown}
 use Rattle.trace_text.specs.Forms as forms
 use Rattle.trace_text.proofs.Values.{value_of-Some, Some-value_of}
-use Rattle.trace_text.proofs.AskWords.{Among, kind-among, holds-by, fault-by, map-some, second, check-known, fault-known, ask_in, HasFewWords}
+use Rattle.trace_text.proofs.AskWords.{Among, kind-among, holds-by, fault-by, second, check-known}
+use Rattle.trace_text.proofs.AskWords.{fault-known, ask_in, HasFewWords}
 
 same-word : (word other : List ℕ) → bytes_eq word other ≡ true → word ≡ other
 same-word word other e = (bytes_eq-Decides word other).0 e
 
-some_is : {A : Type 0} (x y : A) → Some x ≡ Some y → x ≡ y
-some_is x y e = cc
+-- words with no form, and words whose names are known
+no-form : {A : Type 0} (read : WordsRead A) → NoForm ≡ read → has_form read ≡ true → ⊥
+no-form (Is x) e form = cc
+no-form NoForm e form = cc
+no-form UnknownName e form = cc
 
-not-none : {A : Type 0} (x : A) (r : Option A) → Some x ≡ r → r ≡ None → ⊥
-not-none x r e none = cc
+not-unknown : {A : Type 0} (x : A) (read : WordsRead A) → Is x ≡ read → read ≡ UnknownName → ⊥
+not-unknown x read e unknown = cc
 
-map-none : {A B : Type 0} (f : A → B) (o : Option A) (r : Option B) → option_map f o ≡ r → r ≡ None → o ≡ None
-map-none f None r e none = refl
-map-none f (Some x) r e none = absurd (not-none (f x) r e none)
+either : {A B C D : Type 0} → (A → C) → (B → D) → A ⊎ B → C ⊎ D
+either f g (inl x) = inl (f x)
+either f g (inr y) = inr (g y)
 
 pub first-or-second : (version : ℕ) → (version ≡ 1) ⊎ (version ≡ 2) → 1 ≤ version
 first-or-second version (inl one) = omega arith
@@ -45,15 +54,30 @@ not-first version (inr two) h = two
 
 -- ---- an object
 
-pub object-inv : (names : NameLists) (kind : NameKind) (word : List ℕ) (found : Option ℕ) → object names kind word ≡ Some found → IsName word × (place_of word (list_of kind names) ≡ found)
-object-inv names kind word found h = by (is_name 1 word) refl h
+pub object-inv : (names : NameLists) (kind : NameKind) (word : List ℕ)
+    → has_form (object names kind word) ≡ true
+    → IsName word × (object names kind word ≡ UnknownName
+    → place_of word (list_of kind names) ≡ None)
+object-inv names kind word form = by (is_name 1 word) (place_of word (list_of kind names)) refl refl
+    (object names kind word) refl form
   where
-    by : (b : Bool) → is_name 1 word ≡ b → (if◌then◌else◌ {A = Option (Option ℕ)} b (Some (place_of word (list_of kind names))) None) ≡ Some found → IsName word × (place_of word (list_of kind names) ≡ found)
-    by true e k = (e, some_is (place_of word (list_of kind names)) found k)
-    by false e k = absurd cc
+    by : (b : Bool) (place : Option ℕ) → is_name 1 word ≡ b
+        → place_of word (list_of kind names) ≡ place → (found : WordsRead ℕ)
+        → (if◌then◌else◌ {A = WordsRead ℕ} b (object_at place) NoForm) ≡ found
+        → has_form found ≡ true → IsName word × (found ≡ UnknownName
+        → place_of word (list_of kind names) ≡ None)
+    by true None e p found k form' = (e, λ unknown. p)
+    by true (Some id) e p found k form' = (e, λ unknown. absurd (not-unknown id found k unknown))
+    by false place e p found k form' = absurd (no-form found k form')
 
-pub object-lawful : (names : NameLists) (kind : NameKind) (word : List ℕ) → IsName word → object names kind word ≡ Some (place_of word (list_of kind names))
+pub object-lawful : (names : NameLists) (kind : NameKind) (word : List ℕ) → IsName word
+    → object names kind word ≡ object_at (place_of word (list_of kind names))
 object-lawful names kind word lawful = rw lawful
+
+-- a lawful name has a form, and is unknown where it has no place
+pub placed-form : (place : Option ℕ) → has_form (object_at place) ≡ true
+placed-form None = refl
+placed-form (Some id) = refl
 
 -- ---- verbs
 
@@ -108,15 +132,13 @@ kind-verb version forms.RwUnlock which h = kind-second version forms.RwUnlock wh
 
 -- ---- what is read as an ask is one by form
 
--- the words are those of an ask by form, which has an unknown name where none was read
-pub record IsAskWords (names : NameLists) (version : ℕ) (words : List (List ℕ)) (read : Option Ask) : Type 0 where
+-- the words are those of an ask by form, which has an unknown name where one was read
+pub record IsAskWords (names : NameLists) (version : ℕ) (words : List (List ℕ))
+    (read : WordsRead Ask) : Type 0 where
   pub ask : AskForm
   pub words_are : words ≡ words_of_ask ask
   pub of : IsAskOf version ask
-  pub unknown : read ≡ None → AsksUnknown names ask
-
-abbrev Two : Type 0
-Two = Option (Option Ask)
+  pub unknown : read ≡ UnknownName → AsksUnknown names ask
 
 pair : (a b x y : List ℕ) → a ≡ x → b ≡ y → a ∷ b ∷ [] ≡ x ∷ y ∷ []
 pair a b x y p q = rw (p, q)
@@ -127,130 +149,265 @@ triple a b c x y z p q r = rw (p, q, r)
 four : (a b c d x y z w : List ℕ) → a ≡ x → b ≡ y → c ≡ z → d ≡ w → a ∷ b ∷ c ∷ d ∷ [] ≡ x ∷ y ∷ z ∷ w ∷ []
 four a b c d x y z w p q r s = rw (p, q, r, s)
 
-bare-form : (names : NameLists) (version : ℕ) (word : List ℕ) (read : Option Ask) → bare_ask word ≡ Some read → IsAskWords names version (word ∷ []) read
-bare-form names version word read h = by (bytes_eq word (codes "yield")) (bytes_eq word (codes "begin")) refl refl h
+bare-form : (names : NameLists) (version : ℕ) (word : List ℕ) (read : WordsRead Ask)
+    → bare_ask word ≡ read → has_form read ≡ true → IsAskWords names version (word ∷ []) read
+bare-form names version word read h form = by (bytes_eq word (codes "yield"))
+    (bytes_eq word (codes "begin")) refl refl h
   where
-    by : (a b : Bool) → bytes_eq word (codes "yield") ≡ a → bytes_eq word (codes "begin") ≡ b → (if◌then◌else◌ {A = Two} a (Some (Some asks.Yield)) (if b then Some (Some asks.Begin) else None)) ≡ Some read → IsAskWords names version (word ∷ []) read
-    by true b ea eb k = record { ask = forms.Yield; words_are = ap (λ w. w ∷ []) (same-word word (codes "yield") ea); of = tt; unknown = λ none. absurd (not-none asks.Yield read (some_is (Some asks.Yield) read k) none) }
-    by false true ea eb k = record { ask = forms.Begin; words_are = ap (λ w. w ∷ []) (same-word word (codes "begin") eb); of = tt; unknown = λ none. absurd (not-none asks.Begin read (some_is (Some asks.Begin) read k) none) }
-    by false false ea eb k = absurd cc
+    by : (a b : Bool) → bytes_eq word (codes "yield") ≡ a → bytes_eq word (codes "begin") ≡ b
+        → (if◌then◌else◌ {A = WordsRead Ask} a (Is asks.Yield)
+        (if b then Is asks.Begin else NoForm)) ≡ read → IsAskWords names version (word ∷ []) read
+    by true b ea eb k = record {
+      ask = forms.Yield;
+      words_are =
+          ap (λ w. w ∷ []) (same-word word (codes "yield") ea);
+      of = tt;
+      unknown =
+          λ unknown. absurd (not-unknown asks.Yield read k unknown);
+    }
+    by false true ea eb k = record {
+      ask = forms.Begin;
+      words_are =
+          ap (λ w. w ∷ []) (same-word word (codes "begin") eb);
+      of = tt;
+      unknown =
+          λ unknown. absurd (not-unknown asks.Begin read k unknown);
+    }
+    by false false ea eb k = absurd (no-form read k form)
 
-plain-form : (names : NameLists) (version : ℕ) (word operand : List ℕ) (read : Option Ask) → plain_ask word operand ≡ Some read → IsAskWords names version (word ∷ operand ∷ []) read
-plain-form names version word operand read h = by (bytes_eq word (codes "check")) (bytes_eq word (codes "fault")) refl refl h
+operand-inv : {A : Type 0} (ask : A → Ask) (operand : Option A) (read : WordsRead Ask)
+    → with_operand ask operand ≡ read → has_form read ≡ true
+    → (x : A) × (operand ≡ Some x) × (Is (ask x) ≡ read)
+operand-inv ask None read h form = absurd (no-form read h form)
+operand-inv ask (Some x) read h form = (x, refl, h)
+
+plain-form : (names : NameLists) (version : ℕ) (word operand : List ℕ) (read : WordsRead Ask)
+    → plain_ask word operand ≡ read → has_form read ≡ true
+    → IsAskWords names version (word ∷ operand ∷ []) read
+plain-form names version word operand read h form =
+    by (bytes_eq word (codes "check")) (bytes_eq word (codes "fault")) refl refl h
   where
-    by : (a b : Bool) → bytes_eq word (codes "check") ≡ a → bytes_eq word (codes "fault") ≡ b → (if◌then◌else◌ {A = Two} a (option_map (λ holds. Some (asks.Check holds)) (holds_of operand)) (if b then option_map (λ kind. Some (asks.Fault kind)) (fault_kind operand) else None)) ≡ Some read → IsAskWords names version (word ∷ operand ∷ []) read
+    by : (a b : Bool) → bytes_eq word (codes "check") ≡ a → bytes_eq word (codes "fault") ≡ b
+        → (if◌then◌else◌ {A = WordsRead Ask} a (with_operand asks.Check (holds_of operand))
+        (if b then with_operand asks.Fault (fault_kind operand) else NoForm)) ≡ read
+        → IsAskWords names version (word ∷ operand ∷ []) read
     by true b ea eb k =
-        let m = map-some (λ (holds : Bool). Some (asks.Check holds)) (holds_of operand) read k in
+        let m = operand-inv (λ (holds : Bool). asks.Check holds) (holds_of operand) read k form in
         let spelled = holds-by operand m.0 (bytes_eq operand (codes "1")) (bytes_eq operand (codes "0")) refl refl m.1 in
-        record { ask = forms.Check m.0; words_are = pair word operand (codes "check") (check_word m.0) (same-word word (codes "check") ea) spelled; of = tt; unknown = λ none. absurd (not-none (asks.Check m.0) read m.2 none) }
+        record {
+          ask = forms.Check m.0;
+          words_are =
+              pair word operand (codes "check") (check_word m.0) (same-word word (codes "check") ea)
+              spelled;
+          of = tt;
+          unknown = λ unknown. absurd
+              (not-unknown (asks.Check m.0) read m.2 unknown);
+        }
     by false true ea eb k =
-        let m = map-some (λ (kind : FaultKind). Some (asks.Fault kind)) (fault_kind operand) read k in
+        let m = operand-inv (λ (kind : FaultKind). asks.Fault kind) (fault_kind operand) read k
+        form in
         let spelled = fault-by operand m.0 (bytes_eq operand (codes "overflow")) (bytes_eq operand (codes "zerodivisor")) (bytes_eq operand (codes "spin")) refl refl refl m.1 in
-        record { ask = forms.Fault m.0; words_are = pair word operand (codes "fault") (fault_word m.0) (same-word word (codes "fault") eb) spelled; of = tt; unknown = λ none. absurd (not-none (asks.Fault m.0) read m.2 none) }
-    by false false ea eb k = absurd cc
+        record {
+          ask = forms.Fault m.0;
+          words_are =
+              pair word operand (codes "fault") (fault_word m.0) (same-word word (codes "fault") eb)
+              spelled;
+          of = tt;
+          unknown = λ unknown. absurd
+              (not-unknown (asks.Fault m.0) read m.2 unknown);
+        }
+    by false false ea eb k = absurd (no-form read k form)
 
-on-form : (names : NameLists) (version : ℕ) (kind : NameKind) (word operand : List ℕ) (read : Option Ask) → 1 ≤ version → kind_of version word ≡ Some kind → ask_by names (Some kind) word operand ≡ Some read → IsAskWords names version (word ∷ operand ∷ []) read
-on-form names version kind word operand read some k h =
-    let m = map-some (λ (found : Option ℕ). option_map (ask_of kind word) found) (object names kind operand) read h in
-    let o = object-inv names kind operand m.0 m.1 in
+-- an ask of an object has its form, and an unknown name only of it
+place-inv : (ask : ℕ → Ask) (place : WordsRead ℕ) (read : WordsRead Ask)
+    → on_object ask place ≡ read → has_form read ≡ true
+    → (has_form place ≡ true) × (read ≡ UnknownName → place ≡ UnknownName)
+place-inv ask (Is x) read h form = (refl, λ unknown. absurd (not-unknown (ask x) read h unknown))
+place-inv ask NoForm read h form = absurd (no-form read h form)
+place-inv ask UnknownName read h form = (refl, λ unknown. refl)
+
+on-form : (names : NameLists) (version : ℕ) (kind : NameKind) (word operand : List ℕ)
+    (read : WordsRead Ask) → 1 ≤ version → kind_of version word ≡ Some kind
+    → ask_by names (Some kind) word operand ≡ read → has_form read ≡ true
+    → IsAskWords names version (word ∷ operand ∷ []) read
+on-form names version kind word operand read some k h form =
+    let m = place-inv (ask_of kind word) (object names kind operand) read h form in
+    let o = object-inv names kind operand m.0 in
     let verb = verb-of version word kind some (kind-among version word kind k) in
     record {
       ask = forms.On verb.0 operand;
       words_are = ap (λ w. w ∷ operand ∷ []) verb.1;
       of = (verb.2.1, o.0);
-      unknown = λ none. ap (λ kd. place_of operand (list_of kd names)) verb.2.0 ∙ o.1 ∙ map-none (ask_of kind word) m.0 read m.2 none;
+      unknown = λ unknown. ap (λ kd. place_of operand (list_of kd names)) verb.2.0
+          ∙ o.1 (m.1 unknown);
     }
 
-one-form : (names : NameLists) (version : ℕ) (word operand : List ℕ) (read : Option Ask) → 1 ≤ version → ask_on_one names version word operand ≡ Some read → IsAskWords names version (word ∷ operand ∷ []) read
+one-form : (names : NameLists) (version : ℕ) (word operand : List ℕ) (read : WordsRead Ask)
+    → 1 ≤ version → ask_on_one names version word operand ≡ read → has_form read ≡ true
+    → IsAskWords names version (word ∷ operand ∷ []) read
 unfolding ask_on_one
-one-form names version word operand read some h = by (kind_of version word) refl h
+one-form names version word operand read some h form = by (kind_of version word) refl h
   where
-    by : (kind : Option NameKind) → kind_of version word ≡ kind → ask_by names kind word operand ≡ Some read → IsAskWords names version (word ∷ operand ∷ []) read
-    by None k b = plain-form names version word operand read b
-    by (Some kind) k b = on-form names version kind word operand read some k b
+    by : (kind : Option NameKind) → kind_of version word ≡ kind
+        → ask_by names kind word operand ≡ read
+        → IsAskWords names version (word ∷ operand ∷ []) read
+    by None k b = plain-form names version word operand read b form
+    by (Some kind) k b = on-form names version kind word operand read some k b form
 
-value-inv : (ask : ℕ → ℤ → Ask) (found : Option (Option ℕ)) (value : Option ℤ) (read : Option Ask) → with_value ask found value ≡ Some read → (x : Option ℕ) × (v : ℤ) × (found ≡ Some x) × (value ≡ Some v) × (option_map (λ y. ask y v) x ≡ read)
-value-inv ask None value read h = absurd cc
-value-inv ask (Some x) None read h = absurd cc
-value-inv ask (Some x) (Some v) read h = (x, v, refl, refl, some_is (option_map (λ y. ask y v) x) read h)
+value-inv : (ask : ℕ → ℤ → Ask) (place : WordsRead ℕ) (value : Option ℤ) (read : WordsRead Ask)
+    → with_value ask place value ≡ read → has_form read ≡ true
+    → (v : ℤ) × (value ≡ Some v) × (has_form place ≡ true) × (read ≡ UnknownName
+    → place ≡ UnknownName)
+value-inv ask place None read h form = absurd (no-form read h form)
+value-inv ask place (Some v) read h form = let m =
+    place-inv (λ x. ask x v) place read h form in (v, refl, m.0, m.1)
 
-waiting-inv : (ask : ℕ → ℕ → Ask) (c m : Option (Option ℕ)) (read : Option Ask) → waiting ask c m ≡ Some read → (x : Option ℕ) × (y : Option ℕ) × (c ≡ Some x) × (m ≡ Some y) × (both ask x y ≡ read)
-waiting-inv ask None m read h = absurd cc
-waiting-inv ask (Some x) None read h = absurd cc
-waiting-inv ask (Some x) (Some y) read h = (x, y, refl, refl, some_is (both ask x y) read h)
+both-inv : (ask : ℕ → ℕ → Ask) (c m : WordsRead ℕ) (read : WordsRead Ask) → on_both ask c m ≡ read
+    → has_form read ≡ true → (has_form c ≡ true) × (has_form m ≡ true) × (read ≡ UnknownName
+    → (c ≡ UnknownName) ⊎ (m ≡ UnknownName))
+both-inv ask NoForm m read h form = absurd (no-form read h form)
+both-inv ask UnknownName (Is y) read h form = (refl, refl, λ unknown. inl refl)
+both-inv ask UnknownName NoForm read h form = absurd (no-form read h form)
+both-inv ask UnknownName UnknownName read h form = (refl, refl, λ unknown. inl refl)
+both-inv ask (Is x) (Is y) read h form = (
+  refl,
+  refl,
+  λ unknown. absurd
+      (not-unknown (ask x y) read h unknown),
+)
+both-inv ask (Is x) NoForm read h form = absurd (no-form read h form)
+both-inv ask (Is x) UnknownName read h form = (refl, refl, λ unknown. inr refl)
 
-both-none : (ask : ℕ → ℕ → Ask) (x y : Option ℕ) (read : Option Ask) → both ask x y ≡ read → read ≡ None → (x ≡ None) ⊎ (y ≡ None)
-both-none ask None y read h none = inl refl
-both-none ask (Some x) None read h none = inr refl
-both-none ask (Some x) (Some y) read h none = absurd (not-none (ask x y) read h none)
+two-by : (names : NameLists) (version : ℕ) (word a b : List ℕ) (read : WordsRead Ask)
+    (w p r g : Bool) → has_form read ≡ true → bytes_eq word (codes "write") ≡ w
+    → bytes_eq word (codes "add") ≡ p → bytes_eq word (codes "release") ≡ r
+    → bytes_eq word (codes "regain") ≡ g
+    → (if w then with_value asks.Write (object names kinds.Var a) (value_of b) else
+    (if p then with_value asks.Add (object names kinds.Var a) (value_of b) else
+    (if r then on_both asks.Release (object names kinds.Cond a) (object names kinds.Mutex b)
+    else (if g then on_both asks.Regain (object names kinds.Cond a) (object names kinds.Mutex b)
+    else NoForm)))) ≡ read → IsAskWords names version (word ∷ a ∷ b ∷ []) read
+two-by names version word a b read true p r g form ew ep er eg h =
+    let i = value-inv asks.Write (object names kinds.Var a) (value_of b) read h form in
+    let o = object-inv names kinds.Var a i.2 in
+    let v = Some-value_of b i.0 i.1 in
+    record {
+      ask = forms.Write a i.0;
+      words_are =
+          triple word a b (codes "write") a (number_text i.0) (same-word word (codes "write") ew) refl
+          v.0;
+      of = (o.0, v.1);
+      unknown = λ unknown. o.1 (i.3 unknown);
+    }
+two-by names version word a b read false true r g form ew ep er eg h =
+    let i = value-inv asks.Add (object names kinds.Var a) (value_of b) read h form in
+    let o = object-inv names kinds.Var a i.2 in
+    let v = Some-value_of b i.0 i.1 in
+    record {
+      ask = forms.Add a i.0;
+      words_are =
+          triple word a b (codes "add") a (number_text i.0) (same-word word (codes "add") ep) refl
+          v.0;
+      of = (o.0, v.1);
+      unknown = λ unknown. o.1 (i.3 unknown);
+    }
+two-by names version word a b read false false true g form ew ep er eg h =
+    let i = both-inv asks.Release (object names kinds.Cond a) (object names kinds.Mutex b) read h
+    form in
+    let c = object-inv names kinds.Cond a i.0 in
+    let m = object-inv names kinds.Mutex b i.1 in
+    record {
+      ask = forms.Release a b;
+      words_are =
+          ap (λ x. x ∷ a ∷ b ∷ []) (same-word word (codes "release") er);
+      of = (c.0, m.0);
+      unknown =
+          λ unknown. either c.1 m.1 (i.2 unknown);
+    }
+two-by names version word a b read false false false true form ew ep er eg h =
+    let i = both-inv asks.Regain (object names kinds.Cond a) (object names kinds.Mutex b) read h
+    form in
+    let c = object-inv names kinds.Cond a i.0 in
+    let m = object-inv names kinds.Mutex b i.1 in
+    record {
+      ask = forms.Regain a b;
+      words_are =
+          ap (λ x. x ∷ a ∷ b ∷ []) (same-word word (codes "regain") eg);
+      of = (c.0, m.0);
+      unknown =
+          λ unknown. either c.1 m.1 (i.2 unknown);
+    }
+two-by names version word a b read false false false false form ew ep er eg h =
+    absurd (no-form read h form)
 
-undeclared : (names : NameLists) (c m : List ℕ) (x y : Option ℕ) → place_of c names.conds ≡ x → place_of m names.mutexes ≡ y → (x ≡ None) ⊎ (y ≡ None) → IsUndeclared names kinds.Cond c ⊎ IsUndeclared names kinds.Mutex m
-undeclared names c m x y p q (inl none) = inl (p ∙ none)
-undeclared names c m x y p q (inr none) = inr (q ∙ none)
-
-two-by : (names : NameLists) (version : ℕ) (word a b : List ℕ) (read : Option Ask) (w p r g : Bool) → bytes_eq word (codes "write") ≡ w → bytes_eq word (codes "add") ≡ p → bytes_eq word (codes "release") ≡ r → bytes_eq word (codes "regain") ≡ g
-    → (if w then with_value asks.Write (object names kinds.Var a) (value_of b) else (if p then with_value asks.Add (object names kinds.Var a) (value_of b) else (if r then waiting asks.Release (object names kinds.Cond a) (object names kinds.Mutex b) else (if g then waiting asks.Regain (object names kinds.Cond a) (object names kinds.Mutex b) else None)))) ≡ Some read → IsAskWords names version (word ∷ a ∷ b ∷ []) read
-two-by names version word a b read true p r g ew ep er eg h =
-    let i = value-inv asks.Write (object names kinds.Var a) (value_of b) read h in
-    let o = object-inv names kinds.Var a i.0 i.2 in
-    let v = Some-value_of b i.1 i.3 in
-    record { ask = forms.Write a i.1; words_are = triple word a b (codes "write") a (number_text i.1) (same-word word (codes "write") ew) refl v.0; of = (o.0, v.1); unknown = λ none. o.1 ∙ map-none (λ y. asks.Write y i.1) i.0 read i.4 none }
-two-by names version word a b read false true r g ew ep er eg h =
-    let i = value-inv asks.Add (object names kinds.Var a) (value_of b) read h in
-    let o = object-inv names kinds.Var a i.0 i.2 in
-    let v = Some-value_of b i.1 i.3 in
-    record { ask = forms.Add a i.1; words_are = triple word a b (codes "add") a (number_text i.1) (same-word word (codes "add") ep) refl v.0; of = (o.0, v.1); unknown = λ none. o.1 ∙ map-none (λ y. asks.Add y i.1) i.0 read i.4 none }
-two-by names version word a b read false false true g ew ep er eg h =
-    let i = waiting-inv asks.Release (object names kinds.Cond a) (object names kinds.Mutex b) read h in
-    let c = object-inv names kinds.Cond a i.0 i.2 in
-    let m = object-inv names kinds.Mutex b i.1 i.3 in
-    record { ask = forms.Release a b; words_are = ap (λ x. x ∷ a ∷ b ∷ []) (same-word word (codes "release") er); of = (c.0, m.0); unknown = λ none. undeclared names a b i.0 i.1 c.1 m.1 (both-none asks.Release i.0 i.1 read i.4 none) }
-two-by names version word a b read false false false true ew ep er eg h =
-    let i = waiting-inv asks.Regain (object names kinds.Cond a) (object names kinds.Mutex b) read h in
-    let c = object-inv names kinds.Cond a i.0 i.2 in
-    let m = object-inv names kinds.Mutex b i.1 i.3 in
-    record { ask = forms.Regain a b; words_are = ap (λ x. x ∷ a ∷ b ∷ []) (same-word word (codes "regain") eg); of = (c.0, m.0); unknown = λ none. undeclared names a b i.0 i.1 c.1 m.1 (both-none asks.Regain i.0 i.1 read i.4 none) }
-two-by names version word a b read false false false false ew ep er eg h = absurd cc
-
-two-form : (names : NameLists) (version : ℕ) (word a b : List ℕ) (read : Option Ask) → ask_on_two names word a b ≡ Some read → IsAskWords names version (word ∷ a ∷ b ∷ []) read
+two-form : (names : NameLists) (version : ℕ) (word a b : List ℕ) (read : WordsRead Ask)
+    → ask_on_two names word a b ≡ read → has_form read ≡ true
+    → IsAskWords names version (word ∷ a ∷ b ∷ []) read
 unfolding ask_on_two
-two-form names version word a b read h =
-    two-by names version word a b read (bytes_eq word (codes "write")) (bytes_eq word (codes "add")) (bytes_eq word (codes "release")) (bytes_eq word (codes "regain")) refl refl refl refl h
+two-form names version word a b read h form =
+    two-by names version word a b read (bytes_eq word (codes "write")) (bytes_eq word (codes "add"))
+    (bytes_eq word (codes "release")) (bytes_eq word (codes "regain")) form refl refl refl refl
+    h
 
-exchange-inv : (found : Option (Option ℕ)) (old new : Option ℤ) (read : Option Ask) → exchange found old new ≡ Some read → (x : Option ℕ) × (u : ℤ) × (v : ℤ) × (found ≡ Some x) × (old ≡ Some u) × (new ≡ Some v) × (option_map (λ y. asks.Cas y u v) x ≡ read)
-exchange-inv None old new read h = absurd cc
-exchange-inv (Some x) None new read h = absurd cc
-exchange-inv (Some x) (Some u) None read h = absurd cc
-exchange-inv (Some x) (Some u) (Some v) read h = (x, u, v, refl, refl, refl, some_is (option_map (λ y. asks.Cas y u v) x) read h)
+exchange-inv : (place : WordsRead ℕ) (old new : Option ℤ) (read : WordsRead Ask)
+    → exchange place old new ≡ read → has_form read ≡ true
+    → (u : ℤ) × (v : ℤ) × (old ≡ Some u) × (new ≡ Some v) × (has_form
+    place ≡ true) × (read ≡ UnknownName → place ≡ UnknownName)
+exchange-inv place None new read h form = absurd (no-form read h form)
+exchange-inv place (Some u) None read h form = absurd (no-form read h form)
+exchange-inv place (Some u) (Some v) read h form = let m =
+    place-inv (λ x. asks.Cas x u v) place read h form in (u, v, refl, refl, m.0, m.1)
 
-three-by : (names : NameLists) (version : ℕ) (word a b c : List ℕ) (read : Option Ask) (w : Bool) → bytes_eq word (codes "cas") ≡ w → (if w then exchange (object names kinds.Var a) (value_of b) (value_of c) else None) ≡ Some read → IsAskWords names version (word ∷ a ∷ b ∷ c ∷ []) read
-three-by names version word a b c read true ew h =
-    let i = exchange-inv (object names kinds.Var a) (value_of b) (value_of c) read h in
-    let o = object-inv names kinds.Var a i.0 i.3 in
-    let u = Some-value_of b i.1 i.4 in
-    let v = Some-value_of c i.2 i.5 in
-    record { ask = forms.Cas a i.1 i.2; words_are = four word a b c (codes "cas") a (number_text i.1) (number_text i.2) (same-word word (codes "cas") ew) refl u.0 v.0; of = (o.0, u.1, v.1); unknown = λ none. o.1 ∙ map-none (λ y. asks.Cas y i.1 i.2) i.0 read i.6 none }
-three-by names version word a b c read false ew h = absurd cc
+three-by : (names : NameLists) (version : ℕ) (word a b c : List ℕ) (read : WordsRead Ask) (w : Bool)
+    → has_form read ≡ true → bytes_eq word (codes "cas") ≡ w
+    → (if w then exchange (object names kinds.Var a) (value_of b) (value_of c) else NoForm) ≡ read
+    → IsAskWords names version (word ∷ a ∷ b ∷ c ∷ []) read
+three-by names version word a b c read true form ew h =
+    let i = exchange-inv (object names kinds.Var a) (value_of b) (value_of c) read h form in
+    let o = object-inv names kinds.Var a i.4 in
+    let u = Some-value_of b i.0 i.2 in
+    let v = Some-value_of c i.1 i.3 in
+    record {
+      ask = forms.Cas a i.0 i.1;
+      words_are =
+          four word a b c (codes "cas") a (number_text i.0) (number_text i.1)
+          (same-word word (codes "cas") ew) refl u.0 v.0;
+      of = (o.0, u.1, v.1);
+      unknown =
+          λ unknown. o.1 (i.5 unknown);
+    }
+three-by names version word a b c read false form ew h = absurd (no-form read h form)
 
-three-form : (names : NameLists) (version : ℕ) (word a b c : List ℕ) (read : Option Ask) → ask_on_three names word a b c ≡ Some read → IsAskWords names version (word ∷ a ∷ b ∷ c ∷ []) read
+three-form : (names : NameLists) (version : ℕ) (word a b c : List ℕ) (read : WordsRead Ask)
+    → ask_on_three names word a b c ≡ read → has_form read ≡ true
+    → IsAskWords names version (word ∷ a ∷ b ∷ c ∷ []) read
 unfolding ask_on_three
-three-form names version word a b c read h = three-by names version word a b c read (bytes_eq word (codes "cas")) refl h
+three-form names version word a b c read h form =
+    three-by names version word a b c read (bytes_eq word (codes "cas")) form refl h
 
-pub ask-form : (names : NameLists) (version : ℕ) (words : List (List ℕ)) (read : Option Ask) → 1 ≤ version → ask_in names version words ≡ Some read → IsAskWords names version words read
-ask-form names version [] read some h = absurd cc
-ask-form names version (a ∷ []) read some h = bare-form names version a read h
-ask-form names version (a ∷ b ∷ []) read some h = one-form names version a b read some h
-ask-form names version (a ∷ b ∷ c ∷ []) read some h = two-form names version a b c read h
-ask-form names version (a ∷ b ∷ c ∷ d ∷ []) read some h = three-form names version a b c d read h
-ask-form names version (a ∷ b ∷ c ∷ d ∷ e ∷ words) read some h = absurd cc
+pub ask-form : (names : NameLists) (version : ℕ) (words : List (List ℕ)) (read : WordsRead Ask)
+    → 1 ≤ version → ask_in names version words ≡ read → has_form read ≡ true
+    → IsAskWords names version words read
+ask-form names version [] read some h form = absurd (no-form read h form)
+ask-form names version (a ∷ []) read some h form = bare-form names version a read h form
+ask-form names version (a ∷ b ∷ []) read some h form = one-form names version a b read some h form
+ask-form names version (a ∷ b ∷ c ∷ []) read some h form = two-form names version a b c read h form
+ask-form names version (a ∷ b ∷ c ∷ d ∷ []) read some h form =
+    three-form names version a b c d read h form
+ask-form names version (a ∷ b ∷ c ∷ d ∷ e ∷ words) read some h form = absurd (no-form read h form)
 
 -- ---- an ask by form is read
 
--- what is read of the words of an ask by form: none where it has an unknown name
+-- what is read of the words of an ask by form: an unknown name where it has one
 pub record IsAskRead (names : NameLists) (version : ℕ) (ask : AskForm) : Type 0 where
-  pub read : Option Ask
-  pub is : ask_in names version (words_of_ask ask) ≡ Some read
-  pub unknown : AsksUnknown names ask → read ≡ None
+  pub read : WordsRead Ask
+  pub is : ask_in names version (words_of_ask ask) ≡ read
+  pub form : has_form read ≡ true
+  pub unknown : AsksUnknown names ask → read ≡ UnknownName
+
+placed-ask : (ask : ℕ → Ask) (place : Option ℕ) → has_form (on_object ask (object_at place)) ≡ true
+placed-ask ask None = refl
+placed-ask ask (Some id) = refl
 
 on-read : (names : NameLists) (version : ℕ) (verb : Verb) (object : List ℕ) → (version ≡ 1) ⊎ (version ≡ 2) → IsAskOf version (forms.On verb object) → IsAskRead names version (forms.On verb object)
 unfolding ask_on_one
@@ -258,37 +415,52 @@ on-read names version verb object which of =
     let kind = verb_kind verb in
     let place = place_of object (list_of kind names) in
     record {
-      read = option_map (ask_of kind (verb_word verb)) place;
-      is = ap (λ kd. ask_by names kd (verb_word verb) object) (kind-verb version verb which of.0) ∙ ap (λ o. option_map (λ found. option_map (ask_of kind (verb_word verb)) found) o) (object-lawful names kind object of.1);
-      unknown = λ none. ap (λ (p : Option ℕ). option_map (ask_of kind (verb_word verb)) p) none;
+      read = on_object (ask_of kind (verb_word verb)) (object_at place);
+      is = ap (λ kd. ask_by names kd (verb_word verb) object) (kind-verb version verb which of.0)
+          ∙ ap (on_object (ask_of kind (verb_word verb))) (object-lawful names kind object of.1);
+      form = placed-ask (ask_of kind (verb_word verb)) place;
+      unknown = λ none. ap (λ (p : Option ℕ). on_object (ask_of kind (verb_word verb))
+          (object_at p)) none;
     }
 
 write-read : (names : NameLists) (version : ℕ) (var : List ℕ) (value : ℤ) → IsAskOf version (forms.Write var value) → IsAskRead names version (forms.Write var value)
 unfolding ask_on_two
 write-read names version var value of = record {
-  read = option_map (λ y. asks.Write y value) (place_of var names.vars);
+  read = on_object (λ y. asks.Write y value) (object_at (place_of var names.vars));
   is = rw (object-lawful names kinds.Var var of.0, value_of-Some value of.1);
-  unknown = λ none. ap (λ (p : Option ℕ). option_map (λ y. asks.Write y value) p) none;
+  form = placed-ask (λ y. asks.Write y value) (place_of var names.vars);
+  unknown = λ none. ap (λ (p : Option ℕ). on_object (λ y. asks.Write y value) (object_at p)) none;
 }
 
 add-read : (names : NameLists) (version : ℕ) (var : List ℕ) (value : ℤ) → IsAskOf version (forms.Add var value) → IsAskRead names version (forms.Add var value)
 unfolding ask_on_two
 add-read names version var value of = record {
-  read = option_map (λ y. asks.Add y value) (place_of var names.vars);
+  read = on_object (λ y. asks.Add y value) (object_at (place_of var names.vars));
   is = rw (object-lawful names kinds.Var var of.0, value_of-Some value of.1);
-  unknown = λ none. ap (λ (p : Option ℕ). option_map (λ y. asks.Add y value) p) none;
+  form = placed-ask (λ y. asks.Add y value) (place_of var names.vars);
+  unknown = λ none. ap (λ (p : Option ℕ). on_object (λ y. asks.Add y value) (object_at p)) none;
 }
 
 cas-read : (names : NameLists) (version : ℕ) (var : List ℕ) (old new : ℤ) → IsAskOf version (forms.Cas var old new) → IsAskRead names version (forms.Cas var old new)
 unfolding ask_on_three
 cas-read names version var old new of = record {
-  read = option_map (λ y. asks.Cas y old new) (place_of var names.vars);
+  read = on_object (λ y. asks.Cas y old new) (object_at (place_of var names.vars));
   is = rw (object-lawful names kinds.Var var of.0, value_of-Some old of.1, value_of-Some new of.2);
-  unknown = λ none. ap (λ (p : Option ℕ). option_map (λ y. asks.Cas y old new) p) none;
+  form = placed-ask (λ y. asks.Cas y old new) (place_of var names.vars);
+  unknown = λ none. ap (λ (p : Option ℕ). on_object (λ y. asks.Cas y old new) (object_at p)) none;
 }
 
-none-both : (ask : ℕ → ℕ → Ask) (x y : Option ℕ) → (x ≡ None) ⊎ (y ≡ None) → both ask x y ≡ None
-none-both ask None y none = refl
+both-form : (ask : ℕ → ℕ → Ask) (x y : Option ℕ)
+    → has_form (on_both ask (object_at x) (object_at y)) ≡ true
+both-form ask None None = refl
+both-form ask None (Some y) = refl
+both-form ask (Some x) None = refl
+both-form ask (Some x) (Some y) = refl
+
+none-both : (ask : ℕ → ℕ → Ask) (x y : Option ℕ) → (x ≡ None) ⊎ (y ≡ None)
+    → on_both ask (object_at x) (object_at y) ≡ UnknownName
+none-both ask None None none = refl
+none-both ask None (Some y) none = refl
 none-both ask (Some x) None none = refl
 none-both ask (Some x) (Some y) (inl none) = absurd cc
 none-both ask (Some x) (Some y) (inr none) = absurd cc
@@ -296,16 +468,20 @@ none-both ask (Some x) (Some y) (inr none) = absurd cc
 release-read : (names : NameLists) (version : ℕ) (cond mutex : List ℕ) → IsAskOf version (forms.Release cond mutex) → IsAskRead names version (forms.Release cond mutex)
 unfolding ask_on_two
 release-read names version cond mutex of = record {
-  read = both asks.Release (place_of cond names.conds) (place_of mutex names.mutexes);
+  read = on_both asks.Release (object_at (place_of cond names.conds))
+      (object_at (place_of mutex names.mutexes));
   is = rw (object-lawful names kinds.Cond cond of.0, object-lawful names kinds.Mutex mutex of.1);
+  form = both-form asks.Release (place_of cond names.conds) (place_of mutex names.mutexes);
   unknown = λ none. none-both asks.Release (place_of cond names.conds) (place_of mutex names.mutexes) none;
 }
 
 regain-read : (names : NameLists) (version : ℕ) (cond mutex : List ℕ) → IsAskOf version (forms.Regain cond mutex) → IsAskRead names version (forms.Regain cond mutex)
 unfolding ask_on_two
 regain-read names version cond mutex of = record {
-  read = both asks.Regain (place_of cond names.conds) (place_of mutex names.mutexes);
+  read = on_both asks.Regain (object_at (place_of cond names.conds))
+      (object_at (place_of mutex names.mutexes));
   is = rw (object-lawful names kinds.Cond cond of.0, object-lawful names kinds.Mutex mutex of.1);
+  form = both-form asks.Regain (place_of cond names.conds) (place_of mutex names.mutexes);
   unknown = λ none. none-both asks.Regain (place_of cond names.conds) (place_of mutex names.mutexes) none;
 }
 
@@ -316,10 +492,26 @@ ask-read names version (forms.Add var value) which of = add-read names version v
 ask-read names version (forms.Cas var old new) which of = cas-read names version var old new of
 ask-read names version (forms.Release cond mutex) which of = release-read names version cond mutex of
 ask-read names version (forms.Regain cond mutex) which of = regain-read names version cond mutex of
-ask-read names version forms.Yield which of = record { read = Some asks.Yield; is = refl; unknown = λ none. absurd none }
-ask-read names version forms.Begin which of = record { read = Some asks.Begin; is = refl; unknown = λ none. absurd none }
-ask-read names version (forms.Check holds) which of = record { read = Some (asks.Check holds); is = check-known names version holds; unknown = λ none. absurd none }
-ask-read names version (forms.Fault kind) which of = record { read = Some (asks.Fault kind); is = fault-known names version kind; unknown = λ none. absurd none }
+ask-read names version forms.Yield which of = record
+    { read = Is asks.Yield; is = refl; form = refl; unknown = λ none. absurd none }
+ask-read names version forms.Begin which of = record
+    { read = Is asks.Begin; is = refl; form = refl; unknown = λ none. absurd none }
+ask-read names version (forms.Check holds) which of =
+    record {
+      read = Is (asks.Check holds);
+      is = check-known names version holds;
+      form =
+          refl;
+      unknown = λ none. absurd none;
+    }
+ask-read names version (forms.Fault kind) which of =
+    record {
+      read = Is (asks.Fault kind);
+      is = fault-known names version kind;
+      form =
+          refl;
+      unknown = λ none. absurd none;
+    }
 
 pub few-ask_words : (ask : AskForm) → HasFewWords (words_of_ask ask)
 few-ask_words (forms.On verb object) = tt

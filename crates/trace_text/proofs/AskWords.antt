@@ -1,6 +1,5 @@
 -- An ask is read of its words, and of nothing else.
 use Rattle.std.specs.Prelude.{codes, ◌==◌, ◌&&◌, if◌then◌else◌}
-use Rattle.std.specs.Option.{option_map}
 use Rattle.std.specs.Str.{bytes_eq}
 use Rattle.std.proofs.Common.{◌≡◌, ℕ, ◌<◌, Bool, true, false, ◌||◌, List, [], ◌∷◌, length, get_or, ℤ, Option, Some, None, refl, sym, ap, ◌∙◌, arith}
 use Rattle.std.proofs.lemmas.Bool.Decides.{nat_tests}
@@ -19,7 +18,11 @@ use Rattle.pct_ask.specs.declared.ask.Ask.{Ask}
 use Rattle.pct_ask.specs.declared.ask.Ask.TheVariants.{Read, Write, Add, Cas, Lock, TryLock, Unlock, Release, Regain, Signal, Broadcast, Down, TryDown, Up, Arrive, Leave, Join, Yield, Check, Fault, Start, Begin, RdLock, WrLock, TryRdLock, TryWrLock, RwUnlock}
 use Rattle.trace_text.specs.Lawful.{IsAsk, IsValue}
 use Rattle.trace_text.specs.reader.Numbers.{value_of}
-use Rattle.trace_text.specs.reader.Asks.{object, object_words, kind_of, ask_of, bare_ask, holds_of, plain_ask, ask_by, ask_on_one, with_value, waiting, ask_on_two, exchange, ask_on_three}
+use Rattle.trace_text.specs.reader.Asks.{object, object_words, kind_of, ask_of, bare_ask, holds_of}
+use Rattle.trace_text.specs.reader.Asks.{with_operand, plain_ask, on_object, ask_by, ask_on_one}
+use Rattle.trace_text.specs.reader.Asks.{with_value, on_both, ask_on_two, exchange, ask_on_three}
+use Rattle.trace_text.specs.declared.asks.WordsRead.{WordsRead}
+use Rattle.trace_text.specs.declared.asks.WordsRead.TheVariants.{Is, NoForm, UnknownName}
 use Rattle.trace_text.proofs.Names.{object-known, known-object}
 use Rattle.trace_text.proofs.Values.{value_of-Some, Some-value_of}
 
@@ -102,9 +105,19 @@ told-on names version RwLock word id k h =
 
 -- ---- asks that are read
 
-pub map-some : {A B : Type 0} (f : A → B) (o : Option A) (y : B) → option_map f o ≡ Some y → (x : A) × (o ≡ Some x) × (f x ≡ y)
-map-some f None y e = absurd cc
-map-some f (Some x) y e = (x, refl, some_is (f x) y e)
+is_is : (x y : Ask) → Is x ≡ Is y → x ≡ y
+is_is x y e = cc
+
+operand-told : {A : Type 0} (ask : A → Ask) (operand : Option A) (told : Ask)
+    → with_operand ask operand ≡ Is told → (x : A) × (operand ≡ Some x) × (ask x ≡ told)
+operand-told ask None told h = absurd cc
+operand-told ask (Some x) told h = (x, refl, is_is (ask x) told h)
+
+object-told : (ask : ℕ → Ask) (place : WordsRead ℕ) (told : Ask) → on_object ask place ≡ Is told
+    → (x : ℕ) × (place ≡ Is x) × (ask x ≡ told)
+object-told ask (Is x) told h = (x, refl, is_is (ask x) told h)
+object-told ask NoForm told h = absurd cc
+object-told ask UnknownName told h = absurd cc
 
 same-told : (names : NameLists) (version : ℕ) (words others : List (List ℕ)) (ask other : Ask) → others ≡ words → other ≡ ask → IsTold names version others other → IsTold names version words ask
 same-told names version words others ask other p q told = rw (← p, ← q) told
@@ -118,17 +131,18 @@ triple a b c x y z p q r = rw (p, q, r)
 four : (a b c d x y z w : List ℕ) → x ≡ a → y ≡ b → z ≡ c → w ≡ d → x ∷ y ∷ z ∷ w ∷ [] ≡ a ∷ b ∷ c ∷ d ∷ []
 four a b c d x y z w p q r s = rw (p, q, r, s)
 
-abbrev Two : Type 0
-Two = Option (Option Ask)
-
-bare-by : (names : NameLists) (version : ℕ) (word : List ℕ) (ask : Ask) (a b : Bool) → bytes_eq word (codes "yield") ≡ a → bytes_eq word (codes "begin") ≡ b → (if◌then◌else◌ {A = Two} a (Some (Some Yield)) (if b then Some (Some Begin) else None)) ≡ Some (Some ask) → IsTold names version (word ∷ []) ask
+bare-by : (names : NameLists) (version : ℕ) (word : List ℕ) (ask : Ask) (a b : Bool)
+    → bytes_eq word (codes "yield") ≡ a → bytes_eq word (codes "begin") ≡ b
+    → (if◌then◌else◌ {A = WordsRead Ask} a (Is Yield) (if b then Is Begin else NoForm)) ≡ Is ask
+    → IsTold names version (word ∷ []) ask
 bare-by names version word ask true b ea eb h =
     let is : Yield ≡ ask = cc in rw (← is) (record { words_are = ap (λ w. w ∷ []) (same-word word (codes "yield") ea); lawful = tt })
 bare-by names version word ask false true ea eb h =
     let is : Begin ≡ ask = cc in rw (← is) (record { words_are = ap (λ w. w ∷ []) (same-word word (codes "begin") eb); lawful = tt })
 bare-by names version word ask false false ea eb h = absurd cc
 
-pub bare-told : (names : NameLists) (version : ℕ) (word : List ℕ) (ask : Ask) → bare_ask word ≡ Some (Some ask) → IsTold names version (word ∷ []) ask
+pub bare-told : (names : NameLists) (version : ℕ) (word : List ℕ) (ask : Ask)
+    → bare_ask word ≡ Is ask → IsTold names version (word ∷ []) ask
 bare-told names version word ask h = bare-by names version word ask (bytes_eq word (codes "yield")) (bytes_eq word (codes "begin")) refl refl h
 
 pub holds-by : (word : List ℕ) (holds : Bool) (a b : Bool) → bytes_eq word (codes "1") ≡ a → bytes_eq word (codes "0") ≡ b → (if a then Some true else (if b then Some false else None)) ≡ Some holds → word ≡ check_word holds
@@ -142,95 +156,115 @@ fault-by word kind false true c p q r h = let same : ZeroDivisor ≡ kind = cc i
 fault-by word kind false false true p q r h = let same : Spin ≡ kind = cc in same-word word (codes "spin") r ∙ ap fault_word same
 fault-by word kind false false false p q r h = absurd cc
 
-plain-by : (names : NameLists) (version : ℕ) (word operand : List ℕ) (ask : Ask) (a b : Bool) → bytes_eq word (codes "check") ≡ a → bytes_eq word (codes "fault") ≡ b → (if◌then◌else◌ {A = Two} a (option_map (λ holds. Some (Check holds)) (holds_of operand)) (if b then option_map (λ kind. Some (Fault kind)) (fault_kind operand) else None)) ≡ Some (Some ask) → IsTold names version (word ∷ operand ∷ []) ask
+plain-by : (names : NameLists) (version : ℕ) (word operand : List ℕ) (ask : Ask) (a b : Bool)
+    → bytes_eq word (codes "check") ≡ a → bytes_eq word (codes "fault") ≡ b
+    → (if◌then◌else◌ {A = WordsRead Ask} a (with_operand Check (holds_of operand))
+    (if b then with_operand Fault (fault_kind operand) else NoForm)) ≡ Is ask
+    → IsTold names version (word ∷ operand ∷ []) ask
 plain-by names version word operand ask true b ea eb h =
-    let m = map-some (λ (holds : Bool). Some (Check holds)) (holds_of operand) (Some ask) h in
-    let is : Check m.0 ≡ ask = some_is (Check m.0) ask m.2 in
+    let m = operand-told (λ (holds : Bool). Check holds) (holds_of operand) ask h in
     let spelled = holds-by operand m.0 (bytes_eq operand (codes "1")) (bytes_eq operand (codes "0")) refl refl m.1 in
-    same-told names version (word ∷ operand ∷ []) (codes "check" ∷ check_word m.0 ∷ []) ask (Check m.0) (pair word operand (codes "check") (check_word m.0) (sym (same-word word (codes "check") ea)) (sym spelled)) is (record { words_are = refl; lawful = tt })
+    same-told names version (word ∷ operand ∷ []) (codes "check" ∷ check_word m.0 ∷ []) ask
+    (Check m.0) (pair word operand (codes "check") (check_word m.0)
+    (sym (same-word word (codes "check") ea)) (sym spelled)) m.2
+    (record { words_are = refl; lawful = tt })
 plain-by names version word operand ask false true ea eb h =
-    let m = map-some (λ (kind : FaultKind). Some (Fault kind)) (fault_kind operand) (Some ask) h in
-    let is : Fault m.0 ≡ ask = some_is (Fault m.0) ask m.2 in
+    let m = operand-told (λ (kind : FaultKind). Fault kind) (fault_kind operand) ask h in
     let spelled = fault-by operand m.0 (bytes_eq operand (codes "overflow")) (bytes_eq operand (codes "zerodivisor")) (bytes_eq operand (codes "spin")) refl refl refl m.1 in
-    same-told names version (word ∷ operand ∷ []) (codes "fault" ∷ fault_word m.0 ∷ []) ask (Fault m.0) (pair word operand (codes "fault") (fault_word m.0) (sym (same-word word (codes "fault") eb)) (sym spelled)) is (record { words_are = refl; lawful = tt })
+    same-told names version (word ∷ operand ∷ []) (codes "fault" ∷ fault_word m.0 ∷ []) ask
+    (Fault m.0) (pair word operand (codes "fault") (fault_word m.0)
+    (sym (same-word word (codes "fault") eb)) (sym spelled)) m.2
+    (record { words_are = refl; lawful = tt })
 plain-by names version word operand ask false false ea eb h = absurd cc
 
-one-by : (names : NameLists) (version : ℕ) (kind : Option NameKind) (word operand : List ℕ) (ask : Ask) → kind_of version word ≡ kind → ask_by names kind word operand ≡ Some (Some ask) → IsTold names version (word ∷ operand ∷ []) ask
+one-by : (names : NameLists) (version : ℕ) (kind : Option NameKind) (word operand : List ℕ)
+    (ask : Ask) → kind_of version word ≡ kind → ask_by names kind word operand ≡ Is ask
+    → IsTold names version (word ∷ operand ∷ []) ask
 one-by names version None word operand ask k h = plain-by names version word operand ask (bytes_eq word (codes "check")) (bytes_eq word (codes "fault")) refl refl h
 one-by names version (Some kind) word operand ask k h =
-    let m = map-some (λ (found : Option ℕ). option_map (ask_of kind word) found) (object names kind operand) (Some ask) h in
-    let i = map-some (ask_of kind word) m.0 ask m.2 in
-    let at = known-object names kind operand i.0 (m.1 ∙ ap (λ o. Some o) i.1) in
+    let i = object-told (ask_of kind word) (object names kind operand) ask h in
+    let at = known-object names kind operand i.0 i.1 in
     let told = told-on names version kind word i.0 (kind-among version word kind k) at.0 in
     same-told names version (word ∷ operand ∷ []) (word ∷ get_or (list_of kind names) i.0 [] ∷ []) ask (ask_of kind word i.0) (pair word operand word (get_or (list_of kind names) i.0 []) refl at.1) i.2 told
 
-pub one-told : (names : NameLists) (version : ℕ) (word operand : List ℕ) (ask : Ask) → ask_on_one names version word operand ≡ Some (Some ask) → IsTold names version (word ∷ operand ∷ []) ask
+pub one-told : (names : NameLists) (version : ℕ) (word operand : List ℕ) (ask : Ask)
+    → ask_on_one names version word operand ≡ Is ask
+    → IsTold names version (word ∷ operand ∷ []) ask
 unfolding ask_on_one
 one-told names version word operand ask h = one-by names version (kind_of version word) word operand ask refl h
 
-value-inv : (ask : ℕ → ℤ → Ask) (found : Option (Option ℕ)) (value : Option ℤ) (told : Ask) → with_value ask found value ≡ Some (Some told) → (x : ℕ) × (v : ℤ) × (found ≡ Some (Some x)) × (value ≡ Some v) × (ask x v ≡ told)
-value-inv ask None value told h = absurd cc
-value-inv ask (Some None) None told h = absurd cc
-value-inv ask (Some (Some x)) None told h = absurd cc
-value-inv ask (Some None) (Some v) told h = absurd cc
-value-inv ask (Some (Some x)) (Some v) told h = (x, v, refl, refl, some_is (ask x v) told (some_is (Some (ask x v)) (Some told) h))
+value-told : (ask : ℕ → ℤ → Ask) (place : WordsRead ℕ) (value : Option ℤ) (told : Ask)
+    → with_value ask place value ≡ Is told → (x : ℕ) × (v : ℤ) × (place ≡ Is x) × (value ≡ Some
+    v) × (ask x v ≡ told)
+value-told ask place None told h = absurd cc
+value-told ask place (Some v) told h = let i =
+    object-told (λ x. ask x v) place told h in (i.0, v, i.1, refl, i.2)
 
-waiting-inv : (ask : ℕ → ℕ → Ask) (c m : Option (Option ℕ)) (told : Ask) → waiting ask c m ≡ Some (Some told) → (x : ℕ) × (y : ℕ) × (c ≡ Some (Some x)) × (m ≡ Some (Some y)) × (ask x y ≡ told)
-waiting-inv ask None m told h = absurd cc
-waiting-inv ask (Some None) None told h = absurd cc
-waiting-inv ask (Some (Some x)) None told h = absurd cc
-waiting-inv ask (Some None) (Some m) told h = absurd cc
-waiting-inv ask (Some (Some x)) (Some None) told h = absurd cc
-waiting-inv ask (Some (Some x)) (Some (Some y)) told h = (x, y, refl, refl, some_is (ask x y) told (some_is (Some (ask x y)) (Some told) h))
+both-told : (ask : ℕ → ℕ → Ask) (c m : WordsRead ℕ) (told : Ask) → on_both ask c m ≡ Is told
+    → (x : ℕ) × (y : ℕ) × (c ≡ Is x) × (m ≡ Is y) × (ask x y ≡ told)
+both-told ask NoForm m told h = absurd cc
+both-told ask UnknownName (Is y) told h = absurd cc
+both-told ask UnknownName NoForm told h = absurd cc
+both-told ask UnknownName UnknownName told h = absurd cc
+both-told ask (Is x) NoForm told h = absurd cc
+both-told ask (Is x) UnknownName told h = absurd cc
+both-told ask (Is x) (Is y) told h = (x, y, refl, refl, is_is (ask x y) told h)
 
 two-by : (names : NameLists) (version : ℕ) (word a b : List ℕ) (ask : Ask) (w p r g : Bool) → bytes_eq word (codes "write") ≡ w → bytes_eq word (codes "add") ≡ p → bytes_eq word (codes "release") ≡ r → bytes_eq word (codes "regain") ≡ g
-    → (if w then with_value Write (object names Var a) (value_of b) else (if p then with_value Add (object names Var a) (value_of b) else (if r then waiting Release (object names Cond a) (object names Mutex b) else (if g then waiting Regain (object names Cond a) (object names Mutex b) else None)))) ≡ Some (Some ask) → IsTold names version (word ∷ a ∷ b ∷ []) ask
+    → (if w then with_value Write (object names Var a) (value_of b) else
+    (if p then with_value Add (object names Var a) (value_of b) else
+    (if r then on_both Release (object names Cond a) (object names Mutex b) else
+    (if g then on_both Regain (object names Cond a) (object names Mutex b) else NoForm)))) ≡ Is
+    ask → IsTold names version (word ∷ a ∷ b ∷ []) ask
 two-by names version word a b ask true p r g ew ep er eg h =
-    let i = value-inv Write (object names Var a) (value_of b) ask h in
+    let i = value-told Write (object names Var a) (value_of b) ask h in
     let at = known-object names Var a i.0 i.2 in
     let v = Some-value_of b i.1 i.3 in
     same-told names version (word ∷ a ∷ b ∷ []) (codes "write" ∷ get_or names.vars i.0 [] ∷ number_text i.1 ∷ []) ask (Write i.0 i.1) (triple word a b (codes "write") (get_or names.vars i.0 []) (number_text i.1) (sym (same-word word (codes "write") ew)) at.1 (sym v.0)) i.4 (record { words_are = refl; lawful = (at.0, v.1) })
 two-by names version word a b ask false true r g ew ep er eg h =
-    let i = value-inv Add (object names Var a) (value_of b) ask h in
+    let i = value-told Add (object names Var a) (value_of b) ask h in
     let at = known-object names Var a i.0 i.2 in
     let v = Some-value_of b i.1 i.3 in
     same-told names version (word ∷ a ∷ b ∷ []) (codes "add" ∷ get_or names.vars i.0 [] ∷ number_text i.1 ∷ []) ask (Add i.0 i.1) (triple word a b (codes "add") (get_or names.vars i.0 []) (number_text i.1) (sym (same-word word (codes "add") ep)) at.1 (sym v.0)) i.4 (record { words_are = refl; lawful = (at.0, v.1) })
 two-by names version word a b ask false false true g ew ep er eg h =
-    let i = waiting-inv Release (object names Cond a) (object names Mutex b) ask h in
+    let i = both-told Release (object names Cond a) (object names Mutex b) ask h in
     let c = known-object names Cond a i.0 i.2 in
     let m = known-object names Mutex b i.1 i.3 in
     same-told names version (word ∷ a ∷ b ∷ []) (codes "release" ∷ get_or names.conds i.0 [] ∷ get_or names.mutexes i.1 [] ∷ []) ask (Release i.0 i.1) (triple word a b (codes "release") (get_or names.conds i.0 []) (get_or names.mutexes i.1 []) (sym (same-word word (codes "release") er)) c.1 m.1) i.4 (record { words_are = refl; lawful = (c.0, m.0) })
 two-by names version word a b ask false false false true ew ep er eg h =
-    let i = waiting-inv Regain (object names Cond a) (object names Mutex b) ask h in
+    let i = both-told Regain (object names Cond a) (object names Mutex b) ask h in
     let c = known-object names Cond a i.0 i.2 in
     let m = known-object names Mutex b i.1 i.3 in
     same-told names version (word ∷ a ∷ b ∷ []) (codes "regain" ∷ get_or names.conds i.0 [] ∷ get_or names.mutexes i.1 [] ∷ []) ask (Regain i.0 i.1) (triple word a b (codes "regain") (get_or names.conds i.0 []) (get_or names.mutexes i.1 []) (sym (same-word word (codes "regain") eg)) c.1 m.1) i.4 (record { words_are = refl; lawful = (c.0, m.0) })
 two-by names version word a b ask false false false false ew ep er eg h = absurd cc
 
-pub two-told : (names : NameLists) (version : ℕ) (word a b : List ℕ) (ask : Ask) → ask_on_two names word a b ≡ Some (Some ask) → IsTold names version (word ∷ a ∷ b ∷ []) ask
+pub two-told : (names : NameLists) (version : ℕ) (word a b : List ℕ) (ask : Ask)
+    → ask_on_two names word a b ≡ Is ask → IsTold names version (word ∷ a ∷ b ∷ []) ask
 unfolding ask_on_two
 two-told names version word a b ask h =
     two-by names version word a b ask (bytes_eq word (codes "write")) (bytes_eq word (codes "add")) (bytes_eq word (codes "release")) (bytes_eq word (codes "regain")) refl refl refl refl h
 
-exchange-inv : (found : Option (Option ℕ)) (old new : Option ℤ) (told : Ask) → exchange found old new ≡ Some (Some told) → (x : ℕ) × (u : ℤ) × (v : ℤ) × (found ≡ Some (Some x)) × (old ≡ Some u) × (new ≡ Some v) × (Cas x u v ≡ told)
-exchange-inv None old new told h = absurd cc
-exchange-inv (Some None) None new told h = absurd cc
-exchange-inv (Some (Some x)) None new told h = absurd cc
-exchange-inv (Some None) (Some u) None told h = absurd cc
-exchange-inv (Some (Some x)) (Some u) None told h = absurd cc
-exchange-inv (Some None) (Some u) (Some v) told h = absurd cc
-exchange-inv (Some (Some x)) (Some u) (Some v) told h = (x, u, v, refl, refl, refl, some_is (Cas x u v) told (some_is (Some (Cas x u v)) (Some told) h))
+exchange-told : (place : WordsRead ℕ) (old new : Option ℤ) (told : Ask)
+    → exchange place old new ≡ Is told → (x : ℕ) × (u : ℤ) × (v : ℤ) × (place ≡ Is x) × (old ≡ Some
+    u) × (new ≡ Some v) × (Cas x u v ≡ told)
+exchange-told place None new told h = absurd cc
+exchange-told place (Some u) None told h = absurd cc
+exchange-told place (Some u) (Some v) told h = let i =
+    object-told (λ x. Cas x u v) place told h in (i.0, u, v, i.1, refl, refl, i.2)
 
-three-by : (names : NameLists) (version : ℕ) (word a b c : List ℕ) (ask : Ask) (w : Bool) → bytes_eq word (codes "cas") ≡ w → (if w then exchange (object names Var a) (value_of b) (value_of c) else None) ≡ Some (Some ask) → IsTold names version (word ∷ a ∷ b ∷ c ∷ []) ask
+three-by : (names : NameLists) (version : ℕ) (word a b c : List ℕ) (ask : Ask) (w : Bool)
+    → bytes_eq word (codes "cas") ≡ w → (if w then exchange (object names Var a) (value_of b)
+    (value_of c) else NoForm) ≡ Is ask → IsTold names version (word ∷ a ∷ b ∷ c ∷ []) ask
 three-by names version word a b c ask true ew h =
-    let i = exchange-inv (object names Var a) (value_of b) (value_of c) ask h in
+    let i = exchange-told (object names Var a) (value_of b) (value_of c) ask h in
     let at = known-object names Var a i.0 i.3 in
     let u = Some-value_of b i.1 i.4 in
     let v = Some-value_of c i.2 i.5 in
     same-told names version (word ∷ a ∷ b ∷ c ∷ []) (codes "cas" ∷ get_or names.vars i.0 [] ∷ number_text i.1 ∷ number_text i.2 ∷ []) ask (Cas i.0 i.1 i.2) (four word a b c (codes "cas") (get_or names.vars i.0 []) (number_text i.1) (number_text i.2) (sym (same-word word (codes "cas") ew)) at.1 (sym u.0) (sym v.0)) i.6 (record { words_are = refl; lawful = (at.0, u.1, v.1) })
 three-by names version word a b c ask false ew h = absurd cc
 
-pub three-told : (names : NameLists) (version : ℕ) (word a b c : List ℕ) (ask : Ask) → ask_on_three names word a b c ≡ Some (Some ask) → IsTold names version (word ∷ a ∷ b ∷ c ∷ []) ask
+pub three-told : (names : NameLists) (version : ℕ) (word a b c : List ℕ) (ask : Ask)
+    → ask_on_three names word a b c ≡ Is ask → IsTold names version (word ∷ a ∷ b ∷ c ∷ []) ask
 unfolding ask_on_three
 three-told names version word a b c ask h = three-by names version word a b c ask (bytes_eq word (codes "cas")) refl h
 
@@ -239,7 +273,9 @@ three-told names version word a b c ask h = three-by names version word a b c as
 test-word : (word other : List ℕ) → word ≡ other → bytes_eq word other ≡ true
 test-word word other e = (bytes_eq-Decides word other).1 e
 
-one-known : (names : NameLists) (version : ℕ) (kind : NameKind) (word : List ℕ) (id : ℕ) → AreNames names → kind_of version word ≡ Some kind → id < length (list_of kind names) → ask_on_one names version word (get_or (list_of kind names) id []) ≡ Some (Some (ask_of kind word id))
+one-known : (names : NameLists) (version : ℕ) (kind : NameKind) (word : List ℕ) (id : ℕ)
+    → AreNames names → kind_of version word ≡ Some kind → id < length (list_of kind names)
+    → ask_on_one names version word (get_or (list_of kind names) id []) ≡ Is (ask_of kind word id)
 unfolding ask_on_one
 one-known names version kind word id sound k h =
     let at = object-known names kind id sound h in
@@ -249,37 +285,51 @@ pub second : (version : ℕ) (word : List ℕ) (kind : Option NameKind) → vers
 second version word kind two k = ap (λ v. kind_of v word) two ∙ k
 
 -- what is read of an ask's words, by how many there are
-abbrev pub ask_in : NameLists → ℕ → List (List ℕ) → Two
+abbrev pub ask_in : NameLists → ℕ → List (List ℕ) → WordsRead Ask
 ask_in names version (word ∷ []) = bare_ask word
 ask_in names version (word ∷ a ∷ []) = ask_on_one names version word a
 ask_in names version (word ∷ a ∷ b ∷ []) = ask_on_two names word a b
 ask_in names version (word ∷ a ∷ b ∷ c ∷ []) = ask_on_three names word a b c
-ask_in names version words = None
+ask_in names version words = NoForm
 
-changed : (names : NameLists) (x : ℕ) (value : ℤ) → AreNames names → x < length names.vars → IsValue value → (object names Var (get_or names.vars x []) ≡ Some (Some x)) × (value_of (number_text value) ≡ Some value)
+changed : (names : NameLists) (x : ℕ) (value : ℤ) → AreNames names → x < length names.vars
+    → IsValue value → (object names Var (get_or names.vars x []) ≡ Is x) × (value_of
+    (number_text value) ≡ Some value)
 changed names x value sound h v = (object-known names Var x sound h, value_of-Some value v)
 
-write-known : (names : NameLists) (x : ℕ) (value : ℤ) → AreNames names → x < length names.vars → IsValue value → ask_on_two names (codes "write") (get_or names.vars x []) (number_text value) ≡ Some (Some (Write x value))
+write-known : (names : NameLists) (x : ℕ) (value : ℤ) → AreNames names → x < length names.vars
+    → IsValue value → ask_on_two names (codes "write") (get_or names.vars x [])
+    (number_text value) ≡ Is (Write x value)
 unfolding ask_on_two
 write-known names x value sound h v = let k = changed names x value sound h v in rw (k.0, k.1)
 
-add-known : (names : NameLists) (x : ℕ) (value : ℤ) → AreNames names → x < length names.vars → IsValue value → ask_on_two names (codes "add") (get_or names.vars x []) (number_text value) ≡ Some (Some (Add x value))
+add-known : (names : NameLists) (x : ℕ) (value : ℤ) → AreNames names → x < length names.vars
+    → IsValue value → ask_on_two names (codes "add") (get_or names.vars x [])
+    (number_text value) ≡ Is (Add x value)
 unfolding ask_on_two
 add-known names x value sound h v = let k = changed names x value sound h v in rw (k.0, k.1)
 
-release-known : (names : NameLists) (c m : ℕ) → AreNames names → c < length names.conds → m < length names.mutexes → ask_on_two names (codes "release") (get_or names.conds c []) (get_or names.mutexes m []) ≡ Some (Some (Release c m))
+release-known : (names : NameLists) (c m : ℕ) → AreNames names → c < length names.conds
+    → m < length names.mutexes → ask_on_two names (codes "release") (get_or names.conds c [])
+    (get_or names.mutexes m []) ≡ Is (Release c m)
 unfolding ask_on_two
 release-known names c m sound h k = rw (object-known names Cond c sound h, object-known names Mutex m sound k)
 
-regain-known : (names : NameLists) (c m : ℕ) → AreNames names → c < length names.conds → m < length names.mutexes → ask_on_two names (codes "regain") (get_or names.conds c []) (get_or names.mutexes m []) ≡ Some (Some (Regain c m))
+regain-known : (names : NameLists) (c m : ℕ) → AreNames names → c < length names.conds
+    → m < length names.mutexes → ask_on_two names (codes "regain") (get_or names.conds c [])
+    (get_or names.mutexes m []) ≡ Is (Regain c m)
 unfolding ask_on_two
 regain-known names c m sound h k = rw (object-known names Cond c sound h, object-known names Mutex m sound k)
 
-cas-known : (names : NameLists) (x : ℕ) (old new : ℤ) → AreNames names → x < length names.vars → IsValue old → IsValue new → ask_on_three names (codes "cas") (get_or names.vars x []) (number_text old) (number_text new) ≡ Some (Some (Cas x old new))
+cas-known : (names : NameLists) (x : ℕ) (old new : ℤ) → AreNames names → x < length names.vars
+    → IsValue old → IsValue new → ask_on_three names (codes "cas") (get_or names.vars x [])
+    (number_text old) (number_text new) ≡ Is (Cas x old new)
 unfolding ask_on_three
 cas-known names x old new sound h u v = rw (object-known names Var x sound h, value_of-Some old u, value_of-Some new v)
 
-plain-known : (names : NameLists) (version : ℕ) (word operand : List ℕ) (ask : Ask) → kind_of version word ≡ None → plain_ask word operand ≡ Some (Some ask) → ask_on_one names version word operand ≡ Some (Some ask)
+plain-known : (names : NameLists) (version : ℕ) (word operand : List ℕ) (ask : Ask)
+    → kind_of version word ≡ None → plain_ask word operand ≡ Is ask
+    → ask_on_one names version word operand ≡ Is ask
 unfolding ask_on_one
 plain-known names version word operand ask k h = ap (λ kd. ask_by names kd word operand) k ∙ h
 
@@ -287,16 +337,19 @@ pub no-kind : (b : Bool) → (if◌then◌else◌ {A = Option NameKind} (b && fa
 no-kind true = refl
 no-kind false = refl
 
-pub check-known : (names : NameLists) (version : ℕ) (holds : Bool) → ask_on_one names version (codes "check") (check_word holds) ≡ Some (Some (Check holds))
+pub check-known : (names : NameLists) (version : ℕ) (holds : Bool)
+    → ask_on_one names version (codes "check") (check_word holds) ≡ Is (Check holds)
 check-known names version true = plain-known names version (codes "check") (codes "1") (Check true) (no-kind (version == 2)) refl
 check-known names version false = plain-known names version (codes "check") (codes "0") (Check false) (no-kind (version == 2)) refl
 
-pub fault-known : (names : NameLists) (version : ℕ) (kind : FaultKind) → ask_on_one names version (codes "fault") (fault_word kind) ≡ Some (Some (Fault kind))
+pub fault-known : (names : NameLists) (version : ℕ) (kind : FaultKind)
+    → ask_on_one names version (codes "fault") (fault_word kind) ≡ Is (Fault kind)
 fault-known names version Overflow = plain-known names version (codes "fault") (codes "overflow") (Fault Overflow) (no-kind (version == 2)) refl
 fault-known names version ZeroDivisor = plain-known names version (codes "fault") (codes "zerodivisor") (Fault ZeroDivisor) (no-kind (version == 2)) refl
 fault-known names version Spin = plain-known names version (codes "fault") (codes "spin") (Fault Spin) (no-kind (version == 2)) refl
 
-pub ask-known : (names : NameLists) (version : ℕ) (ask : Ask) → AreNames names → IsAsk names version ask → ask_in names version (ask_words names ask) ≡ Some (Some ask)
+pub ask-known : (names : NameLists) (version : ℕ) (ask : Ask) → AreNames names
+    → IsAsk names version ask → ask_in names version (ask_words names ask) ≡ Is ask
 ask-known names version (Read x) sound h = one-known names version Var (codes "read") x sound refl h
 ask-known names version (Write x value) sound h = write-known names x value sound h.0 h.1
 ask-known names version (Add x value) sound h = add-known names x value sound h.0 h.1
@@ -364,7 +417,8 @@ few-words names (TryWrLock l) = tt
 few-words names (RwUnlock l) = tt
 
 -- and what is read of few words is the ask of which they are
-pub ask-told : (names : NameLists) (version : ℕ) (words : List (List ℕ)) (ask : Ask) → ask_in names version words ≡ Some (Some ask) → IsTold names version words ask
+pub ask-told : (names : NameLists) (version : ℕ) (words : List (List ℕ)) (ask : Ask)
+    → ask_in names version words ≡ Is ask → IsTold names version words ask
 ask-told names version [] ask h = absurd cc
 ask-told names version (a ∷ []) ask h = bare-told names version a ask h
 ask-told names version (a ∷ b ∷ []) ask h = one-told names version a b ask h

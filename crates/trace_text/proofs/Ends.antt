@@ -14,10 +14,12 @@ use Rattle.trace_text.specs.Lawful.{is_of_second}
 use Rattle.pct_ask.specs.VerdictWords.{line_number}
 use Rattle.trace_text.specs.reader.Numbers.{value_of, natural_of}
 use Rattle.trace_text.specs.reader.Asks.{object, ask_on_three}
-use Rattle.trace_text.specs.reader.StepLines.{tells_reads, end_of, event_of, step_of, step_of_words, row_of}
+use Rattle.trace_text.specs.declared.asks.WordsRead.{WordsRead}
+use Rattle.trace_text.specs.reader.StepLines.{tells_reads, end_of, numbered_step, step_of}
+use Rattle.trace_text.specs.reader.StepLines.{step_of_words, row_of}
 use Rattle.trace_text.specs.reader.Seen.{seen}
 use Rattle.trace_text.specs.declared.row.Row.{Row}
-use Rattle.trace_text.specs.declared.row.Row.TheVariants.{Step, End}
+use Rattle.trace_text.specs.declared.row.Row.TheVariants.{End}
 
 pub end-none : (version : ℕ) (text : List ℕ) (read : VerdictRead) → read ≡ NoForm → None ≡ end_of version text read
 end-none version text read is = rw is
@@ -49,21 +51,20 @@ end-verdict version text read verdict is apart = rw (is, other-version version a
 
 -- ---- the words of a step
 
-pub step-unanswered : (names : NameLists) (number thread line : List ℕ) (ask : Option (Option Ask))
-    (sign answer : List ℕ) (n : ℕ) (t : Option ℕ) (l : ℕ) (a : Option Ask)
-    → natural_of number ≡ Some n → object names Thread thread ≡ Some t → line_number line ≡ Some l
-    → ask ≡ Some a → bytes_eq sign (codes "=") ≡ true → value_of answer ≡ None
+pub step-unanswered : (names : NameLists) (number thread line : List ℕ) (ask : WordsRead Ask)
+    (sign answer : List ℕ) (n l : ℕ) → natural_of number ≡ Some n → line_number line ≡ Some l
+    → bytes_eq sign (codes "=") ≡ true → value_of answer ≡ None
     → step_of names number thread line ask sign answer ≡ None
 unfolding step_of
-step-unanswered names number thread line ask sign answer n t l a p q r s u v = rw (p, q, r, s, u, v)
+step-unanswered names number thread line ask sign answer n l p q r s = rw (p, q, r, s)
 
-pub step-whole : (names : NameLists) (number thread line : List ℕ) (ask : Option (Option Ask))
-    (sign answer : List ℕ) (n : ℕ) (t : Option ℕ) (l : ℕ) (a : Option Ask) (v : ℤ)
-    → natural_of number ≡ Some n → object names Thread thread ≡ Some t → line_number line ≡ Some l
-    → ask ≡ Some a → bytes_eq sign (codes "=") ≡ true → value_of answer ≡ Some v
-    → step_of names number thread line ask sign answer ≡ Some (Step n (event_of t l a v))
+pub step-whole : (names : NameLists) (number thread line : List ℕ) (ask : WordsRead Ask)
+    (sign answer : List ℕ) (n l : ℕ) (v : ℤ) → natural_of number ≡ Some n
+    → line_number line ≡ Some l → bytes_eq sign (codes "=") ≡ true → value_of answer ≡ Some v
+    → step_of names number thread line ask sign answer ≡ numbered_step n
+    (object names Thread thread) l ask v
 unfolding step_of
-step-whole names number thread line ask sign answer n t l a v p q r s u w = rw (p, q, r, s, u, w)
+step-whole names number thread line ask sign answer n l v p q r s = rw (p, q, r, s)
 
 -- no other number of words makes a step
 pub step_of_words-other : (names : NameLists) (version : ℕ) (words : List (Bor (List ℕ))) → length words ≢ 6 → length words ≢ 7 → length words ≢ 8 → length words ≢ 9 → step_of_words names version (seen words) ≡ None
@@ -99,7 +100,8 @@ unfolding row_of
 row-step names version text other = rw other
 
 -- the words of a step whose ask has four
-pub nine-words : (names : NameLists) (version : ℕ) (words : List (Bor (List ℕ))) (d : Bor (List ℕ)) (ask : Option (Option Ask)) (result : Option Row) → length words ≡ 9
+pub nine-words : (names : NameLists) (version : ℕ) (words : List (Bor (List ℕ))) (d : Bor (List ℕ))
+    (ask : WordsRead Ask) (result : Option Row) → length words ≡ 9
     → ask ≡ ask_on_three names (get_or words 3 d).now (get_or words 4 d).now (get_or words 5 d).now (get_or words 6 d).now
     → result ≡ step_of names (get_or words 0 d).now (get_or words 1 d).now (get_or words 2 d).now ask (get_or words 7 d).now (get_or words 8 d).now
     → result ≡ step_of_words names version (seen words)

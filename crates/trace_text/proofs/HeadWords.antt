@@ -1,6 +1,6 @@
 -- How the lines of a head are read.
 use Rattle.std.specs.Prelude.{◌==◌, ◌&&◌, not, nat_le, if◌then◌else◌, codes}
-use Rattle.std.specs.List.{list_all, list_any, onto_first}
+use Rattle.std.specs.List.{list_all, onto_first}
 use Rattle.std.specs.Option.{option_map}
 use Rattle.std.specs.Str.{bytes_eq}
 use Rattle.std.proofs.Common.{◌≡◌, ◌≢◌, ℕ, ◌+◌, ◌≤◌, Bool, true, false, cond, List, [], ◌∷◌, ◌++◌, length, take, suc, Option, Some, None, Result, Ok, Err, Bor, refl, sym, ◌∙◌, ap, arith, append_assoc}
@@ -40,10 +40,6 @@ pub head_line-cut : {A : Type 0} (line : ℕ) (says : List ℕ → Option A) (pi
 head_line-cut line says pieces piece after is = ap (head_line line says) is ∙ value-after line (says piece) after
 
 -- ---- words that are seen
-
-pub any-seen : (p : List ℕ → Bool) (words : List (Bor (List ℕ))) → list_any (λ w. p w.now) words ≡ list_any p (seen words)
-any-seen p [] = refl
-any-seen p (w ∷ ws) = rw (any-seen p ws)
 
 pub all-seen : (p : List ℕ → Bool) (words : List (Bor (List ℕ))) → list_all (λ w. p w.now) words ≡ list_all p (seen words)
 all-seen p [] = refl
@@ -145,10 +141,11 @@ order_line-lost names pieces piece after most words value e cut all are is got =
 
 -- ---- different words
 
-pub different-first : (words others : List (Bor (List ℕ))) (word : Bor (List ℕ)) (among : Bool) → words ≡ word ∷ others → among ≡ list_any (λ o. bytes_eq word.now o.now) others → are_different (seen words) ≡ (not among && are_different (seen others))
+pub different-first : (words others : List (Bor (List ℕ))) (word : Bor (List ℕ)) (among : Bool)
+    → words ≡ word ∷ others → among ≡ is_among word.now (seen others)
+    → are_different (seen words) ≡ (not among && are_different (seen others))
 different-first words others word among are is =
-    let there : is_among word.now (seen others) ≡ among = sym (any-seen (bytes_eq word.now) others) ∙ sym is in
-    rw (are, there)
+    rw (are, ← is)
 
 pub different-none : (words : List (Bor (List ℕ))) → length words ≡ 0 → are_different (seen words) ≡ true
 different-none [] none = refl

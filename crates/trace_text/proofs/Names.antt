@@ -13,7 +13,9 @@ use Rattle.pct_ask.specs.NameLists.{NameLists, list_of, all_names, place_of, Are
 use Rattle.pct_ask.specs.declared.names.NameKind.{NameKind}
 use Rattle.pct_ask.specs.declared.names.NameKind.TheVariants.{Thread, Var, Mutex, Cond, Sem, Barrier, RwLock}
 use Rattle.pct_ask.proofs.laws.Names.{place_of-Some}
-use Rattle.trace_text.specs.reader.Asks.{object}
+use Rattle.trace_text.specs.reader.Asks.{object_at, object}
+use Rattle.trace_text.specs.declared.asks.WordsRead.{WordsRead}
+use Rattle.trace_text.specs.declared.asks.WordsRead.TheVariants.{Is, NoForm}
 
 or-left : (a b : Bool) → (a || b) ≡ false → a ≡ false
 or-left true b h = h
@@ -105,18 +107,25 @@ pub name-lawful : (names : NameLists) (kind : NameKind) (id : ℕ) → AreNames 
 name-lawful names kind id sound h = kind-lawful kind names sound.lawful id [] h
 
 -- so it is an object
-pub object-known : (names : NameLists) (kind : NameKind) (id : ℕ) → AreNames names → id < length (list_of kind names) → object names kind (get_or (list_of kind names) id []) ≡ Some (Some id)
+pub object-known : (names : NameLists) (kind : NameKind) (id : ℕ) → AreNames names
+    → id < length (list_of kind names) → object names kind (get_or (list_of kind names) id []) ≡ Is
+    id
 object-known names kind id sound h =
     let lawful = name-lawful names kind id sound h in
     let at = place_of-kind names kind id sound h in
     rw (lawful, at)
 
-object-by : (lawful : Bool) (place : Option ℕ) (id : ℕ) → (if◌then◌else◌ {A = Option (Option ℕ)} lawful (Some place) None) ≡ Some (Some id) → (lawful ≡ true) × (place ≡ Some id)
-object-by true place id h = (refl, cc)
+object-by : (lawful : Bool) (place : Option ℕ) (id : ℕ)
+    → (if◌then◌else◌ {A = WordsRead ℕ} lawful (object_at place) NoForm) ≡ Is id
+    → (lawful ≡ true) × (place ≡ Some id)
+object-by true None id h = absurd cc
+object-by true (Some found) id h = (refl, cc)
 object-by false place id h = absurd cc
 
 -- and an object that is known is the name at its place
-pub known-object : (names : NameLists) (kind : NameKind) (word : List ℕ) (id : ℕ) → object names kind word ≡ Some (Some id) → (id < length (list_of kind names)) × (get_or (list_of kind names) id [] ≡ word)
+pub known-object : (names : NameLists) (kind : NameKind) (word : List ℕ) (id : ℕ)
+    → object names kind word ≡ Is id → (id < length (list_of kind names)) × (get_or
+    (list_of kind names) id [] ≡ word)
 known-object names kind word id h =
     let by = object-by (is_name 1 word) (place_of word (list_of kind names)) id h in
     place_of-Some word (list_of kind names) id by.1

@@ -22,7 +22,10 @@ use Rattle.pct_ask.specs.declared.verdict_text.VerdictRead.TheVariants.{Is, NoFo
 use Rattle.pct_ask.proofs.laws.VerdictsRead.{ReadsAs-words, ReadsAs-only}
 use Rattle.pct_ask.proofs.laws.SplitWords.{join-words_of, words_of-join}
 use Rattle.trace_text.specs.Lawful.{IsStep, IsEnd, is_of_second}
-use Rattle.trace_text.specs.reader.StepLines.{step_of_parts, step_of, step_of_words, tells_reads, end_of, row_of}
+use Rattle.trace_text.specs.reader.Asks.{has_form, known}
+use Rattle.trace_text.specs.reader.StepLines.{event_of, numbered_step, step_of_parts, step_of}
+use Rattle.trace_text.specs.reader.StepLines.{step_of_words, tells_reads, end_of, row_of}
+use Rattle.trace_text.specs.declared.asks.WordsRead.{WordsRead}
 use Rattle.trace_text.specs.declared.row.Row.TheVariants.{Step, End}
 use Rattle.trace_text.proofs.StepWords.{IsStepLine, words-told, words-known}
 use Rattle.trace_text.proofs.Bytes.{are-solid, step-high}
@@ -78,16 +81,29 @@ step-known names version n event sound step small =
 
 -- ---- a verdict
 
-parts-no-end : (number : Option ℕ) (thread : Option (Option ℕ)) (line : Option ℕ) (ask : Option (Option Ask)) (sign : Bool) (answer : Option ℤ) (verdict : Option Verdict) → step_of_parts number thread line ask sign answer ≡ Some (End verdict) → ⊥
-parts-no-end None thread line ask sign answer verdict h = cc
-parts-no-end (Some m) None line ask sign answer verdict h = cc
-parts-no-end (Some m) (Some t) None ask sign answer verdict h = cc
-parts-no-end (Some m) (Some t) (Some l) None sign answer verdict h = cc
-parts-no-end (Some m) (Some t) (Some l) (Some a) false answer verdict h = cc
-parts-no-end (Some m) (Some t) (Some l) (Some a) true None verdict h = cc
-parts-no-end (Some m) (Some t) (Some l) (Some a) true (Some v) verdict h = cc
+numbered-no-end : (number : ℕ) (thread : WordsRead ℕ) (line : ℕ) (ask : WordsRead Ask) (answer : ℤ)
+    (verdict : Option Verdict) → numbered_step number thread line ask answer ≡ Some (End verdict)
+    → ⊥
+numbered-no-end number thread line ask answer verdict h = by (has_form thread && has_form ask) h
+  where
+    by : (b : Bool) → (if b then Some (Step number
+        (event_of (known thread) line (known ask) answer)) else None) ≡ Some (End verdict) → ⊥
+    by true e = cc
+    by false e = cc
 
-step-no-end : (names : NameLists) (number thread line : List ℕ) (ask : Option (Option Ask)) (sign answer : List ℕ) (verdict : Option Verdict) → step_of names number thread line ask sign answer ≡ Some (End verdict) → ⊥
+parts-no-end : (number : Option ℕ) (thread : WordsRead ℕ) (line : Option ℕ) (ask : WordsRead Ask)
+    (sign : Bool) (answer : Option ℤ) (verdict : Option Verdict)
+    → step_of_parts number thread line ask sign answer ≡ Some (End verdict) → ⊥
+parts-no-end None thread line ask sign answer verdict h = cc
+parts-no-end (Some m) thread None ask sign answer verdict h = cc
+parts-no-end (Some m) thread (Some l) ask false answer verdict h = cc
+parts-no-end (Some m) thread (Some l) ask true None verdict h = cc
+parts-no-end (Some m) thread (Some l) ask true (Some v) verdict h =
+    numbered-no-end m thread l ask v verdict h
+
+step-no-end : (names : NameLists) (number thread line : List ℕ) (ask : WordsRead Ask)
+    (sign answer : List ℕ) (verdict : Option Verdict)
+    → step_of names number thread line ask sign answer ≡ Some (End verdict) → ⊥
 unfolding step_of
 step-no-end names number thread line ask sign answer verdict h = parts-no-end _ _ _ _ _ _ verdict h
 

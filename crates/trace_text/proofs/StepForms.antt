@@ -1,5 +1,5 @@
 -- A step is read of the words of its form, and of nothing else.
-use Rattle.std.specs.Prelude.{codes, decimal, if◌then◌else◌}
+use Rattle.std.specs.Prelude.{codes, decimal, ◌&&◌, if◌then◌else◌}
 use Rattle.std.specs.List.{join_with_byte}
 use Rattle.std.specs.Str.{bytes_eq}
 use Rattle.std.proofs.Common.{◌≡◌, ◌⊎◌, ℕ, ◌<◌, ◌≤◌, ◌^◌, Bool, true, false, List, [], ◌∷◌, ◌++◌, take, drop, ℤ, Option, Some, None, refl, sym, ap, ◌∙◌, inl, inr, arith}
@@ -15,8 +15,11 @@ use Rattle.pct_ask.proofs.laws.SplitWords.{join-words_of}
 use Rattle.pct_ask.specs.VerdictWords.{line_number}
 use Rattle.pct_ask.proofs.laws.Decimals.{number_in-decimal, number_in-Some}
 use Rattle.trace_text.specs.reader.Numbers.{value_of, natural_of}
-use Rattle.trace_text.specs.reader.Asks.{object}
-use Rattle.trace_text.specs.reader.StepLines.{event_of, step_of_parts, step_of, step_of_words, end_of, row_of}
+use Rattle.trace_text.specs.reader.Asks.{has_form, known, object_at, object}
+use Rattle.trace_text.specs.reader.StepLines.{event_of, numbered_step, step_of_parts, step_of}
+use Rattle.trace_text.specs.reader.StepLines.{step_of_words, end_of, row_of}
+use Rattle.trace_text.specs.declared.asks.WordsRead.{WordsRead}
+use Rattle.trace_text.specs.declared.asks.WordsRead.TheVariants.{Is, NoForm, UnknownName}
 use Rattle.trace_text.specs.Forms.{AskForm, words_of_ask, words_of_form, IsOf, HasUnknown, AsksUnknown, IsUndeclared}
 use Rattle.trace_text.specs.Forms as forms
 use Rattle.trace_text.specs.declared.row.Row.TheVariants.{Step}
@@ -25,10 +28,8 @@ use Rattle.trace_text.proofs.AskWords.{ask_in}
 use Rattle.trace_text.proofs.StepWords.{natural-decimal, decimal-natural, step_words, read-words}
 use Rattle.trace_text.proofs.Ends.{row-step}
 use Rattle.trace_text.proofs.Rows.{end-no-step, digit-first}
-use Rattle.trace_text.proofs.AskForms.{object-inv, object-lawful, ask-form, ask-read, few-ask_words}
-
-some_is : {A : Type 0} (x y : A) → Some x ≡ Some y → x ≡ y
-some_is x y e = cc
+use Rattle.trace_text.proofs.AskForms.{object-inv, object-lawful, placed-form, ask-form, ask-read}
+use Rattle.trace_text.proofs.AskForms.{few-ask_words}
 
 -- ---- what is read as a step is one by form
 
@@ -42,32 +43,56 @@ pub record IsStepWords (names : NameLists) (version : ℕ) (words : List (List �
   pub of : IsOf names version (forms.Step n thread line ask answer)
   pub unknown : event ≡ None → HasUnknown names (forms.Step n thread line ask answer)
 
-record Parts (number : Option ℕ) (thread : Option (Option ℕ)) (line : Option ℕ) (ask : Option (Option Ask)) (sign : Bool) (answer : Option ℤ) (n : ℕ) (event : Option Event) : Type 0 where
-  t : Option ℕ
+record Parts (number : Option ℕ) (thread : WordsRead ℕ) (line : Option ℕ) (ask : WordsRead Ask)
+    (sign : Bool) (answer : Option ℤ) (n : ℕ) (event : Option Event) : Type 0 where
   l : ℕ
-  a : Option Ask
   v : ℤ
   number_is : number ≡ Some n
-  thread_is : thread ≡ Some t
+  thread_form : has_form thread ≡ true
   line_is : line ≡ Some l
-  ask_is : ask ≡ Some a
+  ask_form : has_form ask ≡ true
   sign_is : sign ≡ true
   answer_is : answer ≡ Some v
-  event_is : event_of t l a v ≡ event
+  event_is : event_of (known thread) l (known ask) v ≡ event
 
 row-inv : (m n : ℕ) (e event : Option Event) → Some (Step m e) ≡ Some (Step n event) → (m ≡ n) × (e ≡ event)
 row-inv m n e event h = let same : Step m e ≡ Step n event = cc in (cc, cc)
 
-parts-inv : (number : Option ℕ) (thread : Option (Option ℕ)) (line : Option ℕ) (ask : Option (Option Ask)) (sign : Bool) (answer : Option ℤ) (n : ℕ) (event : Option Event) → step_of_parts number thread line ask sign answer ≡ Some (Step n event) → Parts number thread line ask sign answer n event
+numbered-inv : (m : ℕ) (thread : WordsRead ℕ) (l : ℕ) (ask : WordsRead Ask) (v : ℤ) (n : ℕ)
+    (event : Option Event) → numbered_step m thread l ask v ≡ Some (Step n event)
+    → Parts (Some m) thread (Some l) ask true (Some v) n event
+numbered-inv m thread l ask v n event h = by (has_form thread) (has_form ask) refl refl h
+  where
+    by : (a b : Bool) → has_form thread ≡ a → has_form ask ≡ b
+        → (if a && b then Some (Step m (event_of (known thread) l (known ask) v)) else None) ≡ Some
+        (Step n event) → Parts (Some m) thread (Some l) ask true (Some v) n event
+    by true true p q k =
+        let r = row-inv m n (event_of (known thread) l (known ask) v) event k in
+        record {
+          l = l;
+          v = v;
+          number_is = ap (λ x. Some x) r.0;
+          thread_form = p;
+          line_is =
+              refl;
+          ask_form = q;
+          sign_is = refl;
+          answer_is = refl;
+          event_is = r.1;
+        }
+    by true false p q k = absurd cc
+    by false b p q k = absurd cc
+
+parts-inv : (number : Option ℕ) (thread : WordsRead ℕ) (line : Option ℕ) (ask : WordsRead Ask)
+    (sign : Bool) (answer : Option ℤ) (n : ℕ) (event : Option Event)
+    → step_of_parts number thread line ask sign answer ≡ Some (Step n event)
+    → Parts number thread line ask sign answer n event
 parts-inv None thread line ask sign answer n event h = absurd cc
-parts-inv (Some m) None line ask sign answer n event h = absurd cc
-parts-inv (Some m) (Some t) None ask sign answer n event h = absurd cc
-parts-inv (Some m) (Some t) (Some l) None sign answer n event h = absurd cc
-parts-inv (Some m) (Some t) (Some l) (Some a) false answer n event h = absurd cc
-parts-inv (Some m) (Some t) (Some l) (Some a) true None n event h = absurd cc
-parts-inv (Some m) (Some t) (Some l) (Some a) true (Some v) n event h =
-    let r = row-inv m n (event_of t l a v) event h in
-    record { t = t; l = l; a = a; v = v; number_is = ap (λ k. Some k) r.0; thread_is = refl; line_is = refl; ask_is = refl; sign_is = refl; answer_is = refl; event_is = r.1 }
+parts-inv (Some m) thread None ask sign answer n event h = absurd cc
+parts-inv (Some m) thread (Some l) ask false answer n event h = absurd cc
+parts-inv (Some m) thread (Some l) ask true None n event h = absurd cc
+parts-inv (Some m) thread (Some l) ask true (Some v) n event h =
+    numbered-inv m thread l ask v n event h
 
 -- an event is lost where its thread or its ask is
 event-lost : (t : Option ℕ) (l : ℕ) (a : Option Ask) (v : ℤ) (event : Option Event) → event_of t l a v ≡ event → event ≡ None → (t ≡ None) ⊎ (a ≡ None)
@@ -81,9 +106,19 @@ lost-event (Some t) l None v none = refl
 lost-event (Some t) l (Some a) v (inl none) = absurd cc
 lost-event (Some t) l (Some a) v (inr none) = absurd cc
 
-unknown-by : (names : NameLists) (thread : List ℕ) (ask : AskForm) (t : Option ℕ) (a : Option Ask) → place_of thread names.threads ≡ t → (a ≡ None → AsksUnknown names ask) → (t ≡ None) ⊎ (a ≡ None) → IsUndeclared names Thread thread ⊎ AsksUnknown names ask
-unknown-by names thread ask t a p q (inl none) = inl (p ∙ none)
-unknown-by names thread ask t a p q (inr none) = inr (q none)
+unknown-is : {A : Type 0} (read : WordsRead A) → has_form read ≡ true → known read ≡ None
+    → read ≡ UnknownName
+unknown-is (Is x) form none = absurd cc
+unknown-is NoForm form none = absurd cc
+unknown-is UnknownName form none = refl
+
+unknown-by : (names : NameLists) (thread : List ℕ) (ask : AskForm) (t : WordsRead ℕ)
+    (a : WordsRead Ask) → has_form t ≡ true → has_form a ≡ true
+    → (t ≡ UnknownName → IsUndeclared names Thread thread)
+    → (a ≡ UnknownName → AsksUnknown names ask) → (known t ≡ None) ⊎ (known a ≡ None)
+    → IsUndeclared names Thread thread ⊎ AsksUnknown names ask
+unknown-by names thread ask t a p q f g (inl none) = inl (f (unknown-is t p none))
+unknown-by names thread ask t a p q f g (inr none) = inr (g (unknown-is a q none))
 
 step-spelled : (number thread line sign answer n l v : List ℕ) (ask asked : List (List ℕ)) → number ≡ n → line ≡ l → ask ≡ asked → sign ≡ codes "=" → answer ≡ v → step_words number thread line ask sign answer ≡ step_words n thread l asked (codes "=") v
 step-spelled number thread line sign answer n l v ask asked p q r s t = rw (p, q, r, s, t)
@@ -94,9 +129,9 @@ form-parts names version number thread line ask sign answer n event some h =
     let p = parts-inv (natural_of number) (object names Thread thread) (line_number line)
     (ask_in names version ask) (bytes_eq sign (codes "=")) (value_of answer) n event h in
     let number_is = natural-decimal number n p.number_is in
-    let thread_is = object-inv names Thread thread p.t p.thread_is in
+    let thread_is = object-inv names Thread thread p.thread_form in
     let line_is = number_in-Some 1 4096 p.l line p.line_is in
-    let ask_is = ask-form names version ask p.a some p.ask_is in
+    let ask_is = ask-form names version ask (ask_in names version ask) some refl p.ask_form in
     let sign_is = (bytes_eq-Decides sign (codes "=")).0 p.sign_is in
     let answer_is = Some-value_of answer p.v p.answer_is in
     record {
@@ -108,7 +143,10 @@ form-parts names version number thread line ask sign answer n event some h =
           (number_text p.v) ask (words_of_ask ask_is.ask) number_is.0 line_is.2 ask_is.words_are
           sign_is answer_is.0;
       of = (number_is.1, thread_is.0, (line_is.0, line_is.1), ask_is.of, answer_is.1);
-      unknown = λ none. unknown-by names thread ask_is.ask p.t p.a thread_is.1 ask_is.unknown (event-lost p.t p.l p.a p.v event p.event_is none);
+      unknown = λ none. unknown-by names thread ask_is.ask (object names Thread thread)
+          (ask_in names version ask) p.thread_form p.ask_form thread_is.1 ask_is.unknown
+          (event-lost (known (object names Thread thread)) p.l (known (ask_in names version ask))
+          p.v event p.event_is none);
     }
 
 none-step : (n : ℕ) (event : Option Event) → None ≡ Some (Step n event) → ⊥
@@ -155,20 +193,28 @@ unfolding step_of
 step-read names version text n thread line ask answer which words of =
     let asked = ask-read names version ask which of.3 in
     record {
-      event = event_of (place_of thread names.threads) line asked.read answer;
+      event = event_of (known (object_at (place_of thread names.threads))) line (known asked.read)
+          answer;
       is = row-step names version text (no-verdict n (decimal line ∷ (words_of_ask ask ++ codes "=" ∷ number_text answer ∷ [])) thread text of.0 words)
           ∙ ap (step_of_words names version) words
           ∙ read-words names version (decimal n) thread (decimal line) (words_of_ask ask) (codes "=") (number_text answer) (few-ask_words ask)
           ∙ rw (
             decimal-natural n of.0,
             object-lawful names Thread thread of.1,
-            number_in-decimal 1 4096 line (decimal line) of.2.0 of.2.1 (omega arith) refl,
+            number_in-decimal 1
+                4096 line (decimal line) of.2.0 of.2.1 (omega arith) refl,
             asked.is,
-            value_of-Some answer of.4,
+            value_of-Some
+                answer of.4,
+            placed-form (place_of thread names.threads),
+            asked.form,
           );
-      unknown = λ none. lost-event (place_of thread names.threads) line asked.read answer (by asked.read asked.unknown none);
+      unknown = λ none. lost-event (known (object_at (place_of thread names.threads))) line
+          (known asked.read) answer (by asked.read asked.unknown none);
     }
   where
-    by : (read : Option Ask) → (AsksUnknown names ask → read ≡ None) → IsUndeclared names Thread thread ⊎ AsksUnknown names ask → (place_of thread names.threads ≡ None) ⊎ (read ≡ None)
-    by read lost (inl none) = inl none
-    by read lost (inr none) = inr (lost none)
+    by : (read : WordsRead Ask) → (AsksUnknown names ask → read ≡ UnknownName)
+        → IsUndeclared names Thread thread ⊎ AsksUnknown names ask
+        → (known (object_at (place_of thread names.threads)) ≡ None) ⊎ (known read ≡ None)
+    by read lost (inl none) = inl (ap (λ (p : Option ℕ). known (object_at p)) none)
+    by read lost (inr none) = inr (ap (λ (r : WordsRead Ask). known r) (lost none))

@@ -15,8 +15,11 @@ use Rattle.pct_ask.specs.declared.ask.Ask.{Ask}
 use Rattle.pct_ask.specs.declared.event.Event.{Event}
 use Rattle.trace_text.specs.Lawful.{IsStep}
 use Rattle.trace_text.specs.reader.Numbers.{value_of, natural, natural_of}
-use Rattle.trace_text.specs.reader.Asks.{object}
-use Rattle.trace_text.specs.reader.StepLines.{event_of, step_of_parts, step_of, step_of_words}
+use Rattle.trace_text.specs.reader.Asks.{has_form, known, object}
+use Rattle.trace_text.specs.reader.StepLines.{event_of, numbered_step, step_of_parts, step_of}
+use Rattle.trace_text.specs.reader.StepLines.{step_of_words}
+use Rattle.trace_text.specs.declared.asks.WordsRead.{WordsRead}
+use Rattle.trace_text.specs.declared.asks.WordsRead.TheVariants.{Is, NoForm, UnknownName}
 use Rattle.trace_text.specs.declared.row.Row.TheVariants.{Step}
 use Rattle.trace_text.proofs.Names.{object-known, known-object}
 use Rattle.trace_text.proofs.Values.{value_of-Some, Some-value_of, fits-natural}
@@ -42,11 +45,12 @@ decimal-natural n h = ap natural (value_of-Some (pos n) (fits-natural n h))
 
 -- ---- a step by its parts
 
-record Parts (number : Option ℕ) (thread : Option (Option ℕ)) (line : Option ℕ) (ask : Option (Option Ask)) (sign : Bool) (answer : Option ℤ) (n : ℕ) (event : Event) : Type 0 where
+record Parts (number : Option ℕ) (thread : WordsRead ℕ) (line : Option ℕ) (ask : WordsRead Ask)
+    (sign : Bool) (answer : Option ℤ) (n : ℕ) (event : Event) : Type 0 where
   number_is : number ≡ Some n
-  thread_is : thread ≡ Some (Some event.thread)
+  thread_is : thread ≡ Is event.thread
   line_is : line ≡ Some event.line
-  ask_is : ask ≡ Some (Some event.ask)
+  ask_is : ask ≡ Is event.ask
   sign_is : sign ≡ true
   answer_is : answer ≡ Some event.answer
 
@@ -61,17 +65,44 @@ event-inv (Some t) line (Some a) answer event h =
 row-inv : (m n : ℕ) (e : Option Event) (event : Event) → Some (Step m e) ≡ Some (Step n (Some event)) → (m ≡ n) × (e ≡ Some event)
 row-inv m n e event h = let same : Step m e ≡ Step n (Some event) = cc in (cc, cc)
 
-parts-inv : (number : Option ℕ) (thread : Option (Option ℕ)) (line : Option ℕ) (ask : Option (Option Ask)) (sign : Bool) (answer : Option ℤ) (n : ℕ) (event : Event) → step_of_parts number thread line ask sign answer ≡ Some (Step n (Some event)) → Parts number thread line ask sign answer n event
+known-is : {A : Type 0} (read : WordsRead A) (x : A) → known read ≡ Some x → read ≡ Is x
+known-is (Is y) x h = ap (λ z. Is z) (some_is y x h)
+known-is NoForm x h = absurd cc
+known-is UnknownName x h = absurd cc
+
+numbered-inv : (m : ℕ) (thread : WordsRead ℕ) (l : ℕ) (ask : WordsRead Ask) (v : ℤ) (n : ℕ)
+    (event : Event) → numbered_step m thread l ask v ≡ Some (Step n (Some event))
+    → Parts (Some m) thread (Some l) ask true (Some v) n event
+numbered-inv m thread l ask v n event h = by (has_form thread && has_form ask) h
+  where
+    by : (b : Bool) → (if b then Some (Step m (event_of (known thread) l (known ask) v)) else
+        None) ≡ Some (Step n (Some event)) → Parts (Some m) thread (Some l) ask true (Some v) n
+        event
+    by true k =
+        let r = row-inv m n (event_of (known thread) l (known ask) v) event k in
+        let e = event-inv (known thread) l (known ask) v event r.1 in
+        record {
+          number_is = ap (λ x. Some x) r.0;
+          thread_is =
+              known-is thread event.thread e.0;
+          line_is = ap (λ x. Some x) e.1;
+          ask_is =
+              known-is ask event.ask e.2;
+          sign_is = refl;
+          answer_is = ap (λ x. Some x) e.3;
+        }
+    by false k = absurd cc
+
+parts-inv : (number : Option ℕ) (thread : WordsRead ℕ) (line : Option ℕ) (ask : WordsRead Ask)
+    (sign : Bool) (answer : Option ℤ) (n : ℕ) (event : Event)
+    → step_of_parts number thread line ask sign answer ≡ Some (Step n (Some event))
+    → Parts number thread line ask sign answer n event
 parts-inv None thread line ask sign answer n event h = absurd cc
-parts-inv (Some m) None line ask sign answer n event h = absurd cc
-parts-inv (Some m) (Some t) None ask sign answer n event h = absurd cc
-parts-inv (Some m) (Some t) (Some l) None sign answer n event h = absurd cc
-parts-inv (Some m) (Some t) (Some l) (Some a) false answer n event h = absurd cc
-parts-inv (Some m) (Some t) (Some l) (Some a) true None n event h = absurd cc
-parts-inv (Some m) (Some t) (Some l) (Some a) true (Some v) n event h =
-    let r = row-inv m n (event_of t l a v) event h in
-    let e = event-inv t l a v event r.1 in
-    record { number_is = ap (λ k. Some k) r.0; thread_is = ap (λ k. Some k) e.0; line_is = ap (λ k. Some k) e.1; ask_is = ap (λ k. Some k) e.2; sign_is = refl; answer_is = ap (λ k. Some k) e.3 }
+parts-inv (Some m) thread None ask sign answer n event h = absurd cc
+parts-inv (Some m) thread (Some l) ask false answer n event h = absurd cc
+parts-inv (Some m) thread (Some l) ask true None n event h = absurd cc
+parts-inv (Some m) thread (Some l) ask true (Some v) n event h =
+    numbered-inv m thread l ask v n event h
 
 -- the words of a step
 abbrev pub step_words : List ℕ → List ℕ → List ℕ → List (List ℕ) → List ℕ → List ℕ → List (List ℕ)

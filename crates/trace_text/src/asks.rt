@@ -1,14 +1,10 @@
 //! The words of asks.
 
 ghost use Rattle.std.specs.Prelude.{◌≡◌};
-ghost use Rattle.std.specs.List.{list_any};
-ghost use Rattle.std.specs.Option.{option_map};
-ghost use Rattle.std.specs.Str.{bytes_eq};
-ghost use Rattle.pct_ask.specs.VerdictWords as verdict_words;
 ghost use Rattle.trace_text.specs.reader.Asks as asks;
 
 use crate::number::value_of;
-use pct_ask::{Ask, FaultKind, NameKind, Names, is_lawful_name};
+use pct_ask::{Ask, NameKind, Names, fault_kind, is_among, is_lawful_name};
 
 pub const READ: &[u8] = b"read";
 
@@ -54,12 +50,6 @@ pub const FAILS: &[u8] = b"0";
 
 pub const FAULT: &[u8] = b"fault";
 
-pub const OVERFLOW: &[u8] = b"overflow";
-
-pub const ZERO_DIVISOR: &[u8] = b"zerodivisor";
-
-pub const SPIN: &[u8] = b"spin";
-
 pub const START: &[u8] = b"start";
 
 pub const BEGIN: &[u8] = b"begin";
@@ -74,23 +64,51 @@ pub const TRY_WR_LOCK: &[u8] = b"trywrlock";
 
 pub const RW_UNLOCK: &[u8] = b"rwunlock";
 
-/// An object of a kind by its name: `None` where the word is no lawful name, and otherwise its
-/// place, if it is
-/// declared so.
-pub fn object(names: &Names, kind: NameKind, word: &[u8]) -> Option<Option<u32>>
-    ensures { result ≡ asks.object names.now kind word.now }
-{
-    if is_lawful_name(1, word) {
-        Some(names.find(kind, word))
-    } else {
-        None
+/// What words of a line are read as: an object, or an ask.
+#[derive(Clone, Copy)]
+pub enum WordsRead<T> {
+    Is(T),
+    /// They have no such form, whatever the names are.
+    NoForm,
+    /// They would have it, if each name in them were declared with the kind that its place needs.
+    UnknownName,
+}
+
+impl<T: Copy> WordsRead<T> {
+    /// Whether the words have the form, be their names known or not.
+    pub fn has_form(self) -> bool
+        ensures { result ≡ asks.has_form self }
+    {
+        match self {
+            WordsRead::Is(_) => true,
+            WordsRead::NoForm => false,
+            WordsRead::UnknownName => true,
+        }
+    }
+
+    /// What they are, where all their names are known.
+    pub fn known(self) -> Option<T>
+        ensures { result ≡ asks.known self }
+    {
+        match self {
+            WordsRead::Is(what) => Some(what),
+            WordsRead::NoForm => None,
+            WordsRead::UnknownName => None,
+        }
     }
 }
 
-fn is_among(word: &[u8], words: &[&[u8]]) -> bool
-    ensures { result ≡ list_any (λ other. bytes_eq word.now other.now) words.now }
+/// The place of an object of a kind, by its name. A word that is no lawful name has no form.
+pub fn object(names: &Names, kind: NameKind, word: &[u8]) -> WordsRead<u32>
+    ensures { result ≡ asks.object names.now kind word.now }
 {
-    words.iter().any(|other| word == *other)
+    if !is_lawful_name(1, word) {
+        return WordsRead::NoForm;
+    }
+    match names.find(kind, word) {
+        Some(id) => WordsRead::Is(id),
+        None => WordsRead::UnknownName,
+    }
 }
 
 /// The kind of object that a word asks something of.
@@ -159,32 +177,16 @@ fn read_write_ask(word: &[u8], rwlock: u32) -> Ask
     }
 }
 
-/// An ask of one word. Here and below `None` says that the words are no form of an ask, and
-/// `Some(None)` that a name
-/// isn't declared with the kind that its place needs.
-pub fn bare_ask(word: &[u8]) -> Option<Option<Ask>>
+/// An ask of one word.
+pub fn bare_ask(word: &[u8]) -> WordsRead<Ask>
     ensures { result ≡ asks.bare_ask word.now }
 {
     if word == YIELD {
-        Some(Some(Ask::Yield))
+        WordsRead::Is(Ask::Yield)
     } else if word == BEGIN {
-        Some(Some(Ask::Begin))
+        WordsRead::Is(Ask::Begin)
     } else {
-        None
-    }
-}
-
-fn fault_kind(word: &[u8]) -> Option<FaultKind>
-    ensures { result ≡ verdict_words.fault_kind word.now }
-{
-    if word == OVERFLOW {
-        Some(FaultKind::Overflow)
-    } else if word == ZERO_DIVISOR {
-        Some(FaultKind::ZeroDivisor)
-    } else if word == SPIN {
-        Some(FaultKind::Spin)
-    } else {
-        None
+        WordsRead::NoForm
     }
 }
 
@@ -201,87 +203,140 @@ fn holds_of(word: &[u8]) -> Option<bool>
 }
 
 /// An ask with an operand that is no object.
-fn plain_ask(word: &[u8], operand: &[u8]) -> Option<Option<Ask>>
+fn plain_ask(word: &[u8], operand: &[u8]) -> WordsRead<Ask>
     ensures { result ≡ asks.plain_ask word.now operand.now }
 {
     if word == CHECK {
-        let holds = holds_of(operand)?;
-        Some(Some(Ask::Check { holds }))
+        match holds_of(operand) {
+            Some(holds) => WordsRead::Is(Ask::Check { holds }),
+            None => WordsRead::NoForm,
+        }
     } else if word == FAULT {
-        let kind = fault_kind(operand)?;
-        Some(Some(Ask::Fault { kind }))
+        match fault_kind(operand) {
+            Some(kind) => WordsRead::Is(Ask::Fault { kind }),
+            None => WordsRead::NoForm,
+        }
     } else {
-        None
+        WordsRead::NoForm
+    }
+}
+
+fn object_ask(kind: NameKind, word: &[u8], object: WordsRead<u32>) -> WordsRead<Ask>
+    ensures { result ≡ asks.on_object (asks.ask_of kind word.now) object }
+{
+    match object {
+        WordsRead::Is(id) => WordsRead::Is(ask_of(kind, word, id)),
+        WordsRead::NoForm => WordsRead::NoForm,
+        WordsRead::UnknownName => WordsRead::UnknownName,
     }
 }
 
 /// An ask of two words.
 #[tactic(auto, unfolding(crate::specs::reader::Asks::ask_on_one))]
-pub fn ask_on_one(names: &Names, version: u32, word: &[u8], operand: &[u8]) -> Option<Option<Ask>>
+pub fn ask_on_one(names: &Names, version: u32, word: &[u8], operand: &[u8]) -> WordsRead<Ask>
     ensures { result ≡ asks.ask_on_one names.now version word.now operand.now }
 {
     match kind_of(version, word) {
         None => plain_ask(word, operand),
-        Some(kind) => {
-            let found = object(names, kind, operand)?;
-            Some(found.map(|id| ask_of(kind, word, id)))
-        }
+        Some(kind) => object_ask(kind, word, object(names, kind, operand)),
     }
 }
 
-fn with_write(found: Option<u32>, value: i64) -> Option<Ask>
-    ensures { result ≡ option_map (λ x. Ask.Write x value) found }
+fn write(var: WordsRead<u32>, value: Option<i64>) -> WordsRead<Ask>
+    ensures { result ≡ asks.with_value Ask.Write var value }
 {
-    found.map(|var| Ask::Write { var, value })
+    let Some(value) = value else {
+        return WordsRead::NoForm;
+    };
+    match var {
+        WordsRead::Is(var) => WordsRead::Is(Ask::Write { var, value }),
+        WordsRead::NoForm => WordsRead::NoForm,
+        WordsRead::UnknownName => WordsRead::UnknownName,
+    }
 }
 
-fn with_add(found: Option<u32>, value: i64) -> Option<Ask>
-    ensures { result ≡ option_map (λ x. Ask.Add x value) found }
+fn add(var: WordsRead<u32>, value: Option<i64>) -> WordsRead<Ask>
+    ensures { result ≡ asks.with_value Ask.Add var value }
 {
-    found.map(|var| Ask::Add { var, value })
+    let Some(value) = value else {
+        return WordsRead::NoForm;
+    };
+    match var {
+        WordsRead::Is(var) => WordsRead::Is(Ask::Add { var, value }),
+        WordsRead::NoForm => WordsRead::NoForm,
+        WordsRead::UnknownName => WordsRead::UnknownName,
+    }
+}
+
+fn release(cond: WordsRead<u32>, mutex: WordsRead<u32>) -> WordsRead<Ask>
+    ensures { result ≡ asks.on_both Ask.Release cond mutex }
+{
+    match cond {
+        WordsRead::Is(cond) => match mutex {
+            WordsRead::Is(mutex) => WordsRead::Is(Ask::Release { cond, mutex }),
+            WordsRead::NoForm => WordsRead::NoForm,
+            WordsRead::UnknownName => WordsRead::UnknownName,
+        },
+        WordsRead::NoForm => WordsRead::NoForm,
+        WordsRead::UnknownName => match mutex {
+            WordsRead::NoForm => WordsRead::NoForm,
+            WordsRead::Is(_) => WordsRead::UnknownName,
+            WordsRead::UnknownName => WordsRead::UnknownName,
+        },
+    }
+}
+
+fn regain(cond: WordsRead<u32>, mutex: WordsRead<u32>) -> WordsRead<Ask>
+    ensures { result ≡ asks.on_both Ask.Regain cond mutex }
+{
+    match cond {
+        WordsRead::Is(cond) => match mutex {
+            WordsRead::Is(mutex) => WordsRead::Is(Ask::Regain { cond, mutex }),
+            WordsRead::NoForm => WordsRead::NoForm,
+            WordsRead::UnknownName => WordsRead::UnknownName,
+        },
+        WordsRead::NoForm => WordsRead::NoForm,
+        WordsRead::UnknownName => match mutex {
+            WordsRead::NoForm => WordsRead::NoForm,
+            WordsRead::Is(_) => WordsRead::UnknownName,
+            WordsRead::UnknownName => WordsRead::UnknownName,
+        },
+    }
 }
 
 /// An ask of three words.
 #[tactic(auto, unfolding(crate::specs::reader::Asks::ask_on_two))]
-pub fn ask_on_two(names: &Names, word: &[u8], first: &[u8], second: &[u8]) -> Option<Option<Ask>>
+pub fn ask_on_two(names: &Names, word: &[u8], first: &[u8], second: &[u8]) -> WordsRead<Ask>
     ensures { result ≡ asks.ask_on_two names.now word.now first.now second.now }
 {
     if word == WRITE {
-        let var = object(names, NameKind::Var, first)?;
-        let value = value_of(second)?;
-        Some(with_write(var, value))
+        write(object(names, NameKind::Var, first), value_of(second))
     } else if word == ADD {
-        let var = object(names, NameKind::Var, first)?;
-        let value = value_of(second)?;
-        Some(with_add(var, value))
+        add(object(names, NameKind::Var, first), value_of(second))
     } else if word == RELEASE {
-        let cond = object(names, NameKind::Cond, first)?;
-        let mutex = object(names, NameKind::Mutex, second)?;
-        Some(release(cond, mutex))
+        let cond = object(names, NameKind::Cond, first);
+        release(cond, object(names, NameKind::Mutex, second))
     } else if word == REGAIN {
-        let cond = object(names, NameKind::Cond, first)?;
-        let mutex = object(names, NameKind::Mutex, second)?;
-        Some(regain(cond, mutex))
+        let cond = object(names, NameKind::Cond, first);
+        regain(cond, object(names, NameKind::Mutex, second))
     } else {
-        None
+        WordsRead::NoForm
     }
 }
 
-fn release(cond: Option<u32>, mutex: Option<u32>) -> Option<Ask>
-    ensures { result ≡ asks.both Ask.Release cond mutex }
+fn exchange(var: WordsRead<u32>, old: Option<i64>, new: Option<i64>) -> WordsRead<Ask>
+    ensures { result ≡ asks.exchange var old new }
 {
-    match (cond, mutex) {
-        (Some(cond), Some(mutex)) => Some(Ask::Release { cond, mutex }),
-        _ => None,
-    }
-}
-
-fn regain(cond: Option<u32>, mutex: Option<u32>) -> Option<Ask>
-    ensures { result ≡ asks.both Ask.Regain cond mutex }
-{
-    match (cond, mutex) {
-        (Some(cond), Some(mutex)) => Some(Ask::Regain { cond, mutex }),
-        _ => None,
+    let Some(old) = old else {
+        return WordsRead::NoForm;
+    };
+    let Some(new) = new else {
+        return WordsRead::NoForm;
+    };
+    match var {
+        WordsRead::Is(var) => WordsRead::Is(Ask::Cas { var, old, new }),
+        WordsRead::NoForm => WordsRead::NoForm,
+        WordsRead::UnknownName => WordsRead::UnknownName,
     }
 }
 
@@ -293,21 +348,16 @@ pub fn ask_on_three(
     var: &[u8],
     old: &[u8],
     new: &[u8],
-) -> Option<Option<Ask>>
+) -> WordsRead<Ask>
     ensures { result ≡ asks.ask_on_three names.now word.now var.now old.now new.now }
 {
     if word == CAS {
-        let found = object(names, NameKind::Var, var)?;
-        let old = value_of(old)?;
-        let new = value_of(new)?;
-        Some(with_exchange(found, old, new))
+        exchange(
+            object(names, NameKind::Var, var),
+            value_of(old),
+            value_of(new),
+        )
     } else {
-        None
+        WordsRead::NoForm
     }
-}
-
-fn with_exchange(found: Option<u32>, old: i64, new: i64) -> Option<Ask>
-    ensures { result ≡ option_map (λ x. Ask.Cas x old new) found }
-{
-    found.map(|var| Ask::Cas { var, old, new })
 }

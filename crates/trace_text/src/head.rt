@@ -1,8 +1,7 @@
 //! The four lines of a trace's head.
 
 ghost use Rattle.std.specs.Prelude.{◌≡◌, IfOk};
-ghost use Rattle.std.specs.List.{list_all, list_any};
-ghost use Rattle.std.specs.Str.{bytes_eq};
+ghost use Rattle.std.specs.List.{list_all};
 ghost use Rattle.std.specs.Option.{option_map};
 ghost use Rattle.pct_ask.specs.Numbers.{step_counts};
 ghost use Rattle.pct_ask.specs.Words as lexis;
@@ -15,7 +14,7 @@ ghost use Rattle.trace_text.specs.reader.Seen.{seen, cut_value, Gives};
 use crate::fault::{TraceError, TraceFault};
 use crate::line::{cut_line, first_words};
 use crate::number::count_of;
-use pct_ask::{NameKind, Names, OrderList, PointList, is_lawful_name};
+use pct_ask::{NameKind, Names, OrderList, PointList, is_among, is_lawful_name};
 use std::alloc::{AllocError as NoMemory, Global};
 
 const FIRST: &[u8] = b"trace 1";
@@ -73,12 +72,6 @@ pub fn read_version(text: &[u8]) -> Result<(u32, &[u8]), TraceError>
 {
     let (line, after) = cut_line(text);
     head_value(1, version_in(line), after)
-}
-
-fn is_among(word: &[u8], words: &[&[u8]]) -> bool
-    ensures { result ≡ list_any (λ other. bytes_eq word.now other.now) words.now }
-{
-    words.iter().any(|other| word == *other)
 }
 
 fn are_different(words: &[&[u8]]) -> bool

@@ -11,7 +11,7 @@ ghost use Rattle.trace_text.specs.reader.StepLines as lines;
 ghost use Rattle.trace_text.specs.reader.Reading as reading;
 ghost use Rattle.trace_text.specs.reader.Seen.{seen};
 
-use crate::asks::{ask_on_one, ask_on_three, ask_on_two, bare_ask, object};
+use crate::asks::{WordsRead, ask_on_one, ask_on_three, ask_on_two, bare_ask, object};
 use crate::fault::TraceFault;
 use crate::line::first_words;
 use crate::number::{count_of, natural_of, value_of};
@@ -69,24 +69,40 @@ fn is_sign(word: &[u8]) -> bool
     word == SIGN
 }
 
+/// A step whose numbers are read, where its thread and its ask have their forms.
+fn numbered_step(
+    number: u64,
+    thread: WordsRead<u32>,
+    line: u32,
+    ask: WordsRead<Ask>,
+    answer: i64,
+) -> Option<Row>
+    ensures { result ≡ lines.numbered_step number thread line ask answer }
+{
+    if thread.has_form() && ask.has_form() {
+        Some(Row::Step {
+            number,
+            event: event_of(thread.known(), line, ask.known(), answer),
+        })
+    } else {
+        None
+    }
+}
+
 #[tactic(auto, unfolding(crate::specs::reader::StepLines::step_of))]
-fn step_of(names: &Names, around: &Around<'_>, ask: Option<Option<Ask>>) -> Option<Row>
+fn step_of(names: &Names, around: &Around<'_>, ask: WordsRead<Ask>) -> Option<Row>
     ensures { result
         ≡ lines.step_of names.now around.now.number.now around.now.thread.now around.now.line.now
         ask around.now.sign.now around.now.answer.now }
 {
     let number = natural_of(around.number)?;
-    let thread = object(names, NameKind::Thread, around.thread)?;
     let line = count_of(1, 4096, around.line)?;
-    let ask = ask?;
     if !is_sign(around.sign) {
         return None;
     }
     let answer = value_of(around.answer)?;
-    Some(Row::Step {
-        number,
-        event: event_of(thread, line, ask, answer),
-    })
+    let thread = object(names, NameKind::Thread, around.thread);
+    numbered_step(number, thread, line, ask, answer)
 }
 
 fn bare_step(names: &Names, words: &[&[u8]]) -> Option<Row>

@@ -5,7 +5,7 @@ ghost use Rattle.std.specs.Prelude.{OnOk, OnErr, IfOk, length, map, codes, decim
 ghost use Rattle.std.specs.Fmt.{signed_decimal};
 ghost use Rattle.std.specs.List.{slice_index_or, flat_map};
 ghost use Rattle.pct_ask.specs.NameLists.{list_of};
-ghost use Rattle.pct_ask.specs.VerdictText.{thread_name, fault_word, named, IsForm, HasNames};
+ghost use Rattle.pct_ask.specs.VerdictText.{thread_name, named, IsForm, HasNames};
 ghost use Rattle.pct_ask.specs.VerdictText.{IsWhole};
 ghost use Rattle.pct_ask.specs.TraceText.{ask_words, event_words, step_lines, head_lines};
 ghost use Rattle.pct_ask.specs.TraceText.{verdict_line, line_text, trace_text, check_word};
@@ -19,12 +19,12 @@ ghost use Rattle.trace_text.specs.declared.fault.TraceError.{TraceError};
 
 use crate::asks::{
     ADD, ARRIVE, BEGIN, BROADCAST, CAS, CHECK, DOWN, FAILS, FAULT, HOLDS, JOIN, LEAVE, LOCK,
-    OVERFLOW, RD_LOCK, READ, REGAIN, RELEASE, RW_UNLOCK, SIGNAL, SPIN, START, TRY_DOWN, TRY_LOCK,
-    TRY_RD_LOCK, TRY_WR_LOCK, UNLOCK, UP, WR_LOCK, WRITE, YIELD, ZERO_DIVISOR,
+    RD_LOCK, READ, REGAIN, RELEASE, RW_UNLOCK, SIGNAL, START, TRY_DOWN, TRY_LOCK, TRY_RD_LOCK,
+    TRY_WR_LOCK, UNLOCK, UP, WR_LOCK, WRITE, YIELD,
 };
 use crate::fault::TraceError;
 use crate::file::{Header, TraceFile};
-use pct_ask::{Ask, Event, FaultKind, NameKind, Names, Verdict, write_number, write_verdict};
+use pct_ask::{Ask, Event, NameKind, Names, Verdict, fault_word, write_number, write_verdict};
 use std::alloc::{AllocError as NoMemory, Global};
 
 /// A word behind a space.
@@ -126,16 +126,6 @@ fn check_word(holds: bool) -> &'static [u8]
     ensures { result.now ≡ check_word holds }
 {
     if holds { HOLDS } else { FAILS }
-}
-
-fn fault_word(kind: FaultKind) -> &'static [u8]
-    ensures { result.now ≡ fault_word kind }
-{
-    match kind {
-        FaultKind::Overflow => OVERFLOW,
-        FaultKind::ZeroDivisor => ZERO_DIVISOR,
-        FaultKind::Spin => SPIN,
-    }
 }
 
 fn push_cas(out: &mut Vec<u8>, names: &Names, var: u32, old: i64, new: i64) -> Result<(), NoMemory>

@@ -1,8 +1,7 @@
--- How the words of an ask are read (this project). Nothing is read where they have no form, and
--- otherwise the ask, or none where some name isn't declared with the kind that its place needs.
+-- How the words of an ask are read (this project). They are no form of an ask, or they are an ask,
+-- or would be one if each name were declared with the kind that its place needs.
 use Rattle.std.specs.Prelude.{ℕ, ℤ, ◌==◌, ◌&&◌, Bool, true, false, if◌then◌else◌, List, [], ◌∷◌}
 use Rattle.std.specs.Prelude.{Option, Some, None, codes}
-use Rattle.std.specs.Option.{option_map}
 use Rattle.std.specs.Str.{bytes_eq}
 use Rattle.pct_ask.specs.Words.{is_name, is_among}
 use Rattle.pct_ask.specs.NameLists.{NameLists, list_of, place_of}
@@ -16,12 +15,31 @@ use Rattle.pct_ask.specs.declared.ask.Ask.TheVariants.{Release, Regain, Signal, 
 use Rattle.pct_ask.specs.declared.ask.Ask.TheVariants.{TryDown, Up, Arrive, Leave, Join, Yield}
 use Rattle.pct_ask.specs.declared.ask.Ask.TheVariants.{Check, Fault, Start, Begin, RdLock, WrLock}
 use Rattle.pct_ask.specs.declared.ask.Ask.TheVariants.{TryRdLock, TryWrLock, RwUnlock}
+use Rattle.trace_text.specs.declared.asks.WordsRead.{WordsRead}
+use Rattle.trace_text.specs.declared.asks.WordsRead.TheVariants.{Is, NoForm, UnknownName}
 use Rattle.trace_text.specs.reader.Numbers.{value_of}
 
--- A name as an object of a kind: none where it is no lawful name, and otherwise its place, if it is
--- declared so.
-abbrev pub object : NameLists → NameKind → List ℕ → Option (Option ℕ)
-object names kind word = if is_name 1 word then Some (place_of word (list_of kind names)) else None
+-- whether words have the form, be their names known or not
+abbrev pub has_form : {T : Type 0} → WordsRead T → Bool
+has_form (Is what) = true
+has_form NoForm = false
+has_form UnknownName = true
+
+-- what words are, where all their names are known
+abbrev pub known : {T : Type 0} → WordsRead T → Option T
+known (Is what) = Some what
+known NoForm = None
+known UnknownName = None
+
+-- a lawful name with its place, if it has one
+abbrev pub object_at : Option ℕ → WordsRead ℕ
+object_at (Some id) = Is id
+object_at None = UnknownName
+
+-- The place of an object of a kind, by its name. A word that is no lawful name has no form.
+abbrev pub object : NameLists → NameKind → List ℕ → WordsRead ℕ
+object names kind word =
+    if is_name 1 word then object_at (place_of word (list_of kind names)) else NoForm
 
 -- the words that ask something of one object of a kind, with nothing more
 abbrev pub object_words : NameKind → List (List ℕ)
@@ -65,10 +83,10 @@ ask_of RwLock word id =
     else (if bytes_eq word (codes "trywrlock") then TryWrLock id else RwUnlock id)))
 
 -- yield, begin
-abbrev pub bare_ask : List ℕ → Option (Option Ask)
+abbrev pub bare_ask : List ℕ → WordsRead Ask
 bare_ask word =
-    if bytes_eq word (codes "yield") then Some (Some Yield)
-    else (if bytes_eq word (codes "begin") then Some (Some Begin) else None)
+    if bytes_eq word (codes "yield") then Is Yield
+    else (if bytes_eq word (codes "begin") then Is Begin else NoForm)
 
 -- what a check found: 1 where it holds, 0 where it fails
 abbrev pub holds_of : List ℕ → Option Bool
@@ -76,63 +94,64 @@ holds_of word =
     if bytes_eq word (codes "1") then Some true
     else (if bytes_eq word (codes "0") then Some false else None)
 
+-- an ask with an operand that is no object, where the operand is read
+abbrev pub with_operand : {T : Type 0} → (T → Ask) → Option T → WordsRead Ask
+with_operand ask None = NoForm
+with_operand ask (Some operand) = Is (ask operand)
+
 -- check 1, check 0, fault overflow, fault zerodivisor, fault spin
-abbrev pub plain_ask : List ℕ → List ℕ → Option (Option Ask)
+abbrev pub plain_ask : List ℕ → List ℕ → WordsRead Ask
 plain_ask word operand =
-    if bytes_eq word (codes "check")
-    then option_map (λ holds. Some (Check holds)) (holds_of operand)
-    else (if bytes_eq word (codes "fault")
-    then option_map (λ kind. Some (Fault kind)) (fault_kind operand)
-    else None)
+    if bytes_eq word (codes "check") then with_operand Check (holds_of operand)
+    else (if bytes_eq word (codes "fault") then with_operand Fault (fault_kind operand) else NoForm)
+
+-- an ask of one object
+abbrev pub on_object : (ℕ → Ask) → WordsRead ℕ → WordsRead Ask
+on_object ask (Is id) = Is (ask id)
+on_object ask NoForm = NoForm
+on_object ask UnknownName = UnknownName
 
 -- an ask of two words, where the first asks something of an object of this kind, or of none
-abbrev pub ask_by : NameLists → Option NameKind → List ℕ → List ℕ → Option (Option Ask)
+abbrev pub ask_by : NameLists → Option NameKind → List ℕ → List ℕ → WordsRead Ask
 ask_by names None word operand = plain_ask word operand
-ask_by names (Some kind) word operand =
-    option_map (λ found. option_map (ask_of kind word) found) (object names kind operand)
+ask_by names (Some kind) word operand = on_object (ask_of kind word) (object names kind operand)
 
 -- an ask of two words
-unfoldable pub ask_on_one : NameLists → ℕ → List ℕ → List ℕ → Option (Option Ask)
+unfoldable pub ask_on_one : NameLists → ℕ → List ℕ → List ℕ → WordsRead Ask
 ask_on_one names version word operand = ask_by names (kind_of version word) word operand
 
--- an ask of an object and with a number, where both are read
-abbrev pub with_value : (ℕ → ℤ → Ask) → Option (Option ℕ) → Option ℤ → Option (Option Ask)
-with_value ask None value = None
-with_value ask (Some found) None = None
-with_value ask (Some found) (Some value) = Some (option_map (λ x. ask x value) found)
+-- an ask of an object and with a number, where the number is read
+abbrev pub with_value : (ℕ → ℤ → Ask) → WordsRead ℕ → Option ℤ → WordsRead Ask
+with_value ask place None = NoForm
+with_value ask place (Some value) = on_object (λ id. ask id value) place
 
--- an ask of two objects, where both are declared
-abbrev pub both : (ℕ → ℕ → Ask) → Option ℕ → Option ℕ → Option Ask
-both ask None m = None
-both ask (Some c) None = None
-both ask (Some c) (Some m) = Some (ask c m)
-
--- an ask of two objects, where both have lawful names
-abbrev pub waiting : (ℕ → ℕ → Ask) → Option (Option ℕ) → Option (Option ℕ) → Option (Option Ask)
-waiting ask None m = None
-waiting ask (Some c) None = None
-waiting ask (Some c) (Some m) = Some (both ask c m)
+-- an ask of two objects: each has a form, and the names of both are known
+abbrev pub on_both : (ℕ → ℕ → Ask) → WordsRead ℕ → WordsRead ℕ → WordsRead Ask
+on_both ask NoForm second = NoForm
+on_both ask first NoForm = NoForm
+on_both ask UnknownName second = UnknownName
+on_both ask first UnknownName = UnknownName
+on_both ask (Is first) (Is second) = Is (ask first second)
 
 -- an ask of three words: write X V, add X V, release C M, regain C M
-unfoldable pub ask_on_two : NameLists → List ℕ → List ℕ → List ℕ → Option (Option Ask)
+unfoldable pub ask_on_two : NameLists → List ℕ → List ℕ → List ℕ → WordsRead Ask
 ask_on_two names word a b =
     if bytes_eq word (codes "write") then with_value Write (object names Var a) (value_of b)
     else (if bytes_eq word (codes "add") then with_value Add (object names Var a) (value_of b)
     else (if bytes_eq word (codes "release")
-    then waiting Release (object names Cond a) (object names Mutex b)
+    then on_both Release (object names Cond a) (object names Mutex b)
     else (if bytes_eq word (codes "regain")
-    then waiting Regain (object names Cond a) (object names Mutex b)
-    else None)))
+    then on_both Regain (object names Cond a) (object names Mutex b)
+    else NoForm)))
 
--- an exchange, where its object and its two numbers are read
-abbrev pub exchange : Option (Option ℕ) → Option ℤ → Option ℤ → Option (Option Ask)
-exchange None old new = None
-exchange (Some found) None new = None
-exchange (Some found) (Some old) None = None
-exchange (Some found) (Some old) (Some new) = Some (option_map (λ x. Cas x old new) found)
+-- an exchange, where its two numbers are read
+abbrev pub exchange : WordsRead ℕ → Option ℤ → Option ℤ → WordsRead Ask
+exchange place None new = NoForm
+exchange place (Some old) None = NoForm
+exchange place (Some old) (Some new) = on_object (λ id. Cas id old new) place
 
 -- an ask of four words: cas X OLD NEW
-unfoldable pub ask_on_three : NameLists → List ℕ → List ℕ → List ℕ → List ℕ → Option (Option Ask)
+unfoldable pub ask_on_three : NameLists → List ℕ → List ℕ → List ℕ → List ℕ → WordsRead Ask
 ask_on_three names word a b c =
     if bytes_eq word (codes "cas") then exchange (object names Var a) (value_of b) (value_of c)
-    else None
+    else NoForm

@@ -11,8 +11,10 @@ use Rattle.pct_ask.specs.declared.event.Event.{Event}
 use Rattle.pct_ask.specs.declared.verdict_text.VerdictRead.{VerdictRead}
 use Rattle.pct_ask.specs.declared.verdict_text.VerdictRead.TheVariants.{Is, NoForm, UnknownName}
 use Rattle.trace_text.specs.reader.Numbers.{value_of, natural_of}
-use Rattle.trace_text.specs.reader.Asks.{object, bare_ask, ask_on_one, ask_on_two, ask_on_three}
+use Rattle.trace_text.specs.reader.Asks.{has_form, known, object, bare_ask, ask_on_one, ask_on_two}
+use Rattle.trace_text.specs.reader.Asks.{ask_on_three}
 use Rattle.trace_text.specs.Lawful.{is_of_second}
+use Rattle.trace_text.specs.declared.asks.WordsRead.{WordsRead}
 use Rattle.trace_text.specs.declared.row.Row.{Row}
 use Rattle.trace_text.specs.declared.row.Row.TheVariants.{Step, End}
 
@@ -23,21 +25,26 @@ event_of (Some thread) line None answer = None
 event_of (Some thread) line (Some ask) answer =
     Some (record { thread = thread; line = line; ask = ask; answer = answer })
 
+-- a step whose numbers are read, where its thread and its ask have their forms
+abbrev pub numbered_step : ℕ → WordsRead ℕ → ℕ → WordsRead Ask → ℤ → Option Row
+numbered_step number thread line ask answer =
+    if has_form thread && has_form ask
+    then Some (Step number (event_of (known thread) line (known ask) answer))
+    else None
+
 -- a step, where each of its parts is read and `=` stands before the answer
-abbrev pub step_of_parts : Option ℕ → Option (Option ℕ) → Option ℕ → Option (Option Ask) → Bool
-    → Option ℤ → Option Row
+abbrev pub step_of_parts : Option ℕ → WordsRead ℕ → Option ℕ → WordsRead Ask → Bool → Option ℤ
+    → Option Row
 step_of_parts None thread line ask sign answer = None
-step_of_parts (Some n) None line ask sign answer = None
-step_of_parts (Some n) (Some thread) None ask sign answer = None
-step_of_parts (Some n) (Some thread) (Some line) None sign answer = None
-step_of_parts (Some n) (Some thread) (Some line) (Some ask) false answer = None
-step_of_parts (Some n) (Some thread) (Some line) (Some ask) true None = None
-step_of_parts (Some n) (Some thread) (Some line) (Some ask) true (Some answer) =
-    Some (Step n (event_of thread line ask answer))
+step_of_parts (Some n) thread None ask sign answer = None
+step_of_parts (Some n) thread (Some line) ask false answer = None
+step_of_parts (Some n) thread (Some line) ask true None = None
+step_of_parts (Some n) thread (Some line) ask true (Some answer) =
+    numbered_step n thread line ask answer
 
 -- the parts of a step line, but for its ask
-unfoldable pub step_of : NameLists → List ℕ → List ℕ → List ℕ → Option (Option Ask) → List ℕ
-    → List ℕ → Option Row
+unfoldable pub step_of : NameLists → List ℕ → List ℕ → List ℕ → WordsRead Ask → List ℕ → List ℕ
+    → Option Row
 step_of names number thread line ask sign answer =
     step_of_parts (natural_of number) (object names Thread thread) (line_number line) ask
     (bytes_eq sign (codes "=")) (value_of answer)

@@ -6,7 +6,9 @@ use Rattle.std.proofs.Common.{◌≡◌, ℕ, ◌||◌, List, [], ◌∷◌, Bor
 use Rattle.pct_ask.specs.Words.{is_among}
 use Rattle.pct_ask.proofs.words.is_among.Goals as goal
 
-any-held : (word : List ℕ) (words : List (Bor (List ℕ))) → list_any (λ other. bytes_eq word other.now) words ≡ is_among word (map (λ other. other.now) words)
+any-held : (word : List ℕ) (words : List (Bor (List ℕ)))
+    → list_any (λ other. bytes_eq word other.now) words ≡ is_among word
+    (map (λ other. other.now) words)
 any-held word [] = refl
 any-held word (other ∷ others) = ap (λ b. bytes_eq word other.now || b) (any-held word others)
 
