@@ -1,5 +1,6 @@
 -- Bodies that may be shown name only what there is, and what there is has names.
-use Rattle.std.proofs.Common.{◌≡◌, ◌≢◌, ℕ, ℤ, pos, zero, suc, ◌+◌, ◌<◌, List, [], ◌∷◌, length, map, get_or, Some, refl, sym, ap, subst, ◌∙◌, arith, inl, inr}
+use Rattle.std.proofs.Common.{◌≡◌, ◌≢◌, ℕ, ℤ, pos, zero, suc, ◌+◌, ◌<◌, List, [], ◌∷◌, length, map}
+use Rattle.std.proofs.Common.{get_or, Some, refl, sym, ap, subst, ◌∙◌, arith, inl, inr}
 use Rattle.std.specs.Prelude.{All}
 use Rattle.std.specs.List.{AllPairs}
 use Rattle.std.proofs.lemmas.Bool.{cases_lt}
@@ -8,7 +9,11 @@ use Rattle.std.proofs.lemmas.List.Elements.{All-cons, All-nil}
 use Rattle.pct_ask.specs.VerdictText.{IsLine}
 use Rattle.pct_ask.specs.declared.Deal.{Deal}
 use Rattle.pct_ask.specs.declared.ask.Ask.{Ask}
-use Rattle.pct_ask.specs.declared.ask.Ask.TheVariants.{Read, Write, Add, Cas, Lock, TryLock, Unlock, Release, Regain, Signal, Broadcast, Down, TryDown, Up, Arrive, Leave, Join, Yield, Check, Fault, Start, Begin, RdLock, WrLock, TryRdLock, TryWrLock, RwUnlock}
+use Rattle.pct_ask.specs.declared.ask.Ask.TheVariants.{Read, Write, Add, Cas, Lock, TryLock, Unlock}
+use Rattle.pct_ask.specs.declared.ask.Ask.TheVariants.{Release, Regain, Signal, Broadcast, Down}
+use Rattle.pct_ask.specs.declared.ask.Ask.TheVariants.{TryDown, Up, Arrive, Leave, Join, Yield}
+use Rattle.pct_ask.specs.declared.ask.Ask.TheVariants.{Check, Fault, Start, Begin, RdLock, WrLock}
+use Rattle.pct_ask.specs.declared.ask.Ask.TheVariants.{TryRdLock, TryWrLock, RwUnlock}
 use Rattle.rank_now.specs.Order.{IsFirstWrong}
 use Rattle.sync_store.specs.Store.{Sizes, sizes_of_deal}
 use Rattle.sync_store.specs.Enabled.{IsInRange}
@@ -61,7 +66,8 @@ objects (TryRdLock l) h = absurd (omega arith)
 objects (TryWrLock l) h = absurd (omega arith)
 objects (RwUnlock l) h = absurd (omega arith)
 
-pub mapped-three : {X : Type 0} (pending : X → Pending) (items : List X) → length items ≡ 3 → length (map pending items) ≡ 3
+pub mapped-three : {X : Type 0} (pending : X → Pending) (items : List X) → length items ≡ 3
+    → length (map pending items) ≡ 3
 mapped-three pending items three = length-map items pending ∙ three
 
 module _ (bodies : List Pending) (three : length bodies ≡ 3) (all : All IsShowable bodies) where
@@ -75,9 +81,11 @@ module _ (bodies : List Pending) (three : length bodies ≡ 3) (all : All IsShow
   ]
 
   pub are-in-range : (deal : Deal) → IsTestDeal deal → AreInRange (sizes_of_deal deal) bodies
-  are-in-range deal is = let P : Sizes → Type 0 = λ sizes. AreInRange sizes bodies in subst P (sym (sizes-are deal is)) in-range
+  are-in-range deal is = let P : Sizes → Type 0 = λ sizes. AreInRange sizes bodies in
+      subst P (sym (sizes-are deal is)) in-range
 
-  pub asked : (t : ℕ) (answers : List ℤ) (ask : Ask) → (pending_of bodies t answers).ask ≡ Some ask → IsAsked test_names 1 t (pending_of bodies t answers).line ask
+  pub asked : (t : ℕ) (answers : List ℤ) (ask : Ask) → (pending_of bodies t answers).ask ≡ Some ask
+      → IsAsked test_names 1 t (pending_of bodies t answers).line ask
   asked t answers ask asks = elim (cases_lt t (length bodies)) [
     | inl below ↦ record {
       at = omega (arith, three, below);
@@ -140,17 +148,33 @@ none-two (suc zero) below is = absurd (omega (arith, is))
 none-two (suc (suc k)) below is = absurd (omega arith)
 
 pub no-wrong-order : (at : ℕ) → IsFirstWrong (0 ∷ 1 ∷ 2 ∷ []) at → ⊥
-no-wrong-order zero w = elim w.wrong [ inl past ↦ absurd (omega (arith, past)) | inr again ↦ none-zero again.0 again.1 ]
-no-wrong-order (suc zero) w = elim w.wrong [ inl past ↦ absurd (omega (arith, past)) | inr again ↦ none-one again.0 again.1 again.2 ]
-no-wrong-order (suc (suc zero)) w = elim w.wrong [ inl past ↦ absurd (omega (arith, past)) | inr again ↦ none-two again.0 again.1 again.2 ]
+no-wrong-order zero w = elim w.wrong [
+  | inl past ↦ absurd (omega (arith, past))
+  | inr again ↦ none-zero again.0 again.1
+]
+no-wrong-order (suc zero) w = elim w.wrong [
+  | inl past ↦ absurd (omega (arith, past))
+  | inr again ↦ none-one again.0 again.1 again.2
+]
+no-wrong-order (suc (suc zero)) w = elim w.wrong [
+  | inl past ↦ absurd (omega (arith, past))
+  | inr again ↦ none-two again.0 again.1 again.2
+]
 no-wrong-order (suc (suc (suc k))) w = absurd (let within = w.within in omega arith)
 
 -- ---- bodies in boxes
-three-all : (one other last : Pending) → IsShowable one → IsShowable other → IsShowable last → All IsShowable (one ∷ other ∷ last ∷ [])
-three-all one other last a b c = All-cons IsShowable one (other ∷ last ∷ []) a (All-cons IsShowable other (last ∷ []) b (All-cons IsShowable last [] c (All-nil IsShowable)))
+three-all : (one other last : Pending) → IsShowable one → IsShowable other → IsShowable last
+    → All IsShowable (one ∷ other ∷ last ∷ [])
+three-all one other last a b c =
+    All-cons IsShowable one (other ∷ last ∷ []) a
+    (All-cons IsShowable other (last ∷ []) b (All-cons IsShowable last [] c (All-nil IsShowable)))
 
-pub boxed-showable : {X : Type 0} (pending : X → Pending) (items : List X) (one other last : X) → items ≡ one ∷ other ∷ last ∷ [] → IsShowable (pending one) → IsShowable (pending other) → IsShowable (pending last) → All IsShowable (map pending items)
-boxed-showable pending items one other last is a b c = subst (All IsShowable) (sym (ap (map pending) is)) (three-all (pending one) (pending other) (pending last) a b c)
+pub boxed-showable : {X : Type 0} (pending : X → Pending) (items : List X) (one other last : X)
+    → items ≡ one ∷ other ∷ last ∷ [] → IsShowable (pending one) → IsShowable (pending other)
+    → IsShowable (pending last) → All IsShowable (map pending items)
+boxed-showable pending items one other last is a b c =
+    subst (All IsShowable) (sym (ap (map pending) is))
+    (three-all (pending one) (pending other) (pending last) a b c)
 
 post-line : (t steps : ℕ) (seen : ℤ) → IsLine (sample_post t steps seen).line
 post-line zero zero seen = (omega arith, omega arith)
@@ -165,12 +189,15 @@ post-line (suc (suc t)) (suc (suc zero)) seen = (omega arith, omega arith)
 post-line (suc (suc t)) (suc (suc (suc zero))) seen = (omega arith, omega arith)
 post-line (suc (suc t)) (suc (suc (suc (suc steps)))) seen = (omega arith, omega arith)
 
-sample-line : (t steps : ℕ) (seen : ℤ) (answers : List ℤ) → IsLine (sample_pending t steps seen answers).line
+sample-line : (t steps : ℕ) (seen : ℤ) (answers : List ℤ)
+    → IsLine (sample_pending t steps seen answers).line
 sample-line t steps seen [] = post-line t steps seen
 sample-line t steps seen (answer ∷ answers) = sample-line t (steps + 1) answer answers
 
 pub sample-showable : (t : ℕ) → IsShowable (sample_pending t 0 (pos 0))
 sample-showable t = record {
-  in_range = samples-within test_sizes (omega arith) (omega arith) (λ (t : ℕ). t) (λ (t : ℕ). 0) (λ (t : ℕ). pos 0) (t ∷ []) 0;
+  in_range =
+      samples-within test_sizes (omega arith) (omega arith) (λ (t : ℕ). t) (λ (t : ℕ). 0)
+      (λ (t : ℕ). pos 0) (t ∷ []) 0;
   lines = sample-line t 0 (pos 0);
 }

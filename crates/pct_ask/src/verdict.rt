@@ -40,7 +40,7 @@ pub enum Verdict {
         line: u32,
         kind: FaultKind,
     },
-    /// The run has as many steps as it may have.
+    /// The run would go on beyond its limit.
     Cut,
 }
 

@@ -5,6 +5,7 @@ ghost use Rattle.turn_lock.specs.Seen.{owes_of};
 ghost use Rattle.turn_lock.specs.Rule.{Serves};
 ghost use Rattle.turn_lock.specs.Calls.{ServesAll};
 ghost use Rattle.turn_lock.specs.Views.{view, IsOf};
+ghost use Rattle.test_runs.specs.Seats.{IsReadyFor, IsBackFrom};
 
 use crate::deals::deal_of;
 use crate::steps::{IN_ORDER, READ};
@@ -60,6 +61,30 @@ fn check<R: Wait>(rt: &R, kit: &Kit, mut seat: Seat<Pct>) -> Seat<Pct>
     port.end(rt, 16)
 }
 
+/// The second counter runs, and the thread that checks.
+fn run_two<R: Threads + Wait + Sync>(
+    rt: &R,
+    kit: &Kit,
+    other: Seat<Pct>,
+    last: Seat<Pct>,
+) -> (Seat<Pct>, Seat<Pct>)
+    requires counter { IsReadyFor kit.now other 1 }
+    requires checker { IsReadyFor kit.now last 2 × (2 ≤ (view last).seen.deal.threads) }
+    ensures { IsBackFrom kit.now result.0 1 × IsBackFrom kit.now result.1 2 }
+{
+    join(
+        rt,
+        move || -> Seat<Pct>
+            requires { IsReadyFor kit.now other 1 }
+            ensures { IsBackFrom kit.entry.now result 1 }
+        { count(rt, kit, other, 1, 8) },
+        move || -> Seat<Pct>
+            requires { IsReadyFor kit.now last 2 × (2 ≤ (view last).seen.deal.threads) }
+            ensures { IsBackFrom kit.entry.now result 2 }
+        { check(rt, kit, last) },
+    )
+}
+
 /// The three threads run, and their seats are joined.
 fn run_all<R: Threads + Wait + Sync>(
     rt: &R,
@@ -79,47 +104,16 @@ fn run_all<R: Threads + Wait + Sync>(
     let (one, (other, last)) = join(
         rt,
         move || -> Seat<Pct>
-            requires { IsOf kit.now one
-                × Serves (view one) 0
-                × (owes_of (view one).seen 0 ≡ true)
-                × (1 ≤ length (view one).seen.deal.vars) }
-            ensures { IsOf kit.entry.now result × Serves (view result) 0 }
+            requires { IsReadyFor kit.now one 0 }
+            ensures { IsBackFrom kit.entry.now result 0 }
         { count(rt, kit, one, 0, 4) },
         move || -> (Seat<Pct>, Seat<Pct>)
             requires { IsSync R.row
-                × (IsOf kit.now other
-                × Serves (view other) 1
-                × (owes_of (view other).seen 1 ≡ true)
-                × (1 ≤ length (view other).seen.deal.vars))
-                × (IsOf kit.now last
-                × Serves (view last) 2
-                × (owes_of (view last).seen 2 ≡ true)
-                × (1 ≤ length (view last).seen.deal.vars)
-                × (2 ≤ (view last).seen.deal.threads)) }
-            ensures { IsOf kit.entry.now result.0
-                × Serves (view result.0) 1
-                × IsOf kit.entry.now result.1
-                × Serves (view result.1) 2 }
-        {
-            join(
-                rt,
-                move || -> Seat<Pct>
-                    requires { IsOf kit.now other
-                        × Serves (view other) 1
-                        × (owes_of (view other).seen 1 ≡ true)
-                        × (1 ≤ length (view other).seen.deal.vars) }
-                    ensures { IsOf kit.entry.now result × Serves (view result) 1 }
-                { count(rt, kit, other, 1, 8) },
-                move || -> Seat<Pct>
-                    requires { IsOf kit.now last
-                        × Serves (view last) 2
-                        × (owes_of (view last).seen 2 ≡ true)
-                        × (1 ≤ length (view last).seen.deal.vars)
-                        × (2 ≤ (view last).seen.deal.threads) }
-                    ensures { IsOf kit.entry.now result × Serves (view result) 2 }
-                { check(rt, kit, last) },
-            )
-        },
+                × IsReadyFor kit.now other 1
+                × IsReadyFor kit.now last 2
+                × (2 ≤ (view last).seen.deal.threads) }
+            ensures { IsBackFrom kit.entry.now result.0 1 × IsBackFrom kit.entry.now result.1 2 }
+        { run_two(rt, kit, other, last) },
     );
     owned.join(&mut seat, one);
     owned.join(&mut seat, other);

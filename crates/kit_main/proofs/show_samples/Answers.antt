@@ -7,4 +7,7 @@ use Rattle.kit_main.proofs.show_samples.Goals as goal
 pub show-requires-clause-bodies : goal.show-requires-clause-bodies
 show-requires-clause-bodies g c = λ κs p.
     let S : Pending → Type 0 = IsShowable in
-    boxed-showable _ _ c.args.one c.args.other c.args.last c.in-Ok.ensures (subst S (sym c.requires.one) (sample-showable 0)) (subst S (sym c.requires.other) (sample-showable 1)) (subst S (sym c.requires.last) (sample-showable 2))
+    boxed-showable _ _ c.args.one c.args.other c.args.last c.in-Ok.ensures
+    (subst S (sym c.requires.one) (sample-showable 0))
+    (subst S (sym c.requires.other) (sample-showable 1))
+    (subst S (sym c.requires.last) (sample-showable 2))

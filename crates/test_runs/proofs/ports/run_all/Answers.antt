@@ -9,10 +9,10 @@ pub join-requires : goal.join-requires
 join-requires g c = record { of = (c.split-last.ensures.of.0, c.join-one.ensures.first.0) }
 
 pub join-requires-2 : goal.join-requires-2
-join-requires-2 g c = record { of = (c.join.ensures.of, c.join-one.ensures.second.0) }
+join-requires-2 g c = record { of = (c.join.ensures.of, c.join-one.ensures.second.0.0) }
 
 pub join-requires-3 : goal.join-requires-3
-join-requires-3 g c = record { of = (c.join-2.ensures.of, c.join-one.ensures.second.2) }
+join-requires-3 g c = record { of = (c.join-2.ensures.of, c.join-one.ensures.second.1.0) }
 
 pub close-requires-clause-all : goal.close-requires-clause-all
 close-requires-clause-all g c =
@@ -26,5 +26,5 @@ close-requires-clause-all g c =
     ∙ ap (λ (v : View). v.seen.deal) (c.split-one.ensures.left) in
     three-served (view c.join-3.new.seat) (ap (λ (d : Deal). d.threads) same ∙ c.requires.threads)
     (third.serves 0 (inl (second.serves 0 (inl (first.serves 0 (inr c.join-one.ensures.first.1))))))
-    (third.serves 1 (inl (second.serves 1 (inr c.join-one.ensures.second.1))))
-    (third.serves 2 (inr c.join-one.ensures.second.3))
+    (third.serves 1 (inl (second.serves 1 (inr c.join-one.ensures.second.0.1))))
+    (third.serves 2 (inr c.join-one.ensures.second.1.1))

@@ -7,5 +7,8 @@ use Rattle.test_top.proofs.meetings.lookers.Goals as goal
 pub loop-thread-preserved : goal.loop-thread-preserved
 loop-thread-preserved c =
     let code = listing c.args.code.now in
-    let within : c.loop-thread.thread < length code = omega (arith, c.loop-thread-test.true, c.threads-thread-end.ensures) in
-    one_more (λ b. pending_of b.body) code c.loop-thread.lookers.items c.push.new.self.items _ c.loop-thread.thread within c.loop-thread.invariant c.in_ok-push.ensures.items c.new-body.ensures.code
+    let within : c.loop-thread.thread < length code =
+    omega (arith, c.loop-thread-test.true, c.threads-thread-end.ensures) in
+    one_more (λ b. pending_of b.body) code c.loop-thread.lookers.items c.push.new.self.items _
+    c.loop-thread.thread within c.loop-thread.invariant c.in_ok-push.ensures.items
+    c.new-body.ensures.code

@@ -6,4 +6,5 @@ use Rattle.test_top.proofs.meetings.lookers.Given as goal
 
 -- the bodies so far are those of the first threads
 abbrev pub invariant-loop-thread : goal.invariant-loop-thread
-invariant-loop-thread l = map (λ b. pending_of b.body) l.lookers.items ≡ map flat_pending (take l.thread (listing l.code))
+invariant-loop-thread l =
+    map (λ b. pending_of b.body) l.lookers.items ≡ map flat_pending (take l.thread (listing l.code))
