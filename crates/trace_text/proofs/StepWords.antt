@@ -1,8 +1,7 @@
 -- A step and a verdict are read of their lines, and of nothing else.
-use Rattle.std.specs.Prelude.{codes, decimal, ◌&&◌, nat_le, if◌then◌else◌}
+use Rattle.std.specs.Prelude.{codes, decimal, ◌&&◌, if◌then◌else◌}
 use Rattle.std.specs.Str.{bytes_eq}
-use Rattle.std.proofs.Common.{◌≡◌, ℕ, ◌<◌, ◌≤◌, ◌^◌, Bool, true, false, List, [], ◌∷◌, ◌++◌, ℤ, pos, negsuc, Option, Some, None, refl, ap, ◌∙◌, arith}
-use Rattle.std.proofs.lemmas.Bool.Decides.{nat_tests}
+use Rattle.std.proofs.Common.{◌≡◌, ℕ, ◌<◌, ◌^◌, Bool, true, false, List, [], ◌∷◌, ◌++◌, ℤ, pos, negsuc, Option, Some, None, refl, ap, ◌∙◌, arith}
 use Rattle.std.proofs.lemmas.Slice.Eq.{bytes_eq-Decides}
 use Rattle.pct_ask.specs.NameLists.{NameLists, AreNames}
 use Rattle.pct_ask.specs.Numbers.{number_text}
