@@ -7,11 +7,11 @@ use Rattle.pct_ask.specs.declared.ask.Post.{Post}
 use Rattle.pct_ask.specs.declared.event.Event.{Event}
 use Rattle.pct_ask.specs.declared.event.Standing.TheVariants.{Ended as HasEnded}
 use Rattle.pct_ask.specs.declared.verdict.Outcome.{Outcome}
-use Rattle.turn_book.specs.Posts.{events_of, posts_of}
-use Rattle.turn_book.specs.Told.{Told, IsAnswered, next_post, standing_by, standing_of, post_of_event}
+use Rattle.turn_book.specs.Posts.{own_events, posts_of}
+use Rattle.turn_book.specs.Told.{BookState, IsAnswered, next_post, standing_by, standing_of, post_of_event}
 use Rattle.turn_book.specs.declared.taken.Because.{Because}
 use Rattle.turn_book.proofs.laws.OwnSteps.{events-own}
-use Rattle.turn_lock.specs.Seen.{SameOf, pairs_of, posted_by, owes_of}
+use Rattle.turn_lock.specs.Seen.{SameOf, pairs_of, posts_seen, owes_of}
 use Rattle.turn_lock.specs.Rule.{Serves}
 use Rattle.turn_lock.specs.Turns.{IsAsked, GainsPair, TookTurn, TookAtLast}
 use Rattle.turn_lock.specs.declared.turn.Turn.{Turn}
@@ -21,7 +21,7 @@ use Rattle.turn_lock.proofs.laws.SeenBooks.{within-along}
 use Rattle.turn_lock.proofs.laws.Standings.{owes-length}
 use Rattle.body_kit.specs.declared.asked.Asked.{Asked}
 use Rattle.body_kit.specs.declared.asked.Asked.TheVariants as tells
-use Rattle.body_kit.specs.Asking.{ask_post, end_post, step_of, IsGiven, IsAnsweredAsk, IsToldOver, AskTells, IsEnded, GoesOn, as_turn}
+use Rattle.body_kit.specs.Asking.{ask_post, end_post, event_of_ask, IsGivenPost, IsAnsweredAsk, IsToldOver, AskTells, IsEnded, SeatGoesOn, as_turn}
 
 -- ---- lists
 get-last : {X : Type 0} (xs : List X) (x : X) → slice_get (xs ++ x ∷ []) (length xs) ≡ Some x
@@ -29,7 +29,7 @@ get-last [] x = refl
 get-last (y ∷ xs) x = get-last xs x
 
 -- ---- a step by its parts
-step-is : (e : Event) (t : ℕ) (ask : Ask) (line : ℕ) (answer : ℤ) → ask_post ask line ≡ post_of_event e → e.thread ≡ t → e.answer ≡ answer → e ≡ step_of t ask line answer
+step-is : (e : Event) (t : ℕ) (ask : Ask) (line : ℕ) (answer : ℤ) → ask_post ask line ≡ post_of_event e → e.thread ≡ t → e.answer ≡ answer → e ≡ event_of_ask t ask line answer
 step-is e t ask line answer posted thread is =
     let some = ap (λ (p : Post). p.ask) posted in
     let asked : e.ask ≡ ask = cc in
@@ -41,55 +41,55 @@ module _ (v w : View) (t : ℕ) (mine : Serves v t) (given : Option Post) where
   pairs-taken : (turn : Turn) → (took : TookTurn v t given turn w) → pairs_of (took.turn).asked t ≡ pairs_of v.seen t
   pairs-taken turn took = by given (took.turn).posted ∙ (took.own t mine).pairs where
     by : (post : Option Post) → IsAsked took.book t post (took.turn).asked → pairs_of (took.turn).asked t ≡ pairs_of took.book t
-    by None same = ap (λ (b : Told). pairs_of b t) same
+    by None same = ap (λ (b : BookState). pairs_of b t) same
     by (Some post) p = by-outcome (took.book).outcome refl where
       by-outcome : (o : Option Outcome) → (took.book).outcome ≡ o → pairs_of (took.turn).asked t ≡ pairs_of took.book t
-      by-outcome None is = ap (events_of t) (p.0 is).trace
-      by-outcome (Some outcome) is = ap (λ (b : Told). pairs_of b t) (p.1 (ap is_some is))
+      by-outcome None is = ap (own_events t) (p.0 is).trace
+      by-outcome (Some outcome) is = ap (λ (b : BookState). pairs_of b t) (p.1 (ap is_some is))
 
   -- an outcome that stood before the post stands after it
-  open-before : (book asked : Told) (post : Option Post) → IsAsked book t post asked → asked.outcome ≡ None → book.outcome ≡ None
-  open-before book asked None same e = ap (λ (b : Told). b.outcome) (sym same) ∙ e
+  open-before : (book asked : BookState) (post : Option Post) → IsAsked book t post asked → asked.outcome ≡ None → book.outcome ≡ None
+  open-before book asked None same e = ap (λ (b : BookState). b.outcome) (sym same) ∙ e
   open-before book asked (Some post) p e = by book.outcome refl where
     by : (o : Option Outcome) → book.outcome ≡ o → book.outcome ≡ None
     by None is = is
-    by (Some outcome) is = ap (λ (b : Told). b.outcome) (sym (p.1 (ap is_some is))) ∙ e
+    by (Some outcome) is = ap (λ (b : BookState). b.outcome) (sym (p.1 (ap is_some is))) ∙ e
 
-  pub late-same : (book asked : Told) (post : Option Post) → IsAsked book t post asked → IsSome book.outcome → asked ≡ book
+  pub late-same : (book asked : BookState) (post : Option Post) → IsAsked book t post asked → IsSome book.outcome → asked ≡ book
   late-same book asked None same late = same
   late-same book asked (Some post) p late = p.1 late
 
   -- the thread's answer is that of its last post
-  module _ (ask : Ask) (line : ℕ) (answer : ℤ) (took : TookTurn v t given (Answer answer) w) (next : slice_get (posted_by v.seen t ++ option_to_list given) (length (pairs_of v.seen t)) ≡ Some (ask_post ask line)) where
-    abbrev asked : Told
+  module _ (ask : Ask) (line : ℕ) (answer : ℤ) (took : TookTurn v t given (Answer answer) w) (next : slice_get (posts_seen v.seen t ++ option_to_list given) (length (pairs_of v.seen t)) ≡ Some (ask_post ask line)) where
+    abbrev asked : BookState
     asked = (took.turn).asked
 
     abbrev by_step : IsAnswered asked t answer w.seen
     by_step = (took.turn).row.2
 
-    pub answer-posts : posted_by w.seen t ≡ posted_by v.seen t ++ option_to_list given
+    pub answer-posts : posts_seen w.seen t ≡ posts_seen v.seen t ++ option_to_list given
     answer-posts = took.posts (open-before took.book asked given (took.turn).posted (took.turn).row.0)
 
     same-post : Some (ask_post ask line) ≡ Some (post_of_event by_step.event)
     same-post =
         sym next
         ∙ ap (λ ps. slice_get ps (length (pairs_of v.seen t))) (sym answer-posts ∙ ap (λ ps. posts_of ps t) by_step.posts)
-        ∙ ap (λ (es : List Event). slice_get (posted_by asked t) (length es)) (sym (pairs-taken (Answer answer) took))
+        ∙ ap (λ (es : List Event). slice_get (posts_seen asked t) (length es)) (sym (pairs-taken (Answer answer) took))
         ∙ by_step.asked
 
-    same-step : by_step.event ≡ step_of t ask line answer
+    same-step : by_step.event ≡ event_of_ask t ask line answer
     same-step = let posted : ask_post ask line ≡ post_of_event by_step.event = let e = same-post in cc in step-is by_step.event t ask line answer posted by_step.thread by_step.answer
 
-    trace-is : w.seen.trace ≡ asked.trace ++ step_of t ask line answer ∷ []
+    trace-is : w.seen.trace ≡ asked.trace ++ event_of_ask t ask line answer ∷ []
     trace-is = by_step.trace ∙ ap (λ (e : Event). asked.trace ++ e ∷ []) same-step
 
-    pub answer-last : (before : List Event) × (w.seen.trace ≡ before ++ step_of t ask line answer ∷ [])
+    pub answer-last : (before : List Event) × (w.seen.trace ≡ before ++ event_of_ask t ask line answer ∷ [])
     answer-last = (asked.trace, trace-is)
 
-    pub answer-pairs : pairs_of w.seen t ≡ pairs_of v.seen t ++ step_of t ask line answer ∷ []
+    pub answer-pairs : pairs_of w.seen t ≡ pairs_of v.seen t ++ event_of_ask t ask line answer ∷ []
     answer-pairs =
-        ap (events_of t) trace-is ∙ events-own t asked.trace (step_of t ask line answer) refl
-        ∙ ap (λ (es : List Event). es ++ step_of t ask line answer ∷ []) (pairs-taken (Answer answer) took)
+        ap (own_events t) trace-is ∙ events-own t asked.trace (event_of_ask t ask line answer) refl
+        ∙ ap (λ (es : List Event). es ++ event_of_ask t ask line answer ∷ []) (pairs-taken (Answer answer) took)
 
   -- ---- without an answer
   same-pairs : (turn : Turn) → ((value : ℤ) → turn ≡ Answer value → ⊥) → GainsPair v.seen t turn w.seen → pairs_of w.seen t ≡ pairs_of v.seen t
@@ -100,9 +100,9 @@ module _ (v w : View) (t : ℕ) (mine : Serves v t) (given : Option Post) where
   same-pairs (Over outcome) not e = e
 
   pub over-stands : (outcome : Outcome) → TookTurn v t given (Over outcome) w → w.seen.outcome ≡ Some outcome
-  over-stands outcome took = ap (λ (b : Told). b.outcome) (took.turn).row.1 ∙ (took.turn).row.0
+  over-stands outcome took = ap (λ (b : BookState). b.outcome) (took.turn).row.1 ∙ (took.turn).row.0
 
-  pub goes-on : (turn : Turn) → TookTurn v t given turn w → GoesOn v w
+  pub goes-on : (turn : Turn) → TookTurn v t given turn w → SeatGoesOn v w
   goes-on turn took = record { within = took.grown; lawful = (took.turn).lawful; serves = took.serves }
 
 -- ---- the first call, with the post
@@ -115,7 +115,7 @@ module _ (v w : View) (t : ℕ) (mine : Serves v t) (post : Post) where
   as-asked (Busy holder) not took = absurd (took.turn).row
   as-asked (Over outcome) not took = (took.turn).row.1
 
-  abbrev pub given : (turn : Turn) → ((value : ℤ) → turn ≡ Answer value → ⊥) → TookTurn v t (Some post) turn w → IsGiven v t post w
+  abbrev pub given : (turn : Turn) → ((value : ℤ) → turn ≡ Answer value → ⊥) → TookTurn v t (Some post) turn w → IsGivenPost v t post w
   given turn not took = record {
     book = took.book;
     within = took.within;
@@ -133,15 +133,15 @@ module _ (v w : View) (t : ℕ) (mine : Serves v t) (post : Post) where
 
   pub posted-end : (line : ℕ) (turn : Turn) → post ≡ end_post line → ((value : ℤ) → turn ≡ Answer value → ⊥) → TookTurn v t (Some post) turn w → IsEnded v t line w
   posted-end line turn is not took =
-      let P : Post → Type 0 = λ p. IsGiven v t p w in
+      let P : Post → Type 0 = λ p. IsGivenPost v t p w in
       record { pairs = same-pairs v w t mine (Some post) turn not took.pairs; given = subst P is (given turn not took) }
 
 pub told-answer : (v w : View) (t : ℕ) → Serves v t → owes_of v.seen t ≡ true → (ask : Ask) (line : ℕ) (answer : ℤ) → TookAtLast v t (Some (ask_post ask line)) (Answer answer) w → IsAnsweredAsk v t ask line answer w
 told-answer v w t mine owes ask line answer last =
     let given = Some (ask_post ask line) in
     let took = last.took in
-    let next : slice_get (posted_by v.seen t ++ option_to_list given) (length (pairs_of v.seen t)) ≡ Some (ask_post ask line) =
-    ap (λ k. slice_get (posted_by v.seen t ++ ask_post ask line ∷ []) k) (sym (owes-length v.seen t owes)) ∙ get-last (posted_by v.seen t) (ask_post ask line) in
+    let next : slice_get (posts_seen v.seen t ++ option_to_list given) (length (pairs_of v.seen t)) ≡ Some (ask_post ask line) =
+    ap (λ k. slice_get (posts_seen v.seen t ++ ask_post ask line ∷ []) k) (sym (owes-length v.seen t owes)) ∙ get-last (posts_seen v.seen t) (ask_post ask line) in
     record {
       pairs = answer-pairs v w t mine given ask line answer took next;
       last = answer-last v w t mine given ask line answer took next;
@@ -150,19 +150,19 @@ told-answer v w t mine owes ask line answer last =
     }
 
 -- ---- the thread has asked, and waits
-pub next-same : (t : ℕ) (one other : Told) → SameOf t one other → next_post other t ≡ next_post one t
+pub next-same : (t : ℕ) (one other : BookState) → SameOf t one other → next_post other t ≡ next_post one t
 next-same t one other s = λ i. slice_get (s.posts i) (length (s.pairs i))
 
-not-ended : (seen : Told) (t : ℕ) (ask : Ask) (line : ℕ) → next_post seen t ≡ Some (ask_post ask line) → standing_of seen t ≡ HasEnded → ⊥
+not-ended : (seen : BookState) (t : ℕ) (ask : Ask) (line : ℕ) → next_post seen t ≡ Some (ask_post ask line) → standing_of seen t ≡ HasEnded → ⊥
 not-ended seen t ask line next ended = let both = sym (ap standing_by next) ∙ ended in cc
 
 pub record HasAsked (v : View) (t : ℕ) (post : Post) (w : View) : Type 0 where
-  pub posts : posted_by w.seen t ≡ posted_by v.seen t ++ post ∷ []
+  pub posts : posts_seen w.seen t ≡ posts_seen v.seen t ++ post ∷ []
   pub pairs : pairs_of w.seen t ≡ pairs_of v.seen t
   pub next : next_post w.seen t ≡ Some post
-  pub given : IsGiven v t post w
+  pub given : IsGivenPost v t post w
   pub running : (given.book).outcome ≡ None
-  pub on : GoesOn v w
+  pub on : SeatGoesOn v w
   pub takes : v.takes < w.takes
 
 module _ (v w : View) (t : ℕ) (mine : Serves v t) (owes : owes_of v.seen t ≡ true) (ask : Ask) (line : ℕ) where
@@ -175,9 +175,9 @@ module _ (v w : View) (t : ℕ) (mine : Serves v t) (owes : owes_of v.seen t ≡
 
     asked-next : next_post (took.turn).asked t ≡ Some post
     asked-next =
-        ap (λ ps. slice_get ps (length (pairs_of (took.turn).asked t))) (ap (λ (b : Told). posted_by b t) (sym (as-asked v w t mine post turn not took)) ∙ took.posts still)
-        ∙ ap (λ k. slice_get (posted_by v.seen t ++ post ∷ []) k) (ap length (pairs-taken v w t mine (Some post) turn took) ∙ sym (owes-length v.seen t owes))
-        ∙ get-last (posted_by v.seen t) post
+        ap (λ ps. slice_get ps (length (pairs_of (took.turn).asked t))) (ap (λ (b : BookState). posts_seen b t) (sym (as-asked v w t mine post turn not took)) ∙ took.posts still)
+        ∙ ap (λ k. slice_get (posts_seen v.seen t ++ post ∷ []) k) (ap length (pairs-taken v w t mine (Some post) turn took) ∙ sym (owes-length v.seen t owes))
+        ∙ get-last (posts_seen v.seen t) post
 
   pub no-end : TookTurn v t (Some post) Ended w → ⊥
   no-end took = not-ended (took.turn).asked t ask line (asked-next Ended (λ value e. cc) took (took.turn).row.0) (took.turn).row.1
@@ -190,7 +190,7 @@ module _ (v w : View) (t : ℕ) (mine : Serves v t) (owes : owes_of v.seen t ≡
       record {
         posts = took.posts (still (NotYet at because) not took running);
         pairs = took.pairs;
-        next = ap (λ (b : Told). next_post b t) (as-asked v w t mine post (NotYet at because) not took) ∙ asked-next (NotYet at because) not took running;
+        next = ap (λ (b : BookState). next_post b t) (as-asked v w t mine post (NotYet at because) not took) ∙ asked-next (NotYet at because) not took running;
         given = given v w t mine post (NotYet at because) not took;
         running = still (NotYet at because) not took running;
         on = goes-on v w t mine (Some post) (NotYet at because) took;
@@ -199,27 +199,27 @@ module _ (v w : View) (t : ℕ) (mine : Serves v t) (owes : owes_of v.seen t ≡
 
 -- ---- and the call that waits
 module _ (v u w : View) (t : ℕ) (mine : Serves u t) (ask : Ask) (line : ℕ) (h : HasAsked v t (ask_post ask line) u) where
-  pub on-along : GoesOn u w → GoesOn v w
+  pub on-along : SeatGoesOn u w → SeatGoesOn v w
   on-along on = record { within = within-along v.seen u.seen w.seen (h.on).within on.within; lawful = on.lawful; serves = on.serves ∙ (h.on).serves }
 
   pub then-answer : (answer : ℤ) → TookAtLast u t None (Answer answer) w → IsAnsweredAsk v t ask line answer w
   then-answer answer last =
       let took = last.took in
-      let next : slice_get (posted_by u.seen t ++ []) (length (pairs_of u.seen t)) ≡ Some (ask_post ask line) =
-      ap (λ ps. slice_get ps (length (pairs_of u.seen t))) (append-nil (posted_by u.seen t)) ∙ h.next in
+      let next : slice_get (posts_seen u.seen t ++ []) (length (pairs_of u.seen t)) ≡ Some (ask_post ask line) =
+      ap (λ ps. slice_get ps (length (pairs_of u.seen t))) (append-nil (posts_seen u.seen t)) ∙ h.next in
       let first = h.takes in
       let second = last.takes in
       record {
-        pairs = answer-pairs u w t mine None ask line answer took next ∙ ap (λ (es : List Event). es ++ step_of t ask line answer ∷ []) h.pairs;
+        pairs = answer-pairs u w t mine None ask line answer took next ∙ ap (λ (es : List Event). es ++ event_of_ask t ask line answer ∷ []) h.pairs;
         last = answer-last u w t mine None ask line answer took next;
-        posts = answer-posts u w t mine None ask line answer took next ∙ append-nil (posted_by u.seen t) ∙ h.posts;
+        posts = answer-posts u w t mine None ask line answer took next ∙ append-nil (posts_seen u.seen t) ∙ h.posts;
         takes = omega arith;
       }
 
-  pub same-posts : (turn : Turn) → TookTurn u t None turn w → posted_by w.seen t ≡ posted_by u.seen t
+  pub same-posts : (turn : Turn) → TookTurn u t None turn w → posts_seen w.seen t ≡ posts_seen u.seen t
   same-posts turn took = by (took.book).outcome refl where
-    by : (o : Option Outcome) → (took.book).outcome ≡ o → posted_by w.seen t ≡ posted_by u.seen t
-    by None is = took.posts is ∙ append-nil (posted_by u.seen t)
+    by : (o : Option Outcome) → (took.book).outcome ≡ o → posts_seen w.seen t ≡ posts_seen u.seen t
+    by None is = took.posts is ∙ append-nil (posts_seen u.seen t)
     by (Some outcome) is = took.late (ap is_some is)
 
   pub then-over : (outcome : Outcome) → TookAtLast u t None (Over outcome) w → IsToldOver v t (ask_post ask line) outcome w
@@ -238,21 +238,21 @@ module _ (v u w : View) (t : ℕ) (mine : Serves u t) (ask : Ask) (line : ℕ) (
       }
 
 -- what is told after the wait
-pub then-tells : (v u w : View) (t : ℕ) → Serves u t → (ask : Ask) (line : ℕ) → HasAsked v t (ask_post ask line) u → (asked : Asked) → TookAtLast u t None (as_turn asked) w → AskTells v t ask line asked w × GoesOn v w
+pub then-tells : (v u w : View) (t : ℕ) → Serves u t → (ask : Ask) (line : ℕ) → HasAsked v t (ask_post ask line) u → (asked : Asked) → TookAtLast u t None (as_turn asked) w → AskTells v t ask line asked w × SeatGoesOn v w
 then-tells v u w t mine ask line h (tells.Answer answer) last = (then-answer v u w t mine ask line h answer last, on-along v u w t mine ask line h (goes-on u w t mine None (Answer answer) last.took))
 then-tells v u w t mine ask line h (tells.Over outcome) last = (then-over v u w t mine ask line h outcome last, on-along v u w t mine ask line h (goes-on u w t mine None (Over outcome) last.took))
 
 -- no thread of a seat that waits for an ask has ended
 pub waits-on : (v w : View) (t : ℕ) → Serves v t → (ask : Ask) (line : ℕ) → next_post v.seen t ≡ Some (ask_post ask line) → TookTurn v t None Ended w → ⊥
 waits-on v w t mine ask line next took =
-    let same : next_post (took.turn).asked t ≡ next_post v.seen t = ap (λ (b : Told). next_post b t) (took.turn).posted ∙ next-same t v.seen took.book (took.own t mine) in
+    let same : next_post (took.turn).asked t ≡ next_post v.seen t = ap (λ (b : BookState). next_post b t) (took.turn).posted ∙ next-same t v.seen took.book (took.own t mine) in
     not-ended (took.turn).asked t ask line (same ∙ next) (took.turn).row.1
 
 -- the thread owes its next post once it is answered
 pub answered-owes : (v w : View) (t : ℕ) (ask : Ask) (line : ℕ) (answer : ℤ) → owes_of v.seen t ≡ true → IsAnsweredAsk v t ask line answer w → owes_of w.seen t ≡ true
 answered-owes v w t ask line answer owes is =
     let was = owes-length v.seen t owes in
-    eq-eqb (length (posted_by w.seen t)) (length (pairs_of w.seen t)) (omega (arith, ap length is.posts, length-append (posted_by v.seen t) (ask_post ask line ∷ []), ap length is.pairs, length-append (pairs_of v.seen t) (step_of t ask line answer ∷ [])))
+    eq-eqb (length (posts_seen w.seen t)) (length (pairs_of w.seen t)) (omega (arith, ap length is.posts, length-append (posts_seen v.seen t) (ask_post ask line ∷ []), ap length is.pairs, length-append (pairs_of v.seen t) (event_of_ask t ask line answer ∷ [])))
 
 -- the end of a thread is never answered
 pub end-not : (v w : View) (t : ℕ) → Serves v t → owes_of v.seen t ≡ true → (line : ℕ) (turn : Turn) → TookTurn v t (Some (end_post line)) turn w → (value : ℤ) → turn ≡ Answer value → ⊥
@@ -264,9 +264,9 @@ end-not v w t mine owes line turn took value is = by (subst (λ (x : Turn). Took
       let still = open-before v w t mine (Some (end_post line)) took.book asked (Some (end_post line)) (took.turn).posted (took.turn).row.0 in
       let posts = sym (took.posts still) ∙ ap (λ ps. posts_of ps t) by_step.posts in
       let next : Some (end_post line) ≡ Some (post_of_event by_step.event) =
-      sym (get-last (posted_by v.seen t) (end_post line))
-      ∙ ap (λ ps. slice_get ps (length (posted_by v.seen t))) posts
-      ∙ ap (λ k. slice_get (posted_by asked t) k) (owes-length v.seen t owes ∙ sym (ap length (pairs-taken v w t mine (Some (end_post line)) (Answer value) took)))
+      sym (get-last (posts_seen v.seen t) (end_post line))
+      ∙ ap (λ ps. slice_get ps (length (posts_seen v.seen t))) posts
+      ∙ ap (λ k. slice_get (posts_seen asked t) k) (owes-length v.seen t owes ∙ sym (ap length (pairs-taken v w t mine (Some (end_post line)) (Answer value) took)))
       ∙ by_step.asked in
       let same : end_post line ≡ post_of_event by_step.event = cc in
       let both = ap (λ (p : Post). p.ask) same in

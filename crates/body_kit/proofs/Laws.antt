@@ -7,14 +7,14 @@ use Rattle.policy_pick.specs.Plan.{Plan}
 use Rattle.policy_pick.specs.declared.policy.Policy.{Ghosts}
 use Rattle.sync_store.specs.Store.{Sizes}
 use Rattle.turn_lock.specs.Calls.{ServesAll}
-use Rattle.turn_lock.specs.Rule.{Has, Serves}
+use Rattle.turn_lock.specs.Rule.{HasFlag, Serves}
 use Rattle.turn_lock.specs.Views.{view}
 use Rattle.turn_lock.specs.declared.seat.Seat.{Seat}
 use Rattle.turn_lock.specs.declared.view.View.{View}
 use Rattle.turn_lock.proofs.laws.SeenBooks.{within-along}
 use Rattle.worker_run.specs.Played.{IsPlayed}
 use Rattle.worker_run.specs.Bodies.{Pending, IsInRangeBody, AreInRange}
-use Rattle.body_kit.specs.Asking.{GoesOn}
+use Rattle.body_kit.specs.Asking.{SeatGoesOn}
 use Rattle.body_kit.specs.Ports.{IsBack}
 
 -- ---- bodies
@@ -34,10 +34,10 @@ boxed-played {bodies = bodies} deal limit p e o played = subst (λ (x : Plan × 
 
 -- ---- seats
 -- a seat that went on serves what it served
-pub still-serves : (v w : View) (t : ℕ) → GoesOn v w → Serves v t → Serves w t
-still-serves v w t on here = subst (λ (l : List Bool). Has l t) (sym on.serves) here
+pub still-serves : (v w : View) (t : ℕ) → SeatGoesOn v w → Serves v t → Serves w t
+still-serves v w t on here = subst (λ (l : List Bool). HasFlag l t) (sym on.serves) here
 
-pub goes-along : (u v w : View) → GoesOn u v → GoesOn v w → GoesOn u w
+pub goes-along : (u v w : View) → SeatGoesOn u v → SeatGoesOn v w → SeatGoesOn u w
 goes-along u v w one other = record { within = within-along u.seen v.seen w.seen one.within other.within; lawful = other.lawful; serves = other.serves ∙ one.serves }
 
 -- what came of a port, and what came of that

@@ -7,13 +7,13 @@ use Rattle.pct_ask.specs.declared.ask.Post.{Post}
 use Rattle.pct_ask.specs.declared.event.Event.{Event}
 use Rattle.pct_ask.specs.declared.verdict.Outcome.{Outcome}
 use Rattle.policy_pick.specs.declared.policy.Policy.{Ghosts}
-use Rattle.turn_book.specs.Obeys.{settled}
-use Rattle.turn_book.specs.Posts.{events_of, source_of}
+use Rattle.turn_book.specs.Obeys.{outcome_after}
+use Rattle.turn_book.specs.Posts.{own_events, source_of}
 use Rattle.turn_book.specs.Told.{IsLawful}
 use Rattle.turn_lock.specs.Seen.{pairs_of, owes_of}
-use Rattle.turn_lock.specs.Rule.{Has}
-use Rattle.turn_lock.specs.Seats.{alone}
-use Rattle.turn_lock.specs.Views.{view, IsOf}
+use Rattle.turn_lock.specs.Rule.{HasFlag}
+use Rattle.turn_lock.specs.Seats.{seat_of_one}
+use Rattle.turn_lock.specs.Views.{view, HasSeat}
 use Rattle.turn_lock.specs.declared.held.TurnLock.{TurnLock}
 use Rattle.turn_lock.specs.declared.seat.Seat.{Seat}
 use Rattle.turn_lock.specs.declared.view.View.{View}
@@ -24,11 +24,11 @@ use Rattle.worker_run.proofs.laws.RunsOver.{same-trace, later-ends}
 use Rattle.turn_lock.proofs.laws.Serving.{alone-has}
 use Rattle.body_kit.specs.declared.asked.Asked.{Asked}
 use Rattle.body_kit.specs.declared.asked.Asked.TheVariants.{Answer, Over}
-use Rattle.body_kit.specs.Asking.{step_of, end_post, IsGiven, IsToldOver, AskTells, IsEnded, GoesOn, over_of}
+use Rattle.body_kit.specs.Asking.{event_of_ask, end_post, IsGivenPost, IsToldOver, AskTells, IsEnded, SeatGoesOn, over_of}
 use Rattle.body_kit.specs.Ports.{IsPortSeat, IsBack}
 use Rattle.body_kit.proofs.Answered.{answered-owes}
 
-pub split-off : (v : View) (t : ℕ) → t < 64 → owes_of v.seen t ≡ true → IsPortSeat (alone v t) t None
+pub split-off : (v : View) (t : ℕ) → t < 64 → owes_of v.seen t ≡ true → IsPortSeat (seat_of_one v t) t None
 split-off v t below owes = record {
   only = record { serves = alone-has v t below; alone = alone-one v t };
   owes = λ _. owes;
@@ -36,11 +36,11 @@ split-off v t below owes = record {
 }
 
 -- ---- a port whose seat has seen how the run ended
-pub stays-on : (v : View) → IsLawful v.seen → GoesOn v v
+pub stays-on : (v : View) → IsLawful v.seen → SeatGoesOn v v
 stays-on v lawful = record { within = within-self v.seen; lawful = lawful; serves = refl }
 
 module _ (v : View) (t : ℕ) (outcome : Outcome) (stands : v.seen.outcome ≡ Some outcome) where
-  given-late : (post : Post) → IsGiven v t post v
+  given-late : (post : Post) → IsGivenPost v t post v
   given-late post = record {
     book = v.seen;
     within = within-self v.seen;
@@ -56,23 +56,23 @@ module _ (v : View) (t : ℕ) (outcome : Outcome) (stands : v.seen.outcome ≡ S
   ended-late line = record { pairs = refl; given = given-late (end_post line) }
 
 -- ---- and what it is told afterwards
-module _ (v w : View) (t : ℕ) (ask : Ask) (line : ℕ) (on : GoesOn v w) where
+module _ (v w : View) (t : ℕ) (ask : Ask) (line : ℕ) (on : SeatGoesOn v w) where
   module _ (outcome : Outcome) (lawful : IsLawful v.seen) (stands : v.seen.outcome ≡ Some outcome) where
     over : IsOver v.seen
     over = record { speaks = lawful.speaks; obeys = lawful.obeys; outcome = outcome; ends = sym lawful.outcome ∙ stands }
 
-    ends : settled w.seen.plan w.seen.deal (source_of w.seen.posts) w.seen.limit w.seen.trace ≡ Some outcome
+    ends : outcome_after w.seen.plan w.seen.deal (source_of w.seen.posts) w.seen.limit w.seen.trace ≡ Some outcome
     unfolding over
     ends = later-ends v.seen w.seen on.within (on.lawful).obeys over
 
     -- no step is taken
     no-step : (event : Event) → pairs_of w.seen t ≡ pairs_of v.seen t ++ event ∷ [] → ⊥
     no-step event more =
-        let same = ap (events_of t) (same-trace v.seen w.seen on.within (on.lawful).obeys over) in
+        let same = ap (own_events t) (same-trace v.seen w.seen on.within (on.lawful).obeys over) in
         absurd (omega (arith, ap length same, ap length more, length-append (pairs_of v.seen t) (event ∷ [])))
 
     pub later-over : (asked : Asked) → AskTells v t ask line asked w → asked ≡ Over outcome
-    later-over (Answer answer) told = absurd (no-step (step_of t ask line answer) told.pairs)
+    later-over (Answer answer) told = absurd (no-step (event_of_ask t ask line answer) told.pairs)
     later-over (Over other) told =
         let both = sym told.stands ∙ (on.lawful).outcome ∙ ends in
         let same : other ≡ outcome = cc in
@@ -81,7 +81,7 @@ module _ (v w : View) (t : ℕ) (ask : Ask) (line : ℕ) (on : GoesOn v w) where
   -- it is a port still
   pub still-port : IsPortSeat v t None → (asked : Asked) → AskTells v t ask line asked w → IsPortSeat w t (over_of asked)
   still-port p asked told = record {
-    only = (let S : List Bool → Type 0 = λ l. Has l t × ((u : ℕ) → Has l u → u ≡ t) in let both = subst S (sym on.serves) ((p.only).serves, (p.only).alone) in record { serves = both.0; alone = both.1 });
+    only = (let S : List Bool → Type 0 = λ l. HasFlag l t × ((u : ℕ) → HasFlag l u → u ≡ t) in let both = subst S (sym on.serves) ((p.only).serves, (p.only).alone) in record { serves = both.0; alone = both.1 });
     owes = owed asked told;
     told = stands asked told;
   } where
@@ -95,7 +95,7 @@ module _ (v w : View) (t : ℕ) (ask : Ask) (line : ℕ) (on : GoesOn v w) where
 
 -- ---- what is given back
 -- what is of one lock before and after is of the same locks
-pub goes-back : {P : Type 0} {policy : Ghosts P} (own : TurnLock P) (old new : Seat P policy) → IsOf own old → IsOf own new → GoesOn (view old) (view new) → IsBack old new
+pub goes-back : {P : Type 0} {policy : Ghosts P} (own : TurnLock P) (old new : Seat P policy) → HasSeat own old → HasSeat own new → SeatGoesOn (view old) (view new) → IsBack old new
 goes-back own old new was is on = record {
   of = λ lock its.
       let one = its.1 in

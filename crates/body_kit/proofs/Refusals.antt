@@ -7,7 +7,7 @@ use Rattle.rank_now.specs.declared.order.RankError.{RankError}
 use Rattle.rank_now.specs.declared.order.RankError.TheVariants as ranks
 use Rattle.body_kit.specs.declared.error.KitError.{KitError}
 use Rattle.body_kit.specs.declared.error.KitError.TheVariants.{NotAnOrder}
-use Rattle.body_kit.specs.Refusals.{Fits, IsWrongOrder, as_kit_error}
+use Rattle.body_kit.specs.Refusals.{CountsFit, IsWrongOrder, as_kit_error}
 
 abbrev refused : RankError → Result Pct RankError
 refused e = Err e
@@ -16,7 +16,7 @@ same-order : (e : RankError) (k : KitError) (at : ℕ) → k ≡ as_kit_error e 
 same-order (ranks.NotAnOrder place) k at is e = let same : place ≡ at = let both = sym is ∙ e in cc in ap ranks.NotAnOrder same
 same-order ranks.NoMemory k at is e = let both = sym is ∙ e in cc
 
-module _ (threads bodies : ℕ) (order : List ℕ) (fits : Fits threads bodies order) (e : RankError) where
+module _ (threads bodies : ℕ) (order : List ℕ) (fits : CountsFit threads bodies order) (e : RankError) where
   pub from-policy : (r : Result Pct KitError) → IsErrAnd r (λ k. k ≡ as_kit_error e)
       → ((at : ℕ) → (refused e ≡ refused (ranks.NotAnOrder at) → IsFirstWrong order at) × (IsFirstWrong order at → refused e ≡ refused (ranks.NotAnOrder at)))
       → (at : ℕ) → (r ≡ Err (NotAnOrder at) → IsWrongOrder threads bodies order at) × (IsWrongOrder threads bodies order at → r ≡ Err (NotAnOrder at))

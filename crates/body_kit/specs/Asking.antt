@@ -4,8 +4,8 @@ use Rattle.pct_ask.specs.declared.ask.Ask.{Ask}
 use Rattle.pct_ask.specs.declared.ask.Post.{Post}
 use Rattle.pct_ask.specs.declared.event.Event.{Event}
 use Rattle.pct_ask.specs.declared.verdict.Outcome.{Outcome}
-use Rattle.turn_book.specs.Told.{Told, IsLawful, Within}
-use Rattle.turn_lock.specs.Seen.{SameOf, pairs_of, posted_by}
+use Rattle.turn_book.specs.Told.{BookState, IsLawful, Within}
+use Rattle.turn_lock.specs.Seen.{SameOf, pairs_of, posts_seen}
 use Rattle.turn_lock.specs.Rule.{Serves}
 use Rattle.turn_lock.specs.declared.turn.Turn.{Turn}
 use Rattle.turn_lock.specs.declared.turn.Turn.TheVariants as turns
@@ -22,32 +22,32 @@ abbrev pub end_post : ℕ → Post
 end_post line = record { ask = None; line = line }
 
 -- the step that a thread takes by its ask, with the answer to it
-abbrev pub step_of : ℕ → Ask → ℕ → ℤ → Event
-step_of t ask line answer = record { thread = t; line = line; ask = ask; answer = answer }
+abbrev pub event_of_ask : ℕ → Ask → ℕ → ℤ → Event
+event_of_ask t ask line answer = record { thread = t; line = line; ask = ask; answer = answer }
 
 -- What the thread owed was posted, but where the run was over before. The book is as the call found
 -- it.
-pub record IsGiven (v : View) (t : ℕ) (post : Post) (w : View) : Type 0 where
-  pub book : Told
+pub record IsGivenPost (v : View) (t : ℕ) (post : Post) (w : View) : Type 0 where
+  pub book : BookState
   pub within : Within v.seen book
   pub own : SameOf t v.seen book
-  pub posts : book.outcome ≡ None → posted_by w.seen t ≡ posted_by v.seen t ++ post ∷ []
+  pub posts : book.outcome ≡ None → posts_seen w.seen t ≡ posts_seen v.seen t ++ post ∷ []
   pub late : IsSome book.outcome → w.seen ≡ book
 
 -- The thread was answered: the last step of the run is its own, of the ask that it gave, and is the
 -- one pair that it gained.
 pub record IsAnsweredAsk (v : View) (t : ℕ) (ask : Ask) (line : ℕ) (answer : ℤ) (w : View)
     : Type 0 where
-  pub pairs : pairs_of w.seen t ≡ pairs_of v.seen t ++ step_of t ask line answer ∷ []
-  pub last : (before : List Event) × (w.seen.trace ≡ before ++ step_of t ask line answer ∷ [])
-  pub posts : posted_by w.seen t ≡ posted_by v.seen t ++ ask_post ask line ∷ []
+  pub pairs : pairs_of w.seen t ≡ pairs_of v.seen t ++ event_of_ask t ask line answer ∷ []
+  pub last : (before : List Event) × (w.seen.trace ≡ before ++ event_of_ask t ask line answer ∷ [])
+  pub posts : posts_seen w.seen t ≡ posts_seen v.seen t ++ ask_post ask line ∷ []
   pub takes : v.takes < w.takes
 
 -- The thread was told how the run ended, and took no step.
 pub record IsToldOver (v : View) (t : ℕ) (post : Post) (outcome : Outcome) (w : View) : Type 0 where
   pub stands : w.seen.outcome ≡ Some outcome
   pub pairs : pairs_of w.seen t ≡ pairs_of v.seen t
-  pub given : IsGiven v t post w
+  pub given : IsGivenPost v t post w
 
 -- What each answer to an ask says: the thread took the step that it asked for, and this is the
 -- answer to it; or it was told how the run ended, and took none.
@@ -58,11 +58,11 @@ AskTells v t ask line (Over outcome) w = IsToldOver v t (ask_post ask line) outc
 -- the thread has posted its end, and took no step
 pub record IsEnded (v : View) (t : ℕ) (line : ℕ) (w : View) : Type 0 where
   pub pairs : pairs_of w.seen t ≡ pairs_of v.seen t
-  pub given : IsGiven v t (end_post line) w
+  pub given : IsGivenPost v t (end_post line) w
 
 -- the seat went on, and has seen a run that keeps its rules; an outcome that it has seen is what
 -- became of that run
-pub record GoesOn (v w : View) : Type 0 where
+pub record SeatGoesOn (v w : View) : Type 0 where
   pub within : Within v.seen w.seen
   pub lawful : IsLawful w.seen
   pub serves : w.serves ≡ v.serves

@@ -4,11 +4,11 @@ use Rattle.pct_ask.specs.declared.verdict.Outcome.{Outcome}
 use Rattle.policy_pick.specs.declared.policy.Policy.{Ghosts}
 use Rattle.turn_book.specs.Told.{IsLawful}
 use Rattle.turn_lock.specs.Seen.{owes_of}
-use Rattle.turn_lock.specs.Views.{view, IsOf}
+use Rattle.turn_lock.specs.Views.{view, HasSeat}
 use Rattle.turn_lock.specs.declared.held.TurnLock.{TurnLock}
 use Rattle.turn_lock.specs.declared.seat.Seat.{Seat}
 use Rattle.turn_lock.specs.declared.view.View.{View}
-use Rattle.body_kit.specs.Asking.{ServesOnly, GoesOn}
+use Rattle.body_kit.specs.Asking.{ServesOnly, SeatGoesOn}
 
 -- The seat serves this thread alone. The thread owes its next post until the port was told that the
 -- run is over, and how it ended then stands in what the seat has seen.
@@ -21,10 +21,10 @@ pub record IsPortSeat (v : View) (t : ℕ) (over : Option Outcome) : Type 0 wher
 -- and it is one of the lock's
 abbrev pub IsPort : {P : Type 0} {policy : Ghosts P} → TurnLock P → Seat P policy → ℕ
     → Option Outcome → Type 0
-IsPort lock seat t over = IsOf lock seat × IsPortSeat (view seat) t over
+IsPort lock seat t over = HasSeat lock seat × IsPortSeat (view seat) t over
 
 -- what a port is after a call, or the seat that it gives back: of the same lock, with all that it
 -- had seen
 pub record IsBack {P : Type 0} {policy : Ghosts P} (old new : Seat P policy) : Type 0 where
-  pub of : (lock : TurnLock P) → IsOf lock old → IsOf lock new
-  pub on : GoesOn (view old) (view new)
+  pub of : (lock : TurnLock P) → HasSeat lock old → HasSeat lock new
+  pub on : SeatGoesOn (view old) (view new)

@@ -7,19 +7,19 @@ use Rattle.body_kit.specs.declared.error.KitError.{KitError}
 use Rattle.body_kit.specs.declared.error.KitError.TheVariants.{NotAnOrder, NoMemory}
 
 -- there is a body and a place in the order for each thread
-pub record Fits (threads bodies : ℕ) (order : List ℕ) : Type 0 where
+pub record CountsFit (threads bodies : ℕ) (order : List ℕ) : Type 0 where
   pub bodies_fit : bodies ≡ threads
   pub order_fits : length order ≡ threads
 
 -- what is told where they don't fit: how many bodies there are, and how many names
 pub record IsWrongCount (threads bodies : ℕ) (order : List ℕ) (had named : ℕ) : Type 0 where
-  pub wrong : ¬ Fits threads bodies order
+  pub wrong : ¬ CountsFit threads bodies order
   pub had_is : had ≡ bodies
   pub named_is : named ≡ length order
 
 -- they fit, and the thread at the place is the first that there isn't or that was named before
 pub record IsWrongOrder (threads bodies : ℕ) (order : List ℕ) (at : ℕ) : Type 0 where
-  pub fits : Fits threads bodies order
+  pub fits : CountsFit threads bodies order
   pub first : IsFirstWrong order at
 
 -- the same error, for a test

@@ -2,7 +2,7 @@
 ghost use Rattle.std.specs.Prelude.{◌≡◌, ◌<◌, ◌≤◌, ◌^◌, ◌↔◌, ℕ, [], length, IfOk};
 ghost use Rattle.policy_pick.specs.Plan.{ByPoints};
 ghost use Rattle.policy_pick.specs.Kept.{points_plan, PointsStand};
-ghost use Rattle.body_kit.specs.Refusals.{Fits, IsWrongCount, IsWrongOrder};
+ghost use Rattle.body_kit.specs.Refusals.{CountsFit, IsWrongCount, IsWrongOrder};
 
 use crate::error::KitError;
 use policy_pick::Pct;
@@ -21,7 +21,7 @@ pub fn pct_of(
     requires few_points { length points.now ≤ 7 }
     ensures plan { IfOk result (λ p. points_plan p ≡ ByPoints order.now points.now) }
     ensures stands { IfOk result (λ p. PointsStand p []) }
-    ensures fits { IfOk result (λ p. Fits threads bodies order.now) }
+    ensures fits { IfOk result (λ p. CountsFit threads bodies order.now) }
     ensures wrong_count { (had named : ℕ)
         → (result ≡ Err (KitError.WrongCount had named))
         ↔ IsWrongCount threads bodies order.now had named }

@@ -3,9 +3,9 @@ ghost use Rattle.policy_pick.specs.Plan.{ByPoints};
 ghost use Rattle.turn_book.specs.Told.{new_book, IsLawful, SameMaking, Within};
 ghost use Rattle.turn_lock.specs.Seen.{ObeysPlan, SameOf, owes_of};
 ghost use Rattle.turn_lock.specs.Rule.{Serves, first_view};
-ghost use Rattle.turn_lock.specs.Calls.{made, ServesAll};
-ghost use Rattle.turn_lock.specs.Seats.{without, alone, joined};
-ghost use Rattle.turn_lock.specs.Views.{view, IsOf};
+ghost use Rattle.turn_lock.specs.Calls.{first_book, ServesAll};
+ghost use Rattle.turn_lock.specs.Seats.{seat_without, seat_of_one, joined_seat};
+ghost use Rattle.turn_lock.specs.Views.{view, HasSeat};
 ghost use Rattle.body_kit.specs.Refusals.{IsWrongCount, IsWrongOrder};
 
 use crate::counts::pct_of;
@@ -49,9 +49,9 @@ impl Kit {
         requires few_points { length points.now ≤ 7 }
         requires few_names { length order.now < 2 ^ 32 }
         ensures made { IfOk result (λ r.
-            made r.0 ≡ new_book deal limit (ByPoints order.now points.now)) }
-        ensures of { IfOk result (λ r. IsOf r.0 r.1) }
-        ensures view { IfOk result (λ r. view r.1 ≡ first_view (made r.0)) }
+            first_book r.0 ≡ new_book deal limit (ByPoints order.now points.now)) }
+        ensures of { IfOk result (λ r. HasSeat r.0 r.1) }
+        ensures view { IfOk result (λ r. view r.1 ≡ first_view (first_book r.0)) }
         ensures all { IfOk result (λ r. ServesAll (view r.1)) }
         ensures owe { IfOk result (λ r. (t : ℕ) → owes_of (view r.1).seen t ≡ true) }
 
@@ -72,11 +72,11 @@ impl Kit {
     /// Takes a thread off the seat, into a new seat that serves it alone, which a thread of the
     /// caller's can take along.
     pub fn split(&self, seat: &mut Seat<Pct>, thread: u32) -> Seat<Pct>
-        requires of { IsOf self.now seat.old }
+        requires of { HasSeat self.now seat.old }
         requires serves { Serves (view seat.old) thread }
-        ensures of { IsOf self.now seat.new × IsOf self.now result }
-        ensures left { view seat.new ≡ without (view seat.old) thread }
-        ensures right { view result ≡ alone (view seat.old) thread }
+        ensures of { HasSeat self.now seat.new × HasSeat self.now result }
+        ensures left { view seat.new ≡ seat_without (view seat.old) thread }
+        ensures right { view result ≡ seat_of_one (view seat.old) thread }
         ensures rest { (t : ℕ) → t ≢ thread → Serves (view seat.old) t → Serves (view seat.new) t }
         ensures own { Serves (view result) thread }
     {
@@ -85,12 +85,12 @@ impl Kit {
 
     /// Takes a thread off the seat. Its port has a seat that serves it alone.
     pub fn port<'k>(&'k self, seat: &mut Seat<Pct>, thread: u32) -> Port<'k>
-        requires of { IsOf self.now seat.old }
+        requires of { HasSeat self.now seat.old }
         requires serves { Serves (view seat.old) thread }
         requires owes { owes_of (view seat.old).seen thread ≡ true }
-        ensures of { IsOf self.now seat.new × IsOf self.now result }
-        ensures left { view seat.new ≡ without (view seat.old) thread }
-        ensures right { view result ≡ alone (view seat.old) thread }
+        ensures of { HasSeat self.now seat.new × HasSeat self.now result }
+        ensures left { view seat.new ≡ seat_without (view seat.old) thread }
+        ensures right { view result ≡ seat_of_one (view seat.old) thread }
         ensures rest { (t : ℕ) → t ≢ thread → Serves (view seat.old) t → Serves (view seat.new) t }
         ensures own { Serves (view result) thread }
     {
@@ -100,9 +100,9 @@ impl Kit {
 
     /// The seat serves the other's threads too, and has seen what each of the two has seen.
     pub fn join(&self, seat: &mut Seat<Pct>, other: Seat<Pct>)
-        requires of { IsOf self.now seat.old × IsOf self.now other }
-        ensures of { IsOf self.now seat.new }
-        ensures view { view seat.new ≡ joined (view seat.old) (view other) }
+        requires of { HasSeat self.now seat.old × HasSeat self.now other }
+        ensures of { HasSeat self.now seat.new }
+        ensures view { view seat.new ≡ joined_seat (view seat.old) (view other) }
         ensures seen { Within (view seat.old).seen (view seat.new).seen
             × Within (view other).seen (view seat.new).seen }
         ensures serves { (t : ℕ) → Serves (view seat.old) t ⊎ Serves (view other) t
@@ -119,9 +119,9 @@ impl Kit {
     /// Gives the book of the test back, which has each thread's posts and steps as its port had
     /// them.
     pub fn close(self, seat: Seat<Pct>) -> TurnBook<Pct>
-        requires of { IsOf self seat }
+        requires of { HasSeat self seat }
         requires all { ServesAll (view seat) }
-        ensures making { SameMaking (made self) result }
+        ensures making { SameMaking (first_book self) result }
         ensures lawful { IsLawful result }
         ensures seen { Within (view seat).seen result }
         ensures own { (t : ℕ) → t < result.deal.threads → SameOf t (view seat).seen result }

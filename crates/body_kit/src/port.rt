@@ -4,7 +4,7 @@ ghost use Rattle.sync_store.specs.Store.{sizes_of_deal};
 ghost use Rattle.sync_store.specs.Enabled.{IsInRange};
 ghost use Rattle.turn_book.specs.Told.{IsLawful};
 ghost use Rattle.turn_lock.specs.Rule.{Serves};
-ghost use Rattle.turn_lock.specs.Views.{view, IsOf};
+ghost use Rattle.turn_lock.specs.Views.{view, HasSeat};
 ghost use Rattle.body_kit.specs.Asking.{AskTells, IsEnded, over_of};
 ghost use Rattle.body_kit.specs.Ports.{IsPortSeat, IsBack};
 
@@ -52,7 +52,7 @@ impl<'k> Model for Port<'k> {
 impl<'k> Port<'k> {
     /// A port for the one thread of a seat.
     pub(crate) fn new(lock: &'k TurnLock<Pct>, seat: Seat<Pct>, thread: u32) -> Port<'k>
-        requires of { IsOf lock.now seat }
+        requires of { HasSeat lock.now seat }
         requires port { IsPortSeat (view seat) thread None }
         ensures { result ≡ seat }
     {

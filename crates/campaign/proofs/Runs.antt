@@ -11,8 +11,8 @@ use Rattle.pct_ask.specs.declared.verdict.Outcome.{Outcome}
 use Rattle.pct_ask.specs.declared.verdict.Outcome.TheVariants.{Verdict as Ends}
 use Rattle.policy_pick.specs.Plan.{Plan}
 use Rattle.policy_pick.specs.Kept.{PointsKept, points_plan, PointsStand}
-use Rattle.priority_draw.specs.Drawing.{drawn}
-use Rattle.script_body.specs.BodyPosts.{pending_of}
+use Rattle.priority_draw.specs.Drawing.{draw_of_seed}
+use Rattle.script_body.specs.BodyPosts.{pending_of_body}
 use Rattle.script_body.specs.declared.body.ScriptBody.{ScriptBody}
 use Rattle.worker_run.specs.Bodies.{Pending}
 use Rattle.worker_run.specs.Run.{Run, run}
@@ -21,7 +21,7 @@ use Rattle.worker_run.specs.Batch.{Each}
 use Rattle.worker_run.specs.Tests.{IsTest, AreTests, IsRunOf}
 use Rattle.worker_run.specs.declared.batch.Test.{Test}
 use Rattle.worker_run.specs.declared.played.Played.{Played}
-use Rattle.campaign.specs.Rows.{Setup, row_of, run_of_seed, row_of_seed, seed_at}
+use Rattle.campaign.specs.Rows.{Setup, row_of_run, run_of_seed, row_of_seed, seed_at}
 use Rattle.campaign.specs.Batches.{plan_of_seed, IsSeedTest, AreSeedTests, IsSeedRun, AreSeedRuns}
 
 -- ---- what holds at each place of a list
@@ -54,13 +54,13 @@ pub seed-tested : {E : Type 0} (setup : Setup) (seed : ℕ) (made : Result SeedT
     → IfOk made (λ t. points_plan t.policy ≡ plan) → IfOk made (λ t. t.deal ≡ deal)
     → IfOk made (λ t. t.limit ≡ limit) → IfOk made (λ t. t.bodies ≡ bodies)
     → plan ≡ plan_of_seed setup seed → deal ≡ setup.deal → limit ≡ setup.limit
-    → map pending_of bodies.items ≡ setup.bodies → IfOk made (IsSeedTest setup seed)
+    → map pending_of_body bodies.items ≡ setup.bodies → IfOk made (IsSeedTest setup seed)
 seed-tested setup seed (Ok t) plan deal limit bodies p d l b planned dealt limited posting =
     record {
       deal = d ∙ dealt;
       plan = p ∙ planned;
       limit = l ∙ limited;
-      bodies = ap (λ (v : Vec ScriptBody Global). map pending_of v.items) b ∙ posting;
+      bodies = ap (λ (v : Vec ScriptBody Global). map pending_of_body v.items) b ∙ posting;
     }
 seed-tested setup seed (Err e) plan deal limit bodies p d l b planned dealt limited posting = tt
 
@@ -84,23 +84,23 @@ next-test setup first place seed tests new test at are is all =
 -- ---- runs
 
 same-run : (setup : Setup) (seed : ℕ) (test : SeedTest) → IsSeedTest setup seed test
-    → run test.deal (map pending_of test.bodies.items)
-    (drawn seed setup.deal.threads setup.steps setup.depth).order
-    (drawn seed setup.deal.threads setup.steps setup.depth).points test.limit
+    → run test.deal (map pending_of_body test.bodies.items)
+    (draw_of_seed seed setup.deal.threads setup.steps setup.depth).order
+    (draw_of_seed seed setup.deal.threads setup.steps setup.depth).points test.limit
     ≡ run_of_seed setup seed
 same-run setup seed test is =
-    let order = (drawn seed setup.deal.threads setup.steps setup.depth).order in
-    let points = (drawn seed setup.deal.threads setup.steps setup.depth).points in
-    let bodies = map pending_of test.bodies.items in
+    let order = (draw_of_seed seed setup.deal.threads setup.steps setup.depth).order in
+    let points = (draw_of_seed seed setup.deal.threads setup.steps setup.depth).points in
+    let bodies = map pending_of_body test.bodies.items in
     ap (λ (d : Deal). run d bodies order points test.limit) is.deal
     ∙ ap (λ (b : List Pending). run setup.deal b order points test.limit) is.bodies
     ∙ ap (λ (l : ℕ). run setup.deal setup.bodies order points l) is.limit
 
 pub seed-run : (setup : Setup) (seed : ℕ) (test : SeedTest) (played : Played)
-    → IsTest pending_of points_plan PointsStand test → IsSeedTest setup seed test
-    → IsRunOf pending_of points_plan test played → IsSeedRun setup seed played
+    → IsTest pending_of_body points_plan PointsStand test → IsSeedTest setup seed test
+    → IsRunOf pending_of_body points_plan test played → IsSeedRun setup seed played
 seed-run setup seed test played sound is ran =
-    let gives = drawn seed setup.deal.threads setup.steps setup.depth in
+    let gives = draw_of_seed seed setup.deal.threads setup.steps setup.depth in
     let R : Option Run → Type 0 = λ r. IsRun r played.events played.outcome in
     record {
       run = subst R (same-run setup seed test is) (ran.by_points gives.order gives.points is.plan);
@@ -108,8 +108,8 @@ seed-run setup seed test played sound is ran =
     }
 
 pub seed-runs : (setup : Setup) (first place : ℕ) (tests : List SeedTest) (runs : List Played)
-    → AreTests pending_of points_plan PointsStand tests → AreSeedTests setup first place tests
-    → Each (IsRunOf pending_of points_plan) tests runs → AreSeedRuns setup first place runs
+    → AreTests pending_of_body points_plan PointsStand tests → AreSeedTests setup first place tests
+    → Each (IsRunOf pending_of_body points_plan) tests runs → AreSeedRuns setup first place runs
 seed-runs setup first place tests runs sound are ran i played at =
     let within : i < length tests = omega (arith, slice_get_within runs i played at, ran.long) in
     let found = get-within tests i within in
@@ -118,16 +118,16 @@ seed-runs setup first place tests runs sound are ran i played at =
 
 module _ {E : Type 0} (setup : Setup) (first place : ℕ) (tests : List SeedTest) where
   pub all-ran : (made : Result (Vec Played Global) E)
-      → AreTests pending_of points_plan PointsStand tests
+      → AreTests pending_of_body points_plan PointsStand tests
       → AreSeedTests setup first place tests
-      → IfOk made (λ runs. Each (IsRunOf pending_of points_plan) tests runs.items)
+      → IfOk made (λ runs. Each (IsRunOf pending_of_body points_plan) tests runs.items)
       → IfOk made (λ runs. AreSeedRuns setup first place runs.items)
   all-ran (Ok runs) sound are ran = seed-runs setup first place tests runs.items sound are ran
   all-ran (Err e) sound are ran = tt
 
 pub as-many : {E : Type 0} (place : ℕ) (tests : List SeedTest) (made : Result (Vec Played Global) E)
     (end : ℕ) → place + length tests ≡ end
-    → IfOk made (λ runs. Each (IsRunOf pending_of points_plan) tests runs.items)
+    → IfOk made (λ runs. Each (IsRunOf pending_of_body points_plan) tests runs.items)
     → IfOk made (λ runs. place + length runs.items ≡ end)
 as-many place tests (Ok runs) end long ran = omega (arith, ran.long, long)
 as-many place tests (Err e) end long ran = tt
@@ -159,6 +159,6 @@ pub run-row : (setup : Setup) (seed : ℕ) (played : Played) (row : Row)
     → played.outcome ≡ Ends row.verdict → row_of_seed setup seed ≡ Some row
 run-row setup seed played row is at many ends =
     let verdict = one-verdict played.outcome is.run.verdict row.verdict is.run.ends ends in
-    let made : row_of seed (played.events, is.run.verdict) ≡ row =
+    let made : row_of_run seed (played.events, is.run.verdict) ≡ row =
     λ i. record { seed = (sym at) i; steps = (sym many) i; verdict = verdict i } in
-    ap (λ (r : Option Run). option_map (row_of seed) r) is.run.steps ∙ ap Some made
+    ap (λ (r : Option Run). option_map (row_of_run seed) r) is.run.steps ∙ ap Some made

@@ -4,10 +4,10 @@ use Rattle.std.specs.Prelude.{◌≡◌, ◌≤◌, ℕ, ◌+◌, List, length, 
 use Rattle.pct_ask.specs.declared.event.Row.{Row}
 use Rattle.policy_pick.specs.Plan.{Plan, ByPoints}
 use Rattle.policy_pick.specs.Kept.{PointsKept, points_plan}
-use Rattle.priority_draw.specs.Drawing.{drawn}
+use Rattle.priority_draw.specs.Drawing.{draw_of_seed}
 use Rattle.script_tree.specs.ScriptText.{ScriptText}
 use Rattle.script_code.specs.Listing.{listing}
-use Rattle.script_body.specs.BodyPosts.{pending_of}
+use Rattle.script_body.specs.BodyPosts.{pending_of_body}
 use Rattle.script_body.specs.Bodies.{bodies_of, AreOf}
 use Rattle.script_body.specs.declared.body.ScriptBody.{ScriptBody}
 use Rattle.worker_run.specs.Played.{IsRun}
@@ -21,8 +21,8 @@ abbrev pub IsTaskOf : ScriptText → Task → Type 0
 IsTaskOf script task = AreOf script (listing task.code.now) task.deal.now
 
 -- what its runs have in common
-abbrev pub setup_of : ScriptText → Task → Setup
-setup_of script task = record {
+abbrev pub setup_of_task : ScriptText → Task → Setup
+setup_of_task script task = record {
   deal = task.deal.now;
   bodies = bodies_of script;
   depth = task.depth;
@@ -33,7 +33,7 @@ setup_of script task = record {
 -- the order and the points of a seed
 abbrev pub plan_of_seed : Setup → ℕ → Plan
 plan_of_seed setup seed =
-    let gives = drawn seed setup.deal.threads setup.steps setup.depth in
+    let gives = draw_of_seed seed setup.deal.threads setup.steps setup.depth in
     ByPoints gives.order gives.points
 
 -- the test whose run is that of the seed
@@ -41,7 +41,7 @@ pub record IsSeedTest (setup : Setup) (seed : ℕ) (test : Test PointsKept Scrip
   pub deal : test.deal ≡ setup.deal
   pub plan : points_plan test.policy ≡ plan_of_seed setup seed
   pub limit : test.limit ≡ setup.limit
-  pub bodies : map pending_of test.bodies.items ≡ setup.bodies
+  pub bodies : map pending_of_body test.bodies.items ≡ setup.bodies
 
 -- one test for each seed from the one at the place on, where `first` is at place 0
 abbrev pub AreSeedTests : Setup → ℕ → ℕ → List (Test PointsKept ScriptBody) → Type 0

@@ -7,7 +7,7 @@ use Rattle.std.specs.Option.{option_map}
 use Rattle.std.specs.List.{range_with_len}
 use Rattle.pct_ask.specs.declared.Deal.{Deal}
 use Rattle.pct_ask.specs.declared.event.Row.{Row}
-use Rattle.priority_draw.specs.Drawing.{drawn}
+use Rattle.priority_draw.specs.Drawing.{draw_of_seed}
 use Rattle.worker_run.specs.Bodies.{Pending}
 use Rattle.worker_run.specs.Run.{Run, run}
 
@@ -23,16 +23,16 @@ pub record Setup : Type 0 where
 -- the run of the order and the points of a seed
 abbrev pub run_of_seed : Setup → ℕ → Option Run
 run_of_seed setup seed =
-    let gives = drawn seed setup.deal.threads setup.steps setup.depth in
+    let gives = draw_of_seed seed setup.deal.threads setup.steps setup.depth in
     run setup.deal setup.bodies gives.order gives.points setup.limit
 
 -- what a row has of a run: the number of its steps, and its verdict
-abbrev pub row_of : ℕ → Run → Row
-row_of seed ended = record { seed = seed; steps = length ended.0; verdict = ended.1 }
+abbrev pub row_of_run : ℕ → Run → Row
+row_of_run seed ended = record { seed = seed; steps = length ended.0; verdict = ended.1 }
 
 -- the row of a seed
 abbrev pub row_of_seed : Setup → ℕ → Option Row
-row_of_seed setup seed = option_map (row_of seed) (run_of_seed setup seed)
+row_of_seed setup seed = option_map (row_of_run seed) (run_of_seed setup seed)
 
 -- the seed of a row, from 0: after the last seed, 2^64 - 1, comes 0
 abbrev pub seed_at : ℕ → ℕ → ℕ

@@ -2,7 +2,8 @@
 ghost use Rattle.std.specs.Prelude.{◌≡◌, ◌≤◌, ◌+◌, length, IfOk, OnOk, Some, vec_capacity};
 ghost use Rattle.script_tree.specs.ScriptText.{ScriptText};
 ghost use Rattle.campaign.specs.Rows.{Setup, row_of_seed};
-ghost use Rattle.campaign.specs.Batches.{IsTaskOf, setup_of, IsSeedRun, AreSeedRuns, AreFirstRows};
+ghost use Rattle.campaign.specs.Batches.{IsTaskOf, setup_of_task, IsSeedRun, AreSeedRuns};
+ghost use Rattle.campaign.specs.Batches.{AreFirstRows};
 
 use crate::seed_tests::{seed_test, seed_tests};
 use crate::task::Task;
@@ -40,7 +41,7 @@ fn runs_of_seeds<R: Threads + Wait + Sync, G: Gate>(
     ensures long { IfOk result (λ runs. start + length runs.items ≡ end) }
     ensures runs { (script : ScriptText) → IsTaskOf script task.now
         → IfOk result (λ runs.
-        AreSeedRuns (setup_of script task.now) task.now.first start runs.items) }
+        AreSeedRuns (setup_of_task script task.now) task.now.first start runs.items) }
 {
     let tests = seed_tests(alloc, task, start, end)?;
     run_many(rt, alloc, tests, gate)
@@ -50,13 +51,14 @@ fn runs_of_seeds<R: Threads + Wait + Sync, G: Gate>(
 fn push_rows(task: &Task<'_>, rows: &mut Vec<Row>, runs: &[Played])
     requires script { (script : ScriptText) × IsTaskOf script task.now }
     requires runs { (script : ScriptText) → IsTaskOf script task.now
-        → AreSeedRuns (setup_of script task.now) task.now.first (length rows.old.items) runs.now }
+        → AreSeedRuns (setup_of_task script task.now) task.now.first
+        (length rows.old.items) runs.now }
     requires room { length rows.old.items + length runs.now ≤ vec_capacity rows.old }
     ensures room { vec_capacity rows.new ≡ vec_capacity rows.old }
     ensures long { length rows.new.items ≡ length rows.old.items + length runs.now }
     ensures rows { (script : ScriptText) → IsTaskOf script task.now
-        → AreFirstRows (setup_of script task.now) task.now.first rows.old.items
-        → AreFirstRows (setup_of script task.now) task.now.first rows.new.items }
+        → AreFirstRows (setup_of_task script task.now) task.now.first rows.old.items
+        → AreFirstRows (setup_of_task script task.now) task.now.first rows.new.items }
 {
     for played in runs {
         let seed = task.seed_at(rows.len());
@@ -74,7 +76,7 @@ fn row_of_seed<R: Threads + Wait + Sync, G: Gate>(
 ) -> Result<Row, NoMemory>
     requires script { (script : ScriptText) × IsTaskOf script task.now }
     ensures { (script : ScriptText) → IsTaskOf script task.now
-        → IfOk result (λ row. row_of_seed (setup_of script task.now) seed ≡ Some row) }
+        → IfOk result (λ row. row_of_seed (setup_of_task script task.now) seed ≡ Some row) }
 {
     let Test {
         deal,
@@ -101,8 +103,8 @@ fn add_alone<R: Threads + Wait + Sync, G: Gate>(
     ensures room { vec_capacity rows.new ≡ vec_capacity rows.old }
     ensures long { OnOk result (length rows.new.items ≡ end) }
     ensures rows { (script : ScriptText) → IsTaskOf script task.now
-        → AreFirstRows (setup_of script task.now) task.now.first rows.old.items
-        → AreFirstRows (setup_of script task.now) task.now.first rows.new.items }
+        → AreFirstRows (setup_of_task script task.now) task.now.first rows.old.items
+        → AreFirstRows (setup_of_task script task.now) task.now.first rows.new.items }
 {
     for place in rows.len()..end {
         let row = row_of_seed(rt, alloc, task, task.seed_at(place), gate)?;
@@ -127,8 +129,8 @@ pub fn add_rows<R: Threads + Wait + Sync, G: Gate>(
     ensures room { vec_capacity rows.new ≡ vec_capacity rows.old }
     ensures long { OnOk result (length rows.new.items ≡ end) }
     ensures rows { (script : ScriptText) → IsTaskOf script task.now
-        → AreFirstRows (setup_of script task.now) task.now.first rows.old.items
-        → AreFirstRows (setup_of script task.now) task.now.first rows.new.items }
+        → AreFirstRows (setup_of_task script task.now) task.now.first rows.old.items
+        → AreFirstRows (setup_of_task script task.now) task.now.first rows.new.items }
 {
     match runs_of_seeds(rt, alloc, task, rows.len(), end, gate) {
         Ok(runs) => {

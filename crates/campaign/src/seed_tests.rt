@@ -1,10 +1,10 @@
 // The tests of a campaign's seeds.
 ghost use Rattle.std.specs.Prelude.{◌≡◌, ◌≤◌, ◌+◌, length, IfOk};
 ghost use Rattle.script_tree.specs.ScriptText.{ScriptText};
-ghost use Rattle.script_body.specs.BodyPosts.{pending_of};
+ghost use Rattle.script_body.specs.BodyPosts.{pending_of_body};
 ghost use Rattle.policy_pick.specs.Kept.{points_plan, PointsStand};
 ghost use Rattle.worker_run.specs.Tests.{IsTest, AreTests};
-ghost use Rattle.campaign.specs.Batches.{IsTaskOf, setup_of, IsSeedTest, AreSeedTests};
+ghost use Rattle.campaign.specs.Batches.{IsTaskOf, setup_of_task, IsSeedTest, AreSeedTests};
 
 use crate::task::Task;
 use policy_pick::Pct;
@@ -20,9 +20,9 @@ pub fn seed_test<'c>(
     seed: u64,
 ) -> Result<Test<Pct, ScriptBody<'c>>, NoMemory>
     requires script { (script : ScriptText) × IsTaskOf script task.now }
-    ensures asked { IfOk result (λ test. IsTest pending_of points_plan PointsStand test) }
+    ensures asked { IfOk result (λ test. IsTest pending_of_body points_plan PointsStand test) }
     ensures of_seed { (script : ScriptText) → IsTaskOf script task.now
-        → IfOk result (IsSeedTest (setup_of script task.now) seed) }
+        → IfOk result (IsSeedTest (setup_of_task script task.now) seed) }
 {
     let mut words = Words::of_seed(seed);
     let order = words.draw_order(alloc, task.deal.threads)?;
@@ -49,10 +49,11 @@ pub fn seed_tests<'c>(
     requires script { (script : ScriptText) × IsTaskOf script task.now }
     requires places { start ≤ end }
     ensures long { IfOk result (λ tests. start + length tests.items ≡ end) }
-    ensures asked { IfOk result (λ tests. AreTests pending_of points_plan PointsStand tests.items) }
+    ensures asked { IfOk result
+        (λ tests. AreTests pending_of_body points_plan PointsStand tests.items) }
     ensures of_seeds { (script : ScriptText) → IsTaskOf script task.now
         → IfOk result (λ tests.
-        AreSeedTests (setup_of script task.now) task.now.first start tests.items) }
+        AreSeedTests (setup_of_task script task.now) task.now.first start tests.items) }
 {
     let mut tests = Vec::with_capacity(alloc, end - start)?;
     for place in start..end {

@@ -9,7 +9,7 @@ use Rattle.pct_ask.specs.VerdictWords.{words_of}
 use Rattle.pct_ask.specs.declared.verdict.Verdict.{Verdict}
 use Rattle.rank_now.specs.declared.moment.Moment.{Moment}
 use Rattle.directive.specs.Lines.{pieces_of}
-use Rattle.directive.specs.Reading.{Fault, Body, row_of, low_words, after_words, low_in, judged, unended_fault, with_moment, closed, after_row, body_of, low_read, low_known, second_line, first_line}
+use Rattle.directive.specs.Reading.{Fault, Body, row_of, low_words, after_words, low_in, line_or_fault, unended_fault, with_moment, body_at_verdict, after_row, body_of, low_read, low_known, second_line, read_from_first}
 use Rattle.directive.specs.Seen.{seen, pieces_after, Fails}
 use Rattle.directive.specs.declared.fault.DirectiveError.{DirectiveError}
 use Rattle.directive.specs.declared.fault.DirectiveError.TheVariants.{Bad}
@@ -49,7 +49,7 @@ pieces_of-some (b ∷ bs) = first-by (b == 10) b (pieces_of bs)
 -- ---- the first two lines
 
 -- the first line, and what follows
-pub first-cut : (names : NameLists) (pieces : List (List ℕ)) (text : List ℕ) (after : List ℕ) → pieces ≡ text ∷ pieces_of after → first_line names pieces ≡ (if bytes_eq text (codes "directive 1") then second_line names (pieces_of after) else Err (1, BadHeader))
+pub first-cut : (names : NameLists) (pieces : List (List ℕ)) (text : List ℕ) (after : List ℕ) → pieces ≡ text ∷ pieces_of after → read_from_first names pieces ≡ (if bytes_eq text (codes "directive 1") then second_line names (pieces_of after) else Err (1, BadHeader))
 first-cut names pieces text after is = let some = pieces_of-some after in rw (is, some.2)
 
 pub second-cut : (names : NameLists) (pieces : List (List ℕ)) (text : List ℕ) (after : List ℕ) → pieces ≡ text ∷ pieces_of after → second_line names pieces ≡ low_read names (low_in text) (pieces_of after)
@@ -77,7 +77,7 @@ line_then k (Ok (sound.Event moment)) after others = with_moment moment others
 line_then k (Ok (sound.Last verdict)) [] others = Ok ([], verdict)
 line_then k (Ok (sound.Last verdict)) (b ∷ bs) others = Err (k + 1, MoreAfterVerdict)
 
-closed-more : (t : Bool) (k : ℕ) (verdict : Verdict) (b : ℕ) (bs piece : List ℕ) (pieces : List (List ℕ)) → cond t ([] ∷ pieces_of bs) (onto_first b (pieces_of bs)) ≡ piece ∷ pieces → closed k verdict piece pieces ≡ Err (k, MoreAfterVerdict)
+closed-more : (t : Bool) (k : ℕ) (verdict : Verdict) (b : ℕ) (bs piece : List ℕ) (pieces : List (List ℕ)) → cond t ([] ∷ pieces_of bs) (onto_first b (pieces_of bs)) ≡ piece ∷ pieces → body_at_verdict k verdict piece pieces ≡ Err (k, MoreAfterVerdict)
 closed-more true k verdict b bs piece pieces is =
     let some = pieces_of-some bs in
     let first : [] ≡ piece = cc in
@@ -89,7 +89,7 @@ closed-more false k verdict b bs piece pieces is =
     let first : b ∷ some.0 ≡ piece = cc in
     rw (← first)
 
-closed-after : (k : ℕ) (verdict : Verdict) (after piece : List ℕ) (pieces : List (List ℕ)) (others : Result Body Fault) → pieces_of after ≡ piece ∷ pieces → closed (k + 1) verdict piece pieces ≡ line_then k (Ok (sound.Last verdict)) after others
+closed-after : (k : ℕ) (verdict : Verdict) (after piece : List ℕ) (pieces : List (List ℕ)) (others : Result Body Fault) → pieces_of after ≡ piece ∷ pieces → body_at_verdict (k + 1) verdict piece pieces ≡ line_then k (Ok (sound.Last verdict)) after others
 closed-after k verdict [] piece pieces others is =
     let first : [] ≡ piece = cc in
     let none : [] ≡ pieces = cc in
@@ -102,14 +102,15 @@ row-then k (Ok (sound.Event moment)) after piece pieces others is = refl
 row-then k (Ok (sound.Last verdict)) after piece pieces others is = closed-after k verdict after piece pieces others is
 
 -- a line that has its LF
-pub body-line : (names : NameLists) (k : ℕ) (pieces : List (List ℕ)) (text after : List ℕ) (row : Option Row) → pieces ≡ text ∷ pieces_of after → row ≡ row_of names text → body_of names k pieces ≡ line_then k (judged k row) after (body_of names (k + 1) (pieces_of after))
+pub body-line : (names : NameLists) (k : ℕ) (pieces : List (List ℕ)) (text after : List ℕ) (row : Option Row) → pieces ≡ text ∷ pieces_of after → row ≡ row_of names text → body_of names k pieces ≡ line_then k (line_or_fault k row) after (body_of names (k + 1) (pieces_of after))
 body-line names k pieces text after row is says =
     let some = pieces_of-some after in
     let whole : pieces ≡ text ∷ some.0 ∷ some.1 = is ∙ ap (λ ps. text ∷ ps) some.2 in
     ap (body_of names k) whole
-    ∙ row-then k (judged k (row_of names text)) after some.0 some.1 (body_of names (k + 1) (some.0 ∷ some.1)) some.2
-    ∙ ap (λ ps. line_then k (judged k (row_of names text)) after (body_of names (k + 1) ps)) (sym some.2)
-    ∙ ap (λ r. line_then k (judged k r) after (body_of names (k + 1) (pieces_of after))) (sym says)
+    ∙ row-then k (line_or_fault k (row_of names text)) after some.0 some.1 (body_of names (k + 1) (some.0 ∷ some.1)) some.2
+    ∙ ap (λ ps. line_then k (line_or_fault k (row_of names text)) after (body_of names (k + 1) ps)) (sym some.2)
+    ∙ ap (λ r. line_then k (line_or_fault k r) after (body_of names (k + 1) (pieces_of after)))
+    (sym says)
 
 -- a line that lacks its LF
 pub body-unended : (names : NameLists) (k : ℕ) (pieces : List (List ℕ)) (text : List ℕ) (row : Option Row) → pieces ≡ text ∷ [] → row ≡ row_of names text → body_of names k pieces ≡ Err (k, unended_fault k row text)
@@ -122,7 +123,7 @@ pub cut-whole : (pieces : List (List ℕ)) (text : List ℕ) (rest : Option (Bor
 cut-whole pieces text rest after is some = is ∙ ap (λ r. text ∷ pieces_after r) some
 
 -- a line that has its LF, after the moments before
-pub body-read : (names : NameLists) (k : ℕ) (events : List Moment) (pieces : List (List ℕ)) (text : List ℕ) (rest : Option (Bor (List ℕ))) (after : Bor (List ℕ)) (row : Option Row) (read : Result Sound DirectiveFault) (start : Result Body Fault) → with_moments events (body_of names k pieces) ≡ start → pieces ≡ text ∷ pieces_after rest → rest ≡ Some after → row ≡ row_of names text → judged k row ≡ read
+pub body-read : (names : NameLists) (k : ℕ) (events : List Moment) (pieces : List (List ℕ)) (text : List ℕ) (rest : Option (Bor (List ℕ))) (after : Bor (List ℕ)) (row : Option Row) (read : Result Sound DirectiveFault) (start : Result Body Fault) → with_moments events (body_of names k pieces) ≡ start → pieces ≡ text ∷ pieces_after rest → rest ≡ Some after → row ≡ row_of names text → line_or_fault k row ≡ read
     → start ≡ with_moments events (line_then k read after.now (body_of names (k + 1) (pieces_of after.now)))
 body-read names k events pieces text rest after row read start same is some says judge =
     sym same
@@ -139,12 +140,12 @@ pub last-more : (events : List Moment) (k : ℕ) (verdict : Verdict) (after : Li
 last-more events k verdict [] others some = absurd (some refl)
 last-more events k verdict (b ∷ bs) others some = refl
 
-late-event : (late : Bool) (k : ℕ) (thread : Option ℕ) (number : ℕ) (moment : Moment) → nat_lt 9 k ≡ late → judged k (Some (After thread number)) ≡ Ok (sound.Event moment) → k ≤ 9
+late-event : (late : Bool) (k : ℕ) (thread : Option ℕ) (number : ℕ) (moment : Moment) → nat_lt 9 k ≡ late → line_or_fault k (Some (After thread number)) ≡ Ok (sound.Event moment) → k ≤ 9
 late-event true k thread number moment e h = absurd (let bad : Err TooLong ≡ Ok (sound.Event moment) = rw e at h in cc)
 late-event false k thread number moment e h = grind (arith, nat_tests)
 
 -- a moment stands on one of the lines up to 9
-pub judged-within : (k : ℕ) (row : Option Row) (moment : Moment) → judged k row ≡ Ok (sound.Event moment) → k ≤ 9
+pub judged-within : (k : ℕ) (row : Option Row) (moment : Moment) → line_or_fault k row ≡ Ok (sound.Event moment) → k ≤ 9
 judged-within k None moment h = absurd cc
 judged-within k (Some (After thread number)) moment h = late-event (nat_lt 9 k) k thread number moment refl h
 judged-within k (Some (End None)) moment h = absurd cc
@@ -158,7 +159,7 @@ pub fails-by : {Y : Type 0} (error : DirectiveError) (k : ℕ) (kind : Directive
 fails-by error k kind read is h = rw is h
 
 -- what follows a first line that is as it should be
-pub first-found : (names : NameLists) (pieces : List (List ℕ)) (text : List ℕ) (rest : Option (Bor (List ℕ))) → pieces ≡ text ∷ pieces_after rest → bytes_eq text (codes "directive 1") ≡ true → MatchOption rest (first_line names pieces ≡ Err (1, BadHeader)) (λ after. first_line names pieces ≡ second_line names (pieces_of after.now))
+pub first-found : (names : NameLists) (pieces : List (List ℕ)) (text : List ℕ) (rest : Option (Bor (List ℕ))) → pieces ≡ text ∷ pieces_after rest → bytes_eq text (codes "directive 1") ≡ true → MatchOption rest (read_from_first names pieces ≡ Err (1, BadHeader)) (λ after. read_from_first names pieces ≡ second_line names (pieces_of after.now))
 first-found names pieces text None is head = rw is
 first-found names pieces text (Some after) is head = first-cut names pieces text after.now is ∙ rw head
 

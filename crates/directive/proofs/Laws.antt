@@ -13,11 +13,13 @@ use Rattle.pct_ask.proofs.laws.Names.{place_of-Some, place_of-thread, thread-law
 use Rattle.rank_now.specs.declared.moment.Moment.{Moment}
 use Rattle.directive.specs.DirectiveText.{DirectiveText, low_line, moment_line, verdict_line, directive_lines}
 use Rattle.directive.specs.Forms.{IsLow, HasUnknownLow}
-use Rattle.directive.specs.Lines.{pieces_of, Line, first_line as line_of, line_at}
+use Rattle.directive.specs.Lines.{pieces_of, LineBytes, first_line as line_of, line_at}
 use Rattle.directive.specs.Directive.{IsMoment, IsSound, IsDirective}
-use Rattle.directive.specs.Faults.{IsSecondLine, IsBelow, IsFaulty, IsFirstFault, IsDirectiveFault}
-use Rattle.directive.specs.Answers.{TellsOne, FailsOnce, EachHasOneAnswer, told, Answers}
-use Rattle.directive.specs.Reading.{Fault, Body, low_in, row_of, judged, with_moment, after_row, body_of, told_of, low_known, low_read, second_line, first_line, read}
+use Rattle.directive.specs.Faults.{IsSecondLine, IsBelowSecond, IsFaulty, IsFirstFault}
+use Rattle.directive.specs.Faults.{IsDirectiveFault}
+use Rattle.directive.specs.Answers.{TellsOne, FailsOnce, EachHasOneAnswer, plain_directive}
+use Rattle.directive.specs.Answers.{AnswersDirective}
+use Rattle.directive.specs.Reading.{Fault, Body, low_in, row_of, line_or_fault, with_moment, after_row, body_of, told_of, low_known, low_read, second_line, read_from_first, read_as_directive}
 use Rattle.directive.specs.Seen.{Gives}
 use Rattle.directive.specs.declared.directive.Directive.{Directive}
 use Rattle.directive.specs.declared.row.Sound.TheVariants as sound
@@ -38,10 +40,10 @@ abbrev ToldBy : ℕ → NameLists → List (List ℕ) → Result DirectiveText F
 ToldBy size names all (Ok text) = (all ≡ directive_lines names text ++ [] ∷ []) × IsSound names text × ((line : ℕ) (kind : DirectiveFault) → ¬ IsFaulty size names all line kind)
 ToldBy size names all (Err fault) = IsFirstFault size names all fault.0 fault.1
 
-abbrev made : List ℕ → Bool → Line
+abbrev made : List ℕ → Bool → LineBytes
 made text whole = record { text = text; whole = whole }
 
-below-two : (names : NameLists) (all : List (List ℕ)) → IsBelow names all 3
+below-two : (names : NameLists) (all : List (List ℕ)) → IsBelowSecond names all 3
 below-two names all = record { later = omega arith; unended = λ j three less. absurd (omega arith) }
 
 module _ (size : ℕ) (names : NameLists) (valid : AreNames names) (all : List (List ℕ)) (small : ¬ (65536 < size)) where
@@ -90,7 +92,8 @@ module _ (size : ℕ) (names : NameLists) (valid : AreNames names) (all : List (
   second-by (piece ∷ []) is sound_to = low-unended (piece ∷ []) (ap (drop 1) is) refl sound_to
   second-by (piece ∷ after ∷ pieces) is sound_to = second-told piece after pieces is sound_to
 
-  first-by : (rest : List (List ℕ)) → all ≡ rest → ToldBy size names all (first_line names rest)
+  first-by : (rest : List (List ℕ)) → all ≡ rest
+      → ToldBy size names all (read_from_first names rest)
   first-by [] is = first-head size names all small (rw (line-here all [] 0 is) (λ first. (let bad : false ≡ true = first.whole in cc)))
   first-by (piece ∷ []) is = first-head size names all small (rw (line-here all (piece ∷ []) 0 is) (λ first. (let bad : false ≡ true = first.whole in cc)))
   first-by (piece ∷ after ∷ pieces) is = by (bytes_eq piece (codes "directive 1")) refl
@@ -110,7 +113,7 @@ abbrev pub IsTold : List ℕ → NameLists → Result DirectiveText Fault → Ty
 IsTold bytes names (Ok text) = IsDirective bytes names text × ((line : ℕ) (kind : DirectiveFault) → ¬ IsDirectiveFault bytes names line kind)
 IsTold bytes names (Err fault) = IsDirectiveFault bytes names fault.0 fault.1
 
-pub read-told : (bytes : List ℕ) (names : NameLists) → AreNames names → IsTold bytes names (read names bytes)
+pub read-told : (bytes : List ℕ) (names : NameLists) → AreNames names → IsTold bytes names (read_as_directive names bytes)
 read-told bytes names valid = by (nat_lt 65536 (length bytes)) refl
   where
     fits : (result : Result DirectiveText Fault) → length bytes ≤ 65536 → ToldBy (length bytes) names (pieces_of bytes) result → IsTold bytes names result
@@ -118,11 +121,11 @@ read-told bytes names valid = by (nat_lt 65536 (length bytes)) refl
         (record { sound = h.1; small = small; text = text-pieces bytes (directive_lines names text) h.0 }, λ line kind fault. h.2 line kind fault.faulty)
     fits (Err fault) small h = h
 
-    by : (large : Bool) → nat_lt 65536 (length bytes) ≡ large → IsTold bytes names (if large then Err (1, TooLong) else first_line names (pieces_of bytes))
+    by : (large : Bool) → nat_lt 65536 (length bytes) ≡ large → IsTold bytes names (if large then Err (1, TooLong) else read_from_first names (pieces_of bytes))
     by true e = first-size (length bytes) names (pieces_of bytes) (grind (arith, nat_tests))
     by false e =
         let small : length bytes ≤ 65536 = grind (arith, nat_tests) in
-        fits (first_line names (pieces_of bytes)) small (first-by (length bytes) names valid (pieces_of bytes) (λ large. omega arith) (pieces_of bytes) refl)
+        fits (read_from_first names (pieces_of bytes)) small (first-by (length bytes) names valid (pieces_of bytes) (λ large. omega arith) (pieces_of bytes) refl)
 
 -- ---- a directive's text is read as it
 
@@ -133,7 +136,7 @@ some-pieces (line ∷ lines) = (line, pieces_of_lines lines, refl)
 second-lines : (names : NameLists) (piece : List ℕ) (lines : List (List ℕ)) → second_line names (piece ∷ pieces_of_lines lines) ≡ low_read names (low_in piece) (pieces_of_lines lines)
 second-lines names piece lines = let some = some-pieces lines in rw some.2
 
-event-lines : (names : NameLists) (k : ℕ) (piece : List ℕ) (lines : List (List ℕ)) (moment : Moment) → judged k (row_of names piece) ≡ Ok (sound.Event moment) → body_of names k (piece ∷ pieces_of_lines lines) ≡ with_moment moment (body_of names (k + 1) (pieces_of_lines lines))
+event-lines : (names : NameLists) (k : ℕ) (piece : List ℕ) (lines : List (List ℕ)) (moment : Moment) → line_or_fault k (row_of names piece) ≡ Ok (sound.Event moment) → body_of names k (piece ∷ pieces_of_lines lines) ≡ with_moment moment (body_of names (k + 1) (pieces_of_lines lines))
 event-lines names k piece lines moment says =
     let some = some-pieces lines in
     ap (λ ps. body_of names k (piece ∷ ps)) some.2
@@ -142,18 +145,18 @@ event-lines names k piece lines moment says =
 
 body-lines : (names : NameLists) (k : ℕ) (events : List Moment) (verdict : Verdict) → AreNames names → All (IsMoment names) events → Told names (verdict_line (verdict_text names verdict)) verdict → k + length events ≤ 10 → body_of names k (pieces_of_lines (map (moment_line names) events ++ verdict_line (verdict_text names verdict) ∷ [])) ≡ Ok (events, verdict)
 body-lines names k [] verdict valid all last room =
-    ap (λ r. after_row k (judged k r) [] [] (body_of names (k + 1) ([] ∷ []))) (row_of-Told names (verdict_line (verdict_text names verdict)) verdict valid last)
+    ap (λ r. after_row k (line_or_fault k r) [] [] (body_of names (k + 1) ([] ∷ []))) (row_of-Told names (verdict_line (verdict_text names verdict)) verdict valid last)
 body-lines names k (moment ∷ events) verdict valid all last room =
     let is = All-head (IsMoment names) moment events all in
     let name = thread_name names moment.thread in
     let row = row_of-IsAfter names (moment_line names moment) name moment.number (record { lawful = thread-lawful names moment.thread valid is.thread; range = is.number; spelled = refl }) in
     let soon : nat_lt 9 k ≡ false = grind (arith, nat_tests) in
     let found = place_of-thread names moment.thread valid is.thread in
-    let says : judged k (row_of names (moment_line names moment)) ≡ Ok (sound.Event moment) = ap (judged k) row ∙ rw (found, soon) in
+    let says : line_or_fault k (row_of names (moment_line names moment)) ≡ Ok (sound.Event moment) = ap (line_or_fault k) row ∙ rw (found, soon) in
     event-lines names k (moment_line names moment) (map (moment_line names) events ++ verdict_line (verdict_text names verdict) ∷ []) moment says
     ∙ ap (with_moment moment) (body-lines names (k + 1) events verdict valid (All-tail (IsMoment names) moment events all) last (omega arith))
 
-pub read-directive : (bytes : List ℕ) (names : NameLists) (text : DirectiveText) → AreNames names → IsDirective bytes names text → read names bytes ≡ Ok text
+pub read-directive : (bytes : List ℕ) (names : NameLists) (text : DirectiveText) → AreNames names → IsDirective bytes names text → read_as_directive names bytes ≡ Ok text
 read-directive bytes names text valid is =
     let small : nat_lt 65536 (length bytes) ≡ false = (let s = is.small in grind (arith, nat_tests)) in
     let body = map (moment_line names) text.events ++ verdict_line (verdict_text names text.verdict) ∷ [] in
@@ -162,8 +165,8 @@ read-directive bytes names text valid is =
     let name = low_in-IsLow low (thread_name names text.low) (record { lawful = thread-lawful names text.low valid is.sound.low; spelled = refl }) in
     let found = place_of-thread names text.low valid is.sound.low in
     let told = body-lines names 3 text.events text.verdict valid is.sound.events (record { threads = is.sound.threads; form = is.sound.form; spelled = refl }) (omega (arith, is.sound.few)) in
-    ap (λ b. if b then Err (1, TooLong) else first_line names (pieces_of bytes)) small
-    ∙ ap (first_line names) lines
+    ap (λ b. if b then Err (1, TooLong) else read_from_first names (pieces_of bytes)) small
+    ∙ ap (read_from_first names) lines
     ∙ second-lines names low body
     ∙ ap (λ n. low_read names n (pieces_of_lines body)) name
     ∙ ap (λ p. low_known names p (pieces_of_lines body)) found
@@ -175,9 +178,10 @@ ok-same : (a b : DirectiveText) → ◌≡◌ {A = Result DirectiveText Fault} (
 ok-same a b e = cc
 
 pub each-has-one : EachHasOneAnswer
-each-has-one bytes names valid = by (read names bytes) refl (read-told bytes names valid)
+each-has-one bytes names valid =
+    by (read_as_directive names bytes) refl (read-told bytes names valid)
   where
-    by : (result : Result DirectiveText Fault) → read names bytes ≡ result → IsTold bytes names result → TellsOne bytes names ⊎ FailsOnce bytes names
+    by : (result : Result DirectiveText Fault) → read_as_directive names bytes ≡ result → IsTold bytes names result → TellsOne bytes names ⊎ FailsOnce bytes names
     by (Ok text) e h = inl (text, record { is = h.0; only = λ other is. ok-same text other (sym e ∙ read-directive bytes names other valid is); faultless = h.1 })
     by (Err fault) e h = inr (
       fault.0,
@@ -191,17 +195,17 @@ each-has-one bytes names valid = by (read names bytes) refl (read-told bytes nam
 
 -- ---- and what a call answers is it
 
-pub answer-given : (bytes : List ℕ) (names : NameLists) (result : Result Directive DirectiveError) → AreNames names → Gives told result (read names bytes) → Answers bytes names result
+pub answer-given : (bytes : List ℕ) (names : NameLists) (result : Result Directive DirectiveError) → AreNames names → Gives plain_directive result (read_as_directive names bytes) → AnswersDirective bytes names result
 answer-given bytes names (Ok directive) valid gives = (subst (IsTold bytes names) gives (read-told bytes names valid)).0
 answer-given bytes names (Err (Bad line kind)) valid gives = subst (IsTold bytes names) gives (read-told bytes names valid)
 answer-given bytes names (Err NoMemory) valid gives = tt
 
-pub directive-given : (bytes : List ℕ) (names : NameLists) (result : Result Directive DirectiveError) (text : DirectiveText) → AreNames names → Gives told result (read names bytes) → IsDirective bytes names text → MatchResult result (λ directive. told directive ≡ text) (λ error. error ≡ NoMemory)
-directive-given bytes names (Ok directive) text valid gives is = ok-same (told directive) text (sym gives ∙ read-directive bytes names text valid is)
+pub directive-given : (bytes : List ℕ) (names : NameLists) (result : Result Directive DirectiveError) (text : DirectiveText) → AreNames names → Gives plain_directive result (read_as_directive names bytes) → IsDirective bytes names text → MatchResult result (λ directive. plain_directive directive ≡ text) (λ error. error ≡ NoMemory)
+directive-given bytes names (Ok directive) text valid gives is = ok-same (plain_directive directive) text (sym gives ∙ read-directive bytes names text valid is)
 directive-given bytes names (Err (Bad line kind)) text valid gives is = absurd (let both : Err (line, kind) ≡ Ok text = sym gives ∙ read-directive bytes names text valid is in cc)
 directive-given bytes names (Err NoMemory) text valid gives is = refl
 
-pub fault-given : (bytes : List ℕ) (names : NameLists) (result : Result Directive DirectiveError) (line : ℕ) (kind : DirectiveFault) → AreNames names → Gives told result (read names bytes) → IsDirectiveFault bytes names line kind → (result ≡ Err (Bad line kind)) ⊎ (result ≡ Err NoMemory)
+pub fault-given : (bytes : List ℕ) (names : NameLists) (result : Result Directive DirectiveError) (line : ℕ) (kind : DirectiveFault) → AreNames names → Gives plain_directive result (read_as_directive names bytes) → IsDirectiveFault bytes names line kind → (result ≡ Err (Bad line kind)) ⊎ (result ≡ Err NoMemory)
 fault-given bytes names (Ok directive) line kind valid gives fault = absurd ((subst (IsTold bytes names) gives (read-told bytes names valid)).1 line kind fault)
 fault-given bytes names (Err (Bad l k)) line kind valid gives fault =
     let same = first-only (length bytes) names (pieces_of bytes) l line k kind (subst (IsTold bytes names) gives (read-told bytes names valid)) fault in

@@ -11,10 +11,10 @@ use Rattle.pct_ask.proofs.laws.Names.{place_of-Some}
 use Rattle.rank_now.specs.declared.moment.Moment.{Moment}
 use Rattle.directive.specs.DirectiveText.{after_line, moment_line, verdict_line}
 use Rattle.directive.specs.Forms.{IsAfter, IsAfterText, IsVerdictText, HasUnknownAfter, HasUnknownVerdict}
-use Rattle.directive.specs.Lines.{Line, line_at, IsThere}
+use Rattle.directive.specs.Lines.{LineBytes, line_at, HasByte}
 use Rattle.directive.specs.Directive.{IsMoment}
-use Rattle.directive.specs.Faults.{IsBelow, IsFaulty, IsFirstFault}
-use Rattle.directive.specs.Reading.{Fault, Body, row_of, unended_fault, judged, judged_moment, with_moment, closed, after_row, body_of}
+use Rattle.directive.specs.Faults.{IsBelowSecond, IsFaulty, IsFirstFault}
+use Rattle.directive.specs.Reading.{Fault, Body, row_of, unended_fault, line_or_fault, judged_moment, with_moment, body_at_verdict, after_row, body_of}
 use Rattle.directive.specs.declared.row.Row.{Row}
 use Rattle.directive.specs.declared.row.Row.TheVariants.{After, End}
 use Rattle.directive.specs.declared.fault.DirectiveFault.{DirectiveFault}
@@ -37,10 +37,10 @@ BodyTold size names all k rest (Ok body) = BodyIs size names all k rest body.0 b
 BodyTold size names all k rest (Err fault) = IsFirstFault size names all fault.0 fault.1
 
 -- a line by its text and its LF
-abbrev made : List ℕ → Bool → Line
+abbrev made : List ℕ → Bool → LineBytes
 made text whole = record { text = text; whole = whole }
 
-module _ (size : ℕ) (names : NameLists) (valid : AreNames names) (all : List (List ℕ)) (k : ℕ) (sound_to : SoundTo size names all k) (below : IsBelow names all k) where
+module _ (size : ℕ) (names : NameLists) (valid : AreNames names) (all : List (List ℕ)) (k : ℕ) (sound_to : SoundTo size names all k) (below : IsBelowSecond names all k) where
   -- a line with no LF
   unended-told : (text : List ℕ) (row : Option Row) → line_at all k ≡ made text false → RowTold names text row → IsFirstFault size names all k (unended_fault k row text)
   unended-told [] None here h =
@@ -98,7 +98,7 @@ module _ (size : ℕ) (names : NameLists) (valid : AreNames names) (all : List (
       (rw here (λ u. (let same = after-name text name u.0 number u.1 is u.2 in let bad : Some thread ≡ None = sym found ∙ (ap (λ n. place_of n names.threads) same ∙ u.3) in cc)))
       (rw here (λ u. after-no-verdict names text name number u.0 is u.1))
 
-  moment-below : (text name : List ℕ) (number : ℕ) → line_at all k ≡ made text true → IsAfter text name number → IsBelow names all (k + 1)
+  moment-below : (text name : List ℕ) (number : ℕ) → line_at all k ≡ made text true → IsAfter text name number → IsBelowSecond names all (k + 1)
   moment-below text name number here is = record {
     later = omega (arith, below.later);
     unended = λ j three less. by j three (j-cases j less);
@@ -134,7 +134,7 @@ module _ (size : ℕ) (names : NameLists) (valid : AreNames names) (all : List (
       by (inl less) f = sound-next size names all k sound_to (verdict-sound text verdict here is) line kind less f
       by (inr past) f = line-past size names all k line below.later past told_here (not-there all (n + 1) line left (omega arith)) kind f
 
-  verdict-more : (text : List ℕ) (verdict : Verdict) → line_at all k ≡ made text true → Told names text verdict → IsThere (line_at all (k + 1)) → IsFirstFault size names all (k + 1) MoreAfterVerdict
+  verdict-more : (text : List ℕ) (verdict : Verdict) → line_at all k ≡ made text true → Told names text verdict → HasByte (line_at all (k + 1)) → IsFirstFault size names all (k + 1) MoreAfterVerdict
   verdict-more text verdict here is there =
       first-more size names all k below.later (sound-next size names all k sound_to (verdict-sound text verdict here is)) (rw here (_, Told-IsVerdict names text verdict is)) there
 
@@ -148,7 +148,7 @@ moment-told size names all k text rest moment (Ok body) is known told = record {
 }
 moment-told size names all k text rest moment (Err fault) is known told = told
 
-pub body-told : (size : ℕ) (names : NameLists) → AreNames names → (all rest : List (List ℕ)) (n : ℕ) → drop n all ≡ rest → n ≤ 9 → SoundTo size names all (n + 1) → IsBelow names all (n + 1) → BodyTold size names all (n + 1) rest (body_of names (n + 1) rest)
+pub body-told : (size : ℕ) (names : NameLists) → AreNames names → (all rest : List (List ℕ)) (n : ℕ) → drop n all ≡ rest → n ≤ 9 → SoundTo size names all (n + 1) → IsBelowSecond names all (n + 1) → BodyTold size names all (n + 1) rest (body_of names (n + 1) rest)
 body-told size names valid all [] n left low sound_to below =
     let here = line-here all [] n left in
     first-no-verdict size names all (n + 1) sound_to below
@@ -173,13 +173,13 @@ body-told size names valid all (piece ∷ after ∷ pieces) n left low sound_to 
     next = drop-next all n piece (after ∷ pieces) left
 
     Further : Type 0
-    Further = SoundTo size names all (n + 1 + 1) → IsBelow names all (n + 1 + 1) → n + 1 ≤ 9 → BodyTold size names all (n + 1 + 1) (after ∷ pieces) (body_of names (n + 1 + 1) (after ∷ pieces))
+    Further = SoundTo size names all (n + 1 + 1) → IsBelowSecond names all (n + 1 + 1) → n + 1 ≤ 9 → BodyTold size names all (n + 1 + 1) (after ∷ pieces) (body_of names (n + 1 + 1) (after ∷ pieces))
 
-    there : (after : List ℕ) (pieces : List (List ℕ)) → drop (n + 1) all ≡ after ∷ pieces → (0 < length after) ⊎ (0 < length pieces) → IsThere (line_at all (n + 1 + 1))
+    there : (after : List ℕ) (pieces : List (List ℕ)) → drop (n + 1) all ≡ after ∷ pieces → (0 < length after) ⊎ (0 < length pieces) → HasByte (line_at all (n + 1 + 1))
     there a [] left some = rw (line-here all (a ∷ []) (n + 1) left) (inr (elim some [ inl h ↦ h | inr h ↦ absurd (omega arith) ]))
     there a (p ∷ ps) left some = rw (line-here all (a ∷ p ∷ ps) (n + 1) left) (inl refl)
 
-    last : (verdict : Verdict) → Told names piece verdict → (a : List ℕ) (ps : List (List ℕ)) → drop (n + 1) all ≡ a ∷ ps → BodyTold size names all (n + 1) (piece ∷ a ∷ ps) (closed (n + 1 + 1) verdict a ps)
+    last : (verdict : Verdict) → Told names piece verdict → (a : List ℕ) (ps : List (List ℕ)) → drop (n + 1) all ≡ a ∷ ps → BodyTold size names all (n + 1) (piece ∷ a ∷ ps) (body_at_verdict (n + 1 + 1) verdict a ps)
     last verdict told [] [] left = record {
       lines = ap (λ t. t ∷ [] ∷ []) told.spelled;
       sound = All-nil (IsMoment names);
@@ -204,7 +204,7 @@ body-told size names valid all (piece ∷ after ∷ pieces) n left low sound_to 
     after_by true thread number e h further = eighth-told size names valid all (n + 1) sound_to below piece here (h.0, number, h.1) (grind (arith, nat_tests))
     after_by false thread number e h further = moment h.0 number thread h.1 h.2 (grind (arith, nat_tests)) sound_to further
 
-    by : (row : Option Row) → RowTold names piece row → Further → BodyTold size names all (n + 1) (piece ∷ after ∷ pieces) (after_row (n + 1) (judged (n + 1) row) after pieces (body_of names (n + 1 + 1) (after ∷ pieces)))
+    by : (row : Option Row) → RowTold names piece row → Further → BodyTold size names all (n + 1) (piece ∷ after ∷ pieces) (after_row (n + 1) (line_or_fault (n + 1) row) after pieces (body_of names (n + 1 + 1) (after ∷ pieces)))
     by None h further = neither-told size names valid all (n + 1) sound_to below piece here h
     by (Some (After thread number)) h further = after_by (nat_lt 9 (n + 1)) thread number refl h further
     by (Some (End None)) h further = unknown-verdict-told size names valid all (n + 1) sound_to below piece here h

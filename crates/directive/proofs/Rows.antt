@@ -7,7 +7,7 @@ use Rattle.std.proofs.lemmas.List.{take-append-drop}
 use Rattle.std.proofs.lemmas.Slice.Eq.{bytes_eq-Decides}
 use Rattle.pct_ask.specs.Words.{is_name}
 use Rattle.pct_ask.specs.NameLists.{NameLists, AreNames, place_of}
-use Rattle.pct_ask.specs.VerdictText.{NamedVerdict, named, named_text, verdict_text, IsForm, HasNames}
+use Rattle.pct_ask.specs.VerdictText.{NamedVerdict, named_verdict, named_text, verdict_text, IsVerdictForm, HasNames}
 use Rattle.pct_ask.specs.VerdictRead.{ReadsAs}
 use Rattle.pct_ask.specs.VerdictWords.{words_of, verdict_of_words}
 use Rattle.pct_ask.specs.declared.verdict.Verdict.{Verdict}
@@ -141,10 +141,10 @@ moment-spelled names (a ∷ b ∷ c ∷ d ∷ words) row h = absurd cc
 
 pub record Told (names : NameLists) (text : List ℕ) (verdict : Verdict) : Type 0 where
   pub threads : HasNames names verdict
-  pub form : IsForm names (named names verdict)
+  pub form : IsVerdictForm names (named_verdict names verdict)
   pub spelled : text ≡ verdict_line (verdict_text names verdict)
 
-pub Told-IsVerdict : (names : NameLists) (text : List ℕ) (verdict : Verdict) → Told names text verdict → IsVerdict names text (named names verdict)
+pub Told-IsVerdict : (names : NameLists) (text : List ℕ) (verdict : Verdict) → Told names text verdict → IsVerdict names text (named_verdict names verdict)
 Told-IsVerdict names text verdict is = record { form = is.form; spelled = is.spelled }
 
 row_of-verdict : (names : NameLists) (text rest : List ℕ) → text ≡ verdict_line rest → row_of names text ≡ end_of (verdict_of_words names (words_of rest))

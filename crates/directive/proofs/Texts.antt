@@ -8,7 +8,7 @@ use Rattle.std.proofs.lemmas.List.Concat.{flat_map-append}
 use Rattle.std.proofs.lemmas.List.Splits.{slice_split_at, join_with_byte-slice_split}
 use Rattle.pct_ask.specs.Words.{is_name}
 use Rattle.pct_ask.specs.NameLists.{NameLists, AreNames}
-use Rattle.pct_ask.specs.VerdictText.{NamedVerdict, thread_name, verdict_words, named_text, named, verdict_text, IsForm, HasNames}
+use Rattle.pct_ask.specs.VerdictText.{NamedVerdict, thread_name, verdict_words, named_text, named_verdict, verdict_text, IsVerdictForm, HasNames}
 use Rattle.pct_ask.specs.declared.verdict.Verdict.{Verdict}
 use Rattle.pct_ask.proofs.laws.Names.{thread-lawful}
 use Rattle.rank_now.specs.declared.moment.Moment.{Moment}
@@ -64,7 +64,7 @@ moment-no-end names moment valid is =
     no-end (codes "after" ∷ thread_name names moment.thread ∷ decimal moment.number ∷ [])
     (high-by (codes "after") refl, (name-high (thread_name names moment.thread) (thread-lawful names moment.thread valid is.thread), (decimal-high moment.number (omega (arith, is.number.1)), tt)))
 
-verdict-no-end : (names : NameLists) (verdict : NamedVerdict) → IsForm names verdict → HasNoEnd (verdict_line (named_text verdict))
+verdict-no-end : (names : NameLists) (verdict : NamedVerdict) → IsVerdictForm names verdict → HasNoEnd (verdict_line (named_text verdict))
 verdict-no-end names verdict form = no-end-append (codes "verdict ") (named_text verdict) (no-end-by (codes "verdict ") refl) (no-end (verdict_words verdict) (form-high names verdict form))
 
 body-no-ends : (names : NameLists) (events : List Moment) (last : List ℕ) → AreNames names → All (IsMoment names) events → HasNoEnd last → HaveNoEnds (map (moment_line names) events ++ last ∷ [])
@@ -76,7 +76,7 @@ body-no-ends names (moment ∷ events) last valid all here =
 pub pieces-directive : (names : NameLists) (told : DirectiveText) → AreNames names → IsSound names told → pieces_of (directive_text names told) ≡ pieces_of_lines (directive_lines names told)
 pieces-directive names told valid sound =
     pieces-lines (directive_lines names told)
-    (no-end-by (codes "directive 1") refl, (low-no-end (thread_name names told.low) (thread-lawful names told.low valid sound.low), body-no-ends names told.events (verdict_line (verdict_text names told.verdict)) valid sound.events (verdict-no-end names (named names told.verdict) sound.form)))
+    (no-end-by (codes "directive 1") refl, (low-no-end (thread_name names told.low) (thread-lawful names told.low valid sound.low), body-no-ends names told.events (verdict_line (verdict_text names told.verdict)) valid sound.events (verdict-no-end names (named_verdict names told.verdict) sound.form)))
 
 -- ---- how many bytes it has
 
@@ -98,9 +98,9 @@ moment-size names moment valid is =
     let digits = length-decimal-le 6 moment.number (omega arith) (omega (arith, is.number.0, is.number.1)) (omega (arith, is.number.0, is.number.1)) in
     omega (arith, short, digits, length-join (codes "after") (name ∷ decimal moment.number ∷ []))
 
-verdict-line-size : (names : NameLists) (verdict : Verdict) → AreNames names → HasNames names verdict → IsForm names (named names verdict) → length (verdict_line (verdict_text names verdict)) ≤ 2446
+verdict-line-size : (names : NameLists) (verdict : Verdict) → AreNames names → HasNames names verdict → IsVerdictForm names (named_verdict names verdict) → length (verdict_line (verdict_text names verdict)) ≤ 2446
 verdict-line-size names verdict valid has form =
-    omega (arith, verdict-size names verdict valid has form, length-joined (verdict_words (named names verdict)), length-append (codes "verdict ") (verdict_text names verdict))
+    omega (arith, verdict-size names verdict valid has form, length-joined (verdict_words (named_verdict names verdict)), length-append (codes "verdict ") (verdict_text names verdict))
 
 body-size : (names : NameLists) (events : List Moment) (last : List ℕ) → AreNames names → All (IsMoment names) events → lines_size (map (moment_line names) events ++ last ∷ []) ≤ 46 * length events + length last + 1
 body-size names [] last valid all = omega arith

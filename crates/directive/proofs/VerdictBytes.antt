@@ -11,7 +11,7 @@ use Rattle.std.proofs.lemmas.Str.Parse.{digit_from_value}
 use Rattle.pct_ask.specs.Characters.{is_letter, is_digit, is_word_byte}
 use Rattle.pct_ask.specs.Words.{is_name, is_among, keywords, registers}
 use Rattle.pct_ask.specs.NameLists.{NameLists, AreNames}
-use Rattle.pct_ask.specs.VerdictText.{NamedVerdict, NamedPassed, NamedFailed, NamedStuck, NamedMisuse, NamedFault, NamedCut, thread_name, fault_word, misuse_word, place_words, verdict_words, named, known_threads, IsLine, IsForm, IsPlace, HasNames}
+use Rattle.pct_ask.specs.VerdictText.{NamedVerdict, NamedPassed, NamedFailed, NamedStuck, NamedMisuse, NamedFault, NamedCut, thread_name, fault_word, misuse_word, place_words, verdict_words, named_verdict, known_threads, IsLine, IsVerdictForm, IsPlace, HasNames}
 use Rattle.pct_ask.specs.VerdictPieces.{HasName}
 use Rattle.pct_ask.specs.declared.names.NameKind.TheVariants.{Thread}
 use Rattle.pct_ask.specs.declared.ask.FaultKind.{FaultKind}
@@ -112,7 +112,7 @@ places-high (p ∷ ps) all =
     let here = place-high p.0 p.1 (All-head IsPlace p ps all) in
     (here.0, (here.1.0, places-high ps (All-tail IsPlace p ps all)))
 
-pub form-high : (names : NameLists) (verdict : NamedVerdict) → IsForm names verdict → AreHigh (verdict_words verdict)
+pub form-high : (names : NameLists) (verdict : NamedVerdict) → IsVerdictForm names verdict → AreHigh (verdict_words verdict)
 form-high names NamedPassed form = (high-by (codes "passed") refl, tt)
 form-high names (NamedFailed name line) form = (high-by (codes "failed") refl, place-high name line form)
 form-high names (NamedStuck places) form = (high-by (codes "stuck") refl, places-high places form.1)
@@ -202,7 +202,7 @@ misuse-short TooManyReads = omega arith
 placed-size : (head name : List ℕ) (line : ℕ) (words : List (List ℕ)) → length head ≤ 12 → length name ≤ 32 → IsLine line → size words ≤ 15 → size (head ∷ name ∷ decimal line ∷ words) ≤ 2438
 placed-size head name line words a b c d = let l = line-short line c in omega arith
 
-pub verdict-size : (names : NameLists) (verdict : Verdict) → AreNames names → HasNames names verdict → IsForm names (named names verdict) → size (verdict_words (named names verdict)) ≤ 2438
+pub verdict-size : (names : NameLists) (verdict : Verdict) → AreNames names → HasNames names verdict → IsVerdictForm names (named_verdict names verdict) → size (verdict_words (named_verdict names verdict)) ≤ 2438
 verdict-size names Passed sound has form = omega arith
 verdict-size names (Failed thread line) sound has form = placed-size (codes "failed") (thread_name names thread) line [] (omega arith) (name-short (thread_name names thread) form.0) form.1 (omega arith)
 verdict-size names (Stuck places) sound has form =

@@ -40,13 +40,13 @@ EachHasOneAnswer =
     → TellsOne bytes names ⊎ FailsOnce bytes names
 
 -- a directive as plain data
-abbrev pub told : Directive → DirectiveText
-told directive =
+abbrev pub plain_directive : Directive → DirectiveText
+plain_directive directive =
     record { low = directive.low; events = directive.events; verdict = directive.verdict }
 
 -- A directive is answered of a text that is its own, and a fault of a text that has it. Want of
 -- memory says nothing of a text.
-abbrev pub Answers : List ℕ → NameLists → Result Directive DirectiveError → Type 0
-Answers bytes names (Ok directive) = IsDirective bytes names (told directive)
-Answers bytes names (Err (Bad line kind)) = IsDirectiveFault bytes names line kind
-Answers bytes names (Err NoMemory) = Unit {0}
+abbrev pub AnswersDirective : List ℕ → NameLists → Result Directive DirectiveError → Type 0
+AnswersDirective bytes names (Ok directive) = IsDirective bytes names (plain_directive directive)
+AnswersDirective bytes names (Err (Bad line kind)) = IsDirectiveFault bytes names line kind
+AnswersDirective bytes names (Err NoMemory) = Unit {0}

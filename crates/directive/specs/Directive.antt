@@ -2,7 +2,7 @@
 -- (this project).
 use Rattle.std.specs.Prelude.{◌≡◌, ℕ, ◌≤◌, ◌<◌, List, length, All}
 use Rattle.pct_ask.specs.NameLists.{NameLists}
-use Rattle.pct_ask.specs.VerdictText.{named, IsForm, HasNames}
+use Rattle.pct_ask.specs.VerdictText.{named_verdict, IsVerdictForm, HasNames}
 use Rattle.rank_now.specs.declared.moment.Moment.{Moment}
 use Rattle.directive.specs.DirectiveText.{DirectiveText, directive_text}
 use Rattle.directive.specs.Forms.{IsNumber}
@@ -19,7 +19,7 @@ pub record IsSound (names : NameLists) (told : DirectiveText) : Type 0 where
   pub few : length told.events ≤ 7
   pub events : All (IsMoment names) told.events
   pub threads : HasNames names told.verdict
-  pub form : IsForm names (named names told.verdict)
+  pub form : IsVerdictForm names (named_verdict names told.verdict)
 
 -- The text is the directive's: it is made, line by line, of the first line, of the lowest thread,
 -- of one line for each moment and of the verdict, each value in its one spelling; and it has at

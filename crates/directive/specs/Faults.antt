@@ -5,30 +5,30 @@ use Rattle.pct_ask.specs.FirstFaults as texts
 use Rattle.pct_ask.specs.NameLists.{NameLists}
 use Rattle.directive.specs.Forms.{IsLow, IsAfterText, IsVerdictText, HasUnknownLow, HasUnknownAfter}
 use Rattle.directive.specs.Forms.{HasUnknownVerdict}
-use Rattle.directive.specs.Lines.{pieces_of, Line, line_at, IsThere}
+use Rattle.directive.specs.Lines.{pieces_of, LineBytes, line_at, HasByte}
 use Rattle.directive.specs.declared.fault.DirectiveFault.{DirectiveFault}
 use Rattle.directive.specs.declared.fault.DirectiveFault.TheVariants.{TooLong, BadHeader, BadLine}
 use Rattle.directive.specs.declared.fault.DirectiveFault.TheVariants.{UnknownName, NoVerdict}
 use Rattle.directive.specs.declared.fault.DirectiveFault.TheVariants.{MoreAfterVerdict}
 
 -- directive 1, with its LF
-pub record IsFirstLine (line : Line) : Type 0 where
+pub record IsTitleLine (line : LineBytes) : Type 0 where
   pub whole : line.whole ≡ true
   pub text : line.text ≡ codes "directive 1"
 
 -- low NAME, with its LF
-pub record IsSecondLine (line : Line) : Type 0 where
+pub record IsSecondLine (line : LineBytes) : Type 0 where
   pub whole : line.whole ≡ true
   pub name : List ℕ
   pub text : IsLow line.text name
 
 -- an `after` line or a verdict line by form, with its LF
-pub record IsLaterLine (names : NameLists) (line : Line) : Type 0 where
+pub record IsLaterLine (names : NameLists) (line : LineBytes) : Type 0 where
   pub whole : line.whole ≡ true
   pub text : IsAfterText line.text ⊎ IsVerdictText names line.text
 
 -- Line k stands below the first two, and no verdict line stands between.
-pub record IsBelow (names : NameLists) (pieces : List (List ℕ)) (k : ℕ) : Type 0 where
+pub record IsBelowSecond (names : NameLists) (pieces : List (List ℕ)) (k : ℕ) : Type 0 where
   pub later : 3 ≤ k
   pub unended : (j : ℕ) → 3 ≤ j → j < k → ¬ IsVerdictText names (line_at pieces j).text
 
@@ -39,36 +39,36 @@ pub record IsBelow (names : NameLists) (pieces : List (List ℕ)) (k : ℕ) : Ty
 abbrev pub IsTooLong : ℕ → NameLists → List (List ℕ) → ℕ → Type 0
 IsTooLong size names pieces k =
     ((k ≡ 1) × (65536 < size))
-    ⊎ (IsBelow names pieces k × (9 < k) × IsAfterText (line_at pieces k).text)
+    ⊎ (IsBelowSecond names pieces k × (9 < k) × IsAfterText (line_at pieces k).text)
 
 -- One of the lines 1 and 2 is missing, lacks its LF or isn't of its form.
 abbrev pub IsBadHeader : List (List ℕ) → ℕ → Type 0
 IsBadHeader pieces k =
-    ((k ≡ 1) × ¬ IsFirstLine (line_at pieces k))
+    ((k ≡ 1) × ¬ IsTitleLine (line_at pieces k))
     ⊎ ((k ≡ 2) × ¬ IsSecondLine (line_at pieces k))
 
 -- A later line is neither an `after` line nor a verdict line by form, or lacks its LF.
 abbrev pub IsBadLine : NameLists → List (List ℕ) → ℕ → Type 0
 IsBadLine names pieces k =
-    IsBelow names pieces k × IsThere (line_at pieces k)
+    IsBelowSecond names pieces k × HasByte (line_at pieces k)
     × ¬ IsLaterLine names (line_at pieces k)
 
 -- A name of it is no thread's.
 abbrev pub IsUnknownName : NameLists → List (List ℕ) → ℕ → Type 0
 IsUnknownName names pieces k =
     ((k ≡ 2) × HasUnknownLow names (line_at pieces k).text)
-    ⊎ (IsBelow names pieces k
+    ⊎ (IsBelowSecond names pieces k
     × (HasUnknownAfter names (line_at pieces k).text
     ⊎ HasUnknownVerdict names (line_at pieces k).text))
 
 -- The file ends where a line should follow, and no line is the verdict's.
 abbrev pub IsNoVerdict : NameLists → List (List ℕ) → ℕ → Type 0
-IsNoVerdict names pieces k = IsBelow names pieces k × ¬ IsThere (line_at pieces k)
+IsNoVerdict names pieces k = IsBelowSecond names pieces k × ¬ HasByte (line_at pieces k)
 
 -- A byte stands after the verdict line, which is the line before.
 abbrev pub IsMoreAfterVerdict : NameLists → List (List ℕ) → ℕ → Type 0
 IsMoreAfterVerdict names pieces k =
-    (4 ≤ k) × IsVerdictText names (line_at pieces (k - 1)).text × IsThere (line_at pieces k)
+    (4 ≤ k) × IsVerdictText names (line_at pieces (k - 1)).text × HasByte (line_at pieces k)
 
 -- a text of so many bytes and of these pieces: its line k is faulty by a kind
 abbrev pub IsFaulty : ℕ → NameLists → List (List ℕ) → ℕ → DirectiveFault → Type 0
@@ -82,18 +82,18 @@ IsFaulty size names pieces k MoreAfterVerdict = IsMoreAfterVerdict names pieces 
 -- ---- the first of them
 
 -- the kinds in their order
-abbrev pub rank : DirectiveFault → ℕ
-rank TooLong = 0
-rank BadHeader = 1
-rank BadLine = 2
-rank UnknownName = 3
-rank NoVerdict = 4
-rank MoreAfterVerdict = 5
+abbrev pub kind_rank : DirectiveFault → ℕ
+kind_rank TooLong = 0
+kind_rank BadHeader = 1
+kind_rank BadLine = 2
+kind_rank UnknownName = 3
+kind_rank NoVerdict = 4
+kind_rank MoreAfterVerdict = 5
 
 -- the first of its lines that is faulty, and the first kind by which that line is
 abbrev pub IsFirstFault : ℕ → NameLists → List (List ℕ) → ℕ → DirectiveFault → Type 0
 IsFirstFault size names pieces line kind =
-    texts.IsFirstFault rank (IsFaulty size names pieces) line kind
+    texts.IsFirstFault kind_rank (IsFaulty size names pieces) line kind
 
 -- the text's fault
 abbrev pub IsDirectiveFault : List ℕ → NameLists → ℕ → DirectiveFault → Type 0

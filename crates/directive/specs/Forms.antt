@@ -2,7 +2,7 @@
 use Rattle.std.specs.Prelude.{◌≡◌, ℕ, ◌≤◌, true, List, None}
 use Rattle.pct_ask.specs.Words.{is_name}
 use Rattle.pct_ask.specs.NameLists.{NameLists, place_of}
-use Rattle.pct_ask.specs.VerdictText.{NamedVerdict, named_text, IsForm, HasUnknown}
+use Rattle.pct_ask.specs.VerdictText.{NamedVerdict, named_text, IsVerdictForm, HasUnknownThread}
 use Rattle.directive.specs.DirectiveText.{low_line, after_line, verdict_line}
 
 -- the number of a thread's own step
@@ -22,7 +22,7 @@ pub record IsAfter (text name : List ℕ) (number : ℕ) : Type 0 where
 
 -- verdict VERDICT: a verdict by form
 pub record IsVerdict (names : NameLists) (text : List ℕ) (verdict : NamedVerdict) : Type 0 where
-  pub form : IsForm names verdict
+  pub form : IsVerdictForm names verdict
   pub spelled : text ≡ verdict_line (named_text verdict)
 
 -- the text is an `after` line by form, with some name and some number
@@ -51,4 +51,4 @@ HasUnknownAfter names text =
 -- a verdict line by form, and some name in it is no thread's
 abbrev pub HasUnknownVerdict : NameLists → List ℕ → Type 0
 HasUnknownVerdict names text =
-    (verdict : NamedVerdict) × IsVerdict names text verdict × HasUnknown names verdict
+    (verdict : NamedVerdict) × IsVerdict names text verdict × HasUnknownThread names verdict

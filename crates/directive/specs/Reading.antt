@@ -74,12 +74,12 @@ judged_moment None number = Err UnknownName
 judged_moment (Some thread) number = Ok (sound.Event (record { thread = thread; number = number }))
 
 -- what line k is where it has its LF, or its fault
-abbrev pub judged : ℕ → Option Row → Result Sound DirectiveFault
-judged k None = Err BadLine
-judged k (Some (After thread number)) =
+abbrev pub line_or_fault : ℕ → Option Row → Result Sound DirectiveFault
+line_or_fault k None = Err BadLine
+line_or_fault k (Some (After thread number)) =
     if nat_lt 9 k then Err TooLong else judged_moment thread number
-judged k (Some (End None)) = Err UnknownName
-judged k (Some (End (Some verdict))) = Ok (sound.Last verdict)
+line_or_fault k (Some (End None)) = Err UnknownName
+line_or_fault k (Some (End (Some verdict))) = Ok (sound.Last verdict)
 
 abbrev pub Body : Type 0
 Body = List Moment × Verdict
@@ -89,23 +89,24 @@ with_moment moment (Ok body) = Ok (moment ∷ body.0, body.1)
 with_moment moment (Err fault) = Err fault
 
 -- nothing stands after the verdict line
-abbrev pub closed : ℕ → Verdict → List ℕ → List (List ℕ) → Result Body Fault
-closed k verdict [] [] = Ok ([], verdict)
-closed k verdict [] (piece ∷ pieces) = Err (k, MoreAfterVerdict)
-closed k verdict (b ∷ bs) pieces = Err (k, MoreAfterVerdict)
+abbrev pub body_at_verdict : ℕ → Verdict → List ℕ → List (List ℕ) → Result Body Fault
+body_at_verdict k verdict [] [] = Ok ([], verdict)
+body_at_verdict k verdict [] (piece ∷ pieces) = Err (k, MoreAfterVerdict)
+body_at_verdict k verdict (b ∷ bs) pieces = Err (k, MoreAfterVerdict)
 
 abbrev pub after_row : ℕ → Result Sound DirectiveFault → List ℕ → List (List ℕ) → Result Body Fault
     → Result Body Fault
 after_row k (Err kind) piece pieces others = Err (k, kind)
 after_row k (Ok (sound.Event moment)) piece pieces others = with_moment moment others
-after_row k (Ok (sound.Last verdict)) piece pieces others = closed (k + 1) verdict piece pieces
+after_row k (Ok (sound.Last verdict)) piece pieces others =
+    body_at_verdict (k + 1) verdict piece pieces
 
 -- the moments and the verdict, from line k on
 abbrev pub body_of : NameLists → ℕ → List (List ℕ) → Result Body Fault
 body_of names k [] = Err (k, NoVerdict)
 body_of names k (piece ∷ []) = Err (k, unended_fault k (row_of names piece) piece)
 body_of names k (piece ∷ after ∷ pieces) =
-    after_row k (judged k (row_of names piece)) after pieces
+    after_row k (line_or_fault k (row_of names piece)) after pieces
     (body_of names (k + 1) (after ∷ pieces))
 
 abbrev pub told_of : ℕ → Result Body Fault → Result DirectiveText Fault
@@ -127,15 +128,15 @@ second_line names (piece ∷ []) = Err (2, BadHeader)
 second_line names (piece ∷ after ∷ pieces) = low_read names (low_in piece) (after ∷ pieces)
 
 -- from the first line on
-abbrev pub first_line : NameLists → List (List ℕ) → Result DirectiveText Fault
-first_line names [] = Err (1, BadHeader)
-first_line names (piece ∷ []) = Err (1, BadHeader)
-first_line names (piece ∷ after ∷ pieces) =
+abbrev pub read_from_first : NameLists → List (List ℕ) → Result DirectiveText Fault
+read_from_first names [] = Err (1, BadHeader)
+read_from_first names (piece ∷ []) = Err (1, BadHeader)
+read_from_first names (piece ∷ after ∷ pieces) =
     if bytes_eq piece (codes "directive 1") then second_line names (after ∷ pieces)
     else Err (1, BadHeader)
 
 -- the directive that a text is read as, or its fault
-abbrev pub read : NameLists → List ℕ → Result DirectiveText Fault
-read names bytes =
+abbrev pub read_as_directive : NameLists → List ℕ → Result DirectiveText Fault
+read_as_directive names bytes =
     if nat_lt 65536 (length bytes) then Err (1, TooLong)
-    else first_line names (pieces_of bytes)
+    else read_from_first names (pieces_of bytes)

@@ -2,7 +2,7 @@
 
 ghost use Rattle.std.specs.Prelude.{◌≡◌, ◌⊎◌, ℕ, ◌≤◌, MatchOption, MatchResult, length, Err};
 ghost use Rattle.pct_ask.specs.NameLists.{NameLists, AreNames};
-ghost use Rattle.directive.specs.Answers.{Answers, EachHasOneAnswer, told};
+ghost use Rattle.directive.specs.Answers.{AnswersDirective, EachHasOneAnswer, plain_directive};
 ghost use Rattle.directive.specs.Directive.{IsDirective};
 ghost use Rattle.directive.specs.DirectiveText.{DirectiveText};
 ghost use Rattle.directive.specs.Faults.{IsDirectiveFault};
@@ -41,8 +41,8 @@ fn bad(line: u32, kind: DirectiveFault) -> DirectiveError
 fn after_first(text: &[u8]) -> Option<&[u8]>
     ensures { (names : NameLists)
         → MatchOption result
-        (reading.first_line names (pieces_of text.now) ≡ Err (1, DirectiveFault.BadHeader))
-        (λ rest. reading.first_line names (pieces_of text.now)
+        (reading.read_from_first names (pieces_of text.now) ≡ Err (1, DirectiveFault.BadHeader))
+        (λ rest. reading.read_from_first names (pieces_of text.now)
         ≡ reading.second_line names (pieces_of rest.now)) }
 {
     let (line, after) = cut_line(text);
@@ -100,7 +100,7 @@ fn read_body(alloc: Global, names: &Names, text: &[u8]) -> Result<Body, Directiv
 }
 
 fn read(alloc: Global, bytes: &[u8], names: &Names) -> Result<Directive, DirectiveError>
-    ensures read { Gives told result (reading.read names.now bytes.now) }
+    ensures read { Gives plain_directive result (reading.read_as_directive names.now bytes.now) }
     ensures lawful { AreNames names.now }
 {
     let _ = names.count(NameKind::Thread);
@@ -125,12 +125,12 @@ pub fn read_directive(
     bytes: &[u8],
     names: &Names,
 ) -> Result<Directive, DirectiveError>
-    ensures answer { Answers bytes.now names.now result }
+    ensures answer { AnswersDirective bytes.now names.now result }
 
     // A directive's text gives it, and a fault itself, unless there is no memory.
     ensures directive { (text : DirectiveText) → IsDirective bytes.now names.now text
         → MatchResult result
-        (λ directive. told directive ≡ text) (λ error. error ≡ DirectiveError.NoMemory) }
+        (λ directive. plain_directive directive ≡ text) (λ error. error ≡ DirectiveError.NoMemory) }
     ensures fault { (line : ℕ) (kind : DirectiveFault)
         → IsDirectiveFault bytes.now names.now line kind
         → (result ≡ Err (DirectiveError.Bad line kind)) ⊎ (result ≡ Err DirectiveError.NoMemory) }

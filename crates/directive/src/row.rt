@@ -128,7 +128,7 @@ pub fn unended_fault(line: u32, row: Option<Row>, text: &[u8]) -> DirectiveFault
 /// What a line with its LF says, or its fault. The lines 3 to 9 are the seven that a moment may
 /// have.
 pub fn judged(line: u32, row: Option<Row>) -> Result<Sound, DirectiveFault>
-    ensures { result ≡ reading.judged line row }
+    ensures { result ≡ reading.line_or_fault line row }
 {
     match row {
         None => Err(DirectiveFault::BadLine),

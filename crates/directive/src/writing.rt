@@ -1,9 +1,10 @@
 //! A directive, written line by line.
 
 ghost use Rattle.std.specs.Prelude.{◌≡◌, ◌<◌, [], ◌∷◌, ◌++◌, All, IfOk, OnOk, length, map};
-ghost use Rattle.pct_ask.specs.VerdictText.{thread_name, verdict_text, named, IsForm, HasNames};
-ghost use Rattle.pct_ask.specs.VerdictText.{IsWhole};
-ghost use Rattle.directive.specs.Answers.{told};
+ghost use Rattle.pct_ask.specs.VerdictText.{thread_name, verdict_text, named_verdict};
+ghost use Rattle.pct_ask.specs.VerdictText.{IsVerdictForm, HasNames};
+ghost use Rattle.pct_ask.specs.VerdictText.{IsWholeVerdict};
+ghost use Rattle.directive.specs.Answers.{plain_directive};
 ghost use Rattle.directive.specs.Directive.{IsDirective, IsMoment};
 ghost use Rattle.directive.specs.DirectiveText.{low_line, moment_line, verdict_line, text_of_lines};
 ghost use Rattle.directive.specs.DirectiveText.{directive_text};
@@ -57,10 +58,10 @@ fn push_moments(out: &mut Vec<u8>, names: &Names, moments: &[Moment]) -> Result<
 
 fn push_verdict(out: &mut Vec<u8>, names: &Names, verdict: &Verdict) -> Result<(), NoMemory>
     requires threads { HasNames names.now verdict.now }
-    requires whole { IsWhole verdict.now }
+    requires whole { IsWholeVerdict verdict.now }
     ensures text { OnOk result (out.new.items ≡ out.old.items
         ++ text_of_lines (verdict_line (verdict_text names.now verdict.now) ∷ [])) }
-    ensures form { OnOk result (IsForm names.now (named names.now verdict.now)) }
+    ensures form { OnOk result (IsVerdictForm names.now (named_verdict names.now verdict.now)) }
 {
     out.extend_from_slice(b"verdict ")?;
     write_verdict(verdict, names, out)?;
@@ -77,13 +78,13 @@ pub fn write_directive(
     requires low { directive.now.low < length names.now.threads }
     requires events { All (IsMoment names.now) directive.now.events }
     requires threads { HasNames names.now directive.now.verdict }
-    requires whole { IsWhole directive.now.verdict }
+    requires whole { IsWholeVerdict directive.now.verdict }
     ensures text { IfOk result (λ text. text.items
-        ≡ directive_text names.now (told directive.now)) }
+        ≡ directive_text names.now (plain_directive directive.now)) }
 
     // So it is read back as this directive, and as nothing else.
     ensures directive { IfOk result
-        (λ text. IsDirective text.items names.now (told directive.now)) }
+        (λ text. IsDirective text.items names.now (plain_directive directive.now)) }
 {
     // The names are lawful, and so what is written can be read.
     let _ = names.count(NameKind::Thread);

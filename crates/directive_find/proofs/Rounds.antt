@@ -7,7 +7,7 @@ use Rattle.pct_ask.specs.declared.event.Event.{Event}
 use Rattle.pct_ask.specs.declared.verdict.Verdict.{Verdict}
 use Rattle.rank_now.specs.declared.moment.Moment.{Moment}
 use Rattle.worker_run.specs.Bodies.{Pending}
-use Rattle.worker_run.specs.Run.{directed}
+use Rattle.worker_run.specs.Run.{directed_run}
 use Rattle.directive_find.specs.declared.reducing.Short.{Short}
 use Rattle.directive_find.specs.Reduced.{HasVerdict, NeedsFirst, Reduces, Drops, Leaves}
 use Rattle.directive_find.proofs.laws.Findings.{same-whole}
@@ -17,23 +17,24 @@ module _ (deal : Deal) (bodies : List Pending) (order : List ℕ) (limit : ℕ) 
   Holds = HasVerdict deal bodies order limit verdict
 
   module _ (events rest : List Moment) (place : ℕ) (made : List Event) (ends : Verdict) (is : rest ≡ remove events place)
-      (runs : directed deal bodies order rest limit ≡ Some (made, ends)) (before : NeedsFirst Holds events place) where
+      (runs : directed_run deal bodies order rest limit ≡ Some (made, ends)) (before : NeedsFirst Holds events place) where
     -- the moment is needed, and so are those before it
     pub one-more : ends ≢ verdict → NeedsFirst Holds events (place + 1)
     one-more apart other within holds = elim (cases_eq other place) [
       | inl e ↦
-          let at : directed deal bodies order rest limit ≡ Some (holds.0, verdict) = ap (λ ms. directed deal bodies order ms limit) (is ∙ ap (remove events) (sym e)) ∙ holds.1 in
-          apart (same-whole made holds.0 ends verdict (directed deal bodies order rest limit) runs at).1
+          let at : directed_run deal bodies order rest limit ≡ Some (holds.0, verdict) = ap (λ ms. directed_run deal bodies order ms limit) (is ∙ ap (remove events) (sym e)) ∙ holds.1 in
+          apart (same-whole made holds.0 ends verdict (directed_run deal bodies order rest limit) runs at).1
       | inr ne ↦ before other (omega arith) holds
     ]
 
     -- or it is the first that can be left out
     pub left-out : (steps : ℕ) → place < length events → ends ≡ verdict → steps ≡ length made → Leaves deal bodies order limit verdict events (Some (record { events = rest; steps = steps }))
     left-out steps within same number =
-        let V : Verdict → Type 0 = λ v. directed deal bodies order rest limit ≡ Some (made, v) in
+        let V : Verdict → Type 0 =
+        λ v. directed_run deal bodies order rest limit ≡ Some (made, v) in
         let leads = subst V same runs in (
           place,
-          record { within = within; holds = (made, ap (λ ms. directed deal bodies order ms limit) (sym is) ∙ leads); before = before },
+          record { within = within; holds = (made, ap (λ ms. directed_run deal bodies order ms limit) (sym is) ∙ leads); before = before },
           is,
           record { made = made; is_directed = leads; number = number },
         )

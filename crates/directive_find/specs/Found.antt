@@ -7,8 +7,8 @@ use Rattle.pct_ask.specs.declared.verdict.Verdict.TheVariants.{Passed}
 use Rattle.rank_now.specs.declared.moment.Moment.{Moment}
 use Rattle.turn_book.specs.Posts.{schedule_of}
 use Rattle.worker_run.specs.Bodies.{Pending}
-use Rattle.worker_run.specs.Run.{run, directed}
-use Rattle.directive_find.specs.Moments.{events_of, Fits}
+use Rattle.worker_run.specs.Run.{run, directed_run}
+use Rattle.directive_find.specs.Moments.{events_of, MomentFits}
 use Rattle.directive_find.specs.Reduced.{HasVerdict, LeadsTo, Reduces}
 use Rattle.directive_find.specs.declared.finding.FoundOut.{FoundOut}
 use Rattle.directive_find.specs.declared.finding.FoundOut.TheVariants.{Events, Passes}
@@ -18,27 +18,28 @@ pub record HasOther (deal : Deal) (bodies : List Pending) (order : List ℕ) (li
     (verdict : Verdict) (moments : List Moment) : Type 0 where
   pub made : List Event
   pub other : Verdict
-  pub is_directed : directed deal bodies order moments limit ≡ Some (made, other)
+  pub is_directed : directed_run deal bodies order moments limit ≡ Some (made, other)
   pub apart : other ≢ verdict
 
 -- The run of the order and points has this verdict, which isn't Passed; the directed run of its
 -- moments is the same run; the events are what is left of these moments, reduced with the verdict.
 -- Their directed run has the verdict and so many steps, and without any single one of them it has
 -- another verdict. There are no more of them than points, and each is a step that there may be.
-pub record IsFound (deal : Deal) (bodies : List Pending) (order points : List ℕ) (limit : ℕ)
+pub record IsFinding (deal : Deal) (bodies : List Pending) (order points : List ℕ) (limit : ℕ)
     (events : List Moment) (verdict : Verdict) (steps : ℕ) : Type 0 where
   pub made : List Event
   pub is_run : run deal bodies order points limit ≡ Some (made, verdict)
   pub fails : verdict ≢ Passed
   pub same_run :
-      directed deal bodies order (events_of (schedule_of made) points) limit ≡ Some (made, verdict)
+      directed_run deal bodies order (events_of (schedule_of made) points) limit
+      ≡ Some (made, verdict)
   pub reduced : Reduces (HasVerdict deal bodies order limit verdict)
       (events_of (schedule_of made) points) events
   pub leads : LeadsTo deal bodies order limit verdict events steps
   pub needed : (place : ℕ) → place < length events
       → HasOther deal bodies order limit verdict (remove events place)
   pub few : length events ≤ length points
-  pub fit : All (Fits deal.threads limit) events
+  pub fit : All (MomentFits deal.threads limit) events
 
 -- The run of the order and points has passed, after so many steps, and the directed run of its
 -- moments is the same run.
@@ -47,12 +48,13 @@ pub record IsPass (deal : Deal) (bodies : List Pending) (order points : List ℕ
   pub made : List Event
   pub is_run : run deal bodies order points limit ≡ Some (made, Passed)
   pub same_run :
-      directed deal bodies order (events_of (schedule_of made) points) limit ≡ Some (made, Passed)
+      directed_run deal bodies order (events_of (schedule_of made) points) limit
+      ≡ Some (made, Passed)
   pub number : steps ≡ length made
 
 -- What each answer says: the run fails, and these moments lead to its verdict and are all needed;
 -- or it passes, after so many steps.
 abbrev pub Finds : Deal → List Pending → List ℕ → List ℕ → ℕ → FoundOut → Type 0
 Finds deal bodies order points limit (Events events verdict steps) =
-    IsFound deal bodies order points limit events verdict steps
+    IsFinding deal bodies order points limit events verdict steps
 Finds deal bodies order points limit (Passes steps) = IsPass deal bodies order points limit steps

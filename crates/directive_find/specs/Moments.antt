@@ -25,7 +25,7 @@ events_of schedule (point ∷ later) =
     else events_of schedule later
 
 -- The moment's thread is one of so many, and its number is one of 1..steps.
-pub record Fits (threads steps : ℕ) (moment : Moment) : Type 0 where
+pub record MomentFits (threads steps : ℕ) (moment : Moment) : Type 0 where
   pub thread : moment.thread < threads
   pub some : 1 ≤ moment.number
   pub few : moment.number ≤ steps

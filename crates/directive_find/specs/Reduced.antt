@@ -5,19 +5,19 @@ use Rattle.pct_ask.specs.declared.event.Event.{Event}
 use Rattle.pct_ask.specs.declared.verdict.Verdict.{Verdict}
 use Rattle.rank_now.specs.declared.moment.Moment.{Moment}
 use Rattle.worker_run.specs.Bodies.{Pending}
-use Rattle.worker_run.specs.Run.{directed}
+use Rattle.worker_run.specs.Run.{directed_run}
 use Rattle.directive_find.specs.declared.reducing.Short.{Short}
 
 -- the directed run of the moments has the verdict
 abbrev pub HasVerdict : Deal → List Pending → List ℕ → ℕ → Verdict → List Moment → Type 0
 HasVerdict deal bodies order limit verdict moments =
-    (made : List Event) × (directed deal bodies order moments limit ≡ Some (made, verdict))
+    (made : List Event) × (directed_run deal bodies order moments limit ≡ Some (made, verdict))
 
 -- it has the verdict and so many steps
 pub record LeadsTo (deal : Deal) (bodies : List Pending) (order : List ℕ) (limit : ℕ)
     (verdict : Verdict) (moments : List Moment) (steps : ℕ) : Type 0 where
   pub made : List Event
-  pub is_directed : directed deal bodies order moments limit ≡ Some (made, verdict)
+  pub is_directed : directed_run deal bodies order moments limit ≡ Some (made, verdict)
   pub number : steps ≡ length made
 
 -- None of the list's first so many items can be left out: without any one of them it doesn't hold.
@@ -26,7 +26,7 @@ NeedsFirst Holds items many =
     (place : ℕ) → place < many → Holds (remove items place) → ⊥
 
 -- The item at the place is the first that can be left out.
-pub record IsFirst {X : Type 0} (Holds : List X → Type 0) (items : List X) (place : ℕ)
+pub record IsFirstToLeaveOut {X : Type 0} (Holds : List X → Type 0) (items : List X) (place : ℕ)
     : Type 0 where
   pub within : place < length items
   pub holds : Holds (remove items place)
@@ -36,7 +36,7 @@ pub record IsFirst {X : Type 0} (Holds : List X → Type 0) (items : List X) (pl
 -- is left.
 pub data Reduces {X : Type 0} (Holds : List X → Type 0) : List X → List X → Type 0 where
   Stays : (items : List X) → NeedsFirst Holds items (length items) → Reduces Holds items items
-  Drops : (items left : List X) (place : ℕ) → IsFirst Holds items place
+  Drops : (items left : List X) (place : ℕ) → IsFirstToLeaveOut Holds items place
       → Reduces Holds (remove items place) left → Reduces Holds items left
 
 -- What one round finds: the moments without the first that can be left out, and the steps of their
@@ -45,7 +45,7 @@ abbrev pub Leaves : Deal → List Pending → List ℕ → ℕ → Verdict → L
 Leaves deal bodies order limit verdict moments None =
     NeedsFirst (HasVerdict deal bodies order limit verdict) moments (length moments)
 Leaves deal bodies order limit verdict moments (Some short) =
-    (place : ℕ) × IsFirst (HasVerdict deal bodies order limit verdict) moments place
+    (place : ℕ) × IsFirstToLeaveOut (HasVerdict deal bodies order limit verdict) moments place
     × (short.events ≡ remove moments place)
     × LeadsTo deal bodies order limit verdict short.events short.steps
 

@@ -7,8 +7,8 @@ abbrev pub at : ℕ → ℕ → Moment
 at thread number = record { thread = thread; number = number }
 
 -- of two equal points the last is kept, and a point past the end is not
-pub kept : events_of (0 ∷ 1 ∷ 0 ∷ []) (3 ∷ 3 ∷ 5 ∷ 1 ∷ []) ≡ at 0 2 ∷ at 0 1 ∷ []
-kept = refl
+pub last_equal_kept : events_of (0 ∷ 1 ∷ 0 ∷ []) (3 ∷ 3 ∷ 5 ∷ 1 ∷ []) ≡ at 0 2 ∷ at 0 1 ∷ []
+last_equal_kept = refl
 
 -- of a run of the threads 0, 1, 1, 0, 2, 2, 2, 2 the points 1 and 5 are the first steps of the
 -- threads 0 and 2

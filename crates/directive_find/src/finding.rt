@@ -8,7 +8,7 @@ ghost use Rattle.script_tree.specs.ScriptText.{ScriptText};
 ghost use Rattle.script_code.specs.Listing.{listing};
 ghost use Rattle.script_body.specs.Bodies.{bodies_of, AreOf};
 ghost use Rattle.turn_book.specs.Posts.{schedule_of};
-ghost use Rattle.worker_run.specs.Run.{run, directed};
+ghost use Rattle.worker_run.specs.Run.{run, directed_run};
 ghost use Rattle.directive_find.specs.Moments.{events_of};
 ghost use Rattle.directive_find.specs.Found.{Finds};
 

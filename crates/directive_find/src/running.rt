@@ -7,7 +7,7 @@ ghost use Rattle.policy_pick.specs.Plan.{ByPoints};
 ghost use Rattle.script_tree.specs.ScriptText.{ScriptText};
 ghost use Rattle.script_code.specs.Listing.{listing};
 ghost use Rattle.script_body.specs.Bodies.{bodies_of, AreOf};
-ghost use Rattle.worker_run.specs.Run.{run, directed};
+ghost use Rattle.worker_run.specs.Run.{run, directed_run};
 ghost use Rattle.worker_run.specs.Played.{IsPlayed};
 
 use pct_ask::{Deal, Outcome};
@@ -66,7 +66,7 @@ pub fn run_of_events<R: Threads + Wait + Sync, G: Gate>(
     requires some_steps { 1 ≤ limit }
     requires few_steps { limit ≤ 100000 }
     ensures directed { (script : ScriptText) → AreOf script (listing code.now) deal.now
-        → IfOk result (λ whole. directed deal.now (bodies_of script) order.now events.now limit
+        → IfOk result (λ whole. directed_run deal.now (bodies_of script) order.now events.now limit
         ≡ Some (whole.events, whole.verdict)) }
     ensures few { IfOk result (λ whole. length whole.events ≤ limit) }
 {

@@ -11,7 +11,7 @@ use Rattle.pct_ask.specs.declared.verdict.Verdict.{Verdict}
 use Rattle.rank_now.specs.declared.moment.Moment.{Moment}
 use Rattle.turn_book.specs.Posts.{schedule_of}
 use Rattle.worker_run.specs.Bodies.{Pending}
-use Rattle.worker_run.specs.Run.{run, directed}
+use Rattle.worker_run.specs.Run.{run, directed_run}
 use Rattle.directive.specs.declared.directive.Directive.{Directive}
 use Rattle.directive_run.specs.Points.{point_of_moment, points_of}
 use Rattle.directive_run.specs.Exposing.{IsWithin}
@@ -29,21 +29,21 @@ use Rattle.directive_run.proofs.laws.Counts.{order-hits, count-holds}
 
 -- ---- one order
 
-pub pointed : (deal : Deal) (bodies : List Pending) (order : List ℕ) (moments events : List Moment) (verdict last : Verdict) (steps limit : ℕ) (made : List Event) (points : List ℕ) → moments ≡ events → directed deal bodies order moments limit ≡ Some (made, last) → last ≡ verdict → length made ≤ steps → points ≡ points_of (schedule_of made) steps moments → IsPointed deal bodies order events verdict steps limit points
+pub pointed : (deal : Deal) (bodies : List Pending) (order : List ℕ) (moments events : List Moment) (verdict last : Verdict) (steps limit : ℕ) (made : List Event) (points : List ℕ) → moments ≡ events → directed_run deal bodies order moments limit ≡ Some (made, last) → last ≡ verdict → length made ≤ steps → points ≡ points_of (schedule_of made) steps moments → IsPointed deal bodies order events verdict steps limit points
 pointed deal bodies order moments events verdict last steps limit made points same is ends short as_points =
     let room : length (schedule_of made) ≤ steps = omega (arith, length-map made (λ (e : Event). e.thread)) in
     let runs = exposed-run deal bodies order moments limit steps made last room is in
     record {
       made = made;
-      is_directed = ap (λ es. directed deal bodies order es limit) (sym same) ∙ (is ∙ ap (λ v. Some (made, v)) ends);
+      is_directed = ap (λ es. directed_run deal bodies order es limit) (sym same) ∙ (is ∙ ap (λ v. Some (made, v)) ends);
       short = short;
       points_are = as_points ∙ ap (points_of (schedule_of made) steps) same;
       is_run = ap (λ ps. run deal bodies order ps limit) as_points ∙ (runs ∙ ap (λ v. Some (made, v)) ends);
     }
 
-pub other : (deal : Deal) (bodies : List Pending) (order : List ℕ) (moments events : List Moment) (verdict last : Verdict) (steps limit : ℕ) (made : List Event) → moments ≡ events → directed deal bodies order moments limit ≡ Some (made, last) → last ≢ verdict → length made ≤ steps → IsOther deal bodies order events verdict steps limit last
+pub other : (deal : Deal) (bodies : List Pending) (order : List ℕ) (moments events : List Moment) (verdict last : Verdict) (steps limit : ℕ) (made : List Event) → moments ≡ events → directed_run deal bodies order moments limit ≡ Some (made, last) → last ≢ verdict → length made ≤ steps → IsOther deal bodies order events verdict steps limit last
 other deal bodies order moments events verdict last steps limit made same is apart short =
-    record { made = made; is_directed = ap (λ es. directed deal bodies order es limit) (sym same) ∙ is; short = short; apart = apart }
+    record { made = made; is_directed = ap (λ es. directed_run deal bodies order es limit) (sym same) ∙ is; short = short; apart = apart }
 
 -- ---- the bound
 

@@ -12,10 +12,10 @@ use Rattle.pct_ask.specs.declared.verdict.Outcome.TheVariants.{Verdict as Ends}
 use Rattle.policy_pick.specs.Plan.{ByEvents}
 use Rattle.policy_pick.specs.Kept.{EventsKept, events_plan, EventsStand}
 use Rattle.rank_now.specs.declared.moment.Moment.{Moment}
-use Rattle.script_body.specs.BodyPosts.{pending_of}
+use Rattle.script_body.specs.BodyPosts.{pending_of_body}
 use Rattle.script_body.specs.declared.body.ScriptBody.{ScriptBody}
 use Rattle.worker_run.specs.Bodies.{Pending}
-use Rattle.worker_run.specs.Run.{Run, directed}
+use Rattle.worker_run.specs.Run.{Run, directed_run}
 use Rattle.worker_run.specs.Played.{IsPlayed, IsRun}
 use Rattle.worker_run.specs.Batch.{Each}
 use Rattle.worker_run.specs.Tests.{IsTest, AreTests, IsRunOf}
@@ -55,7 +55,7 @@ pub order-tested : {E : Type 0} (setup : DirectedSetup) (place : ℕ) (made : Re
     → IfOk made (λ t. events_plan t.policy ≡ ByEvents slice events)
     → IfOk made (λ t. t.deal ≡ deal) → IfOk made (λ t. t.limit ≡ limit)
     → IfOk made (λ t. t.bodies ≡ bodies) → slice ≡ order → events ≡ setup.directive.events
-    → deal ≡ setup.deal → limit ≡ setup.limit → map pending_of bodies.items ≡ setup.bodies
+    → deal ≡ setup.deal → limit ≡ setup.limit → map pending_of_body bodies.items ≡ setup.bodies
     → IfOk made (IsTestAt setup place)
 order-tested setup place (Ok t) order slice events deal limit bodies here p d l b same moments dealt
     limited posting = λ other at.
@@ -66,7 +66,7 @@ order-tested setup place (Ok t) order slice events deal limit bodies here p d l 
       deal = d ∙ dealt;
       plan = p ∙ (λ i. ByEvents (is_other i) (moments i));
       limit = l ∙ limited;
-      bodies = ap (λ (v : Vec ScriptBody Global). map pending_of v.items) b ∙ posting;
+      bodies = ap (λ (v : Vec ScriptBody Global). map pending_of_body v.items) b ∙ posting;
     }
 order-tested setup place (Err e) order slice events deal limit bodies here p d l b same moments
     dealt limited posting = tt
@@ -90,19 +90,21 @@ next-test setup start place tests new test at are is all =
 
 same-run : (setup : DirectedSetup) (order : List ℕ) (test : OrderTest)
     → IsOrderTest setup order test
-    → directed test.deal (map pending_of test.bodies.items) order setup.directive.events test.limit
+    → directed_run test.deal
+    (map pending_of_body test.bodies.items) order setup.directive.events test.limit
     ≡ run_of_order setup order
 same-run setup order test is =
     let events = setup.directive.events in
-    let bodies = map pending_of test.bodies.items in
-    ap (λ (d : Deal). directed d bodies order events test.limit) is.deal
-    ∙ ap (λ (b : List Pending). directed setup.deal b order events test.limit) is.bodies
-    ∙ ap (λ (l : ℕ). directed setup.deal setup.bodies order events l) is.limit
+    let bodies = map pending_of_body test.bodies.items in
+    ap (λ (d : Deal). directed_run d bodies order events test.limit) is.deal
+    ∙ ap (λ (b : List Pending). directed_run setup.deal b order events test.limit) is.bodies
+    ∙ ap (λ (l : ℕ). directed_run setup.deal setup.bodies order events l) is.limit
 
 order-run : (setup : DirectedSetup) (order : List ℕ) (test : OrderTest) (played : Played)
-    → IsTest pending_of events_plan EventsStand test → IsOrderTest setup order test
+    → IsTest pending_of_body events_plan EventsStand test → IsOrderTest setup order test
     → length played.events ≤ test.limit
-    → IsRun (directed test.deal (map pending_of test.bodies.items) order setup.directive.events
+    → IsRun (directed_run test.deal
+    (map pending_of_body test.bodies.items) order setup.directive.events
     test.limit) played.events played.outcome → IsOrderRun setup order played
 order-run setup order test played sound is within run =
     let R : Option Run → Type 0 = λ r. IsRun r played.events played.outcome in
@@ -112,8 +114,8 @@ order-run setup order test played sound is within run =
     }
 
 order-runs : (setup : DirectedSetup) (start : ℕ) (tests : List OrderTest) (runs : List Played)
-    → AreTests pending_of events_plan EventsStand tests → AreOrderTests setup start tests
-    → Each (IsRunOf pending_of events_plan) tests runs → AreOrderRuns setup start runs
+    → AreTests pending_of_body events_plan EventsStand tests → AreOrderTests setup start tests
+    → Each (IsRunOf pending_of_body events_plan) tests runs → AreOrderRuns setup start runs
 order-runs setup start tests runs sound are ran i played at order there =
     let within : i < length tests = omega (arith, slice_get_within runs i played at, ran.long) in
     let found = get-within tests i within in
@@ -124,20 +126,21 @@ order-runs setup start tests runs sound are ran i played at order there =
 
 module _ {E : Type 0} (setup : DirectedSetup) (start : ℕ) (tests : List OrderTest) where
   pub all-ran : (made : Result (Vec Played Global) E)
-      → AreTests pending_of events_plan EventsStand tests → AreOrderTests setup start tests
-      → IfOk made (λ runs. Each (IsRunOf pending_of events_plan) tests runs.items)
+      → AreTests pending_of_body events_plan EventsStand tests → AreOrderTests setup start tests
+      → IfOk made (λ runs. Each (IsRunOf pending_of_body events_plan) tests runs.items)
       → IfOk made (λ runs. AreOrderRuns setup start runs.items)
   all-ran (Ok runs) sound are ran = order-runs setup start tests runs.items sound are ran
   all-ran (Err e) sound are ran = tt
 
 -- a test that was run by itself
 pub one-ran : {E : Type 0} (setup : DirectedSetup) (place : ℕ) (test : OrderTest)
-    (made : Result Played E) → IsTest pending_of events_plan EventsStand test
+    (made : Result Played E) → IsTest pending_of_body events_plan EventsStand test
     → IsTestAt setup place test
     → IfOk made (λ played. IsPlayed (events_plan test.policy) test.deal
-    (map pending_of test.bodies.items) test.limit played.events played.outcome)
+    (map pending_of_body test.bodies.items) test.limit played.events played.outcome)
     → ((order : List ℕ) (events : List Moment) → events_plan test.policy ≡ ByEvents order events
-    → IfOk made (λ played. IsRun (directed test.deal (map pending_of test.bodies.items) order events
+    → IfOk made
+    (λ played. IsRun (directed_run test.deal (map pending_of_body test.bodies.items) order events
     test.limit) played.events played.outcome))
     → IfOk made (IsRunAt setup place)
 one-ran setup place test (Ok played) sound is ran run = λ order at.
@@ -147,7 +150,7 @@ one-ran setup place test (Err e) sound is ran run = tt
 
 pub as-many : {E : Type 0} (start : ℕ) (tests : List OrderTest)
     (made : Result (Vec Played Global) E) (end : ℕ) → start + length tests ≡ end
-    → IfOk made (λ runs. Each (IsRunOf pending_of events_plan) tests runs.items)
+    → IfOk made (λ runs. Each (IsRunOf pending_of_body events_plan) tests runs.items)
     → IfOk made (λ runs. start + length runs.items ≡ end)
 as-many start tests (Ok runs) end long ran = omega (arith, ran.long, long)
 as-many start tests (Err e) end long ran = tt

@@ -6,7 +6,7 @@ use Rattle.std.proofs.lemmas.Bool.Decides.{nat_tests}
 use Rattle.std.proofs.Math.Nat.{div-add-mod, div-lt_iff_lt-mul, mod-lt}
 use Rattle.std.proofs.lemmas.List.{length-map, reverse-append, get_or_default}
 use Rattle.std.proofs.lemmas.List.Edits.{length-remove}
-use Rattle.directive_run.specs.Orders.{factorial, ending, orders_by, orders, threads_below, low_orders}
+use Rattle.directive_run.specs.Orders.{factorial, orders_ending, orders_by, orders, threads_below, low_orders}
 use Rattle.directive_run.proofs.laws.OrderLists.{get-left, get-right, get-map, length-orders_by, length-threads}
 
 -- more threads in a row
@@ -27,21 +27,21 @@ back_at zero list place = []
 back_at (suc n) list place =
     slice_index list (n - place / factorial n) ∷ back_at n (remove list (n - place / factorial n)) (place % factorial n)
 
-get-ending : (others : List ℕ → List (List ℕ)) (list : List ℕ) (many : ℕ) → ((p : ℕ) → p < length list → length (others (remove list p)) ≡ many) → (p i b r : ℕ) (order : List ℕ) → i + b + 1 ≡ p → p ≤ length list → r < many → slice_get (others (remove list i)) r ≡ Some order → slice_get (ending others list p) (b * many + r) ≡ Some (order ++ slice_index list i ∷ [])
+get-ending : (others : List ℕ → List (List ℕ)) (list : List ℕ) (many : ℕ) → ((p : ℕ) → p < length list → length (others (remove list p)) ≡ many) → (p i b r : ℕ) (order : List ℕ) → i + b + 1 ≡ p → p ≤ length list → r < many → slice_get (others (remove list i)) r ≡ Some order → slice_get (orders_ending others list p) (b * many + r) ≡ Some (order ++ slice_index list i ∷ [])
 get-ending others list many each zero i b r order at within low is = absurd (omega arith)
 get-ending others list many each (suc q) i zero r order at within low is =
-    let P : ℕ → Type 0 = λ z. slice_get (ending others list (suc z)) (zero * many + r) ≡ Some (order ++ slice_index list i ∷ []) in
+    let P : ℕ → Type 0 = λ z. slice_get (orders_ending others list (suc z)) (zero * many + r) ≡ Some (order ++ slice_index list i ∷ []) in
     let block = map (λ o. o ++ slice_index list i ∷ []) (others (remove list i)) in
     let long : length block ≡ many = length-map (others (remove list i)) (λ o. o ++ slice_index list i ∷ []) ∙ each i (omega arith) in
     let here : zero * many + r ≡ r = omega arith in
     subst P (let e : i ≡ q = omega arith in e)
-    (ap (slice_get (ending others list (suc i))) here ∙ (get-left block (ending others list i) r (omega (arith, long)) ∙ get-map (λ o. o ++ slice_index list i ∷ []) (others (remove list i)) r order is))
+    (ap (slice_get (orders_ending others list (suc i))) here ∙ (get-left block (orders_ending others list i) r (omega (arith, long)) ∙ get-map (λ o. o ++ slice_index list i ∷ []) (others (remove list i)) r order is))
 get-ending others list many each (suc q) i (suc b) r order at within low is =
     let block = map (λ o. o ++ slice_index list q ∷ []) (others (remove list q)) in
     let long : length block ≡ many = length-map (others (remove list q)) (λ o. o ++ slice_index list q ∷ []) ∙ each q (omega arith) in
     let product : suc b * many + r ≡ many + (b * many + r) = grind arith in
     let moved : suc b * many + r ≡ length block + (b * many + r) = omega (arith, product, long) in
-    ap (slice_get (ending others list (suc q))) moved ∙ (get-right block (ending others list q) (b * many + r) ∙ get-ending others list many each q i b r order (omega arith) (omega arith) low is)
+    ap (slice_get (orders_ending others list (suc q))) moved ∙ (get-right block (orders_ending others list q) (b * many + r) ∙ get-ending others list many each q i b r order (omega arith) (omega arith) low is)
 
 pub block-low : (n place : ℕ) → place < factorial (suc n) → place / factorial n < suc n
 block-low n place within = (div-lt_iff_lt-mul (some-orders n)).1 within

@@ -5,7 +5,7 @@ use Rattle.std.proofs.Common.{◌≡◌, ℕ, zero, suc, ◌+◌, ◌<◌, Bool,
 use Rattle.std.proofs.lemmas.List.Sums.{sum_by-cons}
 use Rattle.pct_ask.specs.declared.event.Event.{Event}
 use Rattle.rank_now.specs.declared.moment.Moment.{Moment}
-use Rattle.rank_now.specs.Positions.{greatest, passes_at}
+use Rattle.rank_now.specs.Positions.{greatest_where, passes_at}
 use Rattle.rank_now.specs.Rank.{own_steps, is_moment}
 use Rattle.turn_book.specs.Posts.{schedule_of}
 use Rattle.worker_run.proofs.laws.Moments.{own-step}
@@ -29,7 +29,7 @@ own-stays t (x ∷ xs) (suc k) none =
 
 module _ (events : List Event) (moment : Moment) (steps place : ℕ) (d : Event) (within : place < length events) (many point : ℕ)
     (so_far : many ≡ own_steps (schedule_of events) moment.thread place)
-    (pointed : point ≡ point_at steps (greatest (λ step. is_moment (schedule_of events) step moment) place)) where
+    (pointed : point ≡ point_at steps (greatest_where (λ step. is_moment (schedule_of events) step moment) place)) where
   abbrev schedule : List ℕ
   schedule = schedule_of events
 
@@ -37,19 +37,19 @@ module _ (events : List Event) (moment : Moment) (steps place : ℕ) (d : Event)
   test step = is_moment schedule step moment
 
   -- the point after a step, by whether the moment is that step
-  stays : test (suc place) ≡ false → point ≡ point_at steps (greatest test (suc place))
-  stays none = pointed ∙ ap (λ b. point_at steps (cond b (suc place) (greatest test place))) (sym none)
+  stays : test (suc place) ≡ false → point ≡ point_at steps (greatest_where test (suc place))
+  stays none = pointed ∙ ap (λ b. point_at steps (cond b (suc place) (greatest_where test place))) (sym none)
 
-  goes : test (suc place) ≡ true → suc place ≡ point_at steps (greatest test (suc place))
+  goes : test (suc place) ≡ true → suc place ≡ point_at steps (greatest_where test (suc place))
   goes some =
-      sym (ap (λ b. point_at steps (cond b (suc place) (greatest test place))) some
+      sym (ap (λ b. point_at steps (cond b (suc place) (greatest_where test place))) some
       ∙ ap (λ b. cond b steps (suc place)) (ne_eqb (suc place) 0 (λ e. omega arith)))
 
   -- the step is another thread's
   pub other-own : eqb (slice_index_or events place d).thread moment.thread ≡ false → many ≡ own_steps schedule moment.thread (suc place)
   other-own other = so_far ∙ sym (own-stays moment.thread schedule place (passes-here events moment.thread place d within ∙ other))
 
-  pub other-point : eqb (slice_index_or events place d).thread moment.thread ≡ false → point ≡ point_at steps (greatest test (suc place))
+  pub other-point : eqb (slice_index_or events place d).thread moment.thread ≡ false → point ≡ point_at steps (greatest_where test (suc place))
   other-point other = stays (ap (λ b. b && eqb (own_steps schedule moment.thread (suc place)) moment.number) (passes-here events moment.thread place d within ∙ other))
 
   -- it is the thread's
@@ -61,14 +61,14 @@ module _ (events : List Event) (moment : Moment) (steps place : ℕ) (d : Event)
       ap (λ p. p && eqb (own_steps schedule moment.thread (suc place)) moment.number) (passes-here events moment.thread place d within ∙ same)
       ∙ ap (λ n. eqb n moment.number) (sym (same-own same)) ∙ number
 
-  pub same-point : eqb (slice_index_or events place d).thread moment.thread ≡ true → eqb (many + 1) moment.number ≡ false → point ≡ point_at steps (greatest test (suc place))
+  pub same-point : eqb (slice_index_or events place d).thread moment.thread ≡ true → eqb (many + 1) moment.number ≡ false → point ≡ point_at steps (greatest_where test (suc place))
   same-point same number = stays (is-test same false number)
 
-  pub here-point : eqb (slice_index_or events place d).thread moment.thread ≡ true → eqb (many + 1) moment.number ≡ true → suc place ≡ point_at steps (greatest test (suc place))
+  pub here-point : eqb (slice_index_or events place d).thread moment.thread ≡ true → eqb (many + 1) moment.number ≡ true → suc place ≡ point_at steps (greatest_where test (suc place))
   here-point same number = goes (is-test same true number)
 
   pub to-own : own_steps schedule moment.thread (suc place) ≡ own_steps schedule moment.thread (place + 1)
   to-own = ap (own_steps schedule moment.thread) (let e : suc place ≡ place + 1 = omega arith in e)
 
-  pub to-point : point_at steps (greatest test (suc place)) ≡ point_at steps (greatest test (place + 1))
-  to-point = ap (λ n. point_at steps (greatest test n)) (let e : suc place ≡ place + 1 = omega arith in e)
+  pub to-point : point_at steps (greatest_where test (suc place)) ≡ point_at steps (greatest_where test (place + 1))
+  to-point = ap (λ n. point_at steps (greatest_where test n)) (let e : suc place ≡ place + 1 = omega arith in e)

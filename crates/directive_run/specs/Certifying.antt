@@ -7,10 +7,10 @@ use Rattle.rank_now.specs.declared.moment.Moment.{Moment}
 use Rattle.rank_now.specs.Order.{IsOrder}
 use Rattle.turn_book.specs.Posts.{schedule_of}
 use Rattle.worker_run.specs.Bodies.{Pending}
-use Rattle.worker_run.specs.Run.{run, directed}
+use Rattle.worker_run.specs.Run.{run, directed_run}
 use Rattle.directive.specs.declared.directive.Directive.{Directive}
 use Rattle.directive_run.specs.Points.{points_of}
-use Rattle.directive_run.specs.Exposing.{IsTooLong}
+use Rattle.directive_run.specs.Exposing.{RunsTooLong}
 use Rattle.directive_run.specs.Orders.{factorial, low_orders}
 use Rattle.directive_run.specs.Counting.{hits}
 use Rattle.directive_run.specs.Guarantees.{EndsIn, IsLed, Guarantees}
@@ -24,7 +24,7 @@ use Rattle.directive_run.specs.declared.answers.Certified.TheVariants.{TooManyTh
 pub record IsPointed (deal : Deal) (bodies : List Pending) (order : List ℕ) (events : List Moment)
     (verdict : Verdict) (steps limit : ℕ) (points : List ℕ) : Type 0 where
   pub made : List Event
-  pub is_directed : directed deal bodies order events limit ≡ Some (made, verdict)
+  pub is_directed : directed_run deal bodies order events limit ≡ Some (made, verdict)
   pub short : length made ≤ steps
   pub points_are : points ≡ points_of (schedule_of made) steps events
   pub is_run : run deal bodies order points limit ≡ Some (made, verdict)
@@ -74,7 +74,7 @@ pub record IsRefuted (deal : Deal) (bodies : List Pending) (directive : Directiv
   pub whole : length order ≡ deal.threads
   pub last : EndsIn order directive.low
   pub made : List Event
-  pub is_directed : directed deal bodies order directive.events limit ≡ Some (made, verdict)
+  pub is_directed : directed_run deal bodies order directive.events limit ≡ Some (made, verdict)
   pub short : length made ≤ steps
   pub apart : verdict ≢ directive.verdict
 
@@ -85,7 +85,7 @@ pub record IsTooLongUnder (deal : Deal) (bodies : List Pending) (directive : Dir
   pub is_order : IsOrder order
   pub whole : length order ≡ deal.threads
   pub last : EndsIn order directive.low
-  pub too_long : IsTooLong deal bodies order directive.events steps limit many
+  pub too_long : RunsTooLong deal bodies order directive.events steps limit many
 
 -- What each answer says of the directive: it is certified; or this order is the first that isn't
 -- led to its verdict, by another verdict or by too many steps; or there are more than 7 threads.

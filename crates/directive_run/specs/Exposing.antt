@@ -7,7 +7,7 @@ use Rattle.pct_ask.specs.declared.verdict.Outcome.TheVariants.{Verdict as Ends}
 use Rattle.rank_now.specs.declared.moment.Moment.{Moment}
 use Rattle.turn_book.specs.Posts.{schedule_of}
 use Rattle.worker_run.specs.Bodies.{Pending}
-use Rattle.worker_run.specs.Run.{run, directed}
+use Rattle.worker_run.specs.Run.{run, directed_run}
 use Rattle.worker_run.specs.declared.played.Played.{Played}
 use Rattle.directive_run.specs.Points.{points_of}
 use Rattle.directive_run.specs.declared.answers.Exposed.{Exposed}
@@ -24,18 +24,18 @@ pub record IsExposed (deal : Deal) (bodies : List Pending) (order : List ℕ) (e
     (steps limit : ℕ) (points : List ℕ) (played : Played) : Type 0 where
   pub verdict : Verdict
   pub ends : played.outcome ≡ Ends verdict
-  pub is_directed : directed deal bodies order events limit ≡ Some (played.events, verdict)
+  pub is_directed : directed_run deal bodies order events limit ≡ Some (played.events, verdict)
   pub short : length played.events ≤ steps
   pub points_are : points ≡ points_of (schedule_of played.events) steps events
   pub within : All (IsWithin steps) points
   pub is_run : run deal bodies order points limit ≡ Some (played.events, verdict)
 
 -- The directed run has this number of steps, and that is more than there may be.
-pub record IsTooLong (deal : Deal) (bodies : List Pending) (order : List ℕ) (events : List Moment)
+pub record RunsTooLong (deal : Deal) (bodies : List Pending) (order : List ℕ) (events : List Moment)
     (steps limit many : ℕ) : Type 0 where
   pub made : List Event
   pub verdict : Verdict
-  pub is_directed : directed deal bodies order events limit ≡ Some (made, verdict)
+  pub is_directed : directed_run deal bodies order events limit ≡ Some (made, verdict)
   pub number : many ≡ length made
   pub long : steps < many
 
@@ -45,4 +45,4 @@ abbrev pub Exposes : Deal → List Pending → List ℕ → List Moment → ℕ 
 Exposes deal bodies order events steps limit (Points points played) =
     IsExposed deal bodies order events steps limit points played
 Exposes deal bodies order events steps limit (TooLong many) =
-    IsTooLong deal bodies order events steps limit many
+    RunsTooLong deal bodies order events steps limit many

@@ -7,7 +7,7 @@ use Rattle.pct_ask.specs.declared.verdict.Verdict.{Verdict}
 use Rattle.rank_now.specs.declared.moment.Moment.{Moment}
 use Rattle.rank_now.specs.Order.{IsOrder}
 use Rattle.worker_run.specs.Bodies.{Pending}
-use Rattle.worker_run.specs.Run.{directed}
+use Rattle.worker_run.specs.Run.{directed_run}
 
 -- the order places the thread last
 abbrev pub EndsIn : List ℕ → ℕ → Type 0
@@ -17,7 +17,7 @@ EndsIn order low = (front : List ℕ) × (order ≡ front ++ low ∷ [])
 pub record IsLed (deal : Deal) (bodies : List Pending) (order : List ℕ) (events : List Moment)
     (verdict : Verdict) (steps limit : ℕ) : Type 0 where
   pub made : List Event
-  pub directed_is : directed deal bodies order events limit ≡ Some (made, verdict)
+  pub directed_is : directed_run deal bodies order events limit ≡ Some (made, verdict)
   pub short : length made ≤ steps
 
 -- Every order that places the thread last is led to the verdict, within so many steps.

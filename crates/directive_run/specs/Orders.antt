@@ -10,16 +10,16 @@ factorial (suc n) = suc n * factorial n
 
 -- Of a list's first threads, as many as the number says, from the last to the first: the orders
 -- that end in the thread. They are the orders of the list without it, followed by it.
-abbrev pub ending : (List ℕ → List (List ℕ)) → List ℕ → ℕ → List (List ℕ)
-ending others list zero = []
-ending others list (suc place) =
+abbrev pub orders_ending : (List ℕ → List (List ℕ)) → List ℕ → ℕ → List (List ℕ)
+orders_ending others list zero = []
+orders_ending others list (suc place) =
     map (λ order. order ++ slice_index list place ∷ []) (others (remove list place))
-    ++ ending others list place
+    ++ orders_ending others list place
 
 -- the orders of a list of so many threads: of no threads there is one, which is empty
 abbrev pub orders_by : ℕ → List ℕ → List (List ℕ)
 orders_by zero list = [] ∷ []
-orders_by (suc n) list = ending (orders_by n) list (suc n)
+orders_by (suc n) list = orders_ending (orders_by n) list (suc n)
 
 -- all orders of the list's threads: their last thread varies slowest, from the list's last to its
 -- first

@@ -17,9 +17,9 @@ at thread number = record { thread = thread; number = number }
 
 -- the second step of thread 0, a step of a thread that took none, the only one of thread 1, and a
 -- third of thread 0
-pub exposed : points_of (0 ∷ 1 ∷ 0 ∷ []) 9 (at 0 2 ∷ at 2 1 ∷ at 1 1 ∷ at 0 3 ∷ [])
+pub exposed_points : points_of (0 ∷ 1 ∷ 0 ∷ []) 9 (at 0 2 ∷ at 2 1 ∷ at 1 1 ∷ at 0 3 ∷ [])
     ≡ 3 ∷ 9 ∷ 2 ∷ 9 ∷ []
-exposed = refl
+exposed_points = refl
 
 -- equal moments have equal points
 pub equal_moments : points_of (0 ∷ 1 ∷ []) 8 (at 0 1 ∷ at 0 1 ∷ []) ≡ 1 ∷ 1 ∷ []

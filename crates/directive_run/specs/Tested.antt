@@ -10,16 +10,16 @@ use Rattle.policy_pick.specs.Plan.{ByEvents}
 use Rattle.policy_pick.specs.Kept.{EventsKept, events_plan}
 use Rattle.script_tree.specs.ScriptText.{ScriptText}
 use Rattle.script_code.specs.Listing.{listing}
-use Rattle.script_body.specs.BodyPosts.{pending_of}
+use Rattle.script_body.specs.BodyPosts.{pending_of_body}
 use Rattle.script_body.specs.Bodies.{bodies_of, AreOf}
 use Rattle.script_body.specs.declared.body.ScriptBody.{ScriptBody}
 use Rattle.worker_run.specs.Bodies.{Pending}
-use Rattle.worker_run.specs.Run.{Run, directed}
+use Rattle.worker_run.specs.Run.{Run, directed_run}
 use Rattle.worker_run.specs.Played.{IsRun}
 use Rattle.worker_run.specs.declared.batch.Test.{Test}
 use Rattle.worker_run.specs.declared.played.Played.{Played}
 use Rattle.directive.specs.declared.directive.Directive.{Directive}
-use Rattle.directive_run.specs.Exposing.{IsTooLong}
+use Rattle.directive_run.specs.Exposing.{RunsTooLong}
 use Rattle.directive_run.specs.Orders.{low_orders}
 use Rattle.directive_run.specs.Certifying.{IsPointed, AreRows, Certifies}
 use Rattle.directive_run.specs.declared.answers.CertifyRow.{CertifyRow}
@@ -40,7 +40,7 @@ pub record DirectedSetup : Type 0 where
 -- the directed run of an order
 abbrev pub run_of_order : DirectedSetup → List ℕ → Option Run
 run_of_order setup order =
-    directed setup.deal setup.bodies order setup.directive.events setup.limit
+    directed_run setup.deal setup.bodies order setup.directive.events setup.limit
 
 -- ---- a task
 
@@ -64,7 +64,7 @@ directed_setup script task = record {
 pub record IsOther (deal : Deal) (bodies : List Pending) (order : List ℕ) (events : List Moment)
     (verdict : Verdict) (steps limit : ℕ) (other : Verdict) : Type 0 where
   pub made : List Event
-  pub is_directed : directed deal bodies order events limit ≡ Some (made, other)
+  pub is_directed : directed_run deal bodies order events limit ≡ Some (made, other)
   pub short : length made ≤ steps
   pub apart : other ≢ verdict
 
@@ -78,7 +78,7 @@ Tells setup order (Other other) =
     IsOther setup.deal setup.bodies order setup.directive.events setup.directive.verdict setup.steps
     setup.limit other
 Tells setup order (TooLong many) =
-    IsTooLong setup.deal setup.bodies order setup.directive.events setup.steps setup.limit many
+    RunsTooLong setup.deal setup.bodies order setup.directive.events setup.steps setup.limit many
 
 -- ---- the orders, by their places
 
@@ -93,7 +93,7 @@ pub record IsOrderTest (setup : DirectedSetup) (order : List ℕ)
   pub deal : test.deal ≡ setup.deal
   pub plan : events_plan test.policy ≡ ByEvents order setup.directive.events
   pub limit : test.limit ≡ setup.limit
-  pub bodies : map pending_of test.bodies.items ≡ setup.bodies
+  pub bodies : map pending_of_body test.bodies.items ≡ setup.bodies
 
 -- it is that of the order at the place
 abbrev pub IsTestAt : DirectedSetup → ℕ → Test EventsKept ScriptBody → Type 0

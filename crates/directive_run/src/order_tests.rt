@@ -1,7 +1,7 @@
 // The tests of the orders that are tried for a certificate.
 ghost use Rattle.std.specs.Prelude.{◌≡◌, ◌≤◌, ◌<◌, ◌+◌, ◌-◌, length, IfOk};
 ghost use Rattle.script_tree.specs.ScriptText.{ScriptText};
-ghost use Rattle.script_body.specs.BodyPosts.{pending_of};
+ghost use Rattle.script_body.specs.BodyPosts.{pending_of_body};
 ghost use Rattle.policy_pick.specs.Kept.{events_plan, EventsStand};
 ghost use Rattle.worker_run.specs.Tests.{IsTest, AreTests};
 ghost use Rattle.directive_run.specs.Orders.{factorial};
@@ -23,7 +23,7 @@ pub fn order_test<'c>(
 ) -> Result<Test<DirectedPolicy, ScriptBody<'c>>, NoMemory>
     requires script { (script : ScriptText) × IsDirectedTask script task.now }
     requires place { place < factorial (task.now.deal.now.threads - 1) }
-    ensures asked { IfOk result (λ test. IsTest pending_of events_plan EventsStand test) }
+    ensures asked { IfOk result (λ test. IsTest pending_of_body events_plan EventsStand test) }
     ensures of_order { (script : ScriptText) → IsDirectedTask script task.now
         → IfOk result (IsTestAt (directed_setup script task.now) place) }
 {
@@ -51,7 +51,8 @@ pub fn order_tests<'c>(
     requires places { start ≤ end }
     requires within { end ≤ factorial (task.now.deal.now.threads - 1) }
     ensures long { IfOk result (λ tests. start + length tests.items ≡ end) }
-    ensures asked { IfOk result (λ tests. AreTests pending_of events_plan EventsStand tests.items) }
+    ensures asked { IfOk result
+        (λ tests. AreTests pending_of_body events_plan EventsStand tests.items) }
     ensures of_orders { (script : ScriptText) → IsDirectedTask script task.now
         → IfOk result (λ tests. AreOrderTests (directed_setup script task.now) start tests.items) }
 {

@@ -12,7 +12,7 @@ use Rattle.pct_ask.specs.declared.verdict.Verdict.{Verdict}
 use Rattle.pct_ask.specs.declared.verdict.Verdict.TheVariants.{Passed}
 use Rattle.pct_ask.specs.SameVerdict.{same_verdict}
 use Rattle.failure_rank.specs.Groups.{rows_with, earliest, IsGroup}
-use Rattle.failure_rank.specs.Growing.{group_of, with_row, grown, IsEntry, IsCounted}
+use Rattle.failure_rank.specs.Growing.{group_of, with_row, grown, IsEntry, AreRowsCounted}
 use Rattle.failure_rank.specs.declared.group.Group.{Group}
 use Rattle.failure_rank.proofs.RowLemmas.{same-true, equal, same-false, rows_with-other, earliest-kept, earliest-new, place-none, IsGroup-other, IsGroup-more, IsGroup-new, earliest-group}
 
@@ -95,7 +95,7 @@ module _ (rows : List Row) (row : Row) where
       (All-weaker (IsEntry rows) (λ e. earliest rows e.0 < length rows) (λ e is. subst (λ v. earliest rows v < length rows) is.own (earliest-group rows e.1 is.group)) entries each)
 
   -- a row that passed changes no group
-  pub IsCounted-passed : (entries : List (Verdict × Group)) → row.verdict ≡ Passed → IsCounted rows entries → IsCounted (rows ++ row ∷ []) entries
+  pub IsCounted-passed : (entries : List (Verdict × Group)) → row.verdict ≡ Passed → AreRowsCounted rows entries → AreRowsCounted (rows ++ row ∷ []) entries
   IsCounted-passed entries passed is = record {
     each = All-weaker (IsEntry rows) (IsEntry (rows ++ row ∷ [])) (λ e own. entry_other e (λ x. own.group.failed (own.own ∙ x ∙ passed)) own) entries is.each;
     order = order_kept (keys_of entries) (places_within entries is.each) is.order;
@@ -125,14 +125,14 @@ module _ (rows : List Row) (row : Row) where
           let apart : e.0 ≢ row.verdict = λ x. true≢false (sym (same-true row.verdict e.0 (sym x)) ∙ f) in
           rw f (All-cons (IsEntry (rows ++ row ∷ [])) e (insert_entry same_verdict es row.verdict w) (entry_other e apart (All-head (IsEntry rows) e es each)) rest)
 
-  all_insert : (entries : List (Verdict × Group)) (w : Group) → IsCounted rows entries → (v : Verdict) → v ≢ Passed → lookup (same_verdict v) (insert_entry same_verdict entries row.verdict w) ≡ None → rows_with v (rows ++ row ∷ []) ≡ []
+  all_insert : (entries : List (Verdict × Group)) (w : Group) → AreRowsCounted rows entries → (v : Verdict) → v ≢ Passed → lookup (same_verdict v) (insert_entry same_verdict entries row.verdict w) ≡ None → rows_with v (rows ++ row ∷ []) ≡ []
   all_insert entries w is v failed none =
       verdict_cases v row.verdict (rows_with v (rows ++ row ∷ []) ≡ [])
       (λ e. let some : lookup (same_verdict v) (insert_entry same_verdict entries row.verdict w) ≡ Some w = rw e (lookup-own row.verdict w entries) in cc)
       (λ apart. rows_with-other rows row v apart ∙ is.all v failed (sym (lookup-other row.verdict w v apart entries) ∙ none))
 
   -- the group of a row that failed: a new one, or the one that is there with one more row
-  IsCounted-new : (entries : List (Verdict × Group)) → row.verdict ≢ Passed → IsCounted rows entries → lookup (same_verdict row.verdict) entries ≡ None → IsCounted (rows ++ row ∷ []) (insert_entry same_verdict entries row.verdict (group_of row))
+  IsCounted-new : (entries : List (Verdict × Group)) → row.verdict ≢ Passed → AreRowsCounted rows entries → lookup (same_verdict row.verdict) entries ≡ None → AreRowsCounted (rows ++ row ∷ []) (insert_entry same_verdict entries row.verdict (group_of row))
   IsCounted-new entries failed is none =
       let own = is.all row.verdict failed none in
       let first : earliest rows row.verdict ≡ length rows = place-none (λ (r : Row). same_verdict row.verdict r.verdict) rows own in
@@ -147,7 +147,7 @@ module _ (rows : List Row) (row : Row) where
         all = λ v bad gone. all_insert entries (group_of row) is v bad gone;
       }
 
-  IsCounted-present : (entries : List (Verdict × Group)) (g : Group) → row.verdict ≢ Passed → IsCounted rows entries → lookup (same_verdict row.verdict) entries ≡ Some g → IsCounted (rows ++ row ∷ []) (insert_entry same_verdict entries row.verdict (with_row g row))
+  IsCounted-present : (entries : List (Verdict × Group)) (g : Group) → row.verdict ≢ Passed → AreRowsCounted rows entries → lookup (same_verdict row.verdict) entries ≡ Some g → AreRowsCounted (rows ++ row ∷ []) (insert_entry same_verdict entries row.verdict (with_row g row))
   IsCounted-present entries g failed is there =
       let entry : IsEntry rows (row.verdict, g) = found_entry (IsEntry rows) row.verdict entries g there is.each in
       record {
@@ -158,14 +158,14 @@ module _ (rows : List Row) (row : Row) where
         all = λ v bad gone. all_insert entries (with_row g row) is v bad gone;
       }
 
-  pub IsCounted-failed : (entries : List (Verdict × Group)) → row.verdict ≢ Passed → IsCounted rows entries → IsCounted (rows ++ row ∷ []) (insert_entry same_verdict entries row.verdict (grown (lookup (same_verdict row.verdict) entries) row))
+  pub IsCounted-failed : (entries : List (Verdict × Group)) → row.verdict ≢ Passed → AreRowsCounted rows entries → AreRowsCounted (rows ++ row ∷ []) (insert_entry same_verdict entries row.verdict (grown (lookup (same_verdict row.verdict) entries) row))
   IsCounted-failed entries failed is = by (lookup (same_verdict row.verdict) entries) refl
     where
-      by : (o : Option Group) → lookup (same_verdict row.verdict) entries ≡ o → IsCounted (rows ++ row ∷ []) (insert_entry same_verdict entries row.verdict (grown (lookup (same_verdict row.verdict) entries) row))
+      by : (o : Option Group) → lookup (same_verdict row.verdict) entries ≡ o → AreRowsCounted (rows ++ row ∷ []) (insert_entry same_verdict entries row.verdict (grown (lookup (same_verdict row.verdict) entries) row))
       by None e = rw e (IsCounted-new entries failed is e)
       by (Some g) e = rw e (IsCounted-present entries g failed is e)
 
-pub IsCounted-none : IsCounted [] []
+pub IsCounted-none : AreRowsCounted [] []
 IsCounted-none = record {
   each = All-nil (IsEntry []);
   order = λ i j d below inside. absurd (omega arith);
@@ -173,6 +173,6 @@ IsCounted-none = record {
 }
 
 -- no group counts more rows than there are
-pub counts_fit : (rows : List Row) (entries : List (Verdict × Group)) → IsCounted rows entries → length rows ≤ 100000 → All (λ entry. entry.1.count + 1 < 2 ^ 32) entries
+pub counts_fit : (rows : List Row) (entries : List (Verdict × Group)) → AreRowsCounted rows entries → length rows ≤ 100000 → All (λ entry. entry.1.count + 1 < 2 ^ 32) entries
 counts_fit rows entries is few =
     All-weaker (IsEntry rows) (λ e. e.1.count + 1 < 2 ^ 32) (λ e own. omega (arith, own.group.sums.count, length-filter (λ (r : Row). same_verdict e.1.verdict r.verdict) rows, count_by-le-length (λ (r : Row). same_verdict e.1.verdict r.verdict) rows)) entries is.each

@@ -5,7 +5,7 @@ use Rattle.std.proofs.lemmas.List.Elements.{All-filter, filter_passes, Contains-
 use Rattle.pct_ask.specs.declared.event.Row.{Row}
 use Rattle.pct_ask.specs.declared.verdict.Verdict.{Verdict}
 use Rattle.pct_ask.specs.SameVerdict.{same_verdict}
-use Rattle.failure_rank.specs.Groups.{rows_with, IsGroup, IsRanking, StandsBefore}
+use Rattle.failure_rank.specs.Groups.{rows_with, IsGroup, IsRanking, RanksBefore}
 use Rattle.failure_rank.specs.declared.group.Group.{Group}
 use Rattle.failure_rank.proofs.RowLemmas.{equal}
 use Rattle.failure_rank.proofs.Unique.{not_both, same_lists}
@@ -24,4 +24,4 @@ groups_have P rows groups is each k d inside = group_has P rows (get_or groups k
 -- there is one ranking of the rows
 pub one_ranking : (rows : List Row) (groups other : List Group) → IsRanking rows groups → IsRanking rows other → other ≡ groups
 one_ranking rows groups other is too =
-    same_lists (StandsBefore rows) (not_both rows) other groups too.order is.order (λ g h. (is.members g).1 ((too.members g).0 h)) (λ g h. (too.members g).1 ((is.members g).0 h))
+    same_lists (RanksBefore rows) (not_both rows) other groups too.order is.order (λ g h. (is.members g).1 ((too.members g).0 h)) (λ g h. (too.members g).1 ((is.members g).0 h))

@@ -16,8 +16,8 @@ use Rattle.std.specs.declared.cmp.Ordering.TheVariants.{Less, Equal}
 use Rattle.pct_ask.specs.declared.event.Row.{Row}
 use Rattle.pct_ask.specs.declared.verdict.Verdict.{Verdict}
 use Rattle.pct_ask.specs.SameVerdict.{same_verdict}
-use Rattle.failure_rank.specs.Groups.{rows_with, earliest, SumsUp, IsGroup, IsRanking, StandsBefore, MoreOften, Shorter, Lower, Earlier}
-use Rattle.failure_rank.specs.Growing.{IsEntry, IsCounted}
+use Rattle.failure_rank.specs.Groups.{rows_with, earliest, SumsUp, IsGroup, IsRanking, RanksBefore, MoreOften, Shorter, Lower, Earlier}
+use Rattle.failure_rank.specs.Growing.{IsEntry, AreRowsCounted}
 use Rattle.failure_rank.specs.declared.group.Group.{Group}
 use Rattle.failure_rank.proofs.RowLemmas.{some_rows}
 use Rattle.failure_rank.proofs.Counting.{pair_tail, found_entry}
@@ -41,7 +41,7 @@ less_cmp x y h = rw (lt-ltb x y h)
 
 -- two groups of which the second doesn't come first by its key, and the first stands earlier where neither does
 module _ (rows : List Row) (a b : Group) where
-  by_seed : a.count ≡ b.count → a.steps ≡ b.steps → comes_first b a ≡ false → (comes_first a b ≡ false → earliest rows a.verdict < earliest rows b.verdict) → StandsBefore rows a b
+  by_seed : a.count ≡ b.count → a.steps ≡ b.steps → comes_first b a ≡ false → (comes_first a b ≡ false → earliest rows a.verdict < earliest rows b.verdict) → RanksBefore rows a b
   by_seed often long not_after tie =
       ⊎_elim
       (λ (e : a.first ≡ b.first). Earlier often long e (tie (rw (equal_cmp b.count a.count (sym often), equal_cmp a.steps b.steps long, equal_cmp a.first b.first e))))
@@ -51,7 +51,7 @@ module _ (rows : List Row) (a b : Group) where
       h)
       (cases_order a.first b.first)
 
-  by_steps : a.count ≡ b.count → comes_first b a ≡ false → (comes_first a b ≡ false → earliest rows a.verdict < earliest rows b.verdict) → StandsBefore rows a b
+  by_steps : a.count ≡ b.count → comes_first b a ≡ false → (comes_first a b ≡ false → earliest rows a.verdict < earliest rows b.verdict) → RanksBefore rows a b
   by_steps often not_after tie =
       ⊎_elim
       (λ (e : a.steps ≡ b.steps). by_seed often e not_after tie)
@@ -61,7 +61,7 @@ module _ (rows : List Row) (a b : Group) where
       h)
       (cases_order a.steps b.steps)
 
-  pub settled : comes_first b a ≡ false → (comes_first a b ≡ false → earliest rows a.verdict < earliest rows b.verdict) → StandsBefore rows a b
+  pub settled : comes_first b a ≡ false → (comes_first a b ≡ false → earliest rows a.verdict < earliest rows b.verdict) → RanksBefore rows a b
   settled not_after tie =
       ⊎_elim
       (λ (e : a.count ≡ b.count). by_steps e not_after tie)
@@ -120,7 +120,8 @@ same_group rows a b is too e =
 
 -- ---- the groups that were counted
 
-module _ (rows : List Row) (entries : List (Verdict × Group)) (is : IsCounted rows entries) where
+module _ (rows : List Row) (entries : List (Verdict × Group))
+    (is : AreRowsCounted rows entries) where
   value_at : (k : ℕ) (d : Group) → k < length entries → get_or (values_of entries) k d ≡ (get_or entries k (d.verdict, d)).1
   value_at k d inside = get_or-map (λ (e : Verdict × Group). e.1) entries k (d.verdict, d) d inside
 

@@ -3,11 +3,11 @@ use Rattle.std.proofs.Common.{◌≡◌, ℕ, suc, zero, ◌<◌, ◌⊎◌, inl
 use Rattle.std.specs.List.{All, AllPairs, Contains}
 use Rattle.std.proofs.lemmas.List.Elements.{All-contains}
 use Rattle.pct_ask.specs.declared.event.Row.{Row}
-use Rattle.failure_rank.specs.Groups.{StandsBefore, MoreOften, Shorter, Lower, Earlier}
+use Rattle.failure_rank.specs.Groups.{RanksBefore, MoreOften, Shorter, Lower, Earlier}
 use Rattle.failure_rank.specs.declared.group.Group.{Group}
 use Rattle.failure_rank.proofs.Counting.{pair_tail, pair_head}
 
-pub not_both : (rows : List Row) (a b : Group) → StandsBefore rows a b → StandsBefore rows b a → ⊥
+pub not_both : (rows : List Row) (a b : Group) → RanksBefore rows a b → RanksBefore rows b a → ⊥
 not_both rows a b (MoreOften h) (MoreOften k) = omega arith
 not_both rows a b (MoreOften h) (Shorter e k) = omega arith
 not_both rows a b (MoreOften h) (Lower e f k) = omega arith

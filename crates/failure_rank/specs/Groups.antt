@@ -32,15 +32,15 @@ earliest rows verdict = position_or_len (λ row. same_verdict verdict row.verdic
 -- What came more often stands before what came less often. Of failures that came as often the one
 -- with fewer steps stands first, then that with the lower first seed, then that whose earliest row
 -- comes first.
-pub data StandsBefore (rows : List Row) (a b : Group) : Type 0 where
-  MoreOften : (more : b.count < a.count) → StandsBefore rows a b
-  Shorter : (often : a.count ≡ b.count) (shorter : a.steps < b.steps) → StandsBefore rows a b
+pub data RanksBefore (rows : List Row) (a b : Group) : Type 0 where
+  MoreOften : (more : b.count < a.count) → RanksBefore rows a b
+  Shorter : (often : a.count ≡ b.count) (shorter : a.steps < b.steps) → RanksBefore rows a b
   Lower : (often : a.count ≡ b.count) (long : a.steps ≡ b.steps) (lower : a.first < b.first)
-      → StandsBefore rows a b
+      → RanksBefore rows a b
   Earlier : (often : a.count ≡ b.count) (long : a.steps ≡ b.steps) (seed : a.first ≡ b.first)
-      (earlier : earliest rows a.verdict < earliest rows b.verdict) → StandsBefore rows a b
+      (earlier : earliest rows a.verdict < earliest rows b.verdict) → RanksBefore rows a b
 
 -- the groups of a campaign's rows, all of them, in their order
 pub record IsRanking (rows : List Row) (groups : List Group) : Type 0 where
   pub members : (group : Group) → Contains groups group ↔ IsGroup rows group
-  pub order : AllPairs (StandsBefore rows) groups
+  pub order : AllPairs (RanksBefore rows) groups

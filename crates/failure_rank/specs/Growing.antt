@@ -25,7 +25,7 @@ pub record IsEntry (rows : List Row) (entry : Verdict × Group) : Type 0 where
   pub own : entry.1.verdict ≡ entry.0
   pub group : IsGroup rows entry.1
 
-pub record IsCounted (rows : List Row) (entries : List (Verdict × Group)) : Type 0 where
+pub record AreRowsCounted (rows : List Row) (entries : List (Verdict × Group)) : Type 0 where
   pub each : All (IsEntry rows) entries
   pub order : AllPairs (λ v w. earliest rows v < earliest rows w) (keys_of entries)
   pub all : (verdict : Verdict) → verdict ≢ Passed

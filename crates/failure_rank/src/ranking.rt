@@ -4,7 +4,7 @@ ghost use Rattle.std.specs.Prelude.{◌≡◌, ◌+◌, ◌<◌, ◌≤◌, ◌^
 ghost use Rattle.indexmap.specs.IndexMap.{get, insert_entry};
 ghost use Rattle.pct_ask.specs.SameVerdict.{same_verdict};
 ghost use Rattle.failure_rank.specs.Groups.{IsRanking};
-ghost use Rattle.failure_rank.specs.Growing.{IsCounted, grown};
+ghost use Rattle.failure_rank.specs.Growing.{AreRowsCounted, grown};
 ghost use Rattle.failure_rank.specs.declared.group.Group.{Group};
 
 use crate::group::{Group, Groups};
@@ -29,7 +29,7 @@ pub fn rank(alloc: Global, rows: &RowList) -> Result<Groups, NoMemory>
 /// The groups in the order in which their verdicts first came.
 fn count_failures(alloc: Global, rows: &[Row]) -> Result<IndexMap<Verdict, Group>, NoMemory>
     requires { length rows.now ≤ 100000 }
-    ensures { IfOk result (λ failures. IsCounted rows.now failures.entries) }
+    ensures { IfOk result (λ failures. AreRowsCounted rows.now failures.entries) }
 {
     let mut failures = IndexMap::new(alloc);
     for row in rows {

@@ -9,11 +9,11 @@ use Rattle.pct_ask.specs.declared.event.Event.{Event}
 use Rattle.hb_race.specs.declared.object.Object.{Object}
 use Rattle.hb_race.specs.declared.object.Object.TheVariants.{Thread, Mutex, Condition, Semaphore, Barrier, Variable, ReadWriteLock}
 use Rattle.hb_race.specs.Order.{Steps, Among}
-use Rattle.hb_race.specs.Clocks.{number, taken, clocks, stamp}
+use Rattle.hb_race.specs.Clocks.{own_count, greatest_of, clocks, stamp}
 use Rattle.hb_race.specs.Objects.{place, places_taken, object_given, first_taken, second_taken, is_at}
 use Rattle.sync_store.specs.Enabled.{IsInRange}
 use Rattle.hb_race.specs.Ranges.{IsEventInRange, most_with}
-use Rattle.hb_race.specs.Table.{entry, IsTable, IsStep}
+use Rattle.hb_race.specs.Table.{clock_entry, IsTable, IsStepEvent}
 use Rattle.hb_race.proofs.Numbers.{max-within}
 use Rattle.hb_race.proofs.Words.{some-same, taken-same}
 use Rattle.hb_race.proofs.Edges.{among-two}
@@ -31,9 +31,9 @@ twice true false a b = refl
 twice false true a b = refl
 twice false false a b = refl
 
-rows-same : (c d : ℕ → ℕ → ℕ) (u : ℕ) (os : List ℕ) → ((o : ℕ) → Among os o → c o u ≡ d o u) → taken c u os ≡ taken d u os
+rows-same : (c d : ℕ → ℕ → ℕ) (u : ℕ) (os : List ℕ) → ((o : ℕ) → Among os o → c o u ≡ d o u) → greatest_of c u os ≡ greatest_of d u os
 rows-same c d u [] same = refl
-rows-same c d u (o ∷ os) same = ap (λ x. max x (taken c u os)) (same o (inl refl)) ∙ ap (max (d o u)) (rows-same c d u os (λ p h. same p (inr h)))
+rows-same c d u (o ∷ os) same = ap (λ x. max x (greatest_of c u os)) (same o (inl refl)) ∙ ap (max (d o u)) (rows-same c d u os (λ p h. same p (inr h)))
 
 -- ---- every row from which a step takes is there
 first-low : (ask : Ask) (answer : ℤ) (o : Object) → IsInRange (most_with 64) ask → first_taken ask answer ≡ Some o → place o < 512
@@ -67,31 +67,31 @@ takes-low e range row (inr (inr h)) =
     ]
 
 -- ---- the clock that is made of the table is the step's
-pub stamp-is : (s : Steps ℕ) (n : ℕ) (e : Event) (table : List (List ℕ)) (counts : List ℕ) → IsStep s n e → IsEventInRange (most_with 64) e → IsTable s n table counts
-    → (u : ℕ) → cond (eqb e.thread u) (suc (get_or counts u 0)) (taken (entry table) u (places_taken e)) ≡ stamp s n u
+pub stamp-is : (s : Steps ℕ) (n : ℕ) (e : Event) (table : List (List ℕ)) (counts : List ℕ) → IsStepEvent s n e → IsEventInRange (most_with 64) e → IsTable s n table counts
+    → (u : ℕ) → cond (eqb e.thread u) (suc (get_or counts u 0)) (greatest_of (clock_entry table) u (places_taken e)) ≡ stamp s n u
 stamp-is s n e table counts step range is u =
-    ap (λ t. cond (eqb t u) (suc (get_or counts u 0)) (taken (entry table) u (places_taken e))) (sym step.thread)
-    ∙ ap (λ k. cond (eqb (s.thread n) u) (suc k) (taken (entry table) u (places_taken e))) (is.counted u)
-    ∙ ap (λ k. cond (eqb (s.thread n) u) (suc (number s u n)) k) (rows-same (entry table) (clocks s n) u (places_taken e) (λ o among. is.entries o u (takes-low e range o among)) ∙ ap (taken (clocks s n) u) (sym step.takes))
+    ap (λ t. cond (eqb t u) (suc (get_or counts u 0)) (greatest_of (clock_entry table) u (places_taken e))) (sym step.thread)
+    ∙ ap (λ k. cond (eqb (s.thread n) u) (suc k) (greatest_of (clock_entry table) u (places_taken e))) (is.counted u)
+    ∙ ap (λ k. cond (eqb (s.thread n) u) (suc (own_count s u n)) k) (rows-same (clock_entry table) (clocks s n) u (places_taken e) (λ o among. is.entries o u (takes-low e range o among)) ∙ ap (greatest_of (clocks s n) u) (sym step.takes))
 
 -- and the table after it
-pub advanced : (s : Steps ℕ) (n : ℕ) (e : Event) (table next last : List (List ℕ)) (counts after made : List ℕ) → IsStep s n e → IsTable s n table counts
+pub advanced : (s : Steps ℕ) (n : ℕ) (e : Event) (table next last : List (List ℕ)) (counts after made : List ℕ) → IsStepEvent s n e → IsTable s n table counts
     → ((u : ℕ) → get_or made u 0 ≡ stamp s n u)
     → ((u : ℕ) → get_or after u 0 ≡ cond (eqb e.thread u) (suc (get_or counts u 0)) (get_or counts u 0))
     → length next ≡ length table → length last ≡ length next
-    → ((o u : ℕ) → o < length table → entry next o u ≡ cond (eqb (place (Thread e.thread)) o) (max (entry table o u) (get_or made u 0)) (entry table o u))
-    → ((o u : ℕ) → o < length next → entry last o u ≡ cond (is_at (object_given e.ask e.answer) o) (max (entry next o u) (get_or made u 0)) (entry next o u))
+    → ((o u : ℕ) → o < length table → clock_entry next o u ≡ cond (eqb (place (Thread e.thread)) o) (max (clock_entry table o u) (get_or made u 0)) (clock_entry table o u))
+    → ((o u : ℕ) → o < length next → clock_entry last o u ≡ cond (is_at (object_given e.ask e.answer) o) (max (clock_entry next o u) (get_or made u 0)) (clock_entry next o u))
     → IsTable s (suc n) last after
 advanced s n e table next last counts after made step is stamped counted long longer once again = record {
   rows = longer ∙ long ∙ is.rows;
-  counted = λ u. counted u ∙ ap (λ k. cond (eqb e.thread u) (suc k) k) (is.counted u) ∙ ap (λ t. cond (eqb t u) (suc (number s u n)) (number s u n)) (sym step.thread);
+  counted = λ u. counted u ∙ ap (λ k. cond (eqb e.thread u) (suc k) k) (is.counted u) ∙ ap (λ t. cond (eqb t u) (suc (own_count s u n)) (own_count s u n)) (sym step.thread);
   entries = λ o u low.
       let there : o < length table = omega (arith, is.rows) in
       let q = is_at (object_given e.ask e.answer) o in
       let p = eqb (place (Thread e.thread)) o in
       again o u (omega (arith, long, is.rows))
       ∙ ap (λ k. cond q (max k (get_or made u 0)) k) (once o u there)
-      ∙ twice p q (entry table o u) (get_or made u 0)
+      ∙ twice p q (clock_entry table o u) (get_or made u 0)
       ∙ ap (λ k. cond (p || q) (max k (get_or made u 0)) k) (is.entries o u low)
       ∙ ap (λ k. cond (p || q) (max (clocks s n o u) k) (clocks s n o u)) (stamped u)
       ∙ ap (λ b. cond b (max (clocks s n o u) (stamp s n u)) (clocks s n o u)) (sym (step.gives o));

@@ -3,24 +3,25 @@ use Rattle.std.proofs.Common.{◌≡◌, ℕ, zero, suc, ◌<◌, ◌≤◌, max
 use Rattle.std.proofs.lemmas.Bool.{cases_lt, cases_eq, cases_Bool}
 use Rattle.std.proofs.Math.Nat.{le-max_left, le-max_right}
 use Rattle.hb_race.specs.Order.{Steps, HasLines, Before, BeforeOrSame}
-use Rattle.hb_race.specs.Clocks.{number, own, taken, clocks, stamp, Reaches, Mean, IsTold}
+use Rattle.hb_race.specs.Clocks.{own_count, own, greatest_of, clocks, stamp, Reaches, Mean}
+use Rattle.hb_race.specs.Clocks.{OrdersByClocks}
 use Rattle.hb_race.proofs.Chains.{edge-before, before-rises, last-edge, same-or-edge, own-edge}
 use Rattle.hb_race.proofs.Numbers.{max-parts, max-within, number-own, number-other, number-step, number-rises, own-within, taken-from, taken-has, taken-within}
 
 -- ---- the clock of a step
-pub stamp-own : {O : Type 0} (s : Steps O) (n u : ℕ) → s.thread n ≡ u → stamp s n u ≡ suc (number s u n)
-stamp-own s n u same = ap (λ b. cond b (suc (number s u n)) (taken (clocks s n) u (s.takes n))) (eq-eqb (s.thread n) u same)
+pub stamp-own : {O : Type 0} (s : Steps O) (n u : ℕ) → s.thread n ≡ u → stamp s n u ≡ suc (own_count s u n)
+stamp-own s n u same = ap (λ b. cond b (suc (own_count s u n)) (greatest_of (clocks s n) u (s.takes n))) (eq-eqb (s.thread n) u same)
 
-stamp-other : {O : Type 0} (s : Steps O) (n u : ℕ) → (s.thread n ≡ u → ⊥) → stamp s n u ≡ taken (clocks s n) u (s.takes n)
-stamp-other s n u apart = ap (λ b. cond b (suc (number s u n)) (taken (clocks s n) u (s.takes n))) (ne_eqb (s.thread n) u apart)
+stamp-other : {O : Type 0} (s : Steps O) (n u : ℕ) → (s.thread n ≡ u → ⊥) → stamp s n u ≡ greatest_of (clocks s n) u (s.takes n)
+stamp-other s n u apart = ap (λ b. cond b (suc (own_count s u n)) (greatest_of (clocks s n) u (s.takes n))) (ne_eqb (s.thread n) u apart)
 
-stamp-within : {O : Type 0} (s : Steps O) (n u : ℕ) → Mean s n → stamp s n u ≤ number s u (suc n)
+stamp-within : {O : Type 0} (s : Steps O) (n u : ℕ) → Mean s n → stamp s n u ≤ own_count s u (suc n)
 stamp-within s n u mean = elim (cases_eq (s.thread n) u) [
   | inl same ↦ let a = stamp-own s n u same in let b = number-own s u n same in omega arith
   | inr apart ↦
       let a = stamp-other s n u apart in
       let b = number-other s u n apart in
-      let c = taken-within (clocks s n) u (number s u n) (s.takes n) (λ o. mean.bound o u) in
+      let c = taken-within (clocks s n) u (own_count s u n) (s.takes n) (λ o. mean.bound o u) in
       omega arith
 ]
 
@@ -30,7 +31,7 @@ told-before s lines i n mean low h = elim (cases_eq (s.thread n) (s.thread i)) [
   | inl same ↦ edge-before s i n (own-edge s lines i n low (sym same))
   | inr apart ↦
       let e = stamp-other s n (s.thread i) apart in
-      let from = taken-from (clocks s n) (s.thread i) (number s (s.thread i) i) (s.takes n) (omega arith) in
+      let from = taken-from (clocks s n) (s.thread i) (own_count s (s.thread i) i) (s.takes n) (omega arith) in
       let r = mean.reach from.0 i low from.2 in
       same-or-edge s i r.0 n r.3 (r.1, from.0, from.1, r.2)
 ]
@@ -55,13 +56,13 @@ gave s n o u e = ap (λ b. cond b (max (clocks s n o u) (stamp s n u)) (clocks s
 kept : {O : Type 0} (s : Steps O) (n : ℕ) (o : O) (u : ℕ) → s.gives n o ≡ false → clocks s (suc n) o u ≡ clocks s n o u
 kept s n o u e = ap (λ b. cond b (max (clocks s n o u) (stamp s n u)) (clocks s n o u)) e
 
-next-bound : {O : Type 0} (s : Steps O) (n : ℕ) → Mean s n → (o : O) (u : ℕ) → clocks s (suc n) o u ≤ number s u (suc n)
+next-bound : {O : Type 0} (s : Steps O) (n : ℕ) → Mean s n → (o : O) (u : ℕ) → clocks s (suc n) o u ≤ own_count s u (suc n)
 next-bound s n mean o u = elim (cases_Bool (s.gives n o)) [
   | inl gives ↦
       let e = gave s n o u gives in
       let a = mean.bound o u in
       let b = number-step s u n in
-      let m = max-within (number s u (suc n)) (clocks s n o u) (stamp s n u) (omega arith) (stamp-within s n u mean) in
+      let m = max-within (own_count s u (suc n)) (clocks s n o u) (stamp s n u) (omega arith) (stamp-within s n u mean) in
       omega arith
   | inr not ↦ let e = kept s n o u not in let a = mean.bound o u in let b = number-step s u n in omega arith
 ]
@@ -129,5 +130,5 @@ mean s lines (suc n) =
     let before = mean s lines n in
     record { bound = next-bound s n before; reach = next-reach s lines n before; reached = λ o i low r. next-reached s n before o i r }
 
-pub told : {O : Type 0} (s : Steps O) → HasLines s → (i j : ℕ) → i < j → IsTold s i j
+pub told : {O : Type 0} (s : Steps O) → HasLines s → (i j : ℕ) → i < j → OrdersByClocks s i j
 told s lines i j low = (told-before s lines i j (mean s lines j) low, before-told s i j (mean s lines j))

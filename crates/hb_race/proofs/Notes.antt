@@ -11,7 +11,7 @@ use Rattle.hb_race.specs.declared.race.Race.{Race}
 use Rattle.hb_race.specs.Order.{Steps}
 use Rattle.hb_race.specs.Clocks.{own, stamp}
 use Rattle.hb_race.specs.Accesses.{same_kind}
-use Rattle.hb_race.specs.Lasts.{Accesses, StepsRace, is_of, last, kept, AreLasts, lasts_of, with_last, new_history, HasLasts, NoneRaces, IsFirstRace, IsHistory, IsGreatest, IsCurrent, NumbersRace}
+use Rattle.hb_race.specs.Lasts.{Accesses, StepsRace, is_of, last, kept_access, AreLasts, lasts_of, with_last, new_history, HasLasts, NoneRaces, IsFirstRace, IsHistory, IsGreatest, IsCurrent, NumbersRace}
 use Rattle.hb_race.proofs.Meaning.{stamp-own}
 use Rattle.hb_race.proofs.Lasts.{last-now, same_kind-refl}
 
@@ -59,7 +59,7 @@ last-other s access u kind n other =
 
 lasts-other : {O : Type 0} (s : Steps O) (access : Accesses) (n : ℕ) (history : History) → access n ≡ None → HasLasts s access n history → HasLasts s access (suc n) history
 lasts-other s access n history none has = record {
-  lasts = λ kind u low. has.lasts kind u low ∙ ap (option_map (kept s)) (sym (last-other s access u kind n (ap (λ o. is_of o kind) none)));
+  lasts = λ kind u low. has.lasts kind u low ∙ ap (option_map (kept_access s)) (sym (last-other s access u kind n (ap (λ o. is_of o kind) none)));
   long = has.long;
 }
 
@@ -125,34 +125,34 @@ race-with AtomicWrite u l history = refl
 
 -- the lists of one kind, where the step n is the last one
 lasts-set : {O : Type 0} (s : Steps O) (access : Accesses) (n thread : ℕ) (kind : AccessKind) (lasts : List (Option LastAccess)) → s.thread n ≡ thread → access n ≡ Some kind → length lasts ≡ 64
-    → AreLasts s access kind n lasts → AreLasts s access kind (suc n) (set lasts thread (Some (kept s n)))
+    → AreLasts s access kind n lasts → AreLasts s access kind (suc n) (set lasts thread (Some (kept_access s n)))
 lasts-set s access n thread kind lasts own at long are = λ u low. elim (cases_eq u thread) [
   | inl same ↦
       let there : thread < length lasts = omega arith in
       let here : (eqb (s.thread n) u && is_of (access n) kind) ≡ true = ap (λ b. b && is_of (access n) kind) (eq-eqb (s.thread n) u (own ∙ sym same)) ∙ ap (λ o. is_of o kind) at ∙ same_kind-refl kind in
-      ap (λ k. get_or (set lasts thread (Some (kept s n))) k None) same
-      ∙ get_or-set_same lasts thread (Some (kept s n)) None there
-      ∙ ap (option_map (kept s)) (sym (last-now s access u kind n true here))
+      ap (λ k. get_or (set lasts thread (Some (kept_access s n))) k None) same
+      ∙ get_or-set_same lasts thread (Some (kept_access s n)) None there
+      ∙ ap (option_map (kept_access s)) (sym (last-now s access u kind n true here))
   | inr apart ↦
       let there : (eqb (s.thread n) u && is_of (access n) kind) ≡ false = ap (λ b. b && is_of (access n) kind) (ne_eqb (s.thread n) u (λ e. apart (sym e ∙ own))) in
-      get_or-set_other lasts thread u (Some (kept s n)) None apart
+      get_or-set_other lasts thread u (Some (kept_access s n)) None apart
       ∙ are u low
-      ∙ ap (option_map (kept s)) (sym (last-now s access u kind n false there))
+      ∙ ap (option_map (kept_access s)) (sym (last-now s access u kind n false there))
 ]
 
 lasts-kept : {O : Type 0} (s : Steps O) (access : Accesses) (n thread : ℕ) (kind : AccessKind) (history : History) → s.thread n ≡ thread → access n ≡ Some kind
-    → HasLasts s access n history → HasLasts s access (suc n) (with_last kind thread (kept s n) history)
+    → HasLasts s access n history → HasLasts s access (suc n) (with_last kind thread (kept_access s n) history)
 lasts-kept s access n thread kind history own at has = record {
-  lasts = λ other. elim (of-with kind other thread (kept s n) history) [
+  lasts = λ other. elim (of-with kind other thread (kept_access s n) history) [
     | inl same ↦
         subst (AreLasts s access other (suc n)) (sym same.1)
         (lasts-set s access n thread other (lasts_of other history) own (at ∙ ap Some same.0) (has.long other) (has.lasts other))
     | inr apart ↦
         subst (AreLasts s access other (suc n)) (sym apart.1)
-        (λ u low. has.lasts other u low ∙ ap (option_map (kept s)) (sym (last-other s access u other n (ap (λ o. is_of o other) at ∙ apart.0))))
+        (λ u low. has.lasts other u low ∙ ap (option_map (kept_access s)) (sym (last-other s access u other n (ap (λ o. is_of o other) at ∙ apart.0))))
   ];
-  long = λ other. elim (of-with kind other thread (kept s n) history) [
-    | inl same ↦ ap length same.1 ∙ length-set (lasts_of other history) thread (Some (kept s n)) ∙ has.long other
+  long = λ other. elim (of-with kind other thread (kept_access s n) history) [
+    | inl same ↦ ap length same.1 ∙ length-set (lasts_of other history) thread (Some (kept_access s n)) ∙ has.long other
     | inr apart ↦ ap length apart.1 ∙ has.long other
   ];
 }
@@ -163,12 +163,12 @@ pub history-kept : {O : Type 0} (s : Steps O) (access : Accesses) (x n step thre
 history-kept s access x n step thread kind clock history after none number current known search made =
     let parts = match-none history.race (HasLasts s access n history × NoneRaces s access n) (IsFirstRace s access x) none known in
     let owned : get_or clock thread 0 ≡ own s n = current.stamped thread ∙ ap (stamp s n) (sym current.own_step) ∙ stamp-own s n (s.thread n) refl in
-    let is_kept : record { step = step; own = get_or clock thread 0 } ≡ kept s n = cc in
-    let next = with_last kind thread (kept s n) history in
+    let is_kept : record { step = step; own = get_or clock thread 0 } ≡ kept_access s n = cc in
+    let next = with_last kind thread (kept_access s n) history in
     let is_next : after ≡ next = made ∙ ap (λ l. with_last kind thread l history) is_kept in
     subst (IsHistory s access x (suc n)) (sym is_next)
     (none-match next.race (HasLasts s access (suc n) next × NoneRaces s access (suc n)) (IsFirstRace s access x)
-    (ap is_some (race-with kind thread (kept s n) history) ∙ none) (
+    (ap is_some (race-with kind thread (kept_access s n) history) ∙ none) (
       lasts-kept s access n thread kind history current.own_step current.accesses parts.0,
       λ i j low race. elim (below_or j n low) [
         | inl old ↦ parts.1 i j old race

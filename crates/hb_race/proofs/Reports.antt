@@ -16,7 +16,7 @@ use Rattle.hb_race.specs.declared.access.AccessKind.{AccessKind}
 use Rattle.hb_race.specs.declared.access.AccessKind.TheVariants.{PlainRead, PlainWrite, AtomicRead, AtomicWrite}
 use Rattle.hb_race.specs.declared.history.History.{History}
 use Rattle.hb_race.specs.declared.race.Race.{Race}
-use Rattle.hb_race.specs.Races.{variable_accessed, is_plain, is_writing, IsRace, IsReported, AreRaces}
+use Rattle.hb_race.specs.Races.{variable_accessed, is_plain_access, is_writing, IsRace, IsReported, AreRaces}
 use Rattle.hb_race.specs.Ranges.{IsEventInRange, most_with}
 use Rattle.hb_race.specs.Accesses.{access_by, access_of, exchange_kind, kind_on, is_plain_kind, is_write_kind}
 use Rattle.hb_race.specs.Table.{steps_of, accesses_of, no_event}
@@ -43,7 +43,7 @@ exchange-write true = refl
 exchange-write false = refl
 
 record Agrees (ask : Ask) (answer : ℤ) (kind : AccessKind) : Type 0 where
-  plain : is_plain_kind kind ≡ is_plain ask
+  plain : is_plain_kind kind ≡ is_plain_access ask
   writes : is_write_kind kind ≡ is_writing ask answer
 
 kind-by : (ask : Ask) (answer : ℤ) (x : ℕ) → variable_accessed ask ≡ Some x → (kind : AccessKind) × (kind_on x (access_by ask answer) ≡ Some kind) × Agrees ask answer kind
@@ -88,7 +88,7 @@ race-by events x i j race =
       at_first = ap (option_and_then find) race.first ∙ first.1;
       at_second = ap (option_and_then find) race.second ∙ second.1;
       conflicts = and_from (is_plain_kind first.0 || is_plain_kind second.0) (is_write_kind first.0 || is_write_kind second.0)
-          (ap (λ p. p || is_plain_kind second.0) first.2.plain ∙ ap (λ p. is_plain race.a.ask || p) second.2.plain ∙ race.plain)
+          (ap (λ p. p || is_plain_kind second.0) first.2.plain ∙ ap (λ p. is_plain_access race.a.ask || p) second.2.plain ∙ race.plain)
           (ap (λ p. p || is_write_kind second.0) first.2.writes ∙ ap (λ p. is_writing race.a.ask race.a.answer || p) second.2.writes ∙ race.writes);
       unordered = λ before. race.unordered ((before-is events i j (within events j race.b race.second)).0 before);
     }
@@ -112,7 +112,7 @@ race-of events x i j race =
       apart = λ e. race.apart (ap (λ (e : Event). e.thread) (at-is events i a first.1) ∙ e ∙ ap (λ (e : Event). e.thread) (sym (at-is events j b second.1)));
       first_accesses = one.0;
       second_accesses = two.0;
-      plain = ap (λ p. p || is_plain b.ask) (sym one.1.plain) ∙ ap (λ p. is_plain_kind race.first || p) (sym two.1.plain) ∙ parts.0;
+      plain = ap (λ p. p || is_plain_access b.ask) (sym one.1.plain) ∙ ap (λ p. is_plain_kind race.first || p) (sym two.1.plain) ∙ parts.0;
       writes = ap (λ p. p || is_writing b.ask b.answer) (sym one.1.writes) ∙ ap (λ p. is_write_kind race.first || p) (sym two.1.writes) ∙ parts.1;
       unordered = λ before. race.unordered ((before-is events i j (within events j b second.1)).1 before);
     }

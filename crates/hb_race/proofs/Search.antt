@@ -7,11 +7,11 @@ use Rattle.hb_race.specs.declared.history.History.{History}
 use Rattle.hb_race.specs.Order.{Steps, HasLines}
 use Rattle.hb_race.specs.Clocks.{own, stamp}
 use Rattle.hb_race.specs.Accesses.{conflict}
-use Rattle.hb_race.specs.Lasts.{Accesses, last, kept, lasts_of, HasLasts, IsGreatest, IsUntold, IsLatest, IsCurrent, IsFlagged, NumbersRace, untold_step, later}
+use Rattle.hb_race.specs.Lasts.{Accesses, last, kept_access, lasts_of, HasLasts, IsGreatest, IsUntold, IsLatest, IsCurrent, IsFlagged, NumbersRace, untold_step, later}
 use Rattle.hb_race.proofs.Lasts.{last-is, race-flagged, flagged-race}
 use Rattle.hb_race.proofs.Greatest.{greatest-like, later-greatest}
 
-untold-kept : {O : Type 0} (s : Steps O) (o : Option ℕ) (known number : ℕ) → untold_step (option_map (kept s) o) known ≡ Some number → (l : ℕ) × (o ≡ Some l) × (number ≡ l + 1) × (known < own s l)
+untold-kept : {O : Type 0} (s : Steps O) (o : Option ℕ) (known number : ℕ) → untold_step (option_map (kept_access s) o) known ≡ Some number → (l : ℕ) × (o ≡ Some l) × (number ≡ l + 1) × (known < own s l)
 untold-kept s None known number e = absurd cc
 untold-kept s (Some l) known number e = elim (cases_Bool (ltb known (own s l))) [
   | inl holds ↦
@@ -20,7 +20,7 @@ untold-kept s (Some l) known number e = elim (cases_Bool (ltb known (own s l))) 
   | inr fails ↦ let none : None ≡ Some number = sym (ap (λ b. cond b (Some (l + 1)) None) fails) ∙ e in absurd cc
 ]
 
-kept-untold : {O : Type 0} (s : Steps O) (l known : ℕ) → known < own s l → untold_step (Some (kept s l)) known ≡ Some (l + 1)
+kept-untold : {O : Type 0} (s : Steps O) (l known : ℕ) → known < own s l → untold_step (Some (kept_access s l)) known ≡ Some (l + 1)
 kept-untold s l known low = ap (λ b. cond b (Some (l + 1)) None) (lt-ltb known (own s l) low)
 
 untold-flagged : {O : Type 0} (s : Steps O) (access : Accesses) (n : ℕ) (first second : AccessKind) (thread : ℕ) (clock : List ℕ) (history : History) → conflict first second ≡ true → IsCurrent s access n second thread clock → HasLasts s access n history
@@ -48,7 +48,7 @@ flagged-untold s access n first second thread clock history current has number f
       u,
       low,
       (λ e. flagged.apart (e ∙ sym current.own_step)),
-      ap (λ o. untold_step o known) (has.lasts first u low ∙ ap (option_map (kept s)) flagged.at_last)
+      ap (λ o. untold_step o known) (has.lasts first u low ∙ ap (option_map (kept_access s)) flagged.at_last)
           ∙ kept-untold s flagged.step known (subst (λ k. k < own s flagged.step) (sym (current.stamped u)) flagged.untold)
           ∙ ap Some (sym flagged.number_is),
     )

@@ -7,10 +7,11 @@ use Rattle.pct_ask.specs.declared.event.Event.{Event}
 use Rattle.hb_race.specs.declared.access.Access.{Access}
 use Rattle.hb_race.specs.declared.history.History.{History}
 use Rattle.hb_race.specs.Order.{Steps}
-use Rattle.hb_race.specs.Clocks.{number}
+use Rattle.hb_race.specs.Clocks.{own_count}
 use Rattle.hb_race.specs.Ranges.{IsEventInRange, most_with}
 use Rattle.hb_race.specs.Accesses.{access_of, kind_on}
-use Rattle.hb_race.specs.Table.{entry, no_event, event_at, steps_of, accesses_of, IsTable, IsStep}
+use Rattle.hb_race.specs.Table.{clock_entry, no_event, event_at, steps_of, accesses_of, IsTable}
+use Rattle.hb_race.specs.Table.{IsStepEvent}
 use Rattle.hb_race.specs.Lasts.{Accesses, IsHistory, IsCurrent, no_history, new_history}
 use Rattle.hb_race.specs.Histories.{AreHistories, IsNoted}
 use Rattle.hb_race.proofs.Numbers.{number-own, number-other}
@@ -61,10 +62,10 @@ noted-some events n access made step thread clock histories after noted some the
     ]
 
 -- ---- the loop
-pub step-at : (events : List Event) (k : ℕ) → IsStep (steps_of events) k (event_at events k)
+pub step-at : (events : List Event) (k : ℕ) → IsStepEvent (steps_of events) k (event_at events k)
 step-at events k = record { thread = refl; takes = refl; gives = λ row. refl }
 
-number-few : {O : Type 0} (s : Steps O) (u n : ℕ) → number s u n ≤ n
+number-few : {O : Type 0} (s : Steps O) (u n : ℕ) → own_count s u n ≤ n
 number-few s u zero = omega arith
 number-few s u (suc n) = elim (cases_eq (s.thread n) u) [
   | inl same ↦ let e = number-own s u n same in let r = number-few s u n in omega arith
@@ -74,7 +75,7 @@ number-few s u (suc n) = elim (cases_eq (s.thread n) u) [
 pub counts-few : (s : Steps ℕ) (n : ℕ) (table : List (List ℕ)) (counts : List ℕ) → IsTable s n table counts → n < 100000 → (u : ℕ) → get_or counts u 0 < 100000
 counts-few s n table counts is low u = let e = is.counted u in let f = number-few s u n in omega arith
 
-pub begins : (s : Steps ℕ) (table : List (List ℕ)) (counts : List ℕ) → length table ≡ 512 → ((row u : ℕ) → entry table row u ≡ 0) → ((u : ℕ) → get_or counts u 0 ≡ 0) → IsTable s 0 table counts
+pub begins : (s : Steps ℕ) (table : List (List ℕ)) (counts : List ℕ) → length table ≡ 512 → ((row u : ℕ) → clock_entry table row u ≡ 0) → ((u : ℕ) → get_or counts u 0 ≡ 0) → IsTable s 0 table counts
 begins s table counts rows entries counted = record { rows = rows; entries = λ row u low. entries row u; counted = counted }
 
 pub histories-begin : (events : List Event) (histories : List History) → ((x : ℕ) → x < length histories → get_or histories x no_history ≡ new_history) → AreHistories events 0 histories

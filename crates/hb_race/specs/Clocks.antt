@@ -4,22 +4,23 @@ use Rattle.std.specs.Prelude.{◌∷◌, ◌↔◌}
 use Rattle.hb_race.specs.Order.{Steps, Before, BeforeOrSame}
 
 -- how many of the first n steps are the thread's
-abbrev pub number : {O : Type 0} → Steps O → ℕ → ℕ → ℕ
-number s u zero = 0
-number s u (suc n) = if s.thread n == u then suc (number s u n) else number s u n
+abbrev pub own_count : {O : Type 0} → Steps O → ℕ → ℕ → ℕ
+own_count s u zero = 0
+own_count s u (suc n) = if s.thread n == u then suc (own_count s u n) else own_count s u n
 
 -- a step's number among its thread's own, from 1
 abbrev pub own : {O : Type 0} → Steps O → ℕ → ℕ
-own s i = suc (number s (s.thread i) i)
+own s i = suc (own_count s (s.thread i) i)
 
 -- the greatest entry for u of some objects' clocks
-abbrev pub taken : {O : Type 0} → (O → ℕ → ℕ) → ℕ → List O → ℕ
-taken clock u [] = 0
-taken clock u (o ∷ os) = max (clock o u) (taken clock u os)
+abbrev pub greatest_of : {O : Type 0} → (O → ℕ → ℕ) → ℕ → List O → ℕ
+greatest_of clock u [] = 0
+greatest_of clock u (o ∷ os) = max (clock o u) (greatest_of clock u os)
 
 -- the clock of step n, where the objects have these clocks before it
 abbrev pub stamp_by : {O : Type 0} → Steps O → ℕ → (O → ℕ → ℕ) → ℕ → ℕ
-stamp_by s n clock u = if s.thread n == u then suc (number s u n) else taken clock u (s.takes n)
+stamp_by s n clock u =
+    if s.thread n == u then suc (own_count s u n) else greatest_of clock u (s.takes n)
 
 -- the objects' clocks after n steps
 abbrev pub clocks : {O : Type 0} → Steps O → ℕ → O → ℕ → ℕ
@@ -37,10 +38,10 @@ Reaches s n i o = (g : ℕ) × (g < n) × (s.gives g o ≡ true) × BeforeOrSame
 -- What the clocks after n steps mean: an entry counts steps of its thread, and it is at least a
 -- step's own number exactly where that step reaches the object.
 pub record Mean {O : Type 0} (s : Steps O) (n : ℕ) : Type 0 where
-  pub bound : (o : O) (u : ℕ) → clocks s n o u ≤ number s u n
+  pub bound : (o : O) (u : ℕ) → clocks s n o u ≤ own_count s u n
   pub reach : (o : O) (i : ℕ) → i < n → own s i ≤ clocks s n o (s.thread i) → Reaches s n i o
   pub reached : (o : O) (i : ℕ) → i < n → Reaches s n i o → own s i ≤ clocks s n o (s.thread i)
 
 -- the law that a comparison of clocks needs
-abbrev pub IsTold : {O : Type 0} → Steps O → ℕ → ℕ → Type 0
-IsTold s i j = (own s i ≤ stamp s j (s.thread i)) ↔ Before s i j
+abbrev pub OrdersByClocks : {O : Type 0} → Steps O → ℕ → ℕ → Type 0
+OrdersByClocks s i j = (own s i ≤ stamp s j (s.thread i)) ↔ Before s i j

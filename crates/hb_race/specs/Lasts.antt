@@ -39,15 +39,15 @@ last s access u kind (suc n) =
     if (s.thread n == u) && is_of (access n) kind then Some n else last s access u kind n
 
 -- what is kept of it: its number, from 1, and its number among its thread's own steps
-abbrev pub kept : {O : Type 0} → Steps O → ℕ → LastAccess
-kept s i = record { step = i + 1; own = own s i }
+abbrev pub kept_access : {O : Type 0} → Steps O → ℕ → LastAccess
+kept_access s i = record { step = i + 1; own = own s i }
 
 -- the last accesses of a kind, for each thread, after n steps
 abbrev pub AreLasts
     : {O : Type 0} → Steps O → Accesses → AccessKind → ℕ → List (Option LastAccess) → Type 0
 AreLasts s access kind n lasts =
     (u : ℕ) → u < 64
-    → slice_index_or lasts u None ≡ option_map (kept s) (last s access u kind n)
+    → slice_index_or lasts u None ≡ option_map (kept_access s) (last s access u kind n)
 
 abbrev pub lasts_of : AccessKind → History → List (Option LastAccess)
 lasts_of PlainRead history = history.plain_reads

@@ -18,10 +18,10 @@ variable_accessed (Cas x old new) = Some x
 variable_accessed _ = None
 
 -- whether an access is plain: it is not atomic
-abbrev pub is_plain : Ask → Bool
-is_plain (Read x) = true
-is_plain (Write x value) = true
-is_plain _ = false
+abbrev pub is_plain_access : Ask → Bool
+is_plain_access (Read x) = true
+is_plain_access (Write x value) = true
+is_plain_access _ = false
 
 -- whether an access writes; of compare-and-exchange only one that was answered 1
 abbrev pub is_writing : Ask → ℤ → Bool
@@ -41,7 +41,7 @@ pub record IsRace (events : List Event) (x i j : ℕ) : Type 0 where
   pub apart : a.thread ≢ b.thread
   pub first_accesses : variable_accessed a.ask ≡ Some x
   pub second_accesses : variable_accessed b.ask ≡ Some x
-  pub plain : (is_plain a.ask || is_plain b.ask) ≡ true
+  pub plain : (is_plain_access a.ask || is_plain_access b.ask) ≡ true
   pub writes : (is_writing a.ask a.answer || is_writing b.ask b.answer) ≡ true
   pub unordered : HappensBefore events i j → ⊥
 

@@ -8,7 +8,7 @@ use Rattle.hb_race.specs.declared.access.AccessKind.{AccessKind}
 use Rattle.hb_race.specs.declared.object.Object.{Object}
 use Rattle.hb_race.specs.declared.object.Object.TheVariants.{Thread}
 use Rattle.hb_race.specs.Order.{Steps}
-use Rattle.hb_race.specs.Clocks.{clocks, number, taken}
+use Rattle.hb_race.specs.Clocks.{clocks, own_count, greatest_of}
 use Rattle.hb_race.specs.Objects.{place, places_taken, gives_to}
 use Rattle.hb_race.specs.Accesses.{access_of, kind_on}
 
@@ -17,24 +17,25 @@ abbrev pub time : List ℕ → ℕ → ℕ
 time clock u = slice_index_or clock u 0
 
 -- that of a row's clock
-abbrev pub entry : List (List ℕ) → ℕ → ℕ → ℕ
-entry table row u = time (slice_index_or table row []) u
+abbrev pub clock_entry : List (List ℕ) → ℕ → ℕ → ℕ
+clock_entry table row u = time (slice_index_or table row []) u
 
 abbrev pub entry_if : List (List ℕ) → Option Object → ℕ → ℕ
 entry_if table None u = 0
-entry_if table (Some object) u = entry table (place object) u
+entry_if table (Some object) u = clock_entry table (place object) u
 
 -- the clock of the next step, which is an event, by a table and the threads' counts of steps
 abbrev pub stamp_from : List (List ℕ) → List ℕ → Event → ℕ → ℕ
 stamp_from table counts e u =
-    if e.thread == u then suc (time counts u) else taken (entry table) u (places_taken e)
+    if e.thread == u then suc (time counts u)
+    else greatest_of (clock_entry table) u (places_taken e)
 
 -- the rows that are given to join a clock, and the others stay
-abbrev pub IsGiven : (ℕ → Bool) → List ℕ → List (List ℕ) → List (List ℕ) → Type 0
-IsGiven given clock old new =
+abbrev pub AreJoined : (ℕ → Bool) → List ℕ → List (List ℕ) → List (List ℕ) → Type 0
+AreJoined given clock old new =
     (row u : ℕ) → row < length old
-    → entry new row u
-    ≡ (if given row then max (entry old row u) (time clock u) else entry old row u)
+    → clock_entry new row u
+    ≡ (if given row then max (clock_entry old row u) (time clock u) else clock_entry old row u)
 
 -- what no step of the list is
 abbrev pub no_event : Event
@@ -59,11 +60,11 @@ accesses_of events x i = option_and_then (λ event. kind_on x (access_of event))
 -- the table and the counts of the threads' steps, after n steps
 pub record IsTable (s : Steps ℕ) (n : ℕ) (table : List (List ℕ)) (counts : List ℕ) : Type 0 where
   pub rows : length table ≡ 512
-  pub entries : (row u : ℕ) → row < 512 → entry table row u ≡ clocks s n row u
-  pub counted : (u : ℕ) → time counts u ≡ number s u n
+  pub entries : (row u : ℕ) → row < 512 → clock_entry table row u ≡ clocks s n row u
+  pub counted : (u : ℕ) → time counts u ≡ own_count s u n
 
 -- the n-th step of a run is this event
-pub record IsStep (s : Steps ℕ) (n : ℕ) (e : Event) : Type 0 where
+pub record IsStepEvent (s : Steps ℕ) (n : ℕ) (e : Event) : Type 0 where
   pub thread : s.thread n ≡ e.thread
   pub takes : s.takes n ≡ places_taken e
   pub gives : (row : ℕ) → s.gives n row ≡ gives_to e row

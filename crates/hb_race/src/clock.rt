@@ -3,7 +3,7 @@ ghost use Rattle.hb_race.specs.Order.{Steps};
 ghost use Rattle.hb_race.specs.Clocks.{stamp};
 ghost use Rattle.hb_race.specs.Ranges.{IsEventInRange, most_with};
 ghost use Rattle.hb_race.specs.Objects.{place, is_at};
-ghost use Rattle.hb_race.specs.Table.{time, entry_if, stamp_from, IsGiven, IsStep, IsTable};
+ghost use Rattle.hb_race.specs.Table.{time, entry_if, stamp_from, AreJoined, IsStepEvent, IsTable};
 
 use crate::object::{Object, first_taken, object_given, second_taken};
 use pct_ask::Event;
@@ -58,7 +58,7 @@ fn stamp_of(table: &[Clock], counts: &Clock, event: &Event) -> Clock
 fn give(table: &mut [Clock], row: usize, stamp: &Clock)
     requires { row < length table.old }
     ensures rows { length table.new ≡ length table.old }
-    ensures entries { IsGiven (λ o. row == o) stamp.now table.old table.new }
+    ensures entries { AreJoined (λ o. row == o) stamp.now table.old table.new }
 {
     join(&mut table[row], stamp);
 }
@@ -67,7 +67,7 @@ fn give(table: &mut [Clock], row: usize, stamp: &Clock)
 fn give_object(table: &mut [Clock], object: Option<Object>, stamp: &Clock)
     requires { (o : Object) → object ≡ Some o → place o < length table.old }
     ensures rows { length table.new ≡ length table.old }
-    ensures entries { IsGiven (is_at object) stamp.now table.old table.new }
+    ensures entries { AreJoined (is_at object) stamp.now table.old table.new }
 {
     if let Some(object) = object {
         give(table, object.place(), stamp);
@@ -80,9 +80,11 @@ pub(crate) fn advance(table: &mut [Clock], counts: &mut Clock, event: &Event) ->
     requires range { IsEventInRange (most_with 64) event.now }
     requires few { (u : ℕ) → time counts.old u < 100000 }
     ensures rows { length table.new ≡ 512 }
-    ensures stamp { (s : Steps ℕ) (n : ℕ) → IsStep s n event.now → IsTable s n table.old counts.old
+    ensures stamp { (s : Steps ℕ) (n : ℕ) → IsStepEvent s n event.now
+        → IsTable s n table.old counts.old
         → (u : ℕ) → time result u ≡ stamp s n u }
-    ensures table { (s : Steps ℕ) (n : ℕ) → IsStep s n event.now → IsTable s n table.old counts.old
+    ensures table { (s : Steps ℕ) (n : ℕ) → IsStepEvent s n event.now
+        → IsTable s n table.old counts.old
         → IsTable s (suc n) table.new counts.new }
 {
     let stamp = stamp_of(table, counts, event);

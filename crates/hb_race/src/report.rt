@@ -6,7 +6,7 @@ ghost use Rattle.pct_ask.specs.declared.event.Event.{Event as Step};
 ghost use Rattle.sync_store.specs.Store.{sizes_of_deal};
 ghost use Rattle.hb_race.specs.Ranges.{IsEventInRange, most_with};
 ghost use Rattle.hb_race.specs.Races.{AreRaces};
-ghost use Rattle.hb_race.specs.Table.{entry};
+ghost use Rattle.hb_race.specs.Table.{clock_entry};
 ghost use Rattle.hb_race.specs.Histories.{AreHistories, AreNew, IsNoted};
 
 use crate::access::{Access, access_of};
@@ -42,7 +42,7 @@ fn races_of(alloc: Global, deal: &Deal, events: &[Event]) -> Result<RaceList, No
 /// A table of clocks before the first step.
 fn new_table(alloc: Global) -> Result<Vec<Clock>, NoMemory>
     ensures rows { IfOk result (λ table. length table.items ≡ 512) }
-    ensures entries { IfOk result (λ table. (row u : ℕ) → entry table.items row u ≡ 0) }
+    ensures entries { IfOk result (λ table. (row u : ℕ) → clock_entry table.items row u ≡ 0) }
 {
     let mut table = Vec::with_capacity(alloc, ROWS)?;
     for _row in 0..ROWS {
@@ -66,7 +66,7 @@ fn new_histories(alloc: Global, vars: usize) -> Result<Vec<History>, NoMemory>
 /// Takes all steps, one after another.
 fn follow(table: &mut [Clock], histories: &mut [History], events: &[Event])
     requires rows { length table.old ≡ 512 }
-    requires empty { (row u : ℕ) → entry table.old row u ≡ 0 }
+    requires empty { (row u : ℕ) → clock_entry table.old row u ≡ 0 }
     requires few_vars { length histories.old ≤ 64 }
     requires fresh { AreNew (length histories.old) histories.old }
     requires few { length events.now ≤ 100000 }

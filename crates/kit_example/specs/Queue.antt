@@ -23,19 +23,19 @@ ask_at w Unlock = Some (asks.Unlock 0)
 ask_at w End = None
 
 -- the line on which a step stands, from 1; the two halves of a wait stand on one
-abbrev pub line_at : Step → ℕ
-line_at Lock = 1
-line_at Look = 2
-line_at Release = 3
-line_at Regain = 3
-line_at Change = 4
-line_at Tell = 5
-line_at Unlock = 6
-line_at End = 7
+abbrev pub line_of_step : Step → ℕ
+line_of_step Lock = 1
+line_of_step Look = 2
+line_of_step Release = 3
+line_of_step Regain = 3
+line_of_step Change = 4
+line_of_step Tell = 5
+line_of_step Unlock = 6
+line_of_step End = 7
 
 -- what a worker posts at its step: what it asks, or that it has ended, and the line
 abbrev pub post_of : Worker → Post
-post_of w = record { ask = ask_at w w.at; line = line_at w.at }
+post_of w = record { ask = ask_at w w.at; line = line_of_step w.at }
 
 -- The next step, once an answer has come. A worker that finds the place as it would set it waits,
 -- and looks again.

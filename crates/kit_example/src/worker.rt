@@ -30,7 +30,7 @@ pub struct Worker {
 }
 
 impl Worker {
-    ghost use Rattle.kit_example.specs.Queue.{taker, putter, ask_at, line_at, step_after};
+    ghost use Rattle.kit_example.specs.Queue.{taker, putter, ask_at, line_of_step, step_after};
     ghost use Rattle.kit_example.specs.Queue.{left_after};
 
     /// Takes one item.
@@ -84,7 +84,7 @@ impl Worker {
     }
 
     fn line(&self) -> u32
-        ensures { result ≡ line_at self.now.at }
+        ensures { result ≡ line_of_step self.now.at }
     {
         match self.at {
             Step::Lock => 1,

@@ -20,7 +20,7 @@ use Rattle.sync_store.specs.Enabled.{IsInRange}
 use Rattle.turn_book.specs.Told.{PostIsInRange}
 use Rattle.worker_run.specs.Samples.{sample_post, sample_pending}
 use Rattle.worker_run.proofs.laws.SampleRanges.{samples-within}
-use Rattle.worker_run.specs.Bodies.{Pending, nobody, pending_of, AreInRange}
+use Rattle.worker_run.specs.Bodies.{Pending, no_body, pending_of, AreInRange}
 use Rattle.trace_text.specs.Lawful.{HasObjects, IsHead, IsStepCount}
 use Rattle.kit_main.specs.Showing.{IsTestDeal, test_sizes, test_names, test_head, IsShowable}
 use Rattle.kit_main.proofs.Known.{IsAsked}
@@ -73,10 +73,10 @@ mapped-three pending items three = length-map items pending ∙ three
 module _ (bodies : List Pending) (three : length bodies ≡ 3) (all : All IsShowable bodies) where
   in-range : (t : ℕ) (answers : List ℤ) → PostIsInRange test_sizes (pending_of bodies t answers).ask
   in-range t answers = elim (cases_lt t (length bodies)) [
-    | inl below ↦ (all t nobody below).in_range answers
+    | inl below ↦ (all t no_body below).in_range answers
     | inr past ↦
         let P : Pending → Type 0 = λ pending. PostIsInRange test_sizes (pending answers).ask in
-        let none = get_or_past bodies t nobody past in
+        let none = get_or_past bodies t no_body past in
         subst P (sym none) tt
   ]
 
@@ -89,12 +89,12 @@ module _ (bodies : List Pending) (three : length bodies ≡ 3) (all : All IsShow
   asked t answers ask asks = elim (cases_lt t (length bodies)) [
     | inl below ↦ record {
       at = omega (arith, three, below);
-      on = (all t nobody below).lines answers;
+      on = (all t no_body below).lines answers;
       has = objects ask (subst (PostIsInRange test_sizes) asks (in-range t answers));
     }
     | inr past ↦
         let P : Pending → Type 0 = λ pending. (pending answers).ask ≡ Some ask in
-        absurd (let none : P nobody = subst P (get_or_past bodies t nobody past) asks in cc)
+        absurd (let none : P no_body = subst P (get_or_past bodies t no_body past) asks in cc)
   ]
 
 -- ---- the head of the trace

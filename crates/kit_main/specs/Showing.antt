@@ -5,7 +5,7 @@ use Rattle.pct_ask.specs.TraceText.{TraceHead, trace_text}
 use Rattle.pct_ask.specs.VerdictText.{IsLine}
 use Rattle.pct_ask.specs.declared.Deal.{Deal}
 use Rattle.pct_ask.specs.declared.verdict.Verdict.TheVariants.{Passed}
-use Rattle.pct_outside.specs.Piece.{Appended, AppendedPart}
+use Rattle.pct_outside.specs.Piece.{IsAppended, IsPartAppended}
 use Rattle.sync_store.specs.Store.{Sizes}
 use Rattle.worker_run.specs.Bodies.{Pending, IsInRangeBody}
 use Rattle.worker_run.specs.Run.{Run, run}
@@ -65,31 +65,32 @@ pub record IsShowable (pending : Pending) : Type 0 where
   pub lines : (answers : List ℤ) → IsLine (pending answers).line
 
 -- the run of the bodies, of at most so many steps
-pub record IsRunOf (bodies : List Pending) (limit : ℕ) (r : Run) : Type 0 where
+pub record IsRunOfBodies (bodies : List Pending) (limit : ℕ) (r : Run) : Type 0 where
   pub deal : Deal
   pub is_deal : IsTestDeal deal
   pub is : run deal bodies test_order test_points limit ≡ Some r
 
 -- the run that is shown: that of the bodies, of at most as many steps as the head says
 abbrev pub IsShownRun : List Pending → Run → Type 0
-IsShownRun bodies r = IsRunOf bodies test_head.limit r
+IsShownRun bodies r = IsRunOfBodies bodies test_head.limit r
 
 -- its trace
-abbrev pub text_of : Run → List ℕ
-text_of r = trace_text test_head test_names r.0 r.1
+abbrev pub text_of_run : Run → List ℕ
+text_of_run r = trace_text test_head test_names r.0 r.1
 
 -- the trace of the run was written whole
 abbrev pub PutsTrace : List Pending → Option (List ℕ) → Option (List ℕ) → Run → Type 0
-PutsTrace bodies before after r = IsShownRun bodies r × Appended (text_of r) before after
+PutsTrace bodies before after r = IsShownRun bodies r × IsAppended (text_of_run r) before after
 
 -- a beginning of it was written, or nothing was
-abbrev pub PutsPart : List Pending → Option (List ℕ) → Option (List ℕ) → Type 0
-PutsPart bodies before after =
-    ((r : Run) × IsShownRun bodies r × AppendedPart (text_of r) before after) ⊎ (after ≡ before)
+abbrev pub PutsPartOfTrace : List Pending → Option (List ℕ) → Option (List ℕ) → Type 0
+PutsPartOfTrace bodies before after =
+    ((r : Run) × IsShownRun bodies r × IsPartAppended (text_of_run r) before after)
+    ⊎ (after ≡ before)
 
 -- what is written with each answer
 abbrev pub Shows : List Pending → Option (List ℕ) → Option (List ℕ) → Shown → Type 0
 Shows bodies before after Done = (r : Run) × PutsTrace bodies before after r × (r.1 ≡ Passed)
 Shows bodies before after Found = (r : Run) × PutsTrace bodies before after r × (r.1 ≢ Passed)
-Shows bodies before after WriteFault = PutsPart bodies before after
-Shows bodies before after NoMemory = PutsPart bodies before after
+Shows bodies before after WriteFault = PutsPartOfTrace bodies before after
+Shows bodies before after NoMemory = PutsPartOfTrace bodies before after

@@ -1,7 +1,7 @@
 ghost use Rattle.std.specs.Prelude.{◌≡◌, ◌≤◌, All, length, map, IfOk};
 ghost use Rattle.pct_outside.specs.Counter.{Rose};
-ghost use Rattle.kit_main.specs.Showing.{test_names, IsShowable, IsRunOf, Shows};
-ghost use Rattle.kit_main.specs.Told.{AreKnown, IsTold, status_by};
+ghost use Rattle.kit_main.specs.Showing.{test_names, IsShowable, IsRunOfBodies, Shows};
+ghost use Rattle.kit_main.specs.Told.{AreKnown, IsRunTrace, status_by};
 
 use crate::shown::Shown;
 use crate::test_parts::{LIMIT, ORDER, POINTS, deal, header, names};
@@ -33,7 +33,7 @@ fn run_test<R: Threads + Wait + Sync, G: Gate>(
     requires three { length bodies.items ≡ 3 }
     requires bodies { All IsShowable (map pending bodies.items) }
     ensures run { IfOk result (λ r.
-        IsRunOf (map pending bodies.items) limit (r.events, r.verdict)) }
+        IsRunOfBodies (map pending bodies.items) limit (r.events, r.verdict)) }
     ensures known { IfOk result (λ r. AreKnown test_names 1 limit r.events r.verdict) }
 {
     let deal = deal(alloc)?;
@@ -54,7 +54,7 @@ fn trace_of<R: Threads + Wait + Sync, G: Gate>(
 ) -> Result<Traced, NoMemory>
     requires three { length bodies.items ≡ 3 }
     requires bodies { All IsShowable (map pending bodies.items) }
-    ensures { IfOk result (λ t. IsTold (map pending bodies.items) t.text.items t.verdict) }
+    ensures { IfOk result (λ t. IsRunTrace (map pending bodies.items) t.text.items t.verdict) }
 {
     let names = names(alloc)?;
     let header = header(alloc)?;

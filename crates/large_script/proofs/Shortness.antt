@@ -11,13 +11,13 @@ use Rattle.std.proofs.lemmas.List.Elements.{All-nil, All-cons}
 use Rattle.pct_ask.specs.Lines.{lines_of}
 use Rattle.script_tree.specs.Trees.{Statement, closed_at}
 use Rattle.script_tree.specs.ScriptText.{ScriptText}
-use Rattle.script_tree.specs.Forms.{Meant, End}
+use Rattle.script_tree.specs.Forms.{MeantForm, End}
 use Rattle.script_tree.specs.Forms as forms
 use Rattle.script_tree.specs.Grammar.{Spells, Line, statement_lines, block_lines, thread_lines, all_thread_lines}
 use Rattle.script_tree.specs.Layout.{form_text, text_of_lines, meanings, forms_of, declared_forms, header_text, layout}
-use Rattle.script_tree.specs.Renumbering.{IsShort, renumbered}
+use Rattle.script_tree.specs.Renumbering.{IsShort, renumbered_script}
 use Rattle.script_tree.proofs.laws.PlainLines.{is_plain, ArePlain, lines_of_text}
-use Rattle.large_script.specs.Large.{large_names, large_script, pieces, joins, sums, checks, is_whole, thread_of, open_piece, locked_piece}
+use Rattle.large_script.specs.Large.{large_names, large_script, pieces, joins_of, sums, last_checks, added_all_test, unset_thread, open_piece, locked_piece}
 use Rattle.large_script.proofs.Simple.{all-append, at_eight, pieces_hold, length-pieces}
 
 -- a printed line of at most forty bytes
@@ -112,15 +112,15 @@ prints-append a b m n first rest = record {
   count = omega (arith, length-append a b, first.count, rest.count);
 }
 
-thread_prints : (name : List ℕ) (ss : List Statement) → is_short (form_text (forms.Thread name)) ≡ true → list_all prints_short ss ≡ true → Prints (thread_lines large_names name (thread_of ss)) (length ss + 2)
+thread_prints : (name : List ℕ) (ss : List Statement) → is_short (form_text (forms.Thread name)) ≡ true → list_all prints_short ss ≡ true → Prints (thread_lines large_names name (unset_thread ss)) (length ss + 2)
 thread_prints name ss head short = record {
   short = and_from (is_short (form_text (forms.Thread name))) (list_all is_short (texts (block_lines large_names End (closed_at 1 ss)))) head (block_short ss short);
   count = omega (arith, block_length ss short);
 }
 
-worker_prints : (name : List ℕ) (thread many : ℕ) → is_short (form_text (forms.Thread name)) ≡ true → Prints (thread_lines large_names name (thread_of (pieces thread many))) (4 * many + 2)
+worker_prints : (name : List ℕ) (thread many : ℕ) → is_short (form_text (forms.Thread name)) ≡ true → Prints (thread_lines large_names name (unset_thread (pieces thread many))) (4 * many + 2)
 worker_prints name thread many head =
-    subst (λ n. Prints (thread_lines large_names name (thread_of (pieces thread many))) (n + 2)) (length-pieces thread many)
+    subst (λ n. Prints (thread_lines large_names name (unset_thread (pieces thread many))) (n + 2)) (length-pieces thread many)
     (thread_prints name (pieces thread many) head (pieces_hold prints_short open_short locked_short thread many))
 
 -- ---- the last thread
@@ -136,21 +136,22 @@ passes test (suc n) zero all low = (and_parts (test 0) (pass_below (λ k. test (
 passes test (suc n) (suc k) all low =
     passes (λ k. test (suc k)) n k (and_parts (test 0) (pass_below (λ k. test (suc k)) n) all).1 (omega arith)
 
-wholes_short : pass_below (λ many. list_all prints_short (is_whole many ∷ [])) 101 ≡ true
+wholes_short : pass_below (λ many. list_all prints_short (added_all_test many ∷ [])) 101 ≡ true
 unfolding digits
 wholes_short = refl
 
-sums_short : list_all prints_short (joins 8 ++ sums 8) ≡ true
+sums_short : list_all prints_short (joins_of 8 ++ sums 8) ≡ true
 unfolding digits
 sums_short = refl
 
-checks_short : (many : ℕ) → many ≤ 100 → list_all prints_short (checks many) ≡ true
+checks_short : (many : ℕ) → many ≤ 100 → list_all prints_short (last_checks many) ≡ true
 checks_short many high =
-    all-append prints_short (joins 8 ++ sums 8) (is_whole many ∷ []) sums_short
-    (passes (λ many. list_all prints_short (is_whole many ∷ [])) 101 many wholes_short (omega arith))
+    all-append prints_short (joins_of 8 ++ sums 8) (added_all_test many ∷ []) sums_short
+    (passes (λ many. list_all prints_short (added_all_test many ∷ [])) 101 many wholes_short (omega arith))
 
-checker_prints : (name : List ℕ) (many : ℕ) → many ≤ 100 → is_short (form_text (forms.Thread name)) ≡ true → Prints (thread_lines large_names name (thread_of (checks many))) 27
-checker_prints name many high head = thread_prints name (checks many) head (checks_short many high)
+checker_prints : (name : List ℕ) (many : ℕ) → many ≤ 100 → is_short (form_text (forms.Thread name)) ≡ true → Prints (thread_lines large_names name (unset_thread (last_checks many))) 27
+checker_prints name many high head =
+    thread_prints name (last_checks many) head (checks_short many high)
 
 -- ---- the whole print
 
@@ -164,12 +165,12 @@ threads_print : (many : ℕ) → many ≤ 100 → Prints (thread_text_lines many
     (4 * many + 2 + (4 * many + 2 + (4 * many + 2 + (4 * many + 2 + (4 * many + 2 + (4 * many + 2 + (4 * many + 2 + (4 * many + 2 + (27 + 0)))))))))
 threads_print many high =
     let one = λ (name : List ℕ) (thread : ℕ) (head : is_short (form_text (forms.Thread name)) ≡ true) (more : List Line) (n : ℕ) (rest : Prints more n).
-    prints-append (thread_lines large_names name (thread_of (pieces thread many))) more (4 * many + 2) n (worker_prints name thread many head) rest in
+    prints-append (thread_lines large_names name (unset_thread (pieces thread many))) more (4 * many + 2) n (worker_prints name thread many head) rest in
     one (codes "T0") 0 refl _ _ (one (codes "T1") 1 refl _ _ (one (codes "T2") 2 refl _ _ (one (codes "T3") 3 refl _ _
     (one (codes "T4") 4 refl _ _ (one (codes "T5") 5 refl _ _ (one (codes "T6") 6 refl _ _ (one (codes "T7") 7 refl _ _
-    (prints-append (thread_lines large_names (codes "Z") (thread_of (checks many))) [] 27 0 (checker_prints (codes "Z") many high refl) no_more))))))))
+    (prints-append (thread_lines large_names (codes "Z") (unset_thread (last_checks many))) [] 27 0 (checker_prints (codes "Z") many high refl) no_more))))))))
 
-abbrev top : ℕ → List Meant
+abbrev top : ℕ → List MeantForm
 top many = declared_forms (large_script many)
 
 top_short : (many : ℕ) → list_all is_short (header_text 1 ∷ map form_text (top many)) ≡ true
@@ -207,9 +208,9 @@ layout_lines many high =
 
 -- what is promised of a print, of this one
 pub spelled_of : (result : Result (Vec ℕ Global) AllocError) (script : ScriptText) (many : ℕ) → many ≤ 100 → script ≡ large_script many
-    → IfOk result (λ bytes. bytes.items ≡ layout script) → IfOk result (λ bytes. IsShort bytes.items → Spells bytes.items (renumbered script))
-    → IfOk result (λ bytes. Spells bytes.items (renumbered (large_script many)))
+    → IfOk result (λ bytes. bytes.items ≡ layout script) → IfOk result (λ bytes. IsShort bytes.items → Spells bytes.items (renumbered_script script))
+    → IfOk result (λ bytes. Spells bytes.items (renumbered_script (large_script many)))
 spelled_of (Err e) script many high same prints spells = tt
 spelled_of (Ok bytes) script many high same prints spells =
     let print : bytes.items ≡ layout (large_script many) = prints ∙ ap layout same in
-    subst (λ it. Spells bytes.items (renumbered it)) same (spells (subst IsShort (sym print) (layout_short many high)))
+    subst (λ it. Spells bytes.items (renumbered_script it)) same (spells (subst IsShort (sym print) (layout_short many high)))

@@ -9,10 +9,10 @@ use Rattle.pct_ask.specs.NameLists.{NameLists}
 use Rattle.pct_ask.specs.Ranges.{IsSemValue, IsBarrierCount}
 use Rattle.script_tree.specs.Trees.{Statement, closed_at}
 use Rattle.script_tree.specs.ScriptText.{Thread}
-use Rattle.script_tree.specs.ScriptParts.{thread, text_of}
+use Rattle.script_tree.specs.ScriptParts.{thread_text, script_of_parts}
 use Rattle.script_tree.specs.declared.stmt.ThreadText.{ThreadText}
 use Rattle.script_tree.specs.Fitting.{IsScript, statement_fits, statements_fit, thread_fits, count_of, counts_of}
-use Rattle.large_script.specs.Large.{large_names, large_script, piece, pieces, joins, sums, checks, is_whole, thread_of, open_piece, locked_piece, workers}
+use Rattle.large_script.specs.Large.{large_names, large_script, piece, pieces, joins_of, sums, last_checks, added_all_test, unset_thread, open_piece, locked_piece, workers}
 
 pub all-append : {X : Type 0} (test : X → Bool) (a b : List X) → list_all test a ≡ true → list_all test b ≡ true → list_all test (a ++ b) ≡ true
 all-append test [] b in_a in_b = in_b
@@ -87,7 +87,7 @@ counts-closed (s ∷ ss) simple =
     let one : count_of s ≡ 1 = one_of (count_of s) parts.1 in
     omega (arith, counts-closed ss both.1)
 
-fits-simple : (ss : List Statement) → list_all is_simple ss ≡ true → length ss ≤ 4096 → thread_fits 1 large_names (thread_of ss) ≡ true
+fits-simple : (ss : List Statement) → list_all is_simple ss ≡ true → length ss ≤ 4096 → thread_fits 1 large_names (unset_thread ss) ≡ true
 fits-simple ss simple few =
     let high : counts_of (closed_at 1 ss) ≤ 4096 = omega (arith, counts-closed ss simple) in
     and_from (statements_fit 1 large_names 32 (closed_at 1 ss)) (nat_le (counts_of (closed_at 1 ss)) 4096) (fits-closed ss simple)
@@ -98,29 +98,30 @@ fits-simple ss simple few =
 abbrev fits : Thread → Bool
 fits = thread_fits 1 large_names
 
-worker_fits : (many thread : ℕ) → many ≤ 100 → fits (thread_of (pieces thread many)) ≡ true
+worker_fits : (many thread : ℕ) → many ≤ 100 → fits (unset_thread (pieces thread many)) ≡ true
 worker_fits many thread high =
     fits-simple (pieces thread many) (pieces_hold is_simple open_simple locked_simple thread many) (omega (arith, length-pieces thread many))
 
 workers_fit : (many threads : ℕ) → many ≤ 100 → list_all fits (workers many threads) ≡ true
 workers_fit many zero high = refl
 workers_fit many (suc thread) high =
-    all-append fits (workers many thread) (thread_of (pieces thread many) ∷ []) (workers_fit many thread high)
-    (and_from (fits (thread_of (pieces thread many))) true (worker_fits many thread high) refl)
+    all-append fits (workers many thread) (unset_thread (pieces thread many) ∷ []) (workers_fit many thread high)
+    (and_from (fits (unset_thread (pieces thread many))) true (worker_fits many thread high) refl)
 
-whole_simple : (many : ℕ) → list_all is_simple (is_whole many ∷ []) ≡ true
+whole_simple : (many : ℕ) → list_all is_simple (added_all_test many ∷ []) ≡ true
 whole_simple many = rw (le-leb 0 (8 * many) (omega arith)) refl
 
-checks_simple : (many : ℕ) → list_all is_simple (checks many) ≡ true
-checks_simple many = all-append is_simple (joins 8 ++ sums 8) (is_whole many ∷ []) refl (whole_simple many)
+checks_simple : (many : ℕ) → list_all is_simple (last_checks many) ≡ true
+checks_simple many = all-append is_simple (joins_of 8 ++ sums 8) (added_all_test many ∷ []) refl (whole_simple many)
 
-checker_fits : (many : ℕ) → fits (thread_of (checks many)) ≡ true
-checker_fits many = fits-simple (checks many) (checks_simple many) (omega (arith, length-append (joins 8 ++ sums 8) (is_whole many ∷ [])))
+checker_fits : (many : ℕ) → fits (unset_thread (last_checks many)) ≡ true
+checker_fits many = fits-simple (last_checks many) (checks_simple many) (omega (arith, length-append (joins_of 8 ++ sums 8) (added_all_test many ∷ [])))
 
 threads_fit : (many : ℕ) → many ≤ 100 → list_all fits (large_script many).threads ≡ true
 threads_fit many high =
-    all-append fits (workers many 8) (thread_of (checks many) ∷ []) (workers_fit many 8 high)
-    (and_from (fits (thread_of (checks many))) true (checker_fits many) refl)
+    all-append fits (workers many 8) (unset_thread (last_checks many) ∷ [])
+    (workers_fit many 8 high)
+    (and_from (fits (unset_thread (last_checks many))) true (checker_fits many) refl)
 
 pub is_script : (many : ℕ) → many ≤ 100 → IsScript (large_script many)
 is_script many high = record {
@@ -141,9 +142,9 @@ is_script many high = record {
 
 -- a script of the code that has these parts
 pub is_script_of : (many : ℕ) → many ≤ 100 → (names : NameLists) (vars sems barriers : List ℤ) (threads : List ThreadText)
-    → names ≡ large_names → vars ≡ (large_script many).vars → sems ≡ [] → barriers ≡ [] → map thread threads ≡ (large_script many).threads
-    → IsScript (text_of 1 names vars sems barriers threads)
+    → names ≡ large_names → vars ≡ (large_script many).vars → sems ≡ [] → barriers ≡ [] → map thread_text threads ≡ (large_script many).threads
+    → IsScript (script_of_parts 1 names vars sems barriers threads)
 is_script_of many high names vars sems barriers threads e v s b t =
-    let same : text_of 1 names vars sems barriers threads ≡ large_script many =
+    let same : script_of_parts 1 names vars sems barriers threads ≡ large_script many =
     λ i. record { version = 1; names = e i; vars = v i; sems = s i; barriers = b i; threads = t i } in
     subst IsScript (sym same) (is_script many high)

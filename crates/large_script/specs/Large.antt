@@ -36,24 +36,24 @@ large_names = record no_names {
 
 -- The script is made to be printed. Its statements have their lines in the print, and until then
 -- this one.
-abbrev pub unprinted : ℕ
-unprinted = 1
+abbrev pub unset_line : ℕ
+unset_line = 1
 
 -- the sum of two registers, or of a register and a number
 abbrev pub plus : Expression → Expression → Expression
 plus left right = Two ops.Plus left right
 
 -- adding one to a variable by way of register 0
-abbrev pub added_one : ℕ → List Statement
-added_one var = Read unprinted 0 var ∷ Write unprinted var (plus (Reg 0) (Number (pos 1))) ∷ []
+abbrev pub add_one : ℕ → List Statement
+add_one var = Read unset_line 0 var ∷ Write unset_line var (plus (Reg 0) (Number (pos 1))) ∷ []
 
 -- a piece that adds one without a mutex, between two yields
 abbrev pub open_piece : ℕ → List Statement
-open_piece var = Yield unprinted ∷ added_one var ++ Yield unprinted ∷ []
+open_piece var = Yield unset_line ∷ add_one var ++ Yield unset_line ∷ []
 
 -- a piece that adds one under the mutex of the variable's number
 abbrev pub locked_piece : ℕ → List Statement
-locked_piece var = Lock unprinted var ∷ added_one var ++ Unlock unprinted var ∷ []
+locked_piece var = Lock unset_line var ∷ add_one var ++ Unlock unset_line var ∷ []
 
 -- The piece of a place in a thread's text, from 0, is on the variable of the sum of both numbers
 -- modulo eight. Every fourth one, from the first on, takes no mutex.
@@ -68,31 +68,31 @@ pieces thread zero = []
 pieces thread (suc place) = pieces thread place ++ piece thread place
 
 -- joins of the first threads
-abbrev pub joins : ℕ → List Statement
-joins zero = []
-joins (suc thread) = joins thread ++ Join unprinted thread ∷ []
+abbrev pub joins_of : ℕ → List Statement
+joins_of zero = []
+joins_of (suc thread) = joins_of thread ++ Join unset_line thread ∷ []
 
 -- adding the first variables up in register 1
 abbrev pub sums : ℕ → List Statement
 sums zero = []
-sums (suc var) = sums var ++ Read unprinted 0 var ∷ Set unprinted 1 (plus (Reg 1) (Reg 0)) ∷ []
+sums (suc var) = sums var ++ Read unset_line 0 var ∷ Set unset_line 1 (plus (Reg 1) (Reg 0)) ∷ []
 
 -- all pieces of the eight threads have added one
-abbrev pub is_whole : ℕ → Statement
-is_whole many = Assert unprinted (Two ops.Eq (Reg 1) (Number (pos (8 * many))))
+abbrev pub added_all_test : ℕ → Statement
+added_all_test many = Assert unset_line (Two ops.Eq (Reg 1) (Number (pos (8 * many))))
 
 -- a thread of these statements, before it is printed
-abbrev pub thread_of : List Statement → Thread
-thread_of statements = record { line = unprinted; body = closed_at unprinted statements }
+abbrev pub unset_thread : List Statement → Thread
+unset_thread statements = record { line = unset_line; body = closed_at unset_line statements }
 
 -- the first threads
 abbrev pub workers : ℕ → ℕ → List Thread
 workers many zero = []
-workers many (suc thread) = workers many thread ++ thread_of (pieces thread many) ∷ []
+workers many (suc thread) = workers many thread ++ unset_thread (pieces thread many) ∷ []
 
 -- what the last thread does
-abbrev pub checks : ℕ → List Statement
-checks many = joins 8 ++ sums 8 ++ is_whole many ∷ []
+abbrev pub last_checks : ℕ → List Statement
+last_checks many = joins_of 8 ++ sums 8 ++ added_all_test many ∷ []
 
 -- the script with so many pieces in each of the eight threads, where every variable begins with 0
 abbrev pub large_script : ℕ → ScriptText
@@ -102,5 +102,5 @@ large_script many = record {
   vars = pos 0 ∷ pos 0 ∷ pos 0 ∷ pos 0 ∷ pos 0 ∷ pos 0 ∷ pos 0 ∷ pos 0 ∷ [];
   sems = [];
   barriers = [];
-  threads = workers many 8 ++ thread_of (checks many) ∷ [];
+  threads = workers many 8 ++ unset_thread (last_checks many) ∷ [];
 }

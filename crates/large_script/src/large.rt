@@ -5,13 +5,13 @@ ghost use Rattle.script_tree.specs.Trees as trees;
 ghost use Rattle.script_tree.specs.Trees.{closed_at};
 ghost use Rattle.script_tree.specs.Seen.{expression, statement, statements, block};
 ghost use Rattle.script_tree.specs.ScriptParts as parts;
-ghost use Rattle.script_tree.specs.ScriptSeen.{text};
+ghost use Rattle.script_tree.specs.ScriptSeen.{plain_script};
 ghost use Rattle.script_tree.specs.Layout.{layout};
 ghost use Rattle.script_tree.specs.Grammar.{Spells};
-ghost use Rattle.script_tree.specs.Renumbering.{renumbered};
-ghost use Rattle.large_script.specs.Large.{var_names, mutex_names, large_names, added_one};
-ghost use Rattle.large_script.specs.Large.{open_piece, locked_piece, piece, pieces, joins, sums};
-ghost use Rattle.large_script.specs.Large.{checks, workers, thread_of, large_script};
+ghost use Rattle.script_tree.specs.Renumbering.{renumbered_script};
+ghost use Rattle.large_script.specs.Large.{var_names, mutex_names, large_names, add_one};
+ghost use Rattle.large_script.specs.Large.{open_piece, locked_piece, piece, pieces, joins_of, sums};
+ghost use Rattle.large_script.specs.Large.{last_checks, workers, unset_thread, large_script};
 
 use pct_ask::{NameKind, Names, NumberList};
 use script_tree::{Block, Expr, Op, Script, Stmt, ThreadText, print_script};
@@ -36,7 +36,7 @@ fn push(stmt: Stmt, stmts: &mut Vec<Stmt>) -> Result<(), NoMemory>
 /// Adds one to a variable by way of register 0.
 fn push_added_one(alloc: Global, var: u32, stmts: &mut Vec<Stmt>) -> Result<(), NoMemory>
     ensures { OnOk result
-        (statements stmts.new.items ≡ statements stmts.old.items ++ added_one var) }
+        (statements stmts.new.items ≡ statements stmts.old.items ++ add_one var) }
 {
     let value = two(alloc, Op::Plus, Expr::Reg(0), Expr::Number(1))?;
     let read = Stmt::Read {
@@ -97,7 +97,7 @@ fn push_piece(alloc: Global, thread: u32, place: u32, stmts: &mut Vec<Stmt>) -> 
 }
 
 fn thread_text(stmts: Vec<Stmt>) -> ThreadText
-    ensures { parts.thread result ≡ thread_of (statements stmts.items) }
+    ensures { parts.thread_text result ≡ unset_thread (statements stmts.items) }
 {
     ThreadText {
         line: UNPRINTED,
@@ -112,7 +112,7 @@ fn thread_text(stmts: Vec<Stmt>) -> ThreadText
 fn worker(alloc: Global, thread: u32, many: u32) -> Result<ThreadText, NoMemory>
     requires thread { thread < 8 }
     requires many { many ≤ 100 }
-    ensures { IfOk result (λ t. parts.thread t ≡ thread_of (pieces thread many)) }
+    ensures { IfOk result (λ t. parts.thread_text t ≡ unset_thread (pieces thread many)) }
 {
     let mut stmts = Vec::new(alloc);
     for place in 0..many {
@@ -122,7 +122,7 @@ fn worker(alloc: Global, thread: u32, many: u32) -> Result<ThreadText, NoMemory>
 }
 
 fn push_joins(stmts: &mut Vec<Stmt>) -> Result<(), NoMemory>
-    ensures { OnOk result (statements stmts.new.items ≡ statements stmts.old.items ++ joins 8) }
+    ensures { OnOk result (statements stmts.new.items ≡ statements stmts.old.items ++ joins_of 8) }
 {
     for thread in 0..8u32 {
         let join = Stmt::Join {
@@ -157,7 +157,7 @@ fn push_sums(alloc: Global, stmts: &mut Vec<Stmt>) -> Result<(), NoMemory>
 /// The last thread: it joins the others, adds the variables up and looks at the sum.
 fn checker(alloc: Global, many: u32) -> Result<ThreadText, NoMemory>
     requires { many ≤ 100 }
-    ensures { IfOk result (λ t. parts.thread t ≡ thread_of (checks many)) }
+    ensures { IfOk result (λ t. parts.thread_text t ≡ unset_thread (last_checks many)) }
 {
     let mut stmts = Vec::new(alloc);
     push_joins(&mut stmts)?;
@@ -173,7 +173,7 @@ fn checker(alloc: Global, many: u32) -> Result<ThreadText, NoMemory>
 
 fn threads(alloc: Global, many: u32) -> Result<Vec<ThreadText>, NoMemory>
     requires { many ≤ 100 }
-    ensures { IfOk result (λ ts. map parts.thread ts.items ≡ (large_script many).threads) }
+    ensures { IfOk result (λ ts. map parts.thread_text ts.items ≡ (large_script many).threads) }
 {
     let mut threads = Vec::new(alloc);
     for thread in 0..8 {
@@ -245,7 +245,7 @@ fn names(alloc: Global) -> Result<Names, NoMemory>
 /// The large script, whose threads have so many pieces, 1 to 100.
 pub fn large_script(alloc: Global, many: u32) -> Result<Script, NoMemory>
     requires { many ≤ 100 }
-    ensures { IfOk result (λ script. text script ≡ large_script many) }
+    ensures { IfOk result (λ script. plain_script script ≡ large_script many) }
 {
     Ok(Script {
         version: 1,
@@ -261,7 +261,8 @@ pub fn large_script(alloc: Global, many: u32) -> Result<Script, NoMemory>
 pub fn print_large(alloc: Global, many: u32) -> Result<Vec<u8>, NoMemory>
     requires { many ≤ 100 }
     ensures layout { IfOk result (λ bytes. bytes.items ≡ layout (large_script many)) }
-    ensures spelled { IfOk result (λ bytes. Spells bytes.items (renumbered (large_script many))) }
+    ensures spelled { IfOk result
+        (λ bytes. Spells bytes.items (renumbered_script (large_script many))) }
 {
     print_script(alloc, &large_script(alloc, many)?)
 }

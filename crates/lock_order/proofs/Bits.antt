@@ -6,14 +6,14 @@ use Rattle.std.proofs.lemmas.Nat.{and-not, and_comm, one_shl, pow_pos}
 use Rattle.std.proofs.Math.Pow.{pow-lt}
 use Rattle.std.proofs.lemmas.Nat.Bits.{bit_at_set_same, bit_at_set_other, bit_at_clear_same, bit_at_clear_other, bit_at_or, bit_at_and, bit_at-zero, bit_at-lt, bit_at-trailing_zeros, and_pow}
 use Rattle.lock_order.specs.declared.mutex_set.MutexSet.{MutexSet}
-use Rattle.lock_order.specs.MutexSets.{Has, HasThose}
+use Rattle.lock_order.specs.MutexSets.{HasMutex, HasThose}
 use Rattle.lock_order.specs.Chosen.{IsLowest}
 
 -- the number as a set
 abbrev pub set : ℕ → MutexSet
 set n = record { bits = n }
 
-pub has-with : (n m : ℕ) → m < 64 → HasThose (set (bit_or n (1 * 2 ^ m % 2 ^ 64))) (λ other. (other ≡ m) ⊎ Has (set n) other)
+pub has-with : (n m : ℕ) → m < 64 → HasThose (set (bit_or n (1 * 2 ^ m % 2 ^ 64))) (λ other. (other ≡ m) ⊎ HasMutex (set n) other)
 has-with n m small other = (
   λ has. elim (cases_eq other m) [
     | inl e ↦ inl e
@@ -28,7 +28,7 @@ has-with n m small other = (
   ],
 )
 
-pub has-without : (n m : ℕ) → m < 64 → HasThose (set (bit_and n (bit_not w64 (1 * 2 ^ m % 2 ^ 64)))) (λ other. (other ≢ m) × Has (set n) other)
+pub has-without : (n m : ℕ) → m < 64 → HasThose (set (bit_and n (bit_not w64 (1 * 2 ^ m % 2 ^ 64)))) (λ other. (other ≢ m) × HasMutex (set n) other)
 has-without n m small other = (
   λ has.
       let ne : other ≢ m = λ e.
@@ -38,7 +38,7 @@ has-without n m small other = (
   λ (ne, has). record { small = has.small; bit = bit_at_clear_other w64 n m small other has.small ne ∙ has.bit },
 )
 
-pub has-union : (n m : ℕ) → HasThose (set (bit_or n m)) (λ other. Has (set n) other ⊎ Has (set m) other)
+pub has-union : (n m : ℕ) → HasThose (set (bit_or n m)) (λ other. HasMutex (set n) other ⊎ HasMutex (set m) other)
 has-union n m other =
     let both = bit_at_or n m other in
     let first = bit_at-lt n other in
@@ -53,7 +53,7 @@ has-union n m other =
       ],
     )
 
-pub has-common : (n m : ℕ) → HasThose (set (bit_and n m)) (λ other. Has (set n) other × Has (set m) other)
+pub has-common : (n m : ℕ) → HasThose (set (bit_and n m)) (λ other. HasMutex (set n) other × HasMutex (set m) other)
 has-common n m other =
     let both = bit_at_and n m other in
     let first = bit_at-lt n other in
@@ -63,7 +63,7 @@ has-common n m other =
     )
 
 -- the mutex that was in the set is taken out of its number
-pub fewer-bits : (n m : ℕ) → n < 2 ^ 64 → Has (set n) m → bit_and n (bit_not w64 (1 * 2 ^ m % 2 ^ 64)) < n
+pub fewer-bits : (n m : ℕ) → n < 2 ^ 64 → HasMutex (set n) m → bit_and n (bit_not w64 (1 * 2 ^ m % 2 ^ 64)) < n
 fewer-bits n m fits has =
     let one = one_shl m 64 has.small in
     let rest : bit_and n (2 ^ 64 - 1 - 2 ^ m) + bit_and n (2 ^ m) ≡ n =
@@ -72,10 +72,10 @@ fewer-bits n m fits has =
     let P : ℕ → Type 0 = λ x. bit_and n (2 ^ 64 - 1 - x) < n in
     subst P (sym one) (omega (arith, rest, bit, pow_pos m))
 
-pub has-none : (n m : ℕ) → n ≡ 0 → ¬ Has (set n) m
+pub has-none : (n m : ℕ) → n ≡ 0 → ¬ HasMutex (set n) m
 has-none n m e has = let at = ap (λ x. bit_at x m) e ∙ bit_at-zero m in omega (arith, at, has.bit)
 
-pub lowest-is : (n : ℕ) → 0 < n → n < 2 ^ 64 → IsLowest (Has (set n)) (trailing_zeros w64 n)
+pub lowest-is : (n : ℕ) → 0 < n → n < 2 ^ 64 → IsLowest (HasMutex (set n)) (trailing_zeros w64 n)
 lowest-is n some fits =
     let low = bit_at-trailing_zeros w64 n some fits in
     record {
@@ -83,12 +83,12 @@ lowest-is n some fits =
       lowest = λ lower below has. let at = low.2 lower below in omega (arith, at, has.bit);
     }
 
-lowest-of-both : (n m low : ℕ) → IsLowest (Has (set (bit_and n m))) low → IsLowest (λ mutex. Has (set n) mutex × Has (set m) mutex) low
+lowest-of-both : (n m low : ℕ) → IsLowest (HasMutex (set (bit_and n m))) low → IsLowest (λ mutex. HasMutex (set n) mutex × HasMutex (set m) mutex) low
 lowest-of-both n m low is = record {
   holds = (has-common n m low).0 is.holds;
   lowest = λ lower below both. is.lowest lower below ((has-common n m lower).1 both);
 }
 
-pub lowest-common : (n m : ℕ) (low : Option ℕ) → MatchOption low ((mutex : ℕ) → ¬ Has (set (bit_and n m)) mutex) (IsLowest (Has (set (bit_and n m)))) → MatchOption low ((mutex : ℕ) → Has (set n) mutex → ¬ Has (set m) mutex) (IsLowest (λ mutex. Has (set n) mutex × Has (set m) mutex))
+pub lowest-common : (n m : ℕ) (low : Option ℕ) → MatchOption low ((mutex : ℕ) → ¬ HasMutex (set (bit_and n m)) mutex) (IsLowest (HasMutex (set (bit_and n m)))) → MatchOption low ((mutex : ℕ) → HasMutex (set n) mutex → ¬ HasMutex (set m) mutex) (IsLowest (λ mutex. HasMutex (set n) mutex × HasMutex (set m) mutex))
 lowest-common n m None none = λ mutex one other. none mutex ((has-common n m mutex).1 (one, other))
 lowest-common n m (Some low) is = lowest-of-both n m low is

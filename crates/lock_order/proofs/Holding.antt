@@ -12,8 +12,8 @@ use Rattle.pct_ask.specs.declared.Deal.{Deal}
 use Rattle.sync_store.specs.Store.{Sizes, sizes_of_deal}
 use Rattle.sync_store.specs.Enabled.{IsInRange}
 use Rattle.lock_order.specs.declared.mutex_set.MutexSet.{MutexSet}
-use Rattle.lock_order.specs.Nestings.{NamesOnly, AreInRange, step_at, TakesBy, LetsGoBy, Takes, LetsGo, Holds}
-use Rattle.lock_order.specs.MutexSets.{Has, HasThose}
+use Rattle.lock_order.specs.Nestings.{EventNamesOnly, AreEventsInRange, event_at_step, TakesBy, LetsGoBy, Takes, LetsGo, HoldsMutex}
+use Rattle.lock_order.specs.MutexSets.{HasMutex, HasThose}
 use Rattle.lock_order.proofs.Places.{slice_get-push, slice_get-set, slice_get-replicate}
 
 pub takes-small : (sizes : Sizes) (ask : Ask) (answer : ℤ) (mutex : ℕ) → IsInRange sizes ask → TakesBy ask answer mutex → mutex < sizes.mutexes
@@ -34,11 +34,11 @@ no_event = record { thread = 0; line = 0; ask = Read 0; answer = pos 0 }
 pub event-at : (events : List Event) (place : ℕ) → place < length events → slice_get events place ≡ Some (get_or events place no_event)
 event-at events place within = slice_get-get_or events place no_event within
 
-module _ (deal : Deal) (events : List Event) (place : ℕ) (in_range : AreInRange deal events) (within : place < length events) where
+module _ (deal : Deal) (events : List Event) (place : ℕ) (in_range : AreEventsInRange deal events) (within : place < length events) where
   abbrev event : Event
   event = get_or events place no_event
 
-  names : NamesOnly deal event
+  names : EventNamesOnly deal event
   names = in_range place no_event within
 
   pub thread-small : event.thread < 64
@@ -49,25 +49,25 @@ module _ (deal : Deal) (events : List Event) (place : ℕ) (in_range : AreInRang
 
 -- the sets of what each thread holds before the step that follows so many
 abbrev pub AreHeldNow : List Event → ℕ → List MutexSet → Type 0
-AreHeldNow events steps now = (thread : ℕ) (those : MutexSet) → slice_get now thread ≡ Some those → HasThose those (λ mutex. Holds events thread mutex (suc steps))
+AreHeldNow events steps now = (thread : ℕ) (those : MutexSet) → slice_get now thread ≡ Some those → HasThose those (λ mutex. HoldsMutex events thread mutex (suc steps))
 
 -- the set has what the event's thread holds after its step, by what it held before
 abbrev pub IsAfter : Event → MutexSet → MutexSet → Type 0
-IsAfter event held after = HasThose after (λ mutex. TakesBy event.ask event.answer mutex ⊎ ((¬ LetsGoBy event.ask mutex) × Has held mutex))
+IsAfter event held after = HasThose after (λ mutex. TakesBy event.ask event.answer mutex ⊎ ((¬ LetsGoBy event.ask mutex) × HasMutex held mutex))
 
 -- the sets of the steps so far, and those of the threads before the next one
 pub record HeldSoFar (events : List Event) (steps : ℕ) (sets now : List MutexSet) : Type 0 where
   pub whole : length sets ≡ steps
   pub threads : length now ≡ 64
-  pub each : (place : ℕ) (event : Event) (those : MutexSet) → slice_get events place ≡ Some event → slice_get sets place ≡ Some those → HasThose those (λ mutex. Holds events event.thread mutex (suc place))
+  pub each : (place : ℕ) (event : Event) (those : MutexSet) → slice_get events place ≡ Some event → slice_get sets place ≡ Some those → HasThose those (λ mutex. HoldsMutex events event.thread mutex (suc place))
   pub next : AreHeldNow events steps now
 
 -- nothing is held before the first step
-pub holds-first : (events : List Event) (thread mutex : ℕ) → ¬ Holds events thread mutex 1
+pub holds-first : (events : List Event) (thread mutex : ℕ) → ¬ HoldsMutex events thread mutex 1
 holds-first events thread mutex holds =
     let earlier = holds.earlier in
     let none : 0 ≡ holds.since = omega arith in
-    let both : step_at events 0 ≡ Some holds.taken.event = ap (step_at events) none ∙ holds.taken.at in
+    let both : event_at_step events 0 ≡ Some holds.taken.event = ap (event_at_step events) none ∙ holds.taken.at in
     cc
 
 pub so-far-first : (events : List Event) (sets now : List MutexSet) → sets ≡ [] → now ≡ replicate 64 (record { bits = 0 }) → HeldSoFar events 0 sets now
@@ -84,8 +84,8 @@ so-far-first events sets now none empty = record {
 
 module _ (events : List Event) (place : ℕ) (event : Event) (at : slice_get events place ≡ Some event) where
   -- the step's one event
-  same-event : (step : ℕ) (other : Event) → step ≡ suc place → step_at events step ≡ Some other → other ≡ event
-  same-event step other e there = let both : Some other ≡ Some event = sym there ∙ ap (step_at events) e ∙ at in cc
+  same-event : (step : ℕ) (other : Event) → step ≡ suc place → event_at_step events step ≡ Some other → other ≡ event
+  same-event step other e there = let both : Some other ≡ Some event = sym there ∙ ap (event_at_step events) e ∙ at in cc
 
   pub takes-here : (step thread mutex : ℕ) → step ≡ suc place → Takes events step thread mutex → (event.thread ≡ thread) × TakesBy event.ask event.answer mutex
   takes-here step thread mutex e takes =
@@ -100,7 +100,7 @@ module _ (events : List Event) (place : ℕ) (event : Event) (at : slice_get eve
       (sym (ap (λ (x : Event). x.thread) same) ∙ gone.by, subst P same gone.gone)
 
   -- the event's own thread: it holds what it takes, and what it held and doesn't let go
-  pub holds-own : (mutex : ℕ) → Holds events event.thread mutex (suc (suc place)) ↔ (TakesBy event.ask event.answer mutex ⊎ ((¬ LetsGoBy event.ask mutex) × Holds events event.thread mutex (suc place)))
+  pub holds-own : (mutex : ℕ) → HoldsMutex events event.thread mutex (suc (suc place)) ↔ (TakesBy event.ask event.answer mutex ⊎ ((¬ LetsGoBy event.ask mutex) × HoldsMutex events event.thread mutex (suc place)))
   holds-own mutex = (
     λ holds. elim (cases_eq holds.since (suc place)) [
       | inl e ↦ inl (takes-here holds.since event.thread mutex e holds.taken).1
@@ -134,7 +134,7 @@ module _ (events : List Event) (place : ℕ) (event : Event) (at : slice_get eve
   )
 
   -- another thread holds what it held
-  pub holds-other : (thread mutex : ℕ) → thread ≢ event.thread → Holds events thread mutex (suc (suc place)) ↔ Holds events thread mutex (suc place)
+  pub holds-other : (thread mutex : ℕ) → thread ≢ event.thread → HoldsMutex events thread mutex (suc (suc place)) ↔ HoldsMutex events thread mutex (suc place)
   holds-other thread mutex apart = (
     λ holds. record {
       since = holds.since;
@@ -162,9 +162,11 @@ module _ (events : List Event) (place : ℕ) (event : Event) (at : slice_get eve
   sets-after : (now : List MutexSet) (held after : MutexSet) → AreHeldNow events place now → slice_get now event.thread ≡ Some held → IsAfter event held after → AreHeldNow events (place + 1) (set now event.thread after)
   sets-after now held after before at_thread is thread those there mutex = rw add-one (elim (slice_get-set now event.thread thread after those there) [
     | inl (own, same) ↦
-        let P : MutexSet → Type 0 = λ x. Has x mutex ↔ Holds events thread mutex (suc (suc place)) in
-        let Q : ℕ → Type 0 = λ t. Has after mutex ↔ Holds events t mutex (suc (suc place)) in
-        let own_is : Has after mutex ↔ Holds events event.thread mutex (suc (suc place)) = (
+        let P : MutexSet → Type 0 = λ x. HasMutex x mutex ↔ HoldsMutex events thread mutex (suc (suc place)) in
+        let Q : ℕ → Type 0 =
+        λ t. HasMutex after mutex ↔ HoldsMutex events t mutex (suc (suc place)) in
+        let own_is : HasMutex after mutex
+        ↔ HoldsMutex events event.thread mutex (suc (suc place)) = (
           λ has. (holds-own mutex).1 (elim ((is mutex).0 has) [
             | inl takes ↦ inl takes
             | inr kept ↦ inr (kept.0, (before event.thread held at_thread mutex).0 kept.1)
@@ -191,9 +193,12 @@ module _ (events : List Event) (place : ℕ) (event : Event) (at : slice_get eve
           let here : k ≡ place = last ∙ so_far.whole in
           let both : Some other ≡ Some event = sym there ∙ ap (slice_get events) here ∙ at in
           let one : event ≡ other = cc in
-          let P : MutexSet → Type 0 = λ x. Has x mutex ↔ Holds events other.thread mutex (suc k) in
-          let Q : ℕ → Type 0 = λ n. Has held mutex ↔ Holds events other.thread mutex (suc n) in
-          let R : Event → Type 0 = λ e. Has held mutex ↔ Holds events e.thread mutex (suc place) in
+          let P : MutexSet → Type 0 =
+          λ x. HasMutex x mutex ↔ HoldsMutex events other.thread mutex (suc k) in
+          let Q : ℕ → Type 0 =
+          λ n. HasMutex held mutex ↔ HoldsMutex events other.thread mutex (suc n) in
+          let R : Event → Type 0 =
+          λ e. HasMutex held mutex ↔ HoldsMutex events e.thread mutex (suc place) in
           subst P same (subst Q (sym here) (subst R one (so_far.next event.thread held at_thread mutex)))
     ];
     next = sets-after now held after so_far.next at_thread is;

@@ -6,8 +6,8 @@ use Rattle.pct_ask.specs.declared.event.Event.{Event}
 use Rattle.lock_order.specs.declared.nesting.Nesting.{Nesting}
 use Rattle.lock_order.specs.declared.report.LockReport.{LockReport}
 use Rattle.lock_order.specs.declared.report.LockReport.TheVariants.{Order, Cycle}
-use Rattle.lock_order.specs.Nestings.{step_at}
-use Rattle.lock_order.specs.Chosen.{IsFirstOfPair, IsLowest, Remains, IsFree, IsHeldWhere, AreTakenOut, IsWalk, IsRing, next_in, AreNestingsOf, IsChosenOrder, IsChosenCycle, IsChosen}
+use Rattle.lock_order.specs.Nestings.{event_at_step}
+use Rattle.lock_order.specs.Chosen.{IsFirstOfPair, IsLowest, Remains, IsFree, IsHeldWhere, AreTakenOut, IsWalk, IsRing, next_in_ring, AreNestingsOf, IsChosenOrder, IsChosenCycle, IsChosen}
 use Rattle.lock_order.proofs.Cycles.{no_nesting, nesting-at}
 use Rattle.lock_order.proofs.Walks.{turned-place, turned-begin}
 
@@ -149,14 +149,14 @@ first-once events held taken one other is also =
     let step : one.step ≡ other.step = omega arith in
     let takes = is.nested.nested.takes in
     let takes' = also.nested.nested.takes in
-    let both : Some takes.event ≡ Some takes'.event = sym takes.at ∙ ap (step_at events) step ∙ takes'.at in
+    let both : Some takes.event ≡ Some takes'.event = sym takes.at ∙ ap (event_at_step events) step ∙ takes'.at in
     let event : takes.event ≡ takes'.event = cc in
     same-nesting one other step (sym takes.by ∙ ap (λ (e : Event). e.thread) event ∙ takes'.by) (is.nested.held_is ∙ sym also.nested.held_is) (is.nested.taken_is ∙ sym also.nested.taken_is)
 
 nestings-once : (events : List Event) (ring : List ℕ) (one other : List Nesting) → AreNestingsOf events ring one → AreNestingsOf events ring other → one ≡ other
 nestings-once events ring one other is also =
     let long : length one ≡ length other = is.whole ∙ sym also.whole in
-    ext_get_or no_nesting one other long (λ k within. first-once events (get_or ring k 0) (next_in ring k) (get_or one k no_nesting) (get_or other k no_nesting) (is.each k (get_or one k no_nesting) (nesting-at one k within)) (also.each k (get_or other k no_nesting) (nesting-at other k (omega arith))))
+    ext_get_or no_nesting one other long (λ k within. first-once events (get_or ring k 0) (next_in_ring ring k) (get_or one k no_nesting) (get_or other k no_nesting) (is.each k (get_or one k no_nesting) (nesting-at one k within)) (also.each k (get_or other k no_nesting) (nesting-at other k (omega arith))))
 
 -- ---- the reports
 module _ (mutexes : ℕ) (events : List Event) where

@@ -11,7 +11,8 @@ use Rattle.lock_order.specs.declared.nesting.Nesting.{Nesting}
 use Rattle.lock_order.specs.Nestings.{IsNesting}
 use Rattle.lock_order.specs.Good.{ListsEachOnce, IsGoodOrder}
 use Rattle.lock_order.specs.Chosen.{AreNested, IsLowest, Remains, IsFree, IsHeldWhere, AreTakenOut, IsChosenOrder}
-use Rattle.lock_order.specs.MutexSets.{Has, HasThose, AreNestedSets, set_where, IsFreeIn, IsHeldIn}
+use Rattle.lock_order.specs.MutexSets.{HasMutex, HasThose, AreNestedSets, set_where, IsFreeIn}
+use Rattle.lock_order.specs.MutexSets.{IsHeldIn}
 use Rattle.lock_order.proofs.Places.{not-true}
 
 no-cons : (a : ℕ) (xs : List ℕ) (x : ℕ) → a ≢ x → ¬ Contains xs x → ¬ Contains (a ∷ xs) x
@@ -108,7 +109,7 @@ remains-first mutexes those is mutex = (
 )
 
 -- and after one more
-pub remains-more : (mutexes : ℕ) (out : List ℕ) (mutex : ℕ) (those fewer : MutexSet) → HasThose those (Remains mutexes out) → HasThose fewer (λ other. (other ≢ mutex) × Has those other) → HasThose fewer (Remains mutexes (out ++ mutex ∷ []))
+pub remains-more : (mutexes : ℕ) (out : List ℕ) (mutex : ℕ) (those fewer : MutexSet) → HasThose those (Remains mutexes out) → HasThose fewer (λ other. (other ≢ mutex) × HasMutex those other) → HasThose fewer (Remains mutexes (out ++ mutex ∷ []))
 remains-more mutexes out mutex those fewer is without other = (
   λ has.
       let kept = (without other).0 has in
@@ -179,7 +180,7 @@ module _ (mutexes : ℕ) (events : List Event) (nested : List MutexSet) (sets : 
   abbrev mutex : ℕ
   mutex = get_or order place 0
 
-  pub order-more : (fewer : MutexSet) → IsFreeIn nested left mutex → HasThose fewer (λ other. (other ≢ mutex) × Has left other) → OrderSoFar mutexes events order (place + 1) fewer
+  pub order-more : (fewer : MutexSet) → IsFreeIn nested left mutex → HasThose fewer (λ other. (other ≢ mutex) × HasMutex left other) → OrderSoFar mutexes events order (place + 1) fewer
   order-more fewer free without = record {
     left_is =
         let P : List ℕ → Type 0 = λ xs. HasThose fewer (Remains mutexes xs) in
@@ -199,14 +200,14 @@ module _ (mutexes : ℕ) (events : List Event) (order : List ℕ) (left : MutexS
   all-read : HasThose left (Remains mutexes order)
   all-read = let P : List ℕ → Type 0 = λ xs. HasThose left (Remains mutexes xs) in subst P (take_all (length order) order (omega arith)) so_far.left_is
 
-  order-whole : ((mutex : ℕ) → ¬ Has left mutex) → AreFreeInTurn mutexes events order
+  order-whole : ((mutex : ℕ) → ¬ HasMutex left mutex) → AreFreeInTurn mutexes events order
   order-whole none = record { free = so_far.free; all = λ mutex remains. none mutex ((all-read mutex).1 remains) }
 
-  order-short : (mutex : ℕ) → Has left mutex → ¬ IsGoodOrder mutexes events order
+  order-short : (mutex : ℕ) → HasMutex left mutex → ¬ IsGoodOrder mutexes events order
   order-short mutex has good = (turn-from-good mutexes events order good).all mutex ((all-read mutex).0 has)
 
   -- what the lowest of those that are left says at the end
-  pub order-read : ((nesting : Nesting) → IsNesting events nesting → (nesting.held < mutexes) × (nesting.taken < mutexes)) → (low : Option ℕ) (none : Bool) → MatchOption low ((mutex : ℕ) → ¬ Has left mutex) (IsLowest (Has left)) → is_some low ≡ not none → (none ≡ true) ↔ IsGoodOrder mutexes events order
+  pub order-read : ((nesting : Nesting) → IsNesting events nesting → (nesting.held < mutexes) × (nesting.taken < mutexes)) → (low : Option ℕ) (none : Bool) → MatchOption low ((mutex : ℕ) → ¬ HasMutex left mutex) (IsLowest (HasMutex left)) → is_some low ≡ not none → (none ≡ true) ↔ IsGoodOrder mutexes events order
   order-read small None true absent is = (λ yes. good-from-turn mutexes events order small (order-whole absent), λ good. refl)
   order-read small None false absent is = absurd (not-true is)
   order-read small (Some lowest) true low is = absurd (not-true (sym is))
@@ -227,13 +228,13 @@ taking-first mutexes nested out remaining none is =
     }
 
 module _ (mutexes : ℕ) (nested : List MutexSet) (out : List ℕ) (remaining : MutexSet) (so_far : TakingOut mutexes nested out remaining) where
-  pub taking-below : (mutex : ℕ) → Has remaining mutex → mutex < mutexes
+  pub taking-below : (mutex : ℕ) → HasMutex remaining mutex → mutex < mutexes
   taking-below mutex has = ((so_far.left_is mutex).0 has).below
 
   lowest-free-is : (events : List Event) → AreNestedSets events nested → (mutex : ℕ) → IsLowest (IsFreeIn nested remaining) mutex → IsLowest (IsFree mutexes events out) mutex
   lowest-free-is events sets mutex low = lowest-same (IsFreeIn nested remaining) (IsFree mutexes events out) (λ n. (free-from-sets mutexes events nested sets out remaining so_far.left_is n, free-to-sets mutexes events nested sets out remaining so_far.left_is n)) mutex low
 
-  taking-longer : (mutex : ℕ) (fewer : MutexSet) → IsLowest (IsFreeIn nested remaining) mutex → HasThose fewer (λ other. (other ≢ mutex) × Has remaining other) → TakingOut mutexes nested (out ++ mutex ∷ []) fewer
+  taking-longer : (mutex : ℕ) (fewer : MutexSet) → IsLowest (IsFreeIn nested remaining) mutex → HasThose fewer (λ other. (other ≢ mutex) × HasMutex remaining other) → TakingOut mutexes nested (out ++ mutex ∷ []) fewer
   taking-longer mutex fewer low without =
       let long = length_push out mutex in
       record {
@@ -250,7 +251,7 @@ module _ (mutexes : ℕ) (nested : List MutexSet) (out : List ℕ) (remaining : 
         ];
       }
 
-  pub taking-more : (mutex : ℕ) (out' : List ℕ) (fewer : MutexSet) → out' ≡ out ++ mutex ∷ [] → IsLowest (IsFreeIn nested remaining) mutex → HasThose fewer (λ other. (other ≢ mutex) × Has remaining other) → TakingOut mutexes nested out' fewer
+  pub taking-more : (mutex : ℕ) (out' : List ℕ) (fewer : MutexSet) → out' ≡ out ++ mutex ∷ [] → IsLowest (IsFreeIn nested remaining) mutex → HasThose fewer (λ other. (other ≢ mutex) × HasMutex remaining other) → TakingOut mutexes nested out' fewer
   taking-more mutex out' fewer same low without =
       let P : List ℕ → Type 0 = λ xs. TakingOut mutexes nested xs fewer in
       subst P (sym same) (taking-longer mutex fewer low without)

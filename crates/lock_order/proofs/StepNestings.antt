@@ -10,22 +10,23 @@ use Rattle.pct_ask.specs.declared.Deal.{Deal}
 use Rattle.sync_store.specs.Store.{sizes_of_deal}
 use Rattle.lock_order.specs.declared.mutex_set.MutexSet.{MutexSet}
 use Rattle.lock_order.specs.declared.nesting.Nesting.{Nesting}
-use Rattle.lock_order.specs.Nestings.{NamesOnly, AreInRange, step_at, TakesBy, Takes, Holds, IsNesting}
+use Rattle.lock_order.specs.Nestings.{EventNamesOnly, AreEventsInRange, event_at_step, TakesBy, Takes, HoldsMutex, IsNesting}
 use Rattle.lock_order.specs.Chosen.{IsOfPair}
-use Rattle.lock_order.specs.MutexSets.{Has, HasThose, AreNestedSets}
+use Rattle.lock_order.specs.MutexSets.{HasMutex, HasThose, AreNestedSets}
 use Rattle.lock_order.proofs.Places.{slice_get-set, slice_get-replicate}
 use Rattle.lock_order.proofs.Holding.{takes-small, takes-here}
 
-step-within : (events : List Event) (step : ℕ) (event : Event) → step_at events step ≡ Some event → (0 < step) × (step ≤ length events)
+step-within : (events : List Event) (step : ℕ) (event : Event) → event_at_step events step ≡ Some event → (0 < step) × (step ≤ length events)
 step-within events zero event at = absurd cc
 step-within events (suc place) event at = let within = slice_get_within events place event at in (omega arith, omega arith)
 
 -- the events name only what there is, so the mutexes of nestings are the deal's
-module _ (deal : Deal) (events : List Event) (in_range : AreInRange deal events) where
-  event-names : (step : ℕ) (event : Event) → step_at events step ≡ Some event → NamesOnly deal event
+module _ (deal : Deal) (events : List Event) (in_range : AreEventsInRange deal events) where
+  event-names : (step : ℕ) (event : Event) → event_at_step events step ≡ Some event
+      → EventNamesOnly deal event
   event-names zero event at = absurd cc
   event-names (suc place) event at =
-      let P : Event → Type 0 = λ x. NamesOnly deal x in
+      let P : Event → Type 0 = λ x. EventNamesOnly deal x in
       subst P (get_or_from_slice_get events place event event at) (in_range place event (slice_get_within events place event at))
 
   takes-below : (step thread mutex : ℕ) → Takes events step thread mutex → mutex < deal.mutexes
@@ -68,42 +69,47 @@ nested-last events sets so_far = record {
 }
 
 module _ (events : List Event) (place : ℕ) (event : Event) (at : slice_get events place ≡ Some event) where
-  pub nesting-here : (nesting : Nesting) → nesting.step ≡ suc place → event.thread ≡ nesting.thread → TakesBy event.ask event.answer nesting.taken → Holds events event.thread nesting.held (suc place) → IsNesting events nesting
+  pub nesting-here : (nesting : Nesting) → nesting.step ≡ suc place → event.thread ≡ nesting.thread → TakesBy event.ask event.answer nesting.taken → HoldsMutex events event.thread nesting.held (suc place) → IsNesting events nesting
   nesting-here nesting here own takes holds = record {
-    takes = record { event = event; at = ap (step_at events) here ∙ at; by = own; taken = takes };
+    takes = record {
+      event = event;
+      at = ap (event_at_step events) here ∙ at;
+      by = own;
+      taken = takes;
+    };
     holds =
-        let P : ℕ → Type 0 = λ t. Holds events t nesting.held nesting.step in
-        let Q : ℕ → Type 0 = λ j. Holds events event.thread nesting.held j in
+        let P : ℕ → Type 0 = λ t. HoldsMutex events t nesting.held nesting.step in
+        let Q : ℕ → Type 0 = λ j. HoldsMutex events event.thread nesting.held j in
         subst P own (subst Q (sym here) holds);
   }
 
-  pub nesting-there : (nesting : Nesting) → nesting.step ≡ suc place → IsNesting events nesting → (event.thread ≡ nesting.thread) × TakesBy event.ask event.answer nesting.taken × Holds events event.thread nesting.held (suc place)
+  pub nesting-there : (nesting : Nesting) → nesting.step ≡ suc place → IsNesting events nesting → (event.thread ≡ nesting.thread) × TakesBy event.ask event.answer nesting.taken × HoldsMutex events event.thread nesting.held (suc place)
   nesting-there nesting here is =
       let both = takes-here events place event at nesting.step nesting.thread nesting.taken here is.takes in
-      let P : ℕ → Type 0 = λ t. Holds events t nesting.held (suc place) in
-      let Q : ℕ → Type 0 = λ j. Holds events nesting.thread nesting.held j in
+      let P : ℕ → Type 0 = λ t. HoldsMutex events t nesting.held (suc place) in
+      let Q : ℕ → Type 0 = λ j. HoldsMutex events nesting.thread nesting.held j in
       (both.0, both.1, subst P (sym both.0) (subst Q here is.holds))
 
   -- a nesting of the pair at this step
-  pub pair-here : (held taken : ℕ) → TakesBy event.ask event.answer taken → Holds events event.thread held (suc place) → (step thread : ℕ) → step ≡ suc place → thread ≡ event.thread → IsOfPair events held taken (record { step = step; thread = thread; held = held; taken = taken })
+  pub pair-here : (held taken : ℕ) → TakesBy event.ask event.answer taken → HoldsMutex events event.thread held (suc place) → (step thread : ℕ) → step ≡ suc place → thread ≡ event.thread → IsOfPair events held taken (record { step = step; thread = thread; held = held; taken = taken })
   pair-here held taken takes holds step thread here own = record {
     nested = nesting-here (record { step = step; thread = thread; held = held; taken = taken }) here (sym own) takes holds;
     held_is = refl;
     taken_is = refl;
   }
 
-  pub pair-there : (held taken : ℕ) (nesting : Nesting) → nesting.step ≡ suc place → IsOfPair events held taken nesting → TakesBy event.ask event.answer taken × Holds events event.thread held (suc place)
+  pub pair-there : (held taken : ℕ) (nesting : Nesting) → nesting.step ≡ suc place → IsOfPair events held taken nesting → TakesBy event.ask event.answer taken × HoldsMutex events event.thread held (suc place)
   pair-there held taken nesting here is =
       let found = nesting-there nesting here is.nested in
       let P : ℕ → Type 0 = λ m. TakesBy event.ask event.answer m in
-      let Q : ℕ → Type 0 = λ m. Holds events event.thread m (suc place) in
+      let Q : ℕ → Type 0 = λ m. HoldsMutex events event.thread m (suc place) in
       (subst P is.taken_is found.1, subst Q is.held_is found.2)
 
   earlier : (held taken : ℕ) → NestedBy events held taken place → NestedBy events held taken (suc place)
   earlier held taken by = record { nesting = by.nesting; is = by.is; early = let early = by.early in omega arith }
 
   -- a pair's nestings with one more step
-  nested-more : (held taken : ℕ) → NestedBy events held taken (suc place) ↔ (NestedBy events held taken place ⊎ (TakesBy event.ask event.answer taken × Holds events event.thread held (suc place)))
+  nested-more : (held taken : ℕ) → NestedBy events held taken (suc place) ↔ (NestedBy events held taken place ⊎ (TakesBy event.ask event.answer taken × HoldsMutex events event.thread held (suc place)))
   nested-more held taken = (
     λ by. let early = by.early in elim (cases_eq by.nesting.step (suc place)) [
       | inl here ↦ inr (pair-there held taken by.nesting here by.is)
@@ -133,14 +139,14 @@ module _ (events : List Event) (place : ℕ) (event : Event) (at : slice_get eve
   })
 
   -- where the step takes a mutex, what its thread holds is held there too
-  pub nested-some : (sets : List MutexSet) (mutex : ℕ) (old held new : MutexSet) → NestedSoFar events place sets → ((other : ℕ) → (Some mutex ≡ Some other) ↔ TakesBy event.ask event.answer other) → slice_get sets mutex ≡ Some old → HasThose held (λ p. Holds events event.thread p (suc place)) → HasThose new (λ p. Has old p ⊎ Has held p) → NestedSoFar events (place + 1) (set sets mutex new)
+  pub nested-some : (sets : List MutexSet) (mutex : ℕ) (old held new : MutexSet) → NestedSoFar events place sets → ((other : ℕ) → (Some mutex ≡ Some other) ↔ TakesBy event.ask event.answer other) → slice_get sets mutex ≡ Some old → HasThose held (λ p. HoldsMutex events event.thread p (suc place)) → HasThose new (λ p. HasMutex old p ⊎ HasMutex held p) → NestedSoFar events (place + 1) (set sets mutex new)
   nested-some sets mutex old held new so_far takes at_mutex holds is = rw add-one (record {
     whole = length-set sets mutex new ∙ so_far.whole;
     each = λ taken those there p. elim (slice_get-set sets mutex taken new those there) [
       | inl (here, same) ↦
-          let P : MutexSet → Type 0 = λ x. Has x p ↔ NestedBy events p taken (suc place) in
-          let Q : ℕ → Type 0 = λ q. Has new p ↔ NestedBy events p q (suc place) in
-          let own : Has new p ↔ NestedBy events p mutex (suc place) = (
+          let P : MutexSet → Type 0 = λ x. HasMutex x p ↔ NestedBy events p taken (suc place) in
+          let Q : ℕ → Type 0 = λ q. HasMutex new p ↔ NestedBy events p q (suc place) in
+          let own : HasMutex new p ↔ NestedBy events p mutex (suc place) = (
             λ has. elim ((is p).0 has) [
               | inl before ↦ earlier p mutex ((so_far.each mutex old at_mutex p).0 before)
               | inr now ↦ (nested-more p mutex).1 (inr ((takes mutex).0 refl, (holds p).0 now))

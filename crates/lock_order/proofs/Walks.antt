@@ -5,31 +5,31 @@ use Rattle.std.proofs.lemmas.Bool.{cases_eq, cases_lt}
 use Rattle.std.proofs.lemmas.List.{length-take, length-drop, length-append, length-reverse, length_push, get_or-take, get_or-drop, get_or_append_left, get_or-append_right, get_or_push, get_or-reverse, get_or_default}
 use Rattle.std.proofs.lemmas.List.Elements.{Contains-push, Contains-push_cases, Contains-append_left}
 use Rattle.lock_order.specs.declared.mutex_set.MutexSet.{MutexSet}
-use Rattle.lock_order.specs.Chosen.{IsLowest, IsWalk, IsRing, next_in}
-use Rattle.lock_order.specs.MutexSets.{Has, HasThose, set_where, IsFreeIn, IsHeldIn}
+use Rattle.lock_order.specs.Chosen.{IsLowest, IsWalk, IsRing, next_in_ring}
+use Rattle.lock_order.specs.MutexSets.{HasMutex, HasThose, set_where, IsFreeIn, IsHeldIn}
 use Rattle.lock_order.proofs.Orders.{contains-or}
 
 -- where nothing is free, a mutex that remains has one that is held where it is taken
-pub some-held : (nested : List MutexSet) (remaining : MutexSet) (mutex : ℕ) → Has remaining mutex → ¬ IsFreeIn nested remaining mutex → (low : Option ℕ) → MatchOption low ((held : ℕ) → Has (set_where nested mutex) held → ¬ Has remaining held) (IsLowest (IsHeldIn nested remaining mutex)) → IsSome low
+pub some-held : (nested : List MutexSet) (remaining : MutexSet) (mutex : ℕ) → HasMutex remaining mutex → ¬ IsFreeIn nested remaining mutex → (low : Option ℕ) → MatchOption low ((held : ℕ) → HasMutex (set_where nested mutex) held → ¬ HasMutex remaining held) (IsLowest (IsHeldIn nested remaining mutex)) → IsSome low
 some-held nested remaining mutex has stuck None none = absurd (stuck (record { remains = has; free = none }))
 some-held nested remaining mutex has stuck (Some held) is = refl
 
-pub held-is : (nested : List MutexSet) (remaining : MutexSet) (mutex : ℕ) (low : Option ℕ) (held : ℕ) → low ≡ Some held → MatchOption low ((held : ℕ) → Has (set_where nested mutex) held → ¬ Has remaining held) (IsLowest (IsHeldIn nested remaining mutex)) → IsLowest (IsHeldIn nested remaining mutex) held
+pub held-is : (nested : List MutexSet) (remaining : MutexSet) (mutex : ℕ) (low : Option ℕ) (held : ℕ) → low ≡ Some held → MatchOption low ((held : ℕ) → HasMutex (set_where nested mutex) held → ¬ HasMutex remaining held) (IsLowest (IsHeldIn nested remaining mutex)) → IsLowest (IsHeldIn nested remaining mutex) held
 held-is nested remaining mutex low held e is =
-    let P : Option ℕ → Type 0 = λ x. MatchOption x ((held : ℕ) → Has (set_where nested mutex) held → ¬ Has remaining held) (IsLowest (IsHeldIn nested remaining mutex)) in
+    let P : Option ℕ → Type 0 = λ x. MatchOption x ((held : ℕ) → HasMutex (set_where nested mutex) held → ¬ HasMutex remaining held) (IsLowest (IsHeldIn nested remaining mutex)) in
     subst P e is
 
 -- the walk so far, the mutexes that it hasn't come to, and the one that it comes to next
 pub record Walking (nested : List MutexSet) (remaining : MutexSet) (first : ℕ) (walk : List ℕ) (fresh : MutexSet) (mutex : ℕ) : Type 0 where
-  pub fresh_is : HasThose fresh (λ other. Has remaining other × (¬ Contains walk other))
-  pub here : Has remaining mutex
+  pub fresh_is : HasThose fresh (λ other. HasMutex remaining other × (¬ Contains walk other))
+  pub here : HasMutex remaining mutex
   pub begins : 0 < length walk → get_or walk 0 0 ≡ first
   pub arrives_first : length walk ≡ 0 → mutex ≡ first
   pub arrives : 0 < length walk → IsLowest (IsHeldIn nested remaining (get_or walk (length walk - 1) 0)) mutex
   pub goes : (place : ℕ) → place + 1 < length walk → IsLowest (IsHeldIn nested remaining (get_or walk place 0)) (get_or walk (place + 1) 0)
   pub once : (one other : ℕ) → one < other → other < length walk → get_or walk one 0 ≢ get_or walk other 0
 
-pub walk-first : (nested : List MutexSet) (remaining : MutexSet) (first : ℕ) (walk : List ℕ) → walk ≡ [] → Has remaining first → Walking nested remaining first walk remaining first
+pub walk-first : (nested : List MutexSet) (remaining : MutexSet) (first : ℕ) (walk : List ℕ) → walk ≡ [] → HasMutex remaining first → Walking nested remaining first walk remaining first
 walk-first nested remaining first walk none has =
     let short : length walk ≡ 0 = ap length none in
     record {
@@ -74,7 +74,7 @@ module _ (nested : List MutexSet) (remaining : MutexSet) (first : ℕ) (walk : L
         | inr ne ↦ subst P (sym (old place (omega arith))) (subst Q (sym (old (place + 1) (omega arith))) (so_far.goes place (omega arith)))
       ]
 
-  more-once : Has fresh mutex → (one other : ℕ) → one < other → other < length longer → get_or longer one 0 ≢ get_or longer other 0
+  more-once : HasMutex fresh mutex → (one other : ℕ) → one < other → other < length longer → get_or longer one 0 ≢ get_or longer other 0
   more-once has one other lt within same =
       let longer_by = long in
       let at_one = old one (omega arith) in
@@ -85,7 +85,7 @@ module _ (nested : List MutexSet) (remaining : MutexSet) (first : ℕ) (walk : L
         | inr ne ↦ so_far.once one other lt (omega arith) (sym at_one ∙ same ∙ old other (omega arith))
       ]
 
-  more-fresh : (fewer : MutexSet) → HasThose fewer (λ other. (other ≢ mutex) × Has fresh other) → HasThose fewer (λ other. Has remaining other × (¬ Contains longer other))
+  more-fresh : (fewer : MutexSet) → HasThose fewer (λ other. (other ≢ mutex) × HasMutex fresh other) → HasThose fewer (λ other. HasMutex remaining other × (¬ Contains longer other))
   more-fresh fewer without other = (
     λ has.
         let kept = (without other).0 has in
@@ -102,7 +102,7 @@ module _ (nested : List MutexSet) (remaining : MutexSet) (first : ℕ) (walk : L
     ),
   )
 
-  walk-longer : (fewer : MutexSet) (next : ℕ) → Has fresh mutex → HasThose fewer (λ other. (other ≢ mutex) × Has fresh other) → IsLowest (IsHeldIn nested remaining mutex) next → Walking nested remaining first longer fewer next
+  walk-longer : (fewer : MutexSet) (next : ℕ) → HasMutex fresh mutex → HasThose fewer (λ other. (other ≢ mutex) × HasMutex fresh other) → IsLowest (IsHeldIn nested remaining mutex) next → Walking nested remaining first longer fewer next
   walk-longer fewer next has without is =
       let longer_by = long in
       record {
@@ -118,22 +118,22 @@ module _ (nested : List MutexSet) (remaining : MutexSet) (first : ℕ) (walk : L
       }
 
   -- one mutex further
-  pub walk-more : (walk' : List ℕ) (fewer : MutexSet) (next : ℕ) → walk' ≡ longer → Has fresh mutex → HasThose fewer (λ other. (other ≢ mutex) × Has fresh other) → IsLowest (IsHeldIn nested remaining mutex) next → Walking nested remaining first walk' fewer next
+  pub walk-more : (walk' : List ℕ) (fewer : MutexSet) (next : ℕ) → walk' ≡ longer → HasMutex fresh mutex → HasThose fewer (λ other. (other ≢ mutex) × HasMutex fresh other) → IsLowest (IsHeldIn nested remaining mutex) next → Walking nested remaining first walk' fewer next
   walk-more walk' fewer next same has without is =
       let P : List ℕ → Type 0 = λ xs. Walking nested remaining first xs fewer next in
       subst P (sym same) (walk-longer fewer next has without is)
 
   -- the mutex that it comes to next is one that it has been at
-  pub walk-repeats : ¬ Has fresh mutex → Contains walk mutex
+  pub walk-repeats : ¬ HasMutex fresh mutex → Contains walk mutex
   walk-repeats stale = elim (contains-or walk mutex) [
     | inl has ↦ has
     | inr absent ↦ absurd (stale ((so_far.fresh_is mutex).1 (so_far.here, absent)))
   ]
 
-  pub walk-ends : IsLowest (Has remaining) first → (back : ℕ) → back < length walk → get_or walk back 0 ≡ mutex → IsWalk (Has remaining) (IsHeldIn nested remaining) walk back
+  pub walk-ends : IsLowest (HasMutex remaining) first → (back : ℕ) → back < length walk → get_or walk back 0 ≡ mutex → IsWalk (HasMutex remaining) (IsHeldIn nested remaining) walk back
   walk-ends lowest back within there =
       let some : 0 < length walk = omega arith in
-      let P : ℕ → Type 0 = λ n. IsLowest (Has remaining) n in
+      let P : ℕ → Type 0 = λ n. IsLowest (HasMutex remaining) n in
       let Q : ℕ → Type 0 = λ n. IsLowest (IsHeldIn nested remaining (get_or walk (length walk - 1) 0)) n in
       record {
         begins = subst P (sym (so_far.begins some)) lowest;
@@ -148,13 +148,13 @@ pub record IsLoop (R : ℕ → ℕ → Type 0) (xs : List ℕ) : Type 0 where
   pub joined : (place : ℕ) → place + 1 < length xs → R (get_or xs place 0) (get_or xs (place + 1) 0)
   pub closed : 0 < length xs → R (get_or xs (length xs - 1) 0) (get_or xs 0 0)
 
-pub next_in-inside : (xs : List ℕ) (place : ℕ) → place + 1 < length xs → next_in xs place ≡ get_or xs (place + 1) 0
+pub next_in-inside : (xs : List ℕ) (place : ℕ) → place + 1 < length xs → next_in_ring xs place ≡ get_or xs (place + 1) 0
 next_in-inside xs place within = ap (λ b. get_or xs (cond b 0 (place + 1)) 0) (ne_eqb (place + 1) (length xs) (λ e. omega arith))
 
-pub next_in-last : (xs : List ℕ) (place : ℕ) → place + 1 ≡ length xs → next_in xs place ≡ get_or xs 0 0
+pub next_in-last : (xs : List ℕ) (place : ℕ) → place + 1 ≡ length xs → next_in_ring xs place ≡ get_or xs 0 0
 next_in-last xs place last = ap (λ b. get_or xs (cond b 0 (place + 1)) 0) (eq-eqb (place + 1) (length xs) last)
 
-loop-next : (R : ℕ → ℕ → Type 0) (xs : List ℕ) → IsLoop R xs → (place : ℕ) → place < length xs → R (get_or xs place 0) (next_in xs place)
+loop-next : (R : ℕ → ℕ → Type 0) (xs : List ℕ) → IsLoop R xs → (place : ℕ) → place < length xs → R (get_or xs place 0) (next_in_ring xs place)
 loop-next R xs loop place within =
     let P : ℕ → Type 0 = λ n. R (get_or xs place 0) n in
     elim (cases_eq (place + 1) (length xs)) [
@@ -320,18 +320,18 @@ module _ (IsLeft : ℕ → Type 0) (IsHeldAt : ℕ → ℕ → Type 0) (walk : L
       }
 
   -- each mutex of the ring is held where the next one is taken
-  pub ring-next : (ring : List ℕ) → IsRing (drop back walk) ring → (place : ℕ) → place < length ring → IsHeldAt (next_in ring place) (get_or ring place 0)
+  pub ring-next : (ring : List ℕ) → IsRing (drop back walk) ring → (place : ℕ) → place < length ring → IsHeldAt (next_in_ring ring place) (get_or ring place 0)
   ring-next ring is =
       let long = length-reverse (drop back walk) in
       let inside = is.within in
       let loop = loop-turn (reverse (drop back walk)) is.turn (omega arith) (λ a b. IsHeldAt b a) (loop-reverse IsHeldAt (drop back walk) part-loop) in
-      let P : List ℕ → Type 0 = λ xs. (place : ℕ) → place < length xs → IsHeldAt (next_in xs place) (get_or xs place 0) in
+      let P : List ℕ → Type 0 = λ xs. (place : ℕ) → place < length xs → IsHeldAt (next_in_ring xs place) (get_or xs place 0) in
       subst P (sym is.turned) (loop-next (λ a b. IsHeldAt b a) (turned (reverse (drop back walk)) is.turn (omega arith)) loop)
 
 -- a walk comes to mutexes that are left alone
-pub walk-left : (nested : List MutexSet) (remaining : MutexSet) (walk : List ℕ) (back : ℕ) → IsWalk (Has remaining) (IsHeldIn nested remaining) walk back → (place : ℕ) → place < length walk → Has remaining (get_or walk place 0)
+pub walk-left : (nested : List MutexSet) (remaining : MutexSet) (walk : List ℕ) (back : ℕ) → IsWalk (HasMutex remaining) (IsHeldIn nested remaining) walk back → (place : ℕ) → place < length walk → HasMutex remaining (get_or walk place 0)
 walk-left nested remaining walk back walked zero within = walked.begins.holds
 walk-left nested remaining walk back walked (suc place) within =
     let e : place + 1 ≡ suc place = add-one place in
-    let P : ℕ → Type 0 = λ k. Has remaining (get_or walk k 0) in
+    let P : ℕ → Type 0 = λ k. HasMutex remaining (get_or walk k 0) in
     subst P e (walked.goes place (omega arith)).holds.1

@@ -72,14 +72,14 @@ pub record IsRing (part ring : List ℕ) : Type 0 where
   pub lowest : (place : ℕ) → place < length ring → slice_index ring 0 ≤ slice_index ring place
 
 -- the mutex after a place of the ring, after whose last place comes its first
-abbrev pub next_in : List ℕ → ℕ → ℕ
-next_in ring place = slice_index ring (if place + 1 == length ring then 0 else place + 1)
+abbrev pub next_in_ring : List ℕ → ℕ → ℕ
+next_in_ring ring place = slice_index ring (if place + 1 == length ring then 0 else place + 1)
 
 -- the first nestings of each mutex of the ring with the next one
 pub record AreNestingsOf (events : List Event) (ring : List ℕ) (cycle : List Nesting) : Type 0 where
   pub whole : length cycle ≡ length ring
   pub each : (place : ℕ) (nesting : Nesting) → slice_get cycle place ≡ Some nesting →
-      IsFirstOfPair events (slice_index ring place) (next_in ring place) nesting
+      IsFirstOfPair events (slice_index ring place) (next_in_ring ring place) nesting
 
 -- the order of taking out, where all mutexes are taken out
 pub record IsChosenOrder (mutexes : ℕ) (events : List Event) (order : List ℕ) : Type 0 where

@@ -12,22 +12,22 @@ use Rattle.sync_store.specs.Enabled.{IsInRange}
 use Rattle.lock_order.specs.declared.nesting.Nesting.{Nesting}
 
 -- every event names only threads and objects of the deal (the limits of a test)
-pub record NamesOnly (deal : Deal) (event : Event) : Type 0 where
+pub record EventNamesOnly (deal : Deal) (event : Event) : Type 0 where
   pub thread : event.thread < deal.threads
   pub ask : IsInRange (sizes_of_deal deal) event.ask
 
 -- all events of the list name only threads and objects of the deal
-abbrev pub AreInRange : Deal → List Event → Type 0
-AreInRange deal events = All (NamesOnly deal) events
+abbrev pub AreEventsInRange : Deal → List Event → Type 0
+AreEventsInRange deal events = All (EventNamesOnly deal) events
 
 -- the events are those of some test
 abbrev pub AreOfSomeDeal : List Event → Type 0
-AreOfSomeDeal events = (deal : Deal) × AreInRange deal events
+AreOfSomeDeal events = (deal : Deal) × AreEventsInRange deal events
 
 -- the event of a step; steps are counted from 1
-abbrev pub step_at : List Event → ℕ → Option Event
-step_at events zero = None
-step_at events (suc place) = slice_get events place
+abbrev pub event_at_step : List Event → ℕ → Option Event
+event_at_step events zero = None
+event_at_step events (suc place) = slice_get events place
 
 -- An ask with this answer takes the mutex: it locks it, or tries to and is answered 1, or it is the
 -- end of a wait, at which the mutex is taken again (POSIX: pthread_mutex_lock,
@@ -48,20 +48,20 @@ LetsGoBy _ mutex = ⊥
 -- the step is the thread's, and takes the mutex
 pub record Takes (events : List Event) (step thread mutex : ℕ) : Type 0 where
   pub event : Event
-  pub at : step_at events step ≡ Some event
+  pub at : event_at_step events step ≡ Some event
   pub by : event.thread ≡ thread
   pub taken : TakesBy event.ask event.answer mutex
 
 -- the step is the thread's, and lets the mutex go
 pub record LetsGo (events : List Event) (step thread mutex : ℕ) : Type 0 where
   pub event : Event
-  pub at : step_at events step ≡ Some event
+  pub at : event_at_step events step ≡ Some event
   pub by : event.thread ≡ thread
   pub gone : LetsGoBy event.ask mutex
 
 -- the thread holds the mutex before the step: it took it at an earlier one, and let it go at none
 -- in between
-pub record Holds (events : List Event) (thread mutex step : ℕ) : Type 0 where
+pub record HoldsMutex (events : List Event) (thread mutex step : ℕ) : Type 0 where
   pub since : ℕ
   pub earlier : since < step
   pub taken : Takes events since thread mutex
@@ -70,4 +70,4 @@ pub record Holds (events : List Event) (thread mutex step : ℕ) : Type 0 where
 -- at the nesting's step its thread takes the one mutex while it holds the other
 pub record IsNesting (events : List Event) (nesting : Nesting) : Type 0 where
   pub takes : Takes events nesting.step nesting.thread nesting.taken
-  pub holds : Holds events nesting.thread nesting.held nesting.step
+  pub holds : HoldsMutex events nesting.thread nesting.held nesting.step

@@ -1,5 +1,5 @@
 ghost use Rattle.std.specs.Prelude.{◌≡◌, ℕ, ◌<◌, ◌≤◌, ◌↔◌, IsTrue, IfOk, length};
-ghost use Rattle.lock_order.specs.Nestings.{AreInRange};
+ghost use Rattle.lock_order.specs.Nestings.{AreEventsInRange};
 ghost use Rattle.lock_order.specs.Good.{IsGood, IsGoodOrder, IsGoodCycle};
 ghost use Rattle.lock_order.specs.MutexSets.{AreHeldSets};
 
@@ -19,7 +19,7 @@ pub fn check_report(
     events: &[Event],
     report: &LockReport,
 ) -> Result<bool, NoMemory>
-    requires in_range { AreInRange deal.now events.now }
+    requires in_range { AreEventsInRange deal.now events.now }
     requires short { length events.now ≤ 100000 }
     ensures { IfOk result (λ good. IsTrue good ↔ IsGood deal.now.mutexes events.now report.now) }
 {
@@ -32,7 +32,7 @@ pub fn check_report(
 
 /// Whether the order names every mutex once, and none before one that is held where it is taken.
 fn is_good_order(deal: &Deal, events: &[Event], held: &[MutexSet], order: &[u32]) -> bool
-    requires in_range { AreInRange deal.now events.now }
+    requires in_range { AreEventsInRange deal.now events.now }
     requires held { AreHeldSets events.now held.now }
     ensures { IsTrue result ↔ IsGoodOrder deal.now.mutexes events.now order.now }
 {

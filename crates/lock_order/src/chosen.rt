@@ -4,11 +4,12 @@ ghost use Rattle.std.specs.List.{Contains};
 ghost use Rattle.pct_ask.specs.declared.event.Event.{Event};
 ghost use Rattle.lock_order.specs.declared.nesting.Nesting.{Nesting};
 ghost use Rattle.lock_order.specs.declared.report.LockReport.{LockReport};
-ghost use Rattle.lock_order.specs.Nestings.{AreInRange};
+ghost use Rattle.lock_order.specs.Nestings.{AreEventsInRange};
 ghost use Rattle.lock_order.specs.Good.{IsGood, IsGoodOrder, IsGoodCycle, IsCycle};
 ghost use Rattle.lock_order.specs.Chosen.{IsChosen, IsLowest, Remains, AreTakenOut, IsWalk, IsRing};
-ghost use Rattle.lock_order.specs.Chosen.{AreNestingsOf, AreNested, next_in};
-ghost use Rattle.lock_order.specs.MutexSets.{Has, HasThose, AreHeldSets, AreNestedSets, IsFreeIn};
+ghost use Rattle.lock_order.specs.Chosen.{AreNestingsOf, AreNested, next_in_ring};
+ghost use Rattle.lock_order.specs.MutexSets.{HasMutex, HasThose, AreHeldSets, AreNestedSets};
+ghost use Rattle.lock_order.specs.MutexSets.{IsFreeIn};
 ghost use Rattle.lock_order.specs.MutexSets.{IsHeldIn, IsCycleIn};
 
 use crate::held::{first_nesting, held_sets};
@@ -21,7 +22,7 @@ use std::alloc::{AllocError as NoMemory, Global};
 
 /// Whether the mutexes of a run were always taken in one order. Read-write locks play no part.
 pub fn lock_order(alloc: Global, deal: &Deal, events: &[Event]) -> Result<LockReport, NoMemory>
-    requires in_range { AreInRange deal.now events.now }
+    requires in_range { AreEventsInRange deal.now events.now }
     requires short { length events.now ≤ 100000 }
     ensures chosen { IfOk result (IsChosen deal.now.mutexes events.now) }
     // There is one such report.
@@ -51,7 +52,7 @@ pub fn lock_order(alloc: Global, deal: &Deal, events: &[Event]) -> Result<LockRe
 
 /// The lowest mutex that is free.
 fn lowest_free(mutexes: u32, nested: &[MutexSet; 64], remaining: MutexSet) -> Option<u32>
-    requires below { (mutex : ℕ) → Has remaining mutex → mutex < mutexes }
+    requires below { (mutex : ℕ) → HasMutex remaining mutex → mutex < mutexes }
     ensures { MatchOption result ((mutex : ℕ) → ¬ IsFreeIn nested.now remaining mutex)
         (IsLowest (IsFreeIn nested.now remaining)) }
 {
@@ -96,7 +97,7 @@ fn cycle(
     requires short { length events.now ≤ 100000 }
     requires held { AreHeldSets events.now held.now }
     requires nested { AreNestedSets events.now nested.now }
-    requires first { IsLowest (Has remaining) first }
+    requires first { IsLowest (HasMutex remaining) first }
     requires stuck { (mutex : ℕ) → ¬ IsFreeIn nested.now remaining mutex }
     ensures { IfOk result (IsCycleIn events.now nested.now remaining) }
 {
@@ -113,10 +114,10 @@ fn walk(
     remaining: MutexSet,
     first: u32,
 ) -> Result<(Vec<u32>, usize), NoMemory>
-    requires first { IsLowest (Has remaining) first }
+    requires first { IsLowest (HasMutex remaining) first }
     requires stuck { (mutex : ℕ) → ¬ IsFreeIn nested.now remaining mutex }
     ensures { IfOk result (λ r.
-        IsWalk (Has remaining) (IsHeldIn nested.now remaining) r.0.items r.1) }
+        IsWalk (HasMutex remaining) (IsHeldIn nested.now remaining) r.0.items r.1) }
 {
     let mut walk = Vec::new(alloc);
     let mut fresh = remaining;
@@ -173,7 +174,7 @@ fn turn(part: &mut [u32])
 /// The mutex after a place of the ring.
 fn after(ring: &[u32], place: usize) -> u32
     requires { place < length ring.now }
-    ensures { result ≡ next_in ring.now place }
+    ensures { result ≡ next_in_ring ring.now place }
 {
     if place + 1 == ring.len() {
         ring[0]
@@ -192,7 +193,7 @@ fn nestings_of(
     requires short { length events.now ≤ 100000 }
     requires held { AreHeldSets events.now held.now }
     requires nested { (place : ℕ) → place < length ring.now →
-        AreNested events.now (slice_index ring.now place) (next_in ring.now place) }
+        AreNested events.now (slice_index ring.now place) (next_in_ring ring.now place) }
     ensures { IfOk result (AreNestingsOf events.now ring.now) }
 {
     let mut nestings = NestingList::new(alloc);

@@ -1,7 +1,7 @@
 ghost use Rattle.std.specs.Prelude.{◌≡◌, ℕ, ◌<◌, ◌≤◌, ◌↔◌, ◌⊎◌, Some, suc, length, IfOk, IsTrue};
 ghost use Rattle.lock_order.specs.Nestings.{TakesBy, LetsGoBy, AreOfSomeDeal, IsNesting};
 ghost use Rattle.lock_order.specs.Chosen.{AreNested, IsFirstOfPair};
-ghost use Rattle.lock_order.specs.MutexSets.{Has, HasThose, AreHeldSets};
+ghost use Rattle.lock_order.specs.MutexSets.{HasMutex, HasThose, AreHeldSets};
 
 use crate::mutex_set::MutexSet;
 use crate::nesting::Nesting;
@@ -21,7 +21,7 @@ pub fn taken(event: &Event) -> Option<u32>
 
 /// Whether the event takes the one mutex while the set has the other.
 fn nests(event: &Event, set: MutexSet, held: u32, mutex: u32) -> bool
-    ensures { IsTrue result ↔ (TakesBy event.now.ask event.now.answer mutex × Has set held) }
+    ensures { IsTrue result ↔ (TakesBy event.now.ask event.now.answer mutex × HasMutex set held) }
 {
     taken(event) == Some(mutex) && set.contains(held)
 }
@@ -41,7 +41,7 @@ fn after(held: MutexSet, event: &Event) -> MutexSet
     requires { (mutex : ℕ) →
         TakesBy event.now.ask event.now.answer mutex ⊎ LetsGoBy event.now.ask mutex → mutex < 64 }
     ensures { HasThose result (λ mutex. TakesBy event.now.ask event.now.answer mutex ⊎
-        ((¬ LetsGoBy event.now.ask mutex) × Has held mutex)) }
+        ((¬ LetsGoBy event.now.ask mutex) × HasMutex held mutex)) }
 {
     let kept = match let_go(event) {
         Some(mutex) => held.without(mutex),

@@ -1,5 +1,5 @@
 ghost use Rattle.std.specs.Prelude.{◌≡◌, ℕ, ◌<◌, ◌≤◌, ◌↔◌, ◌⊎◌, ◌≢◌, IsTrue, MatchOption};
-ghost use Rattle.lock_order.specs.MutexSets.{Has, HasThose};
+ghost use Rattle.lock_order.specs.MutexSets.{HasMutex, HasThose};
 ghost use Rattle.lock_order.specs.Chosen.{IsLowest};
 
 /// Some of a test's mutexes, of which there are at most 64.
@@ -24,14 +24,14 @@ impl MutexSet {
     }
 
     pub fn contains(self, mutex: u32) -> bool
-        ensures { IsTrue result ↔ Has self mutex }
+        ensures { IsTrue result ↔ HasMutex self mutex }
     {
         mutex < 64 && (self.bits >> mutex) & 1 == 1
     }
 
     pub fn with(self, mutex: u32) -> Self
         requires { mutex < 64 }
-        ensures { HasThose result (λ other. (other ≡ mutex) ⊎ Has self other) }
+        ensures { HasThose result (λ other. (other ≡ mutex) ⊎ HasMutex self other) }
     {
         MutexSet {
             bits: self.bits | 1 << mutex,
@@ -40,8 +40,8 @@ impl MutexSet {
 
     pub fn without(self, mutex: u32) -> Self
         requires { mutex < 64 }
-        ensures rest { HasThose result (λ other. (other ≢ mutex) × Has self other) }
-        ensures less { Has self mutex → result.bits < self.bits }
+        ensures rest { HasThose result (λ other. (other ≢ mutex) × HasMutex self other) }
+        ensures less { HasMutex self mutex → result.bits < self.bits }
     {
         MutexSet {
             bits: self.bits & !(1 << mutex),
@@ -49,7 +49,7 @@ impl MutexSet {
     }
 
     pub fn union(self, other: Self) -> Self
-        ensures { HasThose result (λ mutex. Has self mutex ⊎ Has other mutex) }
+        ensures { HasThose result (λ mutex. HasMutex self mutex ⊎ HasMutex other mutex) }
     {
         MutexSet {
             bits: self.bits | other.bits,
@@ -58,22 +58,23 @@ impl MutexSet {
 
     /// The lowest mutex that is in both sets.
     pub fn lowest_common(self, other: Self) -> Option<u32>
-        ensures { MatchOption result ((mutex : ℕ) → Has self mutex → ¬ Has other mutex)
-            (IsLowest (λ mutex. Has self mutex × Has other mutex)) }
+        ensures { MatchOption result ((mutex : ℕ) → HasMutex self mutex → ¬ HasMutex other mutex)
+            (IsLowest (λ mutex. HasMutex self mutex × HasMutex other mutex)) }
     {
         lowest_bit(self.bits & other.bits)
     }
 
     pub fn lowest(self) -> Option<u32>
-        ensures { MatchOption result ((mutex : ℕ) → ¬ Has self mutex) (IsLowest (Has self)) }
+        ensures { MatchOption result ((mutex : ℕ) → ¬ HasMutex self mutex)
+            (IsLowest (HasMutex self)) }
     {
         lowest_bit(self.bits)
     }
 }
 
 fn lowest_bit(bits: u64) -> Option<u32>
-    ensures { MatchOption result ((mutex : ℕ) → ¬ Has (record { bits = bits }) mutex)
-        (IsLowest (Has (record { bits = bits }))) }
+    ensures { MatchOption result ((mutex : ℕ) → ¬ HasMutex (record { bits = bits }) mutex)
+        (IsLowest (HasMutex (record { bits = bits }))) }
 {
     if bits == 0 {
         None

@@ -9,11 +9,11 @@ use Rattle.std.proofs.lemmas.List.Elements.{All-head, All-tail}
 use Rattle.std.proofs.lemmas.Result.{on_ok_weaker}
 use Rattle.std.proofs.lemmas.Grind.{flat_map-append}
 use Rattle.pct_ask.specs.NameLists.{NameLists}
-use Rattle.pct_ask.specs.Places.{AreRising, line_of}
+use Rattle.pct_ask.specs.Places.{AreRising, line_of_thread}
 use Rattle.pct_ask.specs.VerdictText.{thread_name, place_words, verdict_text}
 use Rattle.pct_ask.specs.declared.verdict.Verdict.{Verdict}
 use Rattle.pct_ask.specs.declared.verdict.Verdict.TheVariants.{Stuck}
-use Rattle.pct_ask.specs.VerdictPieces.{Begins, place_piece}
+use Rattle.pct_ask.specs.VerdictPieces.{IsStartOf, place_piece}
 use Rattle.pct_ask.proofs.laws.RisingPlaces.{named_place, RiseFrom, RiseFrom-increasing}
 
 name-there : (names : List (List ℕ)) (place : ℕ) (name : List ℕ) → Some name ≡ slice_get names place → name ≡ slice_index_or names place []
@@ -55,7 +55,7 @@ abbrev pub place_at : ℕ → Option ℕ → List (ℕ × ℕ)
 place_at thread None = []
 place_at thread (Some line) = (thread, line) ∷ []
 
-below-by : (thread : ℕ) (p : ℕ × ℕ) (ps : List (ℕ × ℕ)) (low same : Bool) → nat_lt p.0 thread ≡ low → (p.0 == thread) ≡ same → RiseFrom (p.0 + 1) (map (λ (q : ℕ × ℕ). q.0) ps) → places_below (thread + 1) ps ≡ places_below thread ps ++ place_at thread (line_of thread ps) → places_below (thread + 1) (p ∷ ps) ≡ places_below thread (p ∷ ps) ++ place_at thread (line_of thread (p ∷ ps))
+below-by : (thread : ℕ) (p : ℕ × ℕ) (ps : List (ℕ × ℕ)) (low same : Bool) → nat_lt p.0 thread ≡ low → (p.0 == thread) ≡ same → RiseFrom (p.0 + 1) (map (λ (q : ℕ × ℕ). q.0) ps) → places_below (thread + 1) ps ≡ places_below thread ps ++ place_at thread (line_of_thread thread ps) → places_below (thread + 1) (p ∷ ps) ≡ places_below thread (p ∷ ps) ++ place_at thread (line_of_thread thread (p ∷ ps))
 below-by thread p ps true true low same rise next = absurd (grind (arith, nat_tests))
 below-by thread p ps true false low same rise next =
     let test : nat_lt p.0 (thread + 1) ≡ true = grind (arith, nat_tests) in
@@ -69,13 +69,13 @@ below-by thread p ps false false low same rise next =
     rw (test, low, same) next
 
 -- the next thread's place comes after those below it
-places_below-step : (thread least : ℕ) (places : List (ℕ × ℕ)) → RiseFrom least (map (λ (p : ℕ × ℕ). p.0) places) → places_below (thread + 1) places ≡ places_below thread places ++ place_at thread (line_of thread places)
+places_below-step : (thread least : ℕ) (places : List (ℕ × ℕ)) → RiseFrom least (map (λ (p : ℕ × ℕ). p.0) places) → places_below (thread + 1) places ≡ places_below thread places ++ place_at thread (line_of_thread thread places)
 places_below-step thread least [] rise = refl
 places_below-step thread least (p ∷ ps) rise =
     below-by thread p ps (nat_lt p.0 thread) (p.0 == thread) refl refl rise.1 (places_below-step thread (p.0 + 1) ps rise.1)
 
 -- what is written after one more thread
-pub pieces-step : (names : NameLists) (thread : ℕ) (line : Option ℕ) (places : List (ℕ × ℕ)) (start out new : List ℕ) → AreRising places → line ≡ line_of thread places → out ≡ start ++ flat_map (place_piece names) (places_below thread places) → new ≡ out ++ flat_map (place_piece names) (place_at thread line) → new ≡ start ++ flat_map (place_piece names) (places_below (thread + 1) places)
+pub pieces-step : (names : NameLists) (thread : ℕ) (line : Option ℕ) (places : List (ℕ × ℕ)) (start out new : List ℕ) → AreRising places → line ≡ line_of_thread thread places → out ≡ start ++ flat_map (place_piece names) (places_below thread places) → new ≡ out ++ flat_map (place_piece names) (place_at thread line) → new ≡ start ++ flat_map (place_piece names) (places_below (thread + 1) places)
 pieces-step names thread line places start out new sound is before after =
     let F : List (ℕ × ℕ) → List ℕ = λ ps. flat_map (place_piece names) ps in
     let next : places_below (thread + 1) places ≡ places_below thread places ++ place_at thread line =
@@ -84,12 +84,12 @@ pieces-step names thread line places start out new sound is before after =
     ∙ append_assoc start (F (places_below thread places)) (F (place_at thread line))
     ∙ ap (λ t. start ++ t) (sym (flat_map-append (place_piece names) (places_below thread places) (place_at thread line)) ∙ ap F (sym next))
 
-member-by : (P : ℕ → Type 0) (thread line : ℕ) (p : ℕ × ℕ) (ps : List (ℕ × ℕ)) (same : Bool) → (p.0 == thread) ≡ same → P p.0 → (if same then Some p.1 else line_of thread ps) ≡ Some line → (line_of thread ps ≡ Some line → P thread) → P thread
+member-by : (P : ℕ → Type 0) (thread line : ℕ) (p : ℕ × ℕ) (ps : List (ℕ × ℕ)) (same : Bool) → (p.0 == thread) ≡ same → P p.0 → (if same then Some p.1 else line_of_thread thread ps) ≡ Some line → (line_of_thread thread ps ≡ Some line → P thread) → P thread
 member-by P thread line p ps true same here h next = let is : p.0 ≡ thread = grind (arith, nat_tests) in rw (← is) here
 member-by P thread line p ps false same here h next = next h
 
 -- a thread with a line is one of them
-pub line_of-member : (P : ℕ → Type 0) (thread line : ℕ) (places : List (ℕ × ℕ)) → All P (map (λ (p : ℕ × ℕ). p.0) places) → line_of thread places ≡ Some line → P thread
+pub line_of-member : (P : ℕ → Type 0) (thread line : ℕ) (places : List (ℕ × ℕ)) → All P (map (λ (p : ℕ × ℕ). p.0) places) → line_of_thread thread places ≡ Some line → P thread
 line_of-member P thread line [] all h = cc
 line_of-member P thread line (p ∷ ps) all h =
     member-by P thread line p ps (p.0 == thread) refl (All-head P p.0 (map (λ (q : ℕ × ℕ). q.0) ps) all) h (λ later. line_of-member P thread line ps (All-tail P p.0 (map (λ (q : ℕ × ℕ). q.0) ps) all) later)
@@ -103,7 +103,8 @@ OnErr-any (Ok x) p = tt
 OnErr-any (Err e) p = p
 
 -- what begins with more begins with less
-pub Begins-more : (old a b mid new : List ℕ) → mid ≡ old ++ a ++ b → Begins mid new → Begins old new
+pub Begins-more : (old a b mid new : List ℕ) → mid ≡ old ++ a ++ b → IsStartOf mid new
+    → IsStartOf old new
 Begins-more old a b mid new is begun =
     let longer : length old ≤ length mid = omega (arith, ap length is, length-append (old ++ a) b, length-append old a) in
     sym (take-take (length old) (length mid) new longer) ∙ ap (take (length old)) (begun ∙ is ∙ append_assoc old a b) ∙ take_at old (a ++ b) (length old) refl

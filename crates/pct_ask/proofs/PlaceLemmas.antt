@@ -17,11 +17,11 @@ use Rattle.std.proofs.lemmas.List.{length-set}
 use Rattle.std.proofs.lemmas.Nat.{or_lt, mod_below}
 use Rattle.std.proofs.lemmas.Nat.Bits.{bit_at_lowest, bit_at-suc, shr_and_one, bit_at_set_same}
 use Rattle.std.proofs.lemmas.Nat.Bits.{bit_at_set_other, same_from_bits}
-use Rattle.pct_ask.specs.Places.{AreRising, line_of, places_from, lines_from, same_places}
+use Rattle.pct_ask.specs.Places.{AreRising, line_of_thread, places_from, lines_from, same_places}
 use Rattle.pct_ask.specs.Places.{known_lines, line_bits, line_numbers, AreKnown}
 use Rattle.pct_ask.specs.PlaceLaws.{length-known, bits-back, numbers-back, same_places-Decides}
 
-line_of-earlier : (thread first : ℕ) (lines : List (Option ℕ)) → thread < first → line_of thread (places_from first lines) ≡ None
+line_of-earlier : (thread first : ℕ) (lines : List (Option ℕ)) → thread < first → line_of_thread thread (places_from first lines) ≡ None
 line_of-earlier thread first [] h = refl
 line_of-earlier thread first (None ∷ lines) h = line_of-earlier thread (first + 1) lines (omega arith)
 line_of-earlier thread first (Some line ∷ lines) h =
@@ -29,7 +29,7 @@ line_of-earlier thread first (Some line ∷ lines) h =
     rw apart (line_of-earlier thread (first + 1) lines (omega arith))
 
 -- a thread's line stands at its place
-pub line_of-places : (thread first k : ℕ) (lines : List (Option ℕ)) → thread ≡ first + k → get_or lines k None ≡ line_of thread (places_from first lines)
+pub line_of-places : (thread first k : ℕ) (lines : List (Option ℕ)) → thread ≡ first + k → get_or lines k None ≡ line_of_thread thread (places_from first lines)
 line_of-places thread first k [] e = refl
 line_of-places thread first zero (None ∷ lines) e = sym (line_of-earlier thread (first + 1) lines (omega arith))
 line_of-places thread first (suc k) (None ∷ lines) e = line_of-places thread (first + 1) k lines (omega arith)
@@ -173,19 +173,19 @@ places-with bits thread line numbers places few known view below =
 module _ (bits thread : ℕ) (numbers : List ℕ) (places : List (ℕ × ℕ))
     (few : thread < length numbers) (view : places_from 0 (known_lines bits numbers) ≡ places) where
   by_bit : (if bit_at bits thread == 1 then Some (get_or numbers thread 0) else None)
-      ≡ line_of thread places
+      ≡ line_of_thread thread places
   by_bit =
       rw (← view) (sym (get_or-known bits thread numbers few)
       ∙ line_of-places thread 0 thread (known_lines bits numbers) (omega arith))
 
   pub line_of-set : bit_and (bits / 2 ^ thread) 1 ≡ 1
-      → Some (get_or numbers thread 0) ≡ line_of thread places
+      → Some (get_or numbers thread 0) ≡ line_of_thread thread places
   line_of-set one =
       let is : (bit_at bits thread == 1) ≡ true =
       (unsigned_Decides (bit_at bits thread) 1).1 (sym (shr_and_one bits thread) ∙ one) in
       rw is at by_bit
 
-  pub line_of-clear : bit_and (bits / 2 ^ thread) 1 ≢ 1 → None ≡ line_of thread places
+  pub line_of-clear : bit_and (bits / 2 ^ thread) 1 ≢ 1 → None ≡ line_of_thread thread places
   line_of-clear other =
       elim (eqb_tells (bit_at bits thread) 1) [
         | inl h ↦ absurd (other (shr_and_one bits thread ∙ h.1))

@@ -27,14 +27,14 @@ number_in low high word =
     else None
 
 -- a list with one more in front, where there are both
-abbrev pub onto : {A : Type 0} → Option A → Option (List A) → Option (List A)
-onto None others = None
-onto (Some x) others = option_map (λ xs. x ∷ xs) others
+abbrev pub onto_front : {A : Type 0} → Option A → Option (List A) → Option (List A)
+onto_front None others = None
+onto_front (Some x) others = option_map (λ xs. x ∷ xs) others
 
 -- what each word is, in their order, where each is something
 abbrev pub all_of : (List ℕ → Option ℕ) → List (List ℕ) → Option (List ℕ)
 all_of says [] = Some []
-all_of says (word ∷ words) = onto (says word) (all_of says words)
+all_of says (word ∷ words) = onto_front (says word) (all_of says words)
 
 -- a number of steps, 1 to 100000: a limit, or the step of a change point
 abbrev pub step_count : List ℕ → Option ℕ

@@ -11,9 +11,10 @@ pub record AreRising (places : List (ℕ × ℕ)) : Type 0 where
   pub few : All (λ place. place.0 < 64) places
 
 -- a thread's line
-abbrev pub line_of : ℕ → List (ℕ × ℕ) → Option ℕ
-line_of thread [] = None
-line_of thread (place ∷ places) = if place.0 == thread then Some place.1 else line_of thread places
+abbrev pub line_of_thread : ℕ → List (ℕ × ℕ) → Option ℕ
+line_of_thread thread [] = None
+line_of_thread thread (place ∷ places) =
+    if place.0 == thread then Some place.1 else line_of_thread thread places
 
 -- the places of threads that are numbered from a first one on, each with a line or none
 abbrev pub places_from : ℕ → List (Option ℕ) → List (ℕ × ℕ)

@@ -10,11 +10,11 @@ last_line_without_end = refl
 pub no_line_after_the_last : lines_of (codes "a\n") ≡ codes "a" ∷ []
 no_line_after_the_last = refl
 
-pub cut : tokens_of (codes " write x r0==10 # to z")
+pub cut_line : tokens_of (codes " write x r0==10 # to z")
     ≡ Some
     (Word (codes "write") ∷ Word (codes "x") ∷ Word (codes "r0") ∷ Symbol (codes "==")
     ∷ Number (codes "10") ∷ [])
-cut = refl
+cut_line = refl
 
 pub three_equal_signs : tokens_of (codes "===")
     ≡ Some (Symbol (codes "==") ∷ Symbol (codes "=") ∷ [])

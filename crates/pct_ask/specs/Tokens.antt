@@ -25,30 +25,30 @@ is_short_symbol a =
     || a == 41 || a == 44 || a == 61
 
 -- one more piece at the front
-abbrev pub before : List ℕ → Option (List (List ℕ)) → Option (List (List ℕ))
-before piece pieces = option_map (λ others. piece ∷ others) pieces
+abbrev pub piece_before : List ℕ → Option (List (List ℕ)) → Option (List (List ℕ))
+piece_before piece pieces = option_map (λ others. piece ∷ others) pieces
 
 -- one more byte at the front of the first piece
-abbrev pub joined : ℕ → List (List ℕ) → List (List ℕ)
-joined b [] = (b ∷ []) ∷ []
-joined b (piece ∷ pieces) = (b ∷ piece) ∷ pieces
+abbrev pub onto_first_piece : ℕ → List (List ℕ) → List (List ℕ)
+onto_first_piece b [] = (b ∷ []) ∷ []
+onto_first_piece b (piece ∷ pieces) = (b ∷ piece) ∷ pieces
 
 -- The pieces of a line up to a `#`: runs of letters and digits taken as long as they go, and
 -- symbols, of which the longer one is taken. Space, tab and CR separate them. None where a byte
 -- begins no piece.
-abbrev pub pieces_of : List ℕ → Option (List (List ℕ))
-pieces_of [] = Some []
-pieces_of (a ∷ []) =
+abbrev pub token_pieces : List ℕ → Option (List (List ℕ))
+token_pieces [] = Some []
+token_pieces (a ∷ []) =
     if a == 35 || is_blank a then Some []
     else (if is_word_byte a || is_short_symbol a then Some ((a ∷ []) ∷ []) else None)
-pieces_of (a ∷ b ∷ bs) =
+token_pieces (a ∷ b ∷ bs) =
     if a == 35 then Some []
-    else (if is_blank a then pieces_of (b ∷ bs)
+    else (if is_blank a then token_pieces (b ∷ bs)
     else (if is_word_byte a
-    then (if is_word_byte b then option_map (joined a) (pieces_of (b ∷ bs))
-    else before (a ∷ []) (pieces_of (b ∷ bs)))
-    else (if is_long_symbol a b then before (a ∷ b ∷ []) (pieces_of bs)
-    else (if is_short_symbol a then before (a ∷ []) (pieces_of (b ∷ bs)) else None))))
+    then (if is_word_byte b then option_map (onto_first_piece a) (token_pieces (b ∷ bs))
+    else piece_before (a ∷ []) (token_pieces (b ∷ bs)))
+    else (if is_long_symbol a b then piece_before (a ∷ b ∷ []) (token_pieces bs)
+    else (if is_short_symbol a then piece_before (a ∷ []) (token_pieces (b ∷ bs)) else None))))
 
 -- What a piece is: a word is a letter followed by letters and digits, 32 at most; a number is
 -- digits alone.
@@ -76,4 +76,4 @@ tokens_of_pieces (Some pieces) = tokens_from pieces
 
 -- The tokens of a line. None where it can't be cut into tokens.
 abbrev pub tokens_of : List ℕ → Option (List Token)
-tokens_of line = tokens_of_pieces (pieces_of line)
+tokens_of line = tokens_of_pieces (token_pieces line)

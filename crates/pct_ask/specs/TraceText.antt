@@ -4,7 +4,7 @@ use Rattle.std.specs.Prelude.{decimal}
 use Rattle.std.specs.Fmt.{signed_decimal}
 use Rattle.std.specs.List.{slice_index_or, flat_map, join_with_byte}
 use Rattle.pct_ask.specs.NameLists.{NameLists}
-use Rattle.pct_ask.specs.VerdictText.{thread_name, fault_word, named, verdict_words}
+use Rattle.pct_ask.specs.VerdictText.{thread_name, fault_word, named_verdict, verdict_words}
 use Rattle.pct_ask.specs.declared.event.Event.{Event}
 use Rattle.pct_ask.specs.declared.ask.Ask.{Ask}
 use Rattle.pct_ask.specs.declared.ask.Ask.TheVariants.{Read, Write, Add, Cas, Lock, TryLock, Unlock}
@@ -84,8 +84,8 @@ head_lines names head =
     ∷ (codes "points" ∷ map decimal head.points) ∷ (codes "limit" ∷ decimal head.limit ∷ []) ∷ []
 
 -- the last line: how the run ended, after the word `verdict`
-abbrev pub verdict_line : NameLists → Verdict → List (List ℕ)
-verdict_line names verdict = codes "verdict" ∷ verdict_words (named names verdict)
+abbrev pub verdict_line_words : NameLists → Verdict → List (List ℕ)
+verdict_line_words names verdict = codes "verdict" ∷ verdict_words (named_verdict names verdict)
 
 -- words with one space between them, and an LF
 abbrev pub line_text : List (List ℕ) → List ℕ
@@ -95,4 +95,4 @@ line_text words = join_with_byte 32 words ++ 10 ∷ []
 abbrev pub trace_text : TraceHead → NameLists → List Event → Verdict → List ℕ
 trace_text head names events verdict =
     flat_map line_text
-    (head_lines names head ++ step_lines names 1 events ++ verdict_line names verdict ∷ [])
+    (head_lines names head ++ step_lines names 1 events ++ verdict_line_words names verdict ∷ [])

@@ -8,8 +8,8 @@ use Rattle.pct_ask.specs.declared.verdict.Verdict.TheVariants.{Passed, Failed, S
 use Rattle.pct_ask.specs.declared.verdict.Verdict.TheVariants.{Cut}
 
 -- the second list begins with the first
-abbrev pub Begins : List ℕ → List ℕ → Type 0
-Begins before after = take (length before) after ≡ before
+abbrev pub IsStartOf : List ℕ → List ℕ → Type 0
+IsStartOf before after = take (length before) after ≡ before
 
 -- a thread's name and a line, with a space before each
 abbrev pub place_piece : NameLists → ℕ × ℕ → List ℕ

@@ -1,8 +1,9 @@
 -- What a text is read as (this project).
 use Rattle.std.specs.Prelude.{◌≡◌, ◌≢◌, ℕ, List}
 use Rattle.pct_ask.specs.NameLists.{NameLists}
-use Rattle.pct_ask.specs.VerdictText.{NamedVerdict, named_text, named, verdict_text, IsForm}
-use Rattle.pct_ask.specs.VerdictText.{HasUnknown, HasNames}
+use Rattle.pct_ask.specs.VerdictText.{NamedVerdict, named_text, named_verdict, verdict_text}
+use Rattle.pct_ask.specs.VerdictText.{IsVerdictForm}
+use Rattle.pct_ask.specs.VerdictText.{HasUnknownThread, HasNames}
 use Rattle.pct_ask.specs.declared.verdict_text.VerdictRead.{VerdictRead}
 use Rattle.pct_ask.specs.declared.verdict_text.VerdictRead.TheVariants.{Is, NoForm, UnknownName}
 
@@ -11,12 +12,12 @@ use Rattle.pct_ask.specs.declared.verdict_text.VerdictRead.TheVariants.{Is, NoFo
 abbrev pub ReadsAs : NameLists → List ℕ → VerdictRead → Type 0
 ReadsAs names text (Is verdict) =
     HasNames names verdict
-    × IsForm names (named names verdict)
+    × IsVerdictForm names (named_verdict names verdict)
     × (text ≡ verdict_text names verdict)
 ReadsAs names text UnknownName =
     (verdict : NamedVerdict)
-    × IsForm names verdict
-    × HasUnknown names verdict
+    × IsVerdictForm names verdict
+    × HasUnknownThread names verdict
     × (text ≡ named_text verdict)
 ReadsAs names text NoForm =
-    (verdict : NamedVerdict) → IsForm names verdict → text ≢ named_text verdict
+    (verdict : NamedVerdict) → IsVerdictForm names verdict → text ≢ named_text verdict

@@ -62,17 +62,18 @@ abbrev pub thread_name : NameLists → ℕ → List ℕ
 thread_name names thread = slice_index_or names.threads thread []
 
 -- the verdict with its threads by their names
-abbrev pub named : NameLists → Verdict → NamedVerdict
-named names Passed = NamedPassed
-named names (Failed thread line) = NamedFailed (thread_name names thread) line
-named names (Stuck places) = NamedStuck (map (λ place. (thread_name names place.0, place.1)) places)
-named names (Misuse thread line kind) = NamedMisuse (thread_name names thread) line kind
-named names (Fault thread line kind) = NamedFault (thread_name names thread) line kind
-named names Cut = NamedCut
+abbrev pub named_verdict : NameLists → Verdict → NamedVerdict
+named_verdict names Passed = NamedPassed
+named_verdict names (Failed thread line) = NamedFailed (thread_name names thread) line
+named_verdict names (Stuck places) =
+    NamedStuck (map (λ place. (thread_name names place.0, place.1)) places)
+named_verdict names (Misuse thread line kind) = NamedMisuse (thread_name names thread) line kind
+named_verdict names (Fault thread line kind) = NamedFault (thread_name names thread) line kind
+named_verdict names Cut = NamedCut
 
 -- the text of a verdict, by the names that the test gives to its threads
 abbrev pub verdict_text : NameLists → Verdict → List ℕ
-verdict_text names verdict = named_text (named names verdict)
+verdict_text names verdict = named_text (named_verdict names verdict)
 
 -- a line number that a test may have
 abbrev pub IsLine : ℕ → Type 0
@@ -88,14 +89,14 @@ known_threads names places = filter_map (λ place. place_of place.0 names.thread
 
 -- A verdict by form: its names are lawful and its lines are a test's. A list of blocked threads
 -- isn't empty, and the threads among its names stand in strictly rising order.
-abbrev pub IsForm : NameLists → NamedVerdict → Type 0
-IsForm names NamedPassed = ⊤
-IsForm names (NamedFailed name line) = IsPlace (name, line)
-IsForm names (NamedStuck places) =
+abbrev pub IsVerdictForm : NameLists → NamedVerdict → Type 0
+IsVerdictForm names NamedPassed = ⊤
+IsVerdictForm names (NamedFailed name line) = IsPlace (name, line)
+IsVerdictForm names (NamedStuck places) =
     (0 < length places) × All IsPlace places × IsStrictlyIncreasing (known_threads names places)
-IsForm names (NamedMisuse name line kind) = IsPlace (name, line)
-IsForm names (NamedFault name line kind) = IsPlace (name, line)
-IsForm names NamedCut = ⊤
+IsVerdictForm names (NamedMisuse name line kind) = IsPlace (name, line)
+IsVerdictForm names (NamedFault name line kind) = IsPlace (name, line)
+IsVerdictForm names NamedCut = ⊤
 
 -- the names in a verdict, in its order
 abbrev pub names_in : NamedVerdict → List (List ℕ)
@@ -107,8 +108,8 @@ names_in (NamedFault name line kind) = name ∷ []
 names_in NamedCut = []
 
 -- some name in it is no thread's
-abbrev pub HasUnknown : NameLists → NamedVerdict → Type 0
-HasUnknown names verdict = Any (λ name. place_of name names.threads ≡ None) (names_in verdict)
+abbrev pub HasUnknownThread : NameLists → NamedVerdict → Type 0
+HasUnknownThread names verdict = Any (λ name. place_of name names.threads ≡ None) (names_in verdict)
 
 -- the threads in a verdict, in its order
 abbrev pub threads_in : Verdict → List ℕ
@@ -124,10 +125,10 @@ abbrev pub HasNames : NameLists → Verdict → Type 0
 HasNames names verdict = All (λ thread. thread < length names.threads) (threads_in verdict)
 
 -- its lines are a test's, and a list of blocked threads isn't empty
-abbrev pub IsWhole : Verdict → Type 0
-IsWhole Passed = ⊤
-IsWhole (Failed thread line) = IsLine line
-IsWhole (Stuck places) = (0 < length places) × All (λ place. IsLine place.1) places
-IsWhole (Misuse thread line kind) = IsLine line
-IsWhole (Fault thread line kind) = IsLine line
-IsWhole Cut = ⊤
+abbrev pub IsWholeVerdict : Verdict → Type 0
+IsWholeVerdict Passed = ⊤
+IsWholeVerdict (Failed thread line) = IsLine line
+IsWholeVerdict (Stuck places) = (0 < length places) × All (λ place. IsLine place.1) places
+IsWholeVerdict (Misuse thread line kind) = IsLine line
+IsWholeVerdict (Fault thread line kind) = IsLine line
+IsWholeVerdict Cut = ⊤

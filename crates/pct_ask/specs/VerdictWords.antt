@@ -31,9 +31,9 @@ words_after None = []
 words_after (Some rest) = words_of rest.now
 
 -- how many bytes they take, with the space before them
-abbrev pub length_after : Option (Bor (List ℕ)) → ℕ
-length_after None = 0
-length_after (Some rest) = length rest.now + 1
+abbrev pub length_with_space : Option (Bor (List ℕ)) → ℕ
+length_with_space None = 0
+length_with_space (Some rest) = length rest.now + 1
 
 -- the line of a test that a word spells
 abbrev pub line_number : List ℕ → Option ℕ

@@ -2,7 +2,7 @@ ghost use Rattle.std.specs.Prelude.{◌≡◌, ◌<◌, [], ◌∷◌, ◌++◌,
 ghost use Rattle.std.specs.Cmp.{partial_equiv_from_equiv};
 ghost use Rattle.std.specs.Hash.{slice, u32, u64};
 ghost use Rattle.std.proofs.Common.{ap};
-ghost use Rattle.pct_ask.specs.Places.{AreRising, line_of, same_places};
+ghost use Rattle.pct_ask.specs.Places.{AreRising, line_of_thread, same_places};
 ghost use Rattle.pct_ask.specs.Places.{lines_from, line_bits, line_numbers};
 ghost use Rattle.pct_ask.specs.PlaceLaws.{same_places-Decides, same_places-equivalence};
 
@@ -95,7 +95,7 @@ impl Blocked {
 
     /// The line at which a thread asks.
     pub fn get(&self, thread: u32) -> Option<u32>
-        ensures line { result ≡ line_of thread self.now }
+        ensures line { result ≡ line_of_thread thread self.now }
         ensures rising { AreRising self.now }
     {
         let threads = self.threads;

@@ -3,9 +3,9 @@
 ghost use Rattle.std.specs.Prelude.{◌≡◌, ◌++◌, ◌∷◌, ◌<◌, length, decimal, codes, OnOk, OnErr, All};
 ghost use Rattle.std.specs.Prelude.{map};
 ghost use Rattle.std.specs.List.{flat_map};
-ghost use Rattle.pct_ask.specs.VerdictText.{misuse_word, fault_word, HasNames, IsWhole};
+ghost use Rattle.pct_ask.specs.VerdictText.{misuse_word, fault_word, HasNames, IsWholeVerdict};
 ghost use Rattle.pct_ask.specs.VerdictText.{verdict_text};
-ghost use Rattle.pct_ask.specs.VerdictPieces.{Begins, Rises, place_piece, HasName};
+ghost use Rattle.pct_ask.specs.VerdictPieces.{IsStartOf, Rises, place_piece, HasName};
 ghost use Rattle.pct_ask.specs.Places.{AreRising};
 ghost use Rattle.pct_ask.specs.VerdictRead.{ReadsAs};
 
@@ -41,7 +41,7 @@ pub fn read_verdict(text: &[u8], names: &Names) -> VerdictRead
 /// Writes a verdict's text at the end. After an `Err` the bytes are as before.
 pub fn write_verdict(verdict: &Verdict, names: &Names, out: &mut Vec<u8>) -> Result<(), NoMemory>
     requires named { HasNames names.now verdict.now }
-    requires whole { IsWhole verdict.now }
+    requires whole { IsWholeVerdict verdict.now }
     ensures written { OnOk result
         (out.new.items ≡ out.old.items ++ verdict_text names.now verdict.now) }
     ensures unchanged { OnErr result (out.new.items ≡ out.old.items) }
@@ -62,7 +62,7 @@ fn push_verdict(verdict: &Verdict, names: &Names, out: &mut Vec<u8>) -> Result<(
     requires { HasNames names.now verdict.now }
     ensures written { OnOk result
         (out.new.items ≡ out.old.items ++ verdict_text names.now verdict.now) }
-    ensures begun { OnErr result (Begins out.old.items out.new.items) }
+    ensures begun { OnErr result (IsStartOf out.old.items out.new.items) }
     ensures rising { OnOk result (Rises verdict.now) }
 {
     match verdict {
@@ -86,7 +86,7 @@ fn push_stuck(blocked: &Blocked, names: &Names, out: &mut Vec<u8>) -> Result<(),
     ensures written { OnOk result
         (out.new.items
         ≡ out.old.items ++ codes "stuck" ++ flat_map (place_piece names.now) blocked.now) }
-    ensures begun { OnErr result (Begins out.old.items out.new.items) }
+    ensures begun { OnErr result (IsStartOf out.old.items out.new.items) }
     ensures rising { OnOk result (AreRising blocked.now) }
 {
     out.extend_from_slice(STUCK)?;
@@ -108,7 +108,7 @@ fn push_placed(
     requires { thread < length names.now.threads }
     ensures written { OnOk result
         (out.new.items ≡ out.old.items ++ head.now ++ place_piece names.now (thread, line)) }
-    ensures begun { OnErr result (Begins out.old.items out.new.items) }
+    ensures begun { OnErr result (IsStartOf out.old.items out.new.items) }
 {
     out.extend_from_slice(head)?;
     push_place(thread, line, names, out)
@@ -118,7 +118,7 @@ fn push_place(thread: u32, line: u32, names: &Names, out: &mut Vec<u8>) -> Resul
     requires { thread < length names.now.threads }
     ensures written { OnOk result
         (out.new.items ≡ out.old.items ++ place_piece names.now (thread, line)) }
-    ensures begun { OnErr result (Begins out.old.items out.new.items) }
+    ensures begun { OnErr result (IsStartOf out.old.items out.new.items) }
 {
     let mut buffer = Buffer::new();
     push_word(names.name(NameKind::Thread, thread).unwrap(), out)?;
@@ -128,7 +128,7 @@ fn push_place(thread: u32, line: u32, names: &Names, out: &mut Vec<u8>) -> Resul
 // A space and a word.
 fn push_word(word: &[u8], out: &mut Vec<u8>) -> Result<(), NoMemory>
     ensures written { OnOk result (out.new.items ≡ out.old.items ++ 32 ∷ word.now) }
-    ensures begun { OnErr result (Begins out.old.items out.new.items) }
+    ensures begun { OnErr result (IsStartOf out.old.items out.new.items) }
 {
     out.push(b' ')?;
     out.extend_from_slice(word)

@@ -3,7 +3,7 @@
 ghost use Rattle.std.specs.Prelude.{◌≡◌, ◌<◌, ◌≤◌, ◌==◌, ◌∷◌, None, Some, false, [], length};
 ghost use Rattle.std.specs.Prelude.{position, MatchOption, IfSome};
 ghost use Rattle.pct_ask.specs.NameLists.{AreNames};
-ghost use Rattle.pct_ask.specs.VerdictWords.{words_of, words_after, length_after, line_number};
+ghost use Rattle.pct_ask.specs.VerdictWords.{words_of, words_after, length_with_space, line_number};
 ghost use Rattle.pct_ask.specs.VerdictWords.{first_place, misuse_kind, fault_kind};
 ghost use Rattle.pct_ask.specs.VerdictWords.{placed_kind, verdict_at, placed_words, stuck_words};
 ghost use Rattle.pct_ask.specs.VerdictWords.{bare_word, verdict_of_words};
@@ -194,7 +194,7 @@ fn read_place<'a>(text: &'a [u8], names: &Names) -> Option<PlaceRead<'a>>
     ensures place { MatchOption result (first_place names.now (words_of text.now) ≡ None) (λ p.
         first_place names.now (words_of text.now) ≡ Some (p.thread, p.line, words_after p.rest)) }
     ensures few { IfSome result (λ p. IfSome p.thread (λ thread. thread < 64)) }
-    ensures shorter { IfSome result (λ p. length_after p.rest ≤ length text.now) }
+    ensures shorter { IfSome result (λ p. length_with_space p.rest ≤ length text.now) }
 {
     let (name, after) = cut_word(text);
     let (line, rest) = cut_word(after?);
@@ -216,7 +216,7 @@ fn read_line(word: &[u8]) -> Option<u32>
 // The first word, and what comes after the space that ends it.
 fn cut_word(text: &[u8]) -> (&[u8], Option<&[u8]>)
     ensures words { words_of text.now ≡ result.0.now ∷ words_after result.1 }
-    ensures shorter { length_after result.1 ≤ length text.now }
+    ensures shorter { length_with_space result.1 ≤ length text.now }
 {
     match first_space(text) {
         Some(end) => (&text[..end], Some(&text[end + 1..])),

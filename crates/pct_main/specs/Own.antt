@@ -4,13 +4,13 @@ use Rattle.std.specs.List.{find}
 use Rattle.std.specs.Option.{option_map}
 use Rattle.std.specs.Str.{bytes_eq}
 use Rattle.pct_outside.specs.Counter.{Rose}
-use Rattle.pct_outside.specs.Piece.{Appended, AppendedPart}
+use Rattle.pct_outside.specs.Piece.{IsAppended, IsPartAppended}
 use Rattle.pct_top.specs.declared.refusal.Refusal.TheVariants.{Write, Memory}
 use Rattle.pct_top.specs.declared.status.Status.{Status}
 use Rattle.pct_top.specs.declared.status.Status.TheVariants.{Done, WriteFault, NoMemory}
 use Rattle.pct_top.specs.Outside.{StreamTold}
 use Rattle.pct_top.specs.Refusing.{refusal_line}
-use Rattle.pct_top.specs.Saying.{Says}
+use Rattle.pct_top.specs.Saying.{SaysLine}
 use Rattle.pct_main.specs.declared.explanations.TheConstants.{EXPLANATIONS}
 use Rattle.pct_main.specs.declared.own.Own.{Own}
 use Rattle.pct_main.specs.declared.own.Own.TheVariants.{Help, Version, Explanation}
@@ -29,10 +29,10 @@ abbrev pub explanation_of : List ℕ → Option (List ℕ)
 explanation_of word = text_among explanations word
 
 -- the text that an option is answered by
-abbrev pub text_of : Own → List ℕ
-text_of Help = HELP.now
-text_of Version = VERSION.now
-text_of (Explanation text) = text.now
+abbrev pub option_text : Own → List ℕ
+option_text Help = HELP.now
+option_text Version = VERSION.now
+option_text (Explanation text) = text.now
 
 -- the text that the program answers words by, where it answers them by itself
 abbrev pub answer_to : List (List ℕ) → Option (List ℕ)
@@ -47,11 +47,11 @@ answer_to (word ∷ other ∷ another ∷ words) = None
 -- The text was put on the output whole, and nothing was said. Where the output refused it, or there
 -- was no memory, a part of it may be there, and that is said on the error stream.
 abbrev pub IsPut : List ℕ → StreamTold → StreamTold → StreamTold → StreamTold → Status → Type 0
-IsPut text out out' err err' Done = Appended text out.written out'.written × (err' ≡ err)
+IsPut text out out' err err' Done = IsAppended text out.written out'.written × (err' ≡ err)
 IsPut text out out' err err' WriteFault =
-    Rose out.faults out'.faults × AppendedPart text out.written out'.written
-    × Says (refusal_line Write) err err'
+    Rose out.faults out'.faults × IsPartAppended text out.written out'.written
+    × SaysLine (refusal_line Write) err err'
 IsPut text out out' err err' NoMemory =
-    Rose out.shorts out'.shorts × AppendedPart text out.written out'.written
-    × Says (refusal_line Memory) err err'
+    Rose out.shorts out'.shorts × IsPartAppended text out.written out'.written
+    × SaysLine (refusal_line Memory) err err'
 IsPut text out out' err err' status = ⊥

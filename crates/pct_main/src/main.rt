@@ -4,7 +4,7 @@
 
 ghost use Rattle.std.specs.Prelude.{◌≡◌};
 ghost use Rattle.pct_top.specs.Refusing.{status_of_refusal, refusal_line};
-ghost use Rattle.pct_top.specs.Saying.{Says};
+ghost use Rattle.pct_top.specs.Saying.{SaysLine};
 ghost use Rattle.pct_main.specs.Own.{IsPut};
 
 mod explanations;
@@ -39,7 +39,7 @@ fn refusal_of(error: &io::Error) -> Refusal {
 /// Says why a call gives no output.
 fn refuse<E: Sink>(err: &mut E, refusal: &Refusal) -> Status
     ensures status { result ≡ status_of_refusal refusal.now }
-    ensures said { Says (refusal_line refusal.now)
+    ensures said { SaysLine (refusal_line refusal.now)
         (record {
           written = E.written err.old;
           faults = E.faults err.old;

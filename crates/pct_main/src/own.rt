@@ -64,7 +64,7 @@ pub enum Own {
 impl Own {
     /// The option that the words are: one word, or `--explain` and a word that is explained.
     pub fn of_words(words: &[String]) -> Option<Own>
-        ensures { option_map own.text_of result ≡ own.answer_to (texts_of words.now) }
+        ensures { option_map own.option_text result ≡ own.answer_to (texts_of words.now) }
     {
         match words {
             [word] if word.as_str() == "--help" => Some(Own::Help),
@@ -77,7 +77,7 @@ impl Own {
     }
 
     pub fn text(self) -> &'static str
-        ensures { result.now ≡ own.text_of self }
+        ensures { result.now ≡ own.option_text self }
     {
         match self {
             Own::Help => HELP,

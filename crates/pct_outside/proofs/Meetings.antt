@@ -6,19 +6,21 @@ use prog.Atomic.{either}
 use Rattle.logbook.specs.Pages.{Cell, cell, keeps, no_nib, Goes, Moves, step}
 use Rattle.pct_outside.specs.declared.moment.Moment.{Moment}
 use Rattle.pct_outside.specs.declared.moment.Moment.TheVariants.{Came, Saw}
-use Rattle.pct_outside.specs.Meeting.{Has, MaySee, SawOther, Tells, IsKept, Marks, looks_of}
+use Rattle.pct_outside.specs.Meeting.{HasMoment, MaySee, SawOther, WordTells, IsMeeting}
+use Rattle.pct_outside.specs.Meeting.{MarksArrival, looks_of}
 
-has_more : (xs ys : List Moment) (m : Moment) → Has xs m → Has (xs ++ ys) m
+has_more : (xs ys : List Moment) (m : Moment) → HasMoment xs m → HasMoment (xs ++ ys) m
 has_more [] ys m h = absurd h
 has_more (x ∷ xs) ys m (inl e) = inl e
 has_more (x ∷ xs) ys m (inr h) = inr (has_more xs ys m h)
 
-has_last : (xs : List Moment) (m : Moment) → Has (xs ++ m ∷ []) m
+has_last : (xs : List Moment) (m : Moment) → HasMoment (xs ++ m ∷ []) m
 has_last [] m = inl refl
 has_last (x ∷ xs) m = inr (has_last xs m)
 
 -- what is in the longer list was in the shorter, or is new
-has_before : (xs : List Moment) (x m : Moment) → (x ≡ m → ⊥) → Has (xs ++ x ∷ []) m → Has xs m
+has_before : (xs : List Moment) (x m : Moment) → (x ≡ m → ⊥) → HasMoment (xs ++ x ∷ []) m
+    → HasMoment xs m
 has_before [] x m new (inl e) = absurd (new e)
 has_before [] x m new (inr h) = h
 has_before (y ∷ xs) x m new (inl e) = inl e
@@ -28,13 +30,14 @@ looks_more : (xs ys : List Moment) → 0 < length xs → looks_of (xs ++ ys) ≡
 looks_more [] ys h = absurd (omega arith)
 looks_more (x ∷ xs) ys h = refl
 
-pub has_later : (xs ys : List Moment) (m : Moment) → IsPrefix xs ys → Has xs m → Has ys m
-has_later xs ys m p h = subst (λ zs. Has zs m) p.1 (has_more xs p.0 m h)
+pub has_later : (xs ys : List Moment) (m : Moment) → IsPrefix xs ys → HasMoment xs m
+    → HasMoment ys m
+has_later xs ys m p h = subst (λ zs. HasMoment zs m) p.1 (has_more xs p.0 m h)
 
 looks_later : (xs ys : List Moment) → IsPrefix xs ys → 0 < length xs → looks_of ys ≡ looks_of xs
 looks_later xs ys p h = ap looks_of (sym p.1) ∙ looks_more xs p.0 h
 
-has_some : (xs : List Moment) (m : Moment) → Has xs m → 0 < length xs
+has_some : (xs : List Moment) (m : Moment) → HasMoment xs m → 0 < length xs
 has_some [] m h = absurd h
 has_some (x ∷ xs) m h = omega arith
 
@@ -67,7 +70,7 @@ abbrev pub moved : List Moment → List Moment → ℕ → Type 0
 moved xs ys n = Unit {0}
 
 -- what happens to one guest leaves what is told of the other
-tells_more : (log : List Moment) (guest n : ℕ) (m : Moment) → (m ≡ Came guest → ⊥) → (m ≡ Saw guest → ⊥) → Tells log guest n → Tells (log ++ m ∷ []) guest n
+tells_more : (log : List Moment) (guest n : ℕ) (m : Moment) → (m ≡ Came guest → ⊥) → (m ≡ Saw guest → ⊥) → WordTells log guest n → WordTells (log ++ m ∷ []) guest n
 tells_more log guest n m not_came not_saw t =
     record {
       came = λ a. has_more log (m ∷ []) (Came guest) (t.came a);
@@ -79,13 +82,14 @@ tells_more log guest n m not_came not_saw t =
 -- whatever the book is, a step of a guest's own may add what happens to that guest
 pub marks : (v : List Moment) (k a b : ℕ) (ask : Moment) (f : ℕ → ℕ) (m : Moment) → k < 2 → 0 < length v
     → ((j : ℕ) → j ≢ k → (m ≡ Came j → ⊥) × (m ≡ Saw j → ⊥))
-    → ((n : ℕ) (log : List Moment) → IsPrefix v log → Tells log k n → Tells (log ++ m ∷ []) k (f n) × Has (log ++ m ∷ []) (Came k))
-    → Moves IsKept shown moved k (v, (no_nib, None)) f (Marks (step k a b ask) (v, (no_nib, None)))
+    → ((n : ℕ) (log : List Moment) → IsPrefix v log → WordTells log k n → WordTells (log ++ m ∷ []) k (f n) × HasMoment (log ++ m ∷ []) (Came k))
+    → Moves IsMeeting shown moved k (v, (no_nib, None)) f
+    (MarksArrival (step k a b ask) (v, (no_nib, None)))
 marks v k a b ask f m below some own fits cs log kept pre away =
     let n = (cell cs k).0 in
     let inside : k < length cs = subst (λ (m : ℕ). k < m) (sym kept.words) below in
     let now = fits n log pre (kept.tells k below) in
-    let goes : Goes IsKept shown moved k (v, (no_nib, None)) f (Marks (step k a b ask) (v, (no_nib, None))) cs log = (
+    let goes : Goes IsMeeting shown moved k (v, (no_nib, None)) f (MarksArrival (step k a b ask) (v, (no_nib, None))) cs log = (
       keeps,
       m ∷ [],
       None,
@@ -94,14 +98,14 @@ marks v k a b ask f m below some own fits cs log kept pre away =
         words = length-set cs k (f n, true) ∙ kept.words;
         home = cell_set (λ j c. j < 2 → c.1 ≡ true) cs k (f n, true) inside (λ b. refl) (λ j ne b. kept.home j b);
         begun = omega (arith, length-append log (m ∷ []), kept.begun);
-        tells = cell_set (λ j c. j < 2 → Tells (log ++ m ∷ []) j c.0) cs k (f n, true) inside (λ b. now.0) (λ j ne b. tells_more log j (cell cs j).0 m (own j ne).0 (own j ne).1 (kept.tells j b));
+        tells = cell_set (λ j c. j < 2 → WordTells (log ++ m ∷ []) j c.0) cs k (f n, true) inside (λ b. now.0) (λ j ne b. tells_more log j (cell cs j).0 m (own j ne).0 (own j ne).1 (kept.tells j b));
       },
       inl (refl, refl),
       record { came = now.1; looks = looks_more log (m ∷ []) kept.begun ∙ looks_later v log pre some },
     ) in
     (inside, kept.home k below, goes)
 
-came_tells : (k n : ℕ) (log : List Moment) → Tells log k n → (b : Bool) → (n == 0) ≡ b → Tells (log ++ Came k ∷ []) k (either b 1 n)
+came_tells : (k n : ℕ) (log : List Moment) → WordTells log k n → (b : Bool) → (n == 0) ≡ b → WordTells (log ++ Came k ∷ []) k (either b 1 n)
 came_tells k n log t true is =
     let none : n ≡ 0 = grind (arith, nat_tests) in
     record {
@@ -121,13 +125,13 @@ came_tells k n log t false is =
 
 -- a guest comes
 pub comes : (v : List Moment) (k : ℕ) (ask : Moment) → k < 2 → 0 < length v
-    → Moves IsKept shown moved k (v, (no_nib, None)) (λ n. either (n == 0) 1 n) (Marks (step k 0 1 ask) (v, (no_nib, None)))
+    → Moves IsMeeting shown moved k (v, (no_nib, None)) (λ n. either (n == 0) 1 n) (MarksArrival (step k 0 1 ask) (v, (no_nib, None)))
 comes v k ask below some =
     marks v k 0 1 ask (λ n. either (n == 0) 1 n) (Came k) below some
     (λ j ne. (λ e. ne (sym (cc e)), λ e. absurd (cc e)))
     (λ n log pre t. (came_tells k n log t (n == 0) refl, has_last log (Came k)))
 
-saw_tells : (k n : ℕ) (log : List Moment) → MaySee log k → Tells log k n → (b : Bool) → (n == 1) ≡ b → Tells (log ++ Saw k ∷ []) k (either b 2 n)
+saw_tells : (k n : ℕ) (log : List Moment) → MaySee log k → WordTells log k n → (b : Bool) → (n == 1) ≡ b → WordTells (log ++ Saw k ∷ []) k (either b 2 n)
 saw_tells k n log may t true is =
     record {
       came = λ _. has_more log (Saw k ∷ []) (Came k) may.came;
@@ -147,7 +151,7 @@ saw_tells k n log may t false is =
 
 -- a guest that may see the other notes that it has
 pub notes : (v : List Moment) (k : ℕ) (ask : Moment) → k < 2 → MaySee v k
-    → Moves IsKept shown moved k (v, (no_nib, None)) (λ n. either (n == 1) 2 n) (Marks (step k 1 2 ask) (v, (no_nib, None)))
+    → Moves IsMeeting shown moved k (v, (no_nib, None)) (λ n. either (n == 1) 2 n) (MarksArrival (step k 1 2 ask) (v, (no_nib, None)))
 notes v k ask below may =
     marks v k 1 2 ask (λ n. either (n == 1) 2 n) (Saw k) below (has_some v (Came k) may.came)
     (λ j ne. (λ e. absurd (cc e), λ e. ne (sym (cc e))))

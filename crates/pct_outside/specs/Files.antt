@@ -18,5 +18,5 @@ abbrev pub bytes_of : Files → List ℕ → List ℕ
 bytes_of files name = unwrap_or (get files name) []
 
 -- a file as a name and its bytes, without where they lie in memory
-abbrev pub file_of : {A B : Type 0} → String A × Vec ℕ B → List ℕ × List ℕ
-file_of file = (string_bytes file.0, file.1.items)
+abbrev pub name_and_bytes : {A B : Type 0} → String A × Vec ℕ B → List ℕ × List ℕ
+name_and_bytes file = (string_bytes file.0, file.1.items)

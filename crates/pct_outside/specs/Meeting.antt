@@ -7,9 +7,9 @@ use Rattle.pct_outside.specs.declared.moment.Moment.{Moment}
 use Rattle.pct_outside.specs.declared.moment.Moment.TheVariants.{Opened, Came, Saw}
 
 -- the moment is in the log
-abbrev pub Has : List Moment → Moment → Type 0
-Has [] moment = ⊥
-Has (m ∷ log) moment = (m ≡ moment) ⊎ Has log moment
+abbrev pub HasMoment : List Moment → Moment → Type 0
+HasMoment [] moment = ⊥
+HasMoment (m ∷ log) moment = (m ≡ moment) ⊎ HasMoment log moment
 
 abbrev pub looks_in : Moment → ℕ
 looks_in (Opened looks) = looks
@@ -23,48 +23,48 @@ looks_of (m ∷ log) = looks_in m
 
 -- the guest may see the other: both have come, and the guest looks at least once
 pub record MaySee (log : List Moment) (guest : ℕ) : Type 0 where
-  pub came : Has log (Came guest)
-  pub other_came : Has log (Came (1 - guest))
+  pub came : HasMoment log (Came guest)
+  pub other_came : HasMoment log (Came (1 - guest))
   pub looks : 0 < looks_of log
 
 -- the guest has seen the other
 pub record SawOther (log : List Moment) (guest : ℕ) : Type 0 where
-  pub saw : Has log (Saw guest)
+  pub saw : HasMoment log (Saw guest)
   pub may : MaySee log guest
 
 -- A guest's word says how far it is, and nothing else has happened of that guest
-pub record Tells (log : List Moment) (guest word : ℕ) : Type 0 where
-  pub came : 1 ≤ word → Has log (Came guest)
+pub record WordTells (log : List Moment) (guest word : ℕ) : Type 0 where
+  pub came : 1 ≤ word → HasMoment log (Came guest)
   pub saw : 2 ≤ word → SawOther log guest
-  pub only_came : Has log (Came guest) → 1 ≤ word
-  pub only_saw : Has log (Saw guest) → 2 ≤ word
+  pub only_came : HasMoment log (Came guest) → 1 ≤ word
+  pub only_saw : HasMoment log (Saw guest) → 2 ≤ word
 
 -- what is true between any two steps
-pub record IsKept (cells : List Cell) (log : List Moment) : Type 0 where
+pub record IsMeeting (cells : List Cell) (log : List Moment) : Type 0 where
   pub words : length cells ≡ 2
   pub home : (guest : ℕ) → guest < 2 → (cell cells guest).1 ≡ true
   pub begun : 0 < length log
-  pub tells : (guest : ℕ) → guest < 2 → Tells log guest (cell cells guest).0
+  pub tells : (guest : ℕ) → guest < 2 → WordTells log guest (cell cells guest).0
 
 -- what a guest's own step tells: that it has come
-pub record Marks (s : Step Moment) (v : View Moment ℕ) (found : ℕ) (w : View Moment ℕ)
+pub record MarksArrival (s : Step Moment) (v : View Moment ℕ) (found : ℕ) (w : View Moment ℕ)
     : Type 0 where
-  pub came : Has w.0 (Came s.key)
+  pub came : HasMoment w.0 (Came s.key)
   pub looks : looks_of w.0 ≡ looks_of v.0
 
 -- what a look at a guest tells
-pub record Looks (s : Step Moment) (v : View Moment ℕ) (found : ℕ) (w : View Moment ℕ)
+pub record LooksAtGuest (s : Step Moment) (v : View Moment ℕ) (found : ℕ) (w : View Moment ℕ)
     : Type 0 where
-  pub came : 1 ≤ found → Has w.0 (Came s.key)
+  pub came : 1 ≤ found → HasMoment w.0 (Came s.key)
   pub saw : 2 ≤ found → SawOther w.0 s.key
   pub looks : looks_of w.0 ≡ looks_of v.0
 
 -- the guest's word in the book
-abbrev pub place_of : ℕ → Book → Named
-place_of guest book = record { tracked = true; key = guest; book = book }
+abbrev pub word_of_guest : ℕ → Book → Named
+word_of_guest guest book = record { tracked = true; key = guest; book = book }
 
 -- it is one of the two words of the book
-pub record IsPlace (word : Named) (book : Book) : Type 0 where
+pub record IsGuestWord (word : Named) (book : Book) : Type 0 where
   pub tracked : word.tracked ≡ true
   pub book_is : word.book ≡ book
   pub guest : word.key < 2

@@ -12,8 +12,8 @@ FirstOf None name most bytes = Unit {0}
 FirstOf (Some files) name most bytes = FirstBytes most (files name) bytes
 
 -- these names, and then this one
-abbrev pub with_name : List (List ℕ) → List ℕ → List (List ℕ)
-with_name names name = names ++ name ∷ []
+abbrev pub names_with : List (List ℕ) → List ℕ → List (List ℕ)
+names_with names name = names ++ name ∷ []
 
 -- the texts of strings
 abbrev pub texts_of : {A : Type 0} → List (String A) → List (List ℕ)

@@ -4,7 +4,7 @@ use Rattle.std.specs.FinMap.{get}
 use Rattle.std.specs.Coded.{Coded, code_by, coded×, coded_ℕ, coded_list}
 use Rattle.pct_outside.specs.Counter.{one_more, is_next}
 use Rattle.pct_outside.specs.Files.{Files, coded_files}
-use Rattle.pct_outside.specs.Reading.{with_name}
+use Rattle.pct_outside.specs.Reading.{names_with}
 use Rattle.pct_outside.specs.declared.shelves.ShelfError.{ShelfError}
 use Rattle.pct_outside.specs.declared.shelves.ShelfError.TheVariants.{Failed, NoMemory}
 
@@ -32,7 +32,7 @@ is_refused shelf name = is_next shelf.fails shelf.calls || is_none (get shelf.fi
 -- the names of the reads that failed, after a read of this name with this answer
 abbrev pub names_after : {T : Type 0} → List (List ℕ) → List ℕ → Result T ShelfError → List (List ℕ)
 names_after names name (Ok _) = names
-names_after names name (Err Failed) = with_name names name
+names_after names name (Err Failed) = names_with names name
 names_after names name (Err NoMemory) = names
 
 -- the shelf in memory, after a read of this name with this answer

@@ -1,7 +1,7 @@
 //! The host's files. No clause tells their bytes: what the host gives for a name is trusted, and
 //! that the first bytes of it are handed on is proved.
 ghost use Rattle.std.specs.Prelude.{◌≡◌, [], ◌≤◌, ◌⊎◌, IfOk, IfSome, vec_len, None};
-ghost use Rattle.pct_outside.specs.Reading.{FirstBytes, with_name};
+ghost use Rattle.pct_outside.specs.Reading.{FirstBytes, names_with};
 ghost use Rattle.pct_outside.specs.ShelfState.{names_after};
 
 use crate::shelves::{Shelf, ShelfError, keep_name};
@@ -50,8 +50,8 @@ impl<R: Files + AllocGlobal + Drop> Shelf for HostShelf<R> {
 
         // As of every shelf.
         ensures most { IfOk result (λ bytes. vec_len bytes ≤ most) }
-        ensures failed { (self.new ≡ self.old) ⊎ (self.new ≡ with_name self.old name.now) }
-        ensures cause { result ≡ Err ShelfError.Failed → self.new ≡ with_name self.old name.now }
+        ensures failed { (self.new ≡ self.old) ⊎ (self.new ≡ names_with self.old name.now) }
+        ensures cause { result ≡ Err ShelfError.Failed → self.new ≡ names_with self.old name.now }
     {
         let read = read_file(&self.rt, name, most);
         if let Err(ShelfError::Failed) = read {

@@ -1,6 +1,7 @@
 //! Two guests who look for each other, each in a thread of its own.
 ghost use Rattle.std.specs.Prelude.{◌≡◌, ◌+◌, ◌-◌, ◌<◌, ◌∷◌, [], length, IfSome, IsTrue};
-ghost use Rattle.pct_outside.specs.Meeting.{Has, MaySee, SawOther, IsPlace, looks_of, place_of};
+ghost use Rattle.pct_outside.specs.Meeting.{HasMoment, MaySee, SawOther, IsGuestWord, looks_of};
+ghost use Rattle.pct_outside.specs.Meeting.{word_of_guest};
 ghost use Rattle.pct_outside.specs.declared.moment.Moment.TheVariants.{Opened, Came};
 
 use crate::moment::Moment;
@@ -16,9 +17,9 @@ pub struct Law;
 impl Rule<Moment, u64> for Law {
     ghost use Rattle.std.specs.Prelude.{[]};
     ghost use base.Fml.{ftrue};
-    ghost use Rattle.pct_outside.specs.Meeting.{IsKept};
+    ghost use Rattle.pct_outside.specs.Meeting.{IsMeeting};
 
-    ghost holds = { λ cells log. IsKept cells log };
+    ghost holds = { λ cells log. IsMeeting cells log };
 
     ghost first = { [] };
 
@@ -54,9 +55,9 @@ impl Opening<u64, Moment> for Opens {
 pub struct Looking;
 
 impl Play<Moment, u64> for Looking {
-    ghost use Rattle.pct_outside.specs.Meeting.{Looks};
+    ghost use Rattle.pct_outside.specs.Meeting.{LooksAtGuest};
 
-    ghost then = { λ s v found w. Looks s v found w };
+    ghost then = { λ s v found w. LooksAtGuest s v found w };
 }
 
 impl Plain<(), Moment, u64> for Looking {
@@ -72,9 +73,9 @@ impl Plain<(), Moment, u64> for Looking {
 pub struct Marking;
 
 impl Play<Moment, u64> for Marking {
-    ghost use Rattle.pct_outside.specs.Meeting.{Marks};
+    ghost use Rattle.pct_outside.specs.Meeting.{MarksArrival};
 
-    ghost then = { λ s v found w. Marks s v found w };
+    ghost then = { λ s v found w. MarksArrival s v found w };
 }
 
 type Known = Seen<Moment, u64, Law>;
@@ -90,9 +91,9 @@ const SAW: u64 = 2;
 
 // A guest comes.
 fn come(mine: &Place, opened: &Known) -> Known
-    requires { IsPlace mine.now opened.now.book × (0 < length opened.now.log) }
+    requires { IsGuestWord mine.now opened.now.book × (0 < length opened.now.log) }
     ensures book { result.book ≡ opened.now.book }
-    ensures came { Has result.log (Came mine.now.key) }
+    ensures came { HasMoment result.log (Came mine.now.key) }
     ensures looks { looks_of result.log ≡ looks_of opened.now.log }
 {
     let mut known = opened.again();
@@ -104,11 +105,11 @@ fn come(mine: &Place, opened: &Known) -> Known
 
 // What a guest that has come learns by a look at the other, if that one has come too.
 fn look(theirs: &Place, known: &Known) -> Option<Known>
-    requires place { IsPlace theirs.now known.now.book }
-    requires came { Has known.now.log (Came (1 - theirs.now.key)) }
+    requires place { IsGuestWord theirs.now known.now.book }
+    requires came { HasMoment known.now.log (Came (1 - theirs.now.key)) }
     ensures book { IfSome result (λ seen. seen.book ≡ known.now.book) }
-    ensures came { IfSome result (λ seen. Has seen.log (Came (1 - theirs.now.key))) }
-    ensures other_came { IfSome result (λ seen. Has seen.log (Came theirs.now.key)) }
+    ensures came { IfSome result (λ seen. HasMoment seen.log (Came (1 - theirs.now.key))) }
+    ensures other_came { IfSome result (λ seen. HasMoment seen.log (Came theirs.now.key)) }
     ensures looks { IfSome result (λ seen. looks_of seen.log ≡ looks_of known.now.log) }
 {
     let mut seen = known.again();
@@ -119,7 +120,7 @@ fn look(theirs: &Place, known: &Known) -> Option<Known>
 
 // Notes that a guest has seen the other.
 fn note(mine: &Place, mut seen: Known)
-    requires place { IsPlace mine.now seen.book }
+    requires place { IsGuestWord mine.now seen.book }
     requires may { MaySee seen.log mine.now.key }
 {
     let mut offer: Offer<Moment, u64, Law, Nothing> = seen.plain::<Nothing, (), Looking>(&());
@@ -129,7 +130,7 @@ fn note(mine: &Place, mut seen: Known)
 
 // What shows that a guest has seen the other, if it has.
 fn sighting(theirs: &Place, opened: &Known) -> Option<Known>
-    requires { IsPlace theirs.now opened.now.book × (0 < length opened.now.log) }
+    requires { IsGuestWord theirs.now opened.now.book × (0 < length opened.now.log) }
     ensures book { IfSome result (λ seen. seen.book ≡ opened.now.book) }
     ensures saw { IfSome result (λ seen. SawOther seen.log theirs.now.key) }
     ensures looks { IfSome result (λ seen. looks_of seen.log ≡ looks_of opened.now.log) }
@@ -142,8 +143,8 @@ fn sighting(theirs: &Place, opened: &Known) -> Option<Known>
 
 // A guest comes, and looks for the other so many times.
 fn meet(mine: &Place, theirs: &Place, opened: &Known, looks: u64)
-    requires mine { IsPlace mine.now opened.now.book }
-    requires theirs { IsPlace theirs.now opened.now.book }
+    requires mine { IsGuestWord mine.now opened.now.book }
+    requires theirs { IsGuestWord theirs.now opened.now.book }
     requires apart { mine.now.key + theirs.now.key ≡ 1 }
     requires looks { (0 < length opened.now.log) × (looks ≡ looks_of opened.now.log) }
 {
@@ -164,8 +165,8 @@ pub struct Meeting {
     one: Place,
     other: Place,
     opened: Known,
-    ghost one_is: { one ≡ place_of 0 opened.book },
-    ghost other_is: { other ≡ place_of 1 opened.book },
+    ghost one_is: { one ≡ word_of_guest 0 opened.book },
+    ghost other_is: { other ≡ word_of_guest 1 opened.book },
     ghost opened_for: { opened.log ≡ Opened looks ∷ [] },
 }
 

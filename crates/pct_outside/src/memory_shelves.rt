@@ -3,7 +3,7 @@ ghost use Rattle.std.specs.Prelude.{◌≡◌, ◌≢◌, [], ◌≤◌, ◌⊎�
 ghost use Rattle.std.specs.Prelude.{option_copied, option_map};
 ghost use Rattle.std.specs.FinMap as map;
 ghost use Rattle.pct_outside.specs.Files.{bytes_of};
-ghost use Rattle.pct_outside.specs.Reading.{FirstBytes, with_name};
+ghost use Rattle.pct_outside.specs.Reading.{FirstBytes, names_with};
 ghost use Rattle.pct_outside.specs.ShelfState.{is_refused, after_read, FailsOnly};
 
 use crate::calls::Calls;
@@ -22,13 +22,13 @@ struct FileMap {
 impl Model for FileMap {
     ghost use Rattle.std.specs.Prelude.{ℕ, List, map};
     ghost use Rattle.std.specs.FinMap.{from_entries};
-    ghost use Rattle.pct_outside.specs.Files.{Files, coded_files, file_of};
+    ghost use Rattle.pct_outside.specs.Files.{Files, coded_files, name_and_bytes};
 
     ghost Value = { Files };
 
     ghost coded = { coded_files };
 
-    ghost view = { λ s. from_entries (map file_of s.files.entries) };
+    ghost view = { λ s. from_entries (map name_and_bytes s.files.entries) };
 }
 
 impl FileMap {
@@ -137,9 +137,9 @@ impl Shelf for MemoryShelf {
             FirstBytes most (bytes_of self.old.files name.now) bytes.items) }
         ensures files { self.new.files ≡ self.old.files }
         ensures failed { (self.new.failed ≡ self.old.failed)
-            ⊎ (self.new.failed ≡ with_name self.old.failed name.now) }
+            ⊎ (self.new.failed ≡ names_with self.old.failed name.now) }
         ensures cause { result ≡ Err ShelfError.Failed
-            → self.new.failed ≡ with_name self.old.failed name.now }
+            → self.new.failed ≡ names_with self.old.failed name.now }
     {
         let fails = self.calls.next_fails();
         match self.files.get(name) {

@@ -3,7 +3,7 @@ ghost use Rattle.std.specs.Prelude.{◌≡◌, ℕ, ◌≤◌, List, ◌⊎◌, 
 ghost use Rattle.std.specs.Prelude.{vec_len};
 ghost use Rattle.std.specs.IoError.{error_kind};
 ghost use Rattle.std.specs.declared.io.ErrorKind.TheVariants.{OutOfMemory};
-ghost use Rattle.pct_outside.specs.Reading.{FirstOf, with_name, texts_of};
+ghost use Rattle.pct_outside.specs.Reading.{FirstOf, names_with, texts_of};
 ghost use Rattle.pct_outside.specs.declared.shelves.ShelfError.TheVariants.{NoMemory};
 
 use std::alloc::{AllocError, AllocFailed, Global};
@@ -64,9 +64,9 @@ pub trait Shelf {
 
         // No name is kept but this one, and that of a failed read is.
         ensures failed { (failed self.new ≡ failed self.old)
-            ⊎ (failed self.new ≡ with_name (failed self.old) name.now) }
+            ⊎ (failed self.new ≡ names_with (failed self.old) name.now) }
         ensures cause { result ≡ Err ShelfError.Failed
-            → failed self.new ≡ with_name (failed self.old) name.now };
+            → failed self.new ≡ names_with (failed self.old) name.now };
 }
 
 /// Keeps the name of a read that failed.
@@ -76,7 +76,7 @@ pub(crate) fn keep_name(
     name: &str,
 ) -> Result<(), AllocError>
     ensures ok { OnOk result
-        (texts_of names.new.items ≡ with_name (texts_of names.old.items) name.now) }
+        (texts_of names.new.items ≡ names_with (texts_of names.old.items) name.now) }
     ensures err { OnErr result (names.new.items ≡ names.old.items) }
 {
     names.push(String::from_str(alloc, name)?)?;

@@ -3,7 +3,7 @@ ghost use Rattle.std.specs.Prelude.{◌≡◌, ℕ, ◌≤◌, List, ◌↔◌, 
 ghost use Rattle.std.specs.IoError.{error_kind};
 ghost use Rattle.std.specs.declared.io.ErrorKind.TheVariants.{OutOfMemory};
 ghost use Rattle.pct_outside.specs.Counter.{Rose};
-ghost use Rattle.pct_outside.specs.Piece.{Appended, AppendedPart};
+ghost use Rattle.pct_outside.specs.Piece.{IsAppended, IsPartAppended};
 ghost use Rattle.pct_outside.specs.declared.sinks.SinkError.TheVariants.{NoMemory};
 
 use std::io;
@@ -43,8 +43,9 @@ pub trait Sink {
 
     /// Puts a piece behind what was put before.
     fn put(&mut self, piece: &[u8]) -> Result<(), SinkError>
-        ensures whole { OnOk result (Appended piece.now (written self.old) (written self.new)) }
-        ensures part { OnErr result (AppendedPart piece.now (written self.old) (written self.new)) }
+        ensures whole { OnOk result (IsAppended piece.now (written self.old) (written self.new)) }
+        ensures part { OnErr result
+            (IsPartAppended piece.now (written self.old) (written self.new)) }
 
         // Each error has its count, which rose in this call.
         ensures failed { result ≡ Err SinkError.Failed → Rose (faults self.old) (faults self.new) }

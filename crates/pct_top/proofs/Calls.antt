@@ -1,6 +1,6 @@
 -- What a call does to the streams, from what comes of its words.
 use Rattle.std.proofs.Common.{◌≡◌, ℕ, List, [], inl, inr, Some, Result, Ok, Err, refl, sym, subst}
-use Rattle.pct_outside.specs.Piece.{Appended, AppendedPart}
+use Rattle.pct_outside.specs.Piece.{IsAppended, IsPartAppended}
 use Rattle.pct_outside.proofs.laws.Pieces.{Appended-nil, AppendedPart-nil}
 use Rattle.pct_top.specs.declared.refusal.Refusal.{Refusal}
 use Rattle.pct_top.specs.declared.refusal.Refusal.TheVariants.{Usage, Script, Trace, Directive}
@@ -9,14 +9,15 @@ use Rattle.pct_top.specs.declared.settings.Settings.{Settings}
 use Rattle.pct_top.specs.declared.outcome.Outcome.{Outcome}
 use Rattle.pct_top.specs.declared.status.Status.{Status}
 use Rattle.pct_top.specs.declared.status.Status.TheVariants as statuses
-use Rattle.pct_top.specs.Settings.{Taken, settings, ReadsAs}
+use Rattle.pct_top.specs.Settings.{SettingsOrWord, settings, ReadsWordsAs}
 use Rattle.pct_top.specs.Refusing.{status_of_refusal, refusal_line}
-use Rattle.pct_top.specs.Saying.{Says}
-use Rattle.pct_top.specs.Printed.{Files, Printed, refused}
+use Rattle.pct_top.specs.Saying.{SaysLine}
+use Rattle.pct_top.specs.Printed.{Files, Printed, printed_refusal}
 use Rattle.pct_top.specs.Output.{OfTaken, Output}
-use Rattle.pct_top.specs.Outcome.{printed_of, Shows, Comes}
+use Rattle.pct_top.specs.Outcome.{printed_of, ShowsFiles, Comes}
 use Rattle.pct_top.specs.Outside.{ShelfTold, StreamTold, Outside}
-use Rattle.pct_top.specs.Call.{IsAnswer, PrintsOne, PutsAll, PutsOutcome, RefusedFirst, ReadFailed}
+use Rattle.pct_top.specs.Call.{IsCarriedOut, PrintsOne, PutsAll, PutsOutcome, RefusedFirst}
+use Rattle.pct_top.specs.Call.{ReadFailed}
 use Rattle.pct_top.specs.Call.{Answers, RefusedWords, CanRun, Completes, PrintsAll, IsExact}
 use Rattle.pct_top.specs.Call.{PrintsWhole, Refuses, Ends, IsCall}
 use Rattle.pct_top.proofs.OneReport.{told_answers}
@@ -24,7 +25,7 @@ use Rattle.pct_top.proofs.OnePrinted.{one_printed, printed_answers}
 
 -- ---- what is put
 
-module _ (taken : Taken) (shelf shelf' : ShelfTold) where
+module _ (taken : SettingsOrWord) (shelf shelf' : ShelfTold) where
   pub answers_refused : (stream : StreamTold) (refusal : Refusal)
       → Comes (OfTaken taken) shelf.files (ReadFailed taken shelf shelf') (Err refusal)
       → Answers taken shelf shelf' stream stream (Err refusal)
@@ -37,10 +38,10 @@ module _ (taken : Taken) (shelf shelf' : ShelfTold) where
   answers_refused stream Memory h = inl refl
 
   pub answers_put : (before after : StreamTold) (outcome : Outcome) (r : Result Status Refusal)
-      → Shows (OfTaken taken) shelf.files (printed_of outcome)
+      → ShowsFiles (OfTaken taken) shelf.files (printed_of outcome)
       → PutsOutcome (printed_of outcome) before after r → Answers taken shelf shelf' before after r
   answers_put before after outcome (Ok status) h p = (
-    subst IsAnswer (sym p.1) (told_answers outcome.text.items outcome.done),
+    subst IsCarriedOut (sym p.1) (told_answers outcome.text.items outcome.done),
     λ files e. (printed_of outcome, h files e, p),
   )
   answers_put before after outcome (Err (Usage word)) h p = absurd p
@@ -54,29 +55,32 @@ module _ (taken : Taken) (shelf shelf' : ShelfTold) where
       inr (λ files e. (printed_of outcome, h files e, (refl, p)))
 
 -- the words were read as these settings
-pub answers_taken : (taken : Taken) (asked : Settings) (shelf shelf' : ShelfTold)
-    (before after : StreamTold) (r : Result Status Refusal) → ReadsAs (Ok asked) taken
+pub answers_taken : (taken : SettingsOrWord) (asked : Settings) (shelf shelf' : ShelfTold)
+    (before after : StreamTold) (r : Result Status Refusal) → ReadsWordsAs (Ok asked) taken
     → Answers (Ok asked) shelf shelf' before after r → Answers taken shelf shelf' before after r
 answers_taken taken asked shelf shelf' before after r reads h =
-    subst (λ (t : Taken). Answers t shelf shelf' before after r) (sym reads) h
+    subst (λ (t : SettingsOrWord). Answers t shelf shelf' before after r) (sym reads) h
 
-pub answers_untaken : (taken : Taken) (word : ℕ) (shelf : ShelfTold) (stream : StreamTold)
+pub answers_untaken : (taken : SettingsOrWord) (word : ℕ) (shelf : ShelfTold) (stream : StreamTold)
     → taken ≡ Err word → Answers taken shelf shelf stream stream (Err (Usage word))
-answers_untaken taken word shelf stream is =
-    (refl, λ files e. subst (λ (t : Taken). OfTaken t files (refused (Usage word))) (sym is) refl)
+answers_untaken taken word shelf stream is = (
+  refl,
+  λ files e. subst (λ (t : SettingsOrWord). OfTaken t files (printed_refusal (Usage word)))
+      (sym is) refl,
+)
 
 -- ---- words that aren't taken
 
-pub refused_not : (taken : Taken) (asked : Settings) (r : Result Status Refusal)
-    → ReadsAs (Ok asked) taken → RefusedFirst taken r
-refused_not taken asked r reads = subst (λ (t : Taken). RefusedFirst t r) (sym reads) tt
+pub refused_not : (taken : SettingsOrWord) (asked : Settings) (r : Result Status Refusal)
+    → ReadsWordsAs (Ok asked) taken → RefusedFirst taken r
+refused_not taken asked r reads = subst (λ (t : SettingsOrWord). RefusedFirst t r) (sym reads) tt
 
-refused_ran : (taken : Taken) (status : Status) → RefusedFirst taken (Ok status)
+refused_ran : (taken : SettingsOrWord) (status : Status) → RefusedFirst taken (Ok status)
     → RefusedWords taken status
 refused_ran (Ok asked) status h = tt
 refused_ran (Err number) status h = absurd h
 
-refused_said : (taken : Taken) (refusal : Refusal) → RefusedFirst taken (Err refusal)
+refused_said : (taken : SettingsOrWord) (refusal : Refusal) → RefusedFirst taken (Err refusal)
     → RefusedWords taken (status_of_refusal refusal)
 refused_said (Ok asked) refusal h = tt
 refused_said (Err number) (Usage word) h = tt
@@ -90,17 +94,18 @@ refused_said (Err number) Memory h = tt
 -- ---- the whole call
 
 module _ (words : List (List ℕ)) (found left : Outside) where
-  abbrev taken : Taken
+  abbrev taken : SettingsOrWord
   taken = settings words
 
   abbrev Is : Result Status Refusal → Type 0
   Is r = Answers taken found.shelf left.shelf found.output left.output r
 
   says_nothing : (line : List ℕ) → line ≡ [] → left.errors ≡ found.errors
-      → Says line found.errors left.errors
+      → SaysLine line found.errors left.errors
   says_nothing line none same =
-      let P : StreamTold → Type 0 = λ s. Says line found.errors s in
-      subst P (sym same) (inl (subst (λ l. Appended l (found.errors).written (found.errors).written)
+      let P : StreamTold → Type 0 = λ s. SaysLine line found.errors s in
+      subst P (sym same)
+      (inl (subst (λ l. IsAppended l (found.errors).written (found.errors).written)
       (sym none) (Appended-nil (found.errors).written)))
 
   whole : (status : Status) → left.errors ≡ found.errors
@@ -123,21 +128,21 @@ module _ (words : List (List ℕ)) (found left : Outside) where
   ends_ran statuses.NoMemory same p = absurd p.0
 
   put_nothing : left.output ≡ found.output
-      → Appended [] (found.output).written (left.output).written
+      → IsAppended [] (found.output).written (left.output).written
   put_nothing same =
-      subst (λ (s : StreamTold). Appended [] (found.output).written s.written) (sym same)
+      subst (λ (s : StreamTold). IsAppended [] (found.output).written s.written) (sym same)
       (Appended-nil (found.output).written)
 
   refuses : (refusal : Refusal) → left.output ≡ found.output
-      → Shows (OfTaken taken) (found.shelf).files (refused refusal)
-      → Says (refusal_line refusal) found.errors left.errors
+      → ShowsFiles (OfTaken taken) (found.shelf).files (printed_refusal refusal)
+      → SaysLine (refusal_line refusal) found.errors left.errors
       → Refuses words found left (status_of_refusal refusal)
   refuses refusal same shows says =
-      (same, λ files e. (refused refusal, shows files e, (refl, put_nothing same, says)))
+      (same, λ files e. (printed_refusal refusal, shows files e, (refl, put_nothing same, says)))
 
   -- there is no whole output, and this was said
   ends_said : (refusal : Refusal) → Is (Err refusal)
-      → Says (refusal_line refusal) found.errors left.errors
+      → SaysLine (refusal_line refusal) found.errors left.errors
       → Ends words found left (status_of_refusal refusal)
   ends_said (Usage word) p says = refuses (Usage word) p.0 p.1 says
   ends_said (Script line kind) p says = refuses (Script line kind) p.0 p.1 says
@@ -172,7 +177,7 @@ module _ (words : List (List ℕ)) (found left : Outside) where
   exact statuses.WriteFault h = λ files is printed may. (part _ h.1 files is printed may).1
   exact statuses.NoMemory h = λ files is printed may. elim h.0 [
     | inl same ↦ subst (λ (s : StreamTold).
-        AppendedPart printed.out (found.output).written s.written) (sym same)
+        IsPartAppended printed.out (found.output).written s.written) (sym same)
         (AppendedPart-nil printed.out (found.output).written)
     | inr some ↦ (part _ some files is printed may).1
   ]
@@ -180,9 +185,9 @@ module _ (words : List (List ℕ)) (found left : Outside) where
   -- ---- what can run does
 
   made : (status : Status) → PrintsWhole words found left status → (files : Files)
-      → (found.shelf).files ≡ Some files → CanRun taken files → IsAnswer status
+      → (found.shelf).files ≡ Some files → CanRun taken files → IsCarriedOut status
   made status h files is can = let q = h files is in
-      subst IsAnswer (sym q.2.0) (printed_answers taken files q.0 can q.1)
+      subst IsCarriedOut (sym q.2.0) (printed_answers taken files q.0 can q.1)
 
   completes : (status : Status) → Ends words found left status → Completes words found left status
   completes statuses.Done h = λ files is can unread unfaulted. inl tt
@@ -221,7 +226,7 @@ module _ (words : List (List ℕ)) (found left : Outside) where
 
   pub call_said : (status : Status) (refusal : Refusal) → status ≡ status_of_refusal refusal
       → Is (Err refusal) → RefusedFirst taken (Err refusal)
-      → Says (refusal_line refusal) found.errors left.errors → IsCall words found left status
+      → SaysLine (refusal_line refusal) found.errors left.errors → IsCall words found left status
   call_said status refusal is p first says =
       subst (IsCall words found left) (sym is)
       (call_of (status_of_refusal refusal) (ends_said refusal p says)

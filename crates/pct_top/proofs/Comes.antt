@@ -4,9 +4,9 @@ use Rattle.std.proofs.Common.{subst, ap, take, ◌∙◌, arith}
 use Rattle.std.proofs.lemmas.List.{append_assoc}
 use Rattle.pct_ask.specs.declared.Deal.{Deal}
 use Rattle.pct_ask.specs.NameLists.{NameLists}
-use Rattle.pct_outside.specs.Reading.{FirstOf, with_name}
+use Rattle.pct_outside.specs.Reading.{FirstOf, names_with}
 use Rattle.script_tree.specs.ScriptText.{ScriptText}
-use Rattle.script_tree.specs.ScriptSeen.{text}
+use Rattle.script_tree.specs.ScriptSeen.{plain_script}
 use Rattle.script_tree.specs.Grammar.{Spells}
 use Rattle.directive.specs.declared.directive.Directive.{Directive}
 use Rattle.trace_text.specs.declared.file.TraceFile.{TraceFile}
@@ -17,17 +17,18 @@ use Rattle.pct_top.specs.declared.refusal.Refusal.TheVariants.{Write, Memory}
 use Rattle.pct_top.specs.declared.outcome.Outcome.{Outcome}
 use Rattle.pct_top.specs.declared.settings.Settings.{Settings}
 use Rattle.pct_top.specs.declared.test.Test.{Test}
-use Rattle.pct_top.specs.Ready.{IsReady}
+use Rattle.pct_top.specs.Ready.{IsReadyTest}
 use Rattle.pct_top.specs.Ordered.{NamesAll}
-use Rattle.pct_top.specs.Printed.{Files, Printed, refused, trace_bytes, directive_bytes, OfScript}
+use Rattle.pct_top.specs.Printed.{Files, Printed, printed_refusal, trace_bytes, directive_bytes}
+use Rattle.pct_top.specs.Printed.{OfScript}
 use Rattle.pct_top.specs.Printed.{OfOrder, OfTrace, OfDirective}
 use Rattle.pct_top.specs.Priorities.{GivesOrder}
 use Rattle.pct_top.specs.Output.{script_file, script_text}
-use Rattle.pct_top.specs.Outcome.{printed_of, Gives, Shows, Comes}
+use Rattle.pct_top.specs.Outcome.{printed_of, GivesPrinted, ShowsFiles, Comes}
 use Rattle.pct_top.specs.Files.{HasText, KeepsNames, Misses, GivesTest, GivesTrace, HasTrace}
 use Rattle.pct_top.specs.Files.{GivesDirective, HasDirective}
 use Rattle.pct_top.specs.Outside.{ShelfTold}
-use Rattle.pct_top.specs.Call.{Gained, MissesSecond, ReadFailed}
+use Rattle.pct_top.specs.Call.{IsGained, MissesSecond, ReadFailed}
 
 -- ---- what was read
 
@@ -40,17 +41,17 @@ first_bytes told file most bytes P first p =
     subst (λ t. FirstOf t file most bytes) e first in subst P is p
 
 -- the name of a read that failed is a new one
-missed_one : (name : List ℕ) (failed failed' : List (List ℕ)) → failed' ≡ with_name failed name
-    → Gained name failed failed'
+missed_one : (name : List ℕ) (failed failed' : List (List ℕ)) → failed' ≡ names_with failed name
+    → IsGained name failed failed'
 missed_one name failed failed' is = (name ∷ [], is, (0, omega arith, refl))
 
 missed_after : (name : List ℕ) (failed middle failed' : List (List ℕ)) → KeepsNames failed middle
-    → failed' ≡ with_name middle name → Gained name failed failed'
+    → failed' ≡ names_with middle name → IsGained name failed failed'
 missed_after name failed middle failed' (inl same) is =
-    missed_one name failed failed' (is ∙ ap (λ l. with_name l name) same)
+    missed_one name failed failed' (is ∙ ap (λ l. names_with l name) same)
 missed_after name failed middle failed' (inr one) is = (
   one.0 ∷ name ∷ [],
-  is ∙ ap (λ l. with_name l name) one.1 ∙ append_assoc failed (one.0 ∷ []) (name ∷ []),
+  is ∙ ap (λ l. names_with l name) one.1 ∙ append_assoc failed (one.0 ∷ []) (name ∷ []),
   (1, omega arith, refl),
 )
 
@@ -58,7 +59,7 @@ missed_after name failed middle failed' (inr one) is = (
 
 -- what one script gives doesn't look at files
 pub comes_plain : (of : Printed → Type 0) (told : Option Files) (missed : Type 0)
-    (r : Result Outcome Refusal) → Gives of r → Comes (λ files. of) told missed r
+    (r : Result Outcome Refusal) → GivesPrinted of r → Comes (λ files. of) told missed r
 comes_plain of told missed (Ok outcome) h = λ files e. h
 comes_plain of told missed (Err (Usage word)) h = λ files e. h
 comes_plain of told missed (Err (Script line kind)) h = λ files e. h
@@ -83,7 +84,8 @@ comes_as of told missed other therefore (Err Memory) h = h
 
 -- what may be printed whatever the files are, where none is read
 pub gives_comes : (of : Files → Printed → Type 0) (told : Option Files) (missed : Type 0)
-    (r : Result Outcome Refusal) → ((files : Files) → Gives (of files) r) → Comes of told missed r
+    (r : Result Outcome Refusal) → ((files : Files) → GivesPrinted (of files) r)
+    → Comes of told missed r
 gives_comes of told missed (Ok outcome) h = λ files e. h files
 gives_comes of told missed (Err (Usage word)) h = λ files e. h files
 gives_comes of told missed (Err (Script line kind)) h = λ files e. h files
@@ -96,8 +98,8 @@ gives_comes of told missed (Err Memory) h = tt
 -- an order that isn't given
 pub order_refused : (names : NameLists) (items : List (List ℕ)) (word : ℕ)
     (of : List ℕ → Printed → Type 0) (refusal : Refusal) → GivesOrder names items word (Err refusal)
-    → Gives (OfOrder names items word of) (Err refusal)
-order_refused names items word of (Usage n) h = inr (h.1, ap (λ w. refused (Usage w)) h.0)
+    → GivesPrinted (OfOrder names items word of) (Err refusal)
+order_refused names items word of (Usage n) h = inr (h.1, ap (λ w. printed_refusal (Usage w)) h.0)
 order_refused names items word of (Script line kind) h = absurd h
 order_refused names items word of (Trace line kind) h = absurd h
 order_refused names items word of (BadDirective line kind) h = absurd h
@@ -123,7 +125,7 @@ module _ (told : Option Files) (file : List ℕ) (names : NameLists)
 
   -- what is printed of the trace
   pub trace_shown : (trace : TraceFile) (printed : Printed) → HasTrace told file names trace
-      → of trace printed → Shows OfFile told printed
+      → of trace printed → ShowsFiles OfFile told printed
   trace_shown trace printed has h = λ files e. inl (trace, has.1 files e, h)
 
 module _ (told : Option Files) (file : List ℕ) (names : NameLists)
@@ -144,7 +146,8 @@ module _ (told : Option Files) (file : List ℕ) (names : NameLists)
 
   -- what is printed of the directive
   pub directive_shown : (directive : Directive) (printed : Printed)
-      → HasDirective told file names directive → of directive printed → Shows OfPlan told printed
+      → HasDirective told file names directive → of directive printed
+      → ShowsFiles OfPlan told printed
   directive_shown directive printed has h = λ files e. inl (directive, has.1 files e, h)
 
 -- ---- an order, and what comes after it
@@ -157,7 +160,7 @@ module _ (told : Option Files) (names : NameLists) (items : List (List ℕ)) (wo
   -- the names give no order
   pub unordered : (refusal : Refusal) → GivesOrder names items word (Err refusal)
       → Comes OfOrdered told missed (Err refusal)
-  unordered (Usage n) h = λ files e. inr (h.1, ap (λ w. refused (Usage w)) h.0)
+  unordered (Usage n) h = λ files e. inr (h.1, ap (λ w. printed_refusal (Usage w)) h.0)
   unordered (Script line kind) h = absurd h
   unordered (Trace line kind) h = absurd h
   unordered (BadDirective line kind) h = absurd h
@@ -167,19 +170,21 @@ module _ (told : Option Files) (names : NameLists) (items : List (List ℕ)) (wo
 
   module _ (order : List ℕ) (gives : NamesAll names items order) where
     -- this may be printed of the order
-    pub ordered_shown : (printed : Printed) → Shows (λ files. of files order) told printed
-        → Shows OfOrdered told printed
+    pub ordered_shown : (printed : Printed) → ShowsFiles (λ files. of files order) told printed
+        → ShowsFiles OfOrdered told printed
     ordered_shown printed h = λ files e. inl (order, gives, h files e)
 
     -- what comes of the order
     pub ordered : (missed_second : Type 0) → (missed_second → missed) → (r : Result Outcome Refusal)
         → Comes (λ files. of files order) told missed_second r → Comes OfOrdered told missed r
     ordered m therefore (Ok outcome) h = ordered_shown (printed_of outcome) h
-    ordered m therefore (Err (Usage n)) h = ordered_shown (refused (Usage n)) h
-    ordered m therefore (Err (Script line kind)) h = ordered_shown (refused (Script line kind)) h
-    ordered m therefore (Err (Trace line kind)) h = ordered_shown (refused (Trace line kind)) h
+    ordered m therefore (Err (Usage n)) h = ordered_shown (printed_refusal (Usage n)) h
+    ordered m therefore (Err (Script line kind)) h =
+        ordered_shown (printed_refusal (Script line kind)) h
+    ordered m therefore (Err (Trace line kind)) h =
+        ordered_shown (printed_refusal (Trace line kind)) h
     ordered m therefore (Err (BadDirective line kind)) h =
-        ordered_shown (refused (BadDirective line kind)) h
+        ordered_shown (printed_refusal (BadDirective line kind)) h
     ordered m therefore (Err Read) h = therefore h
     ordered m therefore (Err Write) h = absurd h
     ordered m therefore (Err Memory) h = tt
@@ -202,22 +207,27 @@ module _ (told : Option Files) (source : Files → List ℕ)
   comes_untested m therefore Write h = absurd h
   comes_untested m therefore Memory h = tt
 
-  module _ (test : Test) (spells : HasText told source (λ bytes. Spells bytes (text test.script)))
-      (ready : IsReady test) where
-    shown : (printed : Printed) → Shows (λ files. over files (text test.script) test.deal) told
-        printed → Shows Of told printed
+  module _ (test : Test)
+      (spells : HasText told source (λ bytes. Spells bytes (plain_script test.script)))
+      (ready : IsReadyTest test) where
+    shown : (printed : Printed)
+        → ShowsFiles (λ files. over files (plain_script test.script) test.deal) told
+        printed → ShowsFiles Of told printed
     shown printed h =
-        λ files e. inl (text test.script, spells files e, (test.deal, ready.is_deal, h files e))
+        λ files e. inl
+        (plain_script test.script, spells files e, (test.deal, ready.is_deal, h files e))
 
     pub comes_tested : (missed_second : Type 0) → (missed_second → missed)
-        → (r : Result Outcome Refusal) → Comes (λ files. over files (text test.script) test.deal)
+        → (r : Result Outcome Refusal)
+        → Comes (λ files. over files (plain_script test.script) test.deal)
         told missed_second r → Comes Of told missed r
     comes_tested m therefore (Ok outcome) h = shown (printed_of outcome) h
-    comes_tested m therefore (Err (Usage word)) h = shown (refused (Usage word)) h
-    comes_tested m therefore (Err (Script line kind)) h = shown (refused (Script line kind)) h
-    comes_tested m therefore (Err (Trace line kind)) h = shown (refused (Trace line kind)) h
+    comes_tested m therefore (Err (Usage word)) h = shown (printed_refusal (Usage word)) h
+    comes_tested m therefore (Err (Script line kind)) h =
+        shown (printed_refusal (Script line kind)) h
+    comes_tested m therefore (Err (Trace line kind)) h = shown (printed_refusal (Trace line kind)) h
     comes_tested m therefore (Err (BadDirective line kind)) h =
-        shown (refused (BadDirective line kind)) h
+        shown (printed_refusal (BadDirective line kind)) h
     comes_tested m therefore (Err Read) h = therefore h
     comes_tested m therefore (Err Write) h = absurd h
     comes_tested m therefore (Err Memory) h = tt

@@ -4,7 +4,7 @@ use Rattle.std.proofs.Common.{ap, take, ◌∙◌, arith}
 use Rattle.std.specs.Prelude.{All, Bool, true, codes, ◌∷◌}
 use Rattle.std.proofs.lemmas.List.{take_all, append-nil}
 use Rattle.std.proofs.lemmas.List.Elements.{All-map}
-use Rattle.pct_ask.specs.VerdictText.{named, verdict_words}
+use Rattle.pct_ask.specs.VerdictText.{named_verdict, verdict_words}
 use Rattle.pct_ask.specs.TraceText.{line_text}
 use Rattle.pct_ask.specs.declared.Deal.{Deal}
 use Rattle.pct_ask.specs.declared.event.Event.{Event}
@@ -26,18 +26,19 @@ use Rattle.pct_top.specs.declared.refusal.Refusal.TheVariants.{Usage, Script}
 use Rattle.pct_top.specs.declared.refusal.Refusal.TheVariants.{Directive as BadDirective}
 use Rattle.pct_top.specs.declared.settings.Report.TheVariants.{Trace}
 use Rattle.pct_top.specs.declared.settings.Settings.TheVariants.{RunOrder, RunSeed, Expose}
-use Rattle.pct_top.specs.Settings.{Taken, settings}
-use Rattle.pct_top.specs.Printed.{Files, Printed, told, script_bytes, trace_bytes}
-use Rattle.pct_top.specs.Runs.{run_of, is_passed, file_of, traced, TellsRun}
+use Rattle.pct_top.specs.Settings.{SettingsOrWord, settings}
+use Rattle.pct_top.specs.Printed.{Files, Printed, printed_text, script_bytes, trace_bytes}
+use Rattle.pct_top.specs.Runs.{run_of, is_passed, file_of_run, trace_of_run, TellsRun}
 use Rattle.pct_top.specs.commands.Run.{PrintsTrace}
-use Rattle.pct_top.specs.commands.Replay.{replied}
+use Rattle.pct_top.specs.commands.Replay.{printed_reply}
 use Rattle.pct_top.specs.commands.Expose.{TellsExposed}
 use Rattle.pct_ask.specs.SameVerdict.{same_verdict}
 use Rattle.directive_run.specs.declared.answers.Exposed.{Exposed}
 use Rattle.directive_run.specs.declared.answers.Exposed.TheVariants.{Points, TooLong}
 use Rattle.pct_top.specs.Output.{OfTaken}
-use Rattle.pct_top.specs.Call.{IsAnswer}
-use Rattle.pct_top.specs.Confirmed.{RunsFile, confirmed, IsConfirmedTrace, RunsAreConfirmed}
+use Rattle.pct_top.specs.Call.{IsCarriedOut}
+use Rattle.pct_top.specs.Confirmed.{RunsFile, printed_confirmation, IsConfirmedTrace}
+use Rattle.pct_top.specs.Confirmed.{RunsAreConfirmed}
 use Rattle.pct_top.specs.Confirmed.{ExposesFile, TellsLong, ExposedAreConfirmed}
 use Rattle.pct_top.proofs.Refusals.{not_refused}
 
@@ -50,9 +51,9 @@ module _ (script : ScriptText) (deal : Deal) (of : IsDealOf script deal) (order 
     (runs : run_of script deal order points limit ≡ Some ended)
     (tells : TellsRun script order points limit ended done printed) where
   abbrev file : TraceFile
-  file = file_of script order points limit ended
+  file = file_of_run script order points limit ended
 
-  abbrev whole : IsTrace (traced script order points limit ended) script.names file
+  abbrev whole : IsTrace (trace_of_run script order points limit ended) script.names file
   whole = tells.whole
 
   -- the trace's list of threads runs as the trace tells
@@ -74,14 +75,14 @@ module _ (script : ScriptText) (deal : Deal) (of : IsDealOf script deal) (order 
         tells = (refl, refl, refl);
       }
 
-  out_is : printed.out ≡ traced script order points limit ended
+  out_is : printed.out ≡ trace_of_run script order points limit ended
   out_is = ap (λ (p : Printed). p.out) tells.is
 
-  one_line : confirmed script.names ended.1 ≡ replied script (Confirmed ended.1)
+  one_line : printed_confirmation script.names ended.1 ≡ printed_reply script (Confirmed ended.1)
   one_line =
-      ap (λ (text : List ℕ). told text true)
+      ap (λ (text : List ℕ). printed_text text true)
       (sym (append-nil (line_text (codes "confirmed"
-      ∷ verdict_words (named script.names ended.1)))))
+      ∷ verdict_words (named_verdict script.names ended.1)))))
 
   confirms : (files : Files) (name : List ℕ) → Spells (take script_bytes (files name)) script
       → IsSo files name printed
@@ -91,9 +92,9 @@ module _ (script : ScriptText) (deal : Deal) (of : IsDealOf script deal) (order 
     spells,
     (file, subst (λ text. IsTrace text script.names file) (sym out_is) whole, refl),
     λ later trace same written.
-        let text : take trace_bytes (later trace) ≡ traced script order points limit ended =
+        let text : take trace_bytes (later trace) ≡ trace_of_run script order points limit ended =
         ap (take trace_bytes) (written ∙ out_is)
-        ∙ take_all trace_bytes (traced script order points limit ended)
+        ∙ take_all trace_bytes (trace_of_run script order points limit ended)
         (omega (arith, whole.small)) in
         inl (
           script,
@@ -118,21 +119,22 @@ traced_so script deal of order points limit printed prints =
     confirms script deal of order points limit printed prints.0 (is_passed (prints.0).1) prints.1
     prints.2
 
-by_taken : (taken : Taken) (files : Files) (printed : Printed) (name : List ℕ) → RunsFile taken name
-    → OfTaken taken files printed → IsAnswer printed.status → IsSo files name printed
+by_taken : (taken : SettingsOrWord) (files : Files) (printed : Printed) (name : List ℕ)
+    → RunsFile taken name
+    → OfTaken taken files printed → IsCarriedOut printed.status → IsSo files name printed
 by_taken (Ok (RunOrder file order word points limit Trace)) files printed name same (inl of)
     answers = elim of.2.2 [
       | inl given ↦ subst (λ n. IsSo files n printed) (sym same)
           (traced_so of.0 of.2.0 of.2.1 given.0 points limit printed given.2 files file of.1)
-      | inr none ↦ absurd (not_refused IsAnswer (Usage word) printed none.1 (λ h. h) answers)
+      | inr none ↦ absurd (not_refused IsCarriedOut (Usage word) printed none.1 (λ h. h) answers)
     ]
 by_taken (Ok (RunOrder file order word points limit Trace)) files printed name same (inr bad)
-    answers = absurd (not_refused IsAnswer (Script bad.0 bad.1) printed bad.3 (λ h. h) answers)
+    answers = absurd (not_refused IsCarriedOut (Script bad.0 bad.1) printed bad.3 (λ h. h) answers)
 by_taken (Ok (RunSeed file seed depth steps limit Trace)) files printed name same (inl of) answers =
     subst (λ n. IsSo files n printed) (sym same)
     (traced_so of.0 of.2.0 of.2.1 _ _ limit printed of.2.2.2 files file of.1)
 by_taken (Ok (RunSeed file seed depth steps limit Trace)) files printed name same (inr bad)
-    answers = absurd (not_refused IsAnswer (Script bad.0 bad.1) printed bad.3 (λ h. h) answers)
+    answers = absurd (not_refused IsCarriedOut (Script bad.0 bad.1) printed bad.3 (λ h. h) answers)
 by_taken taken files printed name same of answers = absurd same
 
 pub runs_confirmed : RunsAreConfirmed
@@ -153,8 +155,8 @@ exposed_so script deal of order limit verdict (Points points played) printed tel
 exposed_so script deal of order limit verdict (TooLong many) printed tells files name spells =
     inl (many, tells)
 
-exposed_by : (taken : Taken) (files : Files) (printed : Printed) (name : List ℕ)
-    → ExposesFile taken name → OfTaken taken files printed → IsAnswer printed.status
+exposed_by : (taken : SettingsOrWord) (files : Files) (printed : Printed) (name : List ℕ)
+    → ExposesFile taken name → OfTaken taken files printed → IsCarriedOut printed.status
     → TellsLong printed ⊎ IsSo files name printed
 exposed_by (Ok (Expose file directive order word steps limit)) files printed name same (inl of)
     answers = elim of.2.2 [
@@ -163,14 +165,15 @@ exposed_by (Ok (Expose file directive order word steps limit)) files printed nam
             (exposed_so of.0 of.2.0 of.2.1 given.0 limit (plan.0).verdict (plan.2).0 printed
             (plan.2).2
             files file of.1)
-        | inr bad ↦ absurd (not_refused IsAnswer (BadDirective bad.0 bad.1) printed bad.3 (λ h. h)
+        | inr bad ↦ absurd
+            (not_refused IsCarriedOut (BadDirective bad.0 bad.1) printed bad.3 (λ h. h)
             answers)
       ]
-      | inr none ↦ absurd (not_refused IsAnswer (Usage word) printed none.1 (λ h. h) answers)
+      | inr none ↦ absurd (not_refused IsCarriedOut (Usage word) printed none.1 (λ h. h) answers)
     ]
 exposed_by (Ok (Expose file directive order word steps limit)) files printed name same (inr bad)
     answers =
-    absurd (not_refused IsAnswer (Script bad.0 bad.1) printed bad.3 (λ h. h) answers)
+    absurd (not_refused IsCarriedOut (Script bad.0 bad.1) printed bad.3 (λ h. h) answers)
 exposed_by taken files printed name same of answers = absurd same
 
 pub exposed_confirmed : ExposedAreConfirmed

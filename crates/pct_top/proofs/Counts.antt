@@ -6,7 +6,7 @@ use Rattle.script_tree.specs.ScriptText.{ScriptText}
 use Rattle.script_tree.specs.DealOf.{IsDealOf}
 use Rattle.script_body.specs.Bodies.{bodies_of}
 use Rattle.directive.specs.declared.directive.Directive.{Directive}
-use Rattle.directive.specs.Answers.{told as plain}
+use Rattle.directive.specs.Answers.{plain_directive as plain}
 use Rattle.directive_run.specs.Orders.{factorial}
 use Rattle.directive_run.specs.Counting.{hits}
 use Rattle.directive_run.specs.Certifying.{Certifies}
@@ -17,10 +17,10 @@ use Rattle.pct_top.specs.declared.refusal.Refusal.TheVariants.{Script, Directive
 use Rattle.pct_top.specs.declared.settings.Settings.TheVariants.{Certify}
 use Rattle.pct_top.specs.declared.status.Status.{Status}
 use Rattle.pct_top.specs.declared.status.Status.TheVariants.{Done}
-use Rattle.pct_top.specs.Settings.{Taken, settings}
+use Rattle.pct_top.specs.Settings.{SettingsOrWord, settings}
 use Rattle.pct_top.specs.Printed.{Files, Printed}
 use Rattle.pct_top.specs.Output.{OfTaken}
-use Rattle.pct_top.specs.commands.Certify.{told_certificate}
+use Rattle.pct_top.specs.commands.Certify.{printed_certificate}
 use Rattle.pct_top.specs.Counted.{CertifiesFile, IsOneIn, IsCounted, CertifiedAreCounted}
 use Rattle.pct_top.proofs.Refusals.{not_refused}
 
@@ -28,7 +28,7 @@ use Rattle.pct_top.proofs.Refusals.{not_refused}
 counted_by : (script : ScriptText) (deal : Deal) → IsDealOf script deal → (directive : Directive)
     (steps limit : ℕ) (certified : Certified)
     → Certifies deal (bodies_of script) directive steps limit certified
-    → (told_certificate script.names certified).status ≡ Done
+    → (printed_certificate script.names certified).status ≡ Done
     → IsOneIn script deal (plain directive) steps limit
 counted_by script deal of directive steps limit (Yes bound rows) is done =
     let m = length directive.events in
@@ -45,7 +45,7 @@ counted_by script deal of directive steps limit (TooManyThreads threads) is done
 abbrev IsDone : Status → Type 0
 IsDone status = status ≡ Done
 
-by_taken : (taken : Taken) (files : Files) (printed : Printed) (file directive : List ℕ)
+by_taken : (taken : SettingsOrWord) (files : Files) (printed : Printed) (file directive : List ℕ)
     (k limit : ℕ) → CertifiesFile taken file directive k limit → OfTaken taken files printed
     → printed.status ≡ Done → IsCounted files file directive k limit
 by_taken (Ok (Certify name other steps most)) files printed file directive k limit same (inl of)

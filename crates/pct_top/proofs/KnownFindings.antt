@@ -10,7 +10,7 @@ use Rattle.policy_pick.specs.Plan.{ByPoints}
 use Rattle.script_body.specs.Bodies.{bodies_of}
 use Rattle.worker_run.proofs.laws.WholeRuns.{run-played}
 use Rattle.directive.specs.Directive.{IsMoment}
-use Rattle.directive_find.specs.Moments.{Fits}
+use Rattle.directive_find.specs.Moments.{MomentFits}
 use Rattle.directive_find.specs.Found.{Finds}
 use Rattle.directive_find.specs.declared.finding.FoundOut.{FoundOut}
 use Rattle.directive_find.specs.declared.finding.FoundOut.TheVariants.{Events, Passes}
@@ -29,7 +29,7 @@ known-finding script deal sound of order points limit (Events events verdict ste
     (Ends verdict) refl played in
     record {
       few = omega (arith, is.few);
-      moments = All-weaker (Fits deal.threads limit) (IsMoment script.names)
+      moments = All-weaker (MomentFits deal.threads limit) (IsMoment script.names)
           (λ moment fits. record {
             thread = omega (arith, fits.thread, of.threads);
             number = (fits.some, omega (arith, fits.few));

@@ -12,12 +12,12 @@ use Rattle.script_tree.specs.ScriptText.{ScriptText}
 use Rattle.script_tree.specs.Fitting.{IsScript}
 use Rattle.script_tree.specs.DealOf.{IsDealOf}
 use Rattle.policy_pick.specs.Plan.{ByPoints}
-use Rattle.priority_draw.specs.Drawing.{drawn, drawn_places}
+use Rattle.priority_draw.specs.Drawing.{draw_of_seed, drawn_places}
 use Rattle.priority_draw.proofs.laws.Orders.{order-of-is}
 use Rattle.priority_draw.proofs.laws.Draws.{drawn-are}
 use Rattle.worker_run.specs.Run.{Run}
 use Rattle.worker_run.proofs.laws.WholeRuns.{run-played}
-use Rattle.campaign.specs.Rows.{Setup, run_of_seed, row_of, row_of_seed, seed_at, rows_of}
+use Rattle.campaign.specs.Rows.{Setup, run_of_seed, row_of_run, row_of_seed, seed_at, rows_of}
 use Rattle.report_text.specs.Report.{IsWritable}
 use Rattle.pct_top.specs.commands.Campaign.{setup_of}
 use Rattle.pct_top.proofs.KnownRuns.{known-run}
@@ -38,7 +38,7 @@ module _ (script : ScriptText) (deal : Deal) (sound : IsScript script) (of : IsD
   abbrev setup : Setup
   setup = setup_of script deal depth steps limit
 
-  whole : (seed : ℕ) → deal.threads ≡ length (drawn seed deal.threads steps depth).order
+  whole : (seed : ℕ) → deal.threads ≡ length (draw_of_seed seed deal.threads steps depth).order
   whole seed =
       sym (order-of-is deal.threads (drawn_places seed 0 deal.threads)
       (drawn-are seed 0 deal.threads)).whole
@@ -46,7 +46,7 @@ module _ (script : ScriptText) (deal : Deal) (sound : IsScript script) (of : IsD
   ended-known : (seed : ℕ) (ended : Run) → run_of_seed setup seed ≡ Some ended
       → IsWritable script.names ended.1
   ended-known seed ended is =
-      let gives = drawn seed deal.threads steps depth in
+      let gives = draw_of_seed seed deal.threads steps depth in
       let played = run-played deal setup.bodies gives.order gives.points limit ended.0 ended.1
       (whole seed) is in
       let known = known-run script deal sound of (ByPoints gives.order gives.points) limit ended.0
@@ -54,10 +54,10 @@ module _ (script : ScriptText) (deal : Deal) (sound : IsScript script) (of : IsD
       record { named = (known.end).threads; whole = (known.end).whole }
 
   row-known : (seed : ℕ) (whole_run : Option Run) (row : Row) → run_of_seed setup seed ≡ whole_run
-      → option_map (row_of seed) whole_run ≡ Some row → IsWritable script.names row.verdict
+      → option_map (row_of_run seed) whole_run ≡ Some row → IsWritable script.names row.verdict
   row-known seed None row is made = absurd cc
   row-known seed (Some ended) row is made =
-      let same : ended.1 ≡ row.verdict = let e : row_of seed ended ≡ row = cc in
+      let same : ended.1 ≡ row.verdict = let e : row_of_run seed ended ≡ row = cc in
       ap (λ (r : Row). r.verdict) e in
       subst (IsWritable script.names) same (ended-known seed ended is)
 

@@ -26,9 +26,10 @@ use Rattle.pct_ask.specs.declared.verdict.Verdict.{Verdict}
 use Rattle.pct_ask.specs.declared.verdict.Verdict.TheVariants.{Failed, Misuse, Fault as Faulted}
 use Rattle.pct_ask.specs.declared.verdict.Verdict.TheVariants.{Cut}
 use Rattle.pct_ask.specs.declared.verdict.MisuseKind.TheVariants.{NotOwner, SemFull, TooManyReads}
-use Rattle.sync_store.specs.Store.{StoreState, first, is_on, rwlock_of}
-use Rattle.sync_store.specs.Effect.{Goes, Stops, effect, unlocked, goes_or}
-use Rattle.sync_store.specs.World.{Source, World, start, step_of, world_from, answers_of}
+use Rattle.sync_store.specs.Store.{StoreState, first_store, is_on, rwlock_of}
+use Rattle.sync_store.specs.Effect.{Goes, Stops, effect, after_unlock, goes_or}
+use Rattle.sync_store.specs.World.{Source, World, first_world, world_by_step, world_from}
+use Rattle.sync_store.specs.World.{answers_of}
 use Rattle.script_tree.specs.ScriptText.{ScriptText}
 use Rattle.script_tree.specs.Fitting.{IsScript, rwlocks_fit}
 use Rattle.script_tree.specs.DealOf.{IsDealOf}
@@ -41,11 +42,11 @@ use Rattle.policy_pick.specs.declared.chance.Pick.TheVariants.{Thread, Waits, No
 use Rattle.turn_book.specs.Board.{verdict_of}
 use Rattle.turn_book.specs.Chances.{threads_below, is_idle, blocked_by_ask, blocked_at}
 use Rattle.turn_book.specs.Chances.{verdict_of_blocked, rest_verdict}
-use Rattle.turn_book.specs.Obeys.{next_in, choice_in, outcome_by, outcome_by_pick}
+use Rattle.turn_book.specs.Obeys.{next_posts_in, choice_in, outcome_by, outcome_by_pick}
 use Rattle.turn_book.specs.Posts.{schedule_of}
 use Rattle.turn_book.proofs.laws.MorePosts.{settled-at}
 use Rattle.turn_book.proofs.laws.Worlds.{Steps, steps-from, event_of, effect-is, made-from}
-use Rattle.worker_run.specs.Bodies.{Pending, nobody, pending_of, source_of_bodies}
+use Rattle.worker_run.specs.Bodies.{Pending, no_body, pending_of, source_of_bodies}
 use Rattle.worker_run.specs.Played.{IsPlayed}
 use Rattle.script_body.specs.Bodies.{bodies_of}
 use Rattle.trace_text.specs.Lawful.{HasObjects, NamesKnown}
@@ -147,7 +148,7 @@ module _ (script : ScriptText) (deal : Deal) (sound : IsScript script)
       let n = length script.threads in
       elim (cases_lt t n) [
         | inl below ↦
-            let at = get_or-map-range_with_len (pending script) 0 n t t nobody below
+            let at = get_or-map-range_with_len (pending script) 0 n t t no_body below
             (omega arith) in
             let P : Pending → Type 0 = λ posts. (posts answers).ask ≡ Some ask
             → IsAsked t (posts answers).line ask in
@@ -157,9 +158,9 @@ module _ (script : ScriptText) (deal : Deal) (sound : IsScript script)
             subst P (sym at) known asks
         | inr past ↦
             let long = length-map-range_with_len (pending script) 0 n in
-            let none = get_or_past bodies t nobody (omega (arith, long, past)) in
+            let none = get_or_past bodies t no_body (omega (arith, long, past)) in
             let P : Pending → Type 0 = λ posts. (posts answers).ask ≡ Some ask in
-            absurd (let no : P nobody = subst P none asks in cc)
+            absurd (let no : P no_body = subst P none asks in cc)
       ]
 
   -- ---- the verdict of a step
@@ -227,7 +228,7 @@ module _ (script : ScriptText) (deal : Deal) (sound : IsScript script)
     stop-known (WrLock l) h = tt
     stop-known (TryRdLock l) h = no-stop _ _ _ _ _
     stop-known (TryWrLock l) h = no-stop _ _ _ _ _
-    stop-known (RwUnlock l) h = by-lock (unlocked (rwlock_of store l) t)
+    stop-known (RwUnlock l) h = by-lock (after_unlock (rwlock_of store l) t)
       where
         by-lock : (o : Option _) → Maybe (verdict_of (goes_or store l o (Misuse t line NotOwner)))
         by-lock None = misused
@@ -261,12 +262,13 @@ module _ (script : ScriptText) (deal : Deal) (sound : IsScript script)
       → world_from source world schedule ≡ Some later → IsKnownWorld later
   known-from [] world later known e = let same : world ≡ later = cc in subst IsKnownWorld same known
   known-from (t ∷ schedule) world later known e =
-      option_and_then_some (λ next. world_from source next schedule) (step_of source world t) later
+      option_and_then_some (λ next. world_from source next schedule)
+      (world_by_step source world t) later
       e (λ next first rest.
       known-from schedule next later (known-step world t next known
       (steps-from source world t next first)) rest)
 
-  known-start : IsKnownWorld (start (first deal))
+  known-start : IsKnownWorld (first_world (first_store deal))
   known-start = record { steps = All-nil (NamesKnown names version); verdict = tt }
 
   -- ---- the verdict at rest
@@ -293,7 +295,7 @@ module _ (script : ScriptText) (deal : Deal) (sound : IsScript script)
         let is = subst P posted (asked t (answers_of t world.events)) ask asks in
         place-by (is_idle world.store t ask) t post.line (is.at, is.on)
 
-    place-at : (t : ℕ) → IsPlaceOf (blocked_at world.store (next_in source world) t)
+    place-at : (t : ℕ) → IsPlaceOf (blocked_at world.store (next_posts_in source world) t)
     place-at t = let post = pending_of bodies t (answers_of t world.events) in
         place-of t post post.ask refl refl
 
@@ -303,11 +305,12 @@ module _ (script : ScriptText) (deal : Deal) (sound : IsScript script)
     with-place (Some place) places is all = All-cons IsPlace place places is all
 
     places : (ts : List ℕ) → All IsPlace
-        (filter_map (blocked_at world.store (next_in source world)) ts)
+        (filter_map (blocked_at world.store (next_posts_in source world)) ts)
     places [] = All-nil IsPlace
     places (t ∷ ts) =
-        with-place (blocked_at world.store (next_in source world) t)
-        (filter_map (blocked_at world.store (next_in source world)) ts) (place-at t) (places ts)
+        with-place (blocked_at world.store (next_posts_in source world) t)
+        (filter_map (blocked_at world.store (next_posts_in source world)) ts) (place-at t)
+        (places ts)
 
     blocked-known : (blocked : List (ℕ × ℕ)) → All IsPlace blocked
         → IsKnownVerdict names version (verdict_of_blocked blocked)
@@ -325,9 +328,9 @@ module _ (script : ScriptText) (deal : Deal) (sound : IsScript script)
     }
 
     rest-known : IsKnownVerdict names version
-        (rest_verdict deal.threads world.store (next_in source world))
+        (rest_verdict deal.threads world.store (next_posts_in source world))
     rest-known =
-        blocked-known (filter_map (blocked_at world.store (next_in source world))
+        blocked-known (filter_map (blocked_at world.store (next_posts_in source world))
         (threads_below deal.threads)) (places (threads_below deal.threads))
 
     cut-known : IsKnownVerdict names version Cut
@@ -344,7 +347,8 @@ module _ (script : ScriptText) (deal : Deal) (sound : IsScript script)
     EndsKnown (Some (Departed t)) = Unit {0}
 
     by-pick : (full : Bool) (pick : Pick)
-        → EndsKnown (outcome_by_pick (rest_verdict deal.threads world.store (next_in source world))
+        → EndsKnown
+        (outcome_by_pick (rest_verdict deal.threads world.store (next_posts_in source world))
         full pick)
     by-pick full Nobody = rest-known
     by-pick true (Thread t) = cut-known
@@ -362,21 +366,23 @@ module _ (script : ScriptText) (deal : Deal) (sound : IsScript script)
   pub known-steps : (plan : Plan) (limit : ℕ) (events : List Event) (outcome : Outcome)
       → IsPlayed plan deal bodies limit events outcome → All (NamesKnown names version) events
   known-steps plan limit events outcome played =
-      let w = made-from (first deal) source events (played.obeys).made in
+      let w = made-from (first_store deal) source events (played.obeys).made in
       subst (All (NamesKnown names version)) (w.1).trace
-      (known-from (schedule_of events) (start (first deal)) w.0 known-start (w.1).at).steps
+      (known-from (schedule_of events) (first_world (first_store deal)) w.0 known-start
+      (w.1).at).steps
 
   pub known-run : (plan : Plan) (limit : ℕ) (events : List Event) (verdict : Verdict)
       (outcome : Outcome) → outcome ≡ Ends verdict → IsPlayed plan deal bodies limit events outcome
       → AreKnown script limit events verdict
   known-run plan limit events verdict outcome ends played =
-      let w = made-from (first deal) source events (played.obeys).made in
+      let w = made-from (first_store deal) source events (played.obeys).made in
       let world = w.0 in
-      let known = known-from (schedule_of events) (start (first deal)) world known-start (w.1).at in
+      let known = known-from (schedule_of events) (first_world (first_store deal)) world known-start
+      (w.1).at in
       let after = sym (settled-at plan deal source limit events world w.1) ∙ played.ends
       ∙ ap Some ends in
       let by = by-verdict world world.verdict
-      (outcome_by_pick (rest_verdict deal.threads world.store (next_in source world))
+      (outcome_by_pick (rest_verdict deal.threads world.store (next_posts_in source world))
       (eqb (length events) limit) (choice_in plan deal.threads source (schedule_of events)
       world)) known.verdict
       (by-pick world (eqb (length events) limit)

@@ -10,8 +10,8 @@ use Rattle.failure_rank.specs.Groups.{IsRanking}
 use Rattle.failure_rank.proofs.Laws.{one_ranking}
 use Rattle.pct_top.specs.Printed.{Printed}
 use Rattle.pct_top.specs.commands.Campaign.{setup_of, frame_of, all_pass, campaign_text}
-use Rattle.pct_top.specs.commands.Campaign.{told_campaign, AreOfSeeds, OfSeeds, OfCampaign}
-use Rattle.pct_top.specs.Call.{IsAnswer}
+use Rattle.pct_top.specs.commands.Campaign.{printed_campaign, AreOfSeeds, OfSeeds, OfCampaign}
+use Rattle.pct_top.specs.Call.{IsCarriedOut}
 use Rattle.pct_top.proofs.OneReport.{answers_as, one_count}
 
 -- rows of seeds and their groups are one
@@ -38,9 +38,9 @@ module _ (script : ScriptText) (deal : Deal) (first count depth : ℕ) (steps : 
   seeds_once k p q a b =
       let one = of_seeds_once (setup_of script deal depth k limit) first count a.0 b.0 a.1 b.1 a.2
       b.2 in
-      a.3 ∙ ap (λ rows. told_campaign json script (frame_of deal depth k limit) rows a.1)
+      a.3 ∙ ap (λ rows. printed_campaign json script (frame_of deal depth k limit) rows a.1)
       one.rows_are
-      ∙ ap (told_campaign json script (frame_of deal depth k limit) b.0) one.groups_are ∙ sym b.3
+      ∙ ap (printed_campaign json script (frame_of deal depth k limit) b.0) one.groups_are ∙ sym b.3
 
   pub campaign_once : (p q : Printed) → OfCampaign first count depth steps limit json script deal p
       → OfCampaign first count depth steps limit json script deal q → p ≡ q
@@ -50,7 +50,7 @@ module _ (script : ScriptText) (deal : Deal) (first count depth : ℕ) (steps : 
       a.2) b.2
 
   pub campaign_answers : (p : Printed) → OfCampaign first count depth steps limit json script deal p
-      → IsAnswer p.status
+      → IsCarriedOut p.status
   campaign_answers p a =
       answers_as p (campaign_text json script (frame_of deal depth a.0 limit) (a.2).0 (a.2).1)
       (all_pass (a.2).0) (a.2).3

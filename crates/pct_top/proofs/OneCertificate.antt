@@ -9,14 +9,14 @@ use Rattle.worker_run.specs.Bodies.{Pending}
 use Rattle.directive.specs.declared.directive.Directive.{Directive}
 use Rattle.directive.specs.Directive.{IsDirective}
 use Rattle.directive.specs.DirectiveText.{DirectiveText}
-use Rattle.directive.specs.Answers.{told as plain}
+use Rattle.directive.specs.Answers.{plain_directive as plain}
 use Rattle.directive_run.specs.Certifying.{Certifies}
 use Rattle.directive_run.specs.declared.answers.Certified.{Certified}
 use Rattle.directive_run.proofs.laws.OneAnswer.{certified-once}
 use Rattle.pct_top.specs.Printed.{Printed}
-use Rattle.pct_top.specs.commands.Certify.{certificate_text, is_certified, told_certificate}
+use Rattle.pct_top.specs.commands.Certify.{certificate_text, is_certified, printed_certificate}
 use Rattle.pct_top.specs.commands.Certify.{PrintsCertificate, OfCertify}
-use Rattle.pct_top.specs.Call.{IsAnswer}
+use Rattle.pct_top.specs.Call.{IsCarriedOut}
 use Rattle.pct_top.proofs.Work.{one_of_directive, directive_fits}
 use Rattle.pct_top.proofs.OneReport.{answers_as}
 
@@ -46,7 +46,7 @@ module _ (script : ScriptText) (deal : Deal) (steps limit : ℕ) where
       let moved = certifies_as deal (bodies_of script) one other steps limit a.0 same a.1 in
       let is : a.0 ≡ b.0 =
       certified-once deal (bodies_of script) other steps limit a.0 b.0 moved b.1 in
-      a.2 ∙ ap (told_certificate script.names) is ∙ sym b.2
+      a.2 ∙ ap (printed_certificate script.names) is ∙ sym b.2
 
   module _ (bytes : List ℕ) (are : AreNames script.names) where
     pub certify_once : (p q : Printed) → OfCertify bytes steps limit script deal p
@@ -57,9 +57,9 @@ module _ (script : ScriptText) (deal : Deal) (steps limit : ℕ) where
 
     pub certify_answers : (p : Printed)
         → (directive : Directive) × IsDirective bytes script.names (plain directive)
-        → OfCertify bytes steps limit script deal p → IsAnswer p.status
+        → OfCertify bytes steps limit script deal p → IsCarriedOut p.status
     certify_answers p second a =
         directive_fits bytes script.names are (PrintsCertificate script deal steps limit)
-        (λ (q : Printed). IsAnswer q.status)
+        (λ (q : Printed). IsCarriedOut q.status)
         (λ directive q is.
         answers_as q (certificate_text script.names is.0) (is_certified is.0) is.2) p second a

@@ -10,7 +10,7 @@ use Rattle.worker_run.specs.Run.{Run}
 use Rattle.directive.specs.declared.directive.Directive.{Directive}
 use Rattle.directive.specs.Directive.{IsDirective}
 use Rattle.directive.specs.DirectiveText.{DirectiveText}
-use Rattle.directive.specs.Answers.{told as plain}
+use Rattle.directive.specs.Answers.{plain_directive as plain}
 use Rattle.pct_ask.specs.SameVerdict.{same_verdict}
 use Rattle.directive_run.specs.Exposing.{Exposes}
 use Rattle.directive_run.specs.declared.answers.Exposed.{Exposed}
@@ -18,9 +18,9 @@ use Rattle.directive_run.specs.declared.answers.Exposed.TheVariants.{Points, Too
 use Rattle.directive_run.proofs.laws.OneAnswer.{exposed-once}
 use Rattle.pct_top.specs.Ordered.{OrderFits}
 use Rattle.pct_top.specs.Printed.{Printed, OfDirective}
-use Rattle.pct_top.specs.Runs.{traced, told_trace}
+use Rattle.pct_top.specs.Runs.{trace_of_run, printed_trace}
 use Rattle.pct_top.specs.commands.Expose.{long_text, TellsExposed, PrintsExposed, OfExpose}
-use Rattle.pct_top.specs.Call.{IsAnswer}
+use Rattle.pct_top.specs.Call.{IsCarriedOut}
 use Rattle.pct_top.proofs.Work.{some_same, one_of_order, order_fits, one_of_directive}
 use Rattle.pct_top.proofs.Work.{directive_fits}
 use Rattle.pct_top.proofs.OneReport.{answers_as}
@@ -32,14 +32,15 @@ module _ (script : ScriptText) (deal : Deal) (limit : ℕ) where
   tells_once order verdict (Points points played) p q a b =
       let same = some_same a.0 b.0 (sym a.1 ∙ b.1) in
       let printed : Run → Printed = λ ended.
-      told_trace script order points limit ended (same_verdict ended.1 verdict) in
+      printed_trace script order points limit ended (same_verdict ended.1 verdict) in
       (a.2).is ∙ ap printed same ∙ sym (b.2).is
   tells_once order verdict (TooLong many) p q a b = a ∙ sym b
 
   tells_answer : (order : List ℕ) (verdict : Verdict) (exposed : Exposed) (p : Printed)
-      → TellsExposed script deal order limit verdict exposed p → IsAnswer p.status
+      → TellsExposed script deal order limit verdict exposed p → IsCarriedOut p.status
   tells_answer order verdict (Points points played) p a =
-      answers_as p (traced script order points limit a.0) (same_verdict (a.0).1 verdict) (a.2).is
+      answers_as p (trace_of_run script order points limit a.0) (same_verdict (a.0).1 verdict)
+      (a.2).is
   tells_answer order verdict (TooLong many) p a = answers_as p (long_text many) false a
 
   module _ (steps : ℕ) where
@@ -71,9 +72,9 @@ module _ (script : ScriptText) (deal : Deal) (limit : ℕ) where
 
       pub expose_answers : (p : Printed) → OrderFits script.names (Some items)
           → (directive : Directive) × IsDirective bytes script.names (plain directive)
-          → OfExpose bytes items word steps limit script deal p → IsAnswer p.status
+          → OfExpose bytes items word steps limit script deal p → IsCarriedOut p.status
       expose_answers p fits second a =
-          order_fits script.names items word Of (λ (q : Printed). IsAnswer q.status)
+          order_fits script.names items word Of (λ (q : Printed). IsCarriedOut q.status)
           (λ order q. directive_fits bytes script.names are
-          (PrintsExposed script deal order steps limit) (λ (q : Printed). IsAnswer q.status)
+          (PrintsExposed script deal order steps limit) (λ (q : Printed). IsCarriedOut q.status)
           (λ directive q is. tells_answer order directive.verdict is.0 q is.2) q second) p fits a

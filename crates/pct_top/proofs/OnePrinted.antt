@@ -6,11 +6,11 @@ use Rattle.script_tree.specs.ScriptText.{ScriptText}
 use Rattle.pct_top.specs.declared.settings.Settings.{Settings}
 use Rattle.pct_top.specs.declared.settings.Settings.TheVariants.{RunOrder, RunSeed, Campaign, Big}
 use Rattle.pct_top.specs.declared.settings.Settings.TheVariants.{Replay, Expose, Certify}
-use Rattle.pct_top.specs.Settings.{Taken}
+use Rattle.pct_top.specs.Settings.{SettingsOrWord}
 use Rattle.pct_top.specs.Ordered.{OrderFits}
 use Rattle.pct_top.specs.Printed.{Files, Printed, trace_bytes, directive_bytes}
 use Rattle.pct_top.specs.Output.{script_text, order_given, SecondFits, OfCommand, OfTaken}
-use Rattle.pct_top.specs.Call.{IsAnswer, CanRun}
+use Rattle.pct_top.specs.Call.{IsCarriedOut, CanRun}
 use Rattle.pct_top.proofs.Work.{one_of_script, script_fits}
 use Rattle.pct_top.proofs.OneReport.{one_ordered, ordered_answers, one_seed, seed_answers}
 use Rattle.pct_top.proofs.OneCampaign.{campaign_once, campaign_answers}
@@ -41,7 +41,8 @@ one_command (Certify file directive steps limit) files script deal p q are =
 -- what fits is carried out
 command_answers : (settings : Settings) (files : Files) (script : ScriptText) (deal : Deal)
     (p : Printed) → AreNames script.names → OrderFits script.names (order_given settings)
-    → SecondFits settings files script → OfCommand settings files script deal p → IsAnswer p.status
+    → SecondFits settings files script → OfCommand settings files script deal p
+    → IsCarriedOut p.status
 command_answers (RunOrder file order word points limit report) files script deal p are fits second =
     ordered_answers script deal limit order word points report p fits
 command_answers (RunSeed file seed depth steps limit report) files script deal p are fits second =
@@ -59,17 +60,17 @@ command_answers (Certify file directive steps limit) files script deal p are fit
 
 -- ---- a call
 
-pub one_printed : (taken : Taken) (files : Files) (p q : Printed) → OfTaken taken files p
+pub one_printed : (taken : SettingsOrWord) (files : Files) (p q : Printed) → OfTaken taken files p
     → OfTaken taken files q → p ≡ q
 one_printed (Ok settings) files p q a b =
     one_of_script (script_text settings files) (OfCommand settings files)
     (one_command settings files) p q a b
 one_printed (Err number) files p q a b = a ∙ sym b
 
-pub printed_answers : (taken : Taken) (files : Files) (p : Printed) → CanRun taken files
-    → OfTaken taken files p → IsAnswer p.status
+pub printed_answers : (taken : SettingsOrWord) (files : Files) (p : Printed) → CanRun taken files
+    → OfTaken taken files p → IsCarriedOut p.status
 printed_answers (Ok settings) files p can a =
     script_fits (script_text settings files) (OfCommand settings files)
-    (λ (q : Printed). IsAnswer q.status) can.0 can.1
+    (λ (q : Printed). IsCarriedOut q.status) can.0 can.1
     (λ deal q are. command_answers settings files can.0 deal q are can.2 can.3) p a
 printed_answers (Err number) files p can a = absurd can

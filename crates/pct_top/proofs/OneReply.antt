@@ -8,8 +8,9 @@ use Rattle.trace_text.specs.Trace.{IsTrace}
 use Rattle.script_body.specs.Bodies.{bodies_of}
 use Rattle.replay_run.proofs.laws.OneReplay.{one_replay}
 use Rattle.pct_top.specs.Printed.{Printed}
-use Rattle.pct_top.specs.commands.Replay.{reply_text, is_confirmed, replied, PrintsReply, OfReplay}
-use Rattle.pct_top.specs.Call.{IsAnswer}
+use Rattle.pct_top.specs.commands.Replay.{reply_text, is_confirmed, printed_reply, PrintsReply}
+use Rattle.pct_top.specs.commands.Replay.{OfReplay}
+use Rattle.pct_top.specs.Call.{IsCarriedOut}
 use Rattle.pct_top.proofs.Work.{one_of_trace, trace_fits}
 use Rattle.pct_top.proofs.OneReport.{answers_as}
 
@@ -18,12 +19,13 @@ module _ (bytes : List ℕ) (script : ScriptText) (deal : Deal) (are : AreNames 
       → p ≡ q
   one_reply p q a b =
       one_of_trace bytes script.names are (PrintsReply script deal) (λ file p q one two.
-      one.2 ∙ ap (replied script) (one_replay deal (bodies_of script) file one.0 two.0 one.1 two.1)
+      one.2 ∙ ap (printed_reply script)
+      (one_replay deal (bodies_of script) file one.0 two.0 one.1 two.1)
       ∙ sym two.2) p q a b
 
   pub reply_answers : (p : Printed) → (file : TraceFile) × IsTrace bytes script.names file
-      → OfReplay bytes script deal p → IsAnswer p.status
+      → OfReplay bytes script deal p → IsCarriedOut p.status
   reply_answers p fits a =
       trace_fits bytes script.names are (PrintsReply script deal)
-      (λ (q : Printed). IsAnswer q.status) (λ file q is.
+      (λ (q : Printed). IsCarriedOut q.status) (λ file q is.
       answers_as q (reply_text script.names is.0) (is_confirmed is.0) is.2) p fits a

@@ -23,12 +23,14 @@ use Rattle.pct_top.specs.declared.settings.Settings.TheVariants.{RunSeed, Big, R
 use Rattle.pct_top.specs.declared.settings.WordsError.{WordsError}
 use Rattle.pct_top.specs.Values.{items_of, order_in, within, number_in, step_count, step_counts}
 use Rattle.pct_top.specs.Values.{points_in, seed_in, depth_in, is_json, pieces_in}
-use Rattle.pct_top.specs.Options.{none, with_value, next_option, Given, lawful_or, with_option}
+use Rattle.pct_top.specs.Options.{no_options, with_option_value, next_option, OptionsOrWord}
+use Rattle.pct_top.specs.Options.{lawful_or, with_option}
 use Rattle.pct_top.specs.Options.{without_value, and_then, options_from}
-use Rattle.pct_top.specs.Settings.{default_limit, taken_or, made_of, limit_of, ordered, run_by}
+use Rattle.pct_top.specs.Settings.{default_limit, settings_or, made_of, limit_of, run_by_order}
+use Rattle.pct_top.specs.Settings.{run_by}
 use Rattle.pct_top.specs.Settings.{run_with, campaign_by, campaign_with, big_with, big_by}
 use Rattle.pct_top.specs.Settings.{files_with, MadeOfFiles, made_over, settings_over, replay_with}
-use Rattle.pct_top.specs.Settings.{expose_by, expose_with, certify_with, settings_of, ReadsAs}
+use Rattle.pct_top.specs.Settings.{expose_by, expose_with, certify_with, settings_of, ReadsWordsAs}
 use Rattle.pct_top.specs.Settings.{ArePoints, IsDepth, AreLawful}
 use Rattle.pct_top.proofs.OptionLists.{changed}
 
@@ -102,11 +104,12 @@ record AreInRange (o : Options) : Type 0 where
   steps : IfSome o.steps IsStepCount
   count : IfSome o.count IsStepCount
 
-at-none : AreInRange none
+at-none : AreInRange no_options
 at-none = record { points = tt; limit = tt; depth = tt; steps = tt; count = tt }
 
 range-kept : (o : Options) (name : OptionName) (word : ℕ) (value : List ℕ) (more : Options)
-    → AreInRange o → lawful_or word (with_value o word name value) ≡ Ok more → AreInRange more
+    → AreInRange o → lawful_or word (with_option_value o word name value) ≡ Ok more
+    → AreInRange more
 range-kept o Order word value more r is =
     let x = changed (λ items. record o { order = Some (record { items = items; word = word }) })
     word (order_in value) more is in
@@ -209,7 +212,7 @@ all-kept command (word ∷ value ∷ words) o number last r is =
   where
     by : ((more : Options) → AreInRange more
         → options_from command more (number + 2) words ≡ Ok last → AreInRange last)
-        → (given : Given) → with_option o number value (next_option command o word) ≡ given
+        → (given : OptionsOrWord) → with_option o number value (next_option command o word) ≡ given
         → and_then (λ more. options_from command more (number + 2) words) given ≡ Ok last
         → AreInRange last
     by further (Err n) was e = absurd cc
@@ -240,7 +243,7 @@ run-made report file = λ o s r is. by o s r o.order is
   where
     by : (o : Options) (s : Settings) → AreInRange o → (order : Option NamedOrder)
         → run_by report file o order ≡ Some s → AreLawful s
-    by o s r (Some order) is = let same : ordered report file o order ≡ s = cc in
+    by o s r (Some order) is = let same : run_by_order report file o order ≡ s = cc in
         subst AreLawful same (points-or o.points r.points, limit-fits o r)
     by o s r None is =
         option_and_then_some (λ seed. option_map
@@ -292,24 +295,24 @@ certify-made file directive = λ o s r is.
     subst AreLawful parts.2 (steps, limit-fits o r)
 
 taken-lawful : (next : ℕ) (made : Option Settings) (s : Settings)
-    → ((t : Settings) → made ≡ Some t → AreLawful t) → taken_or next made ≡ Ok s → AreLawful s
+    → ((t : Settings) → made ≡ Some t → AreLawful t) → settings_or next made ≡ Ok s → AreLawful s
 taken-lawful next None s lawful is = absurd cc
 taken-lawful next (Some t) s lawful is = let same : t ≡ s = cc in
     subst AreLawful same (lawful t refl)
 
 made-lawful : (make : Options → Option Settings) (next : ℕ) (command : Command) (first : ℕ)
     (words : List (List ℕ)) (s : Settings) → AreMade make
-    → made_of make next (options_from command none first words) ≡ Ok s → AreLawful s
+    → made_of make next (options_from command no_options first words) ≡ Ok s → AreLawful s
 unfolding AreMade
 made-lawful make next command first words s lawful is =
-    by (options_from command none first words) refl is
+    by (options_from command no_options first words) refl is
   where
-    by : (given : Given) → options_from command none first words ≡ given
+    by : (given : OptionsOrWord) → options_from command no_options first words ≡ given
         → made_of make next given ≡ Ok s → AreLawful s
     by (Err n) was e = absurd cc
     by (Ok o) was e =
         taken-lawful next (make o) s (λ t made.
-        lawful o t (all-kept command words none first o at-none was) made) e
+        lawful o t (all-kept command words no_options first o at-none was) made) e
 
 -- what a command makes of two files and options is lawful, where the options are in range
 files-lawful : (make : MadeOfFiles) → ((file second : List ℕ) → AreMade (make file second))
@@ -319,12 +322,12 @@ files-lawful make made command [] s is = absurd cc
 files-lawful make made command (file ∷ []) s is = absurd cc
 files-lawful make made command (file ∷ second ∷ words) s is =
     made-lawful (make file second) (length words + 4) command 4 words s (made file second)
-    (by (options_from command none 4 words) is)
+    (by (options_from command no_options 4 words) is)
   where
     next : ℕ
     next = length words + 4
 
-    by : (given : Given) → made_over make (files_with file second next given) ≡ Ok s
+    by : (given : OptionsOrWord) → made_over make (files_with file second next given) ≡ Ok s
         → made_of (make file second) next given ≡ Ok s
     by (Err n) e = e
     by (Ok o) e = e
@@ -358,6 +361,6 @@ command-lawful commands.Certify words s is =
 
 -- what was read of the words of a command keeps to the ranges
 pub reads_lawful : (r : Result Settings WordsError) (command : Command) (words : List (List ℕ))
-    → ReadsAs r (settings_of command words) → IfOk r AreLawful
+    → ReadsWordsAs r (settings_of command words) → IfOk r AreLawful
 reads_lawful (Ok s) command words reads = command-lawful command words s reads
 reads_lawful (Err e) command words reads = tt

@@ -4,7 +4,8 @@ use Rattle.std.specs.Prelude.{All}
 use Rattle.std.proofs.lemmas.List.{length-map, length-append}
 use Rattle.std.proofs.Math.ListN.{get_or-map}
 use Rattle.pct_ask.specs.NameLists.{NameLists}
-use Rattle.pct_ask.specs.VerdictText.{thread_name, named, HasNames, IsWhole, IsForm, IsPlace}
+use Rattle.pct_ask.specs.VerdictText.{thread_name, named_verdict, HasNames, IsWholeVerdict}
+use Rattle.pct_ask.specs.VerdictText.{IsVerdictForm, IsPlace}
 use Rattle.pct_ask.specs.declared.Deal.{Deal}
 use Rattle.pct_ask.specs.declared.ask.Ask.{Ask}
 use Rattle.pct_ask.specs.declared.ask.Ask.TheVariants.{Read, Write, Add, Cas, Lock, TryLock, Unlock}
@@ -93,8 +94,9 @@ at-cut P all before after x each is =
     after-front [] after x = refl
     after-front (y ∷ before) after x = after-front before after x
 
-end_whole : (names : NameLists) (verdict : Verdict) → IsForm names (named names verdict)
-    → IsWhole verdict
+end_whole : (names : NameLists) (verdict : Verdict)
+    → IsVerdictForm names (named_verdict names verdict)
+    → IsWholeVerdict verdict
 end_whole names Passed form = tt
 end_whole names (Failed thread line) form = form.1
 end_whole names (Stuck places) form =
@@ -114,9 +116,10 @@ module _ (script : ScriptText) (deal : Deal) (sound : IsScript script) (of : IsD
   abbrev names : NameLists
   names = script.names
 
-  told_end : (verdict : Verdict) → file.verdict ≡ verdict → HasNames names verdict × IsWhole verdict
+  told_end : (verdict : Verdict) → file.verdict ≡ verdict → HasNames names verdict
+      × IsWholeVerdict verdict
   told_end verdict is = let end = (trace.run).end in
-      subst (λ v. HasNames names v × IsWhole v) is
+      subst (λ v. HasNames names v × IsWholeVerdict v) is
       (end.threads, end_whole names file.verdict end.form)
 
   told_step : (before after : List Event) (event : Event) → file.events ≡ before ++ event ∷ after

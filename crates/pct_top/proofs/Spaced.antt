@@ -4,18 +4,18 @@ use Rattle.std.proofs.Common.{◌∙◌, append_assoc}
 use Rattle.std.specs.List.{join_with_byte}
 use Rattle.std.proofs.lemmas.List.{append-nil, take_all}
 use Rattle.pct_ask.specs.TraceText.{line_text}
-use Rattle.trace_text.specs.Spaced.{spaced}
+use Rattle.trace_text.specs.Spaced.{behind_spaces}
 
 join-spaced : (word : List ℕ) (words : List (List ℕ))
-    → join_with_byte 32 (word ∷ words) ≡ word ++ spaced words
+    → join_with_byte 32 (word ∷ words) ≡ word ++ behind_spaces words
 join-spaced word [] = sym (append-nil word)
 join-spaced word (next ∷ words) =
     ap (λ (rest : List ℕ). word ++ (32 ∷ rest)) (join-spaced next words)
 
 pub line-spaced : (old word : List ℕ) (words : List (List ℕ))
-    → (old ++ (word ++ spaced words)) ++ 10 ∷ [] ≡ old ++ line_text (word ∷ words)
+    → (old ++ (word ++ behind_spaces words)) ++ 10 ∷ [] ≡ old ++ line_text (word ∷ words)
 line-spaced old word words =
-    append_assoc old (word ++ spaced words) (10 ∷ [])
+    append_assoc old (word ++ behind_spaces words) (10 ∷ [])
     ∙ ap (λ (line : List ℕ). old ++ (line ++ 10 ∷ [])) (sym (join-spaced word words))
 
 pub line-of-four : (old a b c d : List ℕ)
@@ -33,19 +33,21 @@ line-of-five old a b c d e =
 
 -- a list of words that was gone through to its end
 pub line-of-all : {X : Type 0} (f : X → List ℕ) (old word now after : List ℕ) (xs : List X) (i : ℕ)
-    → length xs ≤ i → now ≡ old ++ (word ++ spaced (map f (take i xs))) → after ≡ now ++ 10 ∷ []
+    → length xs ≤ i → now ≡ old ++ (word ++ behind_spaces (map f (take i xs)))
+    → after ≡ now ++ 10 ∷ []
     → after ≡ old ++ line_text (word ∷ map f xs)
 line-of-all f old word now after xs i past is ends =
     ends ∙ ap (λ (line : List ℕ). line ++ 10 ∷ [])
-    (is ∙ ap (λ (ys : List _). old ++ (word ++ spaced (map f ys))) (take_all i xs past))
+    (is ∙ ap (λ (ys : List _). old ++ (word ++ behind_spaces (map f ys))) (take_all i xs past))
     ∙ line-spaced old word (map f xs)
 
 -- the words behind an order's names, joined to its line
-spaced-append : (words more : List (List ℕ)) → spaced (words ++ more) ≡ spaced words ++ spaced more
+spaced-append : (words more : List (List ℕ))
+    → behind_spaces (words ++ more) ≡ behind_spaces words ++ behind_spaces more
 spaced-append [] more = refl
 spaced-append (word ∷ words) more =
     ap (λ (rest : List ℕ). (32 ∷ word) ++ rest) (spaced-append words more)
-    ∙ sym (append_assoc (32 ∷ word) (spaced words) (spaced more))
+    ∙ sym (append_assoc (32 ∷ word) (behind_spaces words) (behind_spaces more))
 
 five-parts : (old word words head more : List ℕ)
     → (((old ++ word) ++ words) ++ 32 ∷ []) ++ ((head ++ more) ++ 10 ∷ [])
@@ -53,12 +55,12 @@ five-parts : (old word words head more : List ℕ)
 five-parts old word words head more = simp append_assoc
 
 pub line-of-two : (old word : List ℕ) (words : List (List ℕ)) (head : List ℕ) (more : List (List ℕ))
-    → (((old ++ word) ++ spaced words) ++ 32 ∷ []) ++ line_text (head ∷ more)
+    → (((old ++ word) ++ behind_spaces words) ++ 32 ∷ []) ++ line_text (head ∷ more)
     ≡ old ++ line_text (word ∷ (words ++ head ∷ more))
 line-of-two old word words head more =
-    ap (λ (line : List ℕ). (((old ++ word) ++ spaced words) ++ 32 ∷ []) ++ (line ++ 10 ∷ []))
+    ap (λ (line : List ℕ). (((old ++ word) ++ behind_spaces words) ++ 32 ∷ []) ++ (line ++ 10 ∷ []))
     (join-spaced head more)
-    ∙ five-parts old word (spaced words) head (spaced more)
+    ∙ five-parts old word (behind_spaces words) head (behind_spaces more)
     ∙ ap (λ (rest : List ℕ). (old ++ (word ++ rest)) ++ 10 ∷ [])
     (sym (spaced-append words (head ∷ more)))
     ∙ line-spaced old word (words ++ head ∷ more)
@@ -70,6 +72,7 @@ two-words old first second rest = simp append_assoc
 
 -- a list that was gone through to its end
 pub all-spaced : {X : Type 0} (f : X → List ℕ) (old now : List ℕ) (xs : List X) (i : ℕ)
-    → length xs ≤ i → now ≡ old ++ spaced (map f (take i xs)) → now ≡ old ++ spaced (map f xs)
+    → length xs ≤ i → now ≡ old ++ behind_spaces (map f (take i xs))
+    → now ≡ old ++ behind_spaces (map f xs)
 all-spaced f old now xs i past is =
-    is ∙ ap (λ (ys : List _). old ++ spaced (map f ys)) (take_all i xs past)
+    is ∙ ap (λ (ys : List _). old ++ behind_spaces (map f ys)) (take_all i xs past)

@@ -11,18 +11,18 @@ use Rattle.pct_ask.specs.declared.event.Event.{Event}
 use Rattle.pct_ask.proofs.laws.Names.{place_of-thread}
 use Rattle.pct_ask.proofs.laws.SameVerdicts.{verdict-Decides}
 use Rattle.rank_now.specs.Order.{IsOrder}
-use Rattle.priority_draw.specs.Drawing.{drawn, drawn_places}
+use Rattle.priority_draw.specs.Drawing.{draw_of_seed, drawn_places}
 use Rattle.priority_draw.proofs.laws.Orders.{order-of-is}
 use Rattle.priority_draw.proofs.laws.Draws.{drawn-are}
 use Rattle.script_tree.specs.ScriptText.{ScriptText}
 use Rattle.script_tree.specs.DealOf.{IsDealOf}
 use Rattle.script_tree.specs.Grammar.{Spells}
 use Rattle.script_body.specs.Bodies.{bodies_of}
-use Rattle.worker_run.specs.Run.{Run, directed}
+use Rattle.worker_run.specs.Run.{Run, directed_run}
 use Rattle.directive.specs.declared.directive.Directive.{Directive}
 use Rattle.directive.specs.DirectiveText.{DirectiveText}
 use Rattle.directive.specs.Directive.{IsDirective}
-use Rattle.directive.specs.Answers.{told as plain}
+use Rattle.directive.specs.Answers.{plain_directive as plain}
 use Rattle.directive_find.specs.Found.{Finds}
 use Rattle.directive_find.specs.declared.finding.FoundOut.{FoundOut}
 use Rattle.directive_find.specs.declared.finding.FoundOut.TheVariants.{Events, Passes}
@@ -35,12 +35,12 @@ use Rattle.pct_top.specs.declared.settings.Report.TheVariants.{Find}
 use Rattle.pct_top.specs.declared.settings.Settings.TheVariants.{RunOrder, RunSeed, Expose}
 use Rattle.pct_top.specs.declared.status.Status.{Status}
 use Rattle.pct_top.specs.declared.status.Status.TheVariants.{Done, Found}
-use Rattle.pct_top.specs.Settings.{Taken, settings}
+use Rattle.pct_top.specs.Settings.{SettingsOrWord, settings}
 use Rattle.pct_top.specs.Ordered.{threads_named, NamesAll}
-use Rattle.pct_top.specs.Runs.{told_trace}
+use Rattle.pct_top.specs.Runs.{printed_trace}
 use Rattle.pct_top.specs.Printed.{Files, Printed, script_bytes, directive_bytes, OfDirective}
 use Rattle.pct_top.specs.Output.{OfTaken, OfCommand}
-use Rattle.pct_top.specs.commands.Find.{plan_of, IsWellFormed, told_found}
+use Rattle.pct_top.specs.commands.Find.{plan_of, IsWellFormed, printed_finding}
 use Rattle.pct_top.specs.commands.Expose.{TellsExposed, PrintsExposed, OfExpose}
 use Rattle.pct_top.specs.TakenUp.{FindsIn, OrdersTheRun, ExposesIn, IsTakenUp, FoundAreTakenUp}
 use Rattle.pct_top.proofs.Work.{some_same, named_order, named_directive, named_script}
@@ -72,7 +72,8 @@ names-all names order are once whole = record {
 module _ (script : ScriptText) (deal : Deal) (of : IsDealOf script deal) (order : List ℕ)
     (once : IsOrder order) (whole : length order ≡ length (script.names).threads) (limit : ℕ)
     (plan : DirectiveText) (made : List Event)
-    (leads : directed deal (bodies_of script) order plan.events limit ≡ Some (made, plan.verdict))
+    (leads : directed_run deal (bodies_of script) order plan.events limit
+    ≡ Some (made, plan.verdict))
     (k : ℕ) (long : length made ≤ k) where
   exposed_done : (directive : Directive) → plain directive ≡ plan → (printed : Printed)
       → (exposed : Exposed)
@@ -81,7 +82,7 @@ module _ (script : ScriptText) (deal : Deal) (of : IsDealOf script deal) (order 
       → printed.status ≡ Done
   exposed_done directive same printed (Points points played) is tells =
       let D : DirectiveText → Type 0 = λ d.
-      directed deal (bodies_of script) order d.events limit ≡ Some (made, d.verdict) in
+      directed_run deal (bodies_of script) order d.events limit ≡ Some (made, d.verdict) in
       let led : D (plain directive) = subst D (sym same) leads in
       let first : Run = (played.events, is.verdict) in
       let second : Run = (made, directive.verdict) in
@@ -90,11 +91,12 @@ module _ (script : ScriptText) (deal : Deal) (of : IsDealOf script deal) (order 
       let verdict : (tells.0).1 ≡ directive.verdict = ap (λ (r : Run). r.1) (ends ∙ both) in
       let found : same_verdict (tells.0).1 directive.verdict ≡ true =
       (verdict-Decides (tells.0).1 directive.verdict).1 verdict in
-      let status : Bool → Status = λ b. (told_trace script order points limit tells.0 b).status in
+      let status : Bool → Status =
+      λ b. (printed_trace script order points limit tells.0 b).status in
       ap (λ (p : Printed). p.status) (tells.2).is ∙ ap status found
   exposed_done directive same printed (TooLong many) is tells =
       let D : DirectiveText → Type 0 = λ d.
-      directed deal (bodies_of script) order d.events limit ≡ Some (made, d.verdict) in
+      directed_run deal (bodies_of script) order d.events limit ≡ Some (made, d.verdict) in
       let led : D (plain directive) = subst D (sym same) leads in
       let first : Run = (is.made, is.verdict) in
       let second : Run = (made, directive.verdict) in
@@ -116,7 +118,8 @@ module _ (script : ScriptText) (deal : Deal) (of : IsDealOf script deal) (order 
 
   -- the words ask for it, over files that have the script and the directive
   later_done : (files : Files) (file text : List ℕ) → Spells (take script_bytes (files file)) script
-      → IsDirective text script.names plan → (taken : Taken) (later : Files) (other : List ℕ)
+      → IsDirective text script.names plan
+      → (taken : SettingsOrWord) (later : Files) (other : List ℕ)
       → ExposesIn taken file other (map (thread_name script.names) order) k limit
       → later file ≡ files file → later other ≡ text → (printed : Printed)
       → OfTaken taken later printed → printed.status ≡ Done
@@ -148,7 +151,7 @@ module _ (script : ScriptText) (deal : Deal) (of : IsDealOf script deal) (order 
 
 -- ---- what is found
 
-module _ (taken : Taken) (files : Files) (file : List ℕ) (limit : ℕ) (script : ScriptText)
+module _ (taken : SettingsOrWord) (files : Files) (file : List ℕ) (limit : ℕ) (script : ScriptText)
     (deal : Deal) (of : IsDealOf script deal)
     (spells : Spells (take script_bytes (files file)) script)
     (order : List ℕ) (once : IsOrder order)
@@ -156,7 +159,7 @@ module _ (taken : Taken) (files : Files) (file : List ℕ) (limit : ℕ) (script
     (ordered : OrdersTheRun taken script deal order) (points : List ℕ) (printed : Printed)
     (status : printed.status ≡ Found) where
   found_up : (found : FoundOut) → Finds deal (bodies_of script) order points limit found
-      → IsWellFormed script.names order found → printed ≡ told_found script.names order found
+      → IsWellFormed script.names order found → printed ≡ printed_finding script.names order found
       → IsTakenUp taken files file printed.out limit
   found_up (Events events verdict steps) finds form is =
       let plan = plan_of order events verdict in
@@ -186,13 +189,13 @@ module _ (taken : Taken) (files : Files) (file : List ℕ) (limit : ℕ) (script
 abbrev IsFinding : Status → Type 0
 IsFinding status = status ≡ Found
 
-by_taken : (taken : Taken) (files : Files) (printed : Printed) (file : List ℕ) (limit : ℕ)
+by_taken : (taken : SettingsOrWord) (files : Files) (printed : Printed) (file : List ℕ) (limit : ℕ)
     → FindsIn taken file limit → OfTaken taken files printed → printed.status ≡ Found
     → IsTakenUp taken files file printed.out limit
 by_taken (Ok (RunOrder name items word points most Find)) files printed file limit same (inl of)
     status = elim of.2.2 [
       | inl given ↦
-          let here : Taken = Ok (RunOrder name items word points most Find) in
+          let here : SettingsOrWord = Ok (RunOrder name items word points most Find) in
           let prints = given.2 in
           let up = found_up here files name most of.0 of.2.0 of.2.1 of.1 given.0 (given.1).once
           (given.1).whole given.1 points printed status prints.0 prints.1 prints.2 prints.3 in
@@ -205,11 +208,11 @@ by_taken (Ok (RunOrder name items word points most Find)) files printed file lim
     absurd (not_refused IsFinding (Script bad.0 bad.1) printed bad.3 (λ e. cc) status)
 by_taken (Ok (RunSeed name seed depth steps most Find)) files printed file limit same (inl of)
     status =
-    let here : Taken = Ok (RunSeed name seed depth steps most Find) in
+    let here : SettingsOrWord = Ok (RunSeed name seed depth steps most Find) in
     let script = of.0 in
     let n = length (script.names).threads in
     let k = of.2.2.0 in
-    let own = drawn seed n k depth in
+    let own = draw_of_seed seed n k depth in
     let is = order-of-is n (drawn_places seed 0 n) (drawn-are seed 0 n) in
     let prints = of.2.2.2 in
     let up = found_up here files name most script of.2.0 of.2.1 of.1 own.order

@@ -22,12 +22,12 @@ use Rattle.directive.specs.declared.fault.DirectiveFault.{DirectiveFault}
 use Rattle.directive.specs.DirectiveText.{DirectiveText}
 use Rattle.directive.specs.Directive.{IsDirective}
 use Rattle.directive.specs.Faults.{IsDirectiveFault}
-use Rattle.directive.specs.Answers.{told as plain}
+use Rattle.directive.specs.Answers.{plain_directive as plain}
 use Rattle.directive.proofs.Laws.{each-has-one}
 use Rattle.pct_top.specs.declared.refusal.Refusal.TheVariants.{Script, Trace}
 use Rattle.pct_top.specs.declared.refusal.Refusal.TheVariants.{Directive as BadDirective}
 use Rattle.pct_top.specs.Ordered.{NamesAll, OrderFits}
-use Rattle.pct_top.specs.Printed.{Printed, refused, OfScript, OfOrder, OfTrace, OfDirective}
+use Rattle.pct_top.specs.Printed.{Printed, printed_refusal, OfScript, OfOrder, OfTrace, OfDirective}
 use Rattle.pct_top.proofs.Deals.{one_deal}
 
 given_or : {A : Type 0} → A → Option A → A
@@ -92,8 +92,8 @@ module _ (bytes : List ℕ) (names : NameLists) (are : AreNames names) where
     one_of_trace one p q (inr a) (inl b) = absurd (traced_no_fault b.0 a.0 a.1 b.1 a.2)
     one_of_trace one p q (inr a) (inr b) =
         let same = one-fault (length bytes) names (pieces_of bytes) a.0 b.0 a.1 b.1 a.2 b.2 in
-        a.3 ∙ ap (λ n. refused (Trace n a.1)) same.0
-        ∙ ap (λ (k : TraceFault). refused (Trace b.0 k)) same.1 ∙ sym b.3
+        a.3 ∙ ap (λ n. printed_refusal (Trace n a.1)) same.0
+        ∙ ap (λ (k : TraceFault). printed_refusal (Trace b.0 k)) same.1 ∙ sym b.3
 
     -- a trace isn't refused
     pub trace_fits : (P : Printed → Type 0) → ((file : TraceFile) (p : Printed) → of file p → P p)
@@ -141,8 +141,8 @@ module _ (bytes : List ℕ) (names : NameLists) (are : AreNames names) where
         absurd (directive_no_fault (plain b.0) a.0 a.1 b.1 a.2)
     one_of_directive one p q (inr a) (inr b) =
         let same = one_directive_fault a.0 b.0 a.1 b.1 a.2 b.2 in
-        a.3 ∙ ap (λ n. refused (BadDirective n a.1)) same.0
-        ∙ ap (λ (k : DirectiveFault). refused (BadDirective b.0 k)) same.1 ∙ sym b.3
+        a.3 ∙ ap (λ n. printed_refusal (BadDirective n a.1)) same.0
+        ∙ ap (λ (k : DirectiveFault). printed_refusal (BadDirective b.0 k)) same.1 ∙ sym b.3
 
     -- a directive isn't refused
     pub directive_fits : (P : Printed → Type 0)
@@ -177,8 +177,8 @@ module _ (bytes : List ℕ) (of : ScriptText → Deal → Printed → Type 0) wh
   one_of_script one p q (inr a) (inl b) = absurd (spelled_no_fault bytes b.0 a.0 a.1 b.1 a.2)
   one_of_script one p q (inr a) (inr b) =
       let same = one_fault bytes a.0 b.0 a.1 b.1 a.2 b.2 in
-      a.3 ∙ ap (λ n. refused (Script n a.1)) same.0
-      ∙ ap (λ (k : ScriptFault). refused (Script b.0 k)) same.1 ∙ sym b.3
+      a.3 ∙ ap (λ n. printed_refusal (Script n a.1)) same.0
+      ∙ ap (λ (k : ScriptFault). printed_refusal (Script b.0 k)) same.1 ∙ sym b.3
 
   -- a script that is spelled isn't refused
   pub script_fits : (P : Printed → Type 0) (script : ScriptText) → Spells bytes script

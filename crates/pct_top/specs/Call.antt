@@ -3,7 +3,7 @@
 use Rattle.std.specs.Prelude.{◌≡◌, ℕ, ◌⊎◌, List, [], ◌++◌, Option, Some, Result, Ok, Err}
 use Rattle.std.specs.List.{Contains}
 use Rattle.pct_outside.specs.Counter.{Rose}
-use Rattle.pct_outside.specs.Piece.{Appended, AppendedPart}
+use Rattle.pct_outside.specs.Piece.{IsAppended, IsPartAppended}
 use Rattle.script_tree.specs.ScriptText.{ScriptText}
 use Rattle.script_tree.specs.Grammar.{Spells}
 use Rattle.pct_top.specs.declared.refusal.Refusal.{Refusal}
@@ -12,31 +12,31 @@ use Rattle.pct_top.specs.declared.refusal.Refusal.TheVariants.{Read, Write, Memo
 use Rattle.pct_top.specs.declared.settings.Settings.{Settings}
 use Rattle.pct_top.specs.declared.status.Status.{Status}
 use Rattle.pct_top.specs.declared.status.Status.TheVariants as statuses
-use Rattle.pct_top.specs.Settings.{Taken, settings}
+use Rattle.pct_top.specs.Settings.{SettingsOrWord, settings}
 use Rattle.pct_top.specs.Refusing.{refusal_line}
 use Rattle.pct_top.specs.Ordered.{OrderFits}
-use Rattle.pct_top.specs.Printed.{Files, Printed, refused}
+use Rattle.pct_top.specs.Printed.{Files, Printed, printed_refusal}
 use Rattle.pct_top.specs.Output.{script_file, script_text, order_given, second_file, SecondFits}
 use Rattle.pct_top.specs.Output.{OfTaken, Output}
-use Rattle.pct_top.specs.Outcome.{Shows}
+use Rattle.pct_top.specs.Outcome.{ShowsFiles}
 use Rattle.pct_top.specs.Files.{Misses}
 use Rattle.pct_top.specs.Outside.{ShelfTold, StreamTold, Outside}
-use Rattle.pct_top.specs.Saying.{Says}
+use Rattle.pct_top.specs.Saying.{SaysLine}
 
 -- ---- reads that failed
 
 -- Names were added to those of the failed reads, and this is one of them.
-abbrev pub Gained : List ℕ → List (List ℕ) → List (List ℕ) → Type 0
-Gained name failed failed' =
+abbrev pub IsGained : List ℕ → List (List ℕ) → List (List ℕ) → Type 0
+IsGained name failed failed' =
     (more : List (List ℕ)) × (failed' ≡ failed ++ more) × Contains more name
 
 -- The words are taken, and this is the file of the script.
-abbrev pub ReadsScript : Taken → List ℕ → Type 0
+abbrev pub ReadsScript : SettingsOrWord → List ℕ → Type 0
 ReadsScript (Ok settings) name = script_file settings ≡ Some name
 ReadsScript (Err number) name = ⊥
 
 -- and this is the second file
-abbrev pub ReadsSecond : Taken → List ℕ → Type 0
+abbrev pub ReadsSecond : SettingsOrWord → List ℕ → Type 0
 ReadsSecond (Ok settings) name = second_file settings ≡ Some name
 ReadsSecond (Err number) name = ⊥
 
@@ -47,14 +47,14 @@ ComesToSecond settings files =
     × OrderFits script.names (order_given settings)
 
 -- The order of work comes to the second file. This is said where the files are told.
-abbrev pub IsReached : Taken → Option Files → Type 0
+abbrev pub IsReached : SettingsOrWord → Option Files → Type 0
 IsReached (Ok settings) told = (files : Files) → told ≡ Some files → ComesToSecond settings files
 IsReached (Err number) told = ⊥
 
 -- the name of a file that the call reads was added to those of the failed reads
-abbrev pub ReadFailed : Taken → ShelfTold → ShelfTold → Type 0
+abbrev pub ReadFailed : SettingsOrWord → ShelfTold → ShelfTold → Type 0
 ReadFailed taken before after =
-    (name : List ℕ) × Gained name before.failed after.failed
+    (name : List ℕ) × IsGained name before.failed after.failed
     × (ReadsScript taken name ⊎ (ReadsSecond taken name × IsReached taken before.files))
 
 -- of a command over its script, the same: its second file is reached, and the read failed
@@ -65,13 +65,13 @@ MissesSecond settings script failed failed' =
 -- ---- the answer, before anything is said on the error stream
 
 -- a command was carried out
-abbrev pub IsAnswer : Status → Type 0
-IsAnswer statuses.Done = Unit {0}
-IsAnswer statuses.Found = Unit {0}
-IsAnswer status = ⊥
+abbrev pub IsCarriedOut : Status → Type 0
+IsCarriedOut statuses.Done = Unit {0}
+IsCarriedOut statuses.Found = Unit {0}
+IsCarriedOut status = ⊥
 
 -- where the files are told, what is printed for the words has this
-abbrev pub PrintsOne : Taken → Option Files → (Printed → Type 0) → Type 0
+abbrev pub PrintsOne : SettingsOrWord → Option Files → (Printed → Type 0) → Type 0
 PrintsOne taken told has =
     (files : Files) → told ≡ Some files
     → (printed : Printed) × OfTaken taken files printed × has printed
@@ -79,13 +79,13 @@ PrintsOne taken told has =
 -- the output was put whole, and nothing is to be said on the error stream
 abbrev pub PutsAll : StreamTold → StreamTold → Status → Printed → Type 0
 PutsAll before after status printed =
-    Appended printed.out before.written after.written
+    IsAppended printed.out before.written after.written
     × (status ≡ printed.status) × (printed.err ≡ [])
 
 -- a part of the output was put, and nothing was to be said on the error stream
 abbrev pub PutsPart : StreamTold → StreamTold → Printed → Type 0
 PutsPart before after printed =
-    (printed.err ≡ []) × AppendedPart printed.out before.written after.written
+    (printed.err ≡ []) × IsPartAppended printed.out before.written after.written
 
 -- the output's fault shows
 abbrev pub IsRefusing : StreamTold → StreamTold → Type 0
@@ -95,28 +95,29 @@ IsRefusing before after = Rose before.faults after.faults
 abbrev pub PutsOutcome : Printed → StreamTold → StreamTold → Result Status Refusal → Type 0
 PutsOutcome printed before after (Ok status) = PutsAll before after status printed
 PutsOutcome printed before after (Err Write) =
-    IsRefusing before after × AppendedPart printed.out before.written after.written
+    IsRefusing before after × IsPartAppended printed.out before.written after.written
 PutsOutcome printed before after (Err Memory) =
-    AppendedPart printed.out before.written after.written
+    IsPartAppended printed.out before.written after.written
 PutsOutcome printed before after (Err refusal) = ⊥
 
 -- where the words aren't taken, the answer says which, want of memory aside
-abbrev pub RefusedFirst : Taken → Result Status Refusal → Type 0
+abbrev pub RefusedFirst : SettingsOrWord → Result Status Refusal → Type 0
 RefusedFirst (Ok settings) answer = Unit {0}
 RefusedFirst (Err number) (Err (Usage word)) = word ≡ number
 RefusedFirst (Err number) (Err Memory) = Unit {0}
 RefusedFirst (Err number) answer = ⊥
 
 -- nothing is put, and this refusal may be printed
-abbrev pub ShowsRefusal : Taken → Option Files → StreamTold → StreamTold → Refusal → Type 0
+abbrev pub ShowsRefusal : SettingsOrWord → Option Files → StreamTold → StreamTold → Refusal → Type 0
 ShowsRefusal taken told before after refusal =
-    (after ≡ before) × Shows (OfTaken taken) told (refused refusal)
+    (after ≡ before) × ShowsFiles (OfTaken taken) told (printed_refusal refusal)
 
 -- The answer of a call: what it does to the shelf, and to the output.
 abbrev pub Answers :
-    Taken → ShelfTold → ShelfTold → StreamTold → StreamTold → Result Status Refusal → Type 0
+    SettingsOrWord → ShelfTold → ShelfTold → StreamTold → StreamTold → Result Status Refusal
+    → Type 0
 Answers taken shelf shelf' before after (Ok status) =
-    IsAnswer status × PrintsOne taken shelf.files (PutsAll before after status)
+    IsCarriedOut status × PrintsOne taken shelf.files (PutsAll before after status)
 Answers taken shelf shelf' before after (Err (Usage n)) =
     ShowsRefusal taken shelf.files before after (Usage n)
 Answers taken shelf shelf' before after (Err (Script line kind)) =
@@ -135,7 +136,7 @@ Answers taken shelf shelf' before after (Err Memory) =
 -- ---- the whole call, by its status
 
 -- the files are in their grammars, and an order fits
-abbrev pub CanRun : Taken → Files → Type 0
+abbrev pub CanRun : SettingsOrWord → Files → Type 0
 CanRun (Ok settings) files =
     (script : ScriptText) × Spells (script_text settings files) script
     × OrderFits script.names (order_given settings) × SecondFits settings files script
@@ -147,12 +148,12 @@ abbrev pub Completes : List (List ℕ) → Outside → Outside → Status → Ty
 Completes words found left status =
     (files : Files) → found.shelf.files ≡ Some files → CanRun (settings words) files
     → ((name : List ℕ) → ReadsScript (settings words) name ⊎ ReadsSecond (settings words) name
-    → ¬ Gained name found.shelf.failed left.shelf.failed)
-    → ¬ IsRefusing found.output left.output → IsAnswer status ⊎ (status ≡ statuses.NoMemory)
+    → ¬ IsGained name found.shelf.failed left.shelf.failed)
+    → ¬ IsRefusing found.output left.output → IsCarriedOut status ⊎ (status ≡ statuses.NoMemory)
 
 -- Where the words aren't taken, the status says so, want of memory aside. This holds where no files
 -- are told.
-abbrev pub RefusedWords : Taken → Status → Type 0
+abbrev pub RefusedWords : SettingsOrWord → Status → Type 0
 RefusedWords (Ok settings) status = Unit {0}
 RefusedWords (Err number) statuses.Usage = Unit {0}
 RefusedWords (Err number) statuses.NoMemory = Unit {0}
@@ -161,17 +162,17 @@ RefusedWords (Err number) status = ⊥
 -- what is printed is on both streams
 abbrev pub PrintsAll : Outside → Outside → Status → Printed → Type 0
 PrintsAll found left status printed =
-    (status ≡ printed.status) × Appended printed.out found.output.written left.output.written
-    × Says printed.err found.errors left.errors
+    (status ≡ printed.status) × IsAppended printed.out found.output.written left.output.written
+    × SaysLine printed.err found.errors left.errors
 
 -- By the status, how much of what may be printed is on the streams: all, nothing after a read that
 -- failed, or a part of the output after a write that failed and where there was no memory.
 abbrev pub Prints : Outside → Outside → Status → Printed → Type 0
 Prints found left statuses.ReadFault printed = left.output ≡ found.output
 Prints found left statuses.WriteFault printed =
-    AppendedPart printed.out found.output.written left.output.written
+    IsPartAppended printed.out found.output.written left.output.written
 Prints found left statuses.NoMemory printed =
-    AppendedPart printed.out found.output.written left.output.written
+    IsPartAppended printed.out found.output.written left.output.written
 Prints found left status printed = PrintsAll found left status printed
 
 -- Whatever *Output* may print for the words and the files, the call has printed it so.
@@ -203,15 +204,15 @@ Ends words found left statuses.BadTrace = Refuses words found left statuses.BadT
 Ends words found left statuses.BadDirective = Refuses words found left statuses.BadDirective
 Ends words found left statuses.ReadFault =
     (left.output ≡ found.output) × ReadFailed (settings words) found.shelf left.shelf
-    × Says (refusal_line Read) found.errors left.errors
+    × SaysLine (refusal_line Read) found.errors left.errors
 Ends words found left statuses.WriteFault =
     IsRefusing found.output left.output
     × PrintsOne (settings words) found.shelf.files (PutsPart found.output left.output)
-    × Says (refusal_line Write) found.errors left.errors
+    × SaysLine (refusal_line Write) found.errors left.errors
 Ends words found left statuses.NoMemory =
     ((left.output ≡ found.output)
     ⊎ PrintsOne (settings words) found.shelf.files (PutsPart found.output left.output))
-    × Says (refusal_line Memory) found.errors left.errors
+    × SaysLine (refusal_line Memory) found.errors left.errors
 
 -- What is promised of a call, whatever the command is.
 pub record IsCall (words : List (List ℕ)) (found left : Outside) (status : Status) : Type 0 where

@@ -2,7 +2,7 @@
 -- `replay` confirms (this project).
 use Rattle.std.specs.Prelude.{◌≡◌, ◌⊎◌, ℕ, true, false, List, [], ◌∷◌, Ok, codes, take}
 use Rattle.pct_ask.specs.NameLists.{NameLists}
-use Rattle.pct_ask.specs.VerdictText.{named, verdict_words}
+use Rattle.pct_ask.specs.VerdictText.{named_verdict, verdict_words}
 use Rattle.pct_ask.specs.TraceText.{line_text}
 use Rattle.pct_ask.specs.declared.verdict.Verdict.{Verdict}
 use Rattle.script_tree.specs.ScriptText.{ScriptText}
@@ -11,14 +11,14 @@ use Rattle.trace_text.specs.declared.file.TraceFile.{TraceFile}
 use Rattle.trace_text.specs.Trace.{IsTrace}
 use Rattle.pct_top.specs.declared.settings.Report.TheVariants.{Trace}
 use Rattle.pct_top.specs.declared.settings.Settings.TheVariants.{RunOrder, RunSeed, Expose}
-use Rattle.pct_top.specs.Settings.{Taken, settings}
-use Rattle.pct_top.specs.Printed.{Files, Printed, script_bytes, told}
+use Rattle.pct_top.specs.Settings.{SettingsOrWord, settings}
+use Rattle.pct_top.specs.Printed.{Files, Printed, script_bytes, printed_text}
 use Rattle.pct_top.specs.Output.{Output}
 use Rattle.pct_top.specs.commands.Expose.{long_text}
-use Rattle.pct_top.specs.Call.{IsAnswer}
+use Rattle.pct_top.specs.Call.{IsCarriedOut}
 
 -- the words ask for the trace of a run of the script in this file
-abbrev pub RunsFile : Taken → List ℕ → Type 0
+abbrev pub RunsFile : SettingsOrWord → List ℕ → Type 0
 RunsFile (Ok (RunOrder file order word points limit Trace)) name = name ≡ file
 RunsFile (Ok (RunSeed file seed depth steps limit Trace)) name = name ≡ file
 RunsFile taken name = ⊥
@@ -29,9 +29,9 @@ TellsVerdict text script verdict =
     (file : TraceFile) × IsTrace text script.names file × (file.verdict ≡ verdict)
 
 -- `confirmed` and the verdict on the output, and Done
-abbrev pub confirmed : NameLists → Verdict → Printed
-confirmed names verdict =
-    told (line_text (codes "confirmed" ∷ verdict_words (named names verdict))) true
+abbrev pub printed_confirmation : NameLists → Verdict → Printed
+printed_confirmation names verdict =
+    printed_text (line_text (codes "confirmed" ∷ verdict_words (named_verdict names verdict))) true
 
 -- the words that ask for the replay of the trace in one file over the script in the other
 abbrev pub replay_of : List ℕ → List ℕ → List (List ℕ)
@@ -42,7 +42,7 @@ replay_of file trace = codes "replay" ∷ file ∷ trace ∷ []
 abbrev pub IsConfirmed : Files → List ℕ → List ℕ → ScriptText → Verdict → Type 0
 IsConfirmed files file text script verdict =
     (later : Files) (trace : List ℕ) → later file ≡ files file → later trace ≡ text
-    → Output (replay_of file trace) later (confirmed script.names verdict)
+    → Output (replay_of file trace) later (printed_confirmation script.names verdict)
 
 -- The text is a whole trace of the script in this file with one verdict, and its replay over the
 -- script is confirmed with it.
@@ -55,22 +55,22 @@ IsConfirmedTrace files file text =
 abbrev pub RunsAreConfirmed : Type 0
 RunsAreConfirmed =
     (words : List (List ℕ)) (files : Files) (printed : Printed) (file : List ℕ)
-    → RunsFile (settings words) file → Output words files printed → IsAnswer printed.status
+    → RunsFile (settings words) file → Output words files printed → IsCarriedOut printed.status
     → IsConfirmedTrace files file printed.out
 
 -- the words ask for what a directive exposes in the script in this file
-abbrev pub ExposesFile : Taken → List ℕ → Type 0
+abbrev pub ExposesFile : SettingsOrWord → List ℕ → Type 0
 ExposesFile (Ok (Expose file directive order word steps limit)) name = name ≡ file
 ExposesFile taken name = ⊥
 
 -- the run has more steps than there may be
 abbrev pub TellsLong : Printed → Type 0
-TellsLong printed = (many : ℕ) × (printed ≡ told (long_text many) false)
+TellsLong printed = (many : ℕ) × (printed ≡ printed_text (long_text many) false)
 
 -- And so is what `expose` may print, unless it is a refusal or the run has more steps than there
 -- may be.
 abbrev pub ExposedAreConfirmed : Type 0
 ExposedAreConfirmed =
     (words : List (List ℕ)) (files : Files) (printed : Printed) (file : List ℕ)
-    → ExposesFile (settings words) file → Output words files printed → IsAnswer printed.status
+    → ExposesFile (settings words) file → Output words files printed → IsCarriedOut printed.status
     → TellsLong printed ⊎ IsConfirmedTrace files file printed.out

@@ -12,12 +12,12 @@ use Rattle.directive_run.specs.Orders.{factorial}
 use Rattle.directive_run.specs.Counting.{hits}
 use Rattle.pct_top.specs.declared.settings.Settings.TheVariants.{Certify}
 use Rattle.pct_top.specs.declared.status.Status.TheVariants.{Done}
-use Rattle.pct_top.specs.Settings.{Taken, settings}
+use Rattle.pct_top.specs.Settings.{SettingsOrWord, settings}
 use Rattle.pct_top.specs.Printed.{Files, Printed, script_bytes, directive_bytes}
 use Rattle.pct_top.specs.Output.{Output}
 
 -- the words ask for the certificate of the directive in this file over the script in that one
-abbrev pub CertifiesFile : Taken → List ℕ → List ℕ → ℕ → ℕ → Type 0
+abbrev pub CertifiesFile : SettingsOrWord → List ℕ → List ℕ → ℕ → ℕ → Type 0
 CertifiesFile (Ok (Certify file directive steps limit)) name other k most =
     (name ≡ file) × (other ≡ directive) × (k ≡ steps) × (most ≡ limit)
 CertifiesFile taken name other k most = ⊥

@@ -1,8 +1,8 @@
 -- What reading the files of a call gives.
 use Rattle.std.specs.Prelude.{◌≡◌, ℕ, ◌⊎◌, List, take, Option, Some, Result, Ok, Err}
 use Rattle.pct_ask.specs.NameLists.{NameLists}
-use Rattle.pct_outside.specs.Reading.{with_name}
-use Rattle.script_tree.specs.ScriptSeen.{text}
+use Rattle.pct_outside.specs.Reading.{names_with}
+use Rattle.script_tree.specs.ScriptSeen.{plain_script}
 use Rattle.script_tree.specs.Grammar.{Spells}
 use Rattle.script_tree.specs.Faults.{IsFault}
 use Rattle.trace_text.specs.declared.file.TraceFile.{TraceFile}
@@ -11,7 +11,7 @@ use Rattle.trace_text.specs.Faults.{IsTraceFault}
 use Rattle.directive.specs.declared.directive.Directive.{Directive}
 use Rattle.directive.specs.Directive.{IsDirective}
 use Rattle.directive.specs.Faults.{IsDirectiveFault}
-use Rattle.directive.specs.Answers.{told as plain}
+use Rattle.directive.specs.Answers.{plain_directive as plain}
 use Rattle.pct_top.specs.declared.refusal.Refusal.{Refusal}
 use Rattle.pct_top.specs.declared.refusal.Refusal.TheVariants.{Script, Trace}
 use Rattle.pct_top.specs.declared.refusal.Refusal.TheVariants.{Directive as BadDirective, Read}
@@ -26,17 +26,17 @@ HasText told text has = (files : Files) → told ≡ Some files → has (text fi
 -- no name was added to those of the failed reads, or one
 abbrev pub KeepsNames : List (List ℕ) → List (List ℕ) → Type 0
 KeepsNames failed failed' =
-    (failed' ≡ failed) ⊎ ((name : List ℕ) × (failed' ≡ with_name failed name))
+    (failed' ≡ failed) ⊎ ((name : List ℕ) × (failed' ≡ names_with failed name))
 
 -- The read of this file failed, if it is one, and its name was added.
 abbrev pub Misses : Option (List ℕ) → List (List ℕ) → List (List ℕ) → Type 0
 Misses file failed failed' =
-    (name : List ℕ) × (file ≡ Some name) × (failed' ≡ with_name failed name)
+    (name : List ℕ) × (file ≡ Some name) × (failed' ≡ names_with failed name)
 
 -- the script that the text spells, or its fault, or a read failed for this cause
 abbrev pub GivesTest : Option Files → (Files → List ℕ) → Type 0 → Result Test Refusal → Type 0
 GivesTest told source missed (Ok test) =
-    HasText told source (λ bytes. Spells bytes (text test.script))
+    HasText told source (λ bytes. Spells bytes (plain_script test.script))
 GivesTest told source missed (Err (Script line kind)) =
     HasText told source (λ bytes. IsFault bytes line kind)
 GivesTest told source missed (Err Read) = missed
@@ -45,7 +45,7 @@ GivesTest told source missed (Err refusal) = ⊥
 
 -- the script that a text spells, or its fault; no file is read
 abbrev pub GivesText : List ℕ → Result Test Refusal → Type 0
-GivesText bytes (Ok test) = Spells bytes (text test.script)
+GivesText bytes (Ok test) = Spells bytes (plain_script test.script)
 GivesText bytes (Err (Script line kind)) = IsFault bytes line kind
 GivesText bytes (Err Memory) = Unit {0}
 GivesText bytes (Err refusal) = ⊥

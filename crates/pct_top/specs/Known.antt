@@ -1,7 +1,7 @@
 -- What may be written of a run: it names only what the script has.
 use Rattle.std.specs.Prelude.{◌≡◌, ◌⊎◌, ℕ, ◌≤◌, false, List, length, All}
 use Rattle.pct_ask.specs.NameLists.{NameLists}
-use Rattle.pct_ask.specs.VerdictText.{HasNames, IsWhole}
+use Rattle.pct_ask.specs.VerdictText.{HasNames, IsWholeVerdict}
 use Rattle.pct_ask.specs.declared.event.Event.{Event}
 use Rattle.pct_ask.specs.declared.verdict.Verdict.{Verdict}
 use Rattle.script_tree.specs.ScriptText.{ScriptText}
@@ -11,7 +11,7 @@ use Rattle.pct_top.specs.Runs.{trace_version}
 -- a verdict of a test with these names, in a trace of a version
 pub record IsKnownVerdict (names : NameLists) (version : ℕ) (verdict : Verdict) : Type 0 where
   pub threads : HasNames names verdict
-  pub whole : IsWhole verdict
+  pub whole : IsWholeVerdict verdict
   pub known : (is_of_second verdict ≡ false) ⊎ (version ≡ 2)
 
 -- the steps and the verdict of a run of the script

@@ -10,7 +10,7 @@ use Rattle.pct_top.specs.declared.options.OptionName.TheVariants.{Steps, From, C
 use Rattle.pct_top.specs.declared.options.Options.{Options}
 use Rattle.pct_top.specs.declared.settings.WordsError.{WordsError}
 use Rattle.pct_top.specs.declared.settings.WordsError.TheVariants.{Word, NoMemory}
-use Rattle.pct_top.specs.Table.{takes}
+use Rattle.pct_top.specs.Table.{takes_option}
 use Rattle.pct_top.specs.Values.{order_in, points_in, step_count, seed_in, depth_in, is_json}
 
 -- the option that a word begins
@@ -27,8 +27,8 @@ option_named word =
     else (if bytes_eq word (codes "--form") then Some Form else None))))))))
 
 -- before the first option
-abbrev pub none : Options
-none = record {
+abbrev pub no_options : Options
+no_options = record {
   order = None;
   points = None;
   limit = None;
@@ -54,57 +54,61 @@ is_new o Form = is_none o.json
 
 -- the options with one more, whose value is the word of this number; none where the value isn't
 -- lawful
-abbrev pub with_value : Options → ℕ → OptionName → List ℕ → Option Options
-with_value o word Order value =
+abbrev pub with_option_value : Options → ℕ → OptionName → List ℕ → Option Options
+with_option_value o word Order value =
     option_map (λ items. record o { order = Some (record { items = items; word = word }) })
     (order_in value)
-with_value o word Points value =
+with_option_value o word Points value =
     option_map (λ points. record o { points = Some points }) (points_in value)
-with_value o word Limit value =
+with_option_value o word Limit value =
     option_map (λ limit. record o { limit = Some limit }) (step_count value)
-with_value o word Seed value = option_map (λ seed. record o { seed = Some seed }) (seed_in value)
-with_value o word Depth value =
+with_option_value o word Seed value =
+    option_map (λ seed. record o { seed = Some seed }) (seed_in value)
+with_option_value o word Depth value =
     option_map (λ depth. record o { depth = Some depth }) (depth_in value)
-with_value o word Steps value =
+with_option_value o word Steps value =
     option_map (λ steps. record o { steps = Some steps }) (step_count value)
-with_value o word From value = option_map (λ from. record o { from = Some from }) (seed_in value)
-with_value o word Count value =
+with_option_value o word From value =
+    option_map (λ from. record o { from = Some from }) (seed_in value)
+with_option_value o word Count value =
     option_map (λ count. record o { count = Some count }) (step_count value)
-with_value o word Form value = option_map (λ json. record o { json = Some json }) (is_json value)
+with_option_value o word Form value =
+    option_map (λ json. record o { json = Some json }) (is_json value)
 
 -- the option that a word begins here, where it is new and the command takes it
 abbrev pub next_option : Command → Options → List ℕ → Option OptionName
 next_option command o word =
-    option_and_then (λ name. if is_new o name && takes command o name then Some name else None)
+    option_and_then
+    (λ name. if is_new o name && takes_option command o name then Some name else None)
     (option_named word)
 
 -- options, or the number of the first word that isn't taken
-abbrev pub Given : Type 0
-Given = Result Options ℕ
+abbrev pub OptionsOrWord : Type 0
+OptionsOrWord = Result Options ℕ
 
 -- the options; where there are none, the number of the word whose value isn't lawful
-abbrev pub lawful_or : ℕ → Option Options → Given
+abbrev pub lawful_or : ℕ → Option Options → OptionsOrWord
 lawful_or word None = Err word
 lawful_or word (Some o) = Ok o
 
 -- the options with one more, of which the first word has this number
-abbrev pub with_option : Options → ℕ → List ℕ → Option OptionName → Given
+abbrev pub with_option : Options → ℕ → List ℕ → Option OptionName → OptionsOrWord
 with_option o number value None = Err number
 with_option o number value (Some name) =
-    lawful_or (number + 1) (with_value o (number + 1) name value)
+    lawful_or (number + 1) (with_option_value o (number + 1) name value)
 
 -- the last word begins an option and has no value, or it isn't taken itself
-abbrev pub without_value : ℕ → Option OptionName → Given
+abbrev pub without_value : ℕ → Option OptionName → OptionsOrWord
 without_value number None = Err number
 without_value number (Some name) = Err (number + 1)
 
 -- what further words give after these options; where a word wasn't taken, its number stays
-abbrev pub and_then : (Options → Given) → Given → Given
+abbrev pub and_then : (Options → OptionsOrWord) → OptionsOrWord → OptionsOrWord
 and_then further (Err number) = Err number
 and_then further (Ok o) = further o
 
 -- the options that words give a command, after those before them; the first word has this number
-abbrev pub options_from : Command → Options → ℕ → List (List ℕ) → Given
+abbrev pub options_from : Command → Options → ℕ → List (List ℕ) → OptionsOrWord
 options_from command o number [] = Ok o
 options_from command o number (word ∷ []) = without_value number (next_option command o word)
 options_from command o number (word ∷ value ∷ words) =
@@ -116,8 +120,8 @@ abbrev pub one_if : Bool → ℕ
 one_if b = if b then 1 else 0
 
 -- how many options were given
-abbrev pub count : Options → ℕ
-count o =
+abbrev pub option_count : Options → ℕ
+option_count o =
     one_if (is_some o.order) + one_if (is_some o.points) + one_if (is_some o.limit)
     + one_if (is_some o.seed) + one_if (is_some o.depth) + one_if (is_some o.steps)
     + one_if (is_some o.from) + one_if (is_some o.count) + one_if (is_some o.json)
@@ -125,19 +129,21 @@ count o =
 -- ---- what calls answer, want of memory aside
 
 -- options are given, or the number of a word
-abbrev pub GivesOptions : {A : Type 0} → (A → Options) → Result A WordsError → Given → Type 0
+abbrev pub GivesOptions : {A : Type 0} → (A → Options) → Result A WordsError → OptionsOrWord
+    → Type 0
 GivesOptions options (Ok a) given = given ≡ Ok (options a)
 GivesOptions options (Err (Word number)) given = given ≡ Err number
 GivesOptions options (Err NoMemory) given = Unit {0}
 
 -- the options have become these
-abbrev pub ChangesTo : Result (Unit {0}) WordsError → Options → Given → Type 0
+abbrev pub ChangesTo : Result (Unit {0}) WordsError → Options → OptionsOrWord → Type 0
 ChangesTo (Ok unit) new given = given ≡ Ok new
 ChangesTo (Err (Word number)) new given = given ≡ Err number
 ChangesTo (Err NoMemory) new given = Unit {0}
 
 -- what is given is what further words give
-abbrev pub LeavesTo : {A : Type 0} → (A → Given) → Given → Result A WordsError → Type 0
+abbrev pub LeavesTo : {A : Type 0} → (A → OptionsOrWord) → OptionsOrWord → Result A WordsError
+    → Type 0
 LeavesTo further given (Ok a) = given ≡ further a
 LeavesTo further given (Err (Word number)) = given ≡ Err number
 LeavesTo further given (Err NoMemory) = Unit {0}

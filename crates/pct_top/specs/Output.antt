@@ -9,13 +9,13 @@ use Rattle.trace_text.specs.declared.file.TraceFile.{TraceFile}
 use Rattle.trace_text.specs.Trace.{IsTrace}
 use Rattle.directive.specs.declared.directive.Directive.{Directive}
 use Rattle.directive.specs.Directive.{IsDirective}
-use Rattle.directive.specs.Answers.{told as plain}
+use Rattle.directive.specs.Answers.{plain_directive as plain}
 use Rattle.pct_top.specs.declared.refusal.Refusal.TheVariants.{Usage}
 use Rattle.pct_top.specs.declared.settings.Settings.{Settings}
 use Rattle.pct_top.specs.declared.settings.Settings.TheVariants.{RunOrder, RunSeed, Campaign, Big}
 use Rattle.pct_top.specs.declared.settings.Settings.TheVariants.{Replay, Expose, Certify}
-use Rattle.pct_top.specs.Settings.{Taken, settings}
-use Rattle.pct_top.specs.Printed.{Files, Printed, refused, script_bytes, trace_bytes}
+use Rattle.pct_top.specs.Settings.{SettingsOrWord, settings}
+use Rattle.pct_top.specs.Printed.{Files, Printed, printed_refusal, script_bytes, trace_bytes}
 use Rattle.pct_top.specs.Printed.{directive_bytes, OfScript}
 use Rattle.pct_top.specs.Reports.{OfOrdered, OfSeed}
 use Rattle.pct_top.specs.commands.Campaign.{OfCampaign}
@@ -105,10 +105,10 @@ OfCommand (Certify file directive steps limit) files =
 
 -- what is printed for the settings, over the script of their command; where a word isn't taken, the
 -- refusal that tells its number
-abbrev pub OfTaken : Taken → Files → Printed → Type 0
+abbrev pub OfTaken : SettingsOrWord → Files → Printed → Type 0
 OfTaken (Ok settings) files printed =
     OfScript (script_text settings files) (OfCommand settings files) printed
-OfTaken (Err number) files printed = printed ≡ refused (Usage number)
+OfTaken (Err number) files printed = printed ≡ printed_refusal (Usage number)
 
 -- What the program prints for its words, where these are the bytes of the files by their names.
 abbrev pub Output : List (List ℕ) → Files → Printed → Type 0

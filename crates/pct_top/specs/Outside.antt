@@ -22,5 +22,5 @@ pub record Outside : Type 0 where
   pub errors : StreamTold
 
 -- one of the stream's counts rose
-abbrev pub Fails : StreamTold → StreamTold → Type 0
-Fails before after = Rose before.faults after.faults ⊎ Rose before.shorts after.shorts
+abbrev pub StreamFails : StreamTold → StreamTold → Type 0
+StreamFails before after = Rose before.faults after.faults ⊎ Rose before.shorts after.shorts

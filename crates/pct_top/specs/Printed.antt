@@ -17,7 +17,7 @@ use Rattle.directive.specs.declared.directive.Directive.{Directive}
 use Rattle.directive.specs.declared.fault.DirectiveFault.{DirectiveFault}
 use Rattle.directive.specs.Directive.{IsDirective}
 use Rattle.directive.specs.Faults.{IsDirectiveFault}
-use Rattle.directive.specs.Answers.{told as plain}
+use Rattle.directive.specs.Answers.{plain_directive as plain}
 use Rattle.pct_top.specs.declared.refusal.Refusal.{Refusal}
 use Rattle.pct_top.specs.declared.refusal.Refusal.TheVariants.{Usage, Script, Trace}
 use Rattle.pct_top.specs.declared.refusal.Refusal.TheVariants.{Directive as BadDirective}
@@ -37,13 +37,13 @@ pub record Printed : Type 0 where
   pub err : List ℕ
 
 -- nothing is put on the output, and a line on the error stream says why
-abbrev pub refused : Refusal → Printed
-refused refusal =
+abbrev pub printed_refusal : Refusal → Printed
+printed_refusal refusal =
     record { out = []; status = status_of_refusal refusal; err = refusal_line refusal }
 
 -- a text is put on the output, and it is done or something is found
-abbrev pub told : List ℕ → Bool → Printed
-told text done = record { out = text; status = if done then Done else Found; err = [] }
+abbrev pub printed_text : List ℕ → Bool → Printed
+printed_text text done = record { out = text; status = if done then Done else Found; err = [] }
 
 -- how many bytes of a script are read: one more than a script may have
 abbrev pub script_bytes : ℕ
@@ -64,25 +64,25 @@ OfScript bytes of printed =
     ((script : ScriptText) × Spells bytes script
     × ((deal : Deal) × IsDealOf script deal × of script deal printed))
     ⊎ ((line : ℕ) × (kind : ScriptFault) × IsFault bytes line kind
-    × (printed ≡ refused (Script line kind)))
+    × (printed ≡ printed_refusal (Script line kind)))
 
 -- The names, which stand in the word of this number, list every thread once, and this is printed of
 -- their order; or the word is refused.
 abbrev pub OfOrder : NameLists → List (List ℕ) → ℕ → (List ℕ → Printed → Type 0) → Printed → Type 0
 OfOrder names items word of printed =
     ((order : List ℕ) × NamesAll names items order × of order printed)
-    ⊎ (((order : List ℕ) → ¬ NamesAll names items order) × (printed ≡ refused (Usage word)))
+    ⊎ (((order : List ℕ) → ¬ NamesAll names items order) × (printed ≡ printed_refusal (Usage word)))
 
 -- The bytes are a trace of these names, of which this is printed; or they have a fault.
 abbrev pub OfTrace : List ℕ → NameLists → (TraceFile → Printed → Type 0) → Printed → Type 0
 OfTrace bytes names of printed =
     ((file : TraceFile) × IsTrace bytes names file × of file printed)
     ⊎ ((line : ℕ) × (kind : TraceFault) × IsTraceFault bytes names line kind
-    × (printed ≡ refused (Trace line kind)))
+    × (printed ≡ printed_refusal (Trace line kind)))
 
 -- The bytes are a directive under these names, of which this is printed; or they have a fault.
 abbrev pub OfDirective : List ℕ → NameLists → (Directive → Printed → Type 0) → Printed → Type 0
 OfDirective bytes names of printed =
     ((directive : Directive) × IsDirective bytes names (plain directive) × of directive printed)
     ⊎ ((line : ℕ) × (kind : DirectiveFault) × IsDirectiveFault bytes names line kind
-    × (printed ≡ refused (BadDirective line kind)))
+    × (printed ≡ printed_refusal (BadDirective line kind)))

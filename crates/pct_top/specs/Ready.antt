@@ -1,9 +1,9 @@
 -- A test that is ready to be run.
-use Rattle.script_tree.specs.ScriptSeen.{text}
+use Rattle.script_tree.specs.ScriptSeen.{plain_script}
 use Rattle.script_code.specs.Listing.{listing}
 use Rattle.script_body.specs.Bodies.{AreOf}
 use Rattle.pct_top.specs.declared.test.Test.{Test}
 
 -- the code and the deal are those of the script, which is sound
-abbrev pub IsReady : Test → Type 0
-IsReady test = AreOf (text test.script) (listing test.code) test.deal
+abbrev pub IsReadyTest : Test → Type 0
+IsReadyTest test = AreOf (plain_script test.script) (listing test.code) test.deal

@@ -2,7 +2,7 @@
 use Rattle.std.specs.Prelude.{ℕ, length, List, Option}
 use Rattle.pct_ask.specs.declared.Deal.{Deal}
 use Rattle.script_tree.specs.ScriptText.{ScriptText}
-use Rattle.priority_draw.specs.Drawing.{drawn}
+use Rattle.priority_draw.specs.Drawing.{draw_of_seed}
 use Rattle.pct_top.specs.declared.settings.Report.{Report}
 use Rattle.pct_top.specs.declared.settings.Report.TheVariants.{Trace, Races, Locks, Find}
 use Rattle.pct_top.specs.Printed.{Printed, OfOrder}
@@ -30,7 +30,7 @@ OfOrdered items word points limit report script deal printed =
 -- from k steps
 abbrev pub OfDrawn : ℕ → ℕ → ℕ → ℕ → Report → ScriptText → Deal → Printed → Type 0
 OfDrawn seed depth k limit report script deal printed =
-    let own = drawn seed (length script.names.threads) k depth in
+    let own = draw_of_seed seed (length script.names.threads) k depth in
     OfReport report script deal own.order own.points limit printed
 
 -- the report on the run of a seed

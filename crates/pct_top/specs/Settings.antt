@@ -16,26 +16,26 @@ use Rattle.pct_top.specs.declared.settings.WordsError.TheVariants.{Word, NoMemor
 use Rattle.pct_top.specs.declared.words.TwoFiles.{TwoFiles}
 use Rattle.pct_top.specs.Table.{command_named}
 use Rattle.pct_top.specs.Values.{pieces_in}
-use Rattle.pct_top.specs.Options.{Given, none, options_from}
+use Rattle.pct_top.specs.Options.{OptionsOrWord, no_options, options_from}
 
 -- how many steps a run may have where nothing else is said
 unfoldable pub default_limit : ℕ
 default_limit = 10000
 
 -- the settings, or the number of the first word that isn't taken
-abbrev pub Taken : Type 0
-Taken = Result Settings ℕ
+abbrev pub SettingsOrWord : Type 0
+SettingsOrWord = Result Settings ℕ
 
 -- the settings; where there are none, the number of the next word, which is missing
-abbrev pub taken_or : ℕ → Option Settings → Taken
-taken_or next None = Err next
-taken_or next (Some settings) = Ok settings
+abbrev pub settings_or : ℕ → Option Settings → SettingsOrWord
+settings_or next None = Err next
+settings_or next (Some settings) = Ok settings
 
 -- What options make, after which a word would have this number: it is missing where they make
 -- nothing.
-abbrev pub made_of : (Options → Option Settings) → ℕ → Given → Taken
+abbrev pub made_of : (Options → Option Settings) → ℕ → OptionsOrWord → SettingsOrWord
 made_of make next (Err number) = Err number
-made_of make next (Ok o) = taken_or next (make o)
+made_of make next (Ok o) = settings_or next (make o)
 
 -- ---- a run, whatever is reported of it
 
@@ -44,32 +44,32 @@ abbrev pub limit_of : Options → ℕ
 limit_of o = unwrap_or o.limit default_limit
 
 -- the run under an order that was given, with the points that were given, or none
-abbrev pub ordered : Report → List ℕ → Options → NamedOrder → Settings
-ordered report file o order =
+abbrev pub run_by_order : Report → List ℕ → Options → NamedOrder → Settings
+run_by_order report file o order =
     RunOrder file order.items order.word (unwrap_or o.points []) (limit_of o) report
 
 -- a seed asks for a depth too
-abbrev pub seeded : Report → List ℕ → Options → Option Settings
-seeded report file o =
+abbrev pub run_by_seed : Report → List ℕ → Options → Option Settings
+run_by_seed report file o =
     option_and_then
     (λ seed. option_map (λ depth. RunSeed file seed depth o.steps (limit_of o) report) o.depth)
     o.seed
 
 -- the run under the order, where one was given, and else that of a seed
 abbrev pub run_by : Report → List ℕ → Options → Option NamedOrder → Option Settings
-run_by report file o (Some order) = Some (ordered report file o order)
-run_by report file o None = seeded report file o
+run_by report file o (Some order) = Some (run_by_order report file o order)
+run_by report file o None = run_by_seed report file o
 
 -- the run that options ask for; none where neither an order is given nor a seed and a depth
 abbrev pub run_with : Report → List ℕ → Options → Option Settings
 run_with report file o = run_by report file o o.order
 
 -- after `run`, `races`, `locks` or `find`: the script's file, and then options
-abbrev pub run_settings : Report → List (List ℕ) → Taken
+abbrev pub run_settings : Report → List (List ℕ) → SettingsOrWord
 run_settings report [] = Err 2
 run_settings report (file ∷ words) =
     made_of (run_with report file) (length words + 3)
-    (options_from (commands.Run report) none 3 words)
+    (options_from (commands.Run report) no_options 3 words)
 
 -- ---- a campaign
 
@@ -87,10 +87,11 @@ campaign_with file o =
     o.from
 
 -- after `campaign`: the script's file, and then options
-abbrev pub campaign_settings : List (List ℕ) → Taken
+abbrev pub campaign_settings : List (List ℕ) → SettingsOrWord
 campaign_settings [] = Err 2
 campaign_settings (file ∷ words) =
-    made_of (campaign_with file) (length words + 3) (options_from commands.Campaign none 3 words)
+    made_of (campaign_with file) (length words + 3)
+    (options_from commands.Campaign no_options 3 words)
 
 -- ---- the large script
 
@@ -99,13 +100,13 @@ abbrev pub big_with : ℕ → Options → Option Settings
 big_with pieces o = Some (Big pieces)
 
 -- the number of pieces, where it is lawful, and no word behind it, since `big` takes no option
-abbrev pub big_by : Option ℕ → List (List ℕ) → Taken
+abbrev pub big_by : Option ℕ → List (List ℕ) → SettingsOrWord
 big_by None words = Err 2
 big_by (Some pieces) words =
-    made_of (big_with pieces) (length words + 3) (options_from commands.Big none 3 words)
+    made_of (big_with pieces) (length words + 3) (options_from commands.Big no_options 3 words)
 
 -- after `big`: the number of pieces, and no further word
-abbrev pub big_settings : List (List ℕ) → Taken
+abbrev pub big_settings : List (List ℕ) → SettingsOrWord
 big_settings [] = Err 2
 big_settings (word ∷ words) = big_by (pieces_in word) words
 
@@ -116,7 +117,7 @@ abbrev pub FilesTaken : Type 0
 FilesTaken = Result TwoFiles ℕ
 
 -- two files, and the options behind them, after which a word would have this number
-abbrev pub files_with : List ℕ → List ℕ → ℕ → Given → FilesTaken
+abbrev pub files_with : List ℕ → List ℕ → ℕ → OptionsOrWord → FilesTaken
 files_with file second next (Err number) = Err number
 files_with file second next (Ok o) =
     Ok (record { file = file; second = second; options = o; next = next })
@@ -126,20 +127,20 @@ abbrev pub two_files : Command → List (List ℕ) → FilesTaken
 two_files command [] = Err 2
 two_files command (file ∷ []) = Err 3
 two_files command (file ∷ second ∷ words) =
-    files_with file second (length words + 4) (options_from command none 4 words)
+    files_with file second (length words + 4) (options_from command no_options 4 words)
 
 -- what a command makes of the names of two files and of options; none where an option is missing
 abbrev pub MadeOfFiles : Type 0
 MadeOfFiles = List ℕ → List ℕ → Options → Option Settings
 
 -- the next word is missing where two files and their options make nothing
-abbrev pub made_over : MadeOfFiles → FilesTaken → Taken
+abbrev pub made_over : MadeOfFiles → FilesTaken → SettingsOrWord
 made_over make (Err number) = Err number
 made_over make (Ok given) =
-    taken_or given.next (make given.file given.second given.options)
+    settings_or given.next (make given.file given.second given.options)
 
 -- after the word of a command over two files
-abbrev pub settings_over : Command → MadeOfFiles → List (List ℕ) → Taken
+abbrev pub settings_over : Command → MadeOfFiles → List (List ℕ) → SettingsOrWord
 settings_over command make words = made_over make (two_files command words)
 
 -- the replay of the trace in one file over the script in the other; it takes no option
@@ -164,7 +165,7 @@ certify_with file directive o =
 -- ---- all words
 
 -- after a command's word
-abbrev pub settings_of : Command → List (List ℕ) → Taken
+abbrev pub settings_of : Command → List (List ℕ) → SettingsOrWord
 settings_of (commands.Run report) words = run_settings report words
 settings_of commands.Campaign words = campaign_settings words
 settings_of commands.Big words = big_settings words
@@ -173,12 +174,12 @@ settings_of commands.Expose words = settings_over commands.Expose expose_with wo
 settings_of commands.Certify words = settings_over commands.Certify certify_with words
 
 -- what the further words ask of the command that the first one names, if it names one
-abbrev pub settings_by : Option Command → List (List ℕ) → Taken
+abbrev pub settings_by : Option Command → List (List ℕ) → SettingsOrWord
 settings_by None words = Err 1
 settings_by (Some command) words = settings_of command words
 
 -- the words of the program, after its own name
-abbrev pub settings : List (List ℕ) → Taken
+abbrev pub settings : List (List ℕ) → SettingsOrWord
 settings [] = Err 1
 settings (word ∷ words) = settings_by (command_named word) words
 
@@ -189,10 +190,10 @@ GivesFiles (Err (Word number)) taken = taken ≡ Err number
 GivesFiles (Err NoMemory) taken = Unit {0}
 
 -- what a call answers is what the words ask for, want of memory aside
-abbrev pub ReadsAs : Result Settings WordsError → Taken → Type 0
-ReadsAs (Ok answer) taken = taken ≡ Ok answer
-ReadsAs (Err (Word number)) taken = taken ≡ Err number
-ReadsAs (Err NoMemory) taken = Unit {0}
+abbrev pub ReadsWordsAs : Result Settings WordsError → SettingsOrWord → Type 0
+ReadsWordsAs (Ok answer) taken = taken ≡ Ok answer
+ReadsWordsAs (Err (Word number)) taken = taken ≡ Err number
+ReadsWordsAs (Err NoMemory) taken = Unit {0}
 
 -- ---- the ranges that the words keep to
 

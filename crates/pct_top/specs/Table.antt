@@ -87,10 +87,10 @@ certify_takes Form = false
 -- ---- all commands
 
 -- the command takes the option, beside those that were given
-abbrev pub takes : Command → Options → OptionName → Bool
-takes (Run report) o name = run_takes o name
-takes Campaign o name = campaign_takes name
-takes Big o name = false
-takes Replay o name = false
-takes Expose o name = expose_takes name
-takes Certify o name = certify_takes name
+abbrev pub takes_option : Command → Options → OptionName → Bool
+takes_option (Run report) o name = run_takes o name
+takes_option Campaign o name = campaign_takes name
+takes_option Big o name = false
+takes_option Replay o name = false
+takes_option Expose o name = expose_takes name
+takes_option Certify o name = certify_takes name

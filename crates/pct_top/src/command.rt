@@ -39,7 +39,7 @@ impl Command {
 
     /// Whether the command takes an option, beside those that were given.
     pub fn takes(self, given: &Options, name: OptionName) -> bool
-        ensures { result ≡ table.takes self given.now name }
+        ensures { result ≡ table.takes_option self given.now name }
     {
         match self {
             Command::Run(_) => run_takes(given, name),

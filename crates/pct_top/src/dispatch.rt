@@ -1,13 +1,13 @@
 //! From the settings to a command's outcome: an arm for each command.
 
 ghost use Rattle.std.specs.Prelude.{◌≡◌, Ok, IfOk, IsSome};
-ghost use Rattle.script_tree.specs.ScriptSeen.{text};
+ghost use Rattle.script_tree.specs.ScriptSeen.{plain_script};
 ghost use Rattle.pct_top.specs.Settings.{AreLawful};
-ghost use Rattle.pct_top.specs.Ready.{IsReady};
+ghost use Rattle.pct_top.specs.Ready.{IsReadyTest};
 ghost use Rattle.pct_top.specs.Printed.{Files};
 ghost use Rattle.pct_top.specs.Reported.{report_asked};
 ghost use Rattle.pct_top.specs.Output.{script_file, script_text, second_file, OfCommand, OfTaken};
-ghost use Rattle.pct_top.specs.Outcome.{Gives, Comes};
+ghost use Rattle.pct_top.specs.Outcome.{GivesPrinted, Comes};
 ghost use Rattle.pct_top.specs.Files.{GivesTest, KeepsNames, Misses};
 ghost use Rattle.pct_top.specs.Call.{MissesSecond, ReadFailed};
 
@@ -26,7 +26,7 @@ use std::thread::Threads;
 /// The script of a command, ready to be run.
 fn test_of<H: Shelf>(alloc: Global, settings: &Settings, shelf: &mut H) -> Result<Test, Refusal>
     requires { AreLawful settings.now }
-    ensures ready { IfOk result IsReady }
+    ensures ready { IfOk result IsReadyTest }
     ensures test { GivesTest (H.files shelf.old) (script_text settings.now)
         (Misses (script_file settings.now) (H.failed shelf.old) (H.failed shelf.new)) result }
     ensures keeps { KeepsNames (H.failed shelf.old) (H.failed shelf.new) }
@@ -52,10 +52,11 @@ fn run_outcome<R: Threads + Wait + Sync, G: Gate>(
     gate: &G,
 ) -> Result<Outcome, Refusal>
     requires lawful { AreLawful settings.now }
-    requires ready { IsReady test.now }
+    requires ready { IsReadyTest test.now }
     requires report { IsSome (report_asked settings.now) }
     ensures { (files : Files)
-        → Gives (OfCommand settings.now files (text test.now.script) test.now.deal) result }
+        → GivesPrinted
+        (OfCommand settings.now files (plain_script test.now.script) test.now.deal) result }
 {
     match settings {
         Settings::RunOrder {
@@ -90,11 +91,13 @@ fn second_outcome<R: Threads + Wait + Sync, H: Shelf, G: Gate>(
     gate: &G,
 ) -> Result<Outcome, Refusal>
     requires lawful { AreLawful settings.now }
-    requires ready { IsReady test.now }
+    requires ready { IsReadyTest test.now }
     requires second { IsSome (second_file settings.now) }
-    ensures { Comes (λ files. OfCommand settings.now files (text test.now.script) test.now.deal)
+    ensures { Comes
+        (λ files. OfCommand settings.now files (plain_script test.now.script) test.now.deal)
         (H.files shelf.old)
-        (MissesSecond settings.now (text test.now.script) (H.failed shelf.old) (H.failed shelf.new))
+        (MissesSecond settings.now (plain_script test.now.script) (H.failed shelf.old)
+        (H.failed shelf.new))
         result }
 {
     match settings {
@@ -137,10 +140,12 @@ fn command_outcome<R: Threads + Wait + Sync, H: Shelf, G: Gate>(
     gate: &G,
 ) -> Result<Outcome, Refusal>
     requires lawful { AreLawful settings.now }
-    requires ready { IsReady test.now }
-    ensures { Comes (λ files. OfCommand settings.now files (text test.now.script) test.now.deal)
+    requires ready { IsReadyTest test.now }
+    ensures { Comes
+        (λ files. OfCommand settings.now files (plain_script test.now.script) test.now.deal)
         (H.files shelf.old)
-        (MissesSecond settings.now (text test.now.script) (H.failed shelf.old) (H.failed shelf.new))
+        (MissesSecond settings.now (plain_script test.now.script) (H.failed shelf.old)
+        (H.failed shelf.new))
         result }
 {
     match settings {

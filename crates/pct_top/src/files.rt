@@ -3,7 +3,7 @@
 ghost use Rattle.std.specs.Prelude.{◌≡◌, ◌≤◌, Some, IfOk, take};
 ghost use Rattle.script_tree.specs.Layout.{layout};
 ghost use Rattle.large_script.specs.Large.{large_script};
-ghost use Rattle.pct_top.specs.Ready.{IsReady};
+ghost use Rattle.pct_top.specs.Ready.{IsReadyTest};
 ghost use Rattle.pct_top.specs.Printed.{script_bytes};
 ghost use Rattle.pct_top.specs.Files.{GivesTest, GivesText, GivesTrace, GivesDirective, KeepsNames};
 ghost use Rattle.pct_top.specs.Files.{Misses};
@@ -29,7 +29,7 @@ const DIRECTIVE_BYTES: u64 = 65_537;
 
 /// The script of a file, ready to be run.
 pub fn read_test<H: Shelf>(alloc: Global, file: &str, shelf: &mut H) -> Result<Test, Refusal>
-    ensures ready { IfOk result IsReady }
+    ensures ready { IfOk result IsReadyTest }
     ensures test { GivesTest (H.files shelf.old) (λ files. take script_bytes (files file.now))
         (Misses (Some file.now) (H.failed shelf.old) (H.failed shelf.new)) result }
     ensures keeps { KeepsNames (H.failed shelf.old) (H.failed shelf.new) }
@@ -43,7 +43,7 @@ pub fn read_test<H: Shelf>(alloc: Global, file: &str, shelf: &mut H) -> Result<T
 /// The large script, printed and parsed, ready to be run.
 pub fn large_test(alloc: Global, pieces: u32) -> Result<Test, Refusal>
     requires { pieces ≤ 100 }
-    ensures ready { IfOk result IsReady }
+    ensures ready { IfOk result IsReadyTest }
     ensures test { GivesText (layout (large_script pieces)) result }
 {
     let bytes = print_large(alloc, pieces)?;

@@ -1,7 +1,8 @@
 //! Lines that commands write: each writer puts one line behind what is written.
 
 ghost use Rattle.std.specs.Prelude.{◌≡◌, [], ◌∷◌, ◌++◌, OnOk, decimal};
-ghost use Rattle.pct_ask.specs.VerdictText.{thread_name, named, verdict_words, HasNames, IsWhole};
+ghost use Rattle.pct_ask.specs.VerdictText.{thread_name, named_verdict, verdict_words, HasNames};
+ghost use Rattle.pct_ask.specs.VerdictText.{IsWholeVerdict};
 ghost use Rattle.pct_ask.specs.NameLists.{list_of};
 ghost use Rattle.pct_ask.specs.TraceText.{name_at, line_text};
 
@@ -16,9 +17,10 @@ pub fn push_verdict(
     verdict: &Verdict,
 ) -> Result<(), NoMemory>
     requires threads { HasNames names.now verdict.now }
-    requires whole { IsWhole verdict.now }
+    requires whole { IsWholeVerdict verdict.now }
     ensures { OnOk result (out.new.items
-        ≡ out.old.items ++ line_text (word.now ∷ verdict_words (named names.now verdict.now))) }
+        ≡ out.old.items
+        ++ line_text (word.now ∷ verdict_words (named_verdict names.now verdict.now))) }
 {
     out.extend_from_slice(word.as_bytes())?;
     out.push(b' ')?;

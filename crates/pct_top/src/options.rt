@@ -71,7 +71,7 @@ pub struct Options {
 impl Options {
     /// Before the first option.
     fn none() -> Options
-        ensures { result ≡ options.none }
+        ensures { result ≡ options.no_options }
     {
         Options {
             order: None,
@@ -112,7 +112,7 @@ impl Options {
 
     fn take_order(&mut self, alloc: Global, word: u32, value: &str) -> Result<(), WordsError>
         ensures { ChangesTo result self.new
-            (lawful_or word (options.with_value self.old word OptionName.Order value.now)) }
+            (lawful_or word (options.with_option_value self.old word OptionName.Order value.now)) }
     {
         let Some(items) = order_in(alloc, value)? else {
             return Err(WordsError::Word(word));
@@ -123,7 +123,7 @@ impl Options {
 
     fn take_points(&mut self, alloc: Global, word: u32, value: &str) -> Result<(), WordsError>
         ensures { ChangesTo result self.new
-            (lawful_or word (options.with_value self.old word OptionName.Points value.now)) }
+            (lawful_or word (options.with_option_value self.old word OptionName.Points value.now)) }
     {
         let Some(points) = points_in(alloc, value)? else {
             return Err(WordsError::Word(word));
@@ -134,7 +134,7 @@ impl Options {
 
     fn take_limit(&mut self, word: u32, value: &str) -> Result<(), WordsError>
         ensures { ChangesTo result self.new
-            (lawful_or word (options.with_value self.old word OptionName.Limit value.now)) }
+            (lawful_or word (options.with_option_value self.old word OptionName.Limit value.now)) }
     {
         let Some(limit) = step_count(value) else {
             return Err(WordsError::Word(word));
@@ -145,7 +145,7 @@ impl Options {
 
     fn take_seed(&mut self, word: u32, value: &str) -> Result<(), WordsError>
         ensures { ChangesTo result self.new
-            (lawful_or word (options.with_value self.old word OptionName.Seed value.now)) }
+            (lawful_or word (options.with_option_value self.old word OptionName.Seed value.now)) }
     {
         let Some(seed) = seed_in(value) else {
             return Err(WordsError::Word(word));
@@ -156,7 +156,7 @@ impl Options {
 
     fn take_depth(&mut self, word: u32, value: &str) -> Result<(), WordsError>
         ensures { ChangesTo result self.new
-            (lawful_or word (options.with_value self.old word OptionName.Depth value.now)) }
+            (lawful_or word (options.with_option_value self.old word OptionName.Depth value.now)) }
     {
         let Some(depth) = depth_in(value) else {
             return Err(WordsError::Word(word));
@@ -167,7 +167,7 @@ impl Options {
 
     fn take_steps(&mut self, word: u32, value: &str) -> Result<(), WordsError>
         ensures { ChangesTo result self.new
-            (lawful_or word (options.with_value self.old word OptionName.Steps value.now)) }
+            (lawful_or word (options.with_option_value self.old word OptionName.Steps value.now)) }
     {
         let Some(steps) = step_count(value) else {
             return Err(WordsError::Word(word));
@@ -178,7 +178,7 @@ impl Options {
 
     fn take_from(&mut self, word: u32, value: &str) -> Result<(), WordsError>
         ensures { ChangesTo result self.new
-            (lawful_or word (options.with_value self.old word OptionName.From value.now)) }
+            (lawful_or word (options.with_option_value self.old word OptionName.From value.now)) }
     {
         let Some(from) = seed_in(value) else {
             return Err(WordsError::Word(word));
@@ -189,7 +189,7 @@ impl Options {
 
     fn take_count(&mut self, word: u32, value: &str) -> Result<(), WordsError>
         ensures { ChangesTo result self.new
-            (lawful_or word (options.with_value self.old word OptionName.Count value.now)) }
+            (lawful_or word (options.with_option_value self.old word OptionName.Count value.now)) }
     {
         let Some(count) = step_count(value) else {
             return Err(WordsError::Word(word));
@@ -200,7 +200,7 @@ impl Options {
 
     fn take_form(&mut self, word: u32, value: &str) -> Result<(), WordsError>
         ensures { ChangesTo result self.new
-            (lawful_or word (options.with_value self.old word OptionName.Form value.now)) }
+            (lawful_or word (options.with_option_value self.old word OptionName.Form value.now)) }
     {
         let Some(json) = is_json(value) else {
             return Err(WordsError::Word(word));
@@ -218,7 +218,7 @@ impl Options {
         value: &str,
     ) -> Result<(), WordsError>
         ensures { ChangesTo result self.new
-            (lawful_or word (options.with_value self.old word name value.now)) }
+            (lawful_or word (options.with_option_value self.old word name value.now)) }
     {
         match name {
             OptionName::Order => self.take_order(alloc, word, value),
@@ -243,11 +243,12 @@ impl Options {
         word: &str,
         others: &'a [String],
     ) -> Result<&'a [String], WordsError>
-        requires { number ≤ 4 + 2 * options.count self.old }
+        requires { number ≤ 4 + 2 * options.option_count self.old }
         ensures leaves { LeavesTo
             (λ rest. options.options_from command self.new (number + 2) (texts_of rest.now))
             (options.options_from command self.old number (word.now ∷ texts_of others.now)) result }
-        ensures count { OnOk result (options.count self.new ≡ options.count self.old + 1) }
+        ensures count { OnOk result
+            (options.option_count self.new ≡ options.option_count self.old + 1) }
         ensures shorter { IfOk result (λ rest. length rest.now + 1 ≡ length others.now) }
     {
         let Some(name) = self.next_option(command, word) else {
@@ -271,7 +272,7 @@ pub fn options_in(
 ) -> Result<(Options, u32), WordsError>
     requires { first ≤ 4 }
     ensures options { GivesOptions (λ given. given.0) result
-        (options.options_from command options.none first (texts_of words.now)) }
+        (options.options_from command options.no_options first (texts_of words.now)) }
     ensures next { IfOk result (λ given. given.1 ≡ length words.now + first) }
 {
     let mut options = Options::none();

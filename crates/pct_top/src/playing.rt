@@ -2,10 +2,10 @@
 
 ghost use Rattle.std.specs.Prelude.{◌≡◌, ◌≤◌, length, Some, IfOk};
 ghost use Rattle.rank_now.specs.Order.{IsOrder};
-ghost use Rattle.script_tree.specs.ScriptSeen.{text};
+ghost use Rattle.script_tree.specs.ScriptSeen.{plain_script};
 ghost use Rattle.trace_text.specs.Lawful.{IsStepCount};
 ghost use Rattle.pct_top.specs.Runs.{run_of};
-ghost use Rattle.pct_top.specs.Ready.{IsReady};
+ghost use Rattle.pct_top.specs.Ready.{IsReadyTest};
 ghost use Rattle.pct_top.specs.Known.{AreKnown};
 
 use crate::test::Test;
@@ -26,16 +26,16 @@ pub fn play<R: Threads + Wait + Sync, G: Gate>(
     limit: u32,
     gate: &G,
 ) -> Result<WholeRun, NoMemory>
-    requires ready { IsReady test.now }
+    requires ready { IsReadyTest test.now }
     requires order { IsOrder order.now }
     requires whole { length order.now ≡ test.now.deal.threads }
     requires few_points { length points.now ≤ 7 }
     requires limit { IsStepCount limit }
     ensures run { IfOk result (λ run.
-        run_of (text test.now.script) test.now.deal order.now points.now limit
+        run_of (plain_script test.now.script) test.now.deal order.now points.now limit
         ≡ Some (run.events, run.verdict)) }
     ensures known { IfOk result (λ run.
-        AreKnown (text test.now.script) limit run.events run.verdict) }
+        AreKnown (plain_script test.now.script) limit run.events run.verdict) }
 {
     let bodies = bodies_of(alloc, &test.code)?;
     let deal = test.deal.copy(alloc)?;

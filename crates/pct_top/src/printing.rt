@@ -5,9 +5,9 @@ ghost use Rattle.std.specs.Prelude.{OnOk, OnErr};
 ghost use Rattle.arrayvec.specs.ArrayString.{array_string_len};
 ghost use Rattle.pct_top.specs.Refusing as refusing;
 ghost use Rattle.pct_top.specs.Refusing.{refusal_line};
-ghost use Rattle.pct_top.specs.Saying.{Says};
+ghost use Rattle.pct_top.specs.Saying.{SaysLine};
 ghost use Rattle.pct_outside.specs.Counter.{Rose};
-ghost use Rattle.pct_outside.specs.Piece.{Appended, AppendedPart};
+ghost use Rattle.pct_outside.specs.Piece.{IsAppended, IsPartAppended};
 
 use crate::refusal::Refusal;
 use arrayvec::ArrayString;
@@ -31,8 +31,8 @@ fn line_length(text: &[u8]) -> usize
 
 /// Puts a text on a sink, one line at a time. Nothing is put after a put that was refused.
 pub fn put_lines<O: Sink>(out: &mut O, text: &[u8]) -> Result<(), SinkError>
-    ensures whole { OnOk result (Appended text.now (O.written out.old) (O.written out.new)) }
-    ensures part { OnErr result (AppendedPart text.now (O.written out.old) (O.written out.new)) }
+    ensures whole { OnOk result (IsAppended text.now (O.written out.old) (O.written out.new)) }
+    ensures part { OnErr result (IsPartAppended text.now (O.written out.old) (O.written out.new)) }
     ensures failed { result ≡ Err SinkError.Failed → Rose (O.faults out.old) (O.faults out.new) }
     ensures short { result ≡ Err SinkError.NoMemory → Rose (O.shorts out.old) (O.shorts out.new) }
     ensures faults { O.faults out.old ≤ O.faults out.new }
@@ -167,7 +167,7 @@ fn line_of(refusal: &Refusal) -> Line
 /// Says on the error stream why a call gives no output. A put that is refused there changes nothing
 /// else.
 pub fn say<E: Sink>(err: &mut E, refusal: &Refusal)
-    ensures { Says (refusal_line refusal.now)
+    ensures { SaysLine (refusal_line refusal.now)
         (record {
           written = E.written err.old;
           faults = E.faults err.old;

@@ -1,12 +1,12 @@
 //! The priorities of a run.
 
 ghost use Rattle.std.specs.Prelude.{◌≡◌, ◌≤◌, None, IfOk, IfSome};
-ghost use Rattle.script_tree.specs.ScriptSeen.{text};
-ghost use Rattle.priority_draw.specs.Drawing.{drawn};
+ghost use Rattle.script_tree.specs.ScriptSeen.{plain_script};
+ghost use Rattle.priority_draw.specs.Drawing.{draw_of_seed};
 ghost use Rattle.trace_text.specs.Lawful.{IsStepCount};
 ghost use Rattle.pct_top.specs.Settings.{IsDepth};
 ghost use Rattle.pct_top.specs.Runs.{DrawsFrom};
-ghost use Rattle.pct_top.specs.Ready.{IsReady};
+ghost use Rattle.pct_top.specs.Ready.{IsReadyTest};
 ghost use Rattle.pct_top.specs.Priorities.{ArePriorities};
 
 use crate::playing::play;
@@ -33,9 +33,10 @@ fn declared_length<R: Threads + Wait + Sync, G: Gate>(
     limit: u32,
     gate: &G,
 ) -> Result<u32, NoMemory>
-    requires ready { IsReady test.now }
+    requires ready { IsReadyTest test.now }
     requires limit { IsStepCount limit }
-    ensures draws { IfOk result (DrawsFrom (text test.now.script) test.now.deal limit None) }
+    ensures draws { IfOk result
+        (DrawsFrom (plain_script test.now.script) test.now.deal limit None) }
     ensures fits { IfOk result IsStepCount }
 {
     let order = declared_order(alloc, test.deal.threads)?;
@@ -52,10 +53,11 @@ pub fn steps_of<R: Threads + Wait + Sync, G: Gate>(
     limit: u32,
     gate: &G,
 ) -> Result<u32, NoMemory>
-    requires ready { IsReady test.now }
+    requires ready { IsReadyTest test.now }
     requires given { IfSome steps IsStepCount }
     requires limit { IsStepCount limit }
-    ensures draws { IfOk result (DrawsFrom (text test.now.script) test.now.deal limit steps) }
+    ensures draws { IfOk result
+        (DrawsFrom (plain_script test.now.script) test.now.deal limit steps) }
     ensures fits { IfOk result IsStepCount }
 {
     match steps {
@@ -76,8 +78,9 @@ pub fn drawn(
     requires few_threads { threads ≤ 64 }
     requires steps { IsStepCount steps }
     requires depth { IsDepth depth }
-    ensures order { IfOk result (λ own. own.order ≡ (drawn seed threads steps depth).order) }
-    ensures points { IfOk result (λ own. own.points ≡ (drawn seed threads steps depth).points) }
+    ensures order { IfOk result (λ own. own.order ≡ (draw_of_seed seed threads steps depth).order) }
+    ensures points { IfOk result
+        (λ own. own.points ≡ (draw_of_seed seed threads steps depth).points) }
     ensures are { IfOk result (ArePriorities threads) }
 {
     let mut words = Words::of_seed(seed);

@@ -1,12 +1,12 @@
 //! What is reported of a run: the commands that take the words of a run.
 
 ghost use Rattle.std.specs.Prelude.{IfOk, IfSome};
-ghost use Rattle.script_tree.specs.ScriptSeen.{text};
+ghost use Rattle.script_tree.specs.ScriptSeen.{plain_script};
 ghost use Rattle.trace_text.specs.Lawful.{IsStepCount};
 ghost use Rattle.pct_top.specs.Settings.{ArePoints, IsDepth};
-ghost use Rattle.pct_top.specs.Ready.{IsReady};
+ghost use Rattle.pct_top.specs.Ready.{IsReadyTest};
 ghost use Rattle.pct_top.specs.Priorities.{ArePriorities};
-ghost use Rattle.pct_top.specs.Outcome.{printed_of, Gives};
+ghost use Rattle.pct_top.specs.Outcome.{printed_of, GivesPrinted};
 ghost use Rattle.pct_top.specs.Reports.{OfReport, OfOrdered, OfSeed};
 
 use crate::commands::{find, locks, races, run};
@@ -33,10 +33,10 @@ fn report_of<R: Threads + Wait + Sync, G: Gate>(
     limit: u32,
     gate: &G,
 ) -> Result<Outcome, NoMemory>
-    requires ready { IsReady test.now }
+    requires ready { IsReadyTest test.now }
     requires priorities { ArePriorities test.now.deal.threads priorities }
     requires limit { IsStepCount limit }
-    ensures { IfOk result (λ outcome. OfReport report (text test.now.script) test.now.deal
+    ensures { IfOk result (λ outcome. OfReport report (plain_script test.now.script) test.now.deal
         priorities.order priorities.points limit (printed_of outcome)) }
 {
     match report {
@@ -60,11 +60,11 @@ pub fn report_ordered<R: Threads + Wait + Sync, G: Gate>(
     limit: u32,
     gate: &G,
 ) -> Result<Outcome, Refusal>
-    requires ready { IsReady test.now }
+    requires ready { IsReadyTest test.now }
     requires points { ArePoints points.now }
     requires limit { IsStepCount limit }
-    ensures { Gives (OfOrdered order.now word points.now limit report
-        (text test.now.script) test.now.deal) result }
+    ensures { GivesPrinted (OfOrdered order.now word points.now limit report
+        (plain_script test.now.script) test.now.deal) result }
 {
     let order = match order_given(alloc, test.script.names(), order.as_slice(), word) {
         Ok(order) => order,
@@ -87,12 +87,12 @@ pub fn report_seed<R: Threads + Wait + Sync, G: Gate>(
     limit: u32,
     gate: &G,
 ) -> Result<Outcome, NoMemory>
-    requires ready { IsReady test.now }
+    requires ready { IsReadyTest test.now }
     requires depth { IsDepth depth }
     requires steps { IfSome steps IsStepCount }
     requires limit { IsStepCount limit }
     ensures { IfOk result (λ outcome. OfSeed seed depth steps limit report
-        (text test.now.script) test.now.deal (printed_of outcome)) }
+        (plain_script test.now.script) test.now.deal (printed_of outcome)) }
 {
     let steps = steps_of(rt, alloc, test, steps, limit, gate)?;
     let priorities = drawn(alloc, test.deal.threads, seed, steps, depth)?;

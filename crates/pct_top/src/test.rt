@@ -15,12 +15,12 @@ pub struct Test {
 
 impl Test {
     ghost use Rattle.std.specs.Prelude.{◌≡◌, IfOk};
-    ghost use Rattle.script_tree.specs.ScriptSeen.{text};
-    ghost use Rattle.pct_top.specs.Ready.{IsReady};
+    ghost use Rattle.script_tree.specs.ScriptSeen.{plain_script};
+    ghost use Rattle.pct_top.specs.Ready.{IsReadyTest};
 
     pub fn of_script(alloc: Global, script: Script) -> Result<Self, NoMemory>
-        ensures script { IfOk result (λ test. text test.script ≡ text script) }
-        ensures ready { IfOk result IsReady }
+        ensures script { IfOk result (λ test. plain_script test.script ≡ plain_script script) }
+        ensures ready { IfOk result IsReadyTest }
     {
         let code = compile(alloc, &script)?;
         let deal = script.deal(alloc)?;

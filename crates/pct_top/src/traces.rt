@@ -1,7 +1,7 @@
 //! The trace of a run.
 
 ghost use Rattle.std.specs.Prelude.{◌≡◌, length, IfOk};
-ghost use Rattle.script_tree.specs.ScriptSeen.{text};
+ghost use Rattle.script_tree.specs.ScriptSeen.{plain_script};
 ghost use Rattle.trace_text.specs.Lawful.{IsStepCount};
 ghost use Rattle.pct_top.specs.Runs.{trace_version as version_by, is_passed as is_passed_by};
 ghost use Rattle.pct_top.specs.Runs.{TellsRun};
@@ -26,7 +26,7 @@ pub fn is_passed(verdict: &Verdict) -> bool
 
 /// The version of a script's traces.
 fn trace_version(script: &Script) -> u32
-    ensures { result ≡ version_by (text script.now) }
+    ensures { result ≡ version_by (plain_script script.now) }
 {
     if script.version >= 3 { 2 } else { 1 }
 }
@@ -42,9 +42,9 @@ pub fn told_trace(
 ) -> Result<Outcome, NoMemory>
     requires priorities { ArePriorities (length script.now.names.threads) priorities }
     requires limit { IsStepCount limit }
-    requires known { AreKnown (text script.now) limit run.now.events run.now.verdict }
+    requires known { AreKnown (plain_script script.now) limit run.now.events run.now.verdict }
     ensures { IfOk result (λ outcome.
-        TellsRun (text script.now) priorities.order priorities.points limit
+        TellsRun (plain_script script.now) priorities.order priorities.points limit
         (run.now.events, run.now.verdict) done (printed_of outcome)) }
 {
     let header = Header {

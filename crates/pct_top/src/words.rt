@@ -3,7 +3,7 @@
 ghost use Rattle.std.specs.Prelude.{◌≡◌, IfOk};
 ghost use Rattle.pct_outside.specs.Reading.{texts_of};
 ghost use Rattle.pct_top.specs.Settings as settings;
-ghost use Rattle.pct_top.specs.Settings.{GivesFiles, ReadsAs, AreLawful};
+ghost use Rattle.pct_top.specs.Settings.{GivesFiles, ReadsWordsAs, AreLawful};
 
 use crate::command::Command;
 use crate::options::{NamedOrder, Options, options_in};
@@ -51,7 +51,7 @@ fn run_with(alloc: Global, report: Report, file: Text, options: Options) -> Opti
 }
 
 fn run_words(alloc: Global, report: Report, words: &[String]) -> Result<Settings, WordsError>
-    ensures { ReadsAs result (settings.run_settings report (texts_of words.now)) }
+    ensures { ReadsWordsAs result (settings.run_settings report (texts_of words.now)) }
 {
     let Some((file, others)) = words.split_first() else {
         return Err(WordsError::Word(2));
@@ -77,7 +77,7 @@ fn campaign_with(file: Text, options: Options) -> Option<Settings>
 }
 
 fn campaign_words(alloc: Global, words: &[String]) -> Result<Settings, WordsError>
-    ensures { ReadsAs result (settings.campaign_settings (texts_of words.now)) }
+    ensures { ReadsWordsAs result (settings.campaign_settings (texts_of words.now)) }
 {
     let Some((file, others)) = words.split_first() else {
         return Err(WordsError::Word(2));
@@ -88,7 +88,7 @@ fn campaign_words(alloc: Global, words: &[String]) -> Result<Settings, WordsErro
 }
 
 fn big_words(alloc: Global, words: &[String]) -> Result<Settings, WordsError>
-    ensures { ReadsAs result (settings.big_settings (texts_of words.now)) }
+    ensures { ReadsWordsAs result (settings.big_settings (texts_of words.now)) }
 {
     let Some((word, others)) = words.split_first() else {
         return Err(WordsError::Word(2));
@@ -132,7 +132,7 @@ fn two_files(alloc: Global, command: Command, words: &[String]) -> Result<TwoFil
 }
 
 fn replay_words(alloc: Global, words: &[String]) -> Result<Settings, WordsError>
-    ensures { ReadsAs result
+    ensures { ReadsWordsAs result
         (settings.settings_over Command.Replay settings.replay_with (texts_of words.now)) }
 {
     let given = two_files(alloc, Command::Replay, words)?;
@@ -158,7 +158,7 @@ fn expose_with(file: Text, directive: Text, options: Options) -> Option<Settings
 }
 
 fn expose_words(alloc: Global, words: &[String]) -> Result<Settings, WordsError>
-    ensures { ReadsAs result
+    ensures { ReadsWordsAs result
         (settings.settings_over Command.Expose settings.expose_with (texts_of words.now)) }
 {
     let given = two_files(alloc, Command::Expose, words)?;
@@ -178,7 +178,7 @@ fn certify_with(file: Text, directive: Text, options: Options) -> Option<Setting
 }
 
 fn certify_words(alloc: Global, words: &[String]) -> Result<Settings, WordsError>
-    ensures { ReadsAs result
+    ensures { ReadsWordsAs result
         (settings.settings_over Command.Certify settings.certify_with (texts_of words.now)) }
 {
     let given = two_files(alloc, Command::Certify, words)?;
@@ -187,7 +187,7 @@ fn certify_words(alloc: Global, words: &[String]) -> Result<Settings, WordsError
 
 /// What the words after a command's ask for.
 fn command_words(alloc: Global, command: Command, words: &[String]) -> Result<Settings, WordsError>
-    ensures { ReadsAs result (settings.settings_of command (texts_of words.now)) }
+    ensures { ReadsWordsAs result (settings.settings_of command (texts_of words.now)) }
 {
     match command {
         Command::Run(report) => run_words(alloc, report, words),
@@ -201,7 +201,7 @@ fn command_words(alloc: Global, command: Command, words: &[String]) -> Result<Se
 
 /// What the words ask for, or the number of the first word that isn't taken.
 pub fn read_words(alloc: Global, words: &[String]) -> Result<Settings, WordsError>
-    ensures settings { ReadsAs result (settings.settings (texts_of words.now)) }
+    ensures settings { ReadsWordsAs result (settings.settings (texts_of words.now)) }
     ensures lawful { IfOk result AreLawful }
 {
     let Some((word, others)) = words.split_first() else {

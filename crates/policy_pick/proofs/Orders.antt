@@ -4,10 +4,10 @@ use Rattle.std.proofs.lemmas.List.FromFn.{length-map-range_with_len}
 use Rattle.rank_now.specs.declared.order.RankError.{RankError}
 use Rattle.rank_now.specs.declared.order.RankError.TheVariants.{NotAnOrder}
 use Rattle.rank_now.specs.Order.{IsFirstWrong}
-use Rattle.rank_now.specs.Rank.{place_of, threads_of}
+use Rattle.rank_now.specs.Rank.{place_in_order, threads_of}
 
-pub values-threads : (order : List ℕ) (count : ℕ) (values : List ℕ) → values ≡ map (λ t. count + length order - place_of order t) (threads_of order) → length values ≡ length order
-values-threads order count values same = ap length same ∙ length-map-range_with_len (λ t. count + length order - place_of order t) 0 (length order)
+pub values-threads : (order : List ℕ) (count : ℕ) (values : List ℕ) → values ≡ map (λ t. count + length order - place_in_order order t) (threads_of order) → length values ≡ length order
+values-threads order count values same = ap length same ∙ length-map-range_with_len (λ t. count + length order - place_in_order order t) 0 (length order)
 
 abbrev Refuses : (X : Type 0) → RankError → ℕ → Type 0
 Refuses X error at = ◌≡◌ {A = Result X RankError} (Err error) (Err (NotAnOrder at))

@@ -38,8 +38,8 @@ pick_of_walk ready chances None = Nobody
 pick_of_walk ready chances (Some thread) = pick_at (ready thread) thread (chance_of chances thread)
 
 -- the threads by rising number
-abbrev pub threads_of : List Chance → List ℕ
-threads_of chances = range_with_len 0 (length chances)
+abbrev pub threads_of_chances : List Chance → List ℕ
+threads_of_chances chances = range_with_len 0 (length chances)
 
 -- whether the thread is open, and no open thread has a greater rank
 abbrev pub is_highest : List ℕ → List Chance → ℕ → Bool
@@ -48,18 +48,18 @@ is_highest ranks chances thread =
     && list_all
     (λ other.
     not (is_open (chance_of chances other))
-    || nat_le (slice_index ranks other) (slice_index ranks thread)) (threads_of chances)
+    || nat_le (slice_index ranks other) (slice_index ranks thread)) (threads_of_chances chances)
 
 -- The walk by falling rank stops at the open thread of greatest rank.
 unfoldable pub choice_by_rank : List ℕ → List Chance → Pick
 choice_by_rank ranks chances =
-    pick_of_walk Thread chances (find (is_highest ranks chances) (threads_of chances))
+    pick_of_walk Thread chances (find (is_highest ranks chances) (threads_of_chances chances))
 
 -- The walk by rising number stops at the first open thread. Who goes there was not listed.
 unfoldable pub choice_by_number : List Chance → Pick
 choice_by_number chances =
     pick_of_walk Departs chances
-    (find (λ thread. is_open (chance_of chances thread)) (threads_of chances))
+    (find (λ thread. is_open (chance_of chances thread)) (threads_of_chances chances))
 
 -- The listed thread goes, and after the list nobody may (this project).
 abbrev pub choice_by_list : Option ℕ → List Chance → Pick
@@ -97,13 +97,14 @@ MayDepart (ByList listed) = Unit {0}
 
 -- A picked thread is Ready, one that is waited for is Away, and where nobody is picked every thread
 -- is Blocked or Ended.
-abbrev pub IsSound : Plan → List Chance → Pick → Type 0
-IsSound plan chances (Thread thread) =
+abbrev pub IsSoundPick : Plan → List Chance → Pick → Type 0
+IsSoundPick plan chances (Thread thread) =
     (thread < length chances) × (chance_of chances thread ≡ Ready)
-IsSound plan chances (Waits thread) = (thread < length chances) × (chance_of chances thread ≡ Away)
-IsSound plan chances Nobody =
+IsSoundPick plan chances (Waits thread) =
+    (thread < length chances) × (chance_of chances thread ≡ Away)
+IsSoundPick plan chances Nobody =
     (thread : ℕ) → thread < length chances → is_open (chance_of chances thread) ≡ false
-IsSound plan chances (Departs thread) = MayDepart plan × (thread < length chances)
+IsSoundPick plan chances (Departs thread) = MayDepart plan × (thread < length chances)
 
 -- whether a thread's next step is known: neither Away nor Unknown
 abbrev pub is_known : Chance → Bool

@@ -16,7 +16,7 @@ use Rattle.policy_pick.specs.declared.chance.Pick.{Pick}
 use Rattle.policy_pick.specs.declared.chance.Pick.TheVariants.{Thread}
 use Rattle.policy_pick.specs.Plan.{Plan, ByPoints, ByEvents, ByList, SpeaksOf}
 use Rattle.policy_pick.specs.Choice.{MayDepart, chance_of, pick_at, choice_by_list, choice}
-use Rattle.policy_pick.specs.Choice.{TargetsAreAway, IsSound, KeepsKnown, IsWaits}
+use Rattle.policy_pick.specs.Choice.{TargetsAreAway, IsSoundPick, KeepsKnown, IsWaits}
 use Rattle.policy_pick.specs.Laws.Chances.{pick-known, sound-at}
 use Rattle.policy_pick.specs.Laws.Walks.{rank-keeps, rank-sound, number-keeps, number-sound}
 
@@ -54,7 +54,7 @@ holds-at P (y ∷ xs) (suc k) x all e = holds-at P xs k x (All-tail P y xs all) 
 
 listed-sound : (plan : Plan) (next : Option ℕ) (chances : List Chance) → MayDepart plan
     → ((thread : ℕ) → next ≡ Some thread → thread < length chances) → TargetsAreAway chances
-    → IsSound plan chances (choice_by_list next chances)
+    → IsSoundPick plan chances (choice_by_list next chances)
 listed-sound plan None chances departs within targets = number-sound plan chances departs targets
 listed-sound plan (Some thread) chances departs within targets =
     sound-at plan chances (Thread thread) thread (within thread refl)
@@ -63,7 +63,7 @@ listed-sound plan (Some thread) chances departs within targets =
 -- Each choice is sound.
 pub choice-sound : (plan : Plan) (schedule : List ℕ) (chances : List Chance)
     → SpeaksOf plan (length chances) → TargetsAreAway chances
-    → IsSound plan chances (choice plan schedule chances)
+    → IsSoundPick plan chances (choice plan schedule chances)
 choice-sound (ByPoints order points) schedule chances speaks targets =
     rank-sound (ByPoints order points) (ranks order points schedule) chances targets
 choice-sound (ByEvents order events) schedule chances speaks targets =

@@ -1,7 +1,8 @@
 ghost use Rattle.std.specs.Prelude.{◌≡◌, ℕ, ◌<◌, List, [], ◌∷◌, ◌++◌, length};
 ghost use Rattle.policy_pick.specs.declared.chance.Chance.{Chance};
 ghost use Rattle.policy_pick.specs.Plan.{Plan, SpeaksOf, IsThreadOf};
-ghost use Rattle.policy_pick.specs.Choice.{choice, TargetsAreAway, IsSound, KeepsKnown, IsWaits};
+ghost use Rattle.policy_pick.specs.Choice.{choice, TargetsAreAway, IsSoundPick, KeepsKnown};
+ghost use Rattle.policy_pick.specs.Choice.{IsWaits};
 
 use crate::chance::{Chance, Pick};
 
@@ -20,7 +21,7 @@ pub trait Policy: Send + Drop {
         requires targets { TargetsAreAway chances.now }
         ensures choice { (schedule : List ℕ) → stands self.now schedule
             → result ≡ choice (plan self.now) schedule chances.now }
-        ensures sound { IsSound (plan self.now) chances.now result };
+        ensures sound { IsSoundPick (plan self.now) chances.now result };
 
     /// Notes that the thread took a step.
     fn took(&mut self, thread: u32)
@@ -41,5 +42,5 @@ pub trait Policy: Send + Drop {
     // Each choice is sound.
     ghost sound: { (policy : Self) (schedule : List ℕ) (chances : List Chance)
         → SpeaksOf (plan policy) (length chances) → TargetsAreAway chances
-        → IsSound (plan policy) chances (choice (plan policy) schedule chances) };
+        → IsSoundPick (plan policy) chances (choice (plan policy) schedule chances) };
 }

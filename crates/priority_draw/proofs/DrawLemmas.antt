@@ -5,9 +5,10 @@ use Rattle.std.proofs.lemmas.List.{drop_more, drop_all, drop_at, take_at, take_r
 use borrow.Rule.Slice.PartMut.{put_mid}
 use Rattle.std.proofs.lemmas.List.Edits.{length-remove}
 use Rattle.std.proofs.lemmas.List.FromFn.{length-range_with_len, length-map-range_with_len, get_or-map-range_with_len, fill_by_all}
-use Rattle.priority_draw.specs.Words.{SeedWords, first_words, place_after, after}
+use Rattle.priority_draw.specs.Words.{SeedWords, first_words, place_after, words_later}
 use Rattle.priority_draw.specs.Orders.{declared_order, taken_from, order_of}
-use Rattle.priority_draw.specs.Drawing.{draw, drawn_places, drawn_order, drawn_points, IsStep}
+use Rattle.priority_draw.specs.Drawing.{draw, drawn_places, drawn_order, drawn_points}
+use Rattle.priority_draw.specs.Drawing.{IsStepOfPoint}
 use Rattle.priority_draw.proofs.WordLemmas.{draw-lt, draw-after}
 use Rattle.priority_draw.proofs.laws.Draws.{drawn-length, drawn-at}
 
@@ -33,7 +34,7 @@ points-after seed place before steps count =
     (λ i within. get_or-map-range_with_len (λ i. 1 + draw seed (place_after place before + 2 * i) steps) 0 count i i 0 within (omega arith) ∙ ap (λ d. 1 + d) (draw-after seed place before (2 * i) steps))
 
 -- the points of words that stand after a seed's order
-pub seed-points : (words : SeedWords) (steps count depth seed threads : ℕ) → words ≡ after (first_words seed) (2 * threads) → depth ≡ count + 1 → drawn_points words.seed words.place steps count ≡ drawn_points seed (2 * threads) steps (depth - 1)
+pub seed-points : (words : SeedWords) (steps count depth seed threads : ℕ) → words ≡ words_later (first_words seed) (2 * threads) → depth ≡ count + 1 → drawn_points words.seed words.place steps count ≡ drawn_points seed (2 * threads) steps (depth - 1)
 seed-points words steps count depth seed threads stand deep =
     let fewer : count ≡ depth - 1 = omega arith in
     ap (λ (w : SeedWords). drawn_points w.seed w.place steps count) stand
@@ -42,7 +43,7 @@ seed-points words steps count depth seed threads stand deep =
     ∙ ap (λ n. drawn_points seed (2 * threads) steps n) fewer
 
 -- each point is a step
-pub points-steps : (seed place steps count : ℕ) → 1 ≤ steps → All (IsStep steps) (drawn_points seed place steps count)
+pub points-steps : (seed place steps count : ℕ) → 1 ≤ steps → All (IsStepOfPoint steps) (drawn_points seed place steps count)
 unfolding drawn_points
 points-steps seed place steps count some = λ k d within.
     let long = points-length seed place steps count in

@@ -4,7 +4,7 @@ use Rattle.std.specs.List.{remove, count_by}
 use Rattle.std.proofs.lemmas.Bool.Decides.{nat_tests}
 use Rattle.std.proofs.lemmas.Bool.{cases_lt}
 use Rattle.std.proofs.lemmas.List.Edits.{length-remove, get_or-remove_below, get_or-remove_above}
-use Rattle.priority_draw.specs.Orders.{ArePlaces, taken_from, places_of}
+use Rattle.priority_draw.specs.Orders.{AreInBounds, taken_from, places_of}
 use Rattle.priority_draw.proofs.CountLemmas.{one_if, count_of, lower, count-cons, count-remove, count-none, located, lower-same}
 
 -- numbers that rise along the list
@@ -48,24 +48,24 @@ rising-remove xs gone within rising i j lt p =
     ]
 
 -- the first place of a list, and the others
-first-within : (threads place : ℕ) (places : List ℕ) → ArePlaces threads (place ∷ places) → place < threads
+first-within : (threads place : ℕ) (places : List ℕ) → AreInBounds threads (place ∷ places) → place < threads
 first-within threads place places are = omega (arith, are.whole, are.within 0 (omega (arith, are.whole)))
 
-rest-within : (threads left place : ℕ) (places : List ℕ) → left + 1 ≡ threads → ArePlaces threads (place ∷ places) → ArePlaces left places
+rest-within : (threads left place : ℕ) (places : List ℕ) → left + 1 ≡ threads → AreInBounds threads (place ∷ places) → AreInBounds left places
 rest-within threads left place places e are = record {
   whole = omega (arith, are.whole);
   within = λ draw p. omega (arith, are.within (suc draw) (omega arith));
 }
 
-module _ (remaining : List ℕ) (place : ℕ) (places : List ℕ) (are : ArePlaces (length remaining) (place ∷ places)) where
+module _ (remaining : List ℕ) (place : ℕ) (places : List ℕ) (are : AreInBounds (length remaining) (place ∷ places)) where
   pub here : place < length remaining
   here = first-within (length remaining) place places are
 
-  pub there : ArePlaces (length (remove remaining place)) places
+  pub there : AreInBounds (length (remove remaining place)) places
   there = rest-within (length remaining) (length (remove remaining place)) place places (length-remove remaining place here) are
 
 -- what is taken out is what was there
-pub taken-same : (p : ℕ → Bool) (places remaining : List ℕ) → ArePlaces (length remaining) places → count_by p (taken_from remaining places) ≡ count_by p remaining
+pub taken-same : (p : ℕ → Bool) (places remaining : List ℕ) → AreInBounds (length remaining) places → count_by p (taken_from remaining places) ≡ count_by p remaining
 taken-same p [] [] are = refl
 taken-same p [] (x ∷ xs) are = absurd (omega (arith, are.whole))
 taken-same p (place ∷ places) remaining are =
@@ -74,7 +74,7 @@ taken-same p (place ∷ places) remaining are =
     omega (arith, rest, count-cons p (get_or remaining place 0) (taken_from (remove remaining place) places), count-remove p remaining place first)
 
 -- the places are read off the order that they give
-pub places-of-taken : (places remaining : List ℕ) → IsRising remaining → ArePlaces (length remaining) places → places_of (taken_from remaining places) ≡ places
+pub places-of-taken : (places remaining : List ℕ) → IsRising remaining → AreInBounds (length remaining) places → places_of (taken_from remaining places) ≡ places
 places-of-taken [] remaining rising are = refl
 places-of-taken (place ∷ places) remaining rising are =
     let first = here remaining place places are in
@@ -90,7 +90,7 @@ within-cons : (left place : ℕ) (places : List ℕ) → place < suc left → ((
 within-cons left place places first rest zero p = omega (arith, first)
 within-cons left place places first rest (suc draw) p = omega (arith, rest draw (omega arith))
 
-places-cons : (left place : ℕ) (places : List ℕ) → place < suc left → ArePlaces left places → ArePlaces (suc left) (place ∷ places)
+places-cons : (left place : ℕ) (places : List ℕ) → place < suc left → AreInBounds left places → AreInBounds (suc left) (place ∷ places)
 places-cons left place places first rest = record {
   whole = omega (arith, rest.whole);
   within = within-cons left place places first rest.within;
@@ -100,7 +100,7 @@ taken-cons : (thread : ℕ) (order remaining : List ℕ) (place : ℕ) → get_o
 taken-cons thread order remaining place is rest = cc
 
 -- an order of what remains is given by its places
-pub places-are : (order remaining : List ℕ) → IsRising remaining → length order ≡ length remaining → ((t : ℕ) → count_of t remaining ≡ count_of t order) → ArePlaces (length order) (places_of order) × (taken_from remaining (places_of order) ≡ order)
+pub places-are : (order remaining : List ℕ) → IsRising remaining → length order ≡ length remaining → ((t : ℕ) → count_of t remaining ≡ count_of t order) → AreInBounds (length order) (places_of order) × (taken_from remaining (places_of order) ≡ order)
 places-are [] remaining rising long same = (record { whole = refl; within = λ draw p. absurd (omega arith) }, refl)
 places-are (thread ∷ order) remaining rising long same =
     let place = lower thread order in

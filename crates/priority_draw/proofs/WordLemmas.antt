@@ -5,7 +5,7 @@ use Rattle.std.proofs.lemmas.Nat.{from_le_bytes-to_le_bytes_8}
 use Rattle.rand_core.specs.Steps.{u64_via_u32, u32_at}
 use Rattle.rand_chacha.specs.Block.{block_word}
 use Rattle.rand_chacha.specs.ChaCha.{ChaCha, word_at, key_of, next_word, of_seed}
-use Rattle.priority_draw.specs.Words.{key_bytes, word, number, SeedWords, first_words, place_after, after, seed_of_key, IsOfSeed}
+use Rattle.priority_draw.specs.Words.{key_bytes, word, number_at, SeedWords, first_words, place_after, words_later, seed_of_key, IsOfSeed}
 use Rattle.priority_draw.specs.Drawing.{scale, draw}
 
 block_word-lt : (n : ℕ) (key : List ℕ) (counter nonce k : ℕ) → block_word n key counter nonce k < 2 ^ 32
@@ -16,7 +16,7 @@ pub word-lt : (seed place : ℕ) → word seed place < 2 ^ 32
 unfolding word
 word-lt seed place = block_word-lt 4 (key_of (key_bytes seed)) (place % 2 ^ 68 / 16) 0 (place % 2 ^ 68 % 16)
 
-pub number-lt : (seed place : ℕ) → number seed place < 2 ^ 64
+pub number-lt : (seed place : ℕ) → number_at seed place < 2 ^ 64
 number-lt seed place = omega (arith, word-lt seed place, word-lt seed (place + 1))
 
 -- a place within the stream is the place itself
@@ -45,7 +45,7 @@ word-after seed place (suc count) more =
     let moved : word seed (place + count + (1 + more)) ≡ word seed (place + suc count + more) = ap (λ p. word seed p) (omega arith) in
     again ∙ shifted ∙ word-after seed place count (1 + more) ∙ moved
 
-number-after : (seed place count more : ℕ) → number seed (place_after place count + more) ≡ number seed (place + count + more)
+number-after : (seed place count more : ℕ) → number_at seed (place_after place count + more) ≡ number_at seed (place + count + more)
 number-after seed place count more =
     let low = word-after seed place count more in
     let high = word-after seed place count (more + 1) in
@@ -71,7 +71,7 @@ place_after-after place first (suc second) =
     let more = ap (λ n. place_after place n) later in
     ap (λ p. (p + 1) % 2 ^ 68) (place_after-after place first second) ∙ more
 
-pub after-after : (words : SeedWords) (first second both : ℕ) → first + second ≡ both → after (after words first) second ≡ after words both
+pub after-after : (words : SeedWords) (first second both : ℕ) → first + second ≡ both → words_later (words_later words first) second ≡ words_later words both
 after-after words first second both e =
     let at : ℕ → SeedWords = λ p. record words { place = p } in
     ap at (place_after-after words.place first second ∙ ap (λ n. place_after words.place n) e)
@@ -80,7 +80,7 @@ pub scale-lt : (word bound : ℕ) → word < 2 ^ 64 → 1 ≤ bound → scale wo
 scale-lt word bound small some = grind arith
 
 pub draw-lt : (seed place bound : ℕ) → 1 ≤ bound → draw seed place bound < bound
-draw-lt seed place bound some = scale-lt (number seed place) bound (number-lt seed place) some
+draw-lt seed place bound some = scale-lt (number_at seed place) bound (number-lt seed place) some
 
 pub seed_of_key-key : (seed : ℕ) → seed < 2 ^ 64 → seed_of_key (key_of (key_bytes seed)) ≡ seed
 unfolding u32_at
@@ -96,7 +96,7 @@ at-place g is place within =
     ∙ word-within (seed_of_key g.key) place within
 
 -- the next two words of a generator of a seed
-pub two-words : (g : ChaCha) → IsOfSeed g → (u64_via_u32 (next_word 4) g).0 ≡ number (seed_of_key g.key) g.word_pos
+pub two-words : (g : ChaCha) → IsOfSeed g → (u64_via_u32 (next_word 4) g).0 ≡ number_at (seed_of_key g.key) g.word_pos
 two-words g is =
     let low = at-place g is g.word_pos is.within in
     let next : (g.word_pos + 1) % 2 ^ 68 < 2 ^ 68 = mod-lt (g.word_pos + 1) (omega arith) in

@@ -2,7 +2,7 @@
 -- words is this project's).
 use Rattle.std.specs.Prelude.{ℕ, ◌+◌, ◌-◌, ◌*◌, ◌/◌, ◌^◌, ◌≤◌, List, map}
 use Rattle.std.specs.List.{range_with_len}
-use Rattle.priority_draw.specs.Words.{number}
+use Rattle.priority_draw.specs.Words.{number_at}
 use Rattle.priority_draw.specs.Orders.{order_of}
 
 -- a 64-bit number brought below a bound
@@ -11,7 +11,7 @@ scale word bound = word * bound / 2 ^ 64
 
 -- the draw below a bound by the two words from a place on
 abbrev pub draw : ℕ → ℕ → ℕ → ℕ
-draw seed place bound = scale (number seed place) bound
+draw seed place bound = scale (number_at seed place) bound
 
 -- the places of n threads, by the 2n words from a place on: the bounds are n, n-1, .., 1
 unfoldable pub drawn_places : ℕ → ℕ → ℕ → List ℕ
@@ -28,19 +28,19 @@ drawn_points seed place steps count =
     map (λ i. 1 + draw seed (place + 2 * i) steps) (range_with_len 0 count)
 
 -- what a run is drawn
-pub record Drawn : Type 0 where
+pub record SeedDraw : Type 0 where
   pub order : List ℕ
   pub points : List ℕ
 
 -- What a seed gives for n threads, k steps and depth d: first the order, by the first 2n words, and
 -- then d-1 points, by the words after these.
-abbrev pub drawn : ℕ → ℕ → ℕ → ℕ → Drawn
-drawn seed threads steps depth = record {
+abbrev pub draw_of_seed : ℕ → ℕ → ℕ → ℕ → SeedDraw
+draw_of_seed seed threads steps depth = record {
   order = drawn_order seed 0 threads;
   points = drawn_points seed (2 * threads) steps (depth - 1);
 }
 
 -- a step that a point may name
-pub record IsStep (steps point : ℕ) : Type 0 where
+pub record IsStepOfPoint (steps point : ℕ) : Type 0 where
   pub first : 1 ≤ point
   pub last : point ≤ steps

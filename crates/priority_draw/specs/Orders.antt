@@ -13,7 +13,7 @@ pub record IsOrderOf (threads : ℕ) (order : List ℕ) : Type 0 where
   pub is_order : IsOrder order
 
 -- places, from 0, with the bounds n, n-1, .., 1
-pub record ArePlaces (threads : ℕ) (places : List ℕ) : Type 0 where
+pub record AreInBounds (threads : ℕ) (places : List ℕ) : Type 0 where
   pub whole : length places ≡ threads
   pub within : (draw : ℕ) → draw < threads → slice_index places draw < threads - draw
 
@@ -36,7 +36,7 @@ places_of (thread ∷ order) = count_by (λ other. nat_lt other thread) order �
 
 -- the one list of places in bounds whose order is this
 pub record AreOnlyPlaces (threads : ℕ) (order places : List ℕ) : Type 0 where
-  pub bounds : ArePlaces threads places
+  pub bounds : AreInBounds threads places
   pub gives : order_of places ≡ order
-  pub only : (others : List ℕ) → ArePlaces threads others → order_of others ≡ order
+  pub only : (others : List ℕ) → AreInBounds threads others → order_of others ≡ order
       → others ≡ places

@@ -5,7 +5,7 @@ use Rattle.rand_chacha.specs.Block.{block_word, double_rounds, diagonal_round, q
 use Rattle.rand_chacha.specs.Block.{column_round}
 use Rattle.priority_draw.specs.Words.{key_bytes, word}
 use Rattle.priority_draw.specs.Orders.{order_of, places_of}
-use Rattle.priority_draw.specs.Drawing.{scale, drawn_places, drawn_points, drawn}
+use Rattle.priority_draw.specs.Drawing.{scale, drawn_places, drawn_points, draw_of_seed}
 
 pub half : scale 9223372036854775808 3 ≡ 1
 half = refl
@@ -45,12 +45,12 @@ pub places_of_four : places_of (3 ∷ 1 ∷ 0 ∷ 2 ∷ []) ≡ 3 ∷ 1 ∷ 0 �
 places_of_four = refl
 
 -- three threads and two points of a seed
-pub order_of_seven : (drawn 7 3 100000 3).order ≡ 2 ∷ 0 ∷ 1 ∷ []
+pub order_of_seven : (draw_of_seed 7 3 100000 3).order ≡ 2 ∷ 0 ∷ 1 ∷ []
 unfolding order_of drawn_places word u32_at block_word double_rounds diagonal_round quarter_round
     column_round
 order_of_seven = refl
 
-pub points_of_seven : (drawn 7 3 100000 3).points ≡ 30138 ∷ 38613 ∷ []
+pub points_of_seven : (draw_of_seed 7 3 100000 3).points ≡ 30138 ∷ 38613 ∷ []
 unfolding drawn_points word u32_at block_word double_rounds diagonal_round quarter_round
     column_round
 points_of_seven = refl

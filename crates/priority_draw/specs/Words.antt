@@ -14,8 +14,8 @@ unfoldable pub word : ℕ → ℕ → ℕ
 word seed place = word_at 4 (key_of (key_bytes seed)) 0 (place % 2 ^ 68)
 
 -- the 64-bit number of the two words from a place on, the low word first (this project)
-abbrev pub number : ℕ → ℕ → ℕ
-number seed place = word seed place + word seed (place + 1) * 2 ^ 32
+abbrev pub number_at : ℕ → ℕ → ℕ
+number_at seed place = word seed place + word seed (place + 1) * 2 ^ 32
 
 -- what a `Words` stands for: a seed, and the place of the word that comes next
 pub record SeedWords : Type 0 where
@@ -32,8 +32,8 @@ place_after place zero = place
 place_after place (suc count) = (place_after place count + 1) % 2 ^ 68
 
 -- so many words later
-abbrev pub after : SeedWords → ℕ → SeedWords
-after words count = record words { place = place_after words.place count }
+abbrev pub words_later : SeedWords → ℕ → SeedWords
+words_later words count = record words { place = place_after words.place count }
 
 -- the seed of a key
 abbrev pub seed_of_key : List ℕ → ℕ

@@ -1,10 +1,10 @@
 ghost use Rattle.std.specs.Prelude.{◌≡◌, ℕ, ◌+◌, ◌*◌, ◌<◌, ◌≤◌, [], ◌∷◌, List, All, length};
 ghost use Rattle.std.specs.Prelude.{slice_index, remove, IfOk, OnOk, OnErr};
-ghost use Rattle.priority_draw.specs.Words.{after, first_words};
+ghost use Rattle.priority_draw.specs.Words.{words_later, first_words};
 ghost use Rattle.priority_draw.specs.Orders.{declared_order, order_of, places_of, IsOrderOf};
-ghost use Rattle.priority_draw.specs.Orders.{ArePlaces, AreOnlyPlaces};
+ghost use Rattle.priority_draw.specs.Orders.{AreInBounds, AreOnlyPlaces};
 ghost use Rattle.priority_draw.specs.Drawing.{scale, draw, drawn_places, drawn_order, drawn_points};
-ghost use Rattle.priority_draw.specs.Drawing.{drawn, IsStep};
+ghost use Rattle.priority_draw.specs.Drawing.{draw_of_seed, IsStepOfPoint};
 
 use pct_ask::{OrderList, PointList};
 use rand_chacha::ChaCha8Rng;
@@ -56,7 +56,7 @@ impl Words {
         requires { 1 ≤ bound }
         ensures value { result ≡ draw self.old.seed self.old.place bound }
         ensures below { result < bound }
-        ensures words { self.new ≡ after self.old 2 }
+        ensures words { self.new ≡ words_later self.old 2 }
     {
         scale(next_u64_via_u32(&mut self.generator), bound)
     }
@@ -68,18 +68,18 @@ impl Words {
         ensures value { IfOk result (λ order.
             order ≡ drawn_order self.old.seed self.old.place threads) }
         ensures order { IfOk result (IsOrderOf threads) }
-        ensures words { OnOk result (self.new ≡ after self.old (2 * threads)) }
+        ensures words { OnOk result (self.new ≡ words_later self.old (2 * threads)) }
         ensures no_memory { OnErr result (self.new ≡ self.old) }
 
         // From a seed's first word on it is the seed's order.
         ensures of_seed { IfOk result (λ order.
             (seed steps depth : ℕ) → self.old ≡ first_words seed
-            → order ≡ (drawn seed threads steps depth).order) }
+            → order ≡ (draw_of_seed seed threads steps depth).order) }
 
         // The places are in bounds. Each list of places in bounds gives an order, and each order is
         // given by exactly one.
-        ensures places { ArePlaces threads (drawn_places self.old.seed self.old.place threads) }
-        ensures each_list { (places : List ℕ) → ArePlaces threads places
+        ensures places { AreInBounds threads (drawn_places self.old.seed self.old.place threads) }
+        ensures each_list { (places : List ℕ) → AreInBounds threads places
             → IsOrderOf threads (order_of places) }
         ensures each_order { (order : List ℕ) → IsOrderOf threads order
             → AreOnlyPlaces threads order (places_of order) }
@@ -102,14 +102,14 @@ impl Words {
         ensures value { IfOk result (λ points.
             points ≡ drawn_points self.old.seed self.old.place steps count) }
         ensures count { IfOk result (λ points. length points ≡ count) }
-        ensures steps { IfOk result (All (IsStep steps)) }
-        ensures words { OnOk result (self.new ≡ after self.old (2 * count)) }
+        ensures steps { IfOk result (All (IsStepOfPoint steps)) }
+        ensures words { OnOk result (self.new ≡ words_later self.old (2 * count)) }
         ensures no_memory { OnErr result (self.new ≡ self.old) }
 
         // After the seed's order of so many threads they are the seed's points.
         ensures of_seed { IfOk result (λ points.
-            (seed threads depth : ℕ) → self.old ≡ after (first_words seed) (2 * threads)
-            → depth ≡ count + 1 → points ≡ (drawn seed threads steps depth).points) }
+            (seed threads depth : ℕ) → self.old ≡ words_later (first_words seed) (2 * threads)
+            → depth ≡ count + 1 → points ≡ (draw_of_seed seed threads steps depth).points) }
     {
         let mut points = vec![in alloc; 0; count as usize]?;
         self.fill(&mut points, steps);
@@ -121,7 +121,7 @@ impl Words {
         requires { threads.old ≡ declared_order (length threads.old) }
         ensures order { threads.new
             ≡ drawn_order self.old.seed self.old.place (length threads.old) }
-        ensures words { self.new ≡ after self.old (2 * length threads.old) }
+        ensures words { self.new ≡ words_later self.old (2 * length threads.old) }
     {
         for taken in 0..threads.len() {
             let place = self.below((threads.len() - taken) as u64);
@@ -135,7 +135,7 @@ impl Words {
         requires few_steps { steps ≤ 100000 }
         ensures points { points.new
             ≡ drawn_points self.old.seed self.old.place steps (length points.old) }
-        ensures words { self.new ≡ after self.old (2 * length points.old) }
+        ensures words { self.new ≡ words_later self.old (2 * length points.old) }
     {
         for point in points.iter_mut() {
             *point = 1 + self.below(u64::from(steps)) as u32;

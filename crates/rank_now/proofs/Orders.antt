@@ -9,8 +9,8 @@ use Rattle.std.proofs.lemmas.List.Sums.{passes_at_first, fails_before_first, pos
 use Rattle.std.proofs.lemmas.List.FromFn.{fill_by_all, length-map-range_with_len, get_or-map-range_with_len}
 use Rattle.std.proofs.lemmas.Map.Keys.{IsDistinct-from_apart}
 use Rattle.std.proofs.lemmas.Map.Steps.{length-le_from_distinct_below}
-use Rattle.rank_now.specs.Rank.{place_of, threads_of}
-use Rattle.rank_now.specs.Ranking.{AreDistinct, IsAtPlace, IsKept}
+use Rattle.rank_now.specs.Rank.{place_in_order, threads_of}
+use Rattle.rank_now.specs.Ranking.{AreDistinctValues, IsAtPlace, IsWalkOfValues}
 use Rattle.rank_now.specs.Order.{IsOrder, IsWrongAt}
 use Rattle.rank_now.proofs.laws.Orders.{named}
 
@@ -61,10 +61,10 @@ module _ (order : List ℕ) (sound : (place : ℕ) → place < length order → 
       let few = length-le_from_distinct_below (more thread) (length order) (IsDistinct-from_apart eqb (more thread) apart) within in
       omega arith
 
-  stands : (thread : ℕ) → thread < length order → (place_of order thread < length order) × (get_or order (place_of order thread) 0 ≡ thread)
+  stands : (thread : ℕ) → thread < length order → (place_in_order order thread < length order) × (get_or order (place_in_order order thread) 0 ≡ thread)
   stands thread small =
-      elim (cases_lt (place_of order thread) (length order)) [
-        | inl there ↦ (there, eqb-true (get_or order (place_of order thread) 0) thread (passes_at_first (λ other. eqb other thread) order 0 there))
+      elim (cases_lt (place_in_order order thread) (length order)) [
+        | inl there ↦ (there, eqb-true (get_or order (place_in_order order thread) 0) thread (passes_at_first (λ other. eqb other thread) order 0 there))
         | inr past ↦ absurd (not-missing thread small (λ place within e. grind (arith, nat_tests, fails_before_first (λ other. eqb other thread) order place 0 (omega arith))))
       ]
 
@@ -72,7 +72,7 @@ module _ (order : List ℕ) (sound : (place : ℕ) → place < length order → 
   is-order = record {
     below = below;
     once = once;
-    all = λ thread small. let at = stands thread small in (place_of order thread, at.0, get_or_default order (place_of order thread) thread 0 at.0 ∙ at.1);
+    all = λ thread small. let at = stands thread small in (place_in_order order thread, at.0, get_or_default order (place_in_order order thread) thread 0 at.0 ∙ at.1);
   }
 
 -- what a test adds to a count
@@ -98,7 +98,7 @@ count_by-none p (x ∷ xs) none =
     omega (arith, here)
 
 -- below a value that one thread has, one more value lies above
-one-more : (values : List ℕ) (thread value : ℕ) → AreDistinct values → thread < length values → get_or values thread 0 ≡ suc value → count_by (nat_lt value) values ≡ count_by (nat_lt (suc value)) values + 1
+one-more : (values : List ℕ) (thread value : ℕ) → AreDistinctValues values → thread < length values → get_or values thread 0 ≡ suc value → count_by (nat_lt value) values ≡ count_by (nat_lt (suc value)) values + 1
 one-more values thread value distinct within is =
     let without = set values thread 0 in
     let long = length-set values thread 0 in
@@ -118,26 +118,27 @@ one-more values thread value distinct within is =
     omega (arith, one, none, zero_low, zero_high)
 
 -- the place of the thread that the order names at a place
-place-of-named : (order : List ℕ) → IsOrder order → (place : ℕ) → place < length order → place_of order (get_or order place 0) ≡ place
+place-of-named : (order : List ℕ) → IsOrder order → (place : ℕ) → place < length order → place_in_order order (get_or order place 0) ≡ place
 place-of-named order is place within =
     let thread = get_or order place 0 in
     position_or_len_is (λ other. eqb other thread) order place 0 (omega arith) (λ k p. ne_eqb (get_or order k 0) thread (is.once k place p within)) (λ p. eq-eqb thread thread refl)
 
 module _ (order values : List ℕ) (count : ℕ) (is : IsOrder order) (long : length values ≡ length order) (given : (place : ℕ) → place < length order → get_or values (get_or order place 0) 0 ≡ count + length order - place) where
-  value-of : (thread : ℕ) → thread < length order → get_or values thread 0 ≡ count + length order - place_of order thread
-  value-of thread small = let at = named order is thread small in ap (λ x. get_or values x 0) (sym at.1) ∙ given (place_of order thread) at.0
+  value-of : (thread : ℕ) → thread < length order → get_or values thread 0 ≡ count + length order - place_in_order order thread
+  value-of thread small = let at = named order is thread small in ap (λ x. get_or values x 0) (sym at.1) ∙ given (place_in_order order thread) at.0
 
   -- the values that are made first are those of the definition
-  pub first-values-are : values ≡ map (λ t. count + length order - place_of order t) (threads_of order)
-  first-values-are = fill_by_all (λ t. count + length order - place_of order t) values (length order) 0 long value-of
+  pub first-values-are : values ≡ map (λ t. count + length order - place_in_order order t) (threads_of order)
+  first-values-are = fill_by_all (λ t. count + length order - place_in_order order t) values (length order) 0 long value-of
 
-  distinct : AreDistinct values
+  distinct : AreDistinctValues values
   distinct first second p q e =
       let a = named order is first (omega arith) in
       let b = named order is second (omega arith) in
       let va = value-of first (omega arith) in
       let vb = value-of second (omega arith) in
-      let same : place_of order first ≡ place_of order second = omega (arith, a.0, b.0) in
+      let same : place_in_order order first ≡ place_in_order order second =
+      omega (arith, a.0, b.0) in
       sym a.1 ∙ ap (λ x. get_or order x 0) same ∙ b.1
 
   place-is : (place : ℕ) → place < length order → count_by (nat_lt (count + length order - place)) values ≡ place
@@ -156,7 +157,7 @@ module _ (order values : List ℕ) (count : ℕ) (is : IsOrder order) (long : le
     greater = ap (λ x. count_by (nat_lt x) values) (given place (omega arith)) ∙ place-is place (omega arith);
   }
 
-  pub kept-first : length order ≤ 64 → count ≤ 7 → IsKept count values order
+  pub kept-first : length order ≤ 64 → count ≤ 7 → IsWalkOfValues count values order
   kept-first few_threads few_points = record {
     few_threads = omega arith;
     few_points = few_points;
@@ -167,9 +168,9 @@ module _ (order values : List ℕ) (count : ℕ) (is : IsOrder order) (long : le
   }
 
 -- the values of the definition are kept with the order as the walk
-pub first-kept : (order values : List ℕ) (count : ℕ) → IsOrder order → values ≡ map (λ t. count + length order - place_of order t) (threads_of order) → length order ≤ 64 → count ≤ 7 → IsKept count values order
+pub first-kept : (order values : List ℕ) (count : ℕ) → IsOrder order → values ≡ map (λ t. count + length order - place_in_order order t) (threads_of order) → length order ≤ 64 → count ≤ 7 → IsWalkOfValues count values order
 first-kept order values count is made few_threads few_points =
-    let f : ℕ → ℕ = λ t. count + length order - place_of order t in
+    let f : ℕ → ℕ = λ t. count + length order - place_in_order order t in
     let long : length values ≡ length order = ap length made ∙ length-map-range_with_len f 0 (length order) in
     let given : (place : ℕ) → place < length order → get_or values (get_or order place 0) 0 ≡ count + length order - place = λ place within.
     ap (λ x. get_or x (get_or order place 0) 0) made ∙ get_or-map-range_with_len f 0 (length order) (get_or order place 0) (get_or order place 0) 0 (is.below place within) (omega arith) ∙ ap (λ x. count + length order - x) (place-of-named order is place within) in

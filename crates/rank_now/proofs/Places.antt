@@ -5,11 +5,12 @@ use Rattle.std.proofs.lemmas.List.{get_or-set_same, get_or-set_other, get_or_rea
 use Rattle.std.proofs.lemmas.List.Sums.{sum_by-set}
 use Rattle.std.proofs.lemmas.Bool.{cases_lt, cases_eq}
 use Rattle.std.proofs.lemmas.Bool.Decides.{nat_tests}
-use Rattle.rank_now.specs.Ranking.{place_by_value, AreDistinct, IsAtPlace, IsKept, IsMoved}
+use Rattle.rank_now.specs.Ranking.{place_by_value, AreDistinctValues, IsAtPlace, IsWalkOfValues}
+use Rattle.rank_now.specs.Ranking.{IsMoved}
 use Rattle.rank_now.proofs.laws.PlacesByValue.{counted, place-lt, place-within}
 
 -- threads at one place are one
-pub place-only : (values : List ℕ) (place first second : ℕ) → AreDistinct values → IsAtPlace values place first → IsAtPlace values place second → first ≡ second
+pub place-only : (values : List ℕ) (place first second : ℕ) → AreDistinctValues values → IsAtPlace values place first → IsAtPlace values place second → first ≡ second
 place-only values place first second distinct at_first at_second =
     let same : get_or values first 0 ≡ get_or values second 0 = grind (arith, place-lt values first second at_first.within, place-lt values second first at_second.within, at_first.greater, at_second.greater) in
     distinct first second at_first.within at_second.within same
@@ -36,7 +37,7 @@ shifted from to old new lost got other not_lost not_got same below_lost above_lo
   above = λ p q. grind (arith, nat_tests);
 }
 
-module _ (count : ℕ) (values walk moved : List ℕ) (thread value : ℕ) (kept : IsKept count values walk) (within : thread < length values) (low : value ≤ count) (free : (other : ℕ) → other < length values → get_or values other 0 ≢ value) (moves : IsMoved walk moved (place_by_value values thread) (count_by (nat_lt value) (set values thread value))) where
+module _ (count : ℕ) (values walk moved : List ℕ) (thread value : ℕ) (kept : IsWalkOfValues count values walk) (within : thread < length values) (low : value ≤ count) (free : (other : ℕ) → other < length values → get_or values other 0 ≢ value) (moves : IsMoved walk moved (place_by_value values thread) (count_by (nat_lt value) (set values thread value))) where
   abbrev after : List ℕ
   after = set values thread value
 
@@ -109,7 +110,7 @@ module _ (count : ℕ) (values walk moved : List ℕ) (thread value : ℕ) (kept
         ]
       ]
 
-  distinct-lowered : AreDistinct after
+  distinct-lowered : AreDistinctValues after
   distinct-lowered first second p q e =
       elim (cases_eq first thread) [
         | inl f ↦ elim (cases_eq second thread) [
@@ -129,7 +130,7 @@ module _ (count : ℕ) (values walk moved : List ℕ) (thread value : ℕ) (kept
   ]
 
   -- lowering one value and moving its thread keeps the walk
-  pub kept-lowered : IsKept count after moved
+  pub kept-lowered : IsWalkOfValues count after moved
   kept-lowered = record {
     few_threads = omega (arith, as-long, kept.few_threads);
     few_points = kept.few_points;
@@ -153,7 +154,7 @@ to-within values items thread value to within same counts =
     omega arith
 
 -- the whole step, as the code goes it
-pub kept-after : (count : ℕ) (values walk items moved : List ℕ) (thread value from to : ℕ) → IsKept count values walk → thread < length values → value ≤ count → ((other : ℕ) → other < length values → get_or values other 0 ≢ value) → from ≡ place_by_value values thread → items ≡ set values thread value → to ≡ count_by (nat_lt value) items → IsMoved walk moved from to → IsKept count (set values thread value) moved
+pub kept-after : (count : ℕ) (values walk items moved : List ℕ) (thread value from to : ℕ) → IsWalkOfValues count values walk → thread < length values → value ≤ count → ((other : ℕ) → other < length values → get_or values other 0 ≢ value) → from ≡ place_by_value values thread → items ≡ set values thread value → to ≡ count_by (nat_lt value) items → IsMoved walk moved from to → IsWalkOfValues count (set values thread value) moved
 kept-after count values walk items moved thread value from to kept within low free from_is same to_is moves =
     let to_place : to ≡ count_by (nat_lt value) (set values thread value) = to_is ∙ ap (count_by (nat_lt value)) same in
     let P : ℕ → Type 0 = λ x. IsMoved walk moved x to in
@@ -161,7 +162,7 @@ kept-after count values walk items moved thread value from to kept within low fr
     kept-lowered count values walk moved thread value kept within low free (subst Q to_place (subst P from_is moves))
 
 -- the thread that the walk gives is the only one at its place
-pub walk-only : (count : ℕ) (values walk : List ℕ) (place thread other : ℕ) → IsKept count values walk → place < length values → thread ≡ get_or walk place thread → IsAtPlace values place other → other ≡ thread
+pub walk-only : (count : ℕ) (values walk : List ℕ) (place thread other : ℕ) → IsWalkOfValues count values walk → place < length values → thread ≡ get_or walk place thread → IsAtPlace values place other → other ≡ thread
 walk-only count values walk place thread other kept within read at =
     let is = get_or_read walk place thread (omega (arith, kept.whole)) read 0 in
     let P : ℕ → Type 0 = λ x. IsAtPlace values place x in

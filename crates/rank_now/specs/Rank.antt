@@ -4,18 +4,19 @@
 use Rattle.std.specs.Prelude.{ℕ, Bool, ◌+◌, ◌-◌, ◌==◌, ◌&&◌, nat_lt, if◌then◌else◌, List, length}
 use Rattle.std.specs.Prelude.{map, take}
 use Rattle.std.specs.List.{count_by, position_or_len, range_with_len}
-use Rattle.rank_now.specs.Positions.{greatest, passes_at, last_position}
+use Rattle.rank_now.specs.Positions.{greatest_where, passes_at, last_position}
 use Rattle.rank_now.specs.declared.moment.Moment.{Moment}
 
 -- the thread's place in the order, from 0
-abbrev pub place_of : List ℕ → ℕ → ℕ
-place_of order thread = position_or_len (λ other. other == thread) order
+abbrev pub place_in_order : List ℕ → ℕ → ℕ
+place_in_order order thread = position_or_len (λ other. other == thread) order
 
 -- The thread's last step at which some index is given, and 0 where there is none. `given step` is
 -- the index that is given at a step, and 0 where none is.
 abbrev pub last_change : (ℕ → ℕ) → List ℕ → ℕ → ℕ
 last_change given schedule thread =
-    greatest (λ step. passes_at (λ other. other == thread) schedule step && nat_lt 0 (given step))
+    greatest_where
+    (λ step. passes_at (λ other. other == thread) schedule step && nat_lt 0 (given step))
     (length schedule)
 
 -- The thread's rank after the schedule, with `count` change points: the index that it was given
@@ -24,7 +25,7 @@ last_change given schedule thread =
 unfoldable pub rank_by : (ℕ → ℕ) → ℕ → List ℕ → List ℕ → ℕ → ℕ
 rank_by given count order schedule thread =
     let step = last_change given schedule thread in
-    if step == 0 then count + length order - place_of order thread else given step
+    if step == 0 then count + length order - place_in_order order thread else given step
 
 -- the index that a step gives by change points (PCT): the greatest index of a point that is this
 -- step

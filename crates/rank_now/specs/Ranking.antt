@@ -12,8 +12,8 @@ abbrev pub place_by_value : List ℕ → ℕ → ℕ
 place_by_value values thread = count_by (nat_lt (slice_index values thread)) values
 
 -- no two threads have one value
-abbrev pub AreDistinct : List ℕ → Type 0
-AreDistinct values =
+abbrev pub AreDistinctValues : List ℕ → Type 0
+AreDistinctValues values =
     (first second : ℕ) → first < length values → second < length values
     → slice_index values first ≡ slice_index values second → first ≡ second
 
@@ -23,12 +23,12 @@ pub record IsAtPlace (values : List ℕ) (place thread : ℕ) : Type 0 where
   pub greater : place_by_value values thread ≡ place
 
 -- what a `Ranks` keeps true of its values and of the walk: the threads by falling value
-pub record IsKept (count : ℕ) (values walk : List ℕ) : Type 0 where
+pub record IsWalkOfValues (count : ℕ) (values walk : List ℕ) : Type 0 where
   pub few_threads : length values ≤ 64
   pub few_points : count ≤ 7
   pub small : (thread : ℕ) → thread < length values
       → slice_index values thread ≤ count + length values
-  pub distinct : AreDistinct values
+  pub distinct : AreDistinctValues values
   pub whole : length walk ≡ length values
   pub walked : (place : ℕ) → place < length values → IsAtPlace values place (slice_index walk place)
 

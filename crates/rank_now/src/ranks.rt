@@ -1,10 +1,11 @@
 ghost use Rattle.std.specs.Prelude.{◌≡◌, ◌≢◌, ℕ, ◌+◌, ◌-◌, ◌<◌, ◌≤◌, ◌↔◌, [], ◌∷◌, ◌++◌, List};
 ghost use Rattle.std.specs.Prelude.{length, map, nat_lt, slice_set, slice_index, IfOk, OnOk};
 ghost use Rattle.std.specs.List.{count_by};
-ghost use Rattle.rank_now.specs.Rank.{place_of, threads_of, ranks, ranks_by_events, index_of_point};
+ghost use Rattle.rank_now.specs.Rank.{place_in_order, threads_of, ranks, ranks_by_events};
+ghost use Rattle.rank_now.specs.Rank.{index_of_point};
 ghost use Rattle.rank_now.specs.Rank.{index_of_moment};
 ghost use Rattle.rank_now.specs.Order.{IsOrder, IsFirstWrong};
-ghost use Rattle.rank_now.specs.Ranking.{Ranking, AreDistinct, IsAtPlace, IsMoved};
+ghost use Rattle.rank_now.specs.Ranking.{Ranking, AreDistinctValues, IsAtPlace, IsMoved};
 ghost use Rattle.rank_now.specs.declared.moment.Moment.{Moment};
 
 use crate::order::{RankError, first_wrong};
@@ -20,13 +21,13 @@ pub struct Ranks {
 }
 
 impl Model for Ranks {
-    ghost use Rattle.rank_now.specs.Ranking.{Ranking, IsKept};
+    ghost use Rattle.rank_now.specs.Ranking.{Ranking, IsWalkOfValues};
 
     ghost Value = { Ranking };
 
     ghost view = { λ r. record { count = r.count; values = r.values.items } };
 
-    ghost invariant = { λ r. IsKept r.count r.values.items r.walk.items };
+    ghost invariant = { λ r. IsWalkOfValues r.count r.values.items r.walk.items };
 }
 
 impl Ranks {
@@ -38,8 +39,9 @@ impl Ranks {
         ensures count { IfOk result (λ r. r.count ≡ count) }
         ensures values { IfOk result (λ r.
             r.values
-            ≡ map (λ t. count + length order.now - place_of order.now t) (threads_of order.now)) }
-        ensures distinct { IfOk result (λ r. AreDistinct r.values) }
+            ≡ map (λ t. count + length order.now - place_in_order order.now t)
+            (threads_of order.now)) }
+        ensures distinct { IfOk result (λ r. AreDistinctValues r.values) }
 
         // These are the ranks before the first step.
         ensures by_points { IfOk result (λ r.
@@ -73,7 +75,7 @@ impl Ranks {
             → slice_index self.old.values other ≢ value }
         ensures count { self.new.count ≡ self.old.count }
         ensures values { self.new.values ≡ slice_set self.old.values thread value }
-        ensures distinct { AreDistinct self.new.values }
+        ensures distinct { AreDistinctValues self.new.values }
 
         // Ranks stay ranks where the thread has just taken the step that gives this value.
         ensures by_points { (order points schedule : List ℕ)
@@ -122,7 +124,7 @@ fn first_values(alloc: Global, order: &[u32], count: u32) -> Result<Vec<u32>, Al
     requires few_points { count ≤ 7 }
     ensures { IfOk result (λ v.
         v.items
-        ≡ map (λ t. count + length order.now - place_of order.now t) (threads_of order.now)) }
+        ≡ map (λ t. count + length order.now - place_in_order order.now t) (threads_of order.now)) }
 {
     let mut values = vec![in alloc; 0; order.len()]?;
     for (place, thread) in order.iter().enumerate() {

@@ -21,7 +21,7 @@ use Rattle.replay_run.specs.declared.answer.Found.{Found}
 use Rattle.replay_run.specs.declared.answer.Found.TheVariants.{Event as FoundEvent, NotEnabled, Goes, Over}
 use Rattle.replay_run.specs.declared.answer.Replayed.{Replayed}
 use Rattle.replay_run.specs.declared.answer.Replayed.TheVariants.{Confirmed, Departs}
-use Rattle.replay_run.specs.Replay.{DifferAt, EndsBefore, IsDeparture, Tells, IsReplay}
+use Rattle.replay_run.specs.Replay.{DifferAt, EndsBefore, IsDeparture, TellsReply, IsReplay}
 use Rattle.replay_run.proofs.laws.ListedRuns.{listed_again}
 
 -- equal lists don't differ
@@ -46,7 +46,7 @@ module _ (events : List Event) (verdict : Verdict) where
   departs_not step (NotEnabled t) (WrittenVerdict w) d = d
 
   -- equal steps with the same verdict are confirmed
-  confirms : (replayed : Replayed) → Tells events (Ends verdict) events verdict replayed → replayed ≡ Confirmed verdict
+  confirms : (replayed : Replayed) → TellsReply events (Ends verdict) events verdict replayed → replayed ≡ Confirmed verdict
   confirms (Confirmed v) tells = ap Confirmed (sym tells.2)
   confirms (Departs step found written) tells = absurd (departs_not step found written tells)
 
@@ -66,6 +66,6 @@ run_confirmed deal bodies file replayed order points speaks_too speaks is replay
     let made = run-played deal bodies order points (file.header).limit file.events file.verdict speaks is in
     let again = listed_again (ByPoints order points) deal bodies (file.header).limit file.events file.verdict speaks (λ departs. departs) speaks_too made in
     let only = only-played (ByList (schedule_of file.events)) deal bodies (file.header).limit replay.made file.events replay.outcome (Ends file.verdict) replay.played again in
-    let E : List Event → Type 0 = λ es. Tells es (Ends file.verdict) file.events file.verdict replayed in
-    let O : Outcome → Type 0 = λ o. Tells replay.made o file.events file.verdict replayed in
+    let E : List Event → Type 0 = λ es. TellsReply es (Ends file.verdict) file.events file.verdict replayed in
+    let O : Outcome → Type 0 = λ o. TellsReply replay.made o file.events file.verdict replayed in
     confirms file.events file.verdict replayed (subst E only.0 (subst O only.1 replay.tells))

@@ -60,10 +60,10 @@ IsDeparture made outcome told verdict step (NotEnabled t) (WrittenVerdict w) = �
 
 -- What is told where these steps were made with that outcome, and the trace tells those steps and
 -- that verdict: it is confirmed where they are the same, and else the first difference.
-abbrev pub Tells : List Event → Outcome → List Event → Verdict → Replayed → Type 0
-Tells made outcome told verdict (Confirmed v) =
+abbrev pub TellsReply : List Event → Outcome → List Event → Verdict → Replayed → Type 0
+TellsReply made outcome told verdict (Confirmed v) =
     (made ≡ told) × (outcome ≡ Ends verdict) × (verdict ≡ v)
-Tells made outcome told verdict (Departs step found written) =
+TellsReply made outcome told verdict (Departs step found written) =
     IsDeparture made outcome told verdict step found written
 
 -- The trace's threads go one after another over the bodies, under its limit, and what comes of it
@@ -74,4 +74,4 @@ pub record IsReplay (deal : Deal) (bodies : List Pending) (file : TraceFile) (re
   pub outcome : Outcome
   pub played : IsPlayed (ByList (schedule_of file.events)) deal bodies file.header.limit made
       outcome
-  pub tells : Tells made outcome file.events file.verdict replayed
+  pub tells : TellsReply made outcome file.events file.verdict replayed

@@ -1,7 +1,7 @@
 ghost use Rattle.std.specs.Prelude.{◌≡◌, ◌≤◌, ◌+◌, List, length};
 ghost use Rattle.pct_ask.specs.declared.event.Event.{Event};
 ghost use Rattle.pct_ask.specs.declared.verdict.Verdict.{Verdict};
-ghost use Rattle.replay_run.specs.Replay.{Tells, EndsBefore};
+ghost use Rattle.replay_run.specs.Replay.{TellsReply, EndsBefore};
 ghost use Rattle.replay_run.specs.Agreed.{IsAgreed};
 
 use crate::answer::{Found, Replayed, Written};
@@ -24,7 +24,7 @@ fn agreed(made: &[Event], told: &[Event]) -> usize
 /// What is told where the run ended, or left its list, before a step of the trace.
 fn stopped(step: u32, outcome: Outcome, written: Event) -> Replayed
     ensures { (made told : List Event) (verdict : Verdict) → EndsBefore step made told written
-        → Tells made outcome told verdict result }
+        → TellsReply made outcome told verdict result }
 {
     let found = match outcome {
         Outcome::Verdict(verdict) => Found::Over(verdict),
@@ -40,7 +40,7 @@ fn stopped(step: u32, outcome: Outcome, written: Event) -> Replayed
 /// What is told where all steps of the trace are the run's.
 fn ended(step: u32, outcome: Outcome, verdict: Verdict) -> Replayed
     ensures { (steps : List Event) → step ≡ length steps + 1
-        → Tells steps outcome steps verdict result }
+        → TellsReply steps outcome steps verdict result }
 {
     let found = match outcome {
         Outcome::Verdict(reached) => {
@@ -62,7 +62,8 @@ fn ended(step: u32, outcome: Outcome, verdict: Verdict) -> Replayed
 pub(crate) fn compare(played: &Played, file: &TraceFile) -> Replayed
     requires no_longer { length played.now.events ≤ length file.now.events }
     requires few { length played.now.events ≤ 100000 }
-    ensures { Tells played.now.events played.now.outcome file.now.events file.now.verdict result }
+    ensures { TellsReply played.now.events played.now.outcome file.now.events file.now.verdict
+        result }
 {
     let many = agreed(played.events.as_slice(), file.events.as_slice());
     let step = many as u32 + 1;

@@ -14,7 +14,7 @@ use Rattle.json.specs.Print.{escape_byte, escape, quoted}
 use Rattle.pct_ask.specs.Characters.{is_letter, is_digit, is_word_byte}
 use Rattle.pct_ask.specs.Words.{is_name, is_among, keywords, registers}
 use Rattle.pct_ask.specs.NameLists.{NameLists, AreNames}
-use Rattle.pct_ask.specs.VerdictText.{verdict_text, verdict_words, named, thread_name, place_words, misuse_word, fault_word, IsLine}
+use Rattle.pct_ask.specs.VerdictText.{verdict_text, verdict_words, named_verdict, thread_name, place_words, misuse_word, fault_word, IsLine}
 use Rattle.pct_ask.specs.declared.ask.FaultKind.{FaultKind}
 use Rattle.pct_ask.specs.declared.ask.FaultKind.TheVariants.{Overflow, ZeroDivisor, Spin}
 use Rattle.pct_ask.specs.declared.verdict.MisuseKind.{MisuseKind}
@@ -144,7 +144,7 @@ module _ (names : NameLists) (sound : AreNames names) where
   first-known : (thread : ℕ) → All (λ thread. thread < length names.threads) (thread ∷ []) → All IsPlain (thread_name names thread)
   first-known thread known = thread-plain names thread sound (All-head (λ thread. thread < length names.threads) thread [] known)
 
-  words-plain : (verdict : Verdict) → IsWritable names verdict → ArePlain (verdict_words (named names verdict))
+  words-plain : (verdict : Verdict) → IsWritable names verdict → ArePlain (verdict_words (named_verdict names verdict))
   words-plain Passed is = (plain-by (codes "passed") refl, tt)
   words-plain (Failed thread line) is = (plain-by (codes "failed") refl, (first-known thread is.named, (line-plain line is.whole, tt)))
   words-plain (Stuck places) is = (plain-by (codes "stuck") refl, places-plain places is.named is.whole.1)
@@ -159,7 +159,7 @@ join-plain (word ∷ next ∷ words) h =
     All-append IsPlain word (32 ∷ join_with_byte 32 (next ∷ words)) h.0 (All-cons IsPlain 32 (join_with_byte 32 (next ∷ words)) (plain-test 32 refl) (join-plain (next ∷ words) h.1))
 
 pub verdict-plain : (names : NameLists) (verdict : Verdict) → AreNames names → IsWritable names verdict → All IsPlain (verdict_text names verdict)
-verdict-plain names verdict sound is = join-plain (verdict_words (named names verdict)) (words-plain names sound verdict is)
+verdict-plain names verdict sound is = join-plain (verdict_words (named_verdict names verdict)) (words-plain names sound verdict is)
 
 pub plain-ascii : (text : List ℕ) → All IsPlain text → IsAscii text
 plain-ascii text plain i =

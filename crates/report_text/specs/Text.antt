@@ -2,7 +2,7 @@
 use Rattle.std.specs.Prelude.{ℕ, List, [], ◌∷◌, ◌++◌, length, map, codes, decimal}
 use Rattle.std.specs.List.{flat_map}
 use Rattle.pct_ask.specs.NameLists.{NameLists}
-use Rattle.pct_ask.specs.VerdictText.{named, verdict_words}
+use Rattle.pct_ask.specs.VerdictText.{named_verdict, verdict_words}
 use Rattle.pct_ask.specs.TraceText.{line_text}
 use Rattle.pct_ask.specs.declared.event.Row.{Row}
 use Rattle.failure_rank.specs.declared.group.Group.{Group}
@@ -17,13 +17,14 @@ frame_lines frame =
 
 -- a run: its seed, its steps and how it ended
 abbrev pub row_words : NameLists → Row → List (List ℕ)
-row_words names row = decimal row.seed ∷ decimal row.steps ∷ verdict_words (named names row.verdict)
+row_words names row =
+    decimal row.seed ∷ decimal row.steps ∷ verdict_words (named_verdict names row.verdict)
 
 -- a failure: how often it came, its least number of steps, its first seed and what it is
 abbrev pub group_words : NameLists → Group → List (List ℕ)
 group_words names group =
     decimal group.count ∷ decimal group.steps ∷ decimal group.first
-    ∷ verdict_words (named names group.verdict)
+    ∷ verdict_words (named_verdict names group.verdict)
 
 -- the frame, a line for each row, the number of groups, and a line for each group
 abbrev pub text_of : Frame → List Row → List Group → NameLists → List ℕ

@@ -20,7 +20,7 @@ use Rattle.script_code.proofs.laws.Listings.{some_operation}
 use Rattle.script_body.specs.declared.turn.Turn.TheVariants as turns
 use Rattle.script_body.specs.Turns.{turn_of}
 use Rattle.script_body.specs.Waiting.{after_act, spot_after, is_waiting, stand_of, Settles}
-use Rattle.script_body.specs.Waiting.{asks_fault, stopped, pending_at}
+use Rattle.script_body.specs.Waiting.{asks_fault, spot_after_fault, pending_at}
 use Rattle.script_body.proofs.Ends.{head_at_end}
 
 pub most_is : most_moves ≡ 10000
@@ -135,7 +135,8 @@ module _ (code : List Operation) where
         (head_at_end code (spot (last_place code) registers) ends)
 
     stops : (from at new : Spot) (k : ℕ) (post : Post) → stand_of code from ≡ the_stand k at
-        → Shows (the_stand k at) (flat_head code at).1 post → new ≡ stopped code post.ask at
+        → Shows (the_stand k at) (flat_head code at).1 post
+        → new ≡ spot_after_fault code post.ask at
         → at.place < length code → Settles code from new post
     stops from at new k post same s n inside = go (asks_fault post.ask) refl
       where
@@ -169,7 +170,8 @@ module _ (code : List Operation) where
     pub settled_post : (from at new : Spot) (k : ℕ) (post : Post)
         → stand_of code from ≡ the_stand k at
         → turn_of (flat_head code at).0 (flat_head code at).1 ≡ turns.Posts post
-        → new ≡ stopped code post.ask at → at.place < length code → Settles code from new post
+        → new ≡ spot_after_fault code post.ask at → at.place < length code
+        → Settles code from new post
     settled_post from at new k post same turn n inside =
         stops from at new k post same (stand_shows k at post turn) n inside
 
@@ -177,11 +179,11 @@ module _ (code : List Operation) where
         → stand_of code from ≡ faults (flat_head code) (last_spot code) line kind → post ≡ record {
           ask = Some (Fault kind);
           line = line;
-        } → new ≡ stopped code post.ask at
+        } → new ≡ spot_after_fault code post.ask at
         → Settles code from new post
     settled_fault from at new line kind post same is n =
         let here : new ≡ spot (last_place code) at.registers =
-        n ∙ ap (λ (p : Post). stopped code p.ask at) is in
+        n ∙ ap (λ (p : Post). spot_after_fault code p.ask at) is in
         let head = ended_spot new at.registers here in
         record {
           post = ap (λ (t : Stand Spot). t.post) same ∙ sym is;
@@ -206,7 +208,8 @@ module _ (code : List Operation) where
         (post : Post) → stand_of code from ≡ the_stand k at → k ≡ m + 1 →
         turn_of (flat_head code at).0 (flat_head code at).1 ≡ turns.Moves line
         → (flat_head code at).1 ≡ Moves (Err kind) →
-        post ≡ record { ask = Some (Fault kind); line = line } → new ≡ stopped code post.ask left
+        post ≡ record { ask = Some (Fault kind); line = line }
+        → new ≡ spot_after_fault code post.ask left
         → Settles code from new post
     settled_move_fault from at left new k m line kind post same more turn h is n =
         let e : k ≡ suc m = omega arith in
@@ -222,7 +225,8 @@ module _ (code : List Operation) where
     pub settled_spin : (from at new : Spot) (line : ℕ) (post : Post)
         → stand_of code from ≡ the_stand 0 at →
         turn_of (flat_head code at).0 (flat_head code at).1 ≡ turns.Moves line →
-        post ≡ record { ask = Some (Fault Spin); line = line } → new ≡ stopped code post.ask at
+        post ≡ record { ask = Some (Fault Spin); line = line }
+        → new ≡ spot_after_fault code post.ask at
         → Settles code from new post
     settled_spin from at new line post same turn is n =
         let (l, (next, h)) = move_line line (flat_head code at) turn in

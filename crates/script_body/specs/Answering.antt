@@ -23,13 +23,13 @@ asks_twice (Wait line cond mutex) = true
 asks_twice (Arrive line reg barrier) = true
 asks_twice s = false
 
-abbrev pub put : Option ℕ → ℤ → List ℤ → List ℤ
-put None answer registers = registers
-put (Some reg) answer registers = slice_set registers reg answer
+abbrev pub with_answer : Option ℕ → ℤ → List ℤ → List ℤ
+with_answer None answer registers = registers
+with_answer (Some reg) answer registers = slice_set registers reg answer
 
 -- after the answer to a statement: between its two asks, or at the next operation
-abbrev pub answered : Statement → (next : ℕ) → Spot → ℤ → Spot
-answered s next at answer =
+abbrev pub spot_after_answer : Statement → (next : ℕ) → Spot → ℤ → Spot
+spot_after_answer s next at answer =
     if asks_twice s && not at.halfway
     then record { place = at.place; registers = at.registers; halfway = true }
-    else spot next (put (answer_reg s) answer at.registers)
+    else spot next (with_answer (answer_reg s) answer at.registers)

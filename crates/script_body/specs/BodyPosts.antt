@@ -9,9 +9,9 @@ use Rattle.script_body.specs.Waiting.{pending_at}
 use Rattle.script_body.specs.declared.body.ScriptBody.{ScriptBody}
 
 -- the code of its thread
-abbrev pub code_of : ScriptBody → List Operation
-code_of b = listing_of (listing b.code.now) b.thread
+abbrev pub code_of_thread : ScriptBody → List Operation
+code_of_thread b = listing_of (listing b.code.now) b.thread
 
 -- the post that comes after these further answers
-abbrev pub pending_of : ScriptBody → List ℤ → Post
-pending_of b answers = pending_at (code_of b) (spot_of b.state) b.post answers
+abbrev pub pending_of_body : ScriptBody → List ℤ → Post
+pending_of_body b answers = pending_at (code_of_thread b) (spot_of b.state) b.post answers

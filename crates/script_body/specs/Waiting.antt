@@ -48,5 +48,5 @@ asks_fault None = false
 asks_fault (Some ask) = is_fault ask
 
 -- after a fault a thread stands at its end, and else where it stood
-abbrev pub stopped : List Operation → Option Ask → Spot → Spot
-stopped code ask at = if asks_fault ask then spot (last_place code) at.registers else at
+abbrev pub spot_after_fault : List Operation → Option Ask → Spot → Spot
+spot_after_fault code ask at = if asks_fault ask then spot (last_place code) at.registers else at

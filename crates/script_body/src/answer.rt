@@ -5,7 +5,7 @@ ghost use Rattle.script_code.specs.Placed.{listing_of, is_lone};
 ghost use Rattle.script_code.specs.FlatPosts.{flat_head, flat_pending_from};
 ghost use Rattle.script_body.specs.Spots.{spot_of};
 ghost use Rattle.script_body.specs.Waiting.{is_waiting, spot_after};
-ghost use Rattle.script_body.specs.Answering.{answer_reg, asks_twice, answered};
+ghost use Rattle.script_body.specs.Answering.{answer_reg, asks_twice, spot_after_answer};
 
 use crate::state::State;
 use script_code::{Code, Flat};
@@ -36,7 +36,8 @@ pub(crate) fn take_answer(code: &Code, thread: u32, state: &mut State, value: i6
 // Goes on with the answer to a statement without blocks.
 fn take_lone(stmt: &Stmt, next: u32, state: &mut State, value: i64)
     requires { is_lone (statement stmt.now) ≡ true }
-    ensures { spot_of state.new ≡ answered (statement stmt.now) next (spot_of state.old) value }
+    ensures { spot_of state.new
+        ≡ spot_after_answer (statement stmt.now) next (spot_of state.old) value }
 {
     if !state.halfway && asks_twice(stmt) {
         state.halfway = true;

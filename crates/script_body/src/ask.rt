@@ -1,12 +1,12 @@
 ghost use Rattle.std.specs.Prelude.{◌≡◌, not, if◌then◌else◌};
 ghost use Rattle.script_tree.specs.Values.{is_zero};
-ghost use Rattle.script_body.specs.Asking.{ask_by};
+ghost use Rattle.script_body.specs.Asking.{ask_by_value};
 
 use pct_ask::{Ask, FaultKind};
 
 /// The ask of a `write`, or its fault.
 pub(crate) fn write_ask(var: u32, value: Result<i64, FaultKind>) -> Ask
-    ensures { result ≡ ask_by value (λ n. Ask.Write var n) }
+    ensures { result ≡ ask_by_value value (λ n. Ask.Write var n) }
 {
     match value {
         Ok(value) => Ask::Write { var, value },
@@ -16,7 +16,7 @@ pub(crate) fn write_ask(var: u32, value: Result<i64, FaultKind>) -> Ask
 
 /// The ask of an `add`, or its fault.
 pub(crate) fn add_ask(var: u32, value: Result<i64, FaultKind>) -> Ask
-    ensures { result ≡ ask_by value (λ n. Ask.Add var n) }
+    ensures { result ≡ ask_by_value value (λ n. Ask.Add var n) }
 {
     match value {
         Ok(value) => Ask::Add { var, value },
@@ -26,7 +26,7 @@ pub(crate) fn add_ask(var: u32, value: Result<i64, FaultKind>) -> Ask
 
 /// The ask of a `cas`, or the fault of its first part that has one.
 pub(crate) fn cas_ask(var: u32, old: Result<i64, FaultKind>, new: Result<i64, FaultKind>) -> Ask
-    ensures { result ≡ ask_by old (λ m. ask_by new (λ n. Ask.Cas var m n)) }
+    ensures { result ≡ ask_by_value old (λ m. ask_by_value new (λ n. Ask.Cas var m n)) }
 {
     match (old, new) {
         (Ok(old), Ok(new)) => Ask::Cas { var, old, new },
@@ -37,7 +37,7 @@ pub(crate) fn cas_ask(var: u32, old: Result<i64, FaultKind>, new: Result<i64, Fa
 
 /// The ask of an `assert`, or its fault.
 pub(crate) fn check_ask(test: Result<i64, FaultKind>) -> Ask
-    ensures { result ≡ ask_by test (λ n. Ask.Check (not (is_zero n))) }
+    ensures { result ≡ ask_by_value test (λ n. Ask.Check (not (is_zero n))) }
 {
     match test {
         Ok(n) => Ask::Check { holds: n != 0 },

@@ -6,7 +6,7 @@ ghost use Rattle.script_tree.specs.ScriptText.{ScriptText};
 ghost use Rattle.script_code.specs.CodeOf.{IsCodeOf};
 ghost use Rattle.script_code.specs.FlatPosts.{flat_pending};
 ghost use Rattle.script_code.specs.Listing.{listing};
-ghost use Rattle.script_body.specs.BodyPosts.{pending_of};
+ghost use Rattle.script_body.specs.BodyPosts.{pending_of_body};
 ghost use Rattle.script_body.specs.Bodies.{bodies_of, AreOf, AskInRange};
 
 use crate::ScriptBody;
@@ -16,15 +16,16 @@ use std::alloc::{AllocError as NoMemory, Global};
 /// The bodies of a script's threads, none of which has had an answer.
 pub fn bodies_of<'c>(alloc: Global, code: &'c Code) -> Result<Vec<ScriptBody<'c>>, NoMemory>
     ensures code { IfOk result (λ bodies.
-        map pending_of bodies.items ≡ map flat_pending (listing code.now)) }
+        map pending_of_body bodies.items ≡ map flat_pending (listing code.now)) }
     // Of the code of a script: what the script's threads post.
     ensures script { (script : ScriptText) → IsCodeOf script (listing code.now)
-        → IfOk result (λ bodies. map pending_of bodies.items ≡ bodies_of script) }
+        → IfOk result (λ bodies. map pending_of_body bodies.items ≡ bodies_of script) }
     // With a deal of that script: they are one for each of its threads, and name only what it has.
     ensures one_each { (script : ScriptText) (deal : Deal) → AreOf script (listing code.now) deal
         → IfOk result (λ bodies. length bodies.items ≡ deal.threads) }
     ensures in_range { (script : ScriptText) (deal : Deal) → AreOf script (listing code.now) deal
-        → IfOk result (λ bodies. AskInRange (sizes_of_deal deal) (map pending_of bodies.items)) }
+        → IfOk result
+        (λ bodies. AskInRange (sizes_of_deal deal) (map pending_of_body bodies.items)) }
 {
     let mut bodies = Vec::new(alloc);
     for thread in 0..code.threads() {

@@ -34,22 +34,22 @@ impl<'c> ScriptBody<'c> {
     ghost use Rattle.script_tree.specs.Posts.{pending};
     ghost use Rattle.script_code.specs.FlatPosts.{flat_pending};
     ghost use Rattle.script_code.specs.CodeOf.{IsCodeOf};
-    ghost use Rattle.script_body.specs.BodyPosts.{pending_of};
+    ghost use Rattle.script_body.specs.BodyPosts.{pending_of_body};
 
     /// The body of a thread that has had no answer.
     pub fn new(code: &'c Code, thread: u32) -> Self
         requires { thread < length (listing code.now) }
         // What its code posts, after any answers.
         ensures code { (answers : List ℤ)
-            → pending_of result answers
+            → pending_of_body result answers
             ≡ flat_pending (listing_of (listing code.now) thread) answers }
         // Of the code of a script: what the script's thread posts.
         ensures script { (script : ScriptText) → IsCodeOf script (listing code.now)
-            → (answers : List ℤ) → pending_of result answers ≡ pending script thread answers }
+            → (answers : List ℤ) → pending_of_body result answers ≡ pending script thread answers }
         // Of the code of a sound script: its posts name only what the script's deal has.
         ensures named { (script : ScriptText) (deal : Deal) → IsCodeOf script (listing code.now)
             → IsScript script → IsDealOf script deal → (answers : List ℤ)
-            → IsPostOf deal (pending_of result answers) }
+            → IsPostOf deal (pending_of_body result answers) }
     {
         let mut state = State {
             place: 0,
@@ -67,9 +67,9 @@ impl<'c> ScriptBody<'c> {
 }
 
 impl Body for ScriptBody<'_> {
-    ghost use Rattle.script_body.specs.BodyPosts.{pending_of};
+    ghost use Rattle.script_body.specs.BodyPosts.{pending_of_body};
 
-    ghost pending = { pending_of };
+    ghost pending = { pending_of_body };
 
     fn post(&self) -> Post {
         self.post

@@ -1,7 +1,7 @@
 ghost use Rattle.std.specs.Prelude.{◌≡◌, ◌<◌, true, [], length, Ok, Err, OnOk, OnErr, IfErr};
 ghost use Rattle.script_tree.specs.Seen.{statement};
 ghost use Rattle.script_tree.specs.Machine.{Moves};
-ghost use Rattle.script_tree.specs.Moves.{act, before};
+ghost use Rattle.script_tree.specs.Moves.{act, state_before};
 ghost use Rattle.script_code.specs.Listing.{listing};
 ghost use Rattle.script_code.specs.Placed.{listing_of, is_lone};
 ghost use Rattle.script_code.specs.FlatPosts.{spot, flat_head};
@@ -52,7 +52,7 @@ fn set(stmt: &Stmt, next: u32, state: &mut State) -> Result<(), FaultKind>
         ≡ true }
     ensures moved { OnOk result
         (act [] state.old.registers state.old.halfway (statement stmt.now)
-        ≡ Moves (Ok (before [] state.new.registers))) }
+        ≡ Moves (Ok (state_before [] state.new.registers))) }
     ensures next { OnOk result (spot_of state.new ≡ spot next state.new.registers) }
     ensures fault { IfErr result (λ kind.
         act [] state.old.registers state.old.halfway (statement stmt.now) ≡ Moves (Err kind)) }

@@ -2,7 +2,7 @@ ghost use Rattle.std.specs.Prelude.{◌≡◌, ◌<◌, length, Some};
 ghost use Rattle.script_code.specs.Listing.{listing};
 ghost use Rattle.script_code.specs.Placed.{listing_of};
 ghost use Rattle.script_body.specs.Spots.{spot_of};
-ghost use Rattle.script_body.specs.Waiting.{Settles, stopped};
+ghost use Rattle.script_body.specs.Waiting.{Settles, spot_after_fault};
 
 use crate::moving::make_move;
 use crate::state::State;
@@ -50,7 +50,7 @@ fn stop(code: &Code, thread: u32, state: &mut State, post: Post) -> Post
     requires thread { thread < length (listing code.now) }
     ensures post { result ≡ post }
     ensures stopped { spot_of state.new
-        ≡ stopped (listing_of (listing code.now) thread) post.ask (spot_of state.old) }
+        ≡ spot_after_fault (listing_of (listing code.now) thread) post.ask (spot_of state.old) }
 {
     if let Some(Ask::Fault { .. }) = post.ask {
         state.go(code.end(thread));

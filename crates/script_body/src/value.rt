@@ -1,8 +1,8 @@
 ghost use Rattle.std.specs.Prelude.{◌≡◌, true, neg_ℤ, ◌+ℤ◌, ◌-ℤ◌, ◌*ℤ◌};
 ghost use Rattle.script_tree.specs.Seen.{expression};
 ghost use Rattle.script_tree.specs.Fitting.{expression_fits};
-ghost use Rattle.script_tree.specs.Values.{in_range, truth, quotient, remainder, value_of};
-ghost use Rattle.script_body.specs.Combine.{decided, combined};
+ghost use Rattle.script_tree.specs.Values.{i64_or_overflow, truth, quotient, remainder, value_of};
+ghost use Rattle.script_body.specs.Combine.{decided_by_left, combined_value};
 
 use pct_ask::FaultKind;
 use script_tree::{Expr, Op};
@@ -41,7 +41,7 @@ pub(crate) fn value_of(expr: &Expr, registers: &Registers) -> Result<i64, FaultK
 
 /// What the left number decides without the right one.
 pub(crate) fn decided(op: Op, x: i64) -> Option<i64>
-    ensures { result ≡ decided op x }
+    ensures { result ≡ decided_by_left op x }
 {
     match op {
         Op::Or if x != 0 => Some(1),
@@ -52,7 +52,7 @@ pub(crate) fn decided(op: Op, x: i64) -> Option<i64>
 
 /// What both numbers make, where the left one alone decides nothing.
 pub(crate) fn combined(op: Op, x: i64, y: i64) -> Result<i64, FaultKind>
-    ensures { result ≡ combined op x y }
+    ensures { result ≡ combined_value op x y }
 {
     match op {
         Op::Or | Op::And => truth(y != 0),
@@ -79,25 +79,25 @@ pub(crate) fn truth(holds: bool) -> Result<i64, FaultKind>
 
 /// The number with the other sign.
 pub(crate) fn minus(x: i64) -> Result<i64, FaultKind>
-    ensures { result ≡ in_range (neg_ℤ x) }
+    ensures { result ≡ i64_or_overflow (neg_ℤ x) }
 {
     x.checked_neg().ok_or(FaultKind::Overflow)
 }
 
 fn sum(x: i64, y: i64) -> Result<i64, FaultKind>
-    ensures { result ≡ in_range (x +ℤ y) }
+    ensures { result ≡ i64_or_overflow (x +ℤ y) }
 {
     x.checked_add(y).ok_or(FaultKind::Overflow)
 }
 
 fn difference(x: i64, y: i64) -> Result<i64, FaultKind>
-    ensures { result ≡ in_range (x -ℤ y) }
+    ensures { result ≡ i64_or_overflow (x -ℤ y) }
 {
     x.checked_sub(y).ok_or(FaultKind::Overflow)
 }
 
 fn product(x: i64, y: i64) -> Result<i64, FaultKind>
-    ensures { result ≡ in_range (x *ℤ y) }
+    ensures { result ≡ i64_or_overflow (x *ℤ y) }
 {
     x.checked_mul(y).ok_or(FaultKind::Overflow)
 }

@@ -10,7 +10,8 @@ use Rattle.script_tree.specs.Trees.{TryWrLock, line_of}
 use Rattle.script_tree.specs.Values.{Value, is_zero, value_of}
 use Rattle.script_tree.specs.Machine.{Act, Moves, Asks, Ends, Stand, by_move, by_act, faults, stand}
 use Rattle.script_tree.specs.Machine.{pending_from}
-use Rattle.script_tree.specs.Moves.{State, before, ended, moves, asks_by, chosen, act, between}
+use Rattle.script_tree.specs.Moves.{State, state_before, end_state, moves, asks_by, chosen_block}
+use Rattle.script_tree.specs.Moves.{act, state_halfway}
 use Rattle.script_tree.specs.Moves.{head}
 use Rattle.script_code.specs.Operations.{Operation, Do, Test, End}
 use Rattle.script_code.specs.Placed.{last_place}
@@ -34,16 +35,16 @@ module _ (code : List Operation) (end : ℕ)
     pub follows : Follows code end at.place s.rest
     pub numbers : SameNumbers s.rest s at
 
-  alike_ended : Alike ended (last_spot code)
+  alike_ended : Alike end_state (last_spot code)
   alike_ended = record { follows = last; numbers = tt }
 
   same_numbers : (rest : List Statement) (registers : List ℤ) (place : ℕ)
-      → SameNumbers rest (before rest registers) (spot place registers)
+      → SameNumbers rest (state_before rest registers) (spot place registers)
   same_numbers [] registers place = tt
   same_numbers (s ∷ rest) registers place = (refl, refl)
 
   pub alike_before : (rest : List Statement) (registers : List ℤ) (place : ℕ)
-      → Follows code end place rest → Alike (before rest registers) (spot place registers)
+      → Follows code end place rest → Alike (state_before rest registers) (spot place registers)
   alike_before rest registers place f = record {
     follows = f;
     numbers = same_numbers rest registers place;
@@ -70,16 +71,16 @@ module _ (code : List Operation) (end : ℕ)
     acts : AlikeActs h.1 g.1
 
   faults_alike : (i j : ℕ) → i ≡ j → (k l : FaultKind) → k ≡ l
-      → AlikeStands (faults (head end) ended i k) (faults (flat_head code) (last_spot code) j l)
+      → AlikeStands (faults (head end) end_state i k) (faults (flat_head code) (last_spot code) j l)
   faults_alike i j e k l f = record {
-    post = ap₂ (λ (line : ℕ) kind. (faults (head end) ended line kind).post) e f;
+    post = ap₂ (λ (line : ℕ) kind. (faults (head end) end_state line kind).post) e f;
     after = λ x. alike_ended;
   }
 
   by_act_alike : (i j : ℕ) → i ≡ j → (a : Act State) (b : Act Spot) → AlikeActs a b
       → (f : Result State FaultKind → Stand State) (g : Result Spot FaultKind → Stand Spot)
       → ((r : Result State FaultKind) (q : Result Spot FaultKind) → AlikeResults r q
-      → AlikeStands (f r) (g q)) → AlikeStands (by_act (head end) ended i a f)
+      → AlikeStands (f r) (g q)) → AlikeStands (by_act (head end) end_state i a f)
       (by_act (flat_head code) (last_spot code) j b g)
   by_act_alike i j e (Moves r) (Moves q) h f g go = go r q h
   by_act_alike i j e (Moves r) (Asks b after) h f g go = absurd h
@@ -100,7 +101,7 @@ module _ (code : List Operation) (end : ℕ)
   by_move_alike : (i j : ℕ) → i ≡ j → (r : Result State FaultKind) (q : Result Spot FaultKind)
       → AlikeResults r q → (f : State → Stand State) (g : Spot → Stand Spot)
       → ((s : State) (at : Spot) → Alike s at → AlikeStands (f s) (g at))
-      → AlikeStands (by_move (head end) ended i r f)
+      → AlikeStands (by_move (head end) end_state i r f)
       (by_move (flat_head code) (last_spot code) j q g)
   by_move_alike i j e (Ok s) (Ok at) h f g go = go s at h
   by_move_alike i j e (Ok s) (Err k) h f g go = absurd h
@@ -114,7 +115,7 @@ module _ (code : List Operation) (end : ℕ)
     abbrev Agree : Act State → Act State → Type 0
     Agree a lone = AlikeActs a (lone_move (after_lone place mid) lone (last_spot code))
 
-    abbrev on : (r : List ℤ) → Alike (before rest r) (spot mid r)
+    abbrev on : (r : List ℤ) → Alike (state_before rest r) (spot mid r)
     on r = alike_before rest r mid f
 
     by_value : (v : Value) (a lone : ℤ → Act State) → ((n : ℤ) → Agree (a n) (lone n))
@@ -122,13 +123,14 @@ module _ (code : List Operation) (end : ℕ)
     by_value (Ok n) a lone h = h n
     by_value (Err kind) a lone h = (refl, λ x. alike_ended)
 
-    by_set : (reg : ℕ) (v : Value) → Agree (moves v (λ n. before rest (slice_set registers reg n)))
-        (moves v (λ n. before [] (slice_set registers reg n)))
+    by_set : (reg : ℕ) (v : Value)
+        → Agree (moves v (λ n. state_before rest (slice_set registers reg n)))
+        (moves v (λ n. state_before [] (slice_set registers reg n)))
     by_set reg (Ok n) = on (slice_set registers reg n)
     by_set reg (Err kind) = refl
 
     halfway_through : (s : Statement) → Laid code place mid s
-        → Alike (between rest registers s)
+        → Alike (state_halfway rest registers s)
         (record { place = place; registers = registers; halfway = true })
     halfway_through s l = record { follows = (mid, l, f); numbers = (refl, refl) }
 
@@ -167,12 +169,12 @@ module _ (code : List Operation) (end : ℕ)
     -- a choice between two places
     by_test : (v : Value) (first second : List Statement) (a b : ℕ) → Follows code end a first
         → Follows code end b second →
-        AlikeActs (moves v (λ n. before (chosen n first second) registers))
+        AlikeActs (moves v (λ n. state_before (chosen_block n first second) registers))
         (test_move v (λ n. spot (cond (is_zero n) b a) registers))
     by_test (Err kind) first second a b p q = refl
     by_test (Ok n) first second a b p q = chosen_alike (is_zero n)
       where
-        chosen_alike : (z : Bool) → Alike (before (cond z second first) registers)
+        chosen_alike : (z : Bool) → Alike (state_before (cond z second first) registers)
             (spot (cond z b a) registers)
         chosen_alike true = alike_before second registers b q
         chosen_alike false = alike_before first registers a p
@@ -228,7 +230,7 @@ module _ (code : List Operation) (end : ℕ)
       (head_alike rest registers at.place f.0 f.2 halfway s f.1))
 
   stand_alike : (limit : ℕ) (s : State) (at : Spot) → Alike s at
-      → AlikeStands (stand (head end) ended limit s)
+      → AlikeStands (stand (head end) end_state limit s)
       (stand (flat_head code) (last_spot code) limit at)
   stand_alike zero s at a =
       let h = heads_alike s.rest s.registers s.halfway at a.follows a.numbers in
@@ -242,7 +244,7 @@ module _ (code : List Operation) (end : ℕ)
 
   pub pending_alike : (limit : ℕ) (answers : List ℤ) (s : State) (at : Spot) → Alike s at
       → pending_from (flat_head code) (last_spot code) limit at answers
-      ≡ pending_from (head end) ended limit s answers
+      ≡ pending_from (head end) end_state limit s answers
   pending_alike limit [] s at a = sym (stand_alike limit s at a).post
   pending_alike limit (x ∷ answers) s at a =
       pending_alike limit answers _ _ ((stand_alike limit s at a).after x)

@@ -4,7 +4,8 @@ use Rattle.std.proofs.Common.{◌∙◌, subst, arith, append_assoc, length-appe
 use Rattle.std.specs.Prelude.{slice_get}
 use Rattle.std.proofs.Math.Seq.{get_or-append_seam}
 use Rattle.std.proofs.lemmas.Option.{slice_get-get_or}
-use Rattle.script_tree.specs.Trees.{Statement, Statements, Closed, Then, If, IfElse, While, list}
+use Rattle.script_tree.specs.Trees.{Statement, Statements, Closed, Then, If, IfElse, While}
+use Rattle.script_tree.specs.Trees.{statement_list}
 use Rattle.script_tree.specs.Fitting.{count_of, counts_of}
 use Rattle.script_code.specs.Operations.{Operation, Do, Test, End}
 use Rattle.script_code.specs.Layout.{entry, code_of, codes_of}
@@ -128,7 +129,7 @@ Follows code end place (s ∷ rest) = (mid : ℕ) × Laid code place mid s × Fo
 
 pub follows_all : (code : List Operation) (end : ℕ) (ss : Statements) (rest : List Statement)
     (place mid : ℕ) → LaidAll code place mid ss → Follows code end mid rest
-    → Follows code end place (list ss ++ rest)
+    → Follows code end place (statement_list ss ++ rest)
 follows_all code end (Closed line) rest place mid l f =
     subst (λ p. Follows code end p rest) (sym l) f
 follows_all code end (Then s ss) rest place mid l f =

@@ -9,8 +9,8 @@ use Rattle.std.specs.Prelude.{nat_le}
 use Rattle.script_tree.specs.Fitting.{counts_of, line_fits, statements_fit, thread_fits, IsScript}
 use Rattle.script_tree.specs.Seen.{block}
 use Rattle.script_tree.specs.ScriptText.{Thread}
-use Rattle.script_tree.specs.ScriptParts.{thread}
-use Rattle.script_tree.specs.ScriptSeen.{text}
+use Rattle.script_tree.specs.ScriptParts.{thread_text}
+use Rattle.script_tree.specs.ScriptSeen.{plain_script}
 use Rattle.script_tree.specs.Posts.{any_starts, is_held}
 use Rattle.script_tree.proofs.laws.SeenParts.{end_line-block}
 use Rattle.script_code.proofs.Placing.{left_true, right_true}
@@ -19,22 +19,22 @@ use Rattle.script_tree.specs.declared.stmt.ThreadText.{ThreadText}
 use Rattle.script_code.specs.declared.flat.Flat.{Flat}
 use Rattle.script_code.specs.declared.flat.Flat.TheVariants as flats
 use Rattle.script_code.specs.Operations.{End, operation, operations, listings}
-use Rattle.script_code.specs.Layout.{beginning, codes_of, body_code, thread_code, code_from}
+use Rattle.script_code.specs.Layout.{begin_operations, codes_of, body_code, thread_code, code_from}
 use Rattle.script_code.specs.Layout.{script_code}
 
 abbrev pub threads_from : Script → ℕ → List Thread
-threads_from script i = map thread (drop i script.threads.items)
+threads_from script i = map thread_text (drop i script.threads.items)
 
 pub threads_next : (script : Script) (i : ℕ) (t : ThreadText) → i < length script.threads.items
     → t ≡ get_or script.threads.items i t
-    → threads_from script i ≡ thread t ∷ threads_from script (i + 1)
+    → threads_from script i ≡ thread_text t ∷ threads_from script (i + 1)
 threads_next script i t below e =
-    ap (λ l. map thread l) (drop_more script.threads.items i t below
+    ap (λ l. map thread_text l) (drop_more script.threads.items i t below
     ∙ ap (λ x. x ∷ drop (i + 1) script.threads.items) (sym e))
 
 pub threads_end : (script : Script) (i : ℕ) → length script.threads.items ≤ i
     → threads_from script i ≡ []
-threads_end script i past = ap (λ l. map thread l) (drop_all i script.threads.items past)
+threads_end script i past = ap (λ l. map thread_text l) (drop_all i script.threads.items past)
 
 -- whether one of the threads from a place on starts the thread t
 abbrev pub starts_from : Script → ℕ → ℕ → Bool
@@ -68,8 +68,8 @@ starts_all script i t marked whole past h =
 
 -- the code of a thread, as it is made
 pub thread_code_is : (held : Bool) (t : Thread)
-    → thread_code held t ≡ beginning held t.line
-    ++ body_code (length (beginning held t.line)) t.body
+    → thread_code held t ≡ begin_operations held t.line
+    ++ body_code (length (begin_operations held t.line)) t.body
 thread_code_is false t = refl
 thread_code_is true t = refl
 
@@ -77,17 +77,17 @@ thread_code_is true t = refl
 pub listings_next : (script : Script) (old new : List (List Flat)) (list : List Flat) (i : ℕ)
     (th : ThreadText) (held : Bool) →
     i < length script.threads.items → th ≡ get_or script.threads.items i th → new ≡ old ++ list ∷ []
-    → held ≡ is_held (text script) i →
-    operations list ≡ thread_code held (thread th)
-    → listings old ++ code_from (text script) i (threads_from script i)
-    ≡ script_code (text script) →
-    listings new ++ code_from (text script) (i + 1) (threads_from script (i + 1))
-    ≡ script_code (text script)
+    → held ≡ is_held (plain_script script) i →
+    operations list ≡ thread_code held (thread_text th)
+    → listings old ++ code_from (plain_script script) i (threads_from script i)
+    ≡ script_code (plain_script script) →
+    listings new ++ code_from (plain_script script) (i + 1) (threads_from script (i + 1))
+    ≡ script_code (plain_script script)
 listings_next script old new list i th held below e n h made so_far =
-    let rest = code_from (text script) (i + 1) (threads_from script (i + 1)) in
-    let next = ap (λ l. code_from (text script) i l) (threads_next script i th below e) in
-    let here : operations list ≡ thread_code (is_held (text script) i) (thread th) =
-    made ∙ ap (λ b. thread_code b (thread th)) h in
+    let rest = code_from (plain_script script) (i + 1) (threads_from script (i + 1)) in
+    let next = ap (λ l. code_from (plain_script script) i l) (threads_next script i th below e) in
+    let here : operations list ≡ thread_code (is_held (plain_script script) i) (thread_text th) =
+    made ∙ ap (λ b. thread_code b (thread_text th)) h in
     ap (λ l. listings l ++ rest) n
     ∙ ap (λ l. l ++ rest) (map-append operations old (list ∷ []))
     ∙ append_assoc (listings old) (operations list ∷ []) rest
@@ -97,19 +97,19 @@ listings_next script old new list i th held below e n h made so_far =
 
 pub listings_all : (script : Script) (threads : List (List Flat)) (i : ℕ)
     → length script.threads.items ≤ i →
-    listings threads ++ code_from (text script) i (threads_from script i)
-    ≡ script_code (text script) → listings threads ≡ script_code (text script)
+    listings threads ++ code_from (plain_script script) i (threads_from script i)
+    ≡ script_code (plain_script script) → listings threads ≡ script_code (plain_script script)
 listings_all script threads i past h =
-    let none = ap (λ l. code_from (text script) i l) (threads_end script i past) in
+    let none = ap (λ l. code_from (plain_script script) i l) (threads_end script i past) in
     sym (append-nil (listings threads)) ∙ ap (λ l. listings threads ++ l) (sym none) ∙ h
 
 pub thread_made : (held : Bool) (th : ThreadText) (ops emitted made : List Flat) (end : ℕ) →
-    operations ops ≡ beginning held th.line → end ≡ length ops + counts_of (block th.body) →
+    operations ops ≡ begin_operations held th.line → end ≡ length ops + counts_of (block th.body) →
     operations emitted ≡ operations ops ++ codes_of (length ops) end (block th.body)
     → made ≡ emitted ++ flats.End th.body.end_line ∷ [] →
-    operations made ≡ thread_code held (thread th)
+    operations made ≡ thread_code held (thread_text th)
 thread_made held th ops emitted made end begun at_end e m =
-    let first = beginning held th.line in
+    let first = begin_operations held th.line in
     let n : length ops ≡ length first = sym (length-map ops operation) ∙ ap length begun in
     let body = block th.body in
     ap operations m
@@ -120,17 +120,20 @@ thread_made held th ops emitted made end begun at_end e m =
     at_end
     ∙ ap₂ (λ (k line : ℕ). first ++ (codes_of k (k + counts_of body) body ++ End line ∷ [])) n
     (sym (end_line-block th.body))
-    ∙ sym (thread_code_is held (thread th))
+    ∙ sym (thread_code_is held (thread_text th))
 
 fits_at : (p : Thread → Bool) (xs : List ThreadText) (i : ℕ) (t : ThreadText)
-    → list_all p (map thread xs) ≡ true → i < length xs → t ≡ get_or xs i t → p (thread t) ≡ true
+    → list_all p (map thread_text xs) ≡ true → i < length xs → t ≡ get_or xs i t
+    → p (thread_text t) ≡ true
 fits_at p [] i t all below e = absurd (omega arith)
 fits_at p (x ∷ xs) zero t all below e =
-    ap (λ y. p (thread y)) e ∙ left_true (p (thread x)) (list_all p (map thread xs)) all
+    ap (λ y. p (thread_text y)) e ∙ left_true (p (thread_text x))
+    (list_all p (map thread_text xs)) all
 fits_at p (x ∷ xs) (suc i) t all below e =
-    fits_at p xs i t (right_true (p (thread x)) (list_all p (map thread xs)) all) (omega arith) e
+    fits_at p xs i t (right_true (p (thread_text x)) (list_all p (map thread_text xs)) all)
+    (omega arith) e
 
-pub few_statements : (script : Script) (i : ℕ) (t : ThreadText) → IsScript (text script)
+pub few_statements : (script : Script) (i : ℕ) (t : ThreadText) → IsScript (plain_script script)
     → i < length script.threads.items → t ≡ get_or script.threads.items i t
     → counts_of (block t.body) ≤ 4096
 few_statements script i t sound below e =
@@ -142,10 +145,11 @@ few_statements script i t sound below e =
     (nat_le (counts_of (block t.body)) 4096) fits in
     grind (arith, nat_tests)
 
-pub few_threads : (script : Script) → IsScript (text script) → length script.threads.items ≤ 64
+pub few_threads : (script : Script) → IsScript (plain_script script)
+    → length script.threads.items ≤ 64
 few_threads script sound =
-    let n : length (map thread script.threads.items) ≡ length script.threads.items =
-    length-map script.threads.items thread in
+    let n : length (map thread_text script.threads.items) ≡ length script.threads.items =
+    length-map script.threads.items thread_text in
     most (nat_le 3 script.version) (subst (λ (k : ℕ). k ≤ cond (nat_le 3 script.version) 64 16) n
     sound.few_threads)
   where

@@ -6,7 +6,7 @@ use Rattle.std.specs.Prelude.{nat_lt, nat_le, slice_get, slice_index_or}
 use Rattle.std.specs.List.{list_all}
 use Rattle.std.proofs.lemmas.Bool.Decides.{nat_tests}
 use Rattle.pct_ask.specs.NameLists.{NameLists}
-use Rattle.script_tree.specs.Trees.{Statements, Closed, Then, list, end_line}
+use Rattle.script_tree.specs.Trees.{Statements, Closed, Then, statement_list, end_line}
 use Rattle.script_tree.specs.ScriptText.{Thread, ScriptText}
 use Rattle.script_tree.specs.Fitting.{counts_of, line_fits, statements_fit, thread_fits, IsScript}
 use Rattle.script_tree.specs.Machine.{pending_from}
@@ -30,7 +30,8 @@ entry_is at (Then s rest) = refl
 
 -- the statements of a thread follow in its code
 body_follows : (before : List Operation) (body : Statements)
-    → Follows (before ++ body_code (length before) body) (end_line body) (length before) (list body)
+    → Follows (before ++ body_code (length before) body) (end_line body) (length before)
+    (statement_list body)
 body_follows before body =
     let at = length before in
     let next = at + counts_of body in
@@ -40,8 +41,8 @@ body_follows before body =
     let follows = follows_all code (end_line body) body [] (entry at next body) next
     (laid_all code body at next stands) (end_at before body) in
     let P : ℕ → List _ → Type 0 = λ place rest. Follows code (end_line body) place rest in
-    subst (λ rest. P at rest) (append-nil (list body))
-    (subst (λ place. P place (list body ++ [])) (entry_is at body) follows)
+    subst (λ rest. P at rest) (append-nil (statement_list body))
+    (subst (λ place. P place (statement_list body ++ [])) (entry_is at body) follows)
 
 body_posts : (before : List Operation) (body : Statements) (limit : ℕ) (answers : List ℤ) →
     pending_from (flat_head (before ++ body_code (length before) body))
@@ -53,7 +54,8 @@ body_posts before body limit answers =
     let last = last_is_end before body in
     pending_alike code (end_line body) last limit answers (at_start body)
     (spot (length before) (replicate 16 (pos 0)))
-    (alike_before code (end_line body) last (list body) (replicate 16 (pos 0)) (length before)
+    (alike_before code (end_line body) last (statement_list body) (replicate 16 (pos 0))
+    (length before)
     (body_follows before body))
 
 -- a thread's code posts what the thread does

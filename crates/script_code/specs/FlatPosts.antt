@@ -37,9 +37,9 @@ is_fault (asks.Fault kind) = true
 is_fault ask = false
 
 -- after a statement that stood alone: where nothing of it remains, the next operation's turn comes
-abbrev pub spot_after : (place next : ℕ) → List Statement → List ℤ → Bool → Spot
-spot_after place next [] registers halfway = spot next registers
-spot_after place next (s ∷ rest) registers halfway = record {
+abbrev pub spot_after_lone : (place next : ℕ) → List Statement → List ℤ → Bool → Spot
+spot_after_lone place next [] registers halfway = spot next registers
+spot_after_lone place next (s ∷ rest) registers halfway = record {
   place = place;
   registers = registers;
   halfway = halfway;
@@ -47,7 +47,7 @@ spot_after place next (s ∷ rest) registers halfway = record {
 
 -- where a thread goes on in its code, by the state in which a statement that stood alone leaves it
 abbrev pub after_lone : (place next : ℕ) → State → Spot
-after_lone place next state = spot_after place next state.rest state.registers state.halfway
+after_lone place next state = spot_after_lone place next state.rest state.registers state.halfway
 
 -- what a statement alone does, in the code
 abbrev pub lone_move : (State → Spot) → Act State → Spot → Act Spot

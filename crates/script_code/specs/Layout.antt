@@ -35,9 +35,9 @@ abbrev pub body_code : (at : ℕ) → Statements → List Operation
 body_code at body = codes_of at (at + counts_of body) body ++ End (end_line body) ∷ []
 
 -- what stands before the statements of a thread: one that is held begins
-abbrev pub beginning : Bool → (line : ℕ) → List Operation
-beginning false line = []
-beginning true line = Begin line 1 ∷ []
+abbrev pub begin_operations : Bool → (line : ℕ) → List Operation
+begin_operations false line = []
+begin_operations true line = Begin line 1 ∷ []
 
 -- the operations of a thread
 abbrev pub thread_code : Bool → Thread → List Operation

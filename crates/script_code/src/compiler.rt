@@ -1,10 +1,10 @@
 ghost use Rattle.std.specs.Prelude.{◌≡◌, ◌≤◌, IfOk};
 ghost use Rattle.script_tree.specs.Seen.{block};
 ghost use Rattle.script_tree.specs.Fitting.{counts_of};
-ghost use Rattle.script_tree.specs.ScriptParts.{thread};
-ghost use Rattle.script_tree.specs.ScriptSeen.{text};
+ghost use Rattle.script_tree.specs.ScriptParts.{thread_text};
+ghost use Rattle.script_tree.specs.ScriptSeen.{plain_script};
 ghost use Rattle.script_code.specs.Operations.{operations};
-ghost use Rattle.script_code.specs.Layout.{beginning, thread_code};
+ghost use Rattle.script_code.specs.Layout.{begin_operations, thread_code};
 ghost use Rattle.script_code.specs.Listing.{listing};
 ghost use Rattle.script_code.specs.CodeOf.{IsCodeOf};
 
@@ -19,7 +19,7 @@ use std::alloc::{AllocError as NoMemory, Global};
 
 /// The code of a script: each thread posts what the script's thread does, whatever its answers.
 pub fn compile(alloc: Global, script: &Script) -> Result<Code, NoMemory>
-    ensures { IfOk result (λ code. IsCodeOf (text script.now) (listing code)) }
+    ensures { IfOk result (λ code. IsCodeOf (plain_script script.now) (listing code)) }
 {
     let mut held = [false; 64];
     for started in &script.threads {
@@ -35,7 +35,7 @@ pub fn compile(alloc: Global, script: &Script) -> Result<Code, NoMemory>
 // The operations of a thread's text.
 fn compile_thread(alloc: Global, text: &ThreadText, held: bool) -> Result<FlatList, NoMemory>
     requires { counts_of (block text.now.body) ≤ 4096 }
-    ensures { IfOk result (λ list. operations list ≡ thread_code held (thread text.now)) }
+    ensures { IfOk result (λ list. operations list ≡ thread_code held (thread_text text.now)) }
 {
     let mut ops = begin(alloc, text.line, held)?;
     let end = ops.len() as u32 + counts_of(&text.body);
@@ -48,7 +48,7 @@ fn compile_thread(alloc: Global, text: &ThreadText, held: bool) -> Result<FlatLi
 
 // What stands before a thread's statements.
 fn begin(alloc: Global, line: u32, held: bool) -> Result<Vec<Flat>, NoMemory>
-    ensures { IfOk result (λ ops. operations ops.items ≡ beginning held line) }
+    ensures { IfOk result (λ ops. operations ops.items ≡ begin_operations held line) }
 {
     let mut ops = Vec::new(alloc);
     if held {

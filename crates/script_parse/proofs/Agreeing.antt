@@ -14,15 +14,18 @@ use Rattle.pct_ask.specs.NameLists.{NameLists, list_of, place_of}
 use Rattle.pct_ask.specs.declared.names.NameKind.{NameKind}
 use Rattle.pct_ask.specs.declared.names.NameKind.TheVariants as kinds
 use Rattle.std.proofs.lemmas.Bool.{le-leb, lt-ltb}
-use Rattle.script_tree.specs.Forms.{Cut, Meant, Thread, Yield, Assert, Set, If, While, value_in}
-use Rattle.script_tree.specs.Forms.{tokens_of_form, IsOf, Means}
-use Rattle.script_tree.specs.Lines.{version_of, begins, named, names_of, opens, depth, threads_in}
+use Rattle.script_tree.specs.Forms.{TokenForm, MeantForm, Thread, Yield, Assert, Set, If, While}
+use Rattle.script_tree.specs.Forms.{value_in}
+use Rattle.script_tree.specs.Forms.{tokens_of_form, IsFormOf, Means}
+use Rattle.script_tree.specs.Lines.{version_of, begins_with, declared_name, names_of, opens, depth}
+use Rattle.script_tree.specs.Lines.{threads_begun}
 use Rattle.script_tree.specs.Faults as faults
-use Rattle.script_tree.specs.Faults.{Place, SoFar, earlier, is_declared}
+use Rattle.script_tree.specs.Faults.{Place, SoFar, tokens_before, is_declared}
 use Rattle.script_parse.specs.Part.{Open, Part}
 use Rattle.script_parse.specs.Part as parts
 use Rattle.script_parse.specs.Reading as reading
-use Rattle.script_parse.specs.Reading.{Finder, is_empty, is_if, is_in_if, so_far, is_known, taken}
+use Rattle.script_parse.specs.Reading.{Finder, is_empty, is_if, is_in_if, so_far_in, is_known_name}
+use Rattle.script_parse.specs.Reading.{with_form}
 use Rattle.script_parse.proofs.Meanings.{by_meaning}
 use Rattle.script_parse.proofs.Standing.{Lines, Stands, depth_is, is_if_at, quiet_at, on_quiet}
 use Rattle.script_parse.proofs.Standing.{into_quiet, said_stands, plain_stands, valued_stands}
@@ -62,13 +65,13 @@ some_left : (names : List (List ℕ)) (name : List ℕ) → is_empty (names ++ n
 some_left names name = let some : 0 < length (names ++ name ∷ []) = omega (arith, length_push names name) in grind (arith, nat_tests)
 
 -- what is read with a line that has no fault stands for it too
-pub taken_stands : (version : ℕ) (part : Part) (find : Finder) (n : ℕ) (lines : Lines) → Stands part lines → (cut : Cut) (meant : Meant) → Means cut meant → IsOf version cut → faults.closes_nothing (so_far part) meant ≡ false → Stands (taken part find n meant) (lines ++ tokens_of_form cut ∷ [])
+pub taken_stands : (version : ℕ) (part : Part) (find : Finder) (n : ℕ) (lines : Lines) → Stands part lines → (cut : TokenForm) (meant : MeantForm) → Means cut meant → IsFormOf version cut → faults.closes_nothing (so_far_in part) meant ≡ false → Stands (with_form part find n meant) (lines ++ tokens_of_form cut ∷ [])
 unfolding open_opening
 taken_stands version part find n lines s =
-    by_meaning (λ cut meant. IsOf version cut → faults.closes_nothing (so_far part) meant ≡ false → Stands (taken part find n meant) (lines ++ tokens_of_form cut ∷ [])) (record {
+    by_meaning (λ cut meant. IsFormOf version cut → faults.closes_nothing (so_far_in part) meant ≡ false → Stands (with_form part find n meant) (lines ++ tokens_of_form cut ∷ [])) (record {
       plain = λ kind name of c. plain_stands part lines kind name of.0 s;
       valued = λ kind name value of c. valued_stands part lines kind name (unwrap_or (value_in kind value) (pos 0)) (Symbol (codes "=") ∷ value) of.0 s;
-      thread = λ name of c. opens_stands part (taken part find n (Thread name)) lines (Word (codes "thread") ∷ Word name ∷ []) (open_opening (parts.Thread n)) refl refl refl refl (λ kind. declared_names part lines kinds.Thread kind name [] s) refl s;
+      thread = λ name of c. opens_stands part (with_form part find n (Thread name)) lines (Word (codes "thread") ∷ Word name ∷ []) (open_opening (parts.Thread n)) refl refl refl refl (λ kind. declared_names part lines kinds.Thread kind name [] s) refl s;
       on = λ verb object of c. said_stands part _ lines _ (on_quiet verb (Word object ∷ [])) s;
       into = λ verb reg object of c. said_stands part _ lines _ (into_quiet verb _) s;
       write = λ var value tree of c. said_stands part _ lines _ (quiet_at (codes "write") _ refl refl refl refl) s;
@@ -78,8 +81,8 @@ taken_stands version part find n lines s =
       yield = λ of c. said_stands part (reading.statement_on part.names find n Yield) lines _ (quiet_at (codes "yield") _ refl refl refl refl) s;
       assert = λ test tree of c. said_stands part (reading.statement_on part.names find n (Assert tree)) lines _ (quiet_at (codes "assert") _ refl refl refl refl) s;
       set = λ reg value tree of c. said_stands part (reading.statement_on part.names find n (Set reg tree)) lines _ (quiet_at (codes "set") _ refl refl refl refl) s;
-      when = λ test tree of c. opens_stands part (taken part find n (If tree)) lines (Word (codes "if") ∷ test) (open_opening (parts.If n tree)) refl refl refl refl (quiet_names (codes "if") test part lines refl s) refl s;
-      while = λ test tree of c. opens_stands part (taken part find n (While tree)) lines (Word (codes "while") ∷ test) (open_opening (parts.While n tree)) refl refl refl refl (quiet_names (codes "while") test part lines refl s) refl s;
+      when = λ test tree of c. opens_stands part (with_form part find n (If tree)) lines (Word (codes "if") ∷ test) (open_opening (parts.If n tree)) refl refl refl refl (quiet_names (codes "if") test part lines refl s) refl s;
+      while = λ test tree of c. opens_stands part (with_form part find n (While tree)) lines (Word (codes "while") ∷ test) (open_opening (parts.While n tree)) refl refl refl refl (quiet_names (codes "while") test part lines refl s) refl s;
       end = λ of c. end_stands_at part part.open_blocks lines n refl c s;
       otherwise = λ of c. else_stands_at part part.open_blocks lines n refl (unflip (is_in_if part.open_blocks) c) s;
     })
@@ -94,26 +97,26 @@ same_names : (names : NameLists) (lists : NameKind → List (List ℕ)) → ((ki
     → ◌≡◌ {A = NameLists} (record { threads = lists kinds.Thread; vars = lists kinds.Var; mutexes = lists kinds.Mutex; conds = lists kinds.Cond; sems = lists kinds.Sem; barriers = lists kinds.Barrier; rwlocks = lists kinds.RwLock }) names
 same_names names lists h = rw (h kinds.Thread, h kinds.Var, h kinds.Mutex, h kinds.Cond, h kinds.Sem, h kinds.Barrier, h kinds.RwLock) refl
 
-pub same_so_far : (part : Part) (lines : Lines) → Stands part lines → faults.so_far lines ≡ so_far part
+pub same_so_far : (part : Part) (lines : Lines) → Stands part lines → faults.so_far lines ≡ so_far_in part
 same_so_far part lines s =
     let version : version_of lines ≡ part.version = ap version_of (sym (append-nil lines)) ∙ s.version [] in
-    same_here (version_of lines) part.version (depth lines) (length part.open_blocks) (faults.names_in lines) part.names _ _
+    same_here (version_of lines) part.version (depth lines) (length part.open_blocks) (faults.names_declared lines) part.names _ _
     version (same_names part.names (λ kind. names_of kind lines) s.names) (depth_is part lines s) (s.innermost 0 ∙ at_zero part.open_blocks)
 
-module _ (part : Part) (place : Place) (s : Stands part (earlier place)) where
+module _ (part : Part) (place : Place) (s : Stands part (tokens_before place)) where
   abbrev pub found : Finder
-  found name = place_of name (threads_in (place.before ++ place.line ∷ place.after))
+  found name = place_of name (threads_begun (place.before ++ place.line ∷ place.after))
 
-  known_at : (kind : NameKind) (name : List ℕ) → is_declared place kind name ≡ is_known part.names found kind name
-  known_at kinds.Thread name = sym (is_some-place name (threads_in (place.before ++ place.line ∷ place.after)))
+  known_at : (kind : NameKind) (name : List ℕ) → is_declared place kind name ≡ is_known_name part.names found kind name
+  known_at kinds.Thread name = sym (is_some-place name (threads_begun (place.before ++ place.line ∷ place.after)))
   known_at kind name = rw (s.names kind) (sym (is_some-place name (list_of kind part.names)))
 
-  pub known_same : is_declared place ≡ is_known part.names found
+  pub known_same : is_declared place ≡ is_known_name part.names found
   known_same = fun_ext (λ kind. fun_ext (λ name. known_at kind name))
 
 -- ---- what is open behind a line, and whether a thread began
 
-ends_opens : (line : List Token) → begins (codes "end") line ≡ true → opens line ≡ false
+ends_opens : (line : List Token) → begins_with (codes "end") line ≡ true → opens line ≡ false
 ends_opens (Word word ∷ rest) e =
     ap (λ (w : List ℕ). opens (Word w ∷ rest)) (same_bytes word (codes "end") e)
 ends_opens line e = absurd cc
@@ -136,11 +139,12 @@ module _ (lines : Lines) (line : List Token) where
   begun = count_by opens lines
 
   abbrev ended : ℕ
-  ended = count_by (begins (codes "end")) lines
+  ended = count_by (begins_with (codes "end")) lines
 
   depth_behind : depth (lines ++ line ∷ [])
-      ≡ (begun + cond (opens line) 1 0) - (ended + cond (begins (codes "end") line) 1 0)
-  depth_behind = rw (count_push opens lines line, count_push (begins (codes "end")) lines line) refl
+      ≡ (begun + cond (opens line) 1 0) - (ended + cond (begins_with (codes "end") line) 1 0)
+  depth_behind =
+      rw (count_push opens lines line, count_push (begins_with (codes "end")) lines line) refl
 
   open_by : (o e : Bool) → (e ≡ true → o ≡ false) → ended ≤ begun
       → nat_le 1 ((begun + cond o 1 0) - (ended + cond e 1 0))
@@ -156,13 +160,13 @@ module _ (lines : Lines) (line : List Token) where
       → nat_le 1 (depth (lines ++ line ∷ [])) ≡ faults.leaves_open (faults.so_far lines) line
   leaves_open_same few =
       ap (nat_le 1) depth_behind
-      ∙ open_by (opens line) (begins (codes "end") line) (ends_opens line) few
+      ∙ open_by (opens line) (begins_with (codes "end") line) (ends_opens line) few
 
   -- behind a line with a block open no more blocks ended than began before
   pub few_ended : 1 ≤ depth (lines ++ line ∷ []) → ended ≤ begun
   few_ended deep = omega (arith, depth_behind, one_le (opens line))
 
-  thread_by : (name : Option (List ℕ)) → named kinds.Thread line ≡ name
+  thread_by : (name : Option (List ℕ)) → declared_name kinds.Thread line ≡ name
       → is_empty (names_of kinds.Thread (lines ++ line ∷ []))
       ≡ (not (is_some name) && is_empty (names_of kinds.Thread lines))
   thread_by None e =
@@ -173,4 +177,4 @@ module _ (lines : Lines) (line : List Token) where
   -- no thread began up to the line where none of the lines up to it names one
   pub lacks_thread_same : is_empty (names_of kinds.Thread (lines ++ line ∷ []))
       ≡ faults.lacks_thread (faults.so_far lines) line
-  lacks_thread_same = thread_by (named kinds.Thread line) refl
+  lacks_thread_same = thread_by (declared_name kinds.Thread line) refl

@@ -9,15 +9,15 @@ use Rattle.std.proofs.lemmas.List.Elements.{filter_map-append}
 use Rattle.std.proofs.lemmas.List.Folds.{list_all-append}
 use Rattle.pct_ask.specs.Lines.{lines_of, onto_first}
 use Rattle.pct_ask.specs.Tokens.{Token, tokens_of}
-use Rattle.script_tree.specs.Lines.{is_blank_line, just_thread, thread_in, threads_in}
+use Rattle.script_tree.specs.Lines.{is_blank_line, just_thread, thread_in, threads_begun}
 use Rattle.script_tree.specs.Faults.{are_blank}
 use Rattle.script_parse.specs.declared.ahead.Ahead.{Ahead}
 use Rattle.script_parse.specs.Ahead.{HasPlaces, HasSeen}
 
-pub no_thread_more : (texts : List (List ℕ)) (line : List ℕ) → thread_in line ≡ None → threads_in (texts ++ line ∷ []) ≡ threads_in texts
-no_thread_more texts line e = filter_map-append thread_in texts (line ∷ []) ∙ rw e (append-nil (threads_in texts))
+pub no_thread_more : (texts : List (List ℕ)) (line : List ℕ) → thread_in line ≡ None → threads_begun (texts ++ line ∷ []) ≡ threads_begun texts
+no_thread_more texts line e = filter_map-append thread_in texts (line ∷ []) ∙ rw e (append-nil (threads_begun texts))
 
-pub thread_more : (texts : List (List ℕ)) (line name : List ℕ) → thread_in line ≡ Some name → threads_in (texts ++ line ∷ []) ≡ threads_in texts ++ name ∷ []
+pub thread_more : (texts : List (List ℕ)) (line name : List ℕ) → thread_in line ≡ Some name → threads_begun (texts ++ line ∷ []) ≡ threads_begun texts ++ name ∷ []
 thread_more texts line name e = filter_map-append thread_in texts (line ∷ []) ∙ rw e refl
 
 -- a line that can't be cut into tokens begins no thread
@@ -57,7 +57,7 @@ pub thread_seen : (old new : Ahead) (blank : Bool) (line name : List ℕ) → th
     → ((names : List (List ℕ)) → HasPlaces (counted old blank) names → HasPlaces new (names ++ name ∷ [])) → new.lines ≡ old.lines + 1 → new.blank ≡ blank
     → (texts : List (List ℕ)) → HasSeen old texts → HasSeen new (texts ++ line ∷ [])
 thread_seen old new blank line name begun says noted lines same texts has = record {
-  has_places = subst (λ names. HasPlaces new names) (sym (thread_more texts line name begun)) (noted (threads_in texts) (record { places = has.has_places.places; threads = has.has_places.threads }));
+  has_places = subst (λ names. HasPlaces new names) (sym (thread_more texts line name begun)) (noted (threads_begun texts) (record { places = has.has_places.places; threads = has.has_places.threads }));
   lines = omega (arith, lines, has.lines, length-append texts (line ∷ []));
   blank = same ∙ says ∙ ap (λ b. b && is_blank_line line) has.blank ∙ sym (blank_push texts line);
 }
@@ -96,6 +96,6 @@ cons_few None names = omega arith
 cons_few (Some name) names = omega arith
 
 -- the lines begin no more threads than there are lines
-pub threads_few : (texts : List (List ℕ)) → length (threads_in texts) ≤ length texts
+pub threads_few : (texts : List (List ℕ)) → length (threads_begun texts) ≤ length texts
 threads_few [] = omega arith
-threads_few (text ∷ texts) = omega (arith, cons_few (thread_in text) (threads_in texts), threads_few texts)
+threads_few (text ∷ texts) = omega (arith, cons_few (thread_in text) (threads_begun texts), threads_few texts)

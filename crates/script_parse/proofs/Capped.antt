@@ -11,9 +11,9 @@ use Rattle.script_tree.specs.Trees.{Expression}
 use Rattle.script_tree.specs.Trees as trees
 use Rattle.script_tree.specs.Expressions.{strength, left_level, IsSpelled, number, register, enclosed, minus, not, two, stronger, signs_of}
 use Rattle.script_tree.specs.Ranges.{is_great, has_great}
-use Rattle.script_parse.specs.Numbers.{saturated}
+use Rattle.script_parse.specs.Numbers.{saturated_number}
 use Rattle.script_parse.specs.Registers.{register_in}
-use Rattle.script_parse.specs.Machine.{Frame, Paren, Not, Minus, Two, Pending, pending, operator_in, reduced, chains, joined, closed, closed_by, begun, joined_by, behind, step, step_at, whole, finished_at, read_from, expression_in}
+use Rattle.script_parse.specs.Machine.{Frame, Paren, Not, Minus, Two, OpenExpression, open_expression, operator_in, reduced_value, chains, with_operator, with_bracket, closed_by, with_value_token, joined_by, behind, token_step, token_step_at, whole, finished_at, expression_from, expression_in}
 use Rattle.script_parse.proofs.Choices.{or_parts}
 use Rattle.script_parse.proofs.Numbers.{kept}
 use Rattle.script_parse.proofs.ExpressionWhole.{exact}
@@ -41,21 +41,21 @@ abbrev capped_frames : List Frame → List Frame
 capped_frames [] = []
 capped_frames (frame ∷ frames) = capped_frame frame ∷ capped_frames frames
 
-abbrev capped_pending : Pending → Pending
-capped_pending p = pending (capped_frames p.frames) (option_map capped p.value)
+abbrev capped_pending : OpenExpression → OpenExpression
+capped_pending p = open_expression (capped_frames p.frames) (option_map capped p.value)
 
 abbrev capped_pair : List Frame × Expression → List Frame × Expression
 capped_pair p = (capped_frames p.0, capped p.1)
 
-reduced_capped : (level : ℕ) (frames : List Frame) (value : Expression) → reduced level (capped_frames frames) (capped value) ≡ capped_pair (reduced level frames value)
+reduced_capped : (level : ℕ) (frames : List Frame) (value : Expression) → reduced_value level (capped_frames frames) (capped value) ≡ capped_pair (reduced_value level frames value)
 reduced_capped level [] value = refl
 reduced_capped level (Paren ∷ frames) value = refl
 reduced_capped level (Not ∷ frames) value = reduced_capped level frames (trees.Not value)
 reduced_capped level (Minus ∷ frames) value = reduced_capped level frames (trees.Minus value)
 reduced_capped level (Two op left ∷ frames) value = by_test (nat_le level (strength op)) (reduced_capped level frames (trees.Two op left value))
   where
-    by_test : (b : Bool) → reduced level (capped_frames frames) (capped (trees.Two op left value)) ≡ capped_pair (reduced level frames (trees.Two op left value))
-        → cond b (reduced level (capped_frames frames) (capped (trees.Two op left value))) (Two op (capped left) ∷ capped_frames frames, capped value) ≡ capped_pair (cond b (reduced level frames (trees.Two op left value)) (Two op left ∷ frames, value))
+    by_test : (b : Bool) → reduced_value level (capped_frames frames) (capped (trees.Two op left value)) ≡ capped_pair (reduced_value level frames (trees.Two op left value))
+        → cond b (reduced_value level (capped_frames frames) (capped (trees.Two op left value))) (Two op (capped left) ∷ capped_frames frames, capped value) ≡ capped_pair (cond b (reduced_value level frames (trees.Two op left value)) (Two op left ∷ frames, value))
     by_test true e = e
     by_test false e = refl
 
@@ -64,24 +64,24 @@ chains_capped op [] = refl
 chains_capped op (Paren ∷ frames) = refl
 chains_capped op frames = refl
 
-joined_capped : (op : Op) (frames : List Frame) (value : Expression) → option_map capped_pending (joined op (frames, value)) ≡ joined op (capped_frames frames, capped value)
+joined_capped : (op : Op) (frames : List Frame) (value : Expression) → option_map capped_pending (with_operator op (frames, value)) ≡ with_operator op (capped_frames frames, capped value)
 joined_capped op frames value = rw (chains_capped op frames) (by_test (chains op frames))
   where
-    by_test : (b : Bool) → option_map capped_pending (cond b None (Some (pending (Two op value ∷ frames) None))) ≡ cond b None (Some (pending (Two op (capped value) ∷ capped_frames frames) None))
+    by_test : (b : Bool) → option_map capped_pending (cond b None (Some (open_expression (Two op value ∷ frames) None))) ≡ cond b None (Some (open_expression (Two op (capped value) ∷ capped_frames frames) None))
     by_test true = refl
     by_test false = refl
 
-closed_capped : (frames : List Frame) (value : Expression) → option_map capped_pending (closed frames value) ≡ closed (capped_frames frames) (capped value)
+closed_capped : (frames : List Frame) (value : Expression) → option_map capped_pending (with_bracket frames value) ≡ with_bracket (capped_frames frames) (capped value)
 closed_capped [] value = refl
 closed_capped (Paren ∷ frames) value = refl
 closed_capped frames value = refl
 
 closed_by_capped : (frames : List Frame) (value : Expression) → option_map capped_pending (closed_by frames value) ≡ closed_by (capped_frames frames) (capped value)
-closed_by_capped frames value = rw (reduced_capped 0 frames value) (closed_capped (reduced 0 frames value).0 (reduced 0 frames value).1)
+closed_by_capped frames value = rw (reduced_capped 0 frames value) (closed_capped (reduced_value 0 frames value).0 (reduced_value 0 frames value).1)
 
 joined_by_capped : (found : Option Op) (frames : List Frame) (value : Expression) → option_map capped_pending (joined_by found frames value) ≡ joined_by found (capped_frames frames) (capped value)
 joined_by_capped None frames value = refl
-joined_by_capped (Some op) frames value = rw (reduced_capped (left_level op) frames value) (joined_capped op (reduced (left_level op) frames value).0 (reduced (left_level op) frames value).1)
+joined_by_capped (Some op) frames value = rw (reduced_capped (left_level op) frames value) (joined_capped op (reduced_value (left_level op) frames value).0 (reduced_value (left_level op) frames value).1)
 
 map_cond : {A B : Type 0} (f : A → B) (b : Bool) (x y : Option A) (u v : Option B) → option_map f x ≡ u → option_map f y ≡ v → option_map f (cond b x y) ≡ cond b u v
 map_cond f true x y u v p q = p
@@ -92,16 +92,16 @@ behind_capped frames value (Number digits) = refl
 behind_capped frames value (Word word) = refl
 behind_capped frames value (Symbol signs) = map_cond capped_pending (bytes_eq signs (codes ")")) _ _ _ _ (closed_by_capped frames value) (joined_by_capped (operator_in signs) frames value)
 
-register_capped : (found : Option ℕ) (frames : List Frame) → option_map capped_pending (option_map (λ r. pending frames (Some (trees.Reg r))) found) ≡ option_map (λ r. pending (capped_frames frames) (Some (trees.Reg r))) found
+register_capped : (found : Option ℕ) (frames : List Frame) → option_map capped_pending (option_map (λ r. open_expression frames (Some (trees.Reg r))) found) ≡ option_map (λ r. open_expression (capped_frames frames) (Some (trees.Reg r))) found
 register_capped None frames = refl
 register_capped (Some r) frames = refl
 
-begun_capped : (frames : List Frame) (token : Token) → option_map capped_pending (begun exact frames token) ≡ begun saturated (capped_frames frames) token
+begun_capped : (frames : List Frame) (token : Token) → option_map capped_pending (with_value_token exact frames token) ≡ with_value_token saturated_number (capped_frames frames) token
 begun_capped frames (Number digits) = refl
 begun_capped frames (Word word) = register_capped (register_in word) frames
 begun_capped frames (Symbol signs) = map_cond capped_pending (bytes_eq signs (codes "(")) _ _ _ _ refl (map_cond capped_pending (bytes_eq signs (codes "-")) _ _ _ _ refl (map_cond capped_pending (bytes_eq signs (codes "!")) _ _ _ _ refl refl))
 
-step_capped : (frames : List Frame) (value : Option Expression) (token : Token) → option_map capped_pending (step_at exact frames value token) ≡ step_at saturated (capped_frames frames) (option_map capped value) token
+step_capped : (frames : List Frame) (value : Option Expression) (token : Token) → option_map capped_pending (token_step_at exact frames value token) ≡ token_step_at saturated_number (capped_frames frames) (option_map capped value) token
 step_capped frames None token = begun_capped frames token
 step_capped frames (Some value) token = behind_capped frames value token
 
@@ -111,19 +111,19 @@ whole_capped (frame ∷ frames) value = refl
 
 finished_capped : (frames : List Frame) (value : Option Expression) → option_map capped (finished_at frames value) ≡ finished_at (capped_frames frames) (option_map capped value)
 finished_capped frames None = refl
-finished_capped frames (Some value) = rw (reduced_capped 0 frames value) (whole_capped (reduced 0 frames value).0 (reduced 0 frames value).1)
+finished_capped frames (Some value) = rw (reduced_capped 0 frames value) (whole_capped (reduced_value 0 frames value).0 (reduced_value 0 frames value).1)
 
-read_capped : (tokens : List Token) (p : Pending) → option_map capped (read_from exact p tokens) ≡ read_from saturated (capped_pending p) tokens
+read_capped : (tokens : List Token) (p : OpenExpression) → option_map capped (expression_from exact p tokens) ≡ expression_from saturated_number (capped_pending p) tokens
 read_capped [] p = finished_capped p.frames p.value
-read_capped (token ∷ tokens) p = by_next (step exact p token) (step saturated (capped_pending p) token) (step_capped p.frames p.value token) (λ q. read_capped tokens q)
+read_capped (token ∷ tokens) p = by_next (token_step exact p token) (token_step saturated_number (capped_pending p) token) (step_capped p.frames p.value token) (λ q. read_capped tokens q)
   where
-    by_next : (o u : Option Pending) → option_map capped_pending o ≡ u → ((q : Pending) → option_map capped (read_from exact q tokens) ≡ read_from saturated (capped_pending q) tokens)
-        → option_map capped (option_and_then (λ next. read_from exact next tokens) o) ≡ option_and_then (λ next. read_from saturated next tokens) u
+    by_next : (o u : Option OpenExpression) → option_map capped_pending o ≡ u → ((q : OpenExpression) → option_map capped (expression_from exact q tokens) ≡ expression_from saturated_number (capped_pending q) tokens)
+        → option_map capped (option_and_then (λ next. expression_from exact next tokens) o) ≡ option_and_then (λ next. expression_from saturated_number next tokens) u
     by_next None u e r = rw (← e) refl
     by_next (Some q) u e r = rw (← e) (r q)
 
-pub expression_capped : (tokens : List Token) → option_map capped (expression_in exact tokens) ≡ expression_in saturated tokens
-expression_capped tokens = read_capped tokens (pending [] None)
+pub expression_capped : (tokens : List Token) → option_map capped (expression_in exact tokens) ≡ expression_in saturated_number tokens
+expression_capped tokens = read_capped tokens (open_expression [] None)
 
 -- ---- numbers that aren't above the greatest i64
 

@@ -8,10 +8,10 @@ use Rattle.pct_ask.specs.Tokens.{Token, Word, Symbol}
 use Rattle.pct_ask.specs.declared.names.NameKind.{NameKind}
 use Rattle.pct_ask.specs.declared.names.NameKind.TheVariants as kinds
 use Rattle.script_tree.specs.Forms.{kind_word}
-use Rattle.script_tree.specs.Lines.{valued, values_of, just_thread}
+use Rattle.script_tree.specs.Lines.{declared_value, values_of, just_thread}
 use Rattle.script_parse.specs.Part.{Part}
 
-pub valueless_at : (word : List ℕ) (rest : List Token) (kind : NameKind) → bytes_eq word (kind_word kind) ≡ false → valued kind (Word word ∷ rest) ≡ None
+pub valueless_at : (word : List ℕ) (rest : List Token) (kind : NameKind) → bytes_eq word (kind_word kind) ≡ false → declared_value kind (Word word ∷ rest) ≡ None
 valueless_at word [] kind h = refl
 valueless_at word (Word name ∷ []) kind h = refl
 valueless_at word (Word name ∷ Symbol signs ∷ rest) kind h = rw h refl
@@ -25,7 +25,7 @@ threadless_at word (Word name ∷ Word other ∷ rest) h = refl
 threadless_at word rest h = refl
 
 pub values_push : (kind : NameKind) (lines : List (List Token)) (line : List Token) → values_of kind (lines ++ line ∷ []) ≡ values_of kind lines ++ values_of kind (line ∷ [])
-values_push kind lines line = filter_map-append (valued kind) lines (line ∷ [])
+values_push kind lines line = filter_map-append (declared_value kind) lines (line ∷ [])
 
 -- the values of the declarations of lines
 pub record AreValues (part : Part) (lines : List (List Token)) : Type 0 where
@@ -34,7 +34,7 @@ pub record AreValues (part : Part) (lines : List (List Token)) : Type 0 where
   pub barriers : values_of kinds.Barrier lines ≡ part.barriers
 
 -- a line without a first value
-pub no_value_more : (part next : Part) (lines : List (List Token)) (line : List Token) → ((kind : NameKind) → valued kind line ≡ None) → next.vars ≡ part.vars → next.sems ≡ part.sems → next.barriers ≡ part.barriers → AreValues part lines → AreValues next (lines ++ line ∷ [])
+pub no_value_more : (part next : Part) (lines : List (List Token)) (line : List Token) → ((kind : NameKind) → declared_value kind line ≡ None) → next.vars ≡ part.vars → next.sems ≡ part.sems → next.barriers ≡ part.barriers → AreValues part lines → AreValues next (lines ++ line ∷ [])
 no_value_more part next lines line none v s b h = record {
   vars = values_push kinds.Var lines line ∙ rw (none kinds.Var) (append-nil (values_of kinds.Var lines) ∙ h.vars ∙ sym v);
   sems = values_push kinds.Sem lines line ∙ rw (none kinds.Sem) (append-nil (values_of kinds.Sem lines) ∙ h.sems ∙ sym s);

@@ -15,7 +15,7 @@ use Rattle.script_tree.specs.Trees.{Expression}
 use Rattle.script_tree.specs.Trees as trees
 use Rattle.script_tree.specs.Expressions.{IsSpelled, number, register, enclosed, minus, not, two, stronger, signs_of, strength, left_level, register_word}
 use Rattle.script_parse.specs.Registers.{register_in}
-use Rattle.script_parse.specs.Machine.{Frame, Paren, Not, Minus, Two, Pending, pending, operator_in, reduced, chains, joined, closed, begun, joined_by, behind, step, step_at, whole, finished_at, read_from, expression_in}
+use Rattle.script_parse.specs.Machine.{Frame, Paren, Not, Minus, Two, OpenExpression, open_expression, operator_in, reduced_value, chains, with_operator, with_bracket, with_value_token, joined_by, behind, token_step, token_step_at, whole, finished_at, expression_from, expression_in}
 use Rattle.script_parse.proofs.Choices.{some, some_is, chosen, passed, unfailed, mapped_some, bind_some, same_bytes}
 use Rattle.script_parse.proofs.Operators.{strength_few, left_few}
 use Rattle.script_parse.proofs.ExpressionWhole.{exact, Accepts, accepts_more}
@@ -59,7 +59,7 @@ IsPartAt frames None front = Stands frames front
 IsPartAt frames (Some value) front = HasValue 6 frames value front
 
 -- these tokens were read so far
-abbrev IsPart : Pending → List Token → Type 0
+abbrev IsPart : OpenExpression → List Token → Type 0
 IsPart p front = IsPartAt p.frames p.value front
 
 five_accepted : (frames : List Frame) → Accepts 5 frames
@@ -122,7 +122,7 @@ two_taken level op left frames value front h = record {
       ∙ ap (λ (ts : List Token). h.stands.0 ++ ts) (regroup h.stands.1 (Symbol (signs_of op)) h.tokens);
 }
 
-is_reduced : (low : ℕ) (frames : List Frame) (value : Expression) (level : ℕ) (front : List Token) → low ≤ 5 → low ≤ level → HasValue level frames value front → IsReduced low (reduced low frames value) front
+is_reduced : (low : ℕ) (frames : List Frame) (value : Expression) (level : ℕ) (front : List Token) → low ≤ 5 → low ≤ level → HasValue level frames value front → IsReduced low (reduced_value low frames value) front
 is_reduced low [] value level front few above h = record { level = level; above = above; has = h; waits = tt }
 is_reduced low (Paren ∷ frames) value level front few above h = record { level = level; above = above; has = h; waits = tt }
 is_reduced low (Not ∷ frames) value level front few above h = is_reduced low frames (trees.Not value) 5 front few few (not_taken level frames value front h)
@@ -173,15 +173,15 @@ weak op (Not ∷ frames) c w = absurd w
 weak op (Minus ∷ frames) c w = absurd w
 weak op (Two other left ∷ frames) c w = let few : left_level op ≤ strength op + 1 = left_few op in grind (arith, nat_tests)
 
-joined_next : (op : Op) (frames : List Frame) (value : Expression) (p : Pending) (front : List Token) → joined op (frames, value) ≡ Some p → IsReduced (left_level op) (frames, value) front → IsPart p (front ++ Symbol (signs_of op) ∷ [])
+joined_next : (op : Op) (frames : List Frame) (value : Expression) (p : OpenExpression) (front : List Token) → with_operator op (frames, value) ≡ Some p → IsReduced (left_level op) (frames, value) front → IsPart p (front ++ Symbol (signs_of op) ∷ [])
 joined_next op frames value p front e r =
     let h = r.has in
-    let u = unfailed (chains op frames) (some (pending (Two op value ∷ frames) None)) p e in
+    let u = unfailed (chains op frames) (some (open_expression (Two op value ∷ frames) None)) p e in
     let sign : Token = Symbol (signs_of op) in
-    subst (λ (q : Pending). IsPart q (front ++ sign ∷ [])) (some_is (pending (Two op value ∷ frames) None) p u.1)
+    subst (λ (q : OpenExpression). IsPart q (front ++ sign ∷ [])) (some_is (open_expression (Two op value ∷ frames) None) p u.1)
     (h.before, h.tokens, h.stands, weak op frames u.0 r.waits, down (left_level op) r.level h.tokens value r.above h.spelled, ap (λ (ts : List Token). ts ++ sign ∷ []) h.front_is ∙ append_assoc h.before h.tokens (sign ∷ []))
 
-closed_next : (frames : List Frame) (value : Expression) (p : Pending) (front : List Token) → closed frames value ≡ Some p → IsReduced 0 (frames, value) front → IsPart p (front ++ Symbol (codes ")") ∷ [])
+closed_next : (frames : List Frame) (value : Expression) (p : OpenExpression) (front : List Token) → with_bracket frames value ≡ Some p → IsReduced 0 (frames, value) front → IsPart p (front ++ Symbol (codes ")") ∷ [])
 closed_next [] value p front e r = absurd cc
 closed_next (Not ∷ frames) value p front e r = absurd cc
 closed_next (Minus ∷ frames) value p front e r = absurd cc
@@ -190,7 +190,7 @@ closed_next (Paren ∷ frames) value p front e r =
     let h = r.has in
     let end : List Token = Symbol (codes ")") ∷ [] in
     let begin : Token = Symbol (codes "(") in
-    subst (λ (q : Pending). IsPart q (front ++ end)) (some_is (pending frames (Some value)) p e) (record {
+    subst (λ (q : OpenExpression). IsPart q (front ++ end)) (some_is (open_expression frames (Some value)) p e) (record {
       before = h.stands.0;
       tokens = begin ∷ (h.tokens ++ end);
       stands = h.stands.1;
@@ -200,51 +200,52 @@ closed_next (Paren ∷ frames) value p front e r =
     })
 
 module _ (number_of : List ℕ → ℤ) (is_exact : (digits : List ℕ) → number_of digits ≡ exact digits) where
-  begun_symbol : (frames : List Frame) (signs : List ℕ) (p : Pending) (front : List Token) → Stands frames front → begun number_of frames (Symbol signs) ≡ Some p → IsPart p (front ++ Symbol signs ∷ [])
+  begun_symbol : (frames : List Frame) (signs : List ℕ) (p : OpenExpression) (front : List Token) → Stands frames front → with_value_token number_of frames (Symbol signs) ≡ Some p → IsPart p (front ++ Symbol signs ∷ [])
   begun_symbol frames signs p front h e =
-      elim (chosen (bytes_eq signs (codes "(")) (some (pending (Paren ∷ frames) None)) _ (Some p) e) [
-        | inl c ↦ subst (λ (q : Pending). IsPart q (front ++ Symbol signs ∷ [])) (some_is (pending (Paren ∷ frames) None) p c.1)
+      elim (chosen (bytes_eq signs (codes "(")) (some (open_expression (Paren ∷ frames) None)) _ (Some p) e) [
+        | inl c ↦ subst (λ (q : OpenExpression). IsPart q (front ++ Symbol signs ∷ [])) (some_is (open_expression (Paren ∷ frames) None) p c.1)
             (front, h, ap (λ (w : List ℕ). front ++ Symbol w ∷ []) (same_bytes signs (codes "(") c.0))
-        | inr c ↦ elim (chosen (bytes_eq signs (codes "-")) (some (pending (Minus ∷ frames) None)) _ (Some p) c.1) [
-          | inl d ↦ subst (λ (q : Pending). IsPart q (front ++ Symbol signs ∷ [])) (some_is (pending (Minus ∷ frames) None) p d.1)
+        | inr c ↦ elim (chosen (bytes_eq signs (codes "-")) (some (open_expression (Minus ∷ frames) None)) _ (Some p) c.1) [
+          | inl d ↦ subst (λ (q : OpenExpression). IsPart q (front ++ Symbol signs ∷ [])) (some_is (open_expression (Minus ∷ frames) None) p d.1)
               (front, h, ap (λ (w : List ℕ). front ++ Symbol w ∷ []) (same_bytes signs (codes "-") d.0))
-          | inr d ↦ let n = passed (bytes_eq signs (codes "!")) (some (pending (Not ∷ frames) None)) p d.1 in
-              subst (λ (q : Pending). IsPart q (front ++ Symbol signs ∷ [])) (some_is (pending (Not ∷ frames) None) p n.1)
+          | inr d ↦ let n = passed (bytes_eq signs (codes "!")) (some (open_expression (Not ∷ frames) None)) p d.1 in
+              subst (λ (q : OpenExpression). IsPart q (front ++ Symbol signs ∷ [])) (some_is (open_expression (Not ∷ frames) None) p n.1)
               (front, h, ap (λ (w : List ℕ). front ++ Symbol w ∷ []) (same_bytes signs (codes "!") n.0))
         ]
       ]
 
-  begun_next : (frames : List Frame) (token : Token) (p : Pending) (front : List Token) → Stands frames front → begun number_of frames token ≡ Some p → IsPart p (front ++ token ∷ [])
+  begun_next : (frames : List Frame) (token : Token) (p : OpenExpression) (front : List Token) → Stands frames front → with_value_token number_of frames token ≡ Some p → IsPart p (front ++ token ∷ [])
   begun_next frames (Symbol signs) p front h e = begun_symbol frames signs p front h e
   begun_next frames (Number digits) p front h e =
-      let same : pending frames (Some (trees.Number (exact digits))) ≡ p = ap (λ (n : ℤ). pending frames (Some (trees.Number n))) (sym (is_exact digits)) ∙ some_is (pending frames (Some (trees.Number (number_of digits)))) p e in
-      subst (λ (q : Pending). IsPart q (front ++ Number digits ∷ [])) same (value_next frames front (Number digits) (trees.Number (exact digits)) h (number digits))
+      let same : open_expression frames (Some (trees.Number (exact digits))) ≡ p = ap (λ (n : ℤ). open_expression frames (Some (trees.Number n))) (sym (is_exact digits)) ∙ some_is (open_expression frames (Some (trees.Number (number_of digits)))) p e in
+      subst (λ (q : OpenExpression). IsPart q (front ++ Number digits ∷ [])) same (value_next frames front (Number digits) (trees.Number (exact digits)) h (number digits))
   begun_next frames (Word word) p front h e =
-      let m = mapped_some (λ (r : ℕ). pending frames (Some (trees.Reg r))) (register_in word) p e in
+      let m = mapped_some (λ (r : ℕ). open_expression frames (Some (trees.Reg r)))
+      (register_in word) p e in
       let r = register_says word m.0 m.1 in
       let spelled : IsSpelled 6 (Word word ∷ []) (trees.Reg m.0) = subst (λ (w : List ℕ). IsSpelled 6 (Word w ∷ []) (trees.Reg m.0)) r.1 (register m.0 r.0) in
-      subst (λ (q : Pending). IsPart q (front ++ Word word ∷ [])) m.2 (value_next frames front (Word word) (trees.Reg m.0) h spelled)
+      subst (λ (q : OpenExpression). IsPart q (front ++ Word word ∷ [])) m.2 (value_next frames front (Word word) (trees.Reg m.0) h spelled)
 
-  joined_by_next : (found : Option Op) (signs : List ℕ) (frames : List Frame) (value : Expression) (p : Pending) (front : List Token) → operator_in signs ≡ found → joined_by found frames value ≡ Some p → HasValue 6 frames value front → IsPart p (front ++ Symbol signs ∷ [])
+  joined_by_next : (found : Option Op) (signs : List ℕ) (frames : List Frame) (value : Expression) (p : OpenExpression) (front : List Token) → operator_in signs ≡ found → joined_by found frames value ≡ Some p → HasValue 6 frames value front → IsPart p (front ++ Symbol signs ∷ [])
   joined_by_next None signs frames value p front f e h = absurd cc
   joined_by_next (Some op) signs frames value p front f e h =
-      let done = reduced (left_level op) frames value in
+      let done = reduced_value (left_level op) frames value in
       let few : left_level op ≤ 5 = omega (arith, left_few op, strength_few op) in
       subst (λ (w : List ℕ). IsPart p (front ++ Symbol w ∷ [])) (sym (operator_says signs op f))
       (joined_next op done.0 done.1 p front e (is_reduced (left_level op) frames value 6 front few (omega arith) h))
 
-  behind_next : (frames : List Frame) (value : Expression) (token : Token) (p : Pending) (front : List Token) → HasValue 6 frames value front → behind frames value token ≡ Some p → IsPart p (front ++ token ∷ [])
+  behind_next : (frames : List Frame) (value : Expression) (token : Token) (p : OpenExpression) (front : List Token) → HasValue 6 frames value front → behind frames value token ≡ Some p → IsPart p (front ++ token ∷ [])
   behind_next frames value (Number digits) p front h e = absurd cc
   behind_next frames value (Word word) p front h e = absurd cc
   behind_next frames value (Symbol signs) p front h e =
-      let done = reduced 0 frames value in
-      elim (chosen (bytes_eq signs (codes ")")) (closed done.0 done.1) _ (Some p) e) [
+      let done = reduced_value 0 frames value in
+      elim (chosen (bytes_eq signs (codes ")")) (with_bracket done.0 done.1) _ (Some p) e) [
         | inl c ↦ subst (λ (w : List ℕ). IsPart p (front ++ Symbol w ∷ [])) (sym (same_bytes signs (codes ")") c.0))
             (closed_next done.0 done.1 p front c.1 (is_reduced 0 frames value 6 front (omega arith) (omega arith) h))
         | inr c ↦ joined_by_next (operator_in signs) signs frames value p front refl c.1 h
       ]
 
-  step_next : (frames : List Frame) (value : Option Expression) (token : Token) (p : Pending) (front : List Token) → IsPartAt frames value front → step_at number_of frames value token ≡ Some p → IsPart p (front ++ token ∷ [])
+  step_next : (frames : List Frame) (value : Option Expression) (token : Token) (p : OpenExpression) (front : List Token) → IsPartAt frames value front → token_step_at number_of frames value token ≡ Some p → IsPart p (front ++ token ∷ [])
   step_next frames None token p front h e = begun_next frames token p front h e
   step_next frames (Some value) token p front h e = behind_next frames value token p front h e
 
@@ -258,16 +259,17 @@ module _ (number_of : List ℕ → ℤ) (is_exact : (digits : List ℕ) → numb
   finished_sound : (frames : List Frame) (value : Option Expression) (tree : Expression) (front : List Token) → IsPartAt frames value front → finished_at frames value ≡ Some tree → IsSpelled 0 front tree
   finished_sound frames None tree front h e = absurd cc
   finished_sound frames (Some value) tree front h e =
-      let done = reduced 0 frames value in
+      let done = reduced_value 0 frames value in
       whole_sound done.0 done.1 tree front e (is_reduced 0 frames value 6 front (omega arith) (omega arith) h)
 
-  read_sound : (tokens : List Token) (p : Pending) (tree : Expression) (front : List Token) → IsPart p front → read_from number_of p tokens ≡ Some tree → IsSpelled 0 (front ++ tokens) tree
+  read_sound : (tokens : List Token) (p : OpenExpression) (tree : Expression) (front : List Token) → IsPart p front → expression_from number_of p tokens ≡ Some tree → IsSpelled 0 (front ++ tokens) tree
   read_sound [] p tree front h e = subst (λ (ts : List Token). IsSpelled 0 ts tree) (sym (append-nil front)) (finished_sound p.frames p.value tree front h e)
   read_sound (token ∷ tokens) p tree front h e =
-      let b = bind_some (λ next. read_from number_of next tokens) (step number_of p token) tree e in
+      let b = bind_some (λ next. expression_from number_of next tokens)
+      (token_step number_of p token) tree e in
       subst (λ (ts : List Token). IsSpelled 0 ts tree) (append_assoc front (token ∷ []) tokens)
       (read_sound tokens b.0 tree (front ++ token ∷ []) (step_next p.frames p.value token b.0 front h b.1) b.2)
 
   -- what tokens are read as they spell
   pub expression_is_spelled : (tokens : List Token) (tree : Expression) → expression_in number_of tokens ≡ Some tree → IsSpelled 0 tokens tree
-  expression_is_spelled tokens tree e = read_sound tokens (pending [] None) tree [] refl e
+  expression_is_spelled tokens tree e = read_sound tokens (open_expression [] None) tree [] refl e

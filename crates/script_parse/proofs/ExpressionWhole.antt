@@ -11,7 +11,7 @@ use Rattle.script_tree.specs.declared.expr.Op.{Op}
 use Rattle.script_tree.specs.Trees.{Expression}
 use Rattle.script_tree.specs.Trees as trees
 use Rattle.script_tree.specs.Expressions.{IsSpelled, number, register, enclosed, minus, not, two, stronger, signs_of, strength, left_level, register_word}
-use Rattle.script_parse.specs.Machine.{Frame, Paren, Not, Minus, Two, pending, reduced, chains, read_from, expression_in}
+use Rattle.script_parse.specs.Machine.{Frame, Paren, Not, Minus, Two, open_expression, reduced_value, chains, expression_from, expression_in}
 use Rattle.pct_ask.specs.NameLists.{AreDistinct}
 use Rattle.script_parse.specs.Registers.{register_in}
 use Rattle.script_parse.proofs.Fresh.{place_at}
@@ -55,17 +55,17 @@ follows_more level more (Word word ∷ tokens) h f = f
 
 module _ (number_of : List ℕ → ℤ) where
   abbrev goes : List Frame → Expression → List Token → Option Expression
-  goes frames value tokens = read_from number_of (pending frames (Some value)) tokens
+  goes frames value tokens = expression_from number_of (open_expression frames (Some value)) tokens
 
   same_by_symbol : (frames others : List Frame) (value other : Expression) (signs : List ℕ) (tokens : List Token) (level : ℕ)
-      → ((l : ℕ) → l ≤ level → reduced l frames value ≡ reduced l others other) → Follows level (Symbol signs ∷ tokens) → goes frames value (Symbol signs ∷ tokens) ≡ goes others other (Symbol signs ∷ tokens)
+      → ((l : ℕ) → l ≤ level → reduced_value l frames value ≡ reduced_value l others other) → Follows level (Symbol signs ∷ tokens) → goes frames value (Symbol signs ∷ tokens) ≡ goes others other (Symbol signs ∷ tokens)
   same_by_symbol frames others value other signs tokens level same (inl e) = rw (e, same 0 (omega arith)) refl
   same_by_symbol frames others value other signs tokens level same (inr f) =
       rw (f.1, no_parenthesis f.0, operator_at f.0, same (left_level f.0) f.2) refl
 
   -- two stacks with their values that are the same once they are reduced go on alike
   same_goes : (frames others : List Frame) (value other : Expression) (tokens : List Token) (level : ℕ)
-      → ((l : ℕ) → l ≤ level → reduced l frames value ≡ reduced l others other) → Follows level tokens → goes frames value tokens ≡ goes others other tokens
+      → ((l : ℕ) → l ≤ level → reduced_value l frames value ≡ reduced_value l others other) → Follows level tokens → goes frames value tokens ≡ goes others other tokens
   same_goes frames others value other [] level same f = rw (same 0 (omega arith)) refl
   same_goes frames others value other (Symbol signs ∷ tokens) level same f = same_by_symbol frames others value other signs tokens level same f
   same_goes frames others value other (Number digits ∷ tokens) level same f = absurd f
@@ -78,7 +78,7 @@ module _ (number_of : List ℕ → ℤ) where
 -- ---- the whole expression
 
 -- nothing that waits takes the left part of an operator that it waits for
-kept : (op : Op) (value : Expression) (frames : List Frame) → Accepts (strength op) frames → reduced (left_level op) frames value ≡ (frames, value)
+kept : (op : Op) (value : Expression) (frames : List Frame) → Accepts (strength op) frames → reduced_value (left_level op) frames value ≡ (frames, value)
 kept op value [] a = refl
 kept op value (Paren ∷ frames) a = refl
 kept op value (Not ∷ frames) a = absurd (omega (arith, strength_few op))
@@ -103,17 +103,17 @@ register_read reg h = place_at registers reg distinct_registers h
 module _ (number_of : List ℕ → ℤ) (is_exact : (digits : List ℕ) → number_of digits ≡ exact digits) where
   -- an operator behind its left part waits for its right part
   joins : (op : Op) (value : Expression) (frames : List Frame) (tokens : List Token) → Accepts (strength op) frames
-      → read_from number_of (pending frames (Some value)) (Symbol (signs_of op) ∷ tokens) ≡ read_from number_of (pending (Two op value ∷ frames) None) tokens
+      → expression_from number_of (open_expression frames (Some value)) (Symbol (signs_of op) ∷ tokens) ≡ expression_from number_of (open_expression (Two op value ∷ frames) None) tokens
   joins op value frames tokens a = rw (no_parenthesis op, operator_at op, kept op value frames a, unchained op frames a) refl
 
   -- tokens that spell a part are read as it, whatever may follow
   pub part_is_read : (level : ℕ) (tokens : List Token) (tree : Expression) → IsSpelled level tokens tree
       → (frames : List Frame) → Accepts level frames → (rest : List Token) → Follows level rest
-      → read_from number_of (pending frames None) (tokens ++ rest) ≡ read_from number_of (pending frames (Some tree)) rest
-  part_is_read _ _ _ (number digits) frames a rest f = ap (λ (n : ℤ). read_from number_of (pending frames (Some (trees.Number n))) rest) (is_exact digits)
+      → expression_from number_of (open_expression frames None) (tokens ++ rest) ≡ expression_from number_of (open_expression frames (Some tree)) rest
+  part_is_read _ _ _ (number digits) frames a rest f = ap (λ (n : ℤ). expression_from number_of (open_expression frames (Some (trees.Number n))) rest) (is_exact digits)
   part_is_read _ _ _ (register reg few) frames a rest f = rw (register_read reg few) refl
   part_is_read _ _ _ (enclosed tokens tree h) frames a rest f =
-      ap (λ (ts : List Token). read_from number_of (pending (Paren ∷ frames) None) ts) (append_assoc tokens (Symbol (codes ")") ∷ []) rest)
+      ap (λ (ts : List Token). expression_from number_of (open_expression (Paren ∷ frames) None) ts) (append_assoc tokens (Symbol (codes ")") ∷ []) rest)
       ∙ part_is_read 0 tokens tree h (Paren ∷ frames) tt (Symbol (codes ")") ∷ rest) (inl refl)
   part_is_read _ _ _ (minus tokens tree h) frames a rest f =
       part_is_read 5 tokens tree h (Minus ∷ frames) (omega arith) rest f
@@ -123,7 +123,7 @@ module _ (number_of : List ℕ → ℤ) (is_exact : (digits : List ℕ) → numb
       ∙ same_goes number_of (Not ∷ frames) frames tree (trees.Not tree) rest 5 (λ l h. refl) f
   part_is_read _ _ _ (two op lefts rights left right hl hr) frames a rest f =
       let sign : Token = Symbol (signs_of op) in
-      ap (λ (ts : List Token). read_from number_of (pending frames None) ts) (append_assoc lefts (sign ∷ rights) rest)
+      ap (λ (ts : List Token). expression_from number_of (open_expression frames None) ts) (append_assoc lefts (sign ∷ rights) rest)
       ∙ part_is_read (left_level op) lefts left hl frames (accepts_more (strength op) frames (left_level op) (left_above op) a) (sign ∷ (rights ++ rest)) (inr (op, refl, omega arith))
       ∙ joins op left frames (rights ++ rest) a
       ∙ part_is_read (strength op + 1) rights right hr (Two op left ∷ frames) (omega arith) rest (follows_more (strength op) (strength op + 1) rest (omega arith) f)
@@ -134,4 +134,4 @@ module _ (number_of : List ℕ → ℤ) (is_exact : (digits : List ℕ) → numb
   -- tokens that spell an expression are read as it
   pub expression_is_read : (tokens : List Token) (tree : Expression) → IsSpelled 0 tokens tree → expression_in number_of tokens ≡ Some tree
   expression_is_read tokens tree h =
-      ap (λ (ts : List Token). read_from number_of (pending [] None) ts) (sym (append-nil tokens)) ∙ part_is_read 0 tokens tree h [] tt [] tt
+      ap (λ (ts : List Token). expression_from number_of (open_expression [] None) ts) (sym (append-nil tokens)) ∙ part_is_read 0 tokens tree h [] tt [] tt

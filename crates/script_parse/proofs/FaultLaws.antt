@@ -9,12 +9,14 @@ use Rattle.pct_ask.specs.Tokens.{tokens_of}
 use Rattle.script_tree.specs.ScriptText.{ScriptText}
 use Rattle.script_tree.specs.declared.fault.ScriptFault.{ScriptFault}
 use Rattle.script_tree.specs.declared.fault.ScriptFault.TheVariants as fault
-use Rattle.script_tree.specs.Forms.{Cut, Meant}
+use Rattle.script_tree.specs.Forms.{TokenForm, MeantForm}
 use Rattle.script_tree.specs.Lines.{tokens_in}
 use Rattle.script_tree.specs.Faults.{Place, so_far_at, leaves_open, lacks_thread, are_blank}
-use Rattle.script_tree.specs.Faults.{IsFirstKind, IsFirstLine, HasForm, judged_lines, IsFirstFault}
+use Rattle.script_tree.specs.Faults.{IsFirstKind, HasNoFaultBefore, HasForm, judged_lines}
+use Rattle.script_tree.specs.Faults.{IsFirstFault}
 use Rattle.script_tree.specs.Faults.{IsFault}
-use Rattle.script_parse.specs.Reading.{is_empty, bytes_fault, blank_text_fault, read, read_from}
+use Rattle.script_parse.specs.Reading.{is_empty, bytes_fault, blank_text_fault, read_as_script}
+use Rattle.script_parse.specs.Reading.{script_from}
 use Rattle.script_parse.proofs.ExpressionWhole.{exact}
 use Rattle.script_parse.proofs.FirstKinds.{first_in, in_order}
 use Rattle.script_parse.proofs.LineFaults.{tells_end_any, tells_thread_any}
@@ -36,13 +38,13 @@ blank_chain false false k s un tw ra ne st nt tm = refl
 blank_first : (line : List ℕ) (rest : List (List ℕ)) → are_blank (line ∷ rest) ≡ true → IsFirstKind (at_place [] line rest) (unwrap_or (bytes_fault 1 line) fault.BadHeader)
 blank_first line rest b =
     let place : Place = at_place [] line rest in
-    let no_form : (cut : Cut) (meant : Meant) → ¬ HasForm place cut meant = λ cut meant h. clash h.is_below.below in
+    let no_form : (cut : TokenForm) (meant : MeantForm) → ¬ HasForm place cut meant = λ cut meant h. clash h.is_below.below in
     let open_behind : Bool = is_empty rest && leaves_open (so_far_at place) (tokens_in line) in
     let threadless : Bool = is_empty rest && lacks_thread (so_far_at place) (tokens_in line) in
     first_formless place true _ false open_behind threadless no_form (always (inr (refl, b))) (tells_token (tokens_of line)) (never (λ h. clash h.0.below))
     (tells_end_any place) (tells_thread_any place) (some_fault (unwrap_or (bytes_fault 1 line) fault.BadHeader)) (blank_chain (not (is_utf8 line)) (nat_lt 256 (length line)) (not (is_some (tokens_of line))) false false false false open_behind false threadless false)
 
-nothing_before : (line : List ℕ) (rest : List (List ℕ)) → IsFirstLine (at_place [] line rest)
+nothing_before : (line : List ℕ) (rest : List (List ℕ)) → HasNoFaultBefore (at_place [] line rest)
 nothing_before line rest front back other kind e f = no_end front back other (sym e)
 
 blank_fault_is : (bytes : List ℕ) (line : List ℕ) (rest : List (List ℕ)) → judged_lines bytes ≡ line ∷ rest → are_blank (line ∷ rest) ≡ true → IsFirstFault bytes 1 (unwrap_or (bytes_fault 1 line) fault.BadHeader)
@@ -90,22 +92,22 @@ lines_tell : (found : Found) (bytes : List ℕ) → length bytes ≤ 1048576 →
 lines_tell (Ok script) bytes small j t = ok_tells script bytes small j t
 lines_tell (Err found) bytes small j t = inr (small, record { place = t.0; of = j ∙ t.1; number_is = t.2; first_line = t.3; first_kind = t.4 })
 
-text_tells : (bytes : List ℕ) → TextTells (read exact bytes) bytes
+text_tells : (bytes : List ℕ) → TextTells (read_as_script exact bytes) bytes
 text_tells bytes = elim (cases_lt 1048576 (length bytes)) [
   | inl large ↦ rw (lt-ltb 1048576 (length bytes) large) (inl (large, refl, refl))
   | inr small ↦ rw (le-ltb 1048576 (length bytes) small) (by_blank (are_blank (lines_of bytes)) refl small)
 ]
   where
-    by_blank : (b : Bool) → are_blank (lines_of bytes) ≡ b → length bytes ≤ 1048576 → TextTells (cond b (Err (1, blank_text_fault (lines_of bytes))) (read_from exact (finder_of (lines_of bytes)) None 1 (lines_of bytes))) bytes
+    by_blank : (b : Bool) → are_blank (lines_of bytes) ≡ b → length bytes ≤ 1048576 → TextTells (cond b (Err (1, blank_text_fault (lines_of bytes))) (script_from exact (finder_of (lines_of bytes)) None 1 (lines_of bytes))) bytes
     by_blank true h small = inr (small, all_blank bytes h)
-    by_blank false h small = lines_tell (read_from exact (finder_of (lines_of bytes)) None 1 (lines_of bytes)) bytes small (judged_are bytes h) (all_tell (lines_of bytes) (lines_of bytes) [] None 1 refl refl h (refl, quiet_none) (none_at_first (lines_of bytes)))
+    by_blank false h small = lines_tell (script_from exact (finder_of (lines_of bytes)) None 1 (lines_of bytes)) bytes small (judged_are bytes h) (all_tell (lines_of bytes) (lines_of bytes) [] None 1 refl refl h (refl, quiet_none) (none_at_first (lines_of bytes)))
 
 -- a text whose reading finds a fault has it
-pub fault_found : (bytes : List ℕ) (n : ℕ) (kind : ScriptFault) → read exact bytes ≡ Err (n, kind) → IsFault bytes n kind
+pub fault_found : (bytes : List ℕ) (n : ℕ) (kind : ScriptFault) → read_as_script exact bytes ≡ Err (n, kind) → IsFault bytes n kind
 fault_found bytes n kind e = subst (λ (f : Found). TextTells f bytes) e (text_tells bytes)
 
 -- a text that is read whole has none
-pub no_fault : (bytes : List ℕ) (script : ScriptText) → read exact bytes ≡ Ok script → (n : ℕ) (kind : ScriptFault) → ¬ IsFault bytes n kind
+pub no_fault : (bytes : List ℕ) (script : ScriptText) → read_as_script exact bytes ≡ Ok script → (n : ℕ) (kind : ScriptFault) → ¬ IsFault bytes n kind
 no_fault bytes script e = subst (λ (f : Found). TextTells f bytes) e (text_tells bytes)
 
 -- ---- a text has one first fault

@@ -15,7 +15,7 @@ use Rattle.script_tree.specs.declared.expr.Op.{Op}
 use Rattle.script_tree.specs.declared.expr.Op.TheVariants as ops
 use Rattle.script_tree.specs.Trees.{Expression}
 use Rattle.script_tree.specs.Expressions.{IsSpelled, number, register, enclosed, minus, not, two, stronger, signs_of}
-use Rattle.script_tree.specs.Forms.{OnVerb, Lock, IntoVerb, Read, Cut, Meant, Plain, Valued, Thread, On, Into, Write, Add, Cas, Wait, Yield, Assert, Set, If, While, End, Else, on_word, into_word, kind_word, on_since, into_since, is_plain, kind_since, tokens_of_form, IsForm, IsOf, Means}
+use Rattle.script_tree.specs.Forms.{OnVerb, Lock, IntoVerb, Read, TokenForm, MeantForm, Plain, Valued, Thread, On, Into, Write, Add, Cas, Wait, Yield, Assert, Set, If, While, End, Else, on_word, into_word, kind_word, on_since, into_since, is_plain, kind_since, tokens_of_form, IsForm, IsFormOf, Means}
 use Rattle.script_parse.specs.Words.{on_verb_in, into_verb_in, kind_in}
 use Rattle.script_parse.specs.Saying.{is_comma, parts_at, lone_form, form_in}
 use Rattle.std.specs.List.{prefix_len}
@@ -75,7 +75,7 @@ first_comma front back h =
 
 -- ---- a form's tokens
 
-form_is_read : (version : ℕ) (cut : Cut) (meant : Meant) → IsOf version cut → Means cut meant → form_in exact version (tokens_of_form cut) ≡ Some meant
+form_is_read : (version : ℕ) (cut : TokenForm) (meant : MeantForm) → IsFormOf version cut → Means cut meant → form_in exact version (tokens_of_form cut) ≡ Some meant
 form_is_read version (Plain kind name) meant of means = rw ((kind_at kind).0, (kind_at kind).1, (kind_at kind).2) (plain_is_read version kind name of.0 of.1 of.2 ∙ ap some (sym means))
 form_is_read version (Valued kind name value) meant of means =
     rw ((kind_at kind).0, (kind_at kind).1, (kind_at kind).2, of.0, of.1) (ap (option_map (Valued kind name)) (value_is_read kind value of.2) ∙ ap some (sym means))
@@ -98,5 +98,5 @@ form_is_read version End meant of means = ap some (sym means)
 form_is_read version Else meant of means = ap some (sym means)
 
 -- the tokens of a form are read as it
-pub form_read : (version : ℕ) (tokens : List Token) (cut : Cut) (meant : Meant) → IsForm version tokens cut meant → form_in exact version tokens ≡ Some meant
+pub form_read : (version : ℕ) (tokens : List Token) (cut : TokenForm) (meant : MeantForm) → IsForm version tokens cut meant → form_in exact version tokens ≡ Some meant
 form_read version tokens cut meant f = ap (form_in exact version) f.spelled ∙ form_is_read version cut meant f.of f.means

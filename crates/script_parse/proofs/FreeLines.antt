@@ -5,14 +5,15 @@ use Rattle.std.specs.Prelude.{◌&&◌, nat_le}
 use Rattle.std.specs.Prelude.{unwrap_or}
 use Rattle.pct_ask.specs.Tokens.{Token, tokens_of}
 use Rattle.pct_ask.specs.declared.names.NameKind.TheVariants as kinds
-use Rattle.script_tree.specs.Forms.{Cut, Meant, tokens_of_form, IsOf, Means, IsForm}
+use Rattle.script_tree.specs.Forms.{TokenForm, MeantForm, tokens_of_form, IsFormOf, Means, IsForm}
 use Rattle.script_tree.specs.Lines.{tokens_in}
 use Rattle.script_tree.specs.Grammar.{Says}
 use Rattle.script_tree.specs.Faults as faults
 use Rattle.script_tree.specs.Faults.{SoFar}
 use Rattle.script_tree.specs.Ranges as ranges
 use Rattle.script_parse.specs.Part.{Part}
-use Rattle.script_parse.specs.Reading.{Finder, is_empty, so_far, form_fault, taken, tokens_taken}
+use Rattle.script_parse.specs.Reading.{Finder, is_empty, so_far_in, form_fault, with_form}
+use Rattle.script_parse.specs.Reading.{tokens_taken}
 use Rattle.script_parse.specs.Saying.{form_in}
 use Rattle.script_parse.proofs.ExpressionWhole.{exact}
 use Rattle.script_parse.proofs.FormWhole.{form_read}
@@ -34,25 +35,25 @@ last_none : (last found : Bool) → (last ≡ true → found ≡ false) → (las
 last_none true found f = f refl
 last_none false found f = refl
 
-module _ (version : ℕ) (part : Part) (find : Finder) (n : ℕ) (last : Bool) (lines : List (List Token)) (s : Stands part lines) (cut : Cut) (meant : Meant) (means : Means cut meant) (of : IsOf version cut) (free : IsFree part find meant) (whole : WholeAfter last (taken part find n meant)) where
-  next_stands : Stands (taken part find n meant) (lines ++ tokens_of_form cut ∷ [])
+module _ (version : ℕ) (part : Part) (find : Finder) (n : ℕ) (last : Bool) (lines : List (List Token)) (s : Stands part lines) (cut : TokenForm) (meant : MeantForm) (means : Means cut meant) (of : IsFormOf version cut) (free : IsFree part find meant) (whole : WholeAfter last (with_form part find n meant)) where
+  next_stands : Stands (with_form part find n meant) (lines ++ tokens_of_form cut ∷ [])
   next_stands = taken_stands version part find n lines s cut meant means of free.closes
 
   abbrev line : List Token
   line = tokens_of_form cut
 
   said_same : (test : SoFar → List Token → Bool)
-      → test (faults.so_far lines) line ≡ test (so_far part) line
+      → test (faults.so_far lines) line ≡ test (so_far_in part) line
   said_same test = ap (λ (read : SoFar). test read line) (same_so_far part lines s)
 
-  none_open : last ≡ true → faults.leaves_open (so_far part) line ≡ false
+  none_open : last ≡ true → faults.leaves_open (so_far_in part) line ≡ false
   none_open e =
       sym (leaves_open_same lines line (omega (arith, s.depths))
       ∙ said_same faults.leaves_open)
-      ∙ ap (nat_le 1) (depth_is (taken part find n meant) (lines ++ line ∷ []) next_stands
+      ∙ ap (nat_le 1) (depth_is (with_form part find n meant) (lines ++ line ∷ []) next_stands
       ∙ (whole e).closed)
 
-  a_thread : last ≡ true → faults.lacks_thread (so_far part) line ≡ false
+  a_thread : last ≡ true → faults.lacks_thread (so_far_in part) line ≡ false
   a_thread e =
       sym (lacks_thread_same lines line ∙ said_same faults.lacks_thread)
       ∙ ap is_empty (next_stands.names kinds.Thread) ∙ (whole e).threads
@@ -60,8 +61,8 @@ module _ (version : ℕ) (part : Part) (find : Finder) (n : ℕ) (last : Bool) (
   no_fault : ranges.is_out_of_range line meant ≡ false
       → form_fault part find last line meant ≡ None
   no_fault range =
-      let closed = last_none last (faults.leaves_open (so_far part) line) none_open in
-      let some = last_none last (faults.lacks_thread (so_far part) line) a_thread in
+      let closed = last_none last (faults.leaves_open (so_far_in part) line) none_open in
+      let some = last_none last (faults.lacks_thread (so_far_in part) line) a_thread in
       rw (free.stands, free.known, free.fresh, range, closed, free.closes, some, free.few) refl
 
   pub no_form_fault : (tokens : List Token) → tokens ≡ tokens_of_form cut
@@ -72,20 +73,20 @@ module _ (version : ℕ) (part : Part) (find : Finder) (n : ℕ) (last : Bool) (
       subst (λ (ts : List Token). ranges.is_out_of_range ts meant ≡ false) spelled range in
       ap (λ (ts : List Token). form_fault part find last ts meant) spelled ∙ no_fault in_range
 
-module _ (part : Part) (find : Finder) (n : ℕ) (last : Bool) (lines : List (List Token)) (s : Stands part lines) (text : List ℕ) (meant : Meant) (says : Says part.version text meant) (free : IsFree part find meant) (whole : WholeAfter last (taken part find n meant)) where
+module _ (part : Part) (find : Finder) (n : ℕ) (last : Bool) (lines : List (List Token)) (s : Stands part lines) (text : List ℕ) (meant : MeantForm) (says : Says part.version text meant) (free : IsFree part find meant) (whole : WholeAfter last (with_form part find n meant)) where
   formed : (tokens : List Token) → tokens_in text ≡ tokens → IsForm part.version tokens says.0 meant
   formed tokens e = subst (λ (ts : List Token). IsForm part.version ts says.0 meant) e says.1
 
   read_form : (tokens : List Token) → tokens_in text ≡ tokens → form_in exact part.version tokens ≡ Some meant
   read_form tokens e = form_read part.version tokens says.0 meant (formed tokens e)
 
-  none_some : (m : Meant) → None ≡ Some m → ⊥
+  none_some : (m : MeantForm) → None ≡ Some m → ⊥
   none_some m e = absurd cc
 
   in_range : (tokens : List Token) → tokens_in text ≡ tokens → ranges.is_out_of_range tokens meant ≡ false
   in_range tokens here = subst (λ (ts : List Token). ranges.is_out_of_range ts meant ≡ false) here says.2
 
-  pub said_taken : (tokens : Option (List Token)) → tokens_of text ≡ tokens → tokens_taken exact part find n last tokens ≡ Ok (taken part find n meant)
+  pub said_taken : (tokens : Option (List Token)) → tokens_of text ≡ tokens → tokens_taken exact part find n last tokens ≡ Ok (with_form part find n meant)
   said_taken None e = absurd (none_some meant (read_form [] (ap (λ (ts : Option (List Token)). unwrap_or ts []) e)))
   said_taken (Some []) e = absurd (none_some meant (read_form [] (ap (λ (ts : Option (List Token)). unwrap_or ts []) e)))
   said_taken (Some (token ∷ tokens)) e =

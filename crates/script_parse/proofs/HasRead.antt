@@ -16,7 +16,7 @@ use Rattle.script_tree.specs.Forms.{is_plain, has_value, kind_since}
 use Rattle.script_tree.specs.Fitting.{most_threads, rwlocks_fit, thread_fits}
 use Rattle.script_tree.specs.Grammar.{Line, declares, all_thread_lines}
 use Rattle.script_parse.specs.Part.{Open, Part}
-use Rattle.script_parse.specs.Reading.{with_value, named}
+use Rattle.script_parse.specs.Reading.{with_first_value, with_declared}
 use Rattle.script_parse.proofs.StatementFits.{with_threads}
 use Rattle.script_parse.proofs.OpenBlocks.{IsOpen}
 
@@ -80,7 +80,7 @@ rwlock_known : (version : ℕ) (rwlocks : List (List ℕ)) → 3 ≤ version →
 rwlock_known version rwlocks h = rw (le-leb 3 version h) refl
 
 -- one more name
-pub names_more : (part : Part) (kind : NameKind) (name : List ℕ) → HaveNames part → is_name part.version name ≡ true → is_among name (all_names part.names) ≡ false → length (list_of kind part.names) < 64 → kind_since kind ≤ part.version → (kind ≡ kinds.Thread → length part.names.threads < most_threads part.version) → HaveNames (named part kind name)
+pub names_more : (part : Part) (kind : NameKind) (name : List ℕ) → HaveNames part → is_name part.version name ≡ true → is_among name (all_names part.names) ≡ false → length (list_of kind part.names) < 64 → kind_since kind ≤ part.version → (kind ≡ kinds.Thread → length part.names.threads < most_threads part.version) → HaveNames (with_declared part kind name)
 names_more part kind name h l f r v t = record {
   are_names = with_name_push kind part.names name h.are_names (is_name-first part.version name l) f r;
   lawful = λ k. lawful_push part.version kind k part.names name h.lawful l;
@@ -99,16 +99,16 @@ names_more part kind name h l f r v t = record {
 
 -- ---- values
 
-pub plain_values : (part : Part) (kind : NameKind) (name : List ℕ) → is_plain kind ≡ true → HaveValues part → HaveValues (named part kind name)
+pub plain_values : (part : Part) (kind : NameKind) (name : List ℕ) → is_plain kind ≡ true → HaveValues part → HaveValues (with_declared part kind name)
 plain_values part kinds.Mutex name p h = record { same_vars = h.same_vars; same_sems = h.same_sems; same_barriers = h.same_barriers; sem_values = h.sem_values; barrier_counts = h.barrier_counts }
 plain_values part kinds.Cond name p h = record { same_vars = h.same_vars; same_sems = h.same_sems; same_barriers = h.same_barriers; sem_values = h.sem_values; barrier_counts = h.barrier_counts }
 plain_values part kinds.RwLock name p h = record { same_vars = h.same_vars; same_sems = h.same_sems; same_barriers = h.same_barriers; sem_values = h.sem_values; barrier_counts = h.barrier_counts }
 plain_values part kind name p h = absurd cc
 
-pub thread_values : (part : Part) (name : List ℕ) → HaveValues part → HaveValues (named part kinds.Thread name)
+pub thread_values : (part : Part) (name : List ℕ) → HaveValues part → HaveValues (with_declared part kinds.Thread name)
 thread_values part name h = record { same_vars = h.same_vars; same_sems = h.same_sems; same_barriers = h.same_barriers; sem_values = h.sem_values; barrier_counts = h.barrier_counts }
 
-pub valued_values : (part : Part) (kind : NameKind) (name : List ℕ) (value : ℤ) → has_value kind ≡ true → (kind ≡ kinds.Sem → IsSemValue value) → (kind ≡ kinds.Barrier → IsBarrierCount value) → HaveValues part → HaveValues (with_value kind value (named part kind name))
+pub valued_values : (part : Part) (kind : NameKind) (name : List ℕ) (value : ℤ) → has_value kind ≡ true → (kind ≡ kinds.Sem → IsSemValue value) → (kind ≡ kinds.Barrier → IsBarrierCount value) → HaveValues part → HaveValues (with_first_value kind value (with_declared part kind name))
 valued_values part kinds.Var name value p s b h = record { same_vars = omega (arith, h.same_vars, length_push part.vars value, length_push part.names.vars name); same_sems = h.same_sems; same_barriers = h.same_barriers; sem_values = h.sem_values; barrier_counts = h.barrier_counts }
 valued_values part kinds.Sem name value p s b h = record { same_vars = h.same_vars; same_sems = omega (arith, h.same_sems, length_push part.sems value, length_push part.names.sems name); same_barriers = h.same_barriers; sem_values = All-push IsSemValue part.sems value h.sem_values (s refl); barrier_counts = h.barrier_counts }
 valued_values part kinds.Barrier name value p s b h = record { same_vars = h.same_vars; same_sems = h.same_sems; same_barriers = omega (arith, h.same_barriers, length_push part.barriers value, length_push part.names.barriers name); sem_values = h.sem_values; barrier_counts = All-push IsBarrierCount part.barriers value h.barrier_counts (b refl) }

@@ -12,14 +12,14 @@ use Rattle.pct_ask.specs.declared.names.NameKind.{NameKind}
 use Rattle.pct_ask.specs.declared.names.NameKind.TheVariants as kinds
 use Rattle.script_tree.specs.Trees.{Expression, Statement, closed_at}
 use Rattle.script_tree.specs.Trees as trees
-use Rattle.script_tree.specs.Forms.{Cut, Meant, Plain, Valued, Thread, On, Into, Write, Add, Cas, Wait, Yield, Assert, Set, If, While, End, Else, is_plain, has_value, value_in, kind_since, on_kind, into_kind, IsOf, Means}
+use Rattle.script_tree.specs.Forms.{TokenForm, MeantForm, Plain, Valued, Thread, On, Into, Write, Add, Cas, Wait, Yield, Assert, Set, If, While, End, Else, is_plain, has_value, value_in, kind_since, on_kind, into_kind, IsFormOf, Means}
 use Rattle.script_tree.specs.Ranges.{value_fits}
 use Rattle.script_tree.specs.Fitting.{line_fits, most_threads}
 use Rattle.script_tree.specs.Grammar.{Line}
 use Rattle.script_parse.specs.Part.{Open, Part}
 use Rattle.script_parse.specs.Part as parts
 use Rattle.script_parse.specs.Reading as reading
-use Rattle.script_parse.specs.Reading.{Finder, so_far, is_known, is_empty, is_in_if, form_fault, taken, with_value, named, with_statement, place_in, on_statement, into_statement, statement_on}
+use Rattle.script_parse.specs.Reading.{Finder, so_far_in, is_known_name, is_empty, is_in_if, form_fault, with_form, with_first_value, with_declared, with_statement, place_in, on_statement, into_statement, statement_on}
 use Rattle.script_parse.proofs.Meanings.{ForEach, by_meaning}
 use Rattle.script_parse.proofs.LineFaults.{empty_is}
 use Rattle.script_parse.proofs.StatementFits.{with_threads, finder, meant_fits, IsSaid, IsStatement, said_each}
@@ -71,8 +71,8 @@ module _ (threads : List (List ℕ)) (part : Part) (lines : List Line) (n : ℕ)
   abbrev find : Finder
   find = finder threads
 
-  abbrev Keeps : Cut → Meant → Type 0
-  Keeps cut meant = IsOf part.version cut → meant_fits meant ≡ true → NoFault part (finder threads) tokens meant → HasRead threads (taken part (finder threads) (n + 1) meant) (lines ++ (n + 1, meant) ∷ []) (n + 1)
+  abbrev Keeps : TokenForm → MeantForm → Type 0
+  Keeps cut meant = IsFormOf part.version cut → meant_fits meant ≡ true → NoFault part (finder threads) tokens meant → HasRead threads (with_form part (finder threads) (n + 1) meant) (lines ++ (n + 1, meant) ∷ []) (n + 1)
 
   room_of : {k : ℕ} → nat_le 64 k ≡ false → k < 64
   room_of {k} e = leb-false 64 k e
@@ -81,7 +81,7 @@ module _ (threads : List (List ℕ)) (part : Part) (lines : List Line) (n : ℕ)
   plain_keeps kind name of f w =
       let none : part.names.threads ≡ [] = empty_is part.names.threads w.stands in
       let names = names_more part kind name h.names of.2 w.fresh (room_of w.few) of.1 (λ e. not_thread kind of.0 e) in
-      declared_has threads part (named part kind name) lines n (n + 1, Plain kind name) h none refl names (plain_values part kind name of.0 h.values) (still kind of.0 ∙ none) refl refl refl
+      declared_has threads part (with_declared part kind name) lines n (n + 1, Plain kind name) h none refl names (plain_values part kind name of.0 h.values) (still kind of.0 ∙ none) refl refl refl
     where
       not_thread : {A : Type 0} (kind : NameKind) → is_plain kind ≡ true → kind ≡ kinds.Thread → A
       not_thread kind p e = clash (sym p ∙ ap is_plain e)
@@ -115,16 +115,16 @@ module _ (threads : List (List ℕ)) (part : Part) (lines : List Line) (n : ℕ)
         known_rwlocks = rw (v, n) h.known_rwlocks;
       }
 
-      by_kind : (kind : NameKind) → has_value kind ≡ true → part.names.threads ≡ [] → HaveNames (named part kind name) → value_fits kind value ≡ true → HasRead threads (taken part (finder threads) (n + 1) (Valued kind name value)) (lines ++ (n + 1, Valued kind name value) ∷ []) (n + 1)
+      by_kind : (kind : NameKind) → has_value kind ≡ true → part.names.threads ≡ [] → HaveNames (with_declared part kind name) → value_fits kind value ≡ true → HasRead threads (with_form part (finder threads) (n + 1) (Valued kind name value)) (lines ++ (n + 1, Valued kind name value) ∷ []) (n + 1)
       by_kind kinds.Var p none names g =
-          let next : Part = with_value kinds.Var (unwrap_or (value_in kinds.Var value) (pos 0)) (named part kinds.Var name) in
-          declared_has threads part next lines n (n + 1, Valued kinds.Var name value) h none refl (same_names (named part kinds.Var name) next names refl refl) (valued_values part kinds.Var name _ refl (λ e. absurd cc) (λ e. absurd cc) h.values) none refl refl refl
+          let next : Part = with_first_value kinds.Var (unwrap_or (value_in kinds.Var value) (pos 0)) (with_declared part kinds.Var name) in
+          declared_has threads part next lines n (n + 1, Valued kinds.Var name value) h none refl (same_names (with_declared part kinds.Var name) next names refl refl) (valued_values part kinds.Var name _ refl (λ e. absurd cc) (λ e. absurd cc) h.values) none refl refl refl
       by_kind kinds.Sem p none names g =
-          let next : Part = with_value kinds.Sem (unwrap_or (value_in kinds.Sem value) (pos 0)) (named part kinds.Sem name) in
-          declared_has threads part next lines n (n + 1, Valued kinds.Sem name value) h none refl (same_names (named part kinds.Sem name) next names refl refl) (valued_values part kinds.Sem name _ refl (λ e. sem_value value g) (λ e. absurd cc) h.values) none refl refl refl
+          let next : Part = with_first_value kinds.Sem (unwrap_or (value_in kinds.Sem value) (pos 0)) (with_declared part kinds.Sem name) in
+          declared_has threads part next lines n (n + 1, Valued kinds.Sem name value) h none refl (same_names (with_declared part kinds.Sem name) next names refl refl) (valued_values part kinds.Sem name _ refl (λ e. sem_value value g) (λ e. absurd cc) h.values) none refl refl refl
       by_kind kinds.Barrier p none names g =
-          let next : Part = with_value kinds.Barrier (unwrap_or (value_in kinds.Barrier value) (pos 0)) (named part kinds.Barrier name) in
-          declared_has threads part next lines n (n + 1, Valued kinds.Barrier name value) h none refl (same_names (named part kinds.Barrier name) next names refl refl) (valued_values part kinds.Barrier name _ refl (λ e. absurd cc) (λ e. barrier_value value g) h.values) none refl refl refl
+          let next : Part = with_first_value kinds.Barrier (unwrap_or (value_in kinds.Barrier value) (pos 0)) (with_declared part kinds.Barrier name) in
+          declared_has threads part next lines n (n + 1, Valued kinds.Barrier name value) h none refl (same_names (with_declared part kinds.Barrier name) next names refl refl) (valued_values part kinds.Barrier name _ refl (λ e. absurd cc) (λ e. barrier_value value g) h.values) none refl refl refl
       by_kind kind p none names g = absurd cc
 
   thread_keeps : (name : List ℕ) → Keeps (Thread name) (Thread name)
@@ -133,7 +133,7 @@ module _ (threads : List (List ℕ)) (part : Part) (lines : List Line) (n : ℕ)
       let names = names_more part kinds.Thread name h.names of w.fresh (omega (arith, fewer, most_few part.version)) h.first_version (λ e. fewer) in
       thread_has threads part lines n (n + 1) name h (empty_is part.open_blocks w.stands) names on_line
 
-  said_keeps : (meant : Meant) (s : Statement) → is_empty part.open_blocks ≡ false → IsSaid part.version (with_threads threads part.names) (n + 1) meant s → HasRead threads (reading.said part (Some s)) (lines ++ (n + 1, meant) ∷ []) (n + 1)
+  said_keeps : (meant : MeantForm) (s : Statement) → is_empty part.open_blocks ≡ false → IsSaid part.version (with_threads threads part.names) (n + 1) meant s → HasRead threads (reading.part_with_statement part (Some s)) (lines ++ (n + 1, meant) ∷ []) (n + 1)
   said_keeps meant s some_block is_said =
       let o = some_open part.open_blocks some_block in
       let block = o.0 in
@@ -143,9 +143,9 @@ module _ (threads : List (List ℕ)) (part : Part) (lines : List Line) (n : ℕ)
       let said_ = say part.version (with_threads threads part.names) o.0 o.1 h.current h.body ((n + 1, meant) ∷ []) n (n + 1) s opened (is_said.fits (32 - length o.1)) is_said.lines (omega (arith, is_said.one)) in
       inner_has threads part (with_statement s part.open_blocks) o.0 _ o.1 o.1 lines n (n + 1) (n + 1, meant) h o.2 next (subst (λ (bs : List Open). IsOpen part.version (with_threads threads part.names) bs h.current (h.body ++ (n + 1, meant) ∷ []) (n + 1)) (sym next) said_)
 
-  statement_keeps : (meant : Meant) (s : Statement) → is_empty part.open_blocks ≡ false → statement_on part.names (finder threads) (n + 1) meant ≡ Some s → IsSaid part.version (with_threads threads part.names) (n + 1) meant s → HasRead threads (reading.said part (statement_on part.names (finder threads) (n + 1) meant)) (lines ++ (n + 1, meant) ∷ []) (n + 1)
+  statement_keeps : (meant : MeantForm) (s : Statement) → is_empty part.open_blocks ≡ false → statement_on part.names (finder threads) (n + 1) meant ≡ Some s → IsSaid part.version (with_threads threads part.names) (n + 1) meant s → HasRead threads (reading.part_with_statement part (statement_on part.names (finder threads) (n + 1) meant)) (lines ++ (n + 1, meant) ∷ []) (n + 1)
   statement_keeps meant s some_block e is_said =
-      subst (λ (o : Option Statement). HasRead threads (reading.said part o) (lines ++ (n + 1, meant) ∷ []) (n + 1)) (sym e) (said_keeps meant s some_block is_said)
+      subst (λ (o : Option Statement). HasRead threads (reading.part_with_statement part o) (lines ++ (n + 1, meant) ∷ []) (n + 1)) (sym e) (said_keeps meant s some_block is_said)
 
   each : ForEach (IsStatement part.version threads part.names (n + 1) on_line)
   each = said_each part.version threads part.names (n + 1) on_line
@@ -170,7 +170,7 @@ module _ (threads : List (List ℕ)) (part : Part) (lines : List Line) (n : ℕ)
       inner_has threads part (record { opening = parts.While (n + 1) tree; done = [] } ∷ part.open_blocks) o.0 (record { opening = parts.While (n + 1) tree; done = [] }) o.1 part.open_blocks lines n (n + 1) (n + 1, While tree) h o.2 refl more
 
   abbrev Ends : List Open → Type 0
-  Ends blocks = HasRead threads (reading.ended part blocks (n + 1)) (lines ++ (n + 1, End) ∷ []) (n + 1)
+  Ends blocks = HasRead threads (reading.with_end part blocks (n + 1)) (lines ++ (n + 1, End) ∷ []) (n + 1)
 
   inner_end : (block outer : Open) (more : List Open) (s : Statement) → part.open_blocks ≡ block ∷ outer ∷ more → IsOpen part.version (with_threads threads part.names) (with_statement s (outer ∷ more)) h.current (h.body ++ (n + 1, End) ∷ []) (n + 1)
       → HasRead threads (record part { open_blocks = with_statement s (outer ∷ more) }) (lines ++ (n + 1, End) ∷ []) (n + 1)
@@ -202,12 +202,12 @@ module _ (threads : List (List ℕ)) (part : Part) (lines : List Line) (n : ℕ)
   turns_by (parts.Thread line) done blocks e w = absurd cc
   turns_by opening done blocks e w = absurd cc
 
-  turns_at : (blocks : List Open) → part.open_blocks ≡ blocks → is_in_if blocks ≡ true → HasRead threads (reading.turned part blocks (n + 1)) (lines ++ (n + 1, Else) ∷ []) (n + 1)
+  turns_at : (blocks : List Open) → part.open_blocks ≡ blocks → is_in_if blocks ≡ true → HasRead threads (reading.with_else part blocks (n + 1)) (lines ++ (n + 1, Else) ∷ []) (n + 1)
   turns_at [] e w = absurd cc
   turns_at (block ∷ blocks) e w = turns_by block.opening block.done blocks e w
 
   -- whatever the form is
-  pub form_keeps : (cut : Cut) (meant : Meant) → Means cut meant → Keeps cut meant
+  pub form_keeps : (cut : TokenForm) (meant : MeantForm) → Means cut meant → Keeps cut meant
   form_keeps = by_meaning Keeps (record {
     plain = plain_keeps;
     valued = valued_keeps;

@@ -13,7 +13,7 @@ use Rattle.script_tree.specs.Grammar.{Line, declares, thread_lines, all_thread_l
 use Rattle.script_parse.specs.Part.{Open, Part}
 use Rattle.script_parse.specs.Part as parts
 use Rattle.script_parse.specs.Reading as reading
-use Rattle.script_parse.specs.Reading.{Finder, is_empty, form_fault, taken, with_value, named, with_statement}
+use Rattle.script_parse.specs.Reading.{Finder, is_empty, form_fault, with_form, with_first_value, with_declared, with_statement}
 use Rattle.script_parse.proofs.StatementFits.{with_threads}
 use Rattle.script_parse.proofs.OpenBlocks.{IsOpen, open_lines, open_more, close_thread}
 use Rattle.script_parse.proofs.HasRead.{open_names, HaveNames, HaveValues, HasRead, thread_values}
@@ -62,7 +62,7 @@ module _ (threads : List (List ℕ)) where
       }
 
   -- a thread, outside threads
-  pub thread_has : (part : Part) (lines : List Line) (n m : ℕ) (name : List ℕ) → HasRead threads part lines n → part.open_blocks ≡ [] → HaveNames (named part kinds.Thread name) → line_fits m ≡ true → HasRead threads (reading.opened (named part kinds.Thread name) (parts.Thread m)) (lines ++ (m, Thread name) ∷ []) (n + 1)
+  pub thread_has : (part : Part) (lines : List Line) (n m : ℕ) (name : List ℕ) → HasRead threads part lines n → part.open_blocks ≡ [] → HaveNames (with_declared part kinds.Thread name) → line_fits m ≡ true → HasRead threads (reading.with_block (with_declared part kinds.Thread name) (parts.Thread m)) (lines ++ (m, Thread name) ∷ []) (n + 1)
   thread_has part lines n m name h none names l =
       let closed_are : part.names.threads ≡ h.closed = h.names_are ∙ ap (λ (bs : List Open). h.closed ++ open_names bs h.current) none ∙ append-nil h.closed in
       let no_body : h.body ≡ [] = h.is_open.lines_are ∙ ap (open_lines part.version (with_threads threads part.names) h.current) none in
@@ -83,7 +83,7 @@ module _ (threads : List (List ℕ)) where
         lines_are = rw (h.lines_are, no_body, append-nil (all_thread_lines (with_threads threads part.names) h.closed part.threads)) (append_assoc h.top (all_thread_lines (with_threads threads part.names) h.closed part.threads) ((m, Thread name) ∷ []));
       }
     where
-      thread_opened : HaveValues (named part kinds.Thread name) → HaveValues (reading.opened (named part kinds.Thread name) (parts.Thread m))
+      thread_opened : HaveValues (with_declared part kinds.Thread name) → HaveValues (reading.with_block (with_declared part kinds.Thread name) (parts.Thread m))
       thread_opened v = record { same_vars = v.same_vars; same_sems = v.same_sems; same_barriers = v.same_barriers; sem_values = v.sem_values; barrier_counts = v.barrier_counts }
 
   -- a line inside a thread that doesn't close it

@@ -10,12 +10,12 @@ use Rattle.pct_ask.specs.NameLists.{list_of, no_names}
 use Rattle.pct_ask.specs.declared.names.NameKind.{NameKind}
 use Rattle.pct_ask.specs.declared.names.NameKind.TheVariants as kinds
 use Rattle.script_tree.specs.declared.fault.ScriptFault.TheVariants as fault
-use Rattle.script_tree.specs.Forms.{Cut, Meant}
-use Rattle.script_tree.specs.Lines.{tokens_in, is_blank_line, version_in, version_of, begins, names_of, opens, depth, opener}
+use Rattle.script_tree.specs.Forms.{TokenForm, MeantForm}
+use Rattle.script_tree.specs.Lines.{tokens_in, is_blank_line, version_in, version_of, begins_with, names_of, opens, depth, opener}
 use Rattle.script_tree.specs.Faults as faults
-use Rattle.script_tree.specs.Faults.{Place, earlier, are_blank, IsBelow, HasForm, HasFormWith, IsFaulty}
+use Rattle.script_tree.specs.Faults.{Place, tokens_before, are_blank, IsBelowHeader, HasForm, HasFormWith, IsFaulty}
 use Rattle.script_parse.specs.Part.{Part}
-use Rattle.script_parse.specs.Reading.{Finder, is_empty, unless, header_taken, start, line_taken, wrapped}
+use Rattle.script_parse.specs.Reading.{Finder, is_empty, unless, header_taken, first_part, line_taken, some_part}
 use Rattle.script_parse.proofs.Choices.{some, passed, same_bytes, clash}
 use Rattle.script_parse.proofs.ExpressionWhole.{exact}
 use Rattle.script_parse.proofs.FirstKinds.{Tells, first_in, in_order, IsFirst}
@@ -28,8 +28,8 @@ pub record AreQuiet (lines : Lines) : Type 0 where
   pub version : (more : Lines) → version_of (lines ++ more) ≡ version_of more
   pub names : (kind : NameKind) → names_of kind lines ≡ []
   pub opens_none : count_by opens lines ≡ 0
-  pub ends_none : count_by (begins (codes "end")) lines ≡ 0
-  pub innermost : (k : ℕ) → begins (codes "if") (opener k (reverse lines)) ≡ false
+  pub ends_none : count_by (begins_with (codes "end")) lines ≡ 0
+  pub innermost : (k : ℕ) → begins_with (codes "if") (opener k (reverse lines)) ≡ false
 
 pub quiet_none : AreQuiet []
 quiet_none = record { version = λ more. refl; names = λ kind. refl; opens_none = refl; ends_none = refl; innermost = λ k. refl }
@@ -39,7 +39,7 @@ quiet_blank lines q = record {
   version = λ more. ap version_of (append_assoc lines ([] ∷ []) more) ∙ q.version ([] ∷ more);
   names = λ kind. names_push kind lines [] ∙ append-nil (names_of kind lines) ∙ q.names kind;
   opens_none = rw (count_push opens lines []) (omega (arith, q.opens_none));
-  ends_none = rw (count_push (begins (codes "end")) lines []) (omega (arith, q.ends_none));
+  ends_none = rw (count_push (begins_with (codes "end")) lines []) (omega (arith, q.ends_none));
   innermost = λ k. rw (reverse_push lines []) (q.innermost k);
 }
 
@@ -56,13 +56,13 @@ version_first : (tokens : List Token) (version : ℕ) (more : Lines) → version
 version_first [] version more e = absurd cc
 version_first (token ∷ tokens) version more e = rw e refl
 
-header_stands : (lines : Lines) (digit version : ℕ) → version_in (Word (codes "script") ∷ Number (digit ∷ []) ∷ []) ≡ Some version → AreQuiet lines → Stands (start version) (lines ++ (Word (codes "script") ∷ Number (digit ∷ []) ∷ []) ∷ [])
+header_stands : (lines : Lines) (digit version : ℕ) → version_in (Word (codes "script") ∷ Number (digit ∷ []) ∷ []) ≡ Some version → AreQuiet lines → Stands (first_part version) (lines ++ (Word (codes "script") ∷ Number (digit ∷ []) ∷ []) ∷ [])
 header_stands lines digit version e q =
     let tokens : List Token = Word (codes "script") ∷ Number (digit ∷ []) ∷ [] in
     record {
       version = λ more. ap version_of (append_assoc lines (tokens ∷ []) more) ∙ q.version (tokens ∷ more) ∙ version_first tokens version more e;
       names = λ kind. names_push kind lines tokens ∙ append-nil (names_of kind lines) ∙ q.names kind ∙ no_list kind;
-      depths = rw (count_push opens lines tokens, count_push (begins (codes "end")) lines tokens) (omega (arith, q.opens_none, q.ends_none));
+      depths = rw (count_push opens lines tokens, count_push (begins_with (codes "end")) lines tokens) (omega (arith, q.opens_none, q.ends_none));
       innermost = λ k. rw (reverse_push lines tokens) (q.innermost k);
     }
   where
@@ -71,10 +71,10 @@ header_stands lines digit version e q =
     no_list kind = refl
 
 -- where a header was read
-pub begun_stands : (lines : Lines) (tokens : List Token) (version : ℕ) → version_in tokens ≡ Some version → AreQuiet lines → Stands (start version) (lines ++ tokens ∷ [])
+pub begun_stands : (lines : Lines) (tokens : List Token) (version : ℕ) → version_in tokens ≡ Some version → AreQuiet lines → Stands (first_part version) (lines ++ tokens ∷ [])
 begun_stands lines tokens version e q =
     let h = header_is tokens version e in
-    subst (λ (ts : List Token). Stands (start version) (lines ++ ts ∷ [])) (sym h.1) (header_stands lines h.0 version (ap version_in (sym h.1) ∙ e) q)
+    subst (λ (ts : List Token). Stands (first_part version) (lines ++ ts ∷ [])) (sym h.1) (header_stands lines h.0 version (ap version_in (sym h.1) ∙ e) q)
 
 quiet_chain : (u l t : Bool) (next : Option Part) → fault_of (unless (cond u (Some fault.NotUtf8) (cond l (Some fault.LineTooLong) (cond t (Some fault.TooManyLines) None))) (Ok next)) ≡ first_in (tests u l t false false false false false false false false false false) in_order
 quiet_chain true l t next = refl
@@ -82,7 +82,7 @@ quiet_chain false true t next = refl
 quiet_chain false false true next = refl
 quiet_chain false false false next = refl
 
-good_chain : (u l t last : Bool) (next : Part) → fault_of (unless (cond u (Some fault.NotUtf8) (cond l (Some fault.LineTooLong) (cond t (Some fault.TooManyLines) None))) (wrapped (cond last (Err fault.NoThread) (Ok next)))) ≡ first_in (tests u l t false false false false false false (last && false) false (last && true) false) in_order
+good_chain : (u l t last : Bool) (next : Part) → fault_of (unless (cond u (Some fault.NotUtf8) (cond l (Some fault.LineTooLong) (cond t (Some fault.TooManyLines) None))) (some_part (cond last (Err fault.NoThread) (Ok next)))) ≡ first_in (tests u l t false false false false false false (last && false) false (last && true) false) in_order
 good_chain true l t last next = refl
 good_chain false true t last next = refl
 good_chain false false true last next = refl
@@ -95,14 +95,14 @@ tells_token (Some tokens) = never (λ n. some_none (sym n))
 
 -- ---- a line above the header, or the header
 
-module _ (find : Finder) (place : Place) (q : AreQuiet (earlier place)) (above : are_blank place.before ≡ true) (some_says : are_blank (place.before ++ place.line ∷ place.after) ≡ false) where
+module _ (find : Finder) (place : Place) (q : AreQuiet (tokens_before place)) (above : are_blank place.before ≡ true) (some_says : are_blank (place.before ++ place.line ∷ place.after) ≡ false) where
   abbrev pub top_step : Step
   top_step = line_taken exact None find (length place.before + 1) (is_empty place.after) place.line
 
-  no_form : (cut : Cut) (meant : Meant) → ¬ HasForm place cut meant
+  no_form : (cut : TokenForm) (meant : MeantForm) → ¬ HasForm place cut meant
   no_form cut meant h = clash (sym above ∙ h.is_below.below)
 
-  not_below : ¬ IsBelow place
+  not_below : ¬ IsBelowHeader place
   not_below h = clash (sym above ∙ h.below)
 
   blanks_behind : is_blank_line place.line ≡ true → are_blank place.after ≡ true → ⊥
@@ -136,7 +136,7 @@ module _ (find : Finder) (place : Place) (q : AreQuiet (earlier place)) (above :
       let b : is_blank_line place.line ≡ false = says_something place.line token tokens e in
       let w : version_in (tokens_in place.line) ≡ Some version = ap version_in here ∙ v in
       let header = header_is (tokens_in place.line) version w in
-      let deep : depth (earlier place) ≡ 0 = omega (arith, q.opens_none) in
+      let deep : depth (tokens_before place) ≡ 0 = omega (arith, q.opens_none) in
       let no_open : faults.leaves_open (faults.so_far_at place) (tokens_in place.line) ≡ false =
       ap (faults.leaves_open (faults.so_far_at place)) header.1
       ∙ ap (λ (n : ℕ). not (n == 0)) deep in
@@ -144,7 +144,7 @@ module _ (find : Finder) (place : Place) (q : AreQuiet (earlier place)) (above :
       ap (faults.lacks_thread (faults.so_far_at place)) header.1
       ∙ ap (λ (names : List (List ℕ)). is_empty names) (q.names kinds.Thread) in
       first_formless place false false false (is_empty place.after && false) (is_empty place.after && true) no_form (never (good_header version b w)) (never (λ n. some_none (sym n ∙ e))) (never (λ h. not_below h.0))
-      (subst (λ (x : Bool). Tells (is_empty place.after && x) (faults.NoEnd place)) no_open (tells_end_any place)) (subst (λ (x : Bool). Tells (is_empty place.after && x) (faults.NoThread place)) no_name (tells_thread_any place)) (fault_of top_step) (rw (bytes_at place, e, v) (good_chain _ _ _ (is_empty place.after) (start version)))
+      (subst (λ (x : Bool). Tells (is_empty place.after && x) (faults.NoEnd place)) no_open (tells_end_any place)) (subst (λ (x : Bool). Tells (is_empty place.after && x) (faults.NoThread place)) no_name (tells_thread_any place)) (fault_of top_step) (rw (bytes_at place, e, v) (good_chain _ _ _ (is_empty place.after) (first_part version)))
 
   -- whatever the line is
   pub above_step : IsFirst (fault_of top_step) place

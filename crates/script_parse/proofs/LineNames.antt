@@ -15,9 +15,9 @@ use Rattle.script_tree.specs.Trees as trees
 use Rattle.script_tree.specs.ScriptText.{Thread as ThreadTree}
 use Rattle.script_tree.specs.Expressions.{register_word}
 use Rattle.script_tree.specs.Forms as forms
-use Rattle.script_tree.specs.Forms.{OnVerb, IntoVerb, Cut, Meant, Plain, Valued, Thread, On, Into, Write, Add, Cas, Wait, Yield, Assert, Set, If, While, End, Else, on_word, into_word, kind_word, has_value, is_plain, value_in, tokens_of_form, IsOf, Means}
-use Rattle.script_tree.specs.Lines.{tokens_in, named, names_of, valued, values_of, just_thread, thread_in, threads_in}
-use Rattle.script_tree.specs.Grammar.{Line, declares, AreLines, IsSound, statement_lines, block_lines, thread_lines, all_thread_lines}
+use Rattle.script_tree.specs.Forms.{OnVerb, IntoVerb, TokenForm, MeantForm, Plain, Valued, Thread, On, Into, Write, Add, Cas, Wait, Yield, Assert, Set, If, While, End, Else, on_word, into_word, kind_word, has_value, is_plain, value_in, tokens_of_form, IsFormOf, Means}
+use Rattle.script_tree.specs.Lines.{tokens_in, declared_name, names_of, declared_value, values_of, just_thread, thread_in, threads_begun}
+use Rattle.script_tree.specs.Grammar.{Line, declares, AreLines, IsLineText, statement_lines, block_lines, thread_lines, all_thread_lines}
 use Rattle.script_parse.proofs.Standing.{on_quiet, into_quiet, no_kind, nameless_at}
 use Rattle.script_parse.proofs.DeclaredValues.{threadless_at}
 use Rattle.script_parse.proofs.DeclaredForms.{on_none, into_none}
@@ -42,7 +42,7 @@ mutual
   statement_quiet names (trees.While line test body) = rw (block_quiet names forms.End body refl) refl
   statement_quiet names s = refl
 
-  block_quiet : (names : NameLists) (closing : Meant) (body : Statements) → declares closing ≡ false → list_all says_no_name (block_lines names closing body) ≡ true
+  block_quiet : (names : NameLists) (closing : MeantForm) (body : Statements) → declares closing ≡ false → list_all says_no_name (block_lines names closing body) ≡ true
   block_quiet names closing (Closed line) h = rw h refl
   block_quiet names closing (Then s rest) h =
       list_all-append says_no_name (statement_lines names s) (block_lines names closing rest) ∙ rw (statement_quiet names s, block_quiet names closing rest h) refl
@@ -55,12 +55,12 @@ threads_quiet names (x ∷ xs) (thread ∷ threads) =
 
 -- ---- what the tokens of a form declare
 
-no_thread_named : (kind : NameKind) (name : List ℕ) → is_thread kind ≡ false → named kind (Word (codes "thread") ∷ Word name ∷ []) ≡ None
+no_thread_named : (kind : NameKind) (name : List ℕ) → is_thread kind ≡ false → declared_name kind (Word (codes "thread") ∷ Word name ∷ []) ≡ None
 no_thread_named kinds.Thread name h = absurd cc
 no_thread_named kinds.Var name h = refl
 no_thread_named kind name h = refl
 
-none_named : (cut : Cut) (meant : Meant) → Means cut meant → declares meant ≡ false → (kind : NameKind) → is_thread kind ≡ false → named kind (tokens_of_form cut) ≡ None
+none_named : (cut : TokenForm) (meant : MeantForm) → Means cut meant → declares meant ≡ false → (kind : NameKind) → is_thread kind ≡ false → declared_name kind (tokens_of_form cut) ≡ None
 none_named (Plain k name) meant m h kind t = clash (sym (ap declares m) ∙ h)
 none_named (Valued k name value) meant m h kind t = clash (sym (ap declares m) ∙ h)
 none_named (Thread name) meant m h kind t = no_thread_named kind name t
@@ -82,7 +82,7 @@ off : (b : Bool) (name : List ℕ) (value : Option ℤ) → cond b (Some name) N
 off true name value e = absurd cc
 off false name value e = refl
 
-none_valued : (kind : NameKind) (tokens : List Token) → named kind tokens ≡ None → valued kind tokens ≡ None
+none_valued : (kind : NameKind) (tokens : List Token) → declared_name kind tokens ≡ None → declared_value kind tokens ≡ None
 none_valued kind [] h = refl
 none_valued kind (Word word ∷ []) h = refl
 none_valued kind (Word word ∷ Word name ∷ []) h = refl
@@ -101,8 +101,9 @@ none_declared version n (text ∷ texts) lines kind t (inl a) q =
 none_declared version n (text ∷ texts) lines kind t (inr a) q =
     let both = and_parts (not (declares a.0)) (list_all says_no_name a.1) (subst (λ (ls : List Line). list_all says_no_name ls ≡ true) a.2 q) in
     let rest = none_declared version (n + 1) texts a.1 kind t a.4 both.1 in
-    let none : named kind (tokens_in text) ≡ None = ap (named kind) a.3.1.spelled ∙ none_named a.3.0 a.0 a.3.1.means (not_true (declares a.0) both.0) kind t in
-    let no_value : valued kind (tokens_in text) ≡ None = none_valued kind (tokens_in text) none in
+    let none : declared_name kind (tokens_in text) ≡ None = ap (declared_name kind) a.3.1.spelled ∙ none_named a.3.0 a.0 a.3.1.means (not_true (declares a.0) both.0) kind t in
+    let no_value : declared_value kind (tokens_in text) ≡ None =
+    none_valued kind (tokens_in text) none in
     (rw none rest.0, rw no_value rest.1)
   where
     not_true : (b : Bool) → not b ≡ true → b ≡ false
@@ -111,7 +112,7 @@ none_declared version n (text ∷ texts) lines kind t (inr a) q =
 
 -- ---- the threads of lines
 
-quiet_thread : (word : List ℕ) (rest : List Token) → bytes_eq word (codes "thread") ≡ false → just_thread (Word word ∷ rest) ≡ named kinds.Thread (Word word ∷ rest)
+quiet_thread : (word : List ℕ) (rest : List Token) → bytes_eq word (codes "thread") ≡ false → just_thread (Word word ∷ rest) ≡ declared_name kinds.Thread (Word word ∷ rest)
 quiet_thread word rest h = threadless_at word rest h ∙ sym (nameless_at word rest kinds.Thread h)
 
 plain_thread : (kind : NameKind) (rest : List Token) → is_plain kind ≡ true → bytes_eq (kind_word kind) (codes "thread") ≡ false
@@ -126,7 +127,7 @@ valued_thread kinds.Sem rest h = refl
 valued_thread kinds.Barrier rest h = refl
 valued_thread kind rest h = absurd cc
 
-same_thread : (version : ℕ) (cut : Cut) → IsOf version cut → just_thread (tokens_of_form cut) ≡ named kinds.Thread (tokens_of_form cut)
+same_thread : (version : ℕ) (cut : TokenForm) → IsFormOf version cut → just_thread (tokens_of_form cut) ≡ declared_name kinds.Thread (tokens_of_form cut)
 same_thread version (Plain kind name) of = quiet_thread (kind_word kind) (Word name ∷ []) (plain_thread kind [] of.0)
 same_thread version (Valued kind name value) of = quiet_thread (kind_word kind) (Word name ∷ Symbol (codes "=") ∷ value) (valued_thread kind [] of.0)
 same_thread version (Thread name) of = refl
@@ -144,18 +145,18 @@ same_thread version (While test) of = quiet_thread (codes "while") test refl
 same_thread version End of = refl
 same_thread version Else of = refl
 
-pub thread_at : (text : List ℕ) → IsSound text → thread_in text ≡ just_thread (tokens_in text)
+pub thread_at : (text : List ℕ) → IsLineText text → thread_in text ≡ just_thread (tokens_in text)
 thread_at text sound = rw sound.text refl
 
 cons_same : (a b : Option (List ℕ)) (xs ys : List (List ℕ)) → a ≡ b → xs ≡ ys → cons_option a xs ≡ cons_option b ys
 cons_same a b xs ys p q = rw (p, q) refl
 
 -- the threads that sound lines begin are those that they declare
-pub threads_same : (version n : ℕ) (texts : List (List ℕ)) (lines : List Line) → AreLines version n texts lines → All IsSound texts → threads_in texts ≡ names_of kinds.Thread (map tokens_in texts)
+pub threads_same : (version n : ℕ) (texts : List (List ℕ)) (lines : List Line) → AreLines version n texts lines → All IsLineText texts → threads_begun texts ≡ names_of kinds.Thread (map tokens_in texts)
 threads_same version n [] lines a sound = refl
 threads_same version n (text ∷ texts) lines (inl a) sound =
-    let here : just_thread (tokens_in text) ≡ named kinds.Thread (tokens_in text) = rw (blank_in text a.0) refl in
-    cons_same (thread_in text) (named kinds.Thread (tokens_in text)) (threads_in texts) (names_of kinds.Thread (map tokens_in texts)) (thread_at text (All-head IsSound text texts sound) ∙ here) (threads_same version (n + 1) texts lines a.1 (All-tail IsSound text texts sound))
+    let here : just_thread (tokens_in text) ≡ declared_name kinds.Thread (tokens_in text) = rw (blank_in text a.0) refl in
+    cons_same (thread_in text) (declared_name kinds.Thread (tokens_in text)) (threads_begun texts) (names_of kinds.Thread (map tokens_in texts)) (thread_at text (All-head IsLineText text texts sound) ∙ here) (threads_same version (n + 1) texts lines a.1 (All-tail IsLineText text texts sound))
 threads_same version n (text ∷ texts) lines (inr a) sound =
-    let here : just_thread (tokens_in text) ≡ named kinds.Thread (tokens_in text) = ap just_thread a.3.1.spelled ∙ same_thread version a.3.0 a.3.1.of ∙ sym (ap (named kinds.Thread) a.3.1.spelled) in
-    cons_same (thread_in text) (named kinds.Thread (tokens_in text)) (threads_in texts) (names_of kinds.Thread (map tokens_in texts)) (thread_at text (All-head IsSound text texts sound) ∙ here) (threads_same version (n + 1) texts a.1 a.4 (All-tail IsSound text texts sound))
+    let here : just_thread (tokens_in text) ≡ declared_name kinds.Thread (tokens_in text) = ap just_thread a.3.1.spelled ∙ same_thread version a.3.0 a.3.1.of ∙ sym (ap (declared_name kinds.Thread) a.3.1.spelled) in
+    cons_same (thread_in text) (declared_name kinds.Thread (tokens_in text)) (threads_begun texts) (names_of kinds.Thread (map tokens_in texts)) (thread_at text (All-head IsLineText text texts sound) ∙ here) (threads_same version (n + 1) texts a.1 a.4 (All-tail IsLineText text texts sound))

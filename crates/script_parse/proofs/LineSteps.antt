@@ -8,14 +8,14 @@ use Rattle.std.proofs.lemmas.Bool.{leb-true, le-leb, ltb-true, lt-ltb}
 use Rattle.pct_ask.specs.Tokens.{Token, tokens_of}
 use Rattle.script_tree.specs.declared.fault.ScriptFault.{ScriptFault}
 use Rattle.script_tree.specs.declared.fault.ScriptFault.TheVariants as fault
-use Rattle.script_tree.specs.Forms.{Cut, Meant, IsForm}
+use Rattle.script_tree.specs.Forms.{TokenForm, MeantForm, IsForm}
 use Rattle.script_tree.specs.Lines.{tokens_in, is_blank_line, version_of}
 use Rattle.script_tree.specs.Faults as faults
 use Rattle.script_tree.specs.Ranges as ranges
-use Rattle.script_tree.specs.Faults.{Place, earlier, are_blank, IsBelow, HasForm, HasFormWith, IsFaulty, IsFirstKind}
+use Rattle.script_tree.specs.Faults.{Place, tokens_before, are_blank, IsBelowHeader, HasForm, HasFormWith, IsFaulty, IsFirstKind}
 use Rattle.script_parse.specs.Part.{Part}
 use Rattle.script_parse.specs.Saying.{form_in}
-use Rattle.script_parse.specs.Reading.{is_empty, so_far, bytes_fault, unless, wrapped, after_fault, line_taken}
+use Rattle.script_parse.specs.Reading.{is_empty, so_far_in, bytes_fault, unless, some_part, after_fault, line_taken}
 use Rattle.script_parse.proofs.Choices.{some, clash}
 use Rattle.script_parse.proofs.ExpressionWhole.{exact}
 use Rattle.script_parse.proofs.FormWhole.{form_read}
@@ -116,13 +116,14 @@ no_header : (place : Place) → are_blank place.before ≡ false → ¬ faults.B
 no_header place b (inl h) = clash (sym h.0 ∙ b)
 no_header place b (inr h) = clash (sym (ap are_blank h.0) ∙ b)
 
-wrapped_fault : (o : Option ScriptFault) (next : Part) → fault_of (wrapped (after_fault o next)) ≡ o
+wrapped_fault : (o : Option ScriptFault) (next : Part)
+    → fault_of (some_part (after_fault o next)) ≡ o
 wrapped_fault None next = refl
 wrapped_fault (Some kind) next = refl
 
 form_chain : (u l t m un tw ra ne st nt tm : Bool) (next : Part)
     → fault_of (unless (cond u (Some fault.NotUtf8) (cond l (Some fault.LineTooLong) (cond t (Some fault.TooManyLines) None)))
-    (wrapped (after_fault (cond (not m) (Some fault.BadStatement) (cond un (Some fault.UnknownName) (cond tw (Some fault.TwiceNamed) (cond ra (Some fault.NumberRange) (cond ne (Some fault.NoEnd) (cond st (Some fault.StrayEnd) (cond nt (Some fault.NoThread) (cond tm (Some fault.TooMany) None)))))))) next)))
+    (some_part (after_fault (cond (not m) (Some fault.BadStatement) (cond un (Some fault.UnknownName) (cond tw (Some fault.TwiceNamed) (cond ra (Some fault.NumberRange) (cond ne (Some fault.NoEnd) (cond st (Some fault.StrayEnd) (cond nt (Some fault.NoThread) (cond tm (Some fault.TooMany) None)))))))) next)))
     ≡ first_in (tests u l t false false (not m) (m && un) (m && tw) (m && ra) ne (m && st) nt (m && tm)) in_order
 form_chain true l t m un tw ra ne st nt tm next = refl
 form_chain false true t m un tw ra ne st nt tm next = refl
@@ -136,18 +137,18 @@ bad_chain false true t kind rest e = refl
 bad_chain false false true kind rest e = refl
 bad_chain false false false kind rest e = sym e
 
-blank_chain : (u l t ne nt : Bool) (next : Part) → fault_of (unless (cond u (Some fault.NotUtf8) (cond l (Some fault.LineTooLong) (cond t (Some fault.TooManyLines) None))) (wrapped (after_fault (cond ne (Some fault.NoEnd) (cond nt (Some fault.NoThread) None)) next)))
+blank_chain : (u l t ne nt : Bool) (next : Part) → fault_of (unless (cond u (Some fault.NotUtf8) (cond l (Some fault.LineTooLong) (cond t (Some fault.TooManyLines) None))) (some_part (after_fault (cond ne (Some fault.NoEnd) (cond nt (Some fault.NoThread) None)) next)))
     ≡ first_in (tests u l t false false false false false false ne false nt false) in_order
 blank_chain true l t ne nt next = refl
 blank_chain false true t ne nt next = refl
 blank_chain false false true ne nt next = refl
 blank_chain false false false ne nt next = wrapped_fault _ next
 
-never_formed : (place : Place) (test : Meant → Bool) → ((cut : Cut) (meant : Meant) → ¬ HasForm place cut meant) → Tells false (HasFormWith test place)
+never_formed : (place : Place) (test : MeantForm → Bool) → ((cut : TokenForm) (meant : MeantForm) → ¬ HasForm place cut meant) → Tells false (HasFormWith test place)
 never_formed place test h = never (λ w. h w.0 w.1 w.2)
 
 -- where a line has no form, five tests beside those of its bytes tell its first fault
-pub first_formless : (place : Place) (h k s ne nt : Bool) → ((cut : Cut) (meant : Meant) → ¬ HasForm place cut meant)
+pub first_formless : (place : Place) (h k s ne nt : Bool) → ((cut : TokenForm) (meant : MeantForm) → ¬ HasForm place cut meant)
     → Tells h (faults.BadHeader place) → Tells k (faults.BadToken place) → Tells s (faults.BadStatement place) → Tells ne (faults.NoEnd place) → Tells nt (faults.NoThread place)
     → (o : Option ScriptFault) → o ≡ first_in (tests (not (is_utf8 place.line)) (nat_lt 256 (length place.line)) (nat_le 4096 (length place.before)) h k s false false false ne false nt false) in_order → IsFirst o place
 first_formless place h k s ne nt none header token statement no_end no_thread =
@@ -177,17 +178,17 @@ pub says_something : (line : List ℕ) (token : Token) (tokens : List Token) →
 says_something line token tokens e = rw e refl
 
 -- a line of some form
-module _ (part : Part) (place : Place) (s : Stands part (earlier place)) (below : are_blank place.before ≡ false) where
+module _ (part : Part) (place : Place) (s : Stands part (tokens_before place)) (below : are_blank place.before ≡ false) where
   abbrev pub step : Step
   step = line_taken exact (Some part) (found part place s) (length place.before + 1) (is_empty place.after) place.line
 
-  form_step : (token : Token) (tokens : List Token) (meant : Meant) → tokens_of place.line ≡ Some (token ∷ tokens) → form_in exact part.version (token ∷ tokens) ≡ Some meant → IsFirst (fault_of step) place
+  form_step : (token : Token) (tokens : List Token) (meant : MeantForm) → tokens_of place.line ≡ Some (token ∷ tokens) → form_in exact part.version (token ∷ tokens) ≡ Some meant → IsFirst (fault_of step) place
   form_step token tokens meant e f =
       let here : tokens_in place.line ≡ token ∷ tokens = cut_tokens place.line (token ∷ tokens) e in
       let has = form_says part.version (token ∷ tokens) meant f in
       let is_form : IsForm part.version (tokens_in place.line) has.0 meant = subst (λ (ts : List Token). IsForm part.version ts has.0 meant) (sym here) has.1 in
-      let is_below : IsBelow place = record { below = below; says = says_something place.line token tokens e } in
-      let may : Bool = faults.may_stand (so_far part) meant in
+      let is_below : IsBelowHeader place = record { below = below; says = says_something place.line token tokens e } in
+      let may : Bool = faults.may_stand (so_far_in part) meant in
       first_told place _ _ _ false false (not may) _ _ _ _ _ _ _ (record {
         utf = tells_utf place;
         long = tells_long place;
@@ -209,10 +210,10 @@ module _ (part : Part) (place : Place) (s : Stands part (earlier place)) (below 
   bad_step : (token : Token) (tokens : List Token) → tokens_of place.line ≡ Some (token ∷ tokens) → form_in exact part.version (token ∷ tokens) ≡ None → IsFirst (fault_of step) place
   bad_step token tokens e f =
       let here : tokens_in place.line ≡ token ∷ tokens = cut_tokens place.line (token ∷ tokens) e in
-      let none : (cut : Cut) (meant : Meant) → ¬ HasForm place cut meant = λ cut meant h.
-      let version_is : IsForm part.version (tokens_in place.line) cut meant = subst (λ (v : ℕ). IsForm v (tokens_in place.line) cut meant) (ap version_of (sym (append-nil (earlier place))) ∙ s.version []) h.form in
+      let none : (cut : TokenForm) (meant : MeantForm) → ¬ HasForm place cut meant = λ cut meant h.
+      let version_is : IsForm part.version (tokens_in place.line) cut meant = subst (λ (v : ℕ). IsForm v (tokens_in place.line) cut meant) (ap version_of (sym (append-nil (tokens_before place))) ∙ s.version []) h.form in
       some_none (sym f ∙ ap (form_in exact part.version) (sym here) ∙ form_read part.version (tokens_in place.line) cut meant version_is) in
-      let is_below : IsBelow place = record { below = below; says = says_something place.line token tokens e } in
+      let is_below : IsBelowHeader place = record { below = below; says = says_something place.line token tokens e } in
       first_formless place false false true _ _ none (never (no_header place below)) (never (λ n. some_none (sym n ∙ e))) (always (is_below, none))
       (tells_end_any place) (tells_thread_any place) (fault_of step) (rw (bytes_at place, e, f) (bad_chain _ _ _ fault.BadStatement _ refl))
 
@@ -220,10 +221,10 @@ module _ (part : Part) (place : Place) (s : Stands part (earlier place)) (below 
   uncut_step : tokens_of place.line ≡ None → IsFirst (fault_of step) place
   uncut_step e =
       let here : tokens_in place.line ≡ [] = rw e refl in
-      let none : (cut : Cut) (meant : Meant) → ¬ HasForm place cut meant = λ cut meant h.
-      let bare : IsForm (version_of (earlier place)) [] cut meant = subst (λ (ts : List Token). IsForm (version_of (earlier place)) ts cut meant) here h.form in
-      some_none (form_read (version_of (earlier place)) [] cut meant bare) in
-      let is_below : IsBelow place = record { below = below; says = rw e refl } in
+      let none : (cut : TokenForm) (meant : MeantForm) → ¬ HasForm place cut meant = λ cut meant h.
+      let bare : IsForm (version_of (tokens_before place)) [] cut meant = subst (λ (ts : List Token). IsForm (version_of (tokens_before place)) ts cut meant) here h.form in
+      some_none (form_read (version_of (tokens_before place)) [] cut meant bare) in
+      let is_below : IsBelowHeader place = record { below = below; says = rw e refl } in
       first_formless place false true true _ _ none (never (no_header place below)) (always e) (always (is_below, none))
       (tells_end_any place) (tells_thread_any place) (fault_of step) (rw (bytes_at place, e) (bad_chain _ _ _ fault.BadToken _ refl))
 
@@ -232,7 +233,7 @@ module _ (part : Part) (place : Place) (s : Stands part (earlier place)) (below 
   blank_step e =
       let here : tokens_in place.line ≡ [] = rw e refl in
       let is_blank : is_blank_line place.line ≡ true = rw e refl in
-      let none : (cut : Cut) (meant : Meant) → ¬ HasForm place cut meant = λ cut meant h. clash (sym is_blank ∙ h.is_below.says) in
+      let none : (cut : TokenForm) (meant : MeantForm) → ¬ HasForm place cut meant = λ cut meant h. clash (sym is_blank ∙ h.is_below.says) in
       first_formless place false false false _ _ none (never (no_header place below))
       (never (λ n. some_none (sym n ∙ e))) (never (λ h. clash (sym is_blank ∙ h.0.says)))
       (tells_end part place s [] here) (tells_thread part place s [] here) (fault_of step)
@@ -242,7 +243,7 @@ module _ (part : Part) (place : Place) (s : Stands part (earlier place)) (below 
   pub below_step : IsFirst (fault_of step) place
   below_step = by_tokens (tokens_of place.line) refl
     where
-      by_form : (token : Token) (tokens : List Token) (found_form : Option Meant) → tokens_of place.line ≡ Some (token ∷ tokens) → form_in exact part.version (token ∷ tokens) ≡ found_form → IsFirst (fault_of step) place
+      by_form : (token : Token) (tokens : List Token) (found_form : Option MeantForm) → tokens_of place.line ≡ Some (token ∷ tokens) → form_in exact part.version (token ∷ tokens) ≡ found_form → IsFirst (fault_of step) place
       by_form token tokens None e f = bad_step token tokens e f
       by_form token tokens (Some meant) e f = form_step token tokens meant e f
 

@@ -3,10 +3,10 @@ use Rattle.std.proofs.Common.{ℕ, List, sym, subst}
 use Rattle.pct_ask.specs.Tokens.{Token}
 use Rattle.pct_ask.specs.declared.names.NameKind.{NameKind}
 use Rattle.script_tree.specs.Trees.{Expression}
-use Rattle.script_tree.specs.Forms.{OnVerb, IntoVerb, Cut, Meant, Plain, Valued, Thread, On, Into, Write, Add, Cas, Wait, Yield, Assert, Set, If, While, End, Else, Means}
+use Rattle.script_tree.specs.Forms.{OnVerb, IntoVerb, TokenForm, MeantForm, Plain, Valued, Thread, On, Into, Write, Add, Cas, Wait, Yield, Assert, Set, If, While, End, Else, Means}
 
 -- what is shown of each form with its meaning
-pub record ForEach (P : Cut → Meant → Type 0) : Type 1 where
+pub record ForEach (P : TokenForm → MeantForm → Type 0) : Type 1 where
   pub plain : (kind : NameKind) (name : List ℕ) → P (Plain kind name) (Plain kind name)
   pub valued : (kind : NameKind) (name : List ℕ) (value : List Token) → P (Valued kind name value) (Valued kind name value)
   pub thread : (name : List ℕ) → P (Thread name) (Thread name)
@@ -24,7 +24,7 @@ pub record ForEach (P : Cut → Meant → Type 0) : Type 1 where
   pub end : P End End
   pub otherwise : P Else Else
 
-pub by_meaning : (P : Cut → Meant → Type 0) → ForEach P → (cut : Cut) (meant : Meant) → Means cut meant → P cut meant
+pub by_meaning : (P : TokenForm → MeantForm → Type 0) → ForEach P → (cut : TokenForm) (meant : MeantForm) → Means cut meant → P cut meant
 by_meaning P f (Plain kind name) meant m = subst (P (Plain kind name)) (sym m) (f.plain kind name)
 by_meaning P f (Valued kind name value) meant m = subst (P (Valued kind name value)) (sym m) (f.valued kind name value)
 by_meaning P f (Thread name) meant m = subst (P (Thread name)) (sym m) (f.thread name)

@@ -8,7 +8,7 @@ use Rattle.std.proofs.lemmas.Bool.{le-leb, lt-ltb, and_parts}
 use Rattle.pct_ask.specs.NameLists.{NameLists}
 use Rattle.script_tree.specs.Trees.{Expression, Statement, Statements, Closed, Then, closed_at}
 use Rattle.script_tree.specs.Trees as trees
-use Rattle.script_tree.specs.Forms.{Meant}
+use Rattle.script_tree.specs.Forms.{MeantForm}
 use Rattle.script_tree.specs.Forms as forms
 use Rattle.script_tree.specs.Fitting.{line_fits, expression_fits, count_of, counts_of, statement_fits, statements_fit, thread_fits}
 use Rattle.script_tree.specs.Grammar.{Line, statement_lines, block_lines, thread_lines}
@@ -87,7 +87,7 @@ module _ (version : ℕ) (names : NameLists) where
   lines_push [] s = append-nil (statement_lines names s)
   lines_push (t ∷ ts) s = ap (λ (ls : List Line). statement_lines names t ++ ls) (lines_push ts s) ∙ sym (append_assoc (statement_lines names t) (statements_lines ts) (statement_lines names s))
 
-  closed_lines : (closing : Meant) (line : ℕ) (ss : List Statement) → block_lines names closing (closed_at line ss) ≡ statements_lines ss ++ (line, closing) ∷ []
+  closed_lines : (closing : MeantForm) (line : ℕ) (ss : List Statement) → block_lines names closing (closed_at line ss) ≡ statements_lines ss ++ (line, closing) ∷ []
   closed_lines closing line [] = refl
   closed_lines closing line (s ∷ ss) = ap (λ (ls : List Line). statement_lines names s ++ ls) (closed_lines closing line ss) ∙ sym (append_assoc (statement_lines names s) (statements_lines ss) ((line, closing) ∷ []))
 

@@ -15,7 +15,7 @@ use Rattle.std.proofs.lemmas.Map.Text.{btree_map_updates_str}
 use Rattle.std.proofs.lemmas.Slice.Eq.{bytes_eq-Decides}
 use denote.Ref.{Bor}
 use Rattle.pct_ask.specs.NameLists.{place_of}
-use Rattle.script_parse.specs.Ahead.{place_among, ArePlaces}
+use Rattle.script_parse.specs.Ahead.{place_among, AreMapPlaces}
 
 -- where something stands among so many, or none
 abbrev standing : ℕ → ℕ → Option ℕ
@@ -55,7 +55,7 @@ here : (names : List (List ℕ)) (q name : List ℕ) (known : Bool) → is_some 
 here names q name known e t = let same : q ≡ name = (bytes_eq-Decides q name).0 t in rw same e
 
 -- a name that has a place keeps it
-pub places_same : (places : BTreeMap (Bor (List ℕ)) ℕ) (name : List ℕ) (names : List (List ℕ)) → ArePlaces places names → is_some (place_among places name) ≡ true → ArePlaces places (names ++ name ∷ [])
+pub places_same : (places : BTreeMap (Bor (List ℕ)) ℕ) (name : List ℕ) (names : List (List ℕ)) → AreMapPlaces places names → is_some (place_among places name) ≡ true → AreMapPlaces places (names ++ name ∷ [])
 places_same places name names known there q =
     let old : is_some (place_of name names) ≡ true = sym (ap is_some (known name)) ∙ there in
     known q ∙ sym (place_push q name names ∙ same_place (place_of q names) (length names) (bytes_eq q name) (here names q name true old))
@@ -64,8 +64,8 @@ swapped : (a b : List ℕ) → bytes_eq a b ≡ bytes_eq b a
 swapped a b = one_answer (bytes_eq a b) (bytes_eq b a) (λ t. sym ((bytes_eq-Decides a b).0 t), λ e. (bytes_eq-Decides a b).1 (sym e)) (bytes_eq-Decides b a)
 
 -- a name that has no place gets the one behind the others
-pub places_more : (old new : BTreeMap (Bor (List ℕ)) ℕ) (name : Bor (List ℕ)) (place : ℕ) (names : List (List ℕ)) → place ≡ length names → ArePlaces old names → is_some (place_among old name.now) ≡ false
-    → Updates (λ x y. slice_cmp nat_cmp x.now y.now) old new name (Some place) → ArePlaces new (names ++ name.now ∷ [])
+pub places_more : (old new : BTreeMap (Bor (List ℕ)) ℕ) (name : Bor (List ℕ)) (place : ℕ) (names : List (List ℕ)) → place ≡ length names → AreMapPlaces old names → is_some (place_among old name.now) ≡ false
+    → Updates (λ x y. slice_cmp nat_cmp x.now y.now) old new name (Some place) → AreMapPlaces new (names ++ name.now ∷ [])
 places_more old new name place names counted known missing updates q =
     let none : is_some (place_of name.now names) ≡ false = sym (ap is_some (known name.now)) ∙ missing in
     btree_map_updates_str name.now old new (Some place) updates q

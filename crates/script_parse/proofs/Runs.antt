@@ -7,9 +7,9 @@ use Rattle.std.proofs.lemmas.Bool.Decides.{nat_tests}
 use Rattle.pct_ask.specs.NameLists.{NameLists, list_of}
 use Rattle.pct_ask.specs.declared.names.NameKind.{NameKind}
 use Rattle.pct_ask.specs.declared.names.NameKind.TheVariants as kinds
-use Rattle.script_tree.specs.Trees.{Expression, Statement, Statements, Closed, Then, list, end_line, closed_at}
+use Rattle.script_tree.specs.Trees.{Expression, Statement, Statements, Closed, Then, statement_list, end_line, closed_at}
 use Rattle.script_tree.specs.Trees as trees
-use Rattle.script_tree.specs.Forms.{Meant}
+use Rattle.script_tree.specs.Forms.{MeantForm}
 use Rattle.script_tree.specs.Forms as forms
 use Rattle.script_tree.specs.Fitting.{line_fits, reg_fits, place_fits, expression_fits, statement_fits, statements_fit}
 use Rattle.pct_ask.specs.TraceText.{name_at}
@@ -17,25 +17,25 @@ use Rattle.script_tree.specs.Grammar.{Line, statement_lines, block_lines}
 use Rattle.script_tree.specs.Faults as faults
 use Rattle.script_parse.specs.Part.{Opening, If, Else, While, Open, Part}
 use Rattle.script_parse.specs.Reading as reading
-use Rattle.script_parse.specs.Reading.{Finder, so_far, is_known, is_empty, taken, place_in, on_statement, into_statement, with_statement}
+use Rattle.script_parse.specs.Reading.{Finder, so_far_in, is_known_name, is_empty, with_form, place_in, on_statement, into_statement, with_statement}
 
 -- a line of this form has no fault, its numbers and its being the last line aside
-pub record IsFree (part : Part) (find : Finder) (meant : Meant) : Type 0 where
-  pub stands : faults.may_stand (so_far part) meant ≡ true
-  pub known : faults.uses_unknown (is_known part.names find) meant ≡ false
-  pub fresh : faults.declares_again (so_far part) meant ≡ false
-  pub closes : faults.closes_nothing (so_far part) meant ≡ false
-  pub few : faults.is_too_many (so_far part) meant ≡ false
+pub record IsFree (part : Part) (find : Finder) (meant : MeantForm) : Type 0 where
+  pub stands : faults.may_stand (so_far_in part) meant ≡ true
+  pub known : faults.uses_unknown (is_known_name part.names find) meant ≡ false
+  pub fresh : faults.declares_again (so_far_in part) meant ≡ false
+  pub closes : faults.closes_nothing (so_far_in part) meant ≡ false
+  pub few : faults.is_too_many (so_far_in part) meant ≡ false
 
 -- these lines, one after another, make this of what was read
 abbrev pub Runs : Finder → Part → List Line → Part → Type 0
 Runs find part [] last = part ≡ last
-Runs find part (line ∷ lines) last = IsFree part find line.1 × Runs find (taken part find line.0 line.1) lines last
+Runs find part (line ∷ lines) last = IsFree part find line.1 × Runs find (with_form part find line.0 line.1) lines last
 
 pub some_there : {A : Type 0} (x : A) (xs : List A) → is_empty (x ∷ xs) ≡ false
 some_there x xs = let some : 0 < length (x ∷ xs) = omega arith in grind (arith, nat_tests)
 
-pub closed_again : (body : Statements) → closed_at (end_line body) (list body) ≡ body
+pub closed_again : (body : Statements) → closed_at (end_line body) (statement_list body) ≡ body
 closed_again (Closed line) = refl
 closed_again (Then s rest) = ap (Then s) (closed_again rest)
 
@@ -51,9 +51,9 @@ module _ (find : Finder) (part : Part) (names : NameLists) (version : ℕ) (foun
   known_at kind place p = rw (found kind place p) refl
 
   -- one line that is a statement of its own
-  simple : (opening : Opening) (done : List Statement) (outer : List Open) (line : Line) (rest : List Line) (last : Part) (s : Statement) → faults.may_stand (so_far (at (inside opening done outer))) line.1 ≡ not (is_empty (inside opening done outer)) → faults.uses_unknown (is_known part.names find) line.1 ≡ false
-      → faults.declares_again (so_far (at (inside opening done outer))) line.1 ≡ false → faults.closes_nothing (so_far (at (inside opening done outer))) line.1 ≡ false → faults.is_too_many (so_far (at (inside opening done outer))) line.1 ≡ false
-      → taken (at (inside opening done outer)) find line.0 line.1 ≡ at (inside opening (done ++ s ∷ []) outer)
+  simple : (opening : Opening) (done : List Statement) (outer : List Open) (line : Line) (rest : List Line) (last : Part) (s : Statement) → faults.may_stand (so_far_in (at (inside opening done outer))) line.1 ≡ not (is_empty (inside opening done outer)) → faults.uses_unknown (is_known_name part.names find) line.1 ≡ false
+      → faults.declares_again (so_far_in (at (inside opening done outer))) line.1 ≡ false → faults.closes_nothing (so_far_in (at (inside opening done outer))) line.1 ≡ false → faults.is_too_many (so_far_in (at (inside opening done outer))) line.1 ≡ false
+      → with_form (at (inside opening done outer)) find line.0 line.1 ≡ at (inside opening (done ++ s ∷ []) outer)
       → Runs find (at (inside opening (done ++ s ∷ []) outer)) rest last → Runs find (at (inside opening done outer)) (line ∷ rest) last
   simple opening done outer line rest last s m u d c t e r = (
     record { stands = m ∙ ap not (some_there (record { opening = opening; done = done }) outer); known = u; fresh = d; closes = c; few = t },
@@ -70,14 +70,14 @@ module _ (find : Finder) (part : Part) (names : NameLists) (version : ℕ) (foun
   into_line verb line reg place opening done outer rest last p r =
       simple opening done outer (line, forms.Into verb reg (name_at (list_of (forms.into_kind verb) names) place)) rest last (into_statement verb line reg place) refl (known_at (forms.into_kind verb) place p) refl refl refl (rw (found (forms.into_kind verb) place p) refl) r
 
-  ends_run : (inner : Opening) (body : List Statement) (opening : Opening) (done : List Statement) (outer : List Open) (end : ℕ) (rest : List Line) (last : Part) (s : Statement) → reading.ended (at (inside inner body (inside opening done outer))) (inside inner body (inside opening done outer)) end ≡ at (inside opening (done ++ s ∷ []) outer)
+  ends_run : (inner : Opening) (body : List Statement) (opening : Opening) (done : List Statement) (outer : List Open) (end : ℕ) (rest : List Line) (last : Part) (s : Statement) → reading.with_end (at (inside inner body (inside opening done outer))) (inside inner body (inside opening done outer)) end ≡ at (inside opening (done ++ s ∷ []) outer)
       → Runs find (at (inside opening (done ++ s ∷ []) outer)) rest last → Runs find (at (inside inner body (inside opening done outer))) ((end, forms.End) ∷ rest) last
   ends_run inner body opening done outer end rest last s e r =
       (record { stands = refl; known = refl; fresh = refl; closes = some_there (record { opening = inner; done = body }) (inside opening done outer); few = refl }, subst (λ (p : Part). Runs find p rest last) (sym e) r)
 
-  opens_run : (inner : Opening) (line : Line) (opening : Opening) (done : List Statement) (outer : List Open) (rest : List Line) (last : Part) → faults.may_stand (so_far (at (inside opening done outer))) line.1 ≡ not (is_empty (inside opening done outer)) → faults.uses_unknown (is_known part.names find) line.1 ≡ false
-      → faults.declares_again (so_far (at (inside opening done outer))) line.1 ≡ false → faults.closes_nothing (so_far (at (inside opening done outer))) line.1 ≡ false → faults.is_too_many (so_far (at (inside opening done outer))) line.1 ≡ nat_le 33 (length (inside opening done outer)) → length outer < 32
-      → taken (at (inside opening done outer)) find line.0 line.1 ≡ at (inside inner [] (inside opening done outer)) → Runs find (at (inside inner [] (inside opening done outer))) rest last → Runs find (at (inside opening done outer)) (line ∷ rest) last
+  opens_run : (inner : Opening) (line : Line) (opening : Opening) (done : List Statement) (outer : List Open) (rest : List Line) (last : Part) → faults.may_stand (so_far_in (at (inside opening done outer))) line.1 ≡ not (is_empty (inside opening done outer)) → faults.uses_unknown (is_known_name part.names find) line.1 ≡ false
+      → faults.declares_again (so_far_in (at (inside opening done outer))) line.1 ≡ false → faults.closes_nothing (so_far_in (at (inside opening done outer))) line.1 ≡ false → faults.is_too_many (so_far_in (at (inside opening done outer))) line.1 ≡ nat_le 33 (length (inside opening done outer)) → length outer < 32
+      → with_form (at (inside opening done outer)) find line.0 line.1 ≡ at (inside inner [] (inside opening done outer)) → Runs find (at (inside inner [] (inside opening done outer))) rest last → Runs find (at (inside opening done outer)) (line ∷ rest) last
   opens_run inner line opening done outer rest last m u d c t few e r =
       let block : Open = record { opening = opening; done = done } in (
         record { stands = m ∙ ap not (some_there (record { opening = opening; done = done }) outer); known = u; fresh = d; closes = c; few = t ∙ lt-leb 33 (length (inside opening done outer)) (omega (arith, few)) },
@@ -85,7 +85,7 @@ module _ (find : Finder) (part : Part) (names : NameLists) (version : ℕ) (foun
       )
 
   turns_run : (line : ℕ) (test : Expression) (first : Statements) (opening : Opening) (done : List Statement) (outer : List Open) (rest : List Line) (last : Part) → Runs find (at (inside (Else line test first) [] (inside opening done outer))) rest last
-      → Runs find (at (inside (If line test) (list first) (inside opening done outer))) ((end_line first, forms.Else) ∷ rest) last
+      → Runs find (at (inside (If line test) (statement_list first) (inside opening done outer))) ((end_line first, forms.Else) ∷ rest) last
   turns_run line test first opening done outer rest last r = (
     record { stands = refl; known = refl; fresh = refl; closes = refl; few = refl },
     subst (λ (b : Statements). Runs find (at (inside (Else line test b) [] (inside opening done outer))) rest last) (sym (closed_again first)) r,
@@ -134,13 +134,13 @@ module _ (find : Finder) (part : Part) (names : NameLists) (version : ℕ) (foun
         let made : Statement = trees.If line test body in
         opens_run (If line test) (line, forms.If test) opening done outer (block_lines names forms.End body ++ rest) last refl refl refl refl refl (omega (arith, e, some)) refl
         (body_runs body (If line test) [] (inside opening done outer) forms.End rest last (room - 1) (omega (arith, e, some)) a.1
-        (ends_run (If line test) (list body) opening done outer (end_line body) rest last (trees.If line test body) (ap (λ (b : Statements). at (inside opening (done ++ trees.If line test b ∷ []) outer)) (closed_again body)) r))
+        (ends_run (If line test) (statement_list body) opening done outer (end_line body) rest last (trees.If line test body) (ap (λ (b : Statements). at (inside opening (done ++ trees.If line test b ∷ []) outer)) (closed_again body)) r))
     statement_runs (trees.While line test body) opening done outer rest last room e f r =
         let a = and_parts (line_fits line && expression_fits test && nat_lt 0 room) (statements_fit version names (room - 1) body) f in
         let some : 0 < room = ltb-true 0 room (and_parts (line_fits line && expression_fits test) (nat_lt 0 room) a.0).1 in
         opens_run (While line test) (line, forms.While test) opening done outer (block_lines names forms.End body ++ rest) last refl refl refl refl refl (omega (arith, e, some)) refl
         (body_runs body (While line test) [] (inside opening done outer) forms.End rest last (room - 1) (omega (arith, e, some)) a.1
-        (ends_run (While line test) (list body) opening done outer (end_line body) rest last (trees.While line test body) (ap (λ (b : Statements). at (inside opening (done ++ trees.While line test b ∷ []) outer)) (closed_again body)) r))
+        (ends_run (While line test) (statement_list body) opening done outer (end_line body) rest last (trees.While line test body) (ap (λ (b : Statements). at (inside opening (done ++ trees.While line test b ∷ []) outer)) (closed_again body)) r))
     statement_runs (trees.IfElse line test first otherwise) opening done outer rest last room e f r =
         let b = and_parts (line_fits line && expression_fits test && nat_lt 0 room && statements_fit version names (room - 1) first) (statements_fit version names (room - 1) otherwise) f in
         let a = and_parts (line_fits line && expression_fits test && nat_lt 0 room) (statements_fit version names (room - 1) first) b.0 in
@@ -151,14 +151,14 @@ module _ (find : Finder) (part : Part) (names : NameLists) (version : ℕ) (foun
         (body_runs first (If line test) [] (inside opening done outer) forms.Else (block_lines names forms.End otherwise ++ rest) last (room - 1) (omega (arith, e, some)) a.1
         (turns_run line test first opening done outer (block_lines names forms.End otherwise ++ rest) last
         (body_runs otherwise (Else line test first) [] (inside opening done outer) forms.End rest last (room - 1) (omega (arith, e, some)) b.1
-        (ends_run (Else line test first) (list otherwise) opening done outer (end_line otherwise) rest last (trees.IfElse line test first otherwise) (ap (λ (b : Statements). at (inside opening (done ++ trees.IfElse line test first b ∷ []) outer)) (closed_again otherwise)) r)))))
+        (ends_run (Else line test first) (statement_list otherwise) opening done outer (end_line otherwise) rest last (trees.IfElse line test first otherwise) (ap (λ (b : Statements). at (inside opening (done ++ trees.IfElse line test first b ∷ []) outer)) (closed_again otherwise)) r)))))
 
-    pub body_runs : (body : Statements) (opening : Opening) (done : List Statement) (outer : List Open) (closing : Meant) (rest : List Line) (last : Part) (room : ℕ) → room ≡ 32 - length outer → statements_fit version names room body ≡ true
-        → Runs find (at (inside opening (done ++ list body) outer)) ((end_line body, closing) ∷ rest) last → Runs find (at (inside opening done outer)) (block_lines names closing body ++ rest) last
+    pub body_runs : (body : Statements) (opening : Opening) (done : List Statement) (outer : List Open) (closing : MeantForm) (rest : List Line) (last : Part) (room : ℕ) → room ≡ 32 - length outer → statements_fit version names room body ≡ true
+        → Runs find (at (inside opening (done ++ statement_list body) outer)) ((end_line body, closing) ∷ rest) last → Runs find (at (inside opening done outer)) (block_lines names closing body ++ rest) last
     body_runs (Closed line) opening done outer closing rest last room e f r = subst (λ (d : List Statement). Runs find (at (inside opening d outer)) ((line, closing) ∷ rest) last) (append-nil done) r
     body_runs (Then s more) opening done outer closing rest last room e f r =
         let a = and_parts (statement_fits version names room s) (statements_fit version names room more) f in
         subst (λ (ls : List Line). Runs find (at (inside opening done outer)) ls last) (sym (append_assoc (statement_lines names s) (block_lines names closing more) rest))
         (statement_runs s opening done outer (block_lines names closing more ++ rest) last room e a.0
         (body_runs more opening (done ++ s ∷ []) outer closing rest last room e a.1
-        (subst (λ (d : List Statement). Runs find (at (inside opening d outer)) ((end_line more, closing) ∷ rest) last) (sym (append_assoc done (s ∷ []) (list more))) r)))
+        (subst (λ (d : List Statement). Runs find (at (inside opening d outer)) ((end_line more, closing) ∷ rest) last) (sym (append_assoc done (s ∷ []) (statement_list more))) r)))

@@ -13,15 +13,15 @@ use Rattle.pct_ask.specs.NameLists.{AreNames, no_names, list_of}
 use Rattle.pct_ask.specs.declared.names.NameKind.{NameKind}
 use Rattle.pct_ask.specs.declared.names.NameKind.TheVariants as kinds
 use Rattle.script_tree.specs.declared.fault.ScriptFault.TheVariants as fault
-use Rattle.script_tree.specs.Forms.{Meant, tokens_of_form, IsForm}
+use Rattle.script_tree.specs.Forms.{MeantForm, tokens_of_form, IsForm}
 use Rattle.script_tree.specs.Fitting.{line_fits, rwlocks_fit}
 use Rattle.script_tree.specs.Ranges as ranges
-use Rattle.script_tree.specs.Lines.{tokens_in, is_blank_line, version_in, just_thread, thread_in, threads_in}
+use Rattle.script_tree.specs.Lines.{tokens_in, is_blank_line, version_in, just_thread, thread_in, threads_begun}
 use Rattle.script_tree.specs.Faults.{are_blank}
-use Rattle.script_tree.specs.Grammar.{Line, AreLines, IsSound}
+use Rattle.script_tree.specs.Grammar.{Line, AreLines, IsLineText}
 use Rattle.script_parse.specs.Part.{Part}
 use Rattle.script_parse.specs.Saying.{form_in}
-use Rattle.script_parse.specs.Reading.{form_fault, taken, bytes_fault, unless, wrapped, blank_fault, header_taken, begun, start, line_taken, tokens_taken, form_taken}
+use Rattle.script_parse.specs.Reading.{form_fault, with_form, bytes_fault, unless, some_part, blank_fault, header_taken, part_after_header, first_part, line_taken, tokens_taken, form_taken}
 use Rattle.script_parse.proofs.Choices.{some, some_is, passed}
 use Rattle.script_parse.proofs.ExpressionWhole.{exact}
 use Rattle.script_parse.proofs.FormSound.{form_says}
@@ -47,15 +47,15 @@ pub record Reads (threads : List (List ℕ)) (part : Part) (before : List (List 
   pub are_lines : AreLines part.version (length above + 2) below lines
   pub has : HasRead threads part lines (length before)
   pub values : AreValues part (map tokens_in below)
-  pub promised : threads_in before ≡ part.names.threads
-  pub sound : All IsSound before
+  pub promised : threads_begun before ≡ part.names.threads
+  pub sound : All IsLineText before
   pub few : length before ≤ 4096
 
 -- what holds above the header
 pub record ReadsNone (before : List (List ℕ)) : Type 0 where
   pub blank : are_blank before ≡ true
-  pub promised : threads_in before ≡ []
-  pub sound : All IsSound before
+  pub promised : threads_begun before ≡ []
+  pub sound : All IsLineText before
 
 abbrev pub ReadsBefore : List (List ℕ) → Option Part → List (List ℕ) → Type 0
 ReadsBefore threads None before = ReadsNone before
@@ -64,7 +64,7 @@ ReadsBefore threads (Some part) before = Reads threads part before
 -- ---- bytes
 
 record IsPlain (number : ℕ) (line : List ℕ) : Type 0 where
-  sound : IsSound line
+  sound : IsLineText line
   few : number ≤ 4096
 
 bytes_plain : (number : ℕ) (line : List ℕ) (u l t : Bool) → is_utf8 line ≡ not u → nat_lt 256 (length line) ≡ l → nat_lt 4096 number ≡ t → (r : Step) (next : Option Part)
@@ -86,11 +86,12 @@ on_line number n e few = rw (le-leb 1 (n + 1) (omega arith), le-leb (n + 1) 4096
 
 -- ---- threads that lines begin
 
-threads_push : (before : List (List ℕ)) (line : List ℕ) → is_utf8 line ≡ true → threads_in (before ++ line ∷ []) ≡ threads_in before ++ filter_map just_thread (tokens_in line ∷ [])
+threads_push : (before : List (List ℕ)) (line : List ℕ) → is_utf8 line ≡ true → threads_begun (before ++ line ∷ []) ≡ threads_begun before ++ filter_map just_thread (tokens_in line ∷ [])
 threads_push before line u = filter_map-append thread_in before (line ∷ []) ∙ rw u refl
 
-blank_threads : (before : List (List ℕ)) (line : List ℕ) → is_utf8 line ≡ true → tokens_of line ≡ Some [] → threads_in (before ++ line ∷ []) ≡ threads_in before
-blank_threads before line u e = threads_push before line u ∙ rw e (append-nil (threads_in before))
+blank_threads : (before : List (List ℕ)) (line : List ℕ) → is_utf8 line ≡ true → tokens_of line ≡ Some [] → threads_begun (before ++ line ∷ []) ≡ threads_begun before
+blank_threads before line u e =
+    threads_push before line u ∙ rw e (append-nil (threads_begun before))
 
 later : (threads : List (List ℕ)) (part : Part) (lines : List Line) (n m : ℕ) → n ≤ m → HasRead threads part lines n → HasRead threads part lines m
 later threads part lines n m few h = record {
@@ -129,16 +130,17 @@ blank_reads threads part before line r p e =
       has = later threads part r.lines (length before) (length (before ++ line ∷ [])) (omega (arith, longer)) r.has;
       values = subst (AreValues part) (sym (behind_tokens r.below line [] e)) (blank_values part (map tokens_in r.below) r.values);
       promised = blank_threads before line p.sound.text e ∙ r.promised;
-      sound = All-push IsSound before line r.sound p.sound;
+      sound = All-push IsLineText before line r.sound p.sound;
       few = omega (arith, longer, p.few);
     }
 
 -- a line of some form
-form_reads : (threads : List (List ℕ)) (part : Part) (before : List (List ℕ)) (line : List ℕ) (tokens : List Token) (meant : Meant) (last : Bool) → Reads threads part before → IsPlain (length before + 1) line → tokens_of line ≡ Some tokens → form_in exact part.version tokens ≡ Some meant → form_fault part (finder threads) last tokens meant ≡ None
-    → Reads threads (taken part (finder threads) (length before + 1) meant) (before ++ line ∷ [])
+form_reads : (threads : List (List ℕ)) (part : Part) (before : List (List ℕ)) (line : List ℕ) (tokens : List Token) (meant : MeantForm) (last : Bool) → Reads threads part before → IsPlain (length before + 1) line → tokens_of line ≡ Some tokens → form_in exact part.version tokens ≡ Some meant → form_fault part (finder threads) last tokens meant ≡ None
+    → Reads threads (with_form part (finder threads) (length before + 1) meant)
+    (before ++ line ∷ [])
 form_reads threads part before line tokens meant last r p e f g =
     let longer : length (before ++ line ∷ []) ≡ length before + 1 = length_push before line in
-    let next : Part = taken part (finder threads) (length before + 1) meant in
+    let next : Part = with_form part (finder threads) (length before + 1) meant in
     let has = form_says part.version tokens meant f in
     let no_fault = no_fault_parts part (finder threads) last tokens meant g in
     let here : tokens_in line ≡ tokens = cut_tokens line tokens e in
@@ -161,23 +163,23 @@ form_reads threads part before line tokens meant last r p e f g =
       has = later threads next (r.lines ++ (length before + 1, meant) ∷ []) (length before + 1) (length (before ++ line ∷ [])) (omega (arith, longer)) kept;
       values = subst (AreValues next) (sym (map_push tokens_in r.below line ∙ ap (λ (ts : List Token). map tokens_in r.below ++ ts ∷ []) cut_is)) adds.values;
       promised = threads_push before line p.sound.text ∙ ap (λ (ns : List (List ℕ)). ns ++ filter_map just_thread (tokens_in line ∷ [])) r.promised ∙ ap (λ (ts : List Token). part.names.threads ++ filter_map just_thread (ts ∷ [])) cut_is ∙ adds.thread;
-      sound = All-push IsSound before line r.sound p.sound;
+      sound = All-push IsLineText before line r.sound p.sound;
       few = omega (arith, longer, p.few);
     }
 
 -- ---- one line more
 
-below_reads : (threads : List (List ℕ)) (part : Part) (last : Bool) (before : List (List ℕ)) (line : List ℕ) (next : Option Part) (found : Option (List Token)) → Reads threads part before → IsPlain (length before + 1) line → tokens_of line ≡ found → wrapped (tokens_taken exact part (finder threads) (length before + 1) last found) ≡ Ok next → ReadsBefore threads next (before ++ line ∷ [])
+below_reads : (threads : List (List ℕ)) (part : Part) (last : Bool) (before : List (List ℕ)) (line : List ℕ) (next : Option Part) (found : Option (List Token)) → Reads threads part before → IsPlain (length before + 1) line → tokens_of line ≡ found → some_part (tokens_taken exact part (finder threads) (length before + 1) last found) ≡ Ok next → ReadsBefore threads next (before ++ line ∷ [])
 below_reads threads part last before line next None r p e w = err_ok w
 below_reads threads part last before line next (Some []) r p e w =
     let ok = wrapped_ok (blank_fault part last) part next w in
     subst (λ (x : Option Part). ReadsBefore threads x (before ++ line ∷ [])) ok.1 (blank_reads threads part before line r p e)
 below_reads threads part last before line next (Some (token ∷ tokens)) r p e w = by_form (form_in exact part.version (token ∷ tokens)) refl w
   where
-    by_form : (found : Option Meant) → form_in exact part.version (token ∷ tokens) ≡ found → wrapped (form_taken part (finder threads) (length before + 1) last (token ∷ tokens) found) ≡ Ok next → ReadsBefore threads next (before ++ line ∷ [])
+    by_form : (found : Option MeantForm) → form_in exact part.version (token ∷ tokens) ≡ found → some_part (form_taken part (finder threads) (length before + 1) last (token ∷ tokens) found) ≡ Ok next → ReadsBefore threads next (before ++ line ∷ [])
     by_form None f w = err_ok w
     by_form (Some meant) f w =
-        let ok = wrapped_ok (form_fault part (finder threads) last (token ∷ tokens) meant) (taken part (finder threads) (length before + 1) meant) next w in
+        let ok = wrapped_ok (form_fault part (finder threads) last (token ∷ tokens) meant) (with_form part (finder threads) (length before + 1) meant) next w in
         subst (λ (x : Option Part). ReadsBefore threads x (before ++ line ∷ [])) ok.1 (form_reads threads part before line (token ∷ tokens) meant last r p e f ok.0)
 
 -- the version of a header
@@ -214,7 +216,7 @@ no_rwlocks version = by_test (nat_le 3 version)
     by_test true = refl
     by_test false = refl
 
-start_has : (threads : List (List ℕ)) (version n : ℕ) → 1 ≤ version → version ≤ 3 → HasRead threads (start version) [] n
+start_has : (threads : List (List ℕ)) (version n : ℕ) → 1 ≤ version → version ≤ 3 → HasRead threads (first_part version) [] n
 start_has threads version n low high = record {
   first_version = low;
   last_version = high;
@@ -237,10 +239,10 @@ above_reads threads last before line next None r p e w = err_ok w
 above_reads threads last before line next (Some []) r p e w =
     let blank : is_blank_line line ≡ true = rw e refl in
     subst (λ (x : Option Part). ReadsBefore threads x (before ++ line ∷ [])) (ok_is w)
-    (record { blank = list_all-append is_blank_line before (line ∷ []) ∙ rw (r.blank, blank) refl; promised = blank_threads before line p.sound.text e ∙ r.promised; sound = All-push IsSound before line r.sound p.sound })
+    (record { blank = list_all-append is_blank_line before (line ∷ []) ∙ rw (r.blank, blank) refl; promised = blank_threads before line p.sound.text e ∙ r.promised; sound = All-push IsLineText before line r.sound p.sound })
 above_reads threads last before line next (Some (token ∷ tokens)) r p e w = by_version last (version_in (token ∷ tokens)) refl w
   where
-    by_version : (last : Bool) (found : Option ℕ) → version_in (token ∷ tokens) ≡ found → wrapped (begun last found) ≡ Ok next → ReadsBefore threads next (before ++ line ∷ [])
+    by_version : (last : Bool) (found : Option ℕ) → version_in (token ∷ tokens) ≡ found → some_part (part_after_header last found) ≡ Ok next → ReadsBefore threads next (before ++ line ∷ [])
     by_version last None v w = err_ok w
     by_version true (Some version) v w = err_ok w
     by_version false (Some version) v w =
@@ -258,8 +260,8 @@ above_reads threads last before line next (Some (token ∷ tokens)) r p e w = by
           are_lines = refl;
           has = start_has threads version (length (before ++ line ∷ [])) range.0 range.1;
           values = record { vars = refl; sems = refl; barriers = refl };
-          promised = threads_push before line p.sound.text ∙ rw (here, header_thread (token ∷ tokens) version v) (append-nil (threads_in before) ∙ r.promised);
-          sound = All-push IsSound before line r.sound p.sound;
+          promised = threads_push before line p.sound.text ∙ rw (here, header_thread (token ∷ tokens) version v) (append-nil (threads_begun before) ∙ r.promised);
+          sound = All-push IsLineText before line r.sound p.sound;
           few = omega (arith, longer, p.few);
         })
 

@@ -16,12 +16,12 @@ use Rattle.pct_ask.specs.declared.names.NameKind.TheVariants as kinds
 use Rattle.script_tree.specs.ScriptText.{ScriptText}
 use Rattle.script_tree.specs.declared.fault.ScriptFault.TheVariants as fault
 use Rattle.script_tree.specs.Fitting.{thread_fits}
-use Rattle.script_tree.specs.Lines.{tokens_in, is_blank_line, is_nothing, version_in, names_of, named, depth, threads_in}
+use Rattle.script_tree.specs.Lines.{tokens_in, is_blank_line, is_nothing, version_in, names_of, declared_name, depth, threads_begun}
 use Rattle.script_tree.specs.Faults as faults
 use Rattle.script_tree.specs.Faults.{are_blank}
 use Rattle.script_tree.specs.Grammar.{AreLines, Spells, all_thread_lines}
 use Rattle.script_parse.specs.Part.{Open, Part}
-use Rattle.script_parse.specs.Reading.{is_empty, line_taken, then_read, read_from, read, script_of, blank_text_fault}
+use Rattle.script_parse.specs.Reading.{is_empty, line_taken, then_read, script_from, read_as_script, script_of, blank_text_fault}
 use Rattle.script_parse.proofs.ExpressionWhole.{exact}
 use Rattle.script_parse.proofs.Standing.{Lines, Stands, depth_is}
 use Rattle.script_parse.proofs.Agreeing.{leaves_open_same, few_ended, lacks_thread_same}
@@ -37,22 +37,22 @@ use Rattle.script_parse.proofs.SoundText.{Reads, ReadsBefore, line_reads}
 record IsReached (lines : List (List ℕ)) (script : ScriptText) : Type 0 where
   part : Part
   script_is : script_of part ≡ script
-  reads : Reads (threads_in lines) part lines
+  reads : Reads (threads_begun lines) part lines
   stands : Stands part (map tokens_in lines)
 
-reached : (rest lines before : List (List ℕ)) (state : Option Part) (n : ℕ) (script : ScriptText) → n ≡ length before + 1 → lines ≡ before ++ rest → ReadsBefore (threads_in lines) state before → StandsBefore state before → read_from exact (finder (threads_in lines)) state n rest ≡ Ok script → IsReached lines script
+reached : (rest lines before : List (List ℕ)) (state : Option Part) (n : ℕ) (script : ScriptText) → n ≡ length before + 1 → lines ≡ before ++ rest → ReadsBefore (threads_begun lines) state before → StandsBefore state before → script_from exact (finder (threads_begun lines)) state n rest ≡ Ok script → IsReached lines script
 reached [] lines before None n script count e r s f = err_ok f
 reached [] lines before (Some part) n script count e r s f =
     let same : before ≡ lines = sym (append-nil before) ∙ sym e in
-    record { part = part; script_is = ok_is f; reads = subst (Reads (threads_in lines) part) same r; stands = subst (λ (ls : List (List ℕ)). Stands part (map tokens_in ls)) same s.1 }
+    record { part = part; script_is = ok_is f; reads = subst (Reads (threads_begun lines) part) same r; stands = subst (λ (ls : List (List ℕ)). Stands part (map tokens_in ls)) same s.1 }
 reached (line ∷ rest) lines before state n script count e r s f =
-    by_step (line_taken exact state (finder (threads_in lines)) n (is_empty rest) line) refl f
+    by_step (line_taken exact state (finder (threads_begun lines)) n (is_empty rest) line) refl f
     (λ next t g. reached rest lines (before ++ line ∷ []) next (n + 1) script (omega (arith, count, length_push before line)) (e ∙ sym (append_assoc before (line ∷ []) rest))
-    (line_reads (threads_in lines) state (is_empty rest) before line next r (subst (λ (m : ℕ). line_taken exact state (finder (threads_in lines)) m (is_empty rest) line ≡ Ok next) count t))
-    (line_next state (finder (threads_in lines)) n (is_empty rest) before line next s t) g)
+    (line_reads (threads_begun lines) state (is_empty rest) before line next r (subst (λ (m : ℕ). line_taken exact state (finder (threads_begun lines)) m (is_empty rest) line ≡ Ok next) count t))
+    (line_next state (finder (threads_begun lines)) n (is_empty rest) before line next s t) g)
   where
-    by_step : (result : Step) → line_taken exact state (finder (threads_in lines)) n (is_empty rest) line ≡ result → then_read n result (λ next. read_from exact (finder (threads_in lines)) next (n + 1) rest) ≡ Ok script
-        → ((next : Option Part) → line_taken exact state (finder (threads_in lines)) n (is_empty rest) line ≡ Ok next → read_from exact (finder (threads_in lines)) next (n + 1) rest ≡ Ok script → IsReached lines script) → IsReached lines script
+    by_step : (result : Step) → line_taken exact state (finder (threads_begun lines)) n (is_empty rest) line ≡ result → then_read n result (λ next. script_from exact (finder (threads_begun lines)) next (n + 1) rest) ≡ Ok script
+        → ((next : Option Part) → line_taken exact state (finder (threads_begun lines)) n (is_empty rest) line ≡ Ok next → script_from exact (finder (threads_begun lines)) next (n + 1) rest ≡ Ok script → IsReached lines script) → IsReached lines script
     by_step (Err kind) t g go = err_ok g
     by_step (Ok next) t g go = go next t g
 
@@ -95,13 +95,13 @@ blank_names (line ∷ above) kind b =
         by_tokens (Some []) b = refl
         by_tokens (Some (token ∷ tokens)) b = absurd cc
 
-header_nameless : (tokens : List Token) (version : ℕ) (kind : NameKind) → version_in tokens ≡ Some version → named kind tokens ≡ None
+header_nameless : (tokens : List Token) (version : ℕ) (kind : NameKind) → version_in tokens ≡ Some version → declared_name kind tokens ≡ None
 header_nameless (Word word ∷ Number (digit ∷ []) ∷ []) version kind e = refl
 header_nameless tokens version kind e = absurd cc
 
 below_names : (above below : List (List ℕ)) (header : List ℕ) (version : ℕ) (kind : NameKind) → are_blank above ≡ true → version_in (tokens_in header) ≡ Some version → names_of kind (map tokens_in (above ++ header ∷ below)) ≡ names_of kind (map tokens_in below)
 below_names above below header version kind b v =
-    ap (names_of kind) (map-append tokens_in above (header ∷ below)) ∙ filter_map-append (named kind) (map tokens_in above) (map tokens_in (header ∷ below))
+    ap (names_of kind) (map-append tokens_in above (header ∷ below)) ∙ filter_map-append (declared_name kind) (map tokens_in above) (map tokens_in (header ∷ below))
     ∙ rw (blank_names above kind b, header_nameless (tokens_in header) version kind v) refl
 
 all_lawful : (version : ℕ) (names : NameLists) → ((kind : NameKind) → list_all (is_name version) (list_of kind names) ≡ true) → list_all (is_name version) (all_names names) ≡ true
@@ -142,15 +142,15 @@ ended lines part l s t =
           no_thread (refl, sym (lacks_thread_same front line) ∙ ap is_empty (same_names ∙ h)));
     }
 
-spelled_part : (bytes : List ℕ) (part : Part) → length bytes ≤ 1048576 → Reads (threads_in (lines_of bytes)) part (lines_of bytes) → Stands part (map tokens_in (lines_of bytes)) → IsEnded part → Spells bytes (script_of part)
+spelled_part : (bytes : List ℕ) (part : Part) → length bytes ≤ 1048576 → Reads (threads_begun (lines_of bytes)) part (lines_of bytes) → Stands part (map tokens_in (lines_of bytes)) → IsEnded part → Spells bytes (script_of part)
 spelled_part bytes part small r s e =
     let h = r.has in
-    let T : List (List ℕ) = threads_in (lines_of bytes) in
-    let names : with_threads (threads_in (lines_of bytes)) part.names ≡ part.names = same_threads (threads_in (lines_of bytes)) part.names r.promised in
+    let T : List (List ℕ) = threads_begun (lines_of bytes) in
+    let names : with_threads (threads_begun (lines_of bytes)) part.names ≡ part.names = same_threads (threads_begun (lines_of bytes)) part.names r.promised in
     let closed : part.names.threads ≡ h.closed = h.names_are ∙ ap (λ (bs : List Open). h.closed ++ open_names bs h.current) e.closed ∙ append-nil h.closed in
-    let no_body : h.body ≡ [] = h.is_open.lines_are ∙ ap (open_lines part.version (with_threads (threads_in (lines_of bytes)) part.names) h.current) e.closed in
+    let no_body : h.body ≡ [] = h.is_open.lines_are ∙ ap (open_lines part.version (with_threads (threads_begun (lines_of bytes)) part.names) h.current) e.closed in
     let lines_are : r.lines ≡ h.top ++ all_thread_lines part.names part.names.threads part.threads =
-    h.lines_are ∙ rw (no_body, append-nil (all_thread_lines (with_threads (threads_in (lines_of bytes)) part.names) h.closed part.threads))
+    h.lines_are ∙ rw (no_body, append-nil (all_thread_lines (with_threads (threads_begun (lines_of bytes)) part.names) h.closed part.threads))
     (ap (λ (ns : NameLists). h.top ++ all_thread_lines ns h.closed part.threads) names ∙ ap (λ (ns : List (List ℕ)). h.top ++ all_thread_lines part.names ns part.threads) (sym closed)) in
     let fits : list_all (thread_fits part.version part.names) part.threads ≡ true = subst (λ (ns : NameLists). list_all (thread_fits part.version ns) part.threads ≡ true) names h.threads_fit in
     let same : length part.threads ≡ length part.names.threads = h.same_threads ∙ ap length (sym closed) in
@@ -189,11 +189,11 @@ spelled_part bytes part small r s e =
       };
     }
 
-spelled_lines : (bytes : List ℕ) (script : ScriptText) → length bytes ≤ 1048576 → are_blank (lines_of bytes) ≡ false → read_from exact (finder (threads_in (lines_of bytes))) None 1 (lines_of bytes) ≡ Ok script → Spells bytes script
+spelled_lines : (bytes : List ℕ) (script : ScriptText) → length bytes ≤ 1048576 → are_blank (lines_of bytes) ≡ false → script_from exact (finder (threads_begun (lines_of bytes))) None 1 (lines_of bytes) ≡ Ok script → Spells bytes script
 spelled_lines bytes script small says e =
     let lines : List (List ℕ) = lines_of bytes in
     let r = reached (lines_of bytes) (lines_of bytes) [] None 1 script refl refl (record { blank = refl; promised = refl; sound = All-nil _ }) (refl, quiet_none) e in
-    let tells : TellsFault (read_from exact (finder_of (lines_of bytes)) None 1 (lines_of bytes)) (lines_of bytes) = all_tell (lines_of bytes) (lines_of bytes) [] None 1 refl refl says (refl, quiet_none) (none_at_first (lines_of bytes)) in
+    let tells : TellsFault (script_from exact (finder_of (lines_of bytes)) None 1 (lines_of bytes)) (lines_of bytes) = all_tell (lines_of bytes) (lines_of bytes) [] None 1 refl refl says (refl, quiet_none) (none_at_first (lines_of bytes)) in
     let none : TellsFault (Ok (script_of r.part)) (lines_of bytes) = subst (λ (f : Found). TellsFault f (lines_of bytes)) (e ∙ ap ok (sym r.script_is)) tells in
     let last : HasLast (lines_of bytes) = subst HasLast (sym r.reads.split) (has_last r.reads.above r.reads.below r.reads.header) in
     subst (Spells bytes) r.script_is (spelled_part bytes r.part small r.reads r.stands (ended (lines_of bytes) r.part last r.stands none))
@@ -205,13 +205,13 @@ not_err : {A E P : Type 0} {x : E} {y : A} → ◌≡◌ {A = Result A E} (Err x
 not_err e = absurd cc
 
 -- a text that is read as a script spells it
-pub read_is_spelled : (bytes : List ℕ) (script : ScriptText) → read exact bytes ≡ Ok script → Spells bytes script
+pub read_is_spelled : (bytes : List ℕ) (script : ScriptText) → read_as_script exact bytes ≡ Ok script → Spells bytes script
 read_is_spelled bytes script e = by_size (nat_lt 1048576 (length bytes)) refl e
   where
-    by_blank : (b : Bool) → are_blank (lines_of bytes) ≡ b → length bytes ≤ 1048576 → cond b (Err (1, blank_text_fault (lines_of bytes))) (read_from exact (finder (threads_in (lines_of bytes))) None 1 (lines_of bytes)) ≡ Ok script → Spells bytes script
+    by_blank : (b : Bool) → are_blank (lines_of bytes) ≡ b → length bytes ≤ 1048576 → cond b (Err (1, blank_text_fault (lines_of bytes))) (script_from exact (finder (threads_begun (lines_of bytes))) None 1 (lines_of bytes)) ≡ Ok script → Spells bytes script
     by_blank true h small f = not_err f
     by_blank false h small f = spelled_lines bytes script small h f
 
-    by_size : (b : Bool) → nat_lt 1048576 (length bytes) ≡ b → cond b (Err (1, fault.TooMany)) (cond (are_blank (lines_of bytes)) (Err (1, blank_text_fault (lines_of bytes))) (read_from exact (finder (threads_in (lines_of bytes))) None 1 (lines_of bytes))) ≡ Ok script → Spells bytes script
+    by_size : (b : Bool) → nat_lt 1048576 (length bytes) ≡ b → cond b (Err (1, fault.TooMany)) (cond (are_blank (lines_of bytes)) (Err (1, blank_text_fault (lines_of bytes))) (script_from exact (finder (threads_begun (lines_of bytes))) None 1 (lines_of bytes))) ≡ Ok script → Spells bytes script
     by_size true h f = not_err f
     by_size false h f = by_blank (are_blank (lines_of bytes)) refl (ltb-false 1048576 (length bytes) h) f

@@ -15,7 +15,7 @@ use Rattle.script_tree.specs.Fitting.{line_fits, place_fits, expression_fits, st
 use Rattle.pct_ask.specs.TraceText.{name_at}
 use Rattle.script_tree.specs.Grammar.{statement_lines}
 use Rattle.script_tree.specs.Expressions.{IsSpelled, number, register, enclosed, minus, not as negated, two, stronger}
-use Rattle.script_tree.specs.Forms.{OnVerb, RwUnlock, WrLock, Lock, Start, RdLock, IntoVerb, Read, TryRdLock, TryWrLock, Cut, Meant, Plain, Valued, Thread, On, Into, Write, Add, Cas, Wait, Yield, Assert, Set, If, While, End, Else, on_kind, into_kind, on_since, into_since, IsOf, Means}
+use Rattle.script_tree.specs.Forms.{OnVerb, RwUnlock, WrLock, Lock, Start, RdLock, IntoVerb, Read, TryRdLock, TryWrLock, TokenForm, MeantForm, Plain, Valued, Thread, On, Into, Write, Add, Cas, Wait, Yield, Assert, Set, If, While, End, Else, on_kind, into_kind, on_since, into_since, IsFormOf, Means}
 use Rattle.script_parse.specs.Reading.{Finder, place_in, on_statement, into_statement, statement_on}
 use Rattle.script_parse.proofs.Choices.{some_is, mapped_some, bind_some}
 use Rattle.script_parse.proofs.Meanings.{ForEach}
@@ -31,7 +31,7 @@ spelled_fits _ _ _ (two op lefts rights left right hl hr) = rw (spelled_fits _ l
 spelled_fits _ _ _ (stronger level tokens tree h) = spelled_fits _ tokens tree h
 
 -- the expressions of a form are such
-abbrev pub meant_fits : Meant → Bool
+abbrev pub meant_fits : MeantForm → Bool
 meant_fits (Write var value) = expression_fits value
 meant_fits (Add reg var value) = expression_fits value
 meant_fits (Cas reg var old new) = expression_fits old && expression_fits new
@@ -41,7 +41,7 @@ meant_fits (If test) = expression_fits test
 meant_fits (While test) = expression_fits test
 meant_fits form = true
 
-pub means_fits : (cut : Cut) (meant : Meant) → Means cut meant → meant_fits meant ≡ true
+pub means_fits : (cut : TokenForm) (meant : MeantForm) → Means cut meant → meant_fits meant ≡ true
 means_fits (Plain kind name) meant m = rw m refl
 means_fits (Valued kind name value) meant m = rw m refl
 means_fits (Thread name) meant m = rw m refl
@@ -91,7 +91,7 @@ module _ (version : ℕ) (names : NameLists) (room line : ℕ) (on_line : line_f
   into_fits verb reg place v r p = rw (on_line, lt-ltb reg 16 r, p) refl
 
 -- a statement that is read of a line
-pub record IsSaid (version : ℕ) (names : NameLists) (line : ℕ) (meant : Meant) (statement : Statement) : Type 0 where
+pub record IsSaid (version : ℕ) (names : NameLists) (line : ℕ) (meant : MeantForm) (statement : Statement) : Type 0 where
   pub fits : (room : ℕ) → statement_fits version names room statement ≡ true
   pub lines : statement_lines names statement ≡ (line, meant) ∷ []
   pub one : count_of statement ≡ 1
@@ -122,10 +122,10 @@ module _ (version : ℕ) (threads : List (List ℕ)) (names : NameLists) (line :
   abbrev pub all : NameLists
   all = with_threads threads names
 
-  abbrev pub IsStatement : Cut → Meant → Type 0
-  IsStatement cut meant = IsOf version cut → meant_fits meant ≡ true → (s : Statement) → statement_on names (finder threads) line meant ≡ Some s → IsSaid version all line meant s
+  abbrev pub IsStatement : TokenForm → MeantForm → Type 0
+  IsStatement cut meant = IsFormOf version cut → meant_fits meant ≡ true → (s : Statement) → statement_on names (finder threads) line meant ≡ Some s → IsSaid version all line meant s
 
-  var_said : (meant : List ℕ → Meant) (make : ℕ → Statement) (var : List ℕ) (s : Statement) → ((place : ℕ) → place_fits names.vars place ≡ true → (room : ℕ) → statement_fits version all room (make place) ≡ true)
+  var_said : (meant : List ℕ → MeantForm) (make : ℕ → Statement) (var : List ℕ) (s : Statement) → ((place : ℕ) → place_fits names.vars place ≡ true → (room : ℕ) → statement_fits version all room (make place) ≡ true)
       → ((place : ℕ) → statement_lines all (make place) ≡ (line, meant (name_at names.vars place)) ∷ []) → ((place : ℕ) → count_of (make place) ≡ 1) → option_map make (place_in names (finder threads) kinds.Var var) ≡ Some s → IsSaid version all line (meant var) s
   var_said meant make var s f l o e =
       let m = mapped_some make (place_in names (finder threads) kinds.Var var) s e in

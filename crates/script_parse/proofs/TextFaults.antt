@@ -6,12 +6,12 @@ use Rattle.pct_ask.specs.Tokens.{Token, tokens_of}
 use Rattle.pct_ask.specs.NameLists.{place_of}
 use Rattle.script_tree.specs.ScriptText.{ScriptText}
 use Rattle.script_tree.specs.declared.fault.ScriptFault.{ScriptFault}
-use Rattle.script_tree.specs.Forms.{Meant, tokens_of_form}
-use Rattle.script_tree.specs.Lines.{tokens_in, is_blank_line, version_in, threads_in}
-use Rattle.script_tree.specs.Faults.{Place, are_blank, IsFaulty, IsFirstKind, IsFirstLine}
+use Rattle.script_tree.specs.Forms.{MeantForm, tokens_of_form}
+use Rattle.script_tree.specs.Lines.{tokens_in, is_blank_line, version_in, threads_begun}
+use Rattle.script_tree.specs.Faults.{Place, are_blank, IsFaulty, IsFirstKind, HasNoFaultBefore}
 use Rattle.script_parse.specs.Part.{Part}
 use Rattle.script_parse.specs.Saying.{form_in}
-use Rattle.script_parse.specs.Reading.{Finder, is_empty, form_fault, taken, bytes_fault, unless, wrapped, after_fault, blank_fault, header_taken, begun, start, line_taken, tokens_taken, form_taken, then_read, read_from}
+use Rattle.script_parse.specs.Reading.{Finder, is_empty, form_fault, with_form, bytes_fault, unless, some_part, after_fault, blank_fault, header_taken, part_after_header, first_part, line_taken, tokens_taken, form_taken, then_read, script_from}
 use Rattle.script_parse.proofs.ExpressionWhole.{exact}
 use Rattle.script_parse.proofs.FormSound.{form_says}
 use Rattle.script_parse.proofs.FirstKinds.{IsFirst}
@@ -37,7 +37,7 @@ pub unless_ok : (o : Option ScriptFault) (r : Step) (next : Option Part) → unl
 unless_ok None r next e = e
 unless_ok (Some kind) r next e = err_ok e
 
-pub wrapped_ok : (o : Option ScriptFault) (part : Part) (next : Option Part) → wrapped (after_fault o part) ≡ Ok next → (o ≡ None) × (Some part ≡ next)
+pub wrapped_ok : (o : Option ScriptFault) (part : Part) (next : Option Part) → some_part (after_fault o part) ≡ Ok next → (o ≡ None) × (Some part ≡ next)
 wrapped_ok None part next e = (refl, ok_is e)
 wrapped_ok (Some kind) part next e = err_ok e
 
@@ -49,33 +49,34 @@ behind_tokens before line tokens e = map_push tokens_in before line ∙ ap (λ (
 still_below : (before : List (List ℕ)) (line : List ℕ) → are_blank before ≡ false → are_blank (before ++ line ∷ []) ≡ false
 still_below before line b = list_all-append is_blank_line before (line ∷ []) ∙ rw b refl
 
-blank_next : (part : Part) (find : Finder) (n : ℕ) (last : Bool) (before : List (List ℕ)) (line : List ℕ) (next : Option Part) → StandsBefore (Some part) before → tokens_of line ≡ Some [] → wrapped (after_fault (blank_fault part last) part) ≡ Ok next → StandsBefore next (before ++ line ∷ [])
+blank_next : (part : Part) (find : Finder) (n : ℕ) (last : Bool) (before : List (List ℕ)) (line : List ℕ) (next : Option Part) → StandsBefore (Some part) before → tokens_of line ≡ Some [] → some_part (after_fault (blank_fault part last) part) ≡ Ok next → StandsBefore next (before ++ line ∷ [])
 blank_next part find n last before line next s e r =
     let w = wrapped_ok (blank_fault part last) part next r in
     subst (λ (p : Option Part). StandsBefore p (before ++ line ∷ [])) w.1
     (still_below before line s.0, subst (Stands part) (sym (behind_tokens before line [] e)) (blank_stands part (map tokens_in before) s.1))
 
-form_next : (part : Part) (find : Finder) (n : ℕ) (last : Bool) (before : List (List ℕ)) (line : List ℕ) (next : Option Part) (tokens : List Token) (found : Option Meant) → StandsBefore (Some part) before → tokens_of line ≡ Some tokens → form_in exact part.version tokens ≡ found → wrapped (form_taken part find n last tokens found) ≡ Ok next → StandsBefore next (before ++ line ∷ [])
+form_next : (part : Part) (find : Finder) (n : ℕ) (last : Bool) (before : List (List ℕ)) (line : List ℕ) (next : Option Part) (tokens : List Token) (found : Option MeantForm) → StandsBefore (Some part) before → tokens_of line ≡ Some tokens → form_in exact part.version tokens ≡ found → some_part (form_taken part find n last tokens found) ≡ Ok next → StandsBefore next (before ++ line ∷ [])
 form_next part find n last before line next tokens None s e f r = err_ok r
 form_next part find n last before line next tokens (Some meant) s e f r =
-    let w = wrapped_ok (form_fault part find last tokens meant) (taken part find n meant) next r in
+    let w = wrapped_ok (form_fault part find last tokens meant)
+    (with_form part find n meant) next r in
     let has = form_says part.version tokens meant f in
     let stands = taken_stands part.version part find n (map tokens_in before) s.1 has.0 meant has.1.means has.1.of (no_fault_parts part find last tokens meant w.0).closes in
     let behind : map tokens_in (before ++ line ∷ []) ≡ map tokens_in before ++ tokens_of_form has.0 ∷ [] = behind_tokens before line tokens e ∙ ap (λ (ts : List Token). map tokens_in before ++ ts ∷ []) has.1.spelled in
-    subst (λ (p : Option Part). StandsBefore p (before ++ line ∷ [])) w.1 (still_below before line s.0, subst (Stands (taken part find n meant)) (sym behind) stands)
+    subst (λ (p : Option Part). StandsBefore p (before ++ line ∷ [])) w.1 (still_below before line s.0, subst (Stands (with_form part find n meant)) (sym behind) stands)
 
-below_next : (part : Part) (find : Finder) (n : ℕ) (last : Bool) (before : List (List ℕ)) (line : List ℕ) (next : Option Part) (found : Option (List Token)) → StandsBefore (Some part) before → tokens_of line ≡ found → wrapped (tokens_taken exact part find n last found) ≡ Ok next → StandsBefore next (before ++ line ∷ [])
+below_next : (part : Part) (find : Finder) (n : ℕ) (last : Bool) (before : List (List ℕ)) (line : List ℕ) (next : Option Part) (found : Option (List Token)) → StandsBefore (Some part) before → tokens_of line ≡ found → some_part (tokens_taken exact part find n last found) ≡ Ok next → StandsBefore next (before ++ line ∷ [])
 below_next part find n last before line next None s e r = err_ok r
 below_next part find n last before line next (Some []) s e r = blank_next part find n last before line next s e r
 below_next part find n last before line next (Some (token ∷ tokens)) s e r = form_next part find n last before line next (token ∷ tokens) (form_in exact part.version (token ∷ tokens)) s e refl r
 
-begun_next : (before : List (List ℕ)) (line : List ℕ) (last : Bool) (next : Option Part) (token : Token) (tokens : List Token) (version : Option ℕ) → StandsBefore None before → tokens_of line ≡ Some (token ∷ tokens) → version_in (token ∷ tokens) ≡ version → wrapped (begun last version) ≡ Ok next → StandsBefore next (before ++ line ∷ [])
+begun_next : (before : List (List ℕ)) (line : List ℕ) (last : Bool) (next : Option Part) (token : Token) (tokens : List Token) (version : Option ℕ) → StandsBefore None before → tokens_of line ≡ Some (token ∷ tokens) → version_in (token ∷ tokens) ≡ version → some_part (part_after_header last version) ≡ Ok next → StandsBefore next (before ++ line ∷ [])
 begun_next before line last next token tokens None s e v r = err_ok r
 begun_next before line true next token tokens (Some version) s e v r = err_ok r
 begun_next before line false next token tokens (Some version) s e v r =
     subst (λ (p : Option Part). StandsBefore p (before ++ line ∷ [])) (ok_is r) (
       list_all-append is_blank_line before (line ∷ []) ∙ rw (s.0, says_something line token tokens e) refl,
-      subst (Stands (start version)) (sym (behind_tokens before line (token ∷ tokens) e)) (begun_stands (map tokens_in before) (token ∷ tokens) version v s.1),
+      subst (Stands (first_part version)) (sym (behind_tokens before line (token ∷ tokens) e)) (begun_stands (map tokens_in before) (token ∷ tokens) version v s.1),
     )
 
 above_next : (before : List (List ℕ)) (line : List ℕ) (last : Bool) (next : Option Part) (found : Option (List Token)) → StandsBefore None before → tokens_of line ≡ found → header_taken last found ≡ Ok next → StandsBefore next (before ++ line ∷ [])
@@ -93,7 +94,7 @@ line_next (Some part) find n last before line next s r = below_next part find n 
 -- ---- the line's first fault
 
 abbrev pub finder_of : List (List ℕ) → Finder
-finder_of lines name = place_of name (threads_in lines)
+finder_of lines name = place_of name (threads_begun lines)
 
 abbrev pub at_place : List (List ℕ) → List ℕ → List (List ℕ) → Place
 at_place before line after = record { before = before; line = line; after = after }
@@ -148,14 +149,14 @@ Found = Result ScriptText (ℕ × ScriptFault)
 
 abbrev pub TellsFault : Found → List (List ℕ) → Type 0
 TellsFault (Ok script) lines = (before after : List (List ℕ)) (line : List ℕ) → lines ≡ before ++ line ∷ after → (kind : ScriptFault) → ¬ IsFaulty kind (at_place before line after)
-TellsFault (Err found) lines = (place : Place) × (lines ≡ place.before ++ place.line ∷ place.after) × (found.0 ≡ length place.before + 1) × IsFirstLine place × IsFirstKind place found.1
+TellsFault (Err found) lines = (place : Place) × (lines ≡ place.before ++ place.line ∷ place.after) × (found.0 ≡ length place.before + 1) × HasNoFaultBefore place × IsFirstKind place found.1
 
 step_tells : (lines before rest : List (List ℕ)) (line : List ℕ) (result : Step) (more : Option Part → Found) → lines ≡ before ++ line ∷ rest → NoneBefore before (line ∷ rest) → IsFirst (fault_of result) (at_place before line rest)
     → ((next : Option Part) → result ≡ Ok next → NoneBefore (before ++ line ∷ []) rest → TellsFault (more next) lines) → TellsFault (then_read (length before + 1) result more) lines
 step_tells lines before rest line (Err kind) more e none first on = (at_place before line rest, e, refl, λ front back other k split f. none front back other split k f, first)
 step_tells lines before rest line (Ok next) more e none first on = on next refl (none_push before rest line none first)
 
-pub all_tell : (rest : List (List ℕ)) (lines before : List (List ℕ)) (state : Option Part) (n : ℕ) → n ≡ length before + 1 → lines ≡ before ++ rest → are_blank lines ≡ false → StandsBefore state before → NoneBefore before rest → TellsFault (read_from exact (finder_of lines) state n rest) lines
+pub all_tell : (rest : List (List ℕ)) (lines before : List (List ℕ)) (state : Option Part) (n : ℕ) → n ≡ length before + 1 → lines ≡ before ++ rest → are_blank lines ≡ false → StandsBefore state before → NoneBefore before rest → TellsFault (script_from exact (finder_of lines) state n rest) lines
 all_tell [] lines before None n count e says s none = clash (sym (subst (λ (ls : List (List ℕ)). are_blank ls ≡ true) (sym (e ∙ append-nil before)) s.0) ∙ says)
 all_tell [] lines before (Some part) n count e says s none = λ front back line split kind f. none front back line (sym (append-nil before) ∙ sym e ∙ split) kind (subst (λ (b : List (List ℕ)). IsFaulty kind (at_place front line b)) (sym (append-nil back)) f)
 all_tell (line ∷ rest) lines before state n count e says s none =
@@ -163,8 +164,8 @@ all_tell (line ∷ rest) lines before state n count e says s none =
     subst (λ (m : ℕ). IsFirst (fault_of (line_taken exact state (finder_of lines) m (is_empty rest) line)) (at_place before line rest)) (sym count)
     (subst (λ (ls : List (List ℕ)). IsFirst (fault_of (line_taken exact state (finder_of ls) (length before + 1) (is_empty rest) line)) (at_place before line rest)) (sym e)
     (line_first state before line rest s (subst (λ (ls : List (List ℕ)). are_blank ls ≡ false) e says))) in
-    subst (λ (m : ℕ). TellsFault (then_read m (line_taken exact state (finder_of lines) n (is_empty rest) line) (λ next. read_from exact (finder_of lines) next (n + 1) rest)) lines) (sym count)
-    (step_tells lines before rest line (line_taken exact state (finder_of lines) n (is_empty rest) line) (λ next. read_from exact (finder_of lines) next (n + 1) rest) e none first
+    subst (λ (m : ℕ). TellsFault (then_read m (line_taken exact state (finder_of lines) n (is_empty rest) line) (λ next. script_from exact (finder_of lines) next (n + 1) rest)) lines) (sym count)
+    (step_tells lines before rest line (line_taken exact state (finder_of lines) n (is_empty rest) line) (λ next. script_from exact (finder_of lines) next (n + 1) rest) e none first
     (λ next r more. all_tell rest lines (before ++ line ∷ []) next (n + 1) (omega (arith, count, length_push before line)) (e ∙ sym (append_assoc before (line ∷ []) rest)) says (line_next state (finder_of lines) n (is_empty rest) before line next s r) more))
 
 pub none_at_first : (lines : List (List ℕ)) → NoneBefore [] lines

@@ -1,6 +1,6 @@
 -- Lines of a text, one more at the end.
 use Rattle.std.proofs.Common.{◌≡◌, ℕ, ◌+◌, inl, inr, true, length, List, [], ◌∷◌, ◌++◌, refl, ap, arith}
-use Rattle.script_tree.specs.Forms.{Meant}
+use Rattle.script_tree.specs.Forms.{MeantForm}
 use Rattle.script_tree.specs.Lines.{is_blank_line}
 use Rattle.script_tree.specs.Grammar.{Line, Says, AreLines}
 
@@ -9,7 +9,7 @@ blank_more version n [] text lines h b = inl (b, h)
 blank_more version n (t ∷ ts) text lines (inl h) b = inl (h.0, blank_more version (n + 1) ts text lines h.1 b)
 blank_more version n (t ∷ ts) text lines (inr h) b = inr (h.0, h.1, h.2, h.3, blank_more version (n + 1) ts text h.1 h.4 b)
 
-pub says_more : (version n m : ℕ) (texts : List (List ℕ)) (text : List ℕ) (lines : List Line) (meant : Meant) → AreLines version n texts lines → Says version text meant → m ≡ n + length texts → AreLines version n (texts ++ text ∷ []) (lines ++ (m, meant) ∷ [])
+pub says_more : (version n m : ℕ) (texts : List (List ℕ)) (text : List ℕ) (lines : List Line) (meant : MeantForm) → AreLines version n texts lines → Says version text meant → m ≡ n + length texts → AreLines version n (texts ++ text ∷ []) (lines ++ (m, meant) ∷ [])
 says_more version n m [] text lines meant h s e =
     let number : m ≡ n = omega (arith, e) in
     inr (meant, [], rw (h, number) refl, s, refl)

@@ -11,12 +11,12 @@ use Rattle.pct_ask.specs.NameLists.{NameLists, AreNames, list_of, all_names}
 use Rattle.pct_ask.specs.declared.names.NameKind.{NameKind}
 use Rattle.pct_ask.specs.declared.names.NameKind.TheVariants as kinds
 use Rattle.script_tree.specs.ScriptText.{ScriptText, Thread as ThreadTree}
-use Rattle.script_tree.specs.Forms.{Cut, Meant, Plain, Valued, Thread, On, Into, Write, Add, Cas, Wait, Yield, Assert, Set, If, While, End, Else, kind_word, has_value, is_plain, tokens_of_form, IsOf, Means}
-use Rattle.script_tree.specs.Lines.{tokens_in, named, names_of, valued, values_of}
+use Rattle.script_tree.specs.Forms.{TokenForm, MeantForm, Plain, Valued, Thread, On, Into, Write, Add, Cas, Wait, Yield, Assert, Set, If, While, End, Else, kind_word, has_value, is_plain, tokens_of_form, IsFormOf, Means}
+use Rattle.script_tree.specs.Lines.{tokens_in, declared_name, names_of, declared_value, values_of}
 use Rattle.script_tree.specs.Grammar.{Line, declares, Says, AreLines}
 use Rattle.script_parse.specs.Part.{Open, Part}
 use Rattle.script_parse.specs.Reading as reading
-use Rattle.script_parse.specs.Reading.{Finder, is_empty, taken}
+use Rattle.script_parse.specs.Reading.{Finder, is_empty, with_form}
 use Rattle.script_parse.proofs.Standing.{Stands, blank_stands}
 use Rattle.script_parse.proofs.DeclaredValues.{AreValues, blank_values}
 use Rattle.script_parse.proofs.DeclaredForms.{form_adds}
@@ -39,17 +39,17 @@ record IsNew (part : Part) (kind : NameKind) (name : List ℕ) : Type 0 where
   few : nat_le 64 (length (list_of kind part.names)) ≡ false
 
 -- a line that declares can be taken
-record IsTaken (part : Part) (find : Finder) (n : ℕ) (meant : Meant) : Type 0 where
+record IsTaken (part : Part) (find : Finder) (n : ℕ) (meant : MeantForm) : Type 0 where
   free : IsFree part find meant
-  top : IsTop (taken part find n meant)
+  top : IsTop (with_form part find n meant)
 
-plain_top : (part : Part) (kind : NameKind) (name : List ℕ) → is_plain kind ≡ true → IsTop part → IsTop (reading.named part kind name)
+plain_top : (part : Part) (kind : NameKind) (name : List ℕ) → is_plain kind ≡ true → IsTop part → IsTop (reading.with_declared part kind name)
 plain_top part kinds.Mutex name p t = record { no_names = t.no_names; no_threads = t.no_threads; no_blocks = t.no_blocks }
 plain_top part kinds.Cond name p t = record { no_names = t.no_names; no_threads = t.no_threads; no_blocks = t.no_blocks }
 plain_top part kinds.RwLock name p t = record { no_names = t.no_names; no_threads = t.no_threads; no_blocks = t.no_blocks }
 plain_top part kind name p t = absurd cc
 
-valued_top : (part : Part) (kind : NameKind) (name : List ℕ) (value : ℤ) → has_value kind ≡ true → IsTop part → IsTop (reading.with_value kind value (reading.named part kind name))
+valued_top : (part : Part) (kind : NameKind) (name : List ℕ) (value : ℤ) → has_value kind ≡ true → IsTop part → IsTop (reading.with_first_value kind value (reading.with_declared part kind name))
 valued_top part kinds.Var name value p t = record { no_names = t.no_names; no_threads = t.no_threads; no_blocks = t.no_blocks }
 valued_top part kinds.Sem name value p t = record { no_names = t.no_names; no_threads = t.no_threads; no_blocks = t.no_blocks }
 valued_top part kinds.Barrier name value p t = record { no_names = t.no_names; no_threads = t.no_threads; no_blocks = t.no_blocks }
@@ -58,7 +58,7 @@ valued_top part kind name value p t = absurd cc
 no_thread_yet : (part : Part) → IsTop part → is_empty part.names.threads ≡ true
 no_thread_yet part t = rw t.no_names refl
 
-declaration_taken : (version : ℕ) (part : Part) (find : Finder) (n : ℕ) → IsTop part → (cut : Cut) (meant : Meant) → Means cut meant → IsOf version cut → declares meant ≡ true
+declaration_taken : (version : ℕ) (part : Part) (find : Finder) (n : ℕ) → IsTop part → (cut : TokenForm) (meant : MeantForm) → Means cut meant → IsFormOf version cut → declares meant ≡ true
     → ((kind : NameKind) (name : List ℕ) (more : List Token) → tokens_of_form cut ≡ Word (kind_word kind) ∷ Word name ∷ more → IsNew part kind name) → IsTaken part find n meant
 declaration_taken version part find n t (Plain kind name) meant m of d new =
     let fits = new kind name [] refl in
@@ -87,7 +87,7 @@ declaration_taken version part find n t (While test) meant m of d new = clash (s
 declaration_taken version part find n t End meant m of d new = clash (sym d ∙ ap declares m)
 declaration_taken version part find n t Else meant m of d new = clash (sym d ∙ ap declares m)
 
-named_here : (kind : NameKind) (name : List ℕ) (more : List Token) → named kind (Word (kind_word kind) ∷ Word name ∷ more) ≡ Some name
+named_here : (kind : NameKind) (name : List ℕ) (more : List Token) → declared_name kind (Word (kind_word kind) ∷ Word name ∷ more) ≡ Some name
 named_here kinds.Thread name more = refl
 named_here kind name more = refl
 
@@ -131,12 +131,12 @@ module _ (script : ScriptText) (are_names : AreNames script.names) (find : Finde
   -- what is declared and is still to come
   parted : (part : Part) (before low : List (List Token)) (texts : List (List ℕ)) → IsAbove part before low texts → (kind : NameKind) → list_of kind part.names ++ names_of kind (map tokens_in texts) ≡ list_of kind script.names
   parted part before low texts h kind =
-      ap (λ (xs : List (List ℕ)). xs ++ names_of kind (map tokens_in texts)) (sym (h.stands.names kind)) ∙ sym (filter_map-append (named kind) before (map tokens_in texts)) ∙ h.names kind
+      ap (λ (xs : List (List ℕ)). xs ++ names_of kind (map tokens_in texts)) (sym (h.stands.names kind)) ∙ sym (filter_map-append (declared_name kind) before (map tokens_in texts)) ∙ h.names kind
 
   is_new : (part : Part) (before low : List (List Token)) (text : List ℕ) (texts : List (List ℕ)) → IsAbove part before low (text ∷ texts) → (kind : NameKind) (name : List ℕ) (more : List Token) → tokens_in text ≡ Word (kind_word kind) ∷ Word name ∷ more → IsNew part kind name
   is_new part before low text texts h kind name more e =
       let rest : List (List ℕ) = names_of kind (map tokens_in texts) in
-      let it : named kind (tokens_in text) ≡ Some name = ap (named kind) e ∙ named_here kind name more in
+      let it : declared_name kind (tokens_in text) ≡ Some name = ap (declared_name kind) e ∙ named_here kind name more in
       let first : names_of kind (map tokens_in (text ∷ texts)) ≡ name ∷ rest = rw it refl in
       let whole : list_of kind part.names ++ name ∷ rest ≡ list_of kind script.names = ap (λ (xs : List (List ℕ)). list_of kind part.names ++ xs) (sym first) ∙ parted part before low (text ∷ texts) h kind in
       let longer : length (list_of kind part.names) + suc (length rest) ≡ length (list_of kind script.names) = sym (length-append (list_of kind part.names) (name ∷ rest)) ∙ ap (λ (xs : List (List ℕ)). length xs) whole in
@@ -162,7 +162,7 @@ module _ (script : ScriptText) (are_names : AreNames script.names) (find : Finde
       values_read : (kind : NameKind) → is_thread kind ≡ false → (xs ys : List ℤ) → values_of kind low ≡ xs → values_of kind (low ++ map tokens_in texts) ≡ ys → xs ≡ ys
       values_read kind f xs ys p r =
           let none = (none_declared part.version n texts rest kind f a q).1 in
-          sym p ∙ sym (append-nil (values_of kind low)) ∙ ap (λ (zs : List ℤ). values_of kind low ++ zs) (sym none) ∙ sym (filter_map-append (valued kind) low (map tokens_in texts)) ∙ r
+          sym p ∙ sym (append-nil (values_of kind low)) ∙ ap (λ (zs : List ℤ). values_of kind low ++ zs) (sym none) ∙ sym (filter_map-append (declared_value kind) low (map tokens_in texts)) ∙ r
 
   line_first : (a b : Line) (xs ys : List Line) → a ∷ xs ≡ b ∷ ys → (a ≡ b) × (xs ≡ ys)
   line_first a b xs ys e = (cc, cc)
@@ -177,9 +177,9 @@ module _ (script : ScriptText) (are_names : AreNames script.names) (find : Finde
       let are_values : AreValues part (low ++ tokens_in text ∷ []) = subst (λ (ts : List Token). AreValues part (low ++ ts ∷ [])) (sym blank) (blank_values part low h.are_values) in
       tops_run texts (n + 1) part (line ∷ top) rest (before ++ tokens_in text ∷ []) (low ++ tokens_in text ∷ []) last t (one_line part part before low text texts h refl stands are_values) a.1 d q r
   tops_run (text ∷ texts) n part (line ∷ top) rest before low last t h (inr a) d q r =
-      let meant : Meant = a.0 in
+      let meant : MeantForm = a.0 in
       let says : Says part.version text meant = a.3 in
-      let next : Part = taken part find n meant in
+      let next : Part = with_form part find n meant in
       let same = line_first line (n, meant) (top ++ rest) a.1 a.2 in
       let declared : declares meant ≡ true = ap (λ (l : Line). declares l.1) (sym same.0) ∙ All-head (λ (l : Line). declares l.1 ≡ true) line top d in
       let ok = declaration_taken part.version part find n t says.0 meant says.1.means says.1.of declared (λ kind name more e. is_new part before low text texts h kind name more (says.1.spelled ∙ e)) in

@@ -10,7 +10,7 @@ use Rattle.script_tree.specs.Fitting.{IsScript}
 use Rattle.script_tree.specs.Grammar.{Spells, all_thread_lines}
 use Rattle.script_tree.specs.Layout.{layout}
 use Rattle.script_tree.specs.Printing.{are_ranged}
-use Rattle.script_tree.specs.Renumbering.{renumbered, IsShort}
+use Rattle.script_tree.specs.Renumbering.{renumbered_script, IsShort}
 
 -- the text spells this script and no other, and has no fault
 pub record IsOnlyScript (bytes : List ℕ) (script : ScriptText) : Type 0 where
@@ -48,4 +48,4 @@ IsOfCode script =
 abbrev pub PrintIsRead : Type 0
 PrintIsRead =
     (script : ScriptText) → IsScript script → AreNames script.names → IsOfCode script
-    → IsShort (layout script) → IsOnlyScript (layout script) (renumbered script)
+    → IsShort (layout script) → IsOnlyScript (layout script) (renumbered_script script)

@@ -3,7 +3,7 @@ use Rattle.std.specs.Prelude.{◌≡◌, ℕ, zero, suc, ◌<◌, List, [], ◌�
 use Rattle.std.specs.Prelude.{Some, None}
 use Rattle.std.specs.Option.{option_map}
 use Rattle.pct_ask.specs.Characters.{is_blank}
-use Rattle.pct_ask.specs.Tokens.{before, pieces_of, tokens_of}
+use Rattle.pct_ask.specs.Tokens.{piece_before, token_pieces, tokens_of}
 use Rattle.script_parse.specs.Seen.{seen}
 use Rattle.script_parse.specs.declared.token.Next.{Next}
 use Rattle.script_parse.specs.declared.token.Next.TheVariants as next
@@ -15,9 +15,9 @@ BeginsPlain (b ∷ bs) = is_blank b ≡ false
 
 -- the text begins with a piece of n bytes, or with none where n is 0
 abbrev pub BeginsWithPiece : ℕ → List ℕ → Type 0
-BeginsWithPiece zero text = pieces_of text ≡ None
+BeginsWithPiece zero text = token_pieces text ≡ None
 BeginsWithPiece (suc n) text =
-    pieces_of text ≡ before (take (suc n) text) (pieces_of (drop (suc n) text))
+    token_pieces text ≡ piece_before (take (suc n) text) (token_pieces (drop (suc n) text))
 
 -- what stands next in a line
 abbrev pub IsNext : Next → List ℕ → Type 0

@@ -17,5 +17,6 @@ seen_frame (Two op left) = machine.Two op (expression left)
 abbrev pub seen_frames : List Frame → List machine.Frame
 seen_frames frames = reverse (map seen_frame frames)
 
-abbrev pub seen_pending : Pending → machine.Pending
-seen_pending p = machine.pending (seen_frames p.frames.items) (option_map expression p.value)
+abbrev pub seen_pending : Pending → machine.OpenExpression
+seen_pending p =
+    machine.open_expression (seen_frames p.frames.items) (option_map expression p.value)

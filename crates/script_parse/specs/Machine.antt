@@ -21,12 +21,12 @@ pub data Frame : Type 0 where
 
 -- what was read of an expression: what waits, the innermost first, and the value that was read
 -- last, if one was
-pub record Pending : Type 0 where
+pub record OpenExpression : Type 0 where
   pub frames : List Frame
   pub value : Option Expression
 
-abbrev pub pending : List Frame → Option Expression → Pending
-pending frames value = record { frames = frames; value = value }
+abbrev pub open_expression : List Frame → Option Expression → OpenExpression
+open_expression frames value = record { frames = frames; value = value }
 
 -- the operator that signs stand for
 abbrev pub operator_in : List ℕ → Option Op
@@ -47,25 +47,25 @@ operator_in signs =
     else None))))))))))))
 
 -- the value with all that waits for it at this level or a stronger one
-abbrev pub reduced : ℕ → List Frame → Expression → List Frame × Expression
-reduced level [] value = ([], value)
-reduced level (Paren ∷ frames) value = (Paren ∷ frames, value)
-reduced level (Not ∷ frames) value = reduced level frames (trees.Not value)
-reduced level (Minus ∷ frames) value = reduced level frames (trees.Minus value)
-reduced level (Two op left ∷ frames) value =
-    if nat_le level (strength op) then reduced level frames (trees.Two op left value)
+abbrev pub reduced_value : ℕ → List Frame → Expression → List Frame × Expression
+reduced_value level [] value = ([], value)
+reduced_value level (Paren ∷ frames) value = (Paren ∷ frames, value)
+reduced_value level (Not ∷ frames) value = reduced_value level frames (trees.Not value)
+reduced_value level (Minus ∷ frames) value = reduced_value level frames (trees.Minus value)
+reduced_value level (Two op left ∷ frames) value =
+    if nat_le level (strength op) then reduced_value level frames (trees.Two op left value)
     else (Two op left ∷ frames, value)
 
 -- what waits takes a part of this level
-abbrev pub takes : ℕ → Frame → Bool
-takes level Paren = false
-takes level Not = true
-takes level Minus = true
-takes level (Two op left) = nat_le level (strength op)
+abbrev pub takes_part : ℕ → Frame → Bool
+takes_part level Paren = false
+takes_part level Not = true
+takes_part level Minus = true
+takes_part level (Two op left) = nat_le level (strength op)
 
 abbrev pub is_taken : ℕ → List Frame → Bool
 is_taken level [] = false
-is_taken level (frame ∷ frames) = takes level frame
+is_taken level (frame ∷ frames) = takes_part level frame
 
 -- what waited, with its part
 abbrev pub around : Frame → Expression → Expression
@@ -81,46 +81,49 @@ chains op (Two other left ∷ frames) = strength other == strength op
 chains op (frame ∷ frames) = false
 
 -- an operator after a value
-abbrev pub joined : Op → List Frame × Expression → Option Pending
-joined op done = if chains op done.0 then None else Some (pending (Two op done.1 ∷ done.0) None)
+abbrev pub with_operator : Op → List Frame × Expression → Option OpenExpression
+with_operator op done =
+    if chains op done.0 then None else Some (open_expression (Two op done.1 ∷ done.0) None)
 
 -- a `)` after a value
-abbrev pub closed : List Frame → Expression → Option Pending
-closed [] value = None
-closed (Paren ∷ frames) value = Some (pending frames (Some value))
-closed (frame ∷ frames) value = None
+abbrev pub with_bracket : List Frame → Expression → Option OpenExpression
+with_bracket [] value = None
+with_bracket (Paren ∷ frames) value = Some (open_expression frames (Some value))
+with_bracket (frame ∷ frames) value = None
 
-abbrev pub closed_by : List Frame → Expression → Option Pending
-closed_by frames value = let done = reduced 0 frames value in closed done.0 done.1
+abbrev pub closed_by : List Frame → Expression → Option OpenExpression
+closed_by frames value = let done = reduced_value 0 frames value in with_bracket done.0 done.1
 
 -- a token where a value may begin
-abbrev pub begun : (List ℕ → ℤ) → List Frame → Token → Option Pending
-begun number frames (Number digits) = Some (pending frames (Some (trees.Number (number digits))))
-begun number frames (Word word) =
-    option_map (λ r. pending frames (Some (trees.Reg r))) (register_in word)
-begun number frames (Symbol signs) =
-    if bytes_eq signs (codes "(") then Some (pending (Paren ∷ frames) None)
-    else (if bytes_eq signs (codes "-") then Some (pending (Minus ∷ frames) None)
-    else (if bytes_eq signs (codes "!") then Some (pending (Not ∷ frames) None) else None))
+abbrev pub with_value_token : (List ℕ → ℤ) → List Frame → Token → Option OpenExpression
+with_value_token number frames (Number digits) =
+    Some (open_expression frames (Some (trees.Number (number digits))))
+with_value_token number frames (Word word) =
+    option_map (λ r. open_expression frames (Some (trees.Reg r))) (register_in word)
+with_value_token number frames (Symbol signs) =
+    if bytes_eq signs (codes "(") then Some (open_expression (Paren ∷ frames) None)
+    else (if bytes_eq signs (codes "-") then Some (open_expression (Minus ∷ frames) None)
+    else (if bytes_eq signs (codes "!") then Some (open_expression (Not ∷ frames) None) else None))
 
-abbrev pub joined_by : Option Op → List Frame → Expression → Option Pending
+abbrev pub joined_by : Option Op → List Frame → Expression → Option OpenExpression
 joined_by None frames value = None
-joined_by (Some op) frames value = joined op (reduced (left_level op) frames value)
+joined_by (Some op) frames value = with_operator op (reduced_value (left_level op) frames value)
 
 -- a token behind a value
-abbrev pub behind : List Frame → Expression → Token → Option Pending
+abbrev pub behind : List Frame → Expression → Token → Option OpenExpression
 behind frames value (Symbol signs) =
     if bytes_eq signs (codes ")") then closed_by frames value
     else joined_by (operator_in signs) frames value
 behind frames value token = None
 
-abbrev pub step_at : (List ℕ → ℤ) → List Frame → Option Expression → Token → Option Pending
-step_at number frames None token = begun number frames token
-step_at number frames (Some value) token = behind frames value token
+abbrev pub token_step_at : (List ℕ → ℤ) → List Frame → Option Expression → Token
+    → Option OpenExpression
+token_step_at number frames None token = with_value_token number frames token
+token_step_at number frames (Some value) token = behind frames value token
 
 -- one more token; None where no expression goes on with it. Digits stand for these numbers.
-abbrev pub step : (List ℕ → ℤ) → Pending → Token → Option Pending
-step number p token = step_at number p.frames p.value token
+abbrev pub token_step : (List ℕ → ℤ) → OpenExpression → Token → Option OpenExpression
+token_step number p token = token_step_at number p.frames p.value token
 
 abbrev pub whole : List Frame × Expression → Option Expression
 whole ([], value) = Some value
@@ -128,17 +131,17 @@ whole (frame ∷ frames, value) = None
 
 abbrev pub finished_at : List Frame → Option Expression → Option Expression
 finished_at frames None = None
-finished_at frames (Some value) = whole (reduced 0 frames value)
+finished_at frames (Some value) = whole (reduced_value 0 frames value)
 
 -- the expression, where the last token was read
-abbrev pub finished : Pending → Option Expression
-finished p = finished_at p.frames p.value
+abbrev pub whole_expression : OpenExpression → Option Expression
+whole_expression p = finished_at p.frames p.value
 
-abbrev pub read_from : (List ℕ → ℤ) → Pending → List Token → Option Expression
-read_from number p [] = finished p
-read_from number p (token ∷ tokens) =
-    option_and_then (λ next. read_from number next tokens) (step number p token)
+abbrev pub expression_from : (List ℕ → ℤ) → OpenExpression → List Token → Option Expression
+expression_from number p [] = whole_expression p
+expression_from number p (token ∷ tokens) =
+    option_and_then (λ next. expression_from number next tokens) (token_step number p token)
 
 -- the expression that tokens are read as
 abbrev pub expression_in : (List ℕ → ℤ) → List Token → Option Expression
-expression_in number tokens = read_from number (pending [] None) tokens
+expression_in number tokens = expression_from number (open_expression [] None) tokens

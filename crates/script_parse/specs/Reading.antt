@@ -19,9 +19,9 @@ use Rattle.script_tree.specs.declared.fault.ScriptFault.TheVariants.{BadToken, B
 use Rattle.script_tree.specs.declared.fault.ScriptFault.TheVariants.{UnknownName, TwiceNamed}
 use Rattle.script_tree.specs.declared.fault.ScriptFault.TheVariants.{NumberRange, NoEnd, StrayEnd}
 use Rattle.script_tree.specs.declared.fault.ScriptFault.TheVariants.{NoThread, TooMany}
-use Rattle.script_tree.specs.Forms.{Meant, OnVerb, IntoVerb, on_kind, into_kind, value_in}
+use Rattle.script_tree.specs.Forms.{MeantForm, OnVerb, IntoVerb, on_kind, into_kind, value_in}
 use Rattle.script_tree.specs.Forms as forms
-use Rattle.script_tree.specs.Lines.{version_in, threads_in}
+use Rattle.script_tree.specs.Lines.{version_in, threads_begun}
 use Rattle.script_tree.specs.Ranges.{is_out_of_range}
 use Rattle.script_tree.specs.Faults.{SoFar, are_blank, may_stand, uses_unknown, declares_again}
 use Rattle.script_tree.specs.Faults.{leaves_open, closes_nothing, lacks_thread, is_too_many}
@@ -45,8 +45,8 @@ is_in_if [] = false
 is_in_if (block ∷ blocks) = is_if block.opening
 
 -- what the lines that were read have declared and begun
-abbrev pub so_far : Part → SoFar
-so_far part = record {
+abbrev pub so_far_in : Part → SoFar
+so_far_in part = record {
   version = part.version;
   names = part.names;
   depth = length part.open_blocks;
@@ -64,20 +64,20 @@ place_in names find kinds.Thread name = find name
 place_in names find kind name = place_of name (list_of kind names)
 
 -- a name of this kind was declared, a thread on any line of the file
-abbrev pub is_known : NameLists → Finder → NameKind → List ℕ → Bool
-is_known names find kind name = is_some (place_in names find kind name)
+abbrev pub is_known_name : NameLists → Finder → NameKind → List ℕ → Bool
+is_known_name names find kind name = is_some (place_in names find kind name)
 
 -- the first fault of a line of this form; `last` tells whether it is the last line
-abbrev pub form_fault : Part → Finder → Bool → List Token → Meant → Option ScriptFault
+abbrev pub form_fault : Part → Finder → Bool → List Token → MeantForm → Option ScriptFault
 form_fault part find last tokens form =
-    if not (may_stand (so_far part) form) then Some BadStatement
-    else (if uses_unknown (is_known part.names find) form then Some UnknownName
-    else (if declares_again (so_far part) form then Some TwiceNamed
+    if not (may_stand (so_far_in part) form) then Some BadStatement
+    else (if uses_unknown (is_known_name part.names find) form then Some UnknownName
+    else (if declares_again (so_far_in part) form then Some TwiceNamed
     else (if is_out_of_range tokens form then Some NumberRange
-    else (if last && leaves_open (so_far part) tokens then Some NoEnd
-    else (if closes_nothing (so_far part) form then Some StrayEnd
-    else (if last && lacks_thread (so_far part) tokens then Some NoThread
-    else (if is_too_many (so_far part) form then Some TooMany
+    else (if last && leaves_open (so_far_in part) tokens then Some NoEnd
+    else (if closes_nothing (so_far_in part) form then Some StrayEnd
+    else (if last && lacks_thread (so_far_in part) tokens then Some NoThread
+    else (if is_too_many (so_far_in part) form then Some TooMany
     else None)))))))
 
 -- ---- one form more
@@ -104,7 +104,7 @@ into_statement forms.TryRdLock line reg place = trees.TryRdLock line reg place
 into_statement forms.TryWrLock line reg place = trees.TryWrLock line reg place
 
 -- the statement on a line, where the names that it uses are known and it opens and closes no block
-abbrev pub statement_on : NameLists → Finder → ℕ → Meant → Option Statement
+abbrev pub statement_on : NameLists → Finder → ℕ → MeantForm → Option Statement
 statement_on names find line (forms.On verb object) =
     option_map (on_statement verb line) (place_in names find (on_kind verb) object)
 statement_on names find line (forms.Into verb register object) =
@@ -129,56 +129,60 @@ with_statement statement [] = []
 with_statement statement (block ∷ blocks) =
     record block { done = block.done ++ statement ∷ [] } ∷ blocks
 
-abbrev pub said : Part → Option Statement → Part
-said part None = part
-said part (Some statement) = record part { open_blocks = with_statement statement part.open_blocks }
+abbrev pub part_with_statement : Part → Option Statement → Part
+part_with_statement part None = part
+part_with_statement part (Some statement) =
+    record part { open_blocks = with_statement statement part.open_blocks }
 
-abbrev pub opened : Part → Opening → Part
-opened part opening =
+abbrev pub with_block : Part → Opening → Part
+with_block part opening =
     record part { open_blocks = record { opening = opening; done = [] } ∷ part.open_blocks }
 
 -- a block that began so is closed
-abbrev pub closed_by : Part → Opening → Statements → Part
-closed_by part (Thread line) block =
+abbrev pub closed_block : Part → Opening → Statements → Part
+closed_block part (Thread line) block =
     record part { threads = part.threads ++ record { line = line; body = block } ∷ [] }
-closed_by part (If line test) block = said part (Some (trees.If line test block))
-closed_by part (Else line test first) block = said part (Some (trees.IfElse line test first block))
-closed_by part (While line test) block = said part (Some (trees.While line test block))
+closed_block part (If line test) block = part_with_statement part (Some (trees.If line test block))
+closed_block part (Else line test first) block =
+    part_with_statement part (Some (trees.IfElse line test first block))
+closed_block part (While line test) block =
+    part_with_statement part (Some (trees.While line test block))
 
-abbrev pub ended : Part → List Open → ℕ → Part
-ended part [] line = part
-ended part (block ∷ blocks) line =
-    closed_by (record part { open_blocks = blocks }) block.opening (closed_at line block.done)
+abbrev pub with_end : Part → List Open → ℕ → Part
+with_end part [] line = part
+with_end part (block ∷ blocks) line =
+    closed_block (record part { open_blocks = blocks }) block.opening (closed_at line block.done)
 
 abbrev pub turned_by : Part → Open → List Open → ℕ → Opening → Part
 turned_by part block blocks end (If line test) =
-    opened (record part { open_blocks = blocks }) (Else line test (closed_at end block.done))
+    with_block (record part { open_blocks = blocks }) (Else line test (closed_at end block.done))
 turned_by part block blocks end opening = part
 
-abbrev pub turned : Part → List Open → ℕ → Part
-turned part [] line = part
-turned part (block ∷ blocks) line = turned_by part block blocks line block.opening
+abbrev pub with_else : Part → List Open → ℕ → Part
+with_else part [] line = part
+with_else part (block ∷ blocks) line = turned_by part block blocks line block.opening
 
-abbrev pub with_value : NameKind → ℤ → Part → Part
-with_value kinds.Var value part = record part { vars = part.vars ++ value ∷ [] }
-with_value kinds.Sem value part = record part { sems = part.sems ++ value ∷ [] }
-with_value kinds.Barrier value part = record part { barriers = part.barriers ++ value ∷ [] }
-with_value kind value part = part
+abbrev pub with_first_value : NameKind → ℤ → Part → Part
+with_first_value kinds.Var value part = record part { vars = part.vars ++ value ∷ [] }
+with_first_value kinds.Sem value part = record part { sems = part.sems ++ value ∷ [] }
+with_first_value kinds.Barrier value part = record part { barriers = part.barriers ++ value ∷ [] }
+with_first_value kind value part = part
 
-abbrev pub named : Part → NameKind → List ℕ → Part
-named part kind name = record part { names = with_name kind name part.names }
+abbrev pub with_declared : Part → NameKind → List ℕ → Part
+with_declared part kind name = record part { names = with_name kind name part.names }
 
 -- what was read, with a line of this form that has no fault
-abbrev pub taken : Part → Finder → ℕ → Meant → Part
-taken part find line (forms.Plain kind name) = named part kind name
-taken part find line (forms.Valued kind name value) =
-    with_value kind (unwrap_or (value_in kind value) (pos 0)) (named part kind name)
-taken part find line (forms.Thread name) = opened (named part kinds.Thread name) (Thread line)
-taken part find line (forms.If test) = opened part (If line test)
-taken part find line (forms.While test) = opened part (While line test)
-taken part find line forms.End = ended part part.open_blocks line
-taken part find line forms.Else = turned part part.open_blocks line
-taken part find line form = said part (statement_on part.names find line form)
+abbrev pub with_form : Part → Finder → ℕ → MeantForm → Part
+with_form part find line (forms.Plain kind name) = with_declared part kind name
+with_form part find line (forms.Valued kind name value) =
+    with_first_value kind (unwrap_or (value_in kind value) (pos 0)) (with_declared part kind name)
+with_form part find line (forms.Thread name) =
+    with_block (with_declared part kinds.Thread name) (Thread line)
+with_form part find line (forms.If test) = with_block part (If line test)
+with_form part find line (forms.While test) = with_block part (While line test)
+with_form part find line forms.End = with_end part part.open_blocks line
+with_form part find line forms.Else = with_else part part.open_blocks line
+with_form part find line form = part_with_statement part (statement_on part.names find line form)
 
 -- ---- lines
 
@@ -190,8 +194,8 @@ bytes_fault number line =
     else (if nat_lt 4096 number then Some TooManyLines
     else None))
 
-abbrev pub start : ℕ → Part
-start version = record {
+abbrev pub first_part : ℕ → Part
+first_part version = record {
   version = version;
   names = no_names;
   vars = [];
@@ -208,14 +212,14 @@ after_fault (Some kind) next = Err kind
 -- a blank line: it may be the last one
 abbrev pub blank_fault : Part → Bool → Option ScriptFault
 blank_fault part last =
-    if last && leaves_open (so_far part) [] then Some NoEnd
-    else (if last && lacks_thread (so_far part) [] then Some NoThread else None)
+    if last && leaves_open (so_far_in part) [] then Some NoEnd
+    else (if last && lacks_thread (so_far_in part) [] then Some NoThread else None)
 
-abbrev pub form_taken : Part → Finder → ℕ → Bool → List Token → Option Meant
+abbrev pub form_taken : Part → Finder → ℕ → Bool → List Token → Option MeantForm
     → Result Part ScriptFault
 form_taken part find number last tokens None = Err BadStatement
 form_taken part find number last tokens (Some form) =
-    after_fault (form_fault part find last tokens form) (taken part find number form)
+    after_fault (form_fault part find last tokens form) (with_form part find number form)
 
 -- a line below the header, by its tokens
 abbrev pub tokens_taken : (List ℕ → ℤ) → Part → Finder → ℕ → Bool → Option (List Token)
@@ -225,25 +229,26 @@ tokens_taken value part find number last (Some []) = after_fault (blank_fault pa
 tokens_taken value part find number last (Some (token ∷ tokens)) =
     form_taken part find number last (token ∷ tokens) (form_in value part.version (token ∷ tokens))
 
-abbrev pub begun : Bool → Option ℕ → Result Part ScriptFault
-begun last None = Err BadHeader
-begun last (Some version) = if last then Err NoThread else Ok (start version)
+abbrev pub part_after_header : Bool → Option ℕ → Result Part ScriptFault
+part_after_header last None = Err BadHeader
+part_after_header last (Some version) = if last then Err NoThread else Ok (first_part version)
 
-abbrev pub wrapped : Result Part ScriptFault → Result (Option Part) ScriptFault
-wrapped (Ok part) = Ok (Some part)
-wrapped (Err kind) = Err kind
+abbrev pub some_part : Result Part ScriptFault → Result (Option Part) ScriptFault
+some_part (Ok part) = Ok (Some part)
+some_part (Err kind) = Err kind
 
 -- the header, or a blank line above it
 abbrev pub header_taken : Bool → Option (List Token) → Result (Option Part) ScriptFault
 header_taken last None = Err BadHeader
 header_taken last (Some []) = Ok None
-header_taken last (Some (token ∷ tokens)) = wrapped (begun last (version_in (token ∷ tokens)))
+header_taken last (Some (token ∷ tokens)) =
+    some_part (part_after_header last (version_in (token ∷ tokens)))
 
 abbrev pub line_said : (List ℕ → ℤ) → Option Part → Finder → ℕ → Bool → Option (List Token)
     → Result (Option Part) ScriptFault
 line_said value None find number last tokens = header_taken last tokens
 line_said value (Some part) find number last tokens =
-    wrapped (tokens_taken value part find number last tokens)
+    some_part (tokens_taken value part find number last tokens)
 
 abbrev pub unless : Option ScriptFault → Result (Option Part) ScriptFault
     → Result (Option Part) ScriptFault
@@ -266,9 +271,9 @@ script_of part = record {
   threads = part.threads;
 }
 
-abbrev pub finished : Option Part → Result ScriptText (ℕ × ScriptFault)
-finished None = Err (1, BadHeader)
-finished (Some part) = Ok (script_of part)
+abbrev pub script_at_end : Option Part → Result ScriptText (ℕ × ScriptFault)
+script_at_end None = Err (1, BadHeader)
+script_at_end (Some part) = Ok (script_of part)
 
 -- the script after these lines, of which the first has this number, or the first fault
 abbrev pub then_read : ℕ → Result (Option Part) ScriptFault
@@ -276,12 +281,12 @@ abbrev pub then_read : ℕ → Result (Option Part) ScriptFault
 then_read number (Err kind) more = Err (number, kind)
 then_read number (Ok next) more = more next
 
-abbrev pub read_from : (List ℕ → ℤ) → Finder → Option Part → ℕ → List (List ℕ)
+abbrev pub script_from : (List ℕ → ℤ) → Finder → Option Part → ℕ → List (List ℕ)
     → Result ScriptText (ℕ × ScriptFault)
-read_from value find part number [] = finished part
-read_from value find part number (line ∷ lines) =
+script_from value find part number [] = script_at_end part
+script_from value find part number (line ∷ lines) =
     then_read number (line_taken value part find number (is_empty lines) line) (λ next.
-    read_from value find next (number + 1) lines)
+    script_from value find next (number + 1) lines)
 
 -- the fault of the first line, where all lines are blank
 abbrev pub blank_text_fault : List (List ℕ) → ScriptFault
@@ -289,9 +294,9 @@ blank_text_fault [] = BadHeader
 blank_text_fault (line ∷ lines) = unwrap_or (bytes_fault 1 line) BadHeader
 
 -- what a text is read as, from its first line to its last
-abbrev pub read : (List ℕ → ℤ) → List ℕ → Result ScriptText (ℕ × ScriptFault)
-read value bytes =
+abbrev pub read_as_script : (List ℕ → ℤ) → List ℕ → Result ScriptText (ℕ × ScriptFault)
+read_as_script value bytes =
     if nat_lt 1048576 (length bytes) then Err (1, TooMany)
     else (if are_blank (lines_of bytes) then Err (1, blank_text_fault (lines_of bytes))
-    else read_from value (λ name. place_of name (threads_in (lines_of bytes))) None 1
+    else script_from value (λ name. place_of name (threads_begun (lines_of bytes))) None 1
     (lines_of bytes))

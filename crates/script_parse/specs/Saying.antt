@@ -9,20 +9,21 @@ use Rattle.pct_ask.specs.Words.{is_name}
 use Rattle.pct_ask.specs.Tokens.{Token, Word, Number, Symbol}
 use Rattle.pct_ask.specs.declared.names.NameKind.{NameKind}
 use Rattle.pct_ask.specs.declared.names.NameKind.TheVariants as kinds
-use Rattle.script_tree.specs.Forms.{OnVerb, IntoVerb, Meant, Plain, Valued, Thread, On, Into, Write}
+use Rattle.script_tree.specs.Forms.{OnVerb, IntoVerb, MeantForm, Plain, Valued, Thread, On, Into}
+use Rattle.script_tree.specs.Forms.{Write}
 use Rattle.script_tree.specs.Forms.{Add, Cas, Wait, Yield, Assert, Set, If, While, End, Else}
 use Rattle.script_tree.specs.Forms.{is_plain, has_value, kind_since, on_since, into_since}
 use Rattle.script_parse.specs.Registers.{register_in}
 use Rattle.script_parse.specs.Machine.{expression_in}
 use Rattle.script_parse.specs.Words.{on_verb_in, into_verb_in, kind_in}
 
-abbrev pub plain_form : ℕ → NameKind → List ℕ → Option Meant
+abbrev pub plain_form : ℕ → NameKind → List ℕ → Option MeantForm
 plain_form version kind name =
     if is_plain kind && nat_le (kind_since kind) version && is_name version name
     then Some (Plain kind name)
     else None
 
-abbrev pub lone_form : ℕ → NameKind → List ℕ → Option Meant
+abbrev pub lone_form : ℕ → NameKind → List ℕ → Option MeantForm
 lone_form version kinds.Thread name = if is_name version name then Some (Thread name) else None
 lone_form version kind name = plain_form version kind name
 
@@ -41,19 +42,19 @@ value_parts kind (Number digits ∷ []) = Some (Number digits ∷ [])
 value_parts kind (Symbol signs ∷ Number digits ∷ []) = minus_value kind signs digits
 value_parts kind tokens = None
 
-abbrev pub valued_form : ℕ → NameKind → List ℕ → List ℕ → List Token → Option Meant
+abbrev pub valued_form : ℕ → NameKind → List ℕ → List ℕ → List Token → Option MeantForm
 valued_form version kind name signs value =
     if has_value kind && bytes_eq signs (codes "=") && is_name version name
     then option_map (Valued kind name) (value_parts kind value)
     else None
 
-abbrev pub declared_form : ℕ → NameKind → List Token → Option Meant
+abbrev pub declared_form : ℕ → NameKind → List Token → Option MeantForm
 declared_form version kind (Word name ∷ []) = lone_form version kind name
 declared_form version kind (Word name ∷ Symbol signs ∷ value) =
     valued_form version kind name signs value
 declared_form version kind tokens = None
 
-abbrev pub on_form : ℕ → OnVerb → List Token → Option Meant
+abbrev pub on_form : ℕ → OnVerb → List Token → Option MeantForm
 on_form version verb (Word object ∷ []) =
     if nat_le (on_since verb) version && is_name version object then Some (On verb object) else None
 on_form version verb tokens = None
@@ -63,28 +64,28 @@ abbrev pub lone_word : List Token → Option (List ℕ)
 lone_word (Word word ∷ []) = Some word
 lone_word tokens = None
 
-abbrev pub into_object : ℕ → IntoVerb → List ℕ → List ℕ → Option Meant
+abbrev pub into_object : ℕ → IntoVerb → List ℕ → List ℕ → Option MeantForm
 into_object version verb register object =
     if nat_le (into_since verb) version && is_name version object
     then option_map (λ r. Into verb r object) (register_in register)
     else None
 
-abbrev pub into_form : ℕ → IntoVerb → List Token → Option Meant
+abbrev pub into_form : ℕ → IntoVerb → List Token → Option MeantForm
 into_form version verb (Word register ∷ tokens) =
     option_and_then (into_object version verb register) (lone_word tokens)
 into_form version verb tokens = None
 
-abbrev pub wait_mutex : ℕ → List ℕ → List ℕ → Option Meant
+abbrev pub wait_mutex : ℕ → List ℕ → List ℕ → Option MeantForm
 wait_mutex version cond mutex =
     if is_name version cond && is_name version mutex then Some (Wait cond mutex) else None
 
-abbrev pub wait_form : ℕ → List Token → Option Meant
+abbrev pub wait_form : ℕ → List Token → Option MeantForm
 wait_form version (Word cond ∷ tokens) =
     option_and_then (wait_mutex version cond) (lone_word tokens)
 wait_form version tokens = None
 
 -- a form that is its word alone
-abbrev pub bare_form : Meant → List Token → Option Meant
+abbrev pub bare_form : MeantForm → List Token → Option MeantForm
 bare_form form [] = Some form
 bare_form form (token ∷ tokens) = None
 
@@ -98,7 +99,7 @@ parts_at None tokens = None
 parts_at (Some place) tokens = Some (take place tokens, drop (place + 1) tokens)
 
 -- the forms that remain, which hold no expression
-abbrev pub quiet_form : ℕ → List ℕ → List Token → Option Meant
+abbrev pub quiet_form : ℕ → List ℕ → List Token → Option MeantForm
 quiet_form version word tokens =
     if bytes_eq word (codes "wait") then wait_form version tokens
     else (if bytes_eq word (codes "yield") then bare_form Yield tokens
@@ -106,25 +107,25 @@ quiet_form version word tokens =
     else (if bytes_eq word (codes "else") then bare_form Else tokens
     else None)))
 
-abbrev pub by_on : Option OnVerb → ℕ → List Token → Option Meant → Option Meant
+abbrev pub by_on : Option OnVerb → ℕ → List Token → Option MeantForm → Option MeantForm
 by_on None version tokens others = others
 by_on (Some verb) version tokens others = on_form version verb tokens
 
-abbrev pub by_into : Option IntoVerb → ℕ → List Token → Option Meant → Option Meant
+abbrev pub by_into : Option IntoVerb → ℕ → List Token → Option MeantForm → Option MeantForm
 by_into None version tokens others = others
 by_into (Some verb) version tokens others = into_form version verb tokens
 
-abbrev pub by_kind : Option NameKind → ℕ → List Token → Option Meant → Option Meant
+abbrev pub by_kind : Option NameKind → ℕ → List Token → Option MeantForm → Option MeantForm
 by_kind None version tokens others = others
 by_kind (Some kind) version tokens others = declared_form version kind tokens
 
 module _ (number : List ℕ → ℤ) where
-  abbrev pub write_form : ℕ → List Token → Option Meant
+  abbrev pub write_form : ℕ → List Token → Option MeantForm
   write_form version (Word var ∷ value) =
       if is_name version var then option_map (Write var) (expression_in number value) else None
   write_form version tokens = None
 
-  abbrev pub add_form : ℕ → List Token → Option Meant
+  abbrev pub add_form : ℕ → List Token → Option MeantForm
   add_form version (Word register ∷ Word var ∷ value) =
       if is_name version var
       then option_and_then (λ r. option_map (Add r var) (expression_in number value))
@@ -132,16 +133,16 @@ module _ (number : List ℕ → ℤ) where
       else None
   add_form version tokens = None
 
-  abbrev pub cas_pair : ℕ → List ℕ → List Token → List Token → Option Meant
+  abbrev pub cas_pair : ℕ → List ℕ → List Token → List Token → Option MeantForm
   cas_pair register var old new =
       option_and_then (λ a. option_map (Cas register var a) (expression_in number new))
       (expression_in number old)
 
-  abbrev pub cas_parts : ℕ → List ℕ → Option (List Token × List Token) → Option Meant
+  abbrev pub cas_parts : ℕ → List ℕ → Option (List Token × List Token) → Option MeantForm
   cas_parts register var None = None
   cas_parts register var (Some parts) = cas_pair register var parts.0 parts.1
 
-  abbrev pub cas_form : ℕ → List Token → Option Meant
+  abbrev pub cas_form : ℕ → List Token → Option MeantForm
   cas_form version (Word register ∷ Word var ∷ values) =
       if is_name version var
       then option_and_then (λ r. cas_parts r var (parts_at (position is_comma values) values))
@@ -149,13 +150,13 @@ module _ (number : List ℕ → ℤ) where
       else None
   cas_form version tokens = None
 
-  abbrev pub set_form : List Token → Option Meant
+  abbrev pub set_form : List Token → Option MeantForm
   set_form (Word register ∷ value) =
       option_and_then (λ r. option_map (Set r) (expression_in number value)) (register_in register)
   set_form tokens = None
 
   -- the forms with an expression, and those that remain
-  abbrev pub other_form : ℕ → List ℕ → List Token → Option Meant
+  abbrev pub other_form : ℕ → List ℕ → List Token → Option MeantForm
   other_form version word tokens =
       if bytes_eq word (codes "write") then write_form version tokens
       else (if bytes_eq word (codes "add") then add_form version tokens
@@ -166,13 +167,13 @@ module _ (number : List ℕ → ℤ) where
       else (if bytes_eq word (codes "while") then option_map While (expression_in number tokens)
       else quiet_form version word tokens))))))
 
-  abbrev pub form_at : ℕ → List ℕ → List Token → Option Meant
+  abbrev pub form_at : ℕ → List ℕ → List Token → Option MeantForm
   form_at version word tokens =
       by_on (on_verb_in word) version tokens
       (by_into (into_verb_in word) version tokens
       (by_kind (kind_in word) version tokens (other_form version word tokens)))
 
   -- the form of a line, by the version of the language
-  abbrev pub form_in : ℕ → List Token → Option Meant
+  abbrev pub form_in : ℕ → List Token → Option MeantForm
   form_in version (Word word ∷ tokens) = form_at version word tokens
   form_in version tokens = None

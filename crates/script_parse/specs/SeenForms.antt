@@ -2,7 +2,7 @@
 use Rattle.std.specs.Prelude.{ℕ, Bool, true, false, List, [], ◌∷◌, codes}
 use Rattle.pct_ask.specs.Tokens.{Token, Number, Symbol}
 use Rattle.script_tree.specs.Forms as language
-use Rattle.script_tree.specs.Forms.{Meant}
+use Rattle.script_tree.specs.Forms.{MeantForm}
 use Rattle.script_tree.specs.Seen.{expression}
 use Rattle.script_parse.specs.declared.form.OnVerb.{OnVerb}
 use Rattle.script_parse.specs.declared.form.OnVerb.TheVariants as on
@@ -33,15 +33,15 @@ seen_into into.TryRdLock = language.TryRdLock
 seen_into into.TryWrLock = language.TryWrLock
 
 -- the tokens of a first value
-abbrev pub value_tokens : Bool → List ℕ → List Token
-value_tokens false digits = Number digits ∷ []
-value_tokens true digits = Symbol (codes "-") ∷ Number digits ∷ []
+abbrev pub seen_value_tokens : Bool → List ℕ → List Token
+seen_value_tokens false digits = Number digits ∷ []
+seen_value_tokens true digits = Symbol (codes "-") ∷ Number digits ∷ []
 
 -- a form without where its names and expressions lie in memory
-abbrev pub seen_form : Form → Meant
+abbrev pub seen_form : Form → MeantForm
 seen_form (forms.Plain kind name) = language.Plain kind name.now
 seen_form (forms.Valued kind name minus digits) =
-    language.Valued kind name.now (value_tokens minus digits.now)
+    language.Valued kind name.now (seen_value_tokens minus digits.now)
 seen_form (forms.Thread name) = language.Thread name.now
 seen_form (forms.On verb object) = language.On (seen_on verb) object.now
 seen_form (forms.Into verb reg object) = language.Into (seen_into verb) reg object.now

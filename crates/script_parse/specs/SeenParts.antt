@@ -1,7 +1,7 @@
 -- How what the code keeps of a script stands for what was read of it.
 use Rattle.std.specs.Prelude.{List, map, reverse}
 use Rattle.script_tree.specs.Seen.{expression, block, statements}
-use Rattle.script_tree.specs.ScriptParts.{thread}
+use Rattle.script_tree.specs.ScriptParts.{thread_text}
 use Rattle.script_parse.specs.Part as parts
 use Rattle.script_parse.specs.declared.blocks.Opening.{Opening}
 use Rattle.script_parse.specs.declared.blocks.Opening.TheVariants.{Thread, If, Else, While}
@@ -28,6 +28,6 @@ seen_reader r = record {
   vars = r.vars;
   sems = r.sems;
   barriers = r.barriers;
-  threads = map thread r.threads.items;
+  threads = map thread_text r.threads.items;
   open_blocks = seen_blocks r.open_blocks.items;
 }

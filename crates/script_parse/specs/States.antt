@@ -1,7 +1,7 @@
 -- How what the code keeps between lines stands for what was read (this project).
 use Rattle.std.specs.Prelude.{◌≡◌, ℕ, List, Option, Some, None, Result, Ok, Err}
 use Rattle.script_tree.specs.ScriptText.{ScriptText}
-use Rattle.script_tree.specs.ScriptSeen.{text}
+use Rattle.script_tree.specs.ScriptSeen.{plain_script}
 use Rattle.script_tree.specs.declared.script.Script.{Script}
 use Rattle.script_tree.specs.declared.fault.ScriptFault.{ScriptFault}
 use Rattle.script_tree.specs.Faults.{IsFault}
@@ -25,7 +25,7 @@ seen_step (steps.Bad kind) = Err kind
 -- Parsing gives what was read: the script, or the first fault. Want of memory says nothing of a
 -- text.
 abbrev pub Gives : Result Script ScriptError → Result ScriptText (ℕ × ScriptFault) → Type 0
-Gives (Ok script) read = read ≡ Ok (text script)
+Gives (Ok script) read = read ≡ Ok (plain_script script)
 Gives (Err (errors.Bad line kind)) read = read ≡ Err (line, kind)
 Gives (Err errors.NoMemory) read = Unit {0}
 

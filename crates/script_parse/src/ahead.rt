@@ -8,7 +8,7 @@ ghost use Rattle.pct_ask.specs.Lines.{lines_of};
 ghost use Rattle.pct_ask.specs.Tokens.{tokens_of};
 ghost use Rattle.script_tree.specs.Lines.{just_thread, thread_in};
 ghost use Rattle.script_parse.specs.Seen.{all_seen};
-ghost use Rattle.script_parse.specs.Ahead.{ArePlaces, HasPlaces, HasSeen, place_ahead};
+ghost use Rattle.script_parse.specs.Ahead.{AreMapPlaces, HasPlaces, HasSeen, place_ahead};
 
 use crate::expression::says;
 use crate::token::{Token, tokens};
@@ -68,8 +68,8 @@ fn note_place<'a>(
     place: u32,
 ) -> Result<(), NoMemory>
     ensures { OnOk result
-        ((names : List (List ℕ)) → place ≡ length names → ArePlaces places.old names
-        → ArePlaces places.new (names ++ name.now ∷ [])) }
+        ((names : List (List ℕ)) → place ≡ length names → AreMapPlaces places.old names
+        → AreMapPlaces places.new (names ++ name.now ∷ [])) }
 {
     if places.contains_key(name) {
         return Ok(());

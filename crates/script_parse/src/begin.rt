@@ -10,7 +10,7 @@ use crate::token::Token;
 
 /// Whether a line begins with this word.
 pub fn begins(word: &[u8], tokens: &[Token<'_>]) -> bool
-    ensures { result ≡ lines.begins word.now (all_seen tokens.now) }
+    ensures { result ≡ lines.begins_with word.now (all_seen tokens.now) }
 {
     match tokens {
         [Token::Word(first), ..] => says(first, word),
@@ -27,7 +27,7 @@ pub fn opens(tokens: &[Token<'_>]) -> bool
 
 /// Whether a line names a thread that it begins.
 pub fn names_thread(tokens: &[Token<'_>]) -> bool
-    ensures { result ≡ is_some (lines.named kinds.Thread (all_seen tokens.now)) }
+    ensures { result ≡ is_some (lines.declared_name kinds.Thread (all_seen tokens.now)) }
 {
     match tokens {
         [Token::Word(word), Token::Word(_), ..] => says(word, b"thread"),

@@ -4,7 +4,7 @@ ghost use Rattle.std.specs.Prelude.{◌≡◌};
 ghost use Rattle.std.specs.Option.{option_map};
 ghost use Rattle.script_tree.specs.Forms as language;
 ghost use Rattle.script_parse.specs.Seen.{all_seen};
-ghost use Rattle.script_parse.specs.SeenForms.{seen_form, value_tokens};
+ghost use Rattle.script_parse.specs.SeenForms.{seen_form, seen_value_tokens};
 ghost use Rattle.script_parse.specs.Words.{kind_in};
 ghost use Rattle.script_parse.specs.Saying as saying;
 
@@ -89,7 +89,7 @@ fn is_minus(kind: NameKind, signs: &[u8]) -> bool
 }
 
 fn minus_value<'a>(kind: NameKind, signs: &[u8], digits: &'a [u8]) -> Option<(bool, &'a [u8])>
-    ensures { option_map (λ v. value_tokens v.0 v.1.now) result
+    ensures { option_map (λ v. seen_value_tokens v.0 v.1.now) result
         ≡ saying.minus_value kind signs.now digits.now }
 {
     if is_minus(kind, signs) {
@@ -101,7 +101,7 @@ fn minus_value<'a>(kind: NameKind, signs: &[u8], digits: &'a [u8]) -> Option<(bo
 
 /// Whether a first value is negative, and its digits.
 fn value_of<'a>(kind: NameKind, tokens: &[Token<'a>]) -> Option<(bool, &'a [u8])>
-    ensures { option_map (λ v. value_tokens v.0 v.1.now) result
+    ensures { option_map (λ v. seen_value_tokens v.0 v.1.now) result
         ≡ saying.value_parts kind (all_seen tokens.now) }
 {
     match tokens {

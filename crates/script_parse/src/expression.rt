@@ -7,8 +7,8 @@ ghost use Rattle.script_tree.specs.Seen.{expression as tree};
 ghost use Rattle.script_tree.specs.Expressions as language;
 ghost use Rattle.script_parse.specs.Seen.{seen, all_seen};
 ghost use Rattle.script_parse.specs.Registers.{register_in};
-ghost use Rattle.script_parse.specs.Numbers.{saturated};
-ghost use Rattle.script_parse.specs.Machine.{operator_in, expression_in, pending};
+ghost use Rattle.script_parse.specs.Numbers.{saturated_number};
+ghost use Rattle.script_parse.specs.Machine.{operator_in, expression_in, open_expression};
 ghost use Rattle.script_parse.specs.Machine as machine;
 ghost use Rattle.script_parse.specs.Frames.{seen_frame, seen_frames, seen_pending};
 
@@ -120,7 +120,7 @@ fn left_level(op: Op) -> u32
 
 /// Whether what waits takes a part of this level.
 fn takes(frame: &Frame, level: u32) -> bool
-    ensures { result ≡ machine.takes level (seen_frame frame.now) }
+    ensures { result ≡ machine.takes_part level (seen_frame frame.now) }
 {
     match frame {
         Frame::Paren => false,
@@ -158,7 +158,7 @@ fn is_taken(frames: &[Frame], level: u32) -> bool
 fn reduce(alloc: Global, level: u32, frames: &mut Vec<Frame>, value: Expr) -> Result<Expr, NoMemory>
     ensures { OnOk result
         (IfOk result (λ e.
-        machine.reduced level (seen_frames frames.old.items) (tree value)
+        machine.reduced_value level (seen_frames frames.old.items) (tree value)
         ≡ (seen_frames frames.new.items, tree e))) }
 {
     let mut value = value;
@@ -183,7 +183,7 @@ fn chains(op: Op, frames: &[Frame]) -> bool
 
 fn waiting(mut frames: Vec<Frame>, frame: Frame) -> Result<Pending, NoMemory>
     ensures { IfOk result (λ p.
-        seen_pending p ≡ pending (seen_frame frame ∷ seen_frames frames.items) None) }
+        seen_pending p ≡ open_expression (seen_frame frame ∷ seen_frames frames.items) None) }
 {
     frames.push(frame)?;
     Ok(Pending {
@@ -196,7 +196,7 @@ fn waiting(mut frames: Vec<Frame>, frame: Frame) -> Result<Pending, NoMemory>
 fn begun(frames: Vec<Frame>, token: &Token<'_>) -> Result<Option<Pending>, NoMemory>
     ensures { IfOk result (λ next.
         option_map seen_pending next
-        ≡ machine.begun saturated (seen_frames frames.items) (seen token.now)) }
+        ≡ machine.with_value_token saturated_number (seen_frames frames.items) (seen token.now)) }
 {
     match token {
         Token::Number(digits) => Ok(Some(Pending {
@@ -285,7 +285,7 @@ impl Pending {
     fn take(self, alloc: Global, token: &Token<'_>) -> Result<Option<Pending>, NoMemory>
         ensures { IfOk result (λ next.
             option_map seen_pending next
-            ≡ machine.step saturated (seen_pending self) (seen token.now)) }
+            ≡ machine.token_step saturated_number (seen_pending self) (seen token.now)) }
     {
         let Pending { frames, value } = self;
         match value {
@@ -297,7 +297,7 @@ impl Pending {
     /// The expression, where the last token was read.
     fn finish(self, alloc: Global) -> Result<Option<Expr>, NoMemory>
         ensures { IfOk result (λ found.
-            option_map tree found ≡ machine.finished (seen_pending self)) }
+            option_map tree found ≡ machine.whole_expression (seen_pending self)) }
     {
         let Pending { mut frames, value } = self;
         let Some(value) = value else {
@@ -315,7 +315,7 @@ impl Pending {
 /// The expression that tokens spell. A number above the greatest i64 is read as that.
 pub fn expression_of(alloc: Global, tokens: &[Token<'_>]) -> Result<Option<Expr>, NoMemory>
     ensures { IfOk result (λ found.
-        option_map tree found ≡ expression_in saturated (all_seen tokens.now)) }
+        option_map tree found ≡ expression_in saturated_number (all_seen tokens.now)) }
 {
     let mut pending = Pending {
         frames: Vec::new(alloc),

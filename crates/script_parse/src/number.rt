@@ -5,8 +5,8 @@ ghost use Rattle.std.specs.Char.{digit_value};
 ghost use Rattle.std.specs.Str.Parse.{digits_value};
 ghost use Rattle.script_tree.specs.Forms as language;
 ghost use Rattle.script_tree.specs.Ranges as ranges;
-ghost use Rattle.script_parse.specs.Numbers.{saturated};
-ghost use Rattle.script_parse.specs.SeenForms.{value_tokens};
+ghost use Rattle.script_parse.specs.Numbers.{saturated_number};
+ghost use Rattle.script_parse.specs.SeenForms.{seen_value_tokens};
 
 use pct_ask::NameKind;
 
@@ -30,7 +30,7 @@ pub fn number_of(digits: &[u8]) -> u128
 
 /// The number that digits stand for, and the greatest i64 where it is greater.
 pub fn saturated(digits: &[u8]) -> i64
-    ensures { result ≡ saturated digits.now }
+    ensures { result ≡ saturated_number digits.now }
 {
     let number = number_of(digits);
     if number < 1 << 63 {
@@ -42,8 +42,8 @@ pub fn saturated(digits: &[u8]) -> i64
 
 /// The first value that digits stand for, with a `-` before them or without.
 pub fn first_value(kind: NameKind, minus: bool, digits: &[u8]) -> i64
-    requires { ranges.value_fits kind (value_tokens minus digits.now) ≡ true }
-    ensures { language.value_in kind (value_tokens minus digits.now) ≡ Some result }
+    requires { ranges.value_fits kind (seen_value_tokens minus digits.now) ≡ true }
+    ensures { language.value_in kind (seen_value_tokens minus digits.now) ≡ Some result }
 {
     if !minus {
         return saturated(digits);

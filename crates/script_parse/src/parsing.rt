@@ -5,13 +5,13 @@ ghost use Rattle.pct_ask.specs.Lines.{lines_of};
 ghost use Rattle.script_tree.specs.Lines.{version_in};
 ghost use Rattle.script_tree.specs.Faults.{are_blank};
 ghost use Rattle.script_tree.specs.Grammar.{Spells};
-ghost use Rattle.script_tree.specs.ScriptSeen.{text};
+ghost use Rattle.script_tree.specs.ScriptSeen.{plain_script};
 ghost use Rattle.script_tree.specs.ScriptText.{ScriptText};
 ghost use Rattle.script_parse.specs.Answers.{EachHasOneAnswer, PrintIsRead};
 ghost use Rattle.script_parse.specs.Seen.{all_seen};
 ghost use Rattle.script_parse.specs.Ahead.{HasSeen, place_ahead};
 ghost use Rattle.script_parse.specs.SeenParts.{seen_reader};
-ghost use Rattle.script_parse.specs.Numbers.{saturated};
+ghost use Rattle.script_parse.specs.Numbers.{saturated_number};
 ghost use Rattle.script_parse.specs.States.{seen_state, seen_step, Gives, TellsFault};
 ghost use Rattle.script_parse.specs.Reading as reading;
 
@@ -94,8 +94,9 @@ fn read_below(
 ) -> Result<Step, NoMemory>
     ensures { IfOk result (λ step.
         seen_step step
-        ≡ reading.wrapped
-        (reading.tokens_taken saturated (seen_reader reader) (place_ahead ahead.now) number last
+        ≡ reading.some_part
+        (reading.tokens_taken saturated_number (seen_reader reader)
+        (place_ahead ahead.now) number last
         (Some (all_seen tokens.now)))) }
 {
     if tokens.is_empty() {
@@ -123,7 +124,7 @@ fn read_line(
 ) -> Result<Step, NoMemory>
     ensures { IfOk result (λ step.
         seen_step step
-        ≡ reading.line_taken saturated (seen_state state) (place_ahead ahead.now) number
+        ≡ reading.line_taken saturated_number (seen_state state) (place_ahead ahead.now) number
         (number == ahead.now.lines) line.now) }
 {
     if let Some(kind) = bytes_fault(number, line) {
@@ -145,7 +146,7 @@ fn read_lines(alloc: Global, ahead: &Ahead<'_>, bytes: &[u8]) -> Result<Script, 
     requires seen { HasSeen ahead.now (lines_of bytes.now) }
     requires small { length bytes.now ≤ 1048576 }
     requires says { are_blank (lines_of bytes.now) ≡ false }
-    ensures { Gives result (reading.read saturated bytes.now) }
+    ensures { Gives result (reading.read_as_script saturated_number bytes.now) }
 {
     let mut state = State::Above;
     let mut number = 1;
@@ -176,7 +177,7 @@ fn blank_text_fault(bytes: &[u8]) -> ScriptFault
 }
 
 fn read_text(alloc: Global, bytes: &[u8]) -> Result<Script, ScriptError>
-    ensures { Gives result (reading.read saturated bytes.now) }
+    ensures { Gives result (reading.read_as_script saturated_number bytes.now) }
 {
     if bytes.len() > 1_048_576 {
         return Err(ScriptError::Bad {
@@ -196,9 +197,9 @@ fn read_text(alloc: Global, bytes: &[u8]) -> Result<Script, ScriptError>
 
 /// The script that a text spells, or its first fault.
 pub fn parse(alloc: Global, bytes: &[u8]) -> Result<Script, ScriptError>
-    ensures found { IfOk result (λ script. Spells bytes.now (text script)) }
+    ensures found { IfOk result (λ script. Spells bytes.now (plain_script script)) }
     ensures only { (script : ScriptText) → Spells bytes.now script
-        → IfOk result (λ s. text s ≡ script) }
+        → IfOk result (λ s. plain_script s ≡ script) }
     ensures fault { IfErr result (λ error. TellsFault error bytes.now) }
 {
     read_text(alloc, bytes)

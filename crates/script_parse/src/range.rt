@@ -4,7 +4,7 @@ ghost use Rattle.std.specs.Prelude.{◌≡◌};
 ghost use Rattle.std.specs.List.{list_any};
 ghost use Rattle.script_tree.specs.Ranges as ranges;
 ghost use Rattle.script_parse.specs.Seen.{seen, all_seen};
-ghost use Rattle.script_parse.specs.SeenForms.{value_tokens, seen_form};
+ghost use Rattle.script_parse.specs.SeenForms.{seen_value_tokens, seen_form};
 
 use crate::form::Form;
 use crate::number::number_of;
@@ -12,7 +12,7 @@ use crate::token::Token;
 use pct_ask::NameKind;
 
 fn value_fits(kind: NameKind, minus: bool, digits: &[u8]) -> bool
-    ensures { result ≡ ranges.value_fits kind (value_tokens minus digits.now) }
+    ensures { result ≡ ranges.value_fits kind (seen_value_tokens minus digits.now) }
 {
     let number = number_of(digits);
     match (kind, minus) {

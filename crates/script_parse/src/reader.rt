@@ -6,7 +6,7 @@ ghost use Rattle.pct_ask.specs.NameLists.{list_of, all_names};
 ghost use Rattle.script_tree.specs.Fitting.{IsScript};
 ghost use Rattle.script_tree.specs.Fitting as fitting;
 ghost use Rattle.script_tree.specs.Faults as faults;
-ghost use Rattle.script_tree.specs.ScriptSeen.{text};
+ghost use Rattle.script_tree.specs.ScriptSeen.{plain_script};
 ghost use Rattle.script_tree.specs.Seen.{statement, block as tree_of_block};
 ghost use Rattle.script_parse.specs.Ahead.{place_ahead};
 ghost use Rattle.script_parse.specs.Seen.{all_seen};
@@ -41,7 +41,7 @@ pub struct Reader {
 
 impl Reader {
     pub fn new(alloc: Global, version: u32) -> Self
-        ensures { seen_reader result ≡ reading.start version }
+        ensures { seen_reader result ≡ reading.first_part version }
     {
         Reader {
             version,
@@ -68,7 +68,7 @@ impl Reader {
 
     fn may_stand(&self, form: &Form<'_>) -> bool
         ensures { result
-            ≡ faults.may_stand (reading.so_far (seen_reader self.now)) (seen_form form.now) }
+            ≡ faults.may_stand (reading.so_far_in (seen_reader self.now)) (seen_form form.now) }
     {
         match form {
             Form::Plain { .. } | Form::Valued { .. } => !self.has_thread(),
@@ -79,14 +79,15 @@ impl Reader {
     }
 
     fn is_known(&self, ahead: &Ahead<'_>, kind: NameKind, name: &[u8]) -> bool
-        ensures { result ≡ reading.is_known self.now.names (place_ahead ahead.now) kind name.now }
+        ensures { result
+            ≡ reading.is_known_name self.now.names (place_ahead ahead.now) kind name.now }
     {
         place_in(&self.names, ahead, kind, name).is_some()
     }
 
     fn uses_unknown(&self, ahead: &Ahead<'_>, form: &Form<'_>) -> bool
         ensures { result
-            ≡ faults.uses_unknown (reading.is_known self.now.names (place_ahead ahead.now))
+            ≡ faults.uses_unknown (reading.is_known_name self.now.names (place_ahead ahead.now))
             (seen_form form.now) }
     {
         match form {
@@ -105,7 +106,8 @@ impl Reader {
 
     fn declares_again(&self, form: &Form<'_>) -> bool
         ensures { result
-            ≡ faults.declares_again (reading.so_far (seen_reader self.now)) (seen_form form.now) }
+            ≡ faults.declares_again (reading.so_far_in (seen_reader self.now))
+            (seen_form form.now) }
     {
         match form {
             Form::Plain { name, .. } | Form::Valued { name, .. } | Form::Thread { name } => {
@@ -118,7 +120,7 @@ impl Reader {
     /// Whether a block is open behind a line with these tokens.
     fn leaves_open(&self, tokens: &[Token<'_>]) -> bool
         ensures { result
-            ≡ faults.leaves_open (reading.so_far (seen_reader self.now)) (all_seen tokens.now) }
+            ≡ faults.leaves_open (reading.so_far_in (seen_reader self.now)) (all_seen tokens.now) }
     {
         if opens(tokens) {
             true
@@ -131,7 +133,8 @@ impl Reader {
 
     fn closes_nothing(&self, form: &Form<'_>) -> bool
         ensures { result
-            ≡ faults.closes_nothing (reading.so_far (seen_reader self.now)) (seen_form form.now) }
+            ≡ faults.closes_nothing (reading.so_far_in (seen_reader self.now))
+            (seen_form form.now) }
     {
         match form {
             Form::End => is_closed(&self.open_blocks),
@@ -143,7 +146,7 @@ impl Reader {
     /// Whether no thread began up to a line with these tokens.
     fn lacks_thread(&self, tokens: &[Token<'_>]) -> bool
         ensures { result
-            ≡ faults.lacks_thread (reading.so_far (seen_reader self.now)) (all_seen tokens.now) }
+            ≡ faults.lacks_thread (reading.so_far_in (seen_reader self.now)) (all_seen tokens.now) }
     {
         !names_thread(tokens) && !self.has_thread()
     }
@@ -156,7 +159,7 @@ impl Reader {
 
     fn is_too_many(&self, form: &Form<'_>) -> bool
         ensures { result
-            ≡ faults.is_too_many (reading.so_far (seen_reader self.now)) (seen_form form.now) }
+            ≡ faults.is_too_many (reading.so_far_in (seen_reader self.now)) (seen_form form.now) }
     {
         match form {
             Form::Thread { .. } => self.names.count(NameKind::Thread) >= self.most_threads(),
@@ -222,13 +225,14 @@ impl Reader {
     ) -> Result<Reader, NoMemory>
         requires lawful { names_lawful (seen_form form) ≡ true }
         requires fits { value_lawful (seen_form form) ≡ true }
-        requires fresh { faults.declares_again (reading.so_far (seen_reader self)) (seen_form form)
+        requires fresh { faults.declares_again (reading.so_far_in (seen_reader self))
+            (seen_form form)
             ≡ false }
-        requires room { faults.is_too_many (reading.so_far (seen_reader self)) (seen_form form)
+        requires room { faults.is_too_many (reading.so_far_in (seen_reader self)) (seen_form form)
             ≡ false }
         ensures { IfOk result (λ r.
             seen_reader r
-            ≡ reading.taken (seen_reader self) (place_ahead ahead.now) line
+            ≡ reading.with_form (seen_reader self) (place_ahead ahead.now) line
             (seen_form form.entry)) }
     {
         match form {
@@ -258,7 +262,7 @@ impl Reader {
         requires fresh { is_among name.now (all_names self.names) ≡ false }
         requires room { length (list_of kind self.names) < 64 }
         ensures { IfOk result (λ r.
-            seen_reader r ≡ reading.named (seen_reader self) kind name.now) }
+            seen_reader r ≡ reading.with_declared (seen_reader self) kind name.now) }
     {
         self.names.add(alloc, kind, name)?;
         Ok(self)
@@ -266,7 +270,7 @@ impl Reader {
 
     fn with_value(mut self, kind: NameKind, value: i64) -> Result<Reader, NoMemory>
         ensures { IfOk result (λ r.
-            seen_reader r ≡ reading.with_value kind value (seen_reader self)) }
+            seen_reader r ≡ reading.with_first_value kind value (seen_reader self)) }
     {
         match kind {
             NameKind::Var => self.vars.try_push(value)?,
@@ -279,7 +283,7 @@ impl Reader {
 
     fn opened(mut self, alloc: Global, opening: Opening) -> Result<Reader, NoMemory>
         ensures { IfOk result (λ r.
-            seen_reader r ≡ reading.opened (seen_reader self) (seen_opening opening)) }
+            seen_reader r ≡ reading.with_block (seen_reader self) (seen_opening opening)) }
     {
         open_block(alloc, &mut self.open_blocks, opening)?;
         Ok(self)
@@ -289,7 +293,8 @@ impl Reader {
     #[tactic(auto, using(script_tree::proofs::laws::SeenParts::seen_laws))]
     fn ended(mut self, line: u32) -> Result<Reader, NoMemory>
         ensures { IfOk result (λ r.
-            seen_reader r ≡ reading.ended (seen_reader self) (seen_reader self).open_blocks line) }
+            seen_reader r
+            ≡ reading.with_end (seen_reader self) (seen_reader self).open_blocks line) }
     {
         let Some(block) = self.open_blocks.pop() else {
             return Ok(self);
@@ -308,7 +313,8 @@ impl Reader {
     fn ended_by(mut self, opening: Opening, block: Block) -> Result<Reader, NoMemory>
         ensures { IfOk result (λ r.
             seen_reader r
-            ≡ reading.closed_by (seen_reader self) (seen_opening opening) (tree_of_block block)) }
+            ≡ reading.closed_block (seen_reader self) (seen_opening opening)
+            (tree_of_block block)) }
     {
         match opening {
             Opening::Thread { line } => {
@@ -344,7 +350,7 @@ impl Reader {
     ) -> Result<Reader, NoMemory>
         ensures { IfOk result (λ r.
             seen_reader r
-            ≡ reading.said (seen_reader self)
+            ≡ reading.part_with_statement (seen_reader self)
             (reading.statement_on self.names (place_ahead ahead.now) line (seen_form form.entry))) }
     {
         match statement_on(&self.names, ahead, line, form) {
@@ -355,7 +361,8 @@ impl Reader {
 
     fn said(mut self, stmt: Stmt) -> Result<Reader, NoMemory>
         ensures { IfOk result (λ r.
-            seen_reader r ≡ reading.said (seen_reader self) (Some (statement stmt))) }
+            seen_reader r
+            ≡ reading.part_with_statement (seen_reader self) (Some (statement stmt))) }
     {
         push_statement(&mut self.open_blocks, stmt)?;
         Ok(self)
@@ -365,7 +372,8 @@ impl Reader {
     #[tactic(auto, using(script_tree::proofs::laws::SeenParts::seen_laws))]
     fn turned(mut self, alloc: Global, line: u32) -> Result<Reader, NoMemory>
         ensures { IfOk result (λ r.
-            seen_reader r ≡ reading.turned (seen_reader self) (seen_reader self).open_blocks line) }
+            seen_reader r
+            ≡ reading.with_else (seen_reader self) (seen_reader self).open_blocks line) }
     {
         let Some(block) = self.open_blocks.pop() else {
             return Ok(self);
@@ -399,7 +407,7 @@ impl Reader {
     /// The script, where the last line was read.
     pub fn finish(self) -> Script
         requires { IsScript (reading.script_of (seen_reader self)) }
-        ensures { text result ≡ reading.script_of (seen_reader self) }
+        ensures { plain_script result ≡ reading.script_of (seen_reader self) }
     {
         let Reader {
             version,

@@ -4,7 +4,7 @@ ghost use Rattle.std.specs.Prelude.{◌≡◌, ◌≢◌, ◌+◌, ◌^◌, ◌<
 ghost use Rattle.std.specs.List.{prefix_len, list_all};
 ghost use Rattle.std.specs.Option.{option_map};
 ghost use Rattle.pct_ask.specs.Characters as characters;
-ghost use Rattle.pct_ask.specs.Tokens.{pieces_of, tokens_of, token_of as token_in};
+ghost use Rattle.pct_ask.specs.Tokens.{token_pieces, tokens_of, token_of as token_in};
 ghost use Rattle.pct_ask.specs.Tokens.{is_short_symbol as is_short, is_long_symbol as is_long};
 ghost use Rattle.script_parse.specs.Cutting.{BeginsPlain, BeginsWithPiece, IsNext};
 ghost use Rattle.script_parse.specs.Seen.{seen, all_seen};
@@ -72,7 +72,7 @@ fn is_long_symbol(first: u8, second: u8) -> bool
 
 /// The line without the blanks that it begins with.
 fn without_blanks(line: &[u8]) -> &[u8]
-    ensures same { pieces_of result.now ≡ pieces_of line.now }
+    ensures same { token_pieces result.now ≡ token_pieces line.now }
     ensures shorter { length result.now ≤ length line.now }
     ensures plain { BeginsPlain result.now }
 {

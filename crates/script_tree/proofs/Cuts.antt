@@ -8,7 +8,7 @@ use Rattle.std.proofs.lemmas.Bool.{and_parts, and_from}
 use Rattle.std.proofs.lemmas.Bool.Decides.{nat_tests}
 use Rattle.pct_ask.specs.Characters.{is_blank, is_letter, is_digit, is_word_byte}
 use Rattle.pct_ask.specs.Words.{is_word}
-use Rattle.pct_ask.specs.Tokens.{Token, Word, Number, Symbol, before, joined, pieces_of, token_of, tokens_of_pieces, tokens_of}
+use Rattle.pct_ask.specs.Tokens.{Token, Word, Number, Symbol, piece_before, onto_first_piece, token_pieces, token_of, tokens_of_pieces, tokens_of}
 use Rattle.script_tree.proofs.laws.PlainLines.{is_plain}
 
 -- what may follow a word: nothing, a space, a `)` or a comma
@@ -33,35 +33,35 @@ with_front-twice a b (Some tokens) = ap (λ (ts : List Token). Some ts) (sym (ap
 
 -- ---- pieces
 
-joined-before : (b : ℕ) (piece : List ℕ) (pieces : Option (List (List ℕ))) → option_map (joined b) (before piece pieces) ≡ before (b ∷ piece) pieces
+joined-before : (b : ℕ) (piece : List ℕ) (pieces : Option (List (List ℕ))) → option_map (onto_first_piece b) (piece_before piece pieces) ≡ piece_before (b ∷ piece) pieces
 joined-before b piece None = refl
 joined-before b piece (Some pieces) = refl
 
 word_byte_is_plain : (b : ℕ) → is_word_byte b ≡ true → (eqb b 35 ≡ false) × (is_blank b ≡ false)
 word_byte_is_plain b h = grind (arith, nat_tests)
 
-word_alone : (b : ℕ) → is_word_byte b ≡ true → pieces_of (b ∷ []) ≡ Some ((b ∷ []) ∷ [])
+word_alone : (b : ℕ) → is_word_byte b ≡ true → token_pieces (b ∷ []) ≡ Some ((b ∷ []) ∷ [])
 word_alone b h = let p = word_byte_is_plain b h in rw (p.0, p.1, h) refl
 
-word_then : (b c : ℕ) (bs : List ℕ) → is_word_byte b ≡ true → pieces_of (b ∷ c ∷ bs) ≡ cond (is_word_byte c) (option_map (joined b) (pieces_of (c ∷ bs))) (before (b ∷ []) (pieces_of (c ∷ bs)))
+word_then : (b c : ℕ) (bs : List ℕ) → is_word_byte b ≡ true → token_pieces (b ∷ c ∷ bs) ≡ cond (is_word_byte c) (option_map (onto_first_piece b) (token_pieces (c ∷ bs))) (piece_before (b ∷ []) (token_pieces (c ∷ bs)))
 word_then b c bs h = let p = word_byte_is_plain b h in rw (p.0, p.1, h) refl
 
-last_byte : (b : ℕ) (rest : List ℕ) → is_word_byte b ≡ true → Break rest → pieces_of (b ∷ rest) ≡ before (b ∷ []) (pieces_of rest)
+last_byte : (b : ℕ) (rest : List ℕ) → is_word_byte b ≡ true → Break rest → token_pieces (b ∷ rest) ≡ piece_before (b ∷ []) (token_pieces rest)
 last_byte b _ h ends = word_alone b h
 last_byte b _ h (space rest) = word_then b 32 rest h
 last_byte b _ h (closes rest) = word_then b 41 rest h
 last_byte b _ h (comma rest) = word_then b 44 rest h
 
 -- a run of letters and digits is one piece
-run : (b : ℕ) (bs rest : List ℕ) → is_word_byte b ≡ true → list_all is_word_byte bs ≡ true → Break rest → pieces_of (b ∷ (bs ++ rest)) ≡ before (b ∷ bs) (pieces_of rest)
+run : (b : ℕ) (bs rest : List ℕ) → is_word_byte b ≡ true → list_all is_word_byte bs ≡ true → Break rest → token_pieces (b ∷ (bs ++ rest)) ≡ piece_before (b ∷ bs) (token_pieces rest)
 run b [] rest h hs br = last_byte b rest h br
 run b (c ∷ bs) rest h hs br =
     let both = and_parts (is_word_byte c) (list_all is_word_byte bs) hs in
-    word_then b c (bs ++ rest) h ∙ rw both.0 (ap (option_map (joined b)) (run c bs rest both.0 both.1 br) ∙ joined-before b (c ∷ bs) (pieces_of rest))
+    word_then b c (bs ++ rest) h ∙ rw both.0 (ap (option_map (onto_first_piece b)) (run c bs rest both.0 both.1 br) ∙ joined-before b (c ∷ bs) (token_pieces rest))
 
 -- ---- tokens
 
-pub one_token : (piece : List ℕ) (pieces : Option (List (List ℕ))) (token : Token) → token_of piece ≡ Some token → tokens_of_pieces (before piece pieces) ≡ with_front (token ∷ []) (tokens_of_pieces pieces)
+pub one_token : (piece : List ℕ) (pieces : Option (List (List ℕ))) (token : Token) → token_of piece ≡ Some token → tokens_of_pieces (piece_before piece pieces) ≡ with_front (token ∷ []) (tokens_of_pieces pieces)
 one_token piece None token h = refl
 one_token piece (Some pieces) token h = rw h refl
 
@@ -98,7 +98,7 @@ word_cut (b ∷ bs) h =
     let is_token : token_of (b ∷ bs) ≡ Some (Word (b ∷ bs)) = rw (inner.0, outer.1) refl in
     record {
       plain = bytes_are_shown (b ∷ bs) (and_from (is_word_byte b) (list_all is_word_byte bs) first inner.1);
-      cuts = λ rest br. ap tokens_of_pieces (run b bs rest first inner.1 br) ∙ one_token (b ∷ bs) (pieces_of rest) (Word (b ∷ bs)) is_token;
+      cuts = λ rest br. ap tokens_of_pieces (run b bs rest first inner.1 br) ∙ one_token (b ∷ bs) (token_pieces rest) (Word (b ∷ bs)) is_token;
     }
 
 pub number_cut : (digits : List ℕ) → 0 < length digits → list_all is_digit digits ≡ true → IsCut digits (Number digits ∷ [])
@@ -110,7 +110,7 @@ number_cut (d ∷ ds) some h =
     let is_token : token_of (d ∷ ds) ≡ Some (Number (d ∷ ds)) = rw (digit_is_no_letter d both.0, both.0, both.1) refl in
     record {
       plain = bytes_are_shown (d ∷ ds) (and_from (is_word_byte d) (list_all is_word_byte ds) first others);
-      cuts = λ rest br. ap tokens_of_pieces (run d ds rest first others br) ∙ one_token (d ∷ ds) (pieces_of rest) (Number (d ∷ ds)) is_token;
+      cuts = λ rest br. ap tokens_of_pieces (run d ds rest first others br) ∙ one_token (d ∷ ds) (token_pieces rest) (Number (d ∷ ds)) is_token;
     }
 
 -- a space is passed over
@@ -140,19 +140,19 @@ never_long true = refl
 never_long false = refl
 
 -- a sign that begins no longer one
-short_40 : (rest : List ℕ) → pieces_of (40 ∷ rest) ≡ before (40 ∷ []) (pieces_of rest)
+short_40 : (rest : List ℕ) → token_pieces (40 ∷ rest) ≡ piece_before (40 ∷ []) (token_pieces rest)
 short_40 [] = refl
 short_40 (b ∷ bs) = rw (never_long (eqb b 61)) refl
 
-short_41 : (rest : List ℕ) → pieces_of (41 ∷ rest) ≡ before (41 ∷ []) (pieces_of rest)
+short_41 : (rest : List ℕ) → token_pieces (41 ∷ rest) ≡ piece_before (41 ∷ []) (token_pieces rest)
 short_41 [] = refl
 short_41 (b ∷ bs) = rw (never_long (eqb b 61)) refl
 
-short_44 : (rest : List ℕ) → pieces_of (44 ∷ rest) ≡ before (44 ∷ []) (pieces_of rest)
+short_44 : (rest : List ℕ) → token_pieces (44 ∷ rest) ≡ piece_before (44 ∷ []) (token_pieces rest)
 short_44 [] = refl
 short_44 (b ∷ bs) = rw (never_long (eqb b 61)) refl
 
-short_45 : (rest : List ℕ) → pieces_of (45 ∷ rest) ≡ before (45 ∷ []) (pieces_of rest)
+short_45 : (rest : List ℕ) → token_pieces (45 ∷ rest) ≡ piece_before (45 ∷ []) (token_pieces rest)
 short_45 [] = refl
 short_45 (b ∷ bs) = rw (never_long (eqb b 61)) refl
 
@@ -165,12 +165,12 @@ not_true : (b : Bool) → not b ≡ true → b ≡ false
 not_true true h = absurd cc
 not_true false h = refl
 
-short_33 : (rest : List ℕ) → begins_plainly rest ≡ true → pieces_of (33 ∷ rest) ≡ before (33 ∷ []) (pieces_of rest)
+short_33 : (rest : List ℕ) → begins_plainly rest ≡ true → token_pieces (33 ∷ rest) ≡ piece_before (33 ∷ []) (token_pieces rest)
 short_33 [] h = refl
 short_33 (b ∷ bs) h = rw (not_true (eqb b 61) h) refl
 
-sign_first : (sign : ℕ) (rest : List ℕ) → token_of (sign ∷ []) ≡ Some (Symbol (sign ∷ [])) → pieces_of (sign ∷ rest) ≡ before (sign ∷ []) (pieces_of rest) → tokens_of (sign ∷ rest) ≡ with_front (Symbol (sign ∷ []) ∷ []) (tokens_of rest)
-sign_first sign rest is_sign e = ap tokens_of_pieces e ∙ one_token (sign ∷ []) (pieces_of rest) (Symbol (sign ∷ [])) is_sign
+sign_first : (sign : ℕ) (rest : List ℕ) → token_of (sign ∷ []) ≡ Some (Symbol (sign ∷ [])) → token_pieces (sign ∷ rest) ≡ piece_before (sign ∷ []) (token_pieces rest) → tokens_of (sign ∷ rest) ≡ with_front (Symbol (sign ∷ []) ∷ []) (tokens_of rest)
+sign_first sign rest is_sign e = ap tokens_of_pieces e ∙ one_token (sign ∷ []) (token_pieces rest) (Symbol (sign ∷ [])) is_sign
 
 pub minus_cut : (a : List ℕ) (ta : List Token) → IsCut a ta → IsCut (45 ∷ a) (Symbol (45 ∷ []) ∷ ta)
 minus_cut a ta cut = record {

@@ -7,14 +7,14 @@ use Rattle.pct_ask.specs.Numbers.{number_text}
 use Rattle.pct_ask.specs.NameLists.{NameLists}
 use Rattle.pct_ask.specs.declared.names.NameKind.{NameKind}
 use Rattle.script_tree.specs.Seen.{block}
-use Rattle.script_tree.specs.ScriptParts.{thread}
+use Rattle.script_tree.specs.ScriptParts.{thread_text}
 use Rattle.script_tree.specs.declared.stmt.ThreadText.{ThreadText}
 use Rattle.script_tree.specs.ScriptText.{ScriptText}
-use Rattle.script_tree.specs.Forms.{Meant, kind_word}
+use Rattle.script_tree.specs.Forms.{MeantForm, kind_word}
 use Rattle.script_tree.specs.Forms as forms
 use Rattle.script_tree.specs.Grammar.{Line, thread_lines, all_thread_lines}
-use Rattle.script_tree.specs.Layout.{spaced, token_text, value_tokens, text_of_lines, form_text, plain_forms, valued_forms, declared_forms, meanings, header_text, layout}
-use Rattle.script_tree.specs.Printing.{printed, are_ranged}
+use Rattle.script_tree.specs.Layout.{spaced_words, token_text, value_tokens, text_of_lines, form_text, plain_forms, valued_forms, declared_forms, meanings, header_text, layout}
+use Rattle.script_tree.specs.Printing.{printed_lines, are_ranged}
 use Rattle.script_tree.proofs.PrintLemmas.{text_of_lines-append, printed-append, printed-more, inner_lines, one-printed, ranged-block, are_ranged-append}
 
 -- ---- one line more
@@ -30,7 +30,7 @@ line-more now line rest all after so_far more =
     printed-more now (line ++ 10 ∷ []) rest all after (ap (λ text. now ++ text) (append_assoc line (10 ∷ []) rest) ∙ so_far) more
 
 -- a text of lines
-abbrev text_of : List Meant → List ℕ
+abbrev text_of : List MeantForm → List ℕ
 text_of lines = text_of_lines (map form_text lines)
 
 pub plain-more : (kind : NameKind) (names : List (List ℕ)) (i : ℕ) (now all after_kind after : List ℕ) → i < length names
@@ -38,7 +38,7 @@ pub plain-more : (kind : NameKind) (names : List (List ℕ)) (i : ℕ) (now all 
     → after ++ text_of (plain_forms kind (drop (i + 1) names)) ≡ all
 plain-more kind names i now all after_kind after within so_far e1 e2 =
     let name = get_or names i [] in
-    line-more now (spaced (kind_word kind ∷ name ∷ [])) (text_of (plain_forms kind (drop (i + 1) names))) all after
+    line-more now (spaced_words (kind_word kind ∷ name ∷ [])) (text_of (plain_forms kind (drop (i + 1) names))) all after
     (ap (λ text. now ++ text) (sym (at_drop_more (λ rest. text_of (plain_forms kind rest)) names i [] within)) ∙ so_far)
     (e2 ∙ ap (λ text. text ++ (name ++ 10 ∷ [])) e1 ∙ two_words now (kind_word kind) name)
 
@@ -67,10 +67,10 @@ valued-more kind names values i value now all after_kind after_name after_sign a
 
 -- the lines of threads of the code
 abbrev pub threads_in : NameLists → List (List ℕ) → List ThreadText → List Line
-threads_in names threads texts = all_thread_lines names threads (map thread texts)
+threads_in names threads texts = all_thread_lines names threads (map thread_text texts)
 
 threads_in-drop : (names : NameLists) (threads : List (List ℕ)) (texts : List ThreadText) (i : ℕ) (text : ThreadText) → i < length threads → i < length texts → text ≡ get_or texts i text
-    → threads_in names (drop i threads) (drop i texts) ≡ thread_lines names (get_or threads i []) (thread text) ++ threads_in names (drop (i + 1) threads) (drop (i + 1) texts)
+    → threads_in names (drop i threads) (drop i texts) ≡ thread_lines names (get_or threads i []) (thread_text text) ++ threads_in names (drop (i + 1) threads) (drop (i + 1) texts)
 threads_in-drop names threads texts i text within within_texts is =
     let name = get_or threads i [] in
     let more_names : drop i threads ≡ name ∷ drop (i + 1) threads = at_drop_more (λ (rest : List (List ℕ)). rest) threads i [] within in
@@ -78,15 +78,16 @@ threads_in-drop names threads texts i text within within_texts is =
     ap (λ ns. threads_in names ns (drop i texts)) more_names ∙ ap (λ ts. threads_in names (name ∷ drop (i + 1) threads) ts) more_texts
 
 pub threads-more : (names : NameLists) (threads : List (List ℕ)) (texts : List ThreadText) (i : ℕ) (text : ThreadText) (now all after_thread after_name after_body after : List ℕ) → i < length threads → i < length texts → text ≡ get_or texts i text
-    → now ++ printed (threads_in names (drop i threads) (drop i texts)) ≡ all → after_thread ≡ now ++ (codes "thread" ++ 32 ∷ []) → after_name ≡ after_thread ++ (get_or threads i [] ++ 10 ∷ [])
-    → after_body ≡ after_name ++ printed (inner_lines names (block text.body)) → after ≡ after_body ++ (codes "end" ++ 10 ∷ [])
-    → after ++ printed (threads_in names (drop (i + 1) threads) (drop (i + 1) texts)) ≡ all
+    → now ++ printed_lines (threads_in names (drop i threads) (drop i texts)) ≡ all → after_thread ≡ now ++ (codes "thread" ++ 32 ∷ []) → after_name ≡ after_thread ++ (get_or threads i [] ++ 10 ∷ [])
+    → after_body ≡ after_name ++ printed_lines (inner_lines names (block text.body)) → after ≡ after_body ++ (codes "end" ++ 10 ∷ [])
+    → after ++ printed_lines (threads_in names (drop (i + 1) threads) (drop (i + 1) texts)) ≡ all
 threads-more names threads texts i text now all after_thread after_name after_body after within within_texts is so_far e1 e2 e3 e4 =
     let name = get_or threads i [] in
     let rest : List Line = threads_in names (drop (i + 1) threads) (drop (i + 1) texts) in
     let first : after_name ≡ now ++ ((codes "thread" ++ 32 ∷ name) ++ 10 ∷ []) = e2 ∙ ap (λ t. t ++ (name ++ 10 ∷ [])) e1 ∙ two_words now (codes "thread") name in
-    printed-more now (printed (thread_lines names name (thread text))) (printed rest) all after
-    (ap (λ t. now ++ t) (sym (ap printed (threads_in-drop names threads texts i text within within_texts is) ∙ printed-append (thread_lines names name (thread text)) rest)) ∙ so_far)
+    printed-more now (printed_lines (thread_lines names name (thread_text text)))
+    (printed_lines rest) all after
+    (ap (λ t. now ++ t) (sym (ap printed_lines (threads_in-drop names threads texts i text within within_texts is) ∙ printed-append (thread_lines names name (thread_text text)) rest)) ∙ so_far)
     (one-printed names (block text.body) (codes "thread" ++ 32 ∷ name) now after_name after_body after first e3 e4)
 
 pub threads-ranged : (names : NameLists) (threads : List (List ℕ)) (texts : List ThreadText) (i : ℕ) (text : ThreadText) (all : List Line) → i < length threads → i < length texts → text ≡ get_or texts i text
@@ -94,7 +95,7 @@ pub threads-ranged : (names : NameLists) (threads : List (List ℕ)) (texts : Li
     → are_ranged (threads_in names (drop (i + 1) threads) (drop (i + 1) texts)) ≡ true → are_ranged all ≡ true
 threads-ranged names threads texts i text all within within_texts is so_far inner rest =
     so_far (ap are_ranged (threads_in-drop names threads texts i text within within_texts is)
-    ∙ are_ranged-append (thread_lines names (get_or threads i []) (thread text)) (threads_in names (drop (i + 1) threads) (drop (i + 1) texts)) (ranged-block names forms.End (block text.body) refl inner) rest)
+    ∙ are_ranged-append (thread_lines names (get_or threads i []) (thread_text text)) (threads_in names (drop (i + 1) threads) (drop (i + 1) texts)) (ranged-block names forms.End (block text.body) refl inner) rest)
 
 -- ---- the end of a loop
 
@@ -108,9 +109,9 @@ pub valued-all : (kind : NameKind) (names : List (List ℕ)) (values : List ℤ)
 valued-all kind names values i now all past so_far =
     sym (append-nil now) ∙ ap (λ t. now ++ t) (sym (at_drop_all (λ rest. text_of (valued_forms kind rest (drop i values))) names i past)) ∙ so_far
 
-pub threads-all : (names : NameLists) (threads : List (List ℕ)) (texts : List ThreadText) (i : ℕ) (now all : List ℕ) → length threads ≤ i → now ++ printed (threads_in names (drop i threads) (drop i texts)) ≡ all → now ≡ all
+pub threads-all : (names : NameLists) (threads : List (List ℕ)) (texts : List ThreadText) (i : ℕ) (now all : List ℕ) → length threads ≤ i → now ++ printed_lines (threads_in names (drop i threads) (drop i texts)) ≡ all → now ≡ all
 threads-all names threads texts i now all past so_far =
-    sym (append-nil now) ∙ ap (λ t. now ++ t) (sym (at_drop_all (λ rest. printed (threads_in names rest (drop i texts))) threads i past)) ∙ so_far
+    sym (append-nil now) ∙ ap (λ t. now ++ t) (sym (at_drop_all (λ rest. printed_lines (threads_in names rest (drop i texts))) threads i past)) ∙ so_far
 
 pub threads-all-ranged : (names : NameLists) (threads : List (List ℕ)) (texts : List ThreadText) (i : ℕ) (all : List Line) → length threads ≤ i
     → (are_ranged (threads_in names (drop i threads) (drop i texts)) ≡ true → are_ranged all ≡ true) → are_ranged all ≡ true
@@ -121,11 +122,11 @@ threads-all-ranged names threads texts i all past so_far = so_far (at_drop_all (
 six : (out a b c d e f : List ℕ) → (((((out ++ a) ++ b) ++ c) ++ d) ++ e) ++ f ≡ out ++ (a ++ (b ++ (c ++ (d ++ (e ++ f)))))
 six out a b c d e f = simp append_assoc
 
-text_of-append : (a b : List Meant) → text_of (a ++ b) ≡ text_of a ++ text_of b
+text_of-append : (a b : List MeantForm) → text_of (a ++ b) ≡ text_of a ++ text_of b
 text_of-append a b = ap text_of_lines (map-append form_text a b) ∙ text_of_lines-append (map form_text a) (map form_text b)
 
 -- six kinds one after another
-pub six-printed : (out : List ℕ) (A B C D E F : List Meant) (out1 out2 out3 out4 out5 : List ℕ)
+pub six-printed : (out : List ℕ) (A B C D E F : List MeantForm) (out1 out2 out3 out4 out5 : List ℕ)
     → out1 ≡ out ++ text_of A → out2 ≡ out1 ++ text_of B → out3 ≡ out2 ++ text_of C → out4 ≡ out3 ++ text_of D → out5 ≡ out4 ++ text_of E → (after : List ℕ) → after ≡ out5 ++ text_of F
     → after ≡ out ++ text_of (A ++ (B ++ (C ++ (D ++ (E ++ F)))))
 six-printed out A B C D E F out1 out2 out3 out4 out5 e1 e2 e3 e4 e5 after e6 =
@@ -142,10 +143,10 @@ header a version b c = simp append_assoc
 
 pub layout-printed : (script : ScriptText) (out1 out2 out3 out4 after : List ℕ)
     → out1 ≡ codes "script" ++ 32 ∷ [] → out2 ≡ out1 ++ decimal script.version → out3 ≡ out2 ++ 10 ∷ [] → out4 ≡ out3 ++ text_of (declared_forms script)
-    → after ≡ out4 ++ printed (all_thread_lines script.names script.names.threads script.threads) → after ≡ layout script
+    → after ≡ out4 ++ printed_lines (all_thread_lines script.names script.names.threads script.threads) → after ≡ layout script
 layout-printed script out1 out2 out3 out4 after e1 e2 e3 e4 e5 =
-    let D : List Meant = declared_forms script in
-    let T : List Meant = meanings (all_thread_lines script.names script.names.threads script.threads) in
+    let D : List MeantForm = declared_forms script in
+    let T : List MeantForm = meanings (all_thread_lines script.names script.names.threads script.threads) in
     e5 ∙ ap (λ t. t ++ text_of T) (e4 ∙ ap (λ t. t ++ text_of D) (e3 ∙ ap (λ t. t ++ 10 ∷ []) (e2 ∙ ap (λ t. t ++ decimal script.version) e1)))
     ∙ header (codes "script") (decimal script.version) (text_of D) (text_of T)
     ∙ ap (λ t. header_text script.version ++ 10 ∷ t) (sym (text_of-append D T))

@@ -10,7 +10,7 @@ use Rattle.std.proofs.lemmas.Str.Parse.{IsNumeralModel, IsDigitsTest, numerals_b
 use Rattle.pct_ask.specs.Characters.{is_digit}
 use Rattle.pct_ask.specs.Numbers.{number_text}
 use Rattle.pct_ask.specs.Words.{is_word, registers}
-use Rattle.pct_ask.specs.Tokens.{Token, Word, Number, Symbol, before, pieces_of, token_of, tokens_of, tokens_of_pieces}
+use Rattle.pct_ask.specs.Tokens.{Token, Word, Number, Symbol, piece_before, token_pieces, token_of, tokens_of, tokens_of_pieces}
 use Rattle.script_tree.specs.declared.expr.Op.{Op}
 use Rattle.script_tree.specs.declared.expr.Op.TheVariants as ops
 use Rattle.script_tree.specs.Trees.{Expression}
@@ -83,91 +83,91 @@ begins_at (w ∷ ws) (suc i) h within = begins_at ws i (and_parts (begins_plainl
 
 -- ---- operators
 
-sign : (signs : List ℕ) (rest : List ℕ) → token_of signs ≡ Some (Symbol signs) → pieces_of (signs ++ rest) ≡ before signs (pieces_of rest) → tokens_of (signs ++ rest) ≡ with_front (Symbol signs ∷ []) (tokens_of rest)
-sign signs rest is_sign e = ap tokens_of_pieces e ∙ one_token signs (pieces_of rest) (Symbol signs) is_sign
+sign : (signs : List ℕ) (rest : List ℕ) → token_of signs ≡ Some (Symbol signs) → token_pieces (signs ++ rest) ≡ piece_before signs (token_pieces rest) → tokens_of (signs ++ rest) ≡ with_front (Symbol signs ∷ []) (tokens_of rest)
+sign signs rest is_sign e = ap tokens_of_pieces e ∙ one_token signs (token_pieces rest) (Symbol signs) is_sign
 
-sign_cut : (signs : List ℕ) → list_all is_plain signs ≡ true → token_of signs ≡ Some (Symbol signs) → ((rest : List ℕ) → Break rest → pieces_of (signs ++ rest) ≡ before signs (pieces_of rest)) → IsCut signs (Symbol signs ∷ [])
+sign_cut : (signs : List ℕ) → list_all is_plain signs ≡ true → token_of signs ≡ Some (Symbol signs) → ((rest : List ℕ) → Break rest → token_pieces (signs ++ rest) ≡ piece_before signs (token_pieces rest)) → IsCut signs (Symbol signs ∷ [])
 sign_cut signs plain is_sign pieces = record { plain = plain; cuts = λ rest br. sign signs rest is_sign (pieces rest br) }
 
-or_pieces : (rest : List ℕ) → Break rest → pieces_of (codes "||" ++ rest) ≡ before (codes "||") (pieces_of rest)
+or_pieces : (rest : List ℕ) → Break rest → token_pieces (codes "||" ++ rest) ≡ piece_before (codes "||") (token_pieces rest)
 or_pieces _ ends = refl
 or_pieces _ (space rest) = refl
 or_pieces _ (closes rest) = refl
 or_pieces _ (comma rest) = refl
 
-and_pieces : (rest : List ℕ) → Break rest → pieces_of (codes "&&" ++ rest) ≡ before (codes "&&") (pieces_of rest)
+and_pieces : (rest : List ℕ) → Break rest → token_pieces (codes "&&" ++ rest) ≡ piece_before (codes "&&") (token_pieces rest)
 and_pieces _ ends = refl
 and_pieces _ (space rest) = refl
 and_pieces _ (closes rest) = refl
 and_pieces _ (comma rest) = refl
 
-eq_pieces : (rest : List ℕ) → Break rest → pieces_of (codes "==" ++ rest) ≡ before (codes "==") (pieces_of rest)
+eq_pieces : (rest : List ℕ) → Break rest → token_pieces (codes "==" ++ rest) ≡ piece_before (codes "==") (token_pieces rest)
 eq_pieces _ ends = refl
 eq_pieces _ (space rest) = refl
 eq_pieces _ (closes rest) = refl
 eq_pieces _ (comma rest) = refl
 
-ne_pieces : (rest : List ℕ) → Break rest → pieces_of (codes "!=" ++ rest) ≡ before (codes "!=") (pieces_of rest)
+ne_pieces : (rest : List ℕ) → Break rest → token_pieces (codes "!=" ++ rest) ≡ piece_before (codes "!=") (token_pieces rest)
 ne_pieces _ ends = refl
 ne_pieces _ (space rest) = refl
 ne_pieces _ (closes rest) = refl
 ne_pieces _ (comma rest) = refl
 
-lt_pieces : (rest : List ℕ) → Break rest → pieces_of (codes "<" ++ rest) ≡ before (codes "<") (pieces_of rest)
+lt_pieces : (rest : List ℕ) → Break rest → token_pieces (codes "<" ++ rest) ≡ piece_before (codes "<") (token_pieces rest)
 lt_pieces _ ends = refl
 lt_pieces _ (space rest) = refl
 lt_pieces _ (closes rest) = refl
 lt_pieces _ (comma rest) = refl
 
-le_pieces : (rest : List ℕ) → Break rest → pieces_of (codes "<=" ++ rest) ≡ before (codes "<=") (pieces_of rest)
+le_pieces : (rest : List ℕ) → Break rest → token_pieces (codes "<=" ++ rest) ≡ piece_before (codes "<=") (token_pieces rest)
 le_pieces _ ends = refl
 le_pieces _ (space rest) = refl
 le_pieces _ (closes rest) = refl
 le_pieces _ (comma rest) = refl
 
-gt_pieces : (rest : List ℕ) → Break rest → pieces_of (codes ">" ++ rest) ≡ before (codes ">") (pieces_of rest)
+gt_pieces : (rest : List ℕ) → Break rest → token_pieces (codes ">" ++ rest) ≡ piece_before (codes ">") (token_pieces rest)
 gt_pieces _ ends = refl
 gt_pieces _ (space rest) = refl
 gt_pieces _ (closes rest) = refl
 gt_pieces _ (comma rest) = refl
 
-ge_pieces : (rest : List ℕ) → Break rest → pieces_of (codes ">=" ++ rest) ≡ before (codes ">=") (pieces_of rest)
+ge_pieces : (rest : List ℕ) → Break rest → token_pieces (codes ">=" ++ rest) ≡ piece_before (codes ">=") (token_pieces rest)
 ge_pieces _ ends = refl
 ge_pieces _ (space rest) = refl
 ge_pieces _ (closes rest) = refl
 ge_pieces _ (comma rest) = refl
 
-plus_pieces : (rest : List ℕ) → Break rest → pieces_of (codes "+" ++ rest) ≡ before (codes "+") (pieces_of rest)
+plus_pieces : (rest : List ℕ) → Break rest → token_pieces (codes "+" ++ rest) ≡ piece_before (codes "+") (token_pieces rest)
 plus_pieces _ ends = refl
 plus_pieces _ (space rest) = refl
 plus_pieces _ (closes rest) = refl
 plus_pieces _ (comma rest) = refl
 
-less_pieces : (rest : List ℕ) → Break rest → pieces_of (codes "-" ++ rest) ≡ before (codes "-") (pieces_of rest)
+less_pieces : (rest : List ℕ) → Break rest → token_pieces (codes "-" ++ rest) ≡ piece_before (codes "-") (token_pieces rest)
 less_pieces _ ends = refl
 less_pieces _ (space rest) = refl
 less_pieces _ (closes rest) = refl
 less_pieces _ (comma rest) = refl
 
-times_pieces : (rest : List ℕ) → Break rest → pieces_of (codes "*" ++ rest) ≡ before (codes "*") (pieces_of rest)
+times_pieces : (rest : List ℕ) → Break rest → token_pieces (codes "*" ++ rest) ≡ piece_before (codes "*") (token_pieces rest)
 times_pieces _ ends = refl
 times_pieces _ (space rest) = refl
 times_pieces _ (closes rest) = refl
 times_pieces _ (comma rest) = refl
 
-over_pieces : (rest : List ℕ) → Break rest → pieces_of (codes "/" ++ rest) ≡ before (codes "/") (pieces_of rest)
+over_pieces : (rest : List ℕ) → Break rest → token_pieces (codes "/" ++ rest) ≡ piece_before (codes "/") (token_pieces rest)
 over_pieces _ ends = refl
 over_pieces _ (space rest) = refl
 over_pieces _ (closes rest) = refl
 over_pieces _ (comma rest) = refl
 
-rest_pieces : (rest : List ℕ) → Break rest → pieces_of (codes "%" ++ rest) ≡ before (codes "%") (pieces_of rest)
+rest_pieces : (rest : List ℕ) → Break rest → token_pieces (codes "%" ++ rest) ≡ piece_before (codes "%") (token_pieces rest)
 rest_pieces _ ends = refl
 rest_pieces _ (space rest) = refl
 rest_pieces _ (closes rest) = refl
 rest_pieces _ (comma rest) = refl
 
-is_pieces : (rest : List ℕ) → Break rest → pieces_of (codes "=" ++ rest) ≡ before (codes "=") (pieces_of rest)
+is_pieces : (rest : List ℕ) → Break rest → token_pieces (codes "=" ++ rest) ≡ piece_before (codes "=") (token_pieces rest)
 is_pieces _ ends = refl
 is_pieces _ (space rest) = refl
 is_pieces _ (closes rest) = refl

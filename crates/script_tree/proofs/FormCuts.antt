@@ -8,7 +8,7 @@ use Rattle.pct_ask.specs.Tokens.{Token, Word, Symbol}
 use Rattle.pct_ask.specs.declared.names.NameKind.{NameKind}
 use Rattle.pct_ask.specs.declared.names.NameKind.TheVariants as kinds
 use Rattle.script_tree.specs.Expressions.{register_word}
-use Rattle.script_tree.specs.Forms.{Form, Cut, Meant, Plain, Valued, Thread, On, Into, Write, Add, Cas, Wait, Yield, Assert, Set, If, While, End, Else, OnVerb, IntoVerb, on_word, into_word, on_since, into_since, kind_word, kind_since, has_value, is_plain, value_in, tokens_of_form, Means, IsName, IsOf, IsForm}
+use Rattle.script_tree.specs.Forms.{Form, TokenForm, MeantForm, Plain, Valued, Thread, On, Into, Write, Add, Cas, Wait, Yield, Assert, Set, If, While, End, Else, OnVerb, IntoVerb, on_word, into_word, on_since, into_since, kind_word, kind_since, has_value, is_plain, value_in, tokens_of_form, Means, IsNameIn, IsFormOf, IsForm}
 use Rattle.script_tree.specs.Forms as forms
 use Rattle.script_tree.specs.Lines.{tokens_in}
 use Rattle.script_tree.specs.Ranges.{is_great, value_fits, is_out_of_range}
@@ -18,7 +18,7 @@ use Rattle.script_tree.proofs.Cuts.{IsCut, word_cut, spaced_cut, comma_cut, whol
 use Rattle.script_tree.proofs.ExpressionCuts.{expression_tokens, IsGood, register_is_word, expression_cut, equals_cut, is_expression, any-append, not_great}
 
 -- the form of a printed line, with its tokens
-abbrev pub printed_form : Meant → Cut
+abbrev pub printed_form : MeantForm → TokenForm
 printed_form (Plain kind name) = Plain kind name
 printed_form (Valued kind name value) = Valued kind name value
 printed_form (Thread name) = Thread name
@@ -43,16 +43,16 @@ pub record IsGoodValue (kind : NameKind) (value : List Token) : Type 0 where
   pub fits : value_fits kind value ≡ true
 
 -- what a version of the language asks of a line
-abbrev pub Fits : ℕ → Meant → Type 0
-Fits version (Plain kind name) = (is_plain kind ≡ true) × (kind_since kind ≤ version) × IsName version name
-Fits version (Valued kind name value) = (has_value kind ≡ true) × IsName version name × IsGoodValue kind value
-Fits version (Thread name) = IsName version name
-Fits version (On verb object) = (on_since verb ≤ version) × IsName version object
-Fits version (Into verb register object) = (into_since verb ≤ version) × (register < 16) × IsName version object
-Fits version (Write var value) = IsName version var × IsGood value
-Fits version (Add register var value) = (register < 16) × IsName version var × IsGood value
-Fits version (Cas register var old new) = (register < 16) × IsName version var × IsGood old × IsGood new
-Fits version (Wait cond mutex) = IsName version cond × IsName version mutex
+abbrev pub Fits : ℕ → MeantForm → Type 0
+Fits version (Plain kind name) = (is_plain kind ≡ true) × (kind_since kind ≤ version) × IsNameIn version name
+Fits version (Valued kind name value) = (has_value kind ≡ true) × IsNameIn version name × IsGoodValue kind value
+Fits version (Thread name) = IsNameIn version name
+Fits version (On verb object) = (on_since verb ≤ version) × IsNameIn version object
+Fits version (Into verb register object) = (into_since verb ≤ version) × (register < 16) × IsNameIn version object
+Fits version (Write var value) = IsNameIn version var × IsGood value
+Fits version (Add register var value) = (register < 16) × IsNameIn version var × IsGood value
+Fits version (Cas register var old new) = (register < 16) × IsNameIn version var × IsGood old × IsGood new
+Fits version (Wait cond mutex) = IsNameIn version cond × IsNameIn version mutex
 Fits version Yield = Unit {0}
 Fits version (Assert test) = IsGood test
 Fits version (Set register value) = (register < 16) × IsGood value
@@ -63,11 +63,11 @@ Fits version Else = Unit {0}
 
 -- ---- words
 
-name_is_word : (version : ℕ) (name : List ℕ) → IsName version name → is_word name ≡ true
+name_is_word : (version : ℕ) (name : List ℕ) → IsNameIn version name → is_word name ≡ true
 name_is_word version name lawful =
     (and_parts (is_word name) (not (is_among name (keywords version))) (and_parts (is_word name && not (is_among name (keywords version))) (not (is_among name registers)) lawful).0).0
 
-name_cut : (version : ℕ) (name : List ℕ) → IsName version name → IsCut name (Word name ∷ [])
+name_cut : (version : ℕ) (name : List ℕ) → IsNameIn version name → IsCut name (Word name ∷ [])
 name_cut version name lawful = word_cut name (name_is_word version name lawful)
 
 on_is_word : (verb : OnVerb) → is_word (on_word verb) ≡ true
@@ -106,14 +106,14 @@ kind_is_word kinds.RwLock = refl
 then : (word rest : List ℕ) (tokens : List Token) → is_word word ≡ true → IsCut rest tokens → IsCut (word ++ 32 ∷ rest) (Word word ∷ tokens)
 then word rest tokens w cut = spaced_cut word rest (Word word ∷ []) tokens (word_cut word w) cut
 
-then_name : (version : ℕ) (name rest : List ℕ) (tokens : List Token) → IsName version name → IsCut rest tokens → IsCut (name ++ 32 ∷ rest) (Word name ∷ tokens)
+then_name : (version : ℕ) (name rest : List ℕ) (tokens : List Token) → IsNameIn version name → IsCut rest tokens → IsCut (name ++ 32 ∷ rest) (Word name ∷ tokens)
 then_name version name rest tokens lawful cut = then name rest tokens (name_is_word version name lawful) cut
 
 then_register : (register : ℕ) (rest : List ℕ) (tokens : List Token) → register < 16 → IsCut rest tokens → IsCut (register_word register ++ 32 ∷ rest) (Word (register_word register) ∷ tokens)
 then_register register rest tokens within cut = then (register_word register) rest tokens (register_is_word register within) cut
 
 -- how the text of a line is cut
-pub form_cut : (version : ℕ) (meant : Meant) → Fits version meant → IsCut (form_text meant) (tokens_of_form (printed_form meant))
+pub form_cut : (version : ℕ) (meant : MeantForm) → Fits version meant → IsCut (form_text meant) (tokens_of_form (printed_form meant))
 form_cut version (Plain kind name) fits = then (kind_word kind) name (Word name ∷ []) (kind_is_word kind) (name_cut version name fits.2)
 form_cut version (Valued kind name value) fits =
     let text : List ℕ = flat_map token_text value in
@@ -153,11 +153,12 @@ form_cut version (While test) fits = then (codes "while") (expression_text test)
 form_cut version End fits = word_cut (codes "end") refl
 form_cut version Else fits = word_cut (codes "else") refl
 
-pub form_tokens : (version : ℕ) (meant : Meant) → Fits version meant → tokens_in (form_text meant) ≡ tokens_of_form (printed_form meant)
+pub form_tokens : (version : ℕ) (meant : MeantForm) → Fits version meant → tokens_in (form_text meant) ≡ tokens_of_form (printed_form meant)
 form_tokens version meant fits = ap (λ tokens. unwrap_or tokens []) (whole_cut (form_text meant) (tokens_of_form (printed_form meant)) (form_cut version meant fits))
 
 -- what the version asks of the form
-is_of : (version : ℕ) (meant : Meant) → Fits version meant → IsOf version (printed_form meant)
+is_of : (version : ℕ) (meant : MeantForm) → Fits version meant
+    → IsFormOf version (printed_form meant)
 is_of version (Plain kind name) fits = fits
 is_of version (Valued kind name value) fits = (fits.0, fits.1, fits.2.read)
 is_of version (Thread name) fits = fits
@@ -176,7 +177,7 @@ is_of version End fits = tt
 is_of version Else fits = tt
 
 -- what the form means
-means : (version : ℕ) (meant : Meant) → Fits version meant → Means (printed_form meant) meant
+means : (version : ℕ) (meant : MeantForm) → Fits version meant → Means (printed_form meant) meant
 means version (Plain kind name) fits = refl
 means version (Valued kind name value) fits = refl
 means version (Thread name) fits = refl
@@ -194,7 +195,7 @@ means version (While test) fits = (test, is_expression test fits, refl)
 means version End fits = refl
 means version Else fits = refl
 
-in_range : (version : ℕ) (meant : Meant) → Fits version meant → is_out_of_range (tokens_of_form (printed_form meant)) meant ≡ false
+in_range : (version : ℕ) (meant : MeantForm) → Fits version meant → is_out_of_range (tokens_of_form (printed_form meant)) meant ≡ false
 in_range version (Plain kind name) fits = refl
 in_range version (Valued kind name value) fits = ap not fits.2.fits
 in_range version (Thread name) fits = refl
@@ -213,6 +214,6 @@ in_range version End fits = refl
 in_range version Else fits = refl
 
 -- the line says what was printed
-pub form_says : (version : ℕ) (meant : Meant) → Fits version meant → Says version (form_text meant) meant
+pub form_says : (version : ℕ) (meant : MeantForm) → Fits version meant → Says version (form_text meant) meant
 form_says version meant fits =
     (printed_form meant, record { spelled = form_tokens version meant fits; of = is_of version meant fits; means = means version meant fits }, ap (λ tokens. is_out_of_range tokens meant) (form_tokens version meant fits) ∙ in_range version meant fits)

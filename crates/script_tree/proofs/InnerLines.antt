@@ -11,7 +11,7 @@ use Rattle.pct_ask.specs.declared.names.NameKind.TheVariants as kinds
 use Rattle.script_tree.specs.Trees.{Expression, Statement, Statements, Closed, Then}
 use Rattle.script_tree.specs.Trees as trees
 use Rattle.script_tree.specs.ScriptText.{Thread}
-use Rattle.script_tree.specs.Forms.{Meant, IsName}
+use Rattle.script_tree.specs.Forms.{MeantForm, IsNameIn}
 use Rattle.script_tree.specs.Forms as forms
 use Rattle.script_tree.specs.Fitting.{line_fits, reg_fits, place_fits, expression_fits, counts_of, statement_fits, statements_fit, thread_fits}
 use Rattle.pct_ask.specs.TraceText.{name_at}
@@ -23,21 +23,21 @@ use Rattle.script_tree.proofs.FormCuts.{Fits}
 use Rattle.script_tree.proofs.PrintedLines.{AreFit, AreFit-append}
 
 -- a line inside a thread
-abbrev pub is_inner : Meant → Bool
+abbrev pub is_inner : MeantForm → Bool
 is_inner (forms.Plain kind name) = false
 is_inner (forms.Valued kind name value) = false
 is_inner (forms.Thread name) = false
 is_inner form = true
 
-abbrev pub AreInner : ℕ → List Meant → Type 0
+abbrev pub AreInner : ℕ → List MeantForm → Type 0
 AreInner version [] = Unit {0}
 AreInner version (m ∷ ms) = (Fits version m × (is_inner m ≡ true)) × AreInner version ms
 
-pub inner_fit : (version : ℕ) (ms : List Meant) → AreInner version ms → AreFit version ms
+pub inner_fit : (version : ℕ) (ms : List MeantForm) → AreInner version ms → AreFit version ms
 inner_fit version [] inner = tt
 inner_fit version (m ∷ ms) inner = (inner.0.0, inner_fit version ms inner.1)
 
-AreInner-append : (version : ℕ) (a b : List Meant) → AreInner version a → AreInner version b → AreInner version (a ++ b)
+AreInner-append : (version : ℕ) (a b : List MeantForm) → AreInner version a → AreInner version b → AreInner version (a ++ b)
 AreInner-append version [] b in_a in_b = in_b
 AreInner-append version (m ∷ a) b in_a in_b = (in_a.0, AreInner-append version a b in_a.1 in_b)
 
@@ -87,7 +87,7 @@ lawful_kind test names kind lawful =
     ]
 
 module _ (version : ℕ) (names : NameLists) (first : 1 ≤ version) (lawful : list_all (is_name version) (all_names names) ≡ true) where
-  name_fits : (kind : NameKind) (place : ℕ) → place_fits (list_of kind names) place ≡ true → IsName version (name_at (list_of kind names) place)
+  name_fits : (kind : NameKind) (place : ℕ) → place_fits (list_of kind names) place ≡ true → IsNameIn version (name_at (list_of kind names) place)
   name_fits kind place within = all-at (is_name version) (list_of kind names) place (lawful_kind (is_name version) names kind lawful) within
 
   inner-append : (a b : List Line) → AreInner version (meanings a) → AreInner version (meanings b) → AreInner version (meanings (a ++ b))
@@ -210,7 +210,7 @@ module _ (version : ℕ) (names : NameLists) (first : 1 ≤ version) (lawful : l
         let p1 = and_parts (line_fits line) (nat_le 3 version) p2.0 in
         (((leb-true 3 version p1.1, name_fits kinds.RwLock rwlock p2.1), refl), tt)
 
-    pub block_inner : (room : ℕ) (closing : Meant) (body : Statements) → Fits version closing → is_inner closing ≡ true → statements_fit version names room body ≡ true → are_ranged (block_lines names closing body) ≡ true
+    pub block_inner : (room : ℕ) (closing : MeantForm) (body : Statements) → Fits version closing → is_inner closing ≡ true → statements_fit version names room body ≡ true → are_ranged (block_lines names closing body) ≡ true
         → AreInner version (meanings (block_lines names closing body))
     block_inner room closing (Closed line) closing_fits inner fits ranged = ((closing_fits, inner), tt)
     block_inner room closing (Then s rest) closing_fits inner fits ranged =

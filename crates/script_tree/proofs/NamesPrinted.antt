@@ -10,9 +10,9 @@ use Rattle.pct_ask.specs.NameLists.{NameLists, list_of}
 use Rattle.pct_ask.specs.declared.names.NameKind.{NameKind}
 use Rattle.pct_ask.specs.declared.names.NameKind.TheVariants as kinds
 use Rattle.script_tree.specs.ScriptText.{ScriptText, Thread}
-use Rattle.script_tree.specs.Forms.{Meant, OnVerb, IntoVerb, on_word, into_word, kind_word, value_in, tokens_of_form}
+use Rattle.script_tree.specs.Forms.{MeantForm, OnVerb, IntoVerb, on_word, into_word, kind_word, value_in, tokens_of_form}
 use Rattle.script_tree.specs.Forms as forms
-use Rattle.script_tree.specs.Lines.{tokens_in, named, names_of, valued, values_of}
+use Rattle.script_tree.specs.Lines.{tokens_in, declared_name, names_of, declared_value, values_of}
 use Rattle.script_tree.specs.Grammar.{Line, block_lines, thread_lines, all_thread_lines}
 use Rattle.script_tree.specs.Layout.{form_text, value_tokens, plain_forms, valued_forms, meanings, forms_of}
 use Rattle.script_tree.proofs.FormCuts.{printed_form, form_tokens}
@@ -20,10 +20,10 @@ use Rattle.script_tree.proofs.PrintedLines.{AreFit}
 use Rattle.script_tree.proofs.InnerLines.{is_inner, AreInner}
 
 -- the tokens of printed lines
-abbrev pub printed_tokens : List Meant → List (List Token)
+abbrev pub printed_tokens : List MeantForm → List (List Token)
 printed_tokens ms = map (λ m. tokens_of_form (printed_form m)) ms
 
-pub tokens_are : (version : ℕ) (ms : List Meant) → AreFit version ms → map tokens_in (map form_text ms) ≡ printed_tokens ms
+pub tokens_are : (version : ℕ) (ms : List MeantForm) → AreFit version ms → map tokens_in (map form_text ms) ≡ printed_tokens ms
 tokens_are version [] fit = refl
 tokens_are version (m ∷ ms) fit =
     ap (λ tokens. tokens ∷ map tokens_in (map form_text ms)) (form_tokens version m fit.0) ∙ ap (λ lines. tokens_of_form (printed_form m) ∷ lines) (tokens_are version ms fit.1)
@@ -64,13 +64,13 @@ no_kind word kind h =
       | kinds.RwLock ↦ isnt (bytes_eq word (codes "rwlock")) h6.1
     ]
 
-named-none : (kind : NameKind) (word : List ℕ) (tokens : List Token) → bytes_eq word (kind_word kind) ≡ false → named kind (Word word ∷ tokens) ≡ None
+named-none : (kind : NameKind) (word : List ℕ) (tokens : List Token) → bytes_eq word (kind_word kind) ≡ false → declared_name kind (Word word ∷ tokens) ≡ None
 named-none kind word [] h = refl
 named-none kind word (Word name ∷ tokens) h = rw h refl
 named-none kind word (Number digits ∷ tokens) h = refl
 named-none kind word (Symbol signs ∷ tokens) h = refl
 
-valued-none : (kind : NameKind) (word : List ℕ) (tokens : List Token) → bytes_eq word (kind_word kind) ≡ false → valued kind (Word word ∷ tokens) ≡ None
+valued-none : (kind : NameKind) (word : List ℕ) (tokens : List Token) → bytes_eq word (kind_word kind) ≡ false → declared_value kind (Word word ∷ tokens) ≡ None
 valued-none kind word [] h = refl
 valued-none kind word (Word name ∷ []) h = refl
 valued-none kind word (Word name ∷ Word other ∷ tokens) h = refl
@@ -101,7 +101,7 @@ into_no_kind forms.TryRdLock = refl
 into_no_kind forms.TryWrLock = refl
 
 -- the first word of a line inside a thread
-abbrev first_word : Meant → List ℕ
+abbrev first_word : MeantForm → List ℕ
 first_word (forms.On verb object) = on_word verb
 first_word (forms.Into verb register object) = into_word verb
 first_word (forms.Write var value) = codes "write"
@@ -118,12 +118,12 @@ first_word forms.Else = codes "else"
 first_word form = []
 
 -- a line that begins so declares nothing
-record BeginsSo (m : Meant) : Type 0 where
+record BeginsSo (m : MeantForm) : Type 0 where
   others : List Token
   tokens : tokens_of_form (printed_form m) ≡ Word (first_word m) ∷ others
   plain : is_no_kind (first_word m) ≡ true
 
-begins_so : (m : Meant) → is_inner m ≡ true → BeginsSo m
+begins_so : (m : MeantForm) → is_inner m ≡ true → BeginsSo m
 begins_so (forms.Plain kind name) h = absurd cc
 begins_so (forms.Valued kind name value) h = absurd cc
 begins_so (forms.Thread name) h = absurd cc
@@ -143,30 +143,30 @@ begins_so forms.Else h = record { others = _; tokens = refl; plain = refl }
 
 -- ---- the names and values of lines one after another
 
-abbrev names_in : NameKind → List Meant → List (List ℕ)
+abbrev names_in : NameKind → List MeantForm → List (List ℕ)
 names_in kind ms = names_of kind (printed_tokens ms)
 
-abbrev values_in : NameKind → List Meant → List ℤ
+abbrev values_in : NameKind → List MeantForm → List ℤ
 values_in kind ms = values_of kind (printed_tokens ms)
 
-names_in-append : (kind : NameKind) (a b : List Meant) → names_in kind (a ++ b) ≡ names_in kind a ++ names_in kind b
-names_in-append kind a b = ap (names_of kind) (map-append (λ m. tokens_of_form (printed_form m)) a b) ∙ filter_map-append (named kind) (printed_tokens a) (printed_tokens b)
+names_in-append : (kind : NameKind) (a b : List MeantForm) → names_in kind (a ++ b) ≡ names_in kind a ++ names_in kind b
+names_in-append kind a b = ap (names_of kind) (map-append (λ m. tokens_of_form (printed_form m)) a b) ∙ filter_map-append (declared_name kind) (printed_tokens a) (printed_tokens b)
 
-values_in-append : (kind : NameKind) (a b : List Meant) → values_in kind (a ++ b) ≡ values_in kind a ++ values_in kind b
-values_in-append kind a b = ap (values_of kind) (map-append (λ m. tokens_of_form (printed_form m)) a b) ∙ filter_map-append (valued kind) (printed_tokens a) (printed_tokens b)
+values_in-append : (kind : NameKind) (a b : List MeantForm) → values_in kind (a ++ b) ≡ values_in kind a ++ values_in kind b
+values_in-append kind a b = ap (values_of kind) (map-append (λ m. tokens_of_form (printed_form m)) a b) ∙ filter_map-append (declared_value kind) (printed_tokens a) (printed_tokens b)
 
-inner_names : (kind : NameKind) (version : ℕ) (ms : List Meant) → AreInner version ms → names_in kind ms ≡ []
+inner_names : (kind : NameKind) (version : ℕ) (ms : List MeantForm) → AreInner version ms → names_in kind ms ≡ []
 inner_names kind version [] inner = refl
 inner_names kind version (m ∷ ms) inner =
     let b = begins_so m inner.0.1 in
-    let none : named kind (tokens_of_form (printed_form m)) ≡ None = ap (named kind) b.tokens ∙ named-none kind (first_word m) b.others (no_kind (first_word m) kind b.plain) in
+    let none : declared_name kind (tokens_of_form (printed_form m)) ≡ None = ap (declared_name kind) b.tokens ∙ named-none kind (first_word m) b.others (no_kind (first_word m) kind b.plain) in
     rw none (inner_names kind version ms inner.1)
 
-inner_values : (kind : NameKind) (version : ℕ) (ms : List Meant) → AreInner version ms → values_in kind ms ≡ []
+inner_values : (kind : NameKind) (version : ℕ) (ms : List MeantForm) → AreInner version ms → values_in kind ms ≡ []
 inner_values kind version [] inner = refl
 inner_values kind version (m ∷ ms) inner =
     let b = begins_so m inner.0.1 in
-    let none : valued kind (tokens_of_form (printed_form m)) ≡ None = ap (valued kind) b.tokens ∙ valued-none kind (first_word m) b.others (no_kind (first_word m) kind b.plain) in
+    let none : declared_value kind (tokens_of_form (printed_form m)) ≡ None = ap (declared_value kind) b.tokens ∙ valued-none kind (first_word m) b.others (no_kind (first_word m) kind b.plain) in
     rw none (inner_values kind version ms inner.1)
 
 -- ---- declarations
@@ -255,11 +255,11 @@ threads_no_values kind version names (n ∷ ns) (t ∷ ts) inner =
 -- ---- the whole script
 
 -- the parts of a script's lines
-names_seven : (kind : NameKind) (v m c s b r t : List Meant) → names_in kind ((v ++ (m ++ (c ++ (s ++ (b ++ r))))) ++ t)
+names_seven : (kind : NameKind) (v m c s b r t : List MeantForm) → names_in kind ((v ++ (m ++ (c ++ (s ++ (b ++ r))))) ++ t)
     ≡ (names_in kind v ++ (names_in kind m ++ (names_in kind c ++ (names_in kind s ++ (names_in kind b ++ names_in kind r))))) ++ names_in kind t
 names_seven kind v m c s b r t = simp (names_in-append kind)
 
-values_seven : (kind : NameKind) (v m c s b r t : List Meant) → values_in kind ((v ++ (m ++ (c ++ (s ++ (b ++ r))))) ++ t)
+values_seven : (kind : NameKind) (v m c s b r t : List MeantForm) → values_in kind ((v ++ (m ++ (c ++ (s ++ (b ++ r))))) ++ t)
     ≡ (values_in kind v ++ (values_in kind m ++ (values_in kind c ++ (values_in kind s ++ (values_in kind b ++ values_in kind r))))) ++ values_in kind t
 values_seven kind v m c s b r t = simp (values_in-append kind)
 
@@ -268,25 +268,25 @@ module _ (version : ℕ) (script : ScriptText) (inner : ThreadsInner version scr
   abbrev N : NameLists
   N = script.names
 
-  abbrev V : List Meant
+  abbrev V : List MeantForm
   V = valued_forms kinds.Var script.names.vars script.vars
 
-  abbrev M : List Meant
+  abbrev M : List MeantForm
   M = plain_forms kinds.Mutex script.names.mutexes
 
-  abbrev C : List Meant
+  abbrev C : List MeantForm
   C = plain_forms kinds.Cond script.names.conds
 
-  abbrev S : List Meant
+  abbrev S : List MeantForm
   S = valued_forms kinds.Sem script.names.sems script.sems
 
-  abbrev B : List Meant
+  abbrev B : List MeantForm
   B = valued_forms kinds.Barrier script.names.barriers script.barriers
 
-  abbrev R : List Meant
+  abbrev R : List MeantForm
   R = plain_forms kinds.RwLock script.names.rwlocks
 
-  abbrev T : List Meant
+  abbrev T : List MeantForm
   T = meanings (all_thread_lines script.names script.names.threads script.threads)
 
   pub names_are : (kind : NameKind) → names_in kind (forms_of script) ≡ list_of kind script.names

@@ -8,7 +8,7 @@ use Rattle.pct_ask.specs.NameLists.{NameLists}
 use Rattle.script_tree.specs.Trees.{Expression, Statement, Statements, Closed, Then}
 use Rattle.script_tree.specs.Trees as trees
 use Rattle.script_tree.specs.ScriptText.{Thread}
-use Rattle.script_tree.specs.Forms.{Meant}
+use Rattle.script_tree.specs.Forms.{MeantForm}
 use Rattle.script_tree.specs.Forms as forms
 use Rattle.script_tree.specs.Fitting.{line_fits, reg_fits, place_fits, expression_fits, count_of, counts_of, statement_fits, statements_fit, thread_fits}
 use Rattle.script_tree.specs.Grammar.{Line, statement_lines, block_lines, thread_lines, all_thread_lines}
@@ -33,7 +33,7 @@ mutual
   statement_length names (trees.While line test body) = omega (arith, block_length names forms.End body)
   statement_length names s = refl
 
-  pub block_length : (names : NameLists) (closing : Meant) (body : Statements) → length (block_lines names closing body) ≡ lines_count body
+  pub block_length : (names : NameLists) (closing : MeantForm) (body : Statements) → length (block_lines names closing body) ≡ lines_count body
   block_length names closing (Closed line) = refl
   block_length names closing (Then s rest) = omega (arith, statement_length names s, block_length names closing rest, length-append (statement_lines names s) (block_lines names closing rest))
 
@@ -57,7 +57,7 @@ mutual
   statement_numbered names n (trees.While line test body) = ap (λ lines. (n, forms.While test) ∷ lines) (block_numbered names forms.End (n + 1) body)
   statement_numbered names n s = refl
 
-  pub block_numbered : (names : NameLists) (closing : Meant) (n : ℕ) (body : Statements) → block_lines names closing (renumbered_block n body) ≡ numbered n (meanings (block_lines names closing body))
+  pub block_numbered : (names : NameLists) (closing : MeantForm) (n : ℕ) (body : Statements) → block_lines names closing (renumbered_block n body) ≡ numbered n (meanings (block_lines names closing body))
   block_numbered names closing n (Closed line) = refl
   block_numbered names closing n (Then s rest) =
       let A : List Line = statement_lines names s in

@@ -13,12 +13,14 @@ use Rattle.pct_ask.specs.declared.names.NameKind.{NameKind}
 use Rattle.pct_ask.specs.declared.names.NameKind.TheVariants as kinds
 use Rattle.script_tree.specs.declared.fault.ScriptFault.{ScriptFault}
 use Rattle.script_tree.specs.declared.fault.ScriptFault.TheVariants as faults
-use Rattle.script_tree.specs.Forms.{Cut, Meant, Plain, Valued, Thread, On, Into, Write, Add, Cas}
+use Rattle.script_tree.specs.Forms.{TokenForm, MeantForm, Plain, Valued, Thread, On, Into, Write}
+use Rattle.script_tree.specs.Forms.{Add, Cas}
 use Rattle.script_tree.specs.Forms.{Wait, If, While, End, Else, IsForm, on_kind, into_kind}
 use Rattle.script_tree.specs.Ranges.{is_out_of_range}
 use Rattle.script_tree.specs.Fitting.{most_threads}
-use Rattle.script_tree.specs.Lines.{tokens_in, is_blank_line, version_in, version_of, begins, opens}
-use Rattle.script_tree.specs.Lines.{named, names_of, depth, opener, threads_in}
+use Rattle.script_tree.specs.Lines.{tokens_in, is_blank_line, version_in, version_of, begins_with}
+use Rattle.script_tree.specs.Lines.{opens}
+use Rattle.script_tree.specs.Lines.{declared_name, names_of, depth, opener, threads_begun}
 
 -- a line in its text, with the lines before it and those after it
 pub record Place : Type 0 where
@@ -27,8 +29,8 @@ pub record Place : Type 0 where
   pub after : List (List ℕ)
 
 -- the tokens of the lines before it
-abbrev pub earlier : Place → List (List Token)
-earlier place = map tokens_in place.before
+abbrev pub tokens_before : Place → List (List Token)
+tokens_before place = map tokens_in place.before
 
 -- each of these lines has only space, tab and CR, and perhaps a comment
 abbrev pub are_blank : List (List ℕ) → Bool
@@ -49,8 +51,8 @@ pub record SoFar : Type 0 where
   pub in_if : Bool
 
 -- the names that lines declare
-abbrev pub names_in : List (List Token) → NameLists
-names_in lines = record {
+abbrev pub names_declared : List (List Token) → NameLists
+names_declared lines = record {
   threads = names_of kinds.Thread lines;
   vars = names_of kinds.Var lines;
   mutexes = names_of kinds.Mutex lines;
@@ -64,14 +66,14 @@ names_in lines = record {
 abbrev pub so_far : List (List Token) → SoFar
 so_far lines = record {
   version = version_of lines;
-  names = names_in lines;
+  names = names_declared lines;
   depth = depth lines;
-  in_if = begins (codes "if") (opener 0 (reverse lines));
+  in_if = begins_with (codes "if") (opener 0 (reverse lines));
 }
 
 -- what the lines before it have declared and begun
 abbrev pub so_far_at : Place → SoFar
-so_far_at place = so_far (earlier place)
+so_far_at place = so_far (tokens_before place)
 
 -- no thread began so far
 abbrev pub is_threadless : SoFar → Bool
@@ -85,7 +87,7 @@ is_outside lines = lines.depth == 0
 
 -- The form may stand after these lines: a declaration above the first thread, a thread outside
 -- threads, a statement inside one, and an `end` or `else` anywhere.
-abbrev pub may_stand : SoFar → Meant → Bool
+abbrev pub may_stand : SoFar → MeantForm → Bool
 may_stand lines (Plain kind name) = is_threadless lines
 may_stand lines (Valued kind name value) = is_threadless lines
 may_stand lines (Thread name) = is_outside lines
@@ -94,31 +96,31 @@ may_stand lines Else = true
 may_stand lines form = not (is_outside lines)
 
 -- a line below the header that isn't blank
-pub record IsBelow (place : Place) : Type 0 where
+pub record IsBelowHeader (place : Place) : Type 0 where
   pub below : are_blank place.before ≡ false
   pub says : is_blank_line place.line ≡ false
 
 -- the line has this form, which may stand at its place
-pub record HasForm (place : Place) (cut : Cut) (meant : Meant) : Type 0 where
-  pub is_below : IsBelow place
-  pub form : IsForm (version_of (earlier place)) (tokens_in place.line) cut meant
+pub record HasForm (place : Place) (cut : TokenForm) (meant : MeantForm) : Type 0 where
+  pub is_below : IsBelowHeader place
+  pub form : IsForm (version_of (tokens_before place)) (tokens_in place.line) cut meant
   pub stands : may_stand (so_far_at place) meant ≡ true
 
 -- the line has a form of which this test holds
-abbrev pub HasFormWith : (Meant → Bool) → Place → Type 0
+abbrev pub HasFormWith : (MeantForm → Bool) → Place → Type 0
 HasFormWith test place =
-    (cut : Cut) × (meant : Meant) × HasForm place cut meant × (test meant ≡ true)
+    (cut : TokenForm) × (meant : MeantForm) × HasForm place cut meant × (test meant ≡ true)
 
 -- ---- what a form asks of the lines around it
 
 -- A name of this kind is declared: on a line before, but a thread on any line of the file.
 abbrev pub is_declared : Place → NameKind → List ℕ → Bool
 is_declared place kinds.Thread name =
-    is_among name (threads_in (place.before ++ place.line ∷ place.after))
-is_declared place kind name = is_among name (names_of kind (earlier place))
+    is_among name (threads_begun (place.before ++ place.line ∷ place.after))
+is_declared place kind name = is_among name (names_of kind (tokens_before place))
 
 -- it uses a name that isn't known with the kind that is needed
-abbrev pub uses_unknown : (NameKind → List ℕ → Bool) → Meant → Bool
+abbrev pub uses_unknown : (NameKind → List ℕ → Bool) → MeantForm → Bool
 uses_unknown is_known (On verb object) = not (is_known (on_kind verb) object)
 uses_unknown is_known (Into verb register object) = not (is_known (into_kind verb) object)
 uses_unknown is_known (Write var value) = not (is_known kinds.Var var)
@@ -129,7 +131,7 @@ uses_unknown is_known (Wait cond mutex) =
 uses_unknown is_known form = false
 
 -- it declares a name that a line before declares, of whatever kind
-abbrev pub declares_again : SoFar → Meant → Bool
+abbrev pub declares_again : SoFar → MeantForm → Bool
 declares_again lines (Plain kind name) = is_among name (all_names lines.names)
 declares_again lines (Valued kind name value) = is_among name (all_names lines.names)
 declares_again lines (Thread name) = is_among name (all_names lines.names)
@@ -139,7 +141,7 @@ declares_again lines form = false
 
 -- an `end` with no open block, or an `else` where the innermost open block isn't an `if` without
 -- `else`
-abbrev pub closes_nothing : SoFar → Meant → Bool
+abbrev pub closes_nothing : SoFar → MeantForm → Bool
 closes_nothing lines End = is_outside lines
 closes_nothing lines Else = not lines.in_if
 closes_nothing lines form = false
@@ -149,15 +151,15 @@ closes_nothing lines form = false
 abbrev pub leaves_open : SoFar → List Token → Bool
 leaves_open lines tokens =
     opens tokens
-    || (if begins (codes "end") tokens then nat_le 2 lines.depth else not (is_outside lines))
+    || (if begins_with (codes "end") tokens then nat_le 2 lines.depth else not (is_outside lines))
 
 -- no thread began up to a line with these tokens
 abbrev pub lacks_thread : SoFar → List Token → Bool
-lacks_thread lines tokens = not (is_some (named kinds.Thread tokens)) && is_threadless lines
+lacks_thread lines tokens = not (is_some (declared_name kinds.Thread tokens)) && is_threadless lines
 
 -- one thread, object or nested block more than a script may have; the thread isn't counted among
 -- the 32 nested blocks
-abbrev pub is_too_many : SoFar → Meant → Bool
+abbrev pub is_too_many : SoFar → MeantForm → Bool
 is_too_many lines (Thread name) =
     nat_le (most_threads lines.version) (length lines.names.threads)
 is_too_many lines (Plain kind name) = nat_le 64 (length (list_of kind lines.names))
@@ -195,7 +197,8 @@ BadToken place = tokens_of place.line ≡ None
 -- it stands below the header and isn't blank, but it has no form that its version has and that may
 -- stand there
 abbrev pub BadStatement : Place → Type 0
-BadStatement place = IsBelow place × ((cut : Cut) (meant : Meant) → ¬ HasForm place cut meant)
+BadStatement place =
+    IsBelowHeader place × ((cut : TokenForm) (meant : MeantForm) → ¬ HasForm place cut meant)
 
 -- it has a form, with a name that isn't declared with the kind that is needed
 abbrev pub UnknownName : Place → Type 0
@@ -244,29 +247,29 @@ IsFaulty faults.TooMany = TooMany
 -- ---- the first fault
 
 -- the order of the kinds: of a line's faults the first of these counts
-abbrev pub rank : ScriptFault → ℕ
-rank faults.NotUtf8 = 0
-rank faults.LineTooLong = 1
-rank faults.TooManyLines = 2
-rank faults.BadHeader = 3
-rank faults.BadToken = 4
-rank faults.BadStatement = 5
-rank faults.UnknownName = 6
-rank faults.TwiceNamed = 7
-rank faults.NumberRange = 8
-rank faults.NoEnd = 9
-rank faults.StrayEnd = 10
-rank faults.NoThread = 11
-rank faults.TooMany = 12
+abbrev pub kind_rank : ScriptFault → ℕ
+kind_rank faults.NotUtf8 = 0
+kind_rank faults.LineTooLong = 1
+kind_rank faults.TooManyLines = 2
+kind_rank faults.BadHeader = 3
+kind_rank faults.BadToken = 4
+kind_rank faults.BadStatement = 5
+kind_rank faults.UnknownName = 6
+kind_rank faults.TwiceNamed = 7
+kind_rank faults.NumberRange = 8
+kind_rank faults.NoEnd = 9
+kind_rank faults.StrayEnd = 10
+kind_rank faults.NoThread = 11
+kind_rank faults.TooMany = 12
 
 -- the line's own first fault is of this kind
 pub record IsFirstKind (place : Place) (kind : ScriptFault) : Type 0 where
   pub faulty : IsFaulty kind place
-  pub first : (other : ScriptFault) → rank other < rank kind → ¬ IsFaulty other place
+  pub first : (other : ScriptFault) → kind_rank other < kind_rank kind → ¬ IsFaulty other place
 
 -- no line before it is faulty
-abbrev pub IsFirstLine : Place → Type 0
-IsFirstLine place =
+abbrev pub HasNoFaultBefore : Place → Type 0
+HasNoFaultBefore place =
     (front back : List (List ℕ)) (line : List ℕ) (kind : ScriptFault)
     → place.before ≡ front ++ line ∷ back
     → ¬ IsFaulty kind
@@ -282,7 +285,7 @@ pub record IsFirstFault (bytes : List ℕ) (number : ℕ) (kind : ScriptFault) :
   pub place : Place
   pub of : judged_lines bytes ≡ place.before ++ place.line ∷ place.after
   pub number_is : number ≡ length place.before + 1
-  pub first_line : IsFirstLine place
+  pub first_line : HasNoFaultBefore place
   pub first_kind : IsFirstKind place kind
 
 -- The fault of a text: one of more bytes than a script may have is refused at line 1, before any

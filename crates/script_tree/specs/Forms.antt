@@ -54,12 +54,12 @@ pub data Form (E : Type 0) : Type 0 where
   Else : Form E
 
 -- a form as it stands in a line: its expressions are tokens
-abbrev pub Cut : Type 0
-Cut = Form (List Token)
+abbrev pub TokenForm : Type 0
+TokenForm = Form (List Token)
 
 -- a form as it is meant
-abbrev pub Meant : Type 0
-Meant = Form Expression
+abbrev pub MeantForm : Type 0
+MeantForm = Form Expression
 
 -- the keyword of a statement on one object
 abbrev pub on_word : OnVerb → List ℕ
@@ -157,7 +157,7 @@ into_since TryWrLock = 3
 into_since verb = 1
 
 -- the tokens of a form
-abbrev pub tokens_of_form : Cut → List Token
+abbrev pub tokens_of_form : TokenForm → List Token
 tokens_of_form (Plain kind name) = Word (kind_word kind) ∷ Word name ∷ []
 tokens_of_form (Valued kind name value) =
     Word (kind_word kind) ∷ Word name ∷ Symbol (codes "=") ∷ value
@@ -189,7 +189,7 @@ value_in kinds.Var (Symbol signs ∷ Number digits ∷ []) =
 value_in kind tokens = None
 
 -- A form in a line means this one, whose expressions its tokens spell.
-abbrev pub Means : Cut → Meant → Type 0
+abbrev pub Means : TokenForm → MeantForm → Type 0
 Means (Write var value) meant =
     (tree : Expression) × IsExpression value tree × (meant ≡ Write var tree)
 Means (Add register var value) meant =
@@ -216,33 +216,34 @@ Means End meant = meant ≡ End
 Means Else meant = meant ≡ Else
 
 -- the word may be a name in this version of the language
-abbrev pub IsName : ℕ → List ℕ → Type 0
-IsName version name = is_name version name ≡ true
+abbrev pub IsNameIn : ℕ → List ℕ → Type 0
+IsNameIn version name = is_name version name ≡ true
 
 -- what a version of the language asks of a form: it has the form, and the form's names are names
-abbrev pub IsOf : ℕ → Cut → Type 0
-IsOf version (Plain kind name) =
-    (is_plain kind ≡ true) × (kind_since kind ≤ version) × IsName version name
-IsOf version (Valued kind name value) =
-    (has_value kind ≡ true) × IsName version name × (is_some (value_in kind value) ≡ true)
-IsOf version (Thread name) = IsName version name
-IsOf version (On verb object) = (on_since verb ≤ version) × IsName version object
-IsOf version (Into verb register object) =
-    (into_since verb ≤ version) × (register < 16) × IsName version object
-IsOf version (Write var value) = IsName version var
-IsOf version (Add register var value) = (register < 16) × IsName version var
-IsOf version (Cas register var old new) = (register < 16) × IsName version var
-IsOf version (Wait cond mutex) = IsName version cond × IsName version mutex
-IsOf version Yield = Unit {0}
-IsOf version (Assert test) = Unit {0}
-IsOf version (Set register value) = register < 16
-IsOf version (If test) = Unit {0}
-IsOf version (While test) = Unit {0}
-IsOf version End = Unit {0}
-IsOf version Else = Unit {0}
+abbrev pub IsFormOf : ℕ → TokenForm → Type 0
+IsFormOf version (Plain kind name) =
+    (is_plain kind ≡ true) × (kind_since kind ≤ version) × IsNameIn version name
+IsFormOf version (Valued kind name value) =
+    (has_value kind ≡ true) × IsNameIn version name × (is_some (value_in kind value) ≡ true)
+IsFormOf version (Thread name) = IsNameIn version name
+IsFormOf version (On verb object) = (on_since verb ≤ version) × IsNameIn version object
+IsFormOf version (Into verb register object) =
+    (into_since verb ≤ version) × (register < 16) × IsNameIn version object
+IsFormOf version (Write var value) = IsNameIn version var
+IsFormOf version (Add register var value) = (register < 16) × IsNameIn version var
+IsFormOf version (Cas register var old new) = (register < 16) × IsNameIn version var
+IsFormOf version (Wait cond mutex) = IsNameIn version cond × IsNameIn version mutex
+IsFormOf version Yield = Unit {0}
+IsFormOf version (Assert test) = Unit {0}
+IsFormOf version (Set register value) = register < 16
+IsFormOf version (If test) = Unit {0}
+IsFormOf version (While test) = Unit {0}
+IsFormOf version End = Unit {0}
+IsFormOf version Else = Unit {0}
 
 -- These tokens are a line of this form, which means that one.
-pub record IsForm (version : ℕ) (tokens : List Token) (cut : Cut) (meant : Meant) : Type 0 where
+pub record IsForm (version : ℕ) (tokens : List Token) (cut : TokenForm) (meant : MeantForm)
+    : Type 0 where
   pub spelled : tokens ≡ tokens_of_form cut
-  pub of : IsOf version cut
+  pub of : IsFormOf version cut
   pub means : Means cut meant

@@ -14,12 +14,12 @@ use Rattle.script_tree.specs.ScriptText.{ScriptText, Thread}
 use Rattle.script_tree.specs.Fitting.{IsScript}
 use Rattle.script_tree.specs.Ranges.{is_out_of_range}
 use Rattle.script_tree.specs.Forms as forms
-use Rattle.script_tree.specs.Forms.{Form, Cut, Meant, On, Into, IsForm}
+use Rattle.script_tree.specs.Forms.{Form, TokenForm, MeantForm, On, Into, IsForm}
 use Rattle.script_tree.specs.Lines.{tokens_in, is_blank_line, version_in, names_of, values_of}
 
 -- a line that says something: its number, and what it means
 abbrev pub Line : Type 0
-Line = ℕ × Meant
+Line = ℕ × MeantForm
 
 abbrev mutual
   -- the lines of a statement; those of an `if` or a `while` are its first one and those of its
@@ -77,7 +77,7 @@ abbrev mutual
       (line, On forms.RwUnlock (name_at names.rwlocks rwlock)) ∷ []
 
   -- the lines of statements, and the line that closes them
-  pub block_lines : NameLists → Meant → Statements → List Line
+  pub block_lines : NameLists → MeantForm → Statements → List Line
   block_lines names closing (Closed line) = (line, closing) ∷ []
   block_lines names closing (Then statement rest) =
       statement_lines names statement ++ block_lines names closing rest
@@ -95,15 +95,15 @@ all_thread_lines names (name ∷ more) (thread ∷ threads) =
     thread_lines names name thread ++ all_thread_lines names more threads
 
 -- a declaration of an object
-abbrev pub declares : Meant → Bool
+abbrev pub declares : MeantForm → Bool
 declares (forms.Plain kind name) = true
 declares (forms.Valued kind name value) = true
 declares form = false
 
 -- the line has this meaning in a version of the language, and its numbers are in range
-abbrev pub Says : ℕ → List ℕ → Meant → Type 0
+abbrev pub Says : ℕ → List ℕ → MeantForm → Type 0
 Says version line meant =
-    (cut : Cut)
+    (cut : TokenForm)
     × IsForm version (tokens_in line) cut meant
     × (is_out_of_range (tokens_in line) meant ≡ false)
 
@@ -113,14 +113,14 @@ abbrev pub AreLines : ℕ → ℕ → List (List ℕ) → List Line → Type 0
 AreLines version number [] lines = lines ≡ []
 AreLines version number (text ∷ texts) lines =
     ((is_blank_line text ≡ true) × AreLines version (number + 1) texts lines)
-    ⊎ ((meant : Meant)
+    ⊎ ((meant : MeantForm)
     × (others : List Line)
     × (lines ≡ (number, meant) ∷ others)
     × Says version text meant
     × AreLines version (number + 1) texts others)
 
 -- a line is text, of at most 256 bytes
-pub record IsSound (line : List ℕ) : Type 0 where
+pub record IsLineText (line : List ℕ) : Type 0 where
   pub text : is_utf8 line ≡ true
   pub short : length line ≤ 256
 
@@ -129,7 +129,7 @@ pub record IsSound (line : List ℕ) : Type 0 where
 pub record Spells (bytes : List ℕ) (script : ScriptText) : Type 0 where
   pub small : length bytes ≤ 1048576
   pub few_lines : length (lines_of bytes) ≤ 4096
-  pub sound : All IsSound (lines_of bytes)
+  pub sound : All IsLineText (lines_of bytes)
   pub above : List (List ℕ)
   pub header : List ℕ
   pub below : List (List ℕ)

@@ -7,7 +7,7 @@ use Rattle.script_tree.specs.Trees.{Expression, Statements, Closed, Then, Read, 
 use Rattle.script_tree.specs.Trees as trees
 use Rattle.script_tree.specs.ScriptText.{ScriptText, Thread}
 use Rattle.script_tree.specs.Layout.{expression_text, layout}
-use Rattle.script_tree.specs.Renumbering.{renumbered}
+use Rattle.script_tree.specs.Renumbering.{renumbered_script}
 
 -- two threads each add one to x, and the third, which waits for both, wants 2
 abbrev pub lost_update_names : NameLists
@@ -68,7 +68,8 @@ unfolding digits
 lost_update_text = refl
 
 -- whatever its lines were, they are those of the layout
-pub lost_update_lines : renumbered (lost_update (adder 9 9 1 2) (adder 7 30 9 10) other_checker)
+pub lost_update_lines : renumbered_script
+    (lost_update (adder 9 9 1 2) (adder 7 30 9 10) other_checker)
     ≡ lost_update (adder 3 4 5 6) (adder 7 8 9 10) checker
 lost_update_lines = refl
 

@@ -35,39 +35,40 @@ version_of ([] ∷ lines) = version_of lines
 version_of ((token ∷ tokens) ∷ lines) = unwrap_or (version_in (token ∷ tokens)) 0
 
 -- the line begins with this word
-abbrev pub begins : List ℕ → List Token → Bool
-begins word (Word first ∷ tokens) = bytes_eq first word
-begins word tokens = false
+abbrev pub begins_with : List ℕ → List Token → Bool
+begins_with word (Word first ∷ tokens) = bytes_eq first word
+begins_with word tokens = false
 
 -- the name that a line declares, where it declares one of this kind
-abbrev pub named : NameKind → List Token → Option (List ℕ)
-named kind (Word word ∷ Word name ∷ tokens) =
+abbrev pub declared_name : NameKind → List Token → Option (List ℕ)
+declared_name kind (Word word ∷ Word name ∷ tokens) =
     if bytes_eq word (kind_word kind) then Some name else None
-named kind tokens = None
+declared_name kind tokens = None
 
 -- the names of a kind, in the order of their lines
 abbrev pub names_of : NameKind → List (List Token) → List (List ℕ)
-names_of kind lines = filter_map (named kind) lines
+names_of kind lines = filter_map (declared_name kind) lines
 
 -- the first value that a line declares for an object of this kind
-abbrev pub valued : NameKind → List Token → Option ℤ
-valued kind (Word word ∷ Word name ∷ Symbol signs ∷ value) =
+abbrev pub declared_value : NameKind → List Token → Option ℤ
+declared_value kind (Word word ∷ Word name ∷ Symbol signs ∷ value) =
     if bytes_eq word (kind_word kind) then value_in kind value else None
-valued kind tokens = None
+declared_value kind tokens = None
 
 -- the first values of a kind's objects, in the order of their lines
 abbrev pub values_of : NameKind → List (List Token) → List ℤ
-values_of kind lines = filter_map (valued kind) lines
+values_of kind lines = filter_map (declared_value kind) lines
 
 -- a block begins: a thread, an `if` or a `while`
 abbrev pub opens : List Token → Bool
 opens tokens =
-    begins (codes "thread") tokens || begins (codes "if") tokens || begins (codes "while") tokens
+    begins_with (codes "thread") tokens || begins_with (codes "if") tokens
+    || begins_with (codes "while") tokens
 
 -- how many blocks are open after these lines, the thread among them: those that began and didn't
 -- end
 abbrev pub depth : List (List Token) → ℕ
-depth lines = count_by opens lines - count_by (begins (codes "end")) lines
+depth lines = count_by opens lines - count_by (begins_with (codes "end")) lines
 
 -- The line that a block which is open after these lines begins with, or its `else`. The lines go
 -- backwards, from the last one on, and so many blocks within that block are passed over. Each `end`
@@ -75,9 +76,9 @@ depth lines = count_by opens lines - count_by (begins (codes "end")) lines
 abbrev pub opener : ℕ → List (List Token) → List Token
 opener inner [] = []
 opener inner (line ∷ before) =
-    if begins (codes "end") line then opener (inner + 1) before
+    if begins_with (codes "end") line then opener (inner + 1) before
     else (if opens line then (if inner == 0 then line else opener (inner - 1) before)
-    else (if begins (codes "else") line && inner == 0 then line else opener inner before))
+    else (if begins_with (codes "else") line && inner == 0 then line else opener inner before))
 
 -- the name in `thread NAME`, where the tokens are these two words and no more
 abbrev pub just_thread : List Token → Option (List ℕ)
@@ -90,5 +91,5 @@ abbrev pub thread_in : List ℕ → Option (List ℕ)
 thread_in line = if is_utf8 line then just_thread (tokens_in line) else None
 
 -- the threads that the lines of a file begin, sound or not
-abbrev pub threads_in : List (List ℕ) → List (List ℕ)
-threads_in lines = filter_map thread_in lines
+abbrev pub threads_begun : List (List ℕ) → List (List ℕ)
+threads_begun lines = filter_map thread_in lines

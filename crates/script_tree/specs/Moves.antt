@@ -7,7 +7,7 @@ use Rattle.pct_ask.specs.declared.ask.Ask.TheVariants as asks
 use Rattle.script_tree.specs.Trees.{Statement, Statements, Read, Write, Add, Cas, Lock, TryLock}
 use Rattle.script_tree.specs.Trees.{Unlock, Wait, Signal, Broadcast, Down, TryDown, Up, Arrive}
 use Rattle.script_tree.specs.Trees.{Join, Yield, Assert, Set, If, IfElse, While, Start, RdLock}
-use Rattle.script_tree.specs.Trees.{WrLock, TryRdLock, TryWrLock, RwUnlock, list, line_of}
+use Rattle.script_tree.specs.Trees.{WrLock, TryRdLock, TryWrLock, RwUnlock, statement_list, line_of}
 use Rattle.script_tree.specs.Machine.{Act, Moves, Asks, Ends}
 use Rattle.script_tree.specs.Values.{Value, is_zero, value_of}
 
@@ -19,16 +19,16 @@ pub record State : Type 0 where
   pub halfway : Bool
 
 -- before these statements, with these numbers
-abbrev pub before : List Statement → List ℤ → State
-before rest registers = record { rest = rest; registers = registers; halfway = false }
+abbrev pub state_before : List Statement → List ℤ → State
+state_before rest registers = record { rest = rest; registers = registers; halfway = false }
 
 -- a thread at its beginning: all its statements remain, and each register has 0
 abbrev pub at_start : Statements → State
-at_start body = before (list body) (replicate 16 (pos 0))
+at_start body = state_before (statement_list body) (replicate 16 (pos 0))
 
 -- of a thread that has ended, no statement remains
-abbrev pub ended : State
-ended = before [] []
+abbrev pub end_state : State
+end_state = state_before [] []
 
 -- a local move by a value
 abbrev pub moves : Value → (ℤ → State) → Act State
@@ -38,28 +38,28 @@ moves (Err kind) next = Moves (Err kind)
 -- an ask by a value. After a fault the thread has ended
 abbrev pub asks_by : Value → (ℤ → Act State) → Act State
 asks_by (Ok n) act = act n
-asks_by (Err kind) act = Asks (asks.Fault kind) (λ answer. ended)
+asks_by (Err kind) act = Asks (asks.Fault kind) (λ answer. end_state)
 
 -- the first where a number is other than 0
-abbrev pub chosen : ℤ → List Statement → List Statement → List Statement
-chosen n first second = if is_zero n then second else first
+abbrev pub chosen_block : ℤ → List Statement → List Statement → List Statement
+chosen_block n first second = if is_zero n then second else first
 
 module _ (rest : List Statement) (registers : List ℤ) where
   -- with a register that has a value
-  abbrev pub keeps : ℕ → ℤ → State
-  keeps reg n = before rest (slice_set registers reg n)
+  abbrev pub with_register : ℕ → ℤ → State
+  with_register reg n = state_before rest (slice_set registers reg n)
 
   -- an ask whose answer goes into a register
   abbrev pub asks_into : ℕ → Ask → Act State
-  asks_into reg ask = Asks ask (keeps reg)
+  asks_into reg ask = Asks ask (with_register reg)
 
   -- an ask whose answer tells nothing: the registers stay as they are
   abbrev pub asks_only : Ask → Act State
-  asks_only ask = Asks ask (λ answer. before rest registers)
+  asks_only ask = Asks ask (λ answer. state_before rest registers)
 
   -- between the two asks of a statement
-  abbrev pub between : Statement → State
-  between s = record { rest = s ∷ rest; registers = registers; halfway = true }
+  abbrev pub state_halfway : Statement → State
+  state_halfway s = record { rest = s ∷ rest; registers = registers; halfway = true }
 
   -- what a statement does before the rest
   abbrev pub act : Bool → Statement → Act State
@@ -75,7 +75,7 @@ module _ (rest : List Statement) (registers : List ℤ) where
   act halfway (TryLock line reg mutex) = asks_into reg (asks.TryLock mutex)
   act halfway (Unlock line mutex) = asks_only (asks.Unlock mutex)
   act false (Wait line cond mutex) =
-      Asks (asks.Release cond mutex) (λ answer. between (Wait line cond mutex))
+      Asks (asks.Release cond mutex) (λ answer. state_halfway (Wait line cond mutex))
   act true (Wait line cond mutex) = asks_only (asks.Regain cond mutex)
   act halfway (Signal line cond) = asks_only (asks.Signal cond)
   act halfway (Broadcast line cond) = asks_only (asks.Broadcast cond)
@@ -83,21 +83,24 @@ module _ (rest : List Statement) (registers : List ℤ) where
   act halfway (TryDown line reg sem) = asks_into reg (asks.TryDown sem)
   act halfway (Up line sem) = asks_only (asks.Up sem)
   act false (Arrive line reg barrier) =
-      Asks (asks.Arrive barrier) (λ answer. between (Arrive line reg barrier))
+      Asks (asks.Arrive barrier) (λ answer. state_halfway (Arrive line reg barrier))
   act true (Arrive line reg barrier) = asks_into reg (asks.Leave barrier)
   act halfway (Join line thread) = asks_only (asks.Join thread)
   act halfway (Yield line) = asks_only asks.Yield
   act halfway (Assert line test) =
       asks_by (value_of registers test) (λ n. asks_only (asks.Check (not (is_zero n))))
-  act halfway (Set line reg value) = moves (value_of registers value) (keeps reg)
+  act halfway (Set line reg value) = moves (value_of registers value) (with_register reg)
   act halfway (If line test first) =
-      moves (value_of registers test) (λ n. before (chosen n (list first ++ rest) rest) registers)
+      moves (value_of registers test)
+      (λ n. state_before (chosen_block n (statement_list first ++ rest) rest) registers)
   act halfway (IfElse line test first otherwise) =
       moves (value_of registers test) (λ n.
-      before (chosen n (list first ++ rest) (list otherwise ++ rest)) registers)
+      state_before (chosen_block n (statement_list first ++ rest)
+      (statement_list otherwise ++ rest)) registers)
   act halfway (While line test body) =
       moves (value_of registers test) (λ n.
-      before (chosen n (list body ++ While line test body ∷ rest) rest) registers)
+      state_before
+      (chosen_block n (statement_list body ++ While line test body ∷ rest) rest) registers)
   act halfway (Start line thread) = asks_only (asks.Start thread)
   act halfway (RdLock line rwlock) = asks_only (asks.RdLock rwlock)
   act halfway (WrLock line rwlock) = asks_only (asks.WrLock rwlock)

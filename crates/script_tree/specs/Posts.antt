@@ -8,12 +8,12 @@ use Rattle.script_tree.specs.Trees.{Statement, Statements, Closed, Then, Start, 
 use Rattle.script_tree.specs.Trees.{end_line}
 use Rattle.script_tree.specs.ScriptText.{Thread, ScriptText}
 use Rattle.script_tree.specs.Machine.{pending_from}
-use Rattle.script_tree.specs.Moves.{head, ended, at_start}
+use Rattle.script_tree.specs.Moves.{head, end_state, at_start}
 
 -- the post of a thread that begins with these statements
 abbrev pub body_pending : (limit : ℕ) → Statements → List ℤ → Post
 body_pending limit body answers =
-    pending_from (head (end_line body)) ended limit (at_start body) answers
+    pending_from (head (end_line body)) end_state limit (at_start body) answers
 
 -- a thread that is held asks first to begin, on its first line
 abbrev pub held_pending : Bool → (limit : ℕ) → Thread → List ℤ → Post

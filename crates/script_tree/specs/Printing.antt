@@ -3,13 +3,13 @@ use Rattle.std.specs.Prelude.{ℕ, pos, ◌^◌, ◌&&◌, Bool, true, false, in
 use Rattle.std.specs.List.{list_all}
 use Rattle.script_tree.specs.Trees.{Expression, Number, Reg, Not, Minus, Two, Statement}
 use Rattle.script_tree.specs.Trees as trees
-use Rattle.script_tree.specs.Forms.{Meant, Write, Add, Cas, Assert, Set, If, While}
+use Rattle.script_tree.specs.Forms.{MeantForm, Write, Add, Cas, Assert, Set, If, While}
 use Rattle.script_tree.specs.Grammar.{Line}
 use Rattle.script_tree.specs.Layout.{text_of_lines, form_text, meanings}
 
 -- the text of lines
-abbrev pub printed : List Line → List ℕ
-printed lines = text_of_lines (map form_text (meanings lines))
+abbrev pub printed_lines : List Line → List ℕ
+printed_lines lines = text_of_lines (map form_text (meanings lines))
 
 -- the expression's numbers are below 2^63
 abbrev pub is_ranged : Expression → Bool
@@ -20,7 +20,7 @@ is_ranged (Minus a) = is_ranged a
 is_ranged (Two op a b) = is_ranged a && is_ranged b
 
 -- the numbers in the form's expressions are below 2^63
-abbrev pub is_ranged_form : Meant → Bool
+abbrev pub is_ranged_form : MeantForm → Bool
 is_ranged_form (Write var value) = is_ranged value
 is_ranged_form (Add register var value) = is_ranged value
 is_ranged_form (Cas register var old new) = is_ranged old && is_ranged new

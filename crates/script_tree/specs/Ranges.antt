@@ -5,7 +5,7 @@ use Rattle.std.specs.Str.Parse.{digits_value}
 use Rattle.pct_ask.specs.Tokens.{Token, Number, Symbol}
 use Rattle.pct_ask.specs.declared.names.NameKind.{NameKind}
 use Rattle.pct_ask.specs.declared.names.NameKind.TheVariants as kinds
-use Rattle.script_tree.specs.Forms.{Meant, Valued}
+use Rattle.script_tree.specs.Forms.{MeantForm, Valued}
 
 -- a number above the greatest i64
 abbrev pub is_great : Token → Bool
@@ -28,6 +28,6 @@ value_fits kind tokens = false
 
 -- A line of these tokens and this form has a first value that its object may not have, or another
 -- number above the greatest i64.
-abbrev pub is_out_of_range : List Token → Meant → Bool
+abbrev pub is_out_of_range : List Token → MeantForm → Bool
 is_out_of_range tokens (Valued kind name value) = not (value_fits kind value)
 is_out_of_range tokens form = has_great tokens

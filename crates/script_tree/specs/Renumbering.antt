@@ -67,8 +67,8 @@ renumbered_threads n (t ∷ ts) =
 
 -- The same script with each line number replaced by that of its line in the canonical layout, which
 -- has the header on line 1, then a line for each object, and then the threads.
-abbrev pub renumbered : ScriptText → ScriptText
-renumbered script =
+abbrev pub renumbered_script : ScriptText → ScriptText
+renumbered_script script =
     record script
     { threads = renumbered_threads (2 + length (declared_forms script)) script.threads }
 

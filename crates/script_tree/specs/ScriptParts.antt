@@ -6,16 +6,16 @@ use Rattle.script_tree.specs.Seen.{block}
 use Rattle.script_tree.specs.declared.stmt.ThreadText.{ThreadText}
 
 -- a thread of the code: its line, and its statements as trees
-abbrev pub thread : ThreadText → Thread
-thread t = record { line = t.line; body = block t.body }
+abbrev pub thread_text : ThreadText → Thread
+thread_text t = record { line = t.line; body = block t.body }
 
 -- a script of these parts
-abbrev pub text_of : ℕ → NameLists → List ℤ → List ℤ → List ℤ → List ThreadText → ScriptText
-text_of version names vars sems barriers threads = record {
+abbrev pub script_of_parts : ℕ → NameLists → List ℤ → List ℤ → List ℤ → List ThreadText → ScriptText
+script_of_parts version names vars sems barriers threads = record {
   version = version;
   names = names;
   vars = vars;
   sems = sems;
   barriers = barriers;
-  threads = map thread threads;
+  threads = map thread_text threads;
 }

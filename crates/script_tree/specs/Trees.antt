@@ -78,9 +78,9 @@ line_of (TryWrLock line reg rwlock) = line
 line_of (RwUnlock line rwlock) = line
 
 -- the statements without the line that closes them
-abbrev pub list : Statements → List Statement
-list (Closed line) = []
-list (Then s rest) = s ∷ list rest
+abbrev pub statement_list : Statements → List Statement
+statement_list (Closed line) = []
+statement_list (Then s rest) = s ∷ statement_list rest
 
 -- the line of the `end` or `else` that closes the statements
 abbrev pub end_line : Statements → ℕ

@@ -5,13 +5,13 @@ ghost use Rattle.std.specs.Prelude.{FitsSigned};
 ghost use Rattle.std.specs.Int.{w64};
 ghost use Rattle.pct_ask.specs.NameLists.{list_of};
 ghost use Rattle.pct_ask.specs.Numbers.{number_text};
-ghost use Rattle.script_tree.specs.ScriptSeen.{text};
-ghost use Rattle.script_tree.specs.ScriptParts.{thread};
+ghost use Rattle.script_tree.specs.ScriptSeen.{plain_script};
+ghost use Rattle.script_tree.specs.ScriptParts.{thread_text};
 ghost use Rattle.script_tree.specs.Layout.{layout, text_of_lines, form_text};
 ghost use Rattle.script_tree.specs.Layout.{plain_forms, valued_forms, declared_forms};
 ghost use Rattle.script_tree.specs.Grammar.{all_thread_lines, Spells};
-ghost use Rattle.script_tree.specs.Renumbering.{renumbered, IsShort};
-ghost use Rattle.script_tree.specs.Printing.{printed, are_ranged};
+ghost use Rattle.script_tree.specs.Renumbering.{renumbered_script, IsShort};
+ghost use Rattle.script_tree.specs.Printing.{printed_lines, are_ranged};
 
 use crate::printing_statements::push_statements;
 use crate::printing_words::{kind_word, name_at, push_last, push_spaced};
@@ -23,9 +23,9 @@ use std::alloc::{AllocError as NoMemory, Global};
 /// The canonical layout of a script: each script has just one. Where that is no longer than a
 /// script may be, it is a text of the same script, with the lines that its statements have in it.
 pub fn print_script(alloc: Global, script: &Script) -> Result<Vec<u8>, NoMemory>
-    ensures layout { IfOk result (λ bytes. bytes.items ≡ layout (text script.now)) }
+    ensures layout { IfOk result (λ bytes. bytes.items ≡ layout (plain_script script.now)) }
     ensures spelled { IfOk result (λ bytes.
-        IsShort bytes.items → Spells bytes.items (renumbered (text script.now))) }
+        IsShort bytes.items → Spells bytes.items (renumbered_script (plain_script script.now))) }
 {
     // The names are lawful, and so what is printed can be read.
     let _ = script.names.count(NameKind::Thread);
@@ -42,7 +42,8 @@ pub fn print_script(alloc: Global, script: &Script) -> Result<Vec<u8>, NoMemory>
 fn push_declarations(script: &Script, out: &mut Vec<u8>) -> Result<(), NoMemory>
     ensures written { OnOk result
         (out.new.items
-        ≡ out.old.items ++ text_of_lines (map form_text (declared_forms (text script.now)))) }
+        ≡ out.old.items
+        ++ text_of_lines (map form_text (declared_forms (plain_script script.now)))) }
     ensures ranged { OnOk result (All (FitsSigned w64) script.now.vars) }
 {
     let names = &script.names;
@@ -106,9 +107,10 @@ fn push_threads(threads: &[ThreadText], names: &Names, out: &mut Vec<u8>) -> Res
     ensures written { OnOk result
         (out.new.items
         ≡ out.old.items
-        ++ printed (all_thread_lines names.now names.now.threads (map thread threads.now))) }
+        ++ printed_lines
+        (all_thread_lines names.now names.now.threads (map thread_text threads.now))) }
     ensures ranged { OnOk result
-        (are_ranged (all_thread_lines names.now names.now.threads (map thread threads.now))
+        (are_ranged (all_thread_lines names.now names.now.threads (map thread_text threads.now))
         ≡ true) }
 {
     for place in 0..names.count(NameKind::Thread) {

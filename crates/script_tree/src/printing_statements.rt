@@ -3,13 +3,14 @@
 ghost use Rattle.std.specs.Prelude.{◌≡◌, ◌++◌, [], ◌∷◌, ◌&&◌, true, codes, OnOk};
 ghost use Rattle.std.specs.List.{flat_map};
 ghost use Rattle.pct_ask.specs.NameLists.{list_of};
-ghost use Rattle.script_tree.specs.Trees.{list};
+ghost use Rattle.script_tree.specs.Trees.{statement_list};
 ghost use Rattle.script_tree.specs.Seen.{expression, statement, block};
 ghost use Rattle.script_tree.specs.Expressions.{register_word};
 ghost use Rattle.pct_ask.specs.TraceText.{name_at};
 ghost use Rattle.script_tree.specs.Grammar.{statement_lines};
-ghost use Rattle.script_tree.specs.Layout.{spaced, expression_text};
-ghost use Rattle.script_tree.specs.Printing.{printed, are_ranged, is_ranged, is_single, names_one};
+ghost use Rattle.script_tree.specs.Layout.{spaced_words, expression_text};
+ghost use Rattle.script_tree.specs.Printing.{printed_lines, are_ranged, is_ranged, is_single};
+ghost use Rattle.script_tree.specs.Printing.{names_one};
 
 use crate::expr::Expr;
 use crate::printing_words::{name_at, push_expression, push_last, push_spaced, register_word};
@@ -25,9 +26,11 @@ pub(crate) fn push_statements(
 ) -> Result<(), NoMemory>
     ensures written { OnOk result
         (out.new.items
-        ≡ out.old.items ++ printed (flat_map (statement_lines names.now) (list (block body.now)))) }
+        ≡ out.old.items
+        ++ printed_lines (flat_map (statement_lines names.now) (statement_list (block body.now)))) }
     ensures ranged { OnOk result
-        (are_ranged (flat_map (statement_lines names.now) (list (block body.now))) ≡ true) }
+        (are_ranged (flat_map (statement_lines names.now) (statement_list (block body.now)))
+        ≡ true) }
 {
     for stmt in &body.stmts {
         push_statement(stmt, names, out)?;
@@ -39,7 +42,7 @@ pub(crate) fn push_statements(
 fn push_statement(stmt: &Stmt, names: &Names, out: &mut Vec<u8>) -> Result<(), NoMemory>
     ensures written { OnOk result
         (out.new.items
-        ≡ out.old.items ++ printed (statement_lines names.now (statement stmt.now))) }
+        ≡ out.old.items ++ printed_lines (statement_lines names.now (statement stmt.now))) }
     ensures ranged { OnOk result
         (are_ranged (statement_lines names.now (statement stmt.now)) ≡ true) }
 {
@@ -72,7 +75,7 @@ fn push_single(stmt: &Stmt, names: &Names, out: &mut Vec<u8>) -> Result<(), NoMe
     requires { is_single (statement stmt.now) ≡ true }
     ensures written { OnOk result
         (out.new.items
-        ≡ out.old.items ++ printed (statement_lines names.now (statement stmt.now))) }
+        ≡ out.old.items ++ printed_lines (statement_lines names.now (statement stmt.now))) }
     ensures ranged { OnOk result
         (are_ranged (statement_lines names.now (statement stmt.now)) ≡ true) }
 {
@@ -108,7 +111,7 @@ fn push_named(stmt: &Stmt, names: &Names, out: &mut Vec<u8>) -> Result<(), NoMem
     requires { names_one (statement stmt.now) ≡ true }
     ensures written { OnOk result
         (out.new.items
-        ≡ out.old.items ++ printed (statement_lines names.now (statement stmt.now))) }
+        ≡ out.old.items ++ printed_lines (statement_lines names.now (statement stmt.now))) }
     ensures ranged { are_ranged (statement_lines names.now (statement stmt.now)) ≡ true }
 {
     match *stmt {
@@ -156,7 +159,7 @@ fn push_on(
     ensures { OnOk result
         (out.new.items
         ≡ out.old.items
-        ++ (spaced (verb.now ∷ name_at (list_of kind names.now) place ∷ []) ++ 10 ∷ [])) }
+        ++ (spaced_words (verb.now ∷ name_at (list_of kind names.now) place ∷ []) ++ 10 ∷ [])) }
 {
     push_spaced(verb, out)?;
     push_last(name_at(names, kind, place), out)
@@ -174,7 +177,8 @@ fn push_into(
     ensures { OnOk result
         (out.new.items
         ≡ out.old.items
-        ++ (spaced (verb.now ∷ register_word register ∷ name_at (list_of kind names.now) place ∷ [])
+        ++ (spaced_words
+        (verb.now ∷ register_word register ∷ name_at (list_of kind names.now) place ∷ [])
         ++ 10 ∷ [])) }
 {
     push_spaced(verb, out)?;
@@ -185,7 +189,7 @@ fn push_write(var: u32, value: &Expr, names: &Names, out: &mut Vec<u8>) -> Resul
     ensures written { OnOk result
         (out.new.items
         ≡ out.old.items
-        ++ (spaced
+        ++ (spaced_words
         (codes "write" ∷ name_at names.now.vars var ∷ expression_text (expression value.now) ∷ [])
         ++ 10 ∷ [])) }
     ensures ranged { OnOk result (is_ranged (expression value.now) ≡ true) }
@@ -204,7 +208,7 @@ fn push_add(
     ensures written { OnOk result
         (out.new.items
         ≡ out.old.items
-        ++ (spaced
+        ++ (spaced_words
         (codes "add" ∷ register_word register ∷ name_at names.now.vars var
         ∷ expression_text (expression value.now) ∷ [])
         ++ 10 ∷ [])) }
@@ -226,7 +230,7 @@ fn push_cas(
     ensures written { OnOk result
         (out.new.items
         ≡ out.old.items
-        ++ (spaced
+        ++ (spaced_words
         (codes "cas" ∷ register_word register ∷ name_at names.now.vars var
         ∷ (expression_text (expression old.now) ++ codes ",") ∷ expression_text (expression new.now)
         ∷ [])
@@ -245,7 +249,7 @@ fn push_wait(cond: u32, mutex: u32, names: &Names, out: &mut Vec<u8>) -> Result<
     ensures { OnOk result
         (out.new.items
         ≡ out.old.items
-        ++ (spaced
+        ++ (spaced_words
         (codes "wait" ∷ name_at names.now.conds cond ∷ name_at names.now.mutexes mutex ∷ [])
         ++ 10 ∷ [])) }
 {
@@ -259,7 +263,7 @@ fn push_test(word: &[u8], expr: &Expr, out: &mut Vec<u8>) -> Result<(), NoMemory
     ensures written { OnOk result
         (out.new.items
         ≡ out.old.items
-        ++ (spaced (word.now ∷ expression_text (expression expr.now) ∷ []) ++ 10 ∷ [])) }
+        ++ (spaced_words (word.now ∷ expression_text (expression expr.now) ∷ []) ++ 10 ∷ [])) }
     ensures ranged { OnOk result (is_ranged (expression expr.now) ≡ true) }
 {
     push_spaced(word, out)?;

@@ -1,4 +1,4 @@
-ghost use Rattle.script_tree.specs.ScriptParts.{text_of};
+ghost use Rattle.script_tree.specs.ScriptParts.{script_of_parts};
 ghost use Rattle.script_tree.specs.Fitting.{IsScript};
 
 use crate::stmt::ThreadText;
@@ -18,12 +18,12 @@ pub struct Script {
     /// How many threads meet at each barrier.
     pub barriers: NumberList,
     pub threads: Vec<ThreadText>,
-    ghost sound: { IsScript (text_of version names vars sems barriers threads.items) },
+    ghost sound: { IsScript (script_of_parts version names vars sems barriers threads.items) },
 }
 
 impl Script {
     ghost use Rattle.std.specs.Prelude.{◌≡◌, IfOk};
-    ghost use Rattle.script_tree.specs.ScriptSeen.{text};
+    ghost use Rattle.script_tree.specs.ScriptSeen.{plain_script};
     ghost use Rattle.script_tree.specs.DealOf.{IsDealOf};
 
     /// The names of its threads and objects.
@@ -35,7 +35,7 @@ impl Script {
 
     /// What its threads share.
     pub fn deal(&self, alloc: Global) -> Result<Deal, NoMemory>
-        ensures { IfOk result (λ deal. IsDealOf (text self.now) deal) }
+        ensures { IfOk result (λ deal. IsDealOf (plain_script self.now) deal) }
     {
         let names = &self.names;
         Ok(Deal {

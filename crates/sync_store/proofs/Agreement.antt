@@ -17,7 +17,7 @@ use Rattle.sync_store.specs.Store.{new_condition, is_on, owner_of, condition_of,
 use Rattle.sync_store.specs.Store.{barrier_of, rwlock_of, with_value, with_owner, with_condition}
 use Rattle.sync_store.specs.Store.{with_number, with_barrier, with_rwlock}
 use Rattle.sync_store.specs.Enabled.{is_released, is_unread}
-use Rattle.sync_store.specs.Effect.{without}
+use Rattle.sync_store.specs.Effect.{list_without}
 use Rattle.sync_store.specs.Touched.{KeepsOthers, is_mutex, is_cond, is_sem, is_barrier, is_thread}
 use Rattle.sync_store.specs.Touched.{is_rwlock}
 use Rattle.sync_store.proofs.ThreadLists.{is_on-push, is_on-without}
@@ -195,7 +195,7 @@ other_wait t store m owner c state kept = record {
 }
 
 pub without_other : (u t : ℕ) (threads : List ℕ) → u ≢ t
-    → is_on u (without t threads) ≡ is_on u threads
+    → is_on u (list_without t threads) ≡ is_on u threads
 without_other u t threads apart =
     let other = ne_eqb t u (λ e. apart (sym e)) in
     let whole = is_on-without u t threads in

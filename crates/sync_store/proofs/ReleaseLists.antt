@@ -8,7 +8,7 @@ use Rattle.std.proofs.lemmas.Grind.{common_steps}
 use Rattle.std.proofs.lemmas.List.{map_push, get_or-set_same}
 use Rattle.sync_store.specs.Store.{Release, is_on}
 use Rattle.sync_store.specs.Enabled.{is_released}
-use Rattle.sync_store.specs.Effect.{onto, without, let_through, is_serial}
+use Rattle.sync_store.specs.Effect.{put_last, list_without, let_through, is_serial}
 use Rattle.sync_store.specs.ReleaseList.{release_by, releases_by}
 
 pub is_released-by : (serial : List Bool) (t : ℕ) (xs : List ℕ)
@@ -28,14 +28,14 @@ abbrev others : ℕ → List Release → List Release
 others t releases = filter (λ release. not (nat_eq t release.thread)) releases
 
 pub without-by : (serial : List Bool) (t : ℕ) (xs : List ℕ)
-    → releases_by serial (without t xs) ≡ others t (releases_by serial xs)
+    → releases_by serial (list_without t xs) ≡ others t (releases_by serial xs)
 without-by serial t [] = refl
 without-by serial t (x ∷ xs) =
     let rest = without-by serial t xs in
     let test = not (nat_eq t x) in
     let kept = release_by serial x ∷ others t (releases_by serial xs) in
     let gone = others t (releases_by serial xs) in
-    cond_both test (x ∷ without t xs) (without t xs)
+    cond_both test (x ∷ list_without t xs) (list_without t xs)
     (λ ys. releases_by serial ys ≡ cond test kept gone)
     (λ e. ap (λ ys. release_by serial x ∷ ys) rest ∙ sym (cond-true test kept gone e))
     (λ e. rest ∙ sym (cond-false test kept gone e))
@@ -52,7 +52,7 @@ releases-set serial t s (x ∷ xs) e =
     grind arith
 
 pub releases-onto : (serial : List Bool) (t : ℕ) (s : Bool) (xs ys : List ℕ) → t < length serial
-    → is_on t xs ≡ false → ys ≡ onto t xs
+    → is_on t xs ≡ false → ys ≡ put_last t xs
     → releases_by (slice_set serial t s) ys ≡ let_through t s (releases_by serial xs)
 releases-onto serial t s xs ys fits off e =
     let release : Release = record { thread = t; serial = s } in

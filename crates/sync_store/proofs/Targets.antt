@@ -9,11 +9,11 @@ use Rattle.pct_ask.specs.declared.Ask.TheVariants.{Fault, Start, Begin, RdLock, 
 use Rattle.pct_ask.specs.declared.Ask.TheVariants.{TryWrLock, RwUnlock}
 use Rattle.sync_store.specs.Store.{StoreState}
 use Rattle.sync_store.specs.Enabled.{enabled, others_ended}
-use Rattle.sync_store.specs.Ready.{awaited}
+use Rattle.sync_store.specs.Ready.{join_target}
 
 -- an ask is as enabled where the thread that it joins, if any, has ended as well
 pub enabled_by_target : (store : StoreState) (ended also : ℕ → Bool) (t : ℕ) (ask : Ask)
-    → ((u : ℕ) → awaited ask ≡ Some u → ended u ≡ also u)
+    → ((u : ℕ) → join_target ask ≡ Some u → ended u ≡ also u)
     → enabled store ended t ask ≡ enabled store also t ask
 enabled_by_target store ended also t (Read x) same = refl
 enabled_by_target store ended also t (Write x value) same = refl

@@ -13,7 +13,7 @@ use Rattle.std.proofs.lemmas.Cmp.{nat_eq_equiv}
 use Rattle.std.proofs.lemmas.Bool.Decides.{nat_tests}
 use Rattle.std.proofs.lemmas.Grind.{common_steps}
 use Rattle.sync_store.specs.Store.{is_on}
-use Rattle.sync_store.specs.Effect.{without}
+use Rattle.sync_store.specs.Effect.{list_without}
 use Rattle.sync_store.specs.ThreadList.{IsOnce, IsThreadList}
 
 pub is_on-push : (u t : ℕ) (xs : List ℕ) → is_on u (xs ++ t ∷ []) ≡ (is_on u xs || nat_eq u t)
@@ -28,17 +28,18 @@ once-push t (x ∷ xs) h e =
     (apart, once-push t xs h.1 off)
 
 pub is_on-without : (u t : ℕ) (xs : List ℕ)
-    → is_on u (without t xs) ≡ (is_on u xs && not (nat_eq t u))
+    → is_on u (list_without t xs) ≡ (is_on u xs && not (nat_eq t u))
 is_on-without u t xs =
     is_member-filter nat_eq_equiv (λ v. not (nat_eq t v)) u
     (λ v e. ap (λ w. not (nat_eq t w)) (eqb-true u v e)) xs
 
-pub once-without : (t : ℕ) (xs : List ℕ) → IsOnce xs → IsOnce (without t xs)
+pub once-without : (t : ℕ) (xs : List ℕ) → IsOnce xs → IsOnce (list_without t xs)
 once-without t [] h = tt
 once-without t (x ∷ xs) h =
     let rest = once-without t xs h.1 in
-    let apart : is_on x (without t xs) ≡ false = is_on-without x t xs ∙ and_left _ _ h.0 in
-    cond_both (not (nat_eq t x)) (x ∷ without t xs) (without t xs) IsOnce (λ _. (apart, rest))
+    let apart : is_on x (list_without t xs) ≡ false = is_on-without x t xs ∙ and_left _ _ h.0 in
+    cond_both (not (nat_eq t x)) (x ∷ list_without t xs) (list_without t xs) IsOnce
+    (λ _. (apart, rest))
     (λ _. rest)
 
 pub below_on : (q : ℕ) (xs : List ℕ) → All (λ t. t < 64) xs → is_on q xs ≡ true → q < 64
@@ -117,7 +118,8 @@ unset_marked : (present : List Bool) (t u : ℕ) → length present ≡ 64 → t
 unset_marked present t u l fits on e = grind (arith, nat_tests, common_steps)
 
 pub departed : (xs ys : List ℕ) (room room' : ℕ) (present : List Bool) (t : ℕ)
-    → IsThreadList xs room present → length present ≡ 64 → t < 64 → ys ≡ without t xs → room' ≡ room
+    → IsThreadList xs room present → length present ≡ 64 → t < 64 → ys ≡ list_without t xs
+    → room' ≡ room
     → IsThreadList ys room' (slice_set present t false)
 departed xs ys room room' present t h l fits e r = record {
   once = subst IsOnce (sym e) (once-without t xs h.once);
@@ -131,7 +133,7 @@ departed xs ys room room' present t h l fits e r = record {
 }
 
 -- where a thread leaves that is on the list only once, the rest stays
-without_off : (t : ℕ) (xs : List ℕ) → is_on t xs ≡ false → without t xs ≡ xs
+without_off : (t : ℕ) (xs : List ℕ) → is_on t xs ≡ false → list_without t xs ≡ xs
 without_off t [] e = refl
 without_off t (x ∷ xs) e =
     let parts = or_parts (nat_eq t x) (is_on t xs) e in
@@ -139,7 +141,7 @@ without_off t (x ∷ xs) e =
     let here = parts.0 in
     grind arith
 
-pub without_first : (t : ℕ) (xs : List ℕ) → IsOnce (t ∷ xs) → without t (t ∷ xs) ≡ xs
+pub without_first : (t : ℕ) (xs : List ℕ) → IsOnce (t ∷ xs) → list_without t (t ∷ xs) ≡ xs
 without_first t xs h =
     let here = eq-eqb t t refl in
     let rest = without_off t xs h.0 in

@@ -18,7 +18,8 @@ use Rattle.pct_ask.specs.declared.Verdict.TheVariants.{Failed, Misuse, Fault as 
 use Rattle.sync_store.specs.declared.applied.Applied.{Applied}
 use Rattle.sync_store.specs.declared.applied.Applied.TheVariants.{Answer, Ends}
 use Rattle.sync_store.specs.Store.{Release as Released, ConditionState, BarrierState, RwLockState}
-use Rattle.sync_store.specs.Store.{StoreState, is_on, value_of, owner_of, condition_of, number_of}
+use Rattle.sync_store.specs.Store.{StoreState, is_on, variable_value, owner_of, condition_of}
+use Rattle.sync_store.specs.Store.{number_of}
 use Rattle.sync_store.specs.Store.{barrier_of, rwlock_of, with_value, with_owner, with_condition}
 use Rattle.sync_store.specs.Store.{with_number, with_barrier, with_rwlock}
 use Rattle.sync_store.specs.Enabled.{is_released, is_unread}
@@ -31,32 +32,32 @@ pub data Effect : Type 0 where
 
 -- a thread goes last on a list; a list that has it stays as it is, with the old entry (this
 -- project)
-abbrev pub onto : ℕ → List ℕ → List ℕ
-onto t threads = if is_on t threads then threads else threads ++ t ∷ []
+abbrev pub put_last : ℕ → List ℕ → List ℕ
+put_last t threads = if is_on t threads then threads else threads ++ t ∷ []
 
 -- threads go last on a list, one after another
-abbrev pub all_onto : List ℕ → List ℕ → List ℕ
-all_onto [] threads = threads
-all_onto (t ∷ ts) threads = all_onto ts (onto t threads)
+abbrev pub put_all_last : List ℕ → List ℕ → List ℕ
+put_all_last [] threads = threads
+put_all_last (t ∷ ts) threads = put_all_last ts (put_last t threads)
 
 -- a thread leaves a list
-abbrev pub without : ℕ → List ℕ → List ℕ
-without t threads = filter (λ u. not (t == u)) threads
+abbrev pub list_without : ℕ → List ℕ → List ℕ
+list_without t threads = filter (λ u. not (t == u)) threads
 
 -- the numbers that a variable may hold (this project)
 abbrev pub is_i64 : ℤ → Bool
 is_i64 n = int_le (negsuc 9223372036854775807) n && int_le n (pos 9223372036854775807)
 
 -- whether an owner or a writer is the thread t
-abbrev pub is_thread : ℕ → Option ℕ → Bool
-is_thread t None = false
-is_thread t (Some u) = u == t
+abbrev pub is_held_by : ℕ → Option ℕ → Bool
+is_held_by t None = false
+is_held_by t (Some u) = u == t
 
 -- the longest waiter of a condition is woken, if there is one; a signal that nobody waits for is
 -- lost (POSIX)
-abbrev pub signalled : List ℕ → List ℕ → ConditionState
-signalled [] woken = record { waiting = []; woken = woken }
-signalled (t ∷ waiting) woken = record { waiting = waiting; woken = onto t woken }
+abbrev pub after_signal : List ℕ → List ℕ → ConditionState
+after_signal [] woken = record { waiting = []; woken = woken }
+after_signal (t ∷ waiting) woken = record { waiting = waiting; woken = put_last t woken }
 
 -- the greatest number of a semaphore: POSIX's SEM_VALUE_MAX, whose value is this project's
 abbrev pub sem_max : ℤ
@@ -80,19 +81,19 @@ all_through last [] released = released
 all_through last (t ∷ ts) released = all_through last ts (let_through t (t == last) released)
 
 -- once as many threads as the barrier counts have arrived, they are all let through; t arrived last
-abbrev pub met : ℕ → BarrierState → BarrierState
-met t barrier =
+abbrev pub after_meeting : ℕ → BarrierState → BarrierState
+after_meeting t barrier =
     if int_eq (pos (length barrier.arrived)) barrier.count
     then record barrier { arrived = []; released = all_through t barrier.arrived barrier.released }
     else barrier
 
 -- the thread t arrives
-abbrev pub arrived_at : ℕ → BarrierState → BarrierState
-arrived_at t barrier = met t (record barrier { arrived = onto t barrier.arrived })
+abbrev pub after_arrival : ℕ → BarrierState → BarrierState
+after_arrival t barrier = after_meeting t (record barrier { arrived = put_last t barrier.arrived })
 
 -- a thread leaves a barrier that has let it through
-abbrev pub left_by : ℕ → BarrierState → BarrierState
-left_by t barrier =
+abbrev pub after_leaving : ℕ → BarrierState → BarrierState
+after_leaving t barrier =
     record barrier { released = filter (λ release. not (t == release.thread)) barrier.released }
 
 -- whether a thread is let through as the serial one
@@ -109,9 +110,9 @@ with_reads rwlock t holds = record rwlock { reads = slice_set rwlock.reads t hol
 
 -- a thread lets a read-write lock go: as its writer, else one of its read holds; None where it has
 -- neither
-abbrev pub unlocked : RwLockState → ℕ → Option RwLockState
-unlocked rwlock t =
-    if is_thread t rwlock.writer then Some (with_writer rwlock None)
+abbrev pub after_unlock : RwLockState → ℕ → Option RwLockState
+after_unlock rwlock t =
+    if is_held_by t rwlock.writer then Some (with_writer rwlock None)
     else (if nat_lt 0 (slice_index rwlock.reads t)
     then Some (with_reads rwlock t (slice_index rwlock.reads t - 1))
     else None)
@@ -124,44 +125,45 @@ goes_or store l (Some rwlock) verdict = Goes (with_rwlock store l rwlock) (pos 0
 -- The step of the thread t, whose ask stands on a line of the test: the store after it and the
 -- answer, or a verdict. It speaks of steps that are enabled.
 abbrev pub effect : StoreState → ℕ → ℕ → Ask → Effect
-effect store t line (Read x) = Goes store (value_of store x)
+effect store t line (Read x) = Goes store (variable_value store x)
 effect store t line (Write x value) = Goes (with_value store x value) (pos 0)
 effect store t line (Add x value) =
-    if is_i64 (value_of store x +ℤ value)
-    then Goes (with_value store x (value_of store x +ℤ value)) (value_of store x)
+    if is_i64 (variable_value store x +ℤ value)
+    then Goes (with_value store x (variable_value store x +ℤ value)) (variable_value store x)
     else Stops (Faulted t line Overflow)
 effect store t line (Cas x old new) =
-    if int_eq (value_of store x) old then Goes (with_value store x new) (pos 1)
+    if int_eq (variable_value store x) old then Goes (with_value store x new) (pos 1)
     else Goes store (pos 0)
 effect store t line (Lock m) = Goes (with_owner store m (Some t)) (pos 0)
 effect store t line (TryLock m) =
     if is_none (owner_of store m) then Goes (with_owner store m (Some t)) (pos 1)
     else Goes store (pos 0)
 effect store t line (Unlock m) =
-    if is_thread t (owner_of store m) then Goes (with_owner store m None) (pos 0)
+    if is_held_by t (owner_of store m) then Goes (with_owner store m None) (pos 0)
     else Stops (Misuse t line NotOwner)
 effect store t line (Release c m) =
-    if is_thread t (owner_of store m)
+    if is_held_by t (owner_of store m)
     then Goes
     (with_condition (with_owner store m None) c
-    (record (condition_of store c) { waiting = onto t (condition_of store c).waiting }))
+    (record (condition_of store c) { waiting = put_last t (condition_of store c).waiting }))
     (pos 0)
     else Stops (Misuse t line NotOwner)
 effect store t line (Regain c m) =
     Goes
     (with_condition (with_owner store m (Some t)) c
-    (record (condition_of store c) { woken = without t (condition_of store c).woken }))
+    (record (condition_of store c) { woken = list_without t (condition_of store c).woken }))
     (pos 0)
 effect store t line (Signal c) =
     Goes
-    (with_condition store c (signalled (condition_of store c).waiting (condition_of store c).woken))
+    (with_condition store c
+    (after_signal (condition_of store c).waiting (condition_of store c).woken))
     (pos (min 1 (length (condition_of store c).waiting)))
 effect store t line (Broadcast c) =
     Goes
     (with_condition store c
     (record {
       waiting = [];
-      woken = all_onto (condition_of store c).waiting (condition_of store c).woken;
+      woken = put_all_last (condition_of store c).waiting (condition_of store c).woken;
     }))
     (pos (length (condition_of store c).waiting))
 effect store t line (Down s) = Goes (with_number store s (number_of store s -ℤ pos 1)) (pos 0)
@@ -174,9 +176,9 @@ effect store t line (Up s) =
     then Goes (with_number store s (number_of store s +ℤ pos 1)) (pos 0)
     else Stops (Misuse t line SemFull)
 effect store t line (Arrive b) =
-    Goes (with_barrier store b (arrived_at t (barrier_of store b))) (pos 0)
+    Goes (with_barrier store b (after_arrival t (barrier_of store b))) (pos 0)
 effect store t line (Leave b) =
-    Goes (with_barrier store b (left_by t (barrier_of store b)))
+    Goes (with_barrier store b (after_leaving t (barrier_of store b)))
     (if is_serial t (barrier_of store b).released then pos 1 else pos 0)
 effect store t line (Join u) = Goes store (pos 0)
 effect store t line Yield = Goes store (pos 0)
@@ -208,7 +210,7 @@ effect store t line (TryWrLock l) =
     then Goes (with_rwlock store l (with_writer (rwlock_of store l) (Some t))) (pos 1)
     else Goes store (pos 0)
 effect store t line (RwUnlock l) =
-    goes_or store l (unlocked (rwlock_of store l) t) (Misuse t line NotOwner)
+    goes_or store l (after_unlock (rwlock_of store l) t) (Misuse t line NotOwner)
 
 -- the store after a step: that of the effect, or the same one where the run ends
 abbrev pub store_after : StoreState → Effect → StoreState

@@ -3,6 +3,6 @@ use Rattle.std.specs.Prelude.{◌≡◌, ◌≤◌, ℕ, List, length, All}
 use Rattle.sync_store.specs.Store.{RwLockState}
 
 -- there are at most 64 threads, and each read-write lock counts the read holds of each
-pub record IsKept (threads : ℕ) (rwlocks : List RwLockState) : Type 0 where
+pub record CountsReads (threads : ℕ) (rwlocks : List RwLockState) : Type 0 where
   pub few : threads ≤ 64
   pub reads : All (λ rwlock. length rwlock.reads ≡ threads) rwlocks

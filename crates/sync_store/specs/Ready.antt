@@ -11,9 +11,9 @@ use Rattle.sync_store.specs.Store.{StoreState}
 use Rattle.sync_store.specs.Enabled.{enabled}
 
 -- the thread that a join waits for
-abbrev pub awaited : Ask → Option ℕ
-awaited (Join u) = Some u
-awaited _ = None
+abbrev pub join_target : Ask → Option ℕ
+join_target (Join u) = Some u
+join_target _ = None
 
 -- the thread that a join waits for, where its next post isn't known
 abbrev pub unknown_target : (ℕ → Bool) → Option ℕ → Option ℕ
@@ -30,26 +30,26 @@ ready_by None is_enabled = if is_enabled then Yes else No
 -- `ended` who has ended.
 abbrev pub readiness : StoreState → (ℕ → Bool) → (ℕ → Bool) → ℕ → Ask → Ready
 readiness store away ended t ask =
-    ready_by (unknown_target away (awaited ask)) (enabled store ended t ask)
+    ready_by (unknown_target away (join_target ask)) (enabled store ended t ask)
 
 -- of a thread's standing: whether its next post isn't known
-abbrev pub is_away : Option Standing → Bool
-is_away (Some Away) = true
-is_away (Some Asks) = false
-is_away (Some Ended) = false
-is_away None = false
+abbrev pub standing_is_away : Option Standing → Bool
+standing_is_away (Some Away) = true
+standing_is_away (Some Asks) = false
+standing_is_away (Some Ended) = false
+standing_is_away None = false
 
 -- of a thread's standing: whether it has ended
-abbrev pub is_ended : Option Standing → Bool
-is_ended (Some Ended) = true
-is_ended (Some Away) = false
-is_ended (Some Asks) = false
-is_ended None = false
+abbrev pub standing_is_ended : Option Standing → Bool
+standing_is_ended (Some Ended) = true
+standing_is_ended (Some Away) = false
+standing_is_ended (Some Asks) = false
+standing_is_ended None = false
 
 -- by the standings of all threads: whether a thread's next post isn't known
 abbrev pub away_by : List Standing → ℕ → Bool
-away_by standings u = is_away (slice_get standings u)
+away_by standings u = standing_is_away (slice_get standings u)
 
 -- by the standings of all threads: whether a thread has ended
 abbrev pub ended_by : List Standing → ℕ → Bool
-ended_by standings u = is_ended (slice_get standings u)
+ended_by standings u = standing_is_ended (slice_get standings u)

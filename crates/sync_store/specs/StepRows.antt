@@ -26,11 +26,11 @@ bare = record {
 abbrev at_rest : StoreState
 at_rest = record bare { owners = None ∷ []; conditions = new_condition ∷ [] }
 
-abbrev owned : StoreState
-owned = record bare { owners = Some 0 ∷ []; conditions = new_condition ∷ [] }
+abbrev store_with_owner : StoreState
+store_with_owner = record bare { owners = Some 0 ∷ []; conditions = new_condition ∷ [] }
 
-abbrev awaited : StoreState
-awaited =
+abbrev store_with_waiter : StoreState
+store_with_waiter =
     record bare { owners = None ∷ []; conditions = record { waiting = 0 ∷ []; woken = [] } ∷ [] }
 
 abbrev woken : StoreState
@@ -41,30 +41,30 @@ woken =
 pub signal_lost : effect at_rest 1 10 (Signal 0) ≡ Goes at_rest (pos 0)
 signal_lost = refl
 
-pub lock : effect at_rest 0 5 (Lock 0) ≡ Goes owned (pos 0)
+pub lock : effect at_rest 0 5 (Lock 0) ≡ Goes store_with_owner (pos 0)
 lock = refl
 
-pub wait : effect owned 0 6 (Release 0 0) ≡ Goes awaited (pos 0)
+pub wait : effect store_with_owner 0 6 (Release 0 0) ≡ Goes store_with_waiter (pos 0)
 wait = refl
 
-pub waits : enabled awaited (others_ended 0) 0 (Regain 0 0) ≡ false
+pub waits : enabled store_with_waiter (others_ended 0) 0 (Regain 0 0) ≡ false
 waits = refl
 
 -- a signal that comes after the wait wakes the waiter
-pub signal_wakes : effect awaited 1 10 (Signal 0) ≡ Goes woken (pos 1)
+pub signal_wakes : effect store_with_waiter 1 10 (Signal 0) ≡ Goes woken (pos 1)
 signal_wakes = refl
 
 pub is_woken : enabled woken (others_ended 0) 0 (Regain 0 0) ≡ true
 is_woken = refl
 
-pub takes_again : effect woken 0 6 (Regain 0 0) ≡ Goes owned (pos 0)
+pub takes_again : effect woken 0 6 (Regain 0 0) ≡ Goes store_with_owner (pos 0)
 takes_again = refl
 
-pub unlock : effect owned 0 7 (Unlock 0) ≡ Goes at_rest (pos 0)
+pub unlock : effect store_with_owner 0 7 (Unlock 0) ≡ Goes at_rest (pos 0)
 unlock = refl
 
 -- a mutex is not free for its owner either, and one that nobody owns can't be let go
-pub relock : enabled owned (others_ended 0) 0 (Lock 0) ≡ false
+pub relock : enabled store_with_owner (others_ended 0) 0 (Lock 0) ≡ false
 relock = refl
 
 pub unlock_of_nobody : effect at_rest 0 4 (Unlock 0) ≡ Stops (Misuse 0 4 NotOwner)

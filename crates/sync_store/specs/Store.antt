@@ -54,8 +54,8 @@ abbrev pub new_rwlock : ℕ → RwLockState
 new_rwlock threads = record { writer = None; reads = replicate threads 0 }
 
 -- the store at the start: the declared values, and nothing owned, awaited, started or held
-abbrev pub first : Deal → StoreState
-first deal = record {
+abbrev pub first_store : Deal → StoreState
+first_store deal = record {
   threads = deal.threads;
   values = deal.vars;
   owners = replicate deal.mutexes None;
@@ -67,8 +67,8 @@ first deal = record {
 }
 
 -- the value of a variable
-abbrev pub value_of : StoreState → ℕ → ℤ
-value_of store x = slice_index_or store.values x (pos 0)
+abbrev pub variable_value : StoreState → ℕ → ℤ
+variable_value store x = slice_index_or store.values x (pos 0)
 
 -- the thread that owns a mutex, if one does
 abbrev pub owner_of : StoreState → ℕ → Option ℕ

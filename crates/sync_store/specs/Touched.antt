@@ -75,38 +75,38 @@ is_rwlock l _ = false
 
 -- Whether an ask of the thread t names an object. A regain names its condition and its mutex, a
 -- begin the thread itself, and a join no object.
-abbrev pub names : ℕ → Ask → Touched → Bool
-names t (Read x) object = false
-names t (Write x value) object = false
-names t (Add x value) object = false
-names t (Cas x old new) object = false
-names t (Lock m) object = is_mutex m object
-names t (TryLock m) object = is_mutex m object
-names t (Unlock m) object = is_mutex m object
-names t (Release c m) object = is_cond c object || is_mutex m object
-names t (Regain c m) object = is_cond c object || is_mutex m object
-names t (Signal c) object = is_cond c object
-names t (Broadcast c) object = is_cond c object
-names t (Down s) object = is_sem s object
-names t (TryDown s) object = is_sem s object
-names t (Up s) object = is_sem s object
-names t (Arrive b) object = is_barrier b object
-names t (Leave b) object = is_barrier b object
-names t (Join u) object = false
-names t Yield object = false
-names t (Check holds) object = false
-names t (Fault kind) object = false
-names t (Start u) object = is_thread u object
-names t Begin object = is_thread t object
-names t (RdLock l) object = is_rwlock l object
-names t (WrLock l) object = is_rwlock l object
-names t (TryRdLock l) object = is_rwlock l object
-names t (TryWrLock l) object = is_rwlock l object
-names t (RwUnlock l) object = is_rwlock l object
+abbrev pub names_object : ℕ → Ask → Touched → Bool
+names_object t (Read x) object = false
+names_object t (Write x value) object = false
+names_object t (Add x value) object = false
+names_object t (Cas x old new) object = false
+names_object t (Lock m) object = is_mutex m object
+names_object t (TryLock m) object = is_mutex m object
+names_object t (Unlock m) object = is_mutex m object
+names_object t (Release c m) object = is_cond c object || is_mutex m object
+names_object t (Regain c m) object = is_cond c object || is_mutex m object
+names_object t (Signal c) object = is_cond c object
+names_object t (Broadcast c) object = is_cond c object
+names_object t (Down s) object = is_sem s object
+names_object t (TryDown s) object = is_sem s object
+names_object t (Up s) object = is_sem s object
+names_object t (Arrive b) object = is_barrier b object
+names_object t (Leave b) object = is_barrier b object
+names_object t (Join u) object = false
+names_object t Yield object = false
+names_object t (Check holds) object = false
+names_object t (Fault kind) object = false
+names_object t (Start u) object = is_thread u object
+names_object t Begin object = is_thread t object
+names_object t (RdLock l) object = is_rwlock l object
+names_object t (WrLock l) object = is_rwlock l object
+names_object t (TryRdLock l) object = is_rwlock l object
+names_object t (TryWrLock l) object = is_rwlock l object
+names_object t (RwUnlock l) object = is_rwlock l object
 
 -- An ask of a thread other than t that doesn't name the object is as enabled afterwards as it was
 -- before.
 abbrev pub KeepsOthers : ℕ → Touched → StoreState → StoreState → Type 0
 KeepsOthers t object before after =
-    (ended : ℕ → Bool) (u : ℕ) (ask : Ask) → u ≢ t → names u ask object ≡ false
+    (ended : ℕ → Bool) (u : ℕ) (ask : Ask) → u ≢ t → names_object u ask object ≡ false
     → enabled after ended u ask ≡ enabled before ended u ask

@@ -29,8 +29,8 @@ pub record World : Type 0 where
   pub verdict : Option Verdict
 
 -- no step has been taken yet
-abbrev pub start : StoreState → World
-start store = record { store = store; events = []; verdict = None }
+abbrev pub first_world : StoreState → World
+first_world store = record { store = store; events = []; verdict = None }
 
 -- whether a thread is known to have ended
 abbrev pub has_ended : Source → List Event → ℕ → Bool
@@ -64,17 +64,17 @@ step_by source world t None = None
 step_by source world t (Some post) = step_on source world t post.line post.ask
 
 -- a step after a verdict is undefined
-abbrev pub step_of : Source → World → ℕ → Option World
-step_of source world t =
+abbrev pub world_by_step : Source → World → ℕ → Option World
+world_by_step source world t =
     if is_none world.verdict then step_by source world t (source t world.events) else None
 
 -- what has happened once the threads of a list have each taken a step in turn
 abbrev pub world_from : Source → World → List ℕ → Option World
 world_from source world [] = Some world
 world_from source world (t ∷ ts) =
-    option_and_then (λ next. world_from source next ts) (step_of source world t)
+    option_and_then (λ next. world_from source next ts) (world_by_step source world t)
 
 -- The world after a schedule, a list of threads, each of which takes its next post's ask in turn.
 -- Nothing where one of them can't.
 abbrev pub world_after : StoreState → Source → List ℕ → Option World
-world_after store source schedule = world_from source (start store) schedule
+world_after store source schedule = world_from source (first_world store) schedule

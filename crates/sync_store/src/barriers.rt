@@ -1,7 +1,7 @@
 ghost use Rattle.std.specs.Prelude.{◌≡◌, ◌<◌, pos, if◌then◌else◌, length, map, IfOk};
 ghost use Rattle.sync_store.specs.Store.{new_barrier, barrier_of, with_barrier};
 ghost use Rattle.sync_store.specs.Enabled.{is_released};
-ghost use Rattle.sync_store.specs.Effect.{arrived_at, left_by, is_serial};
+ghost use Rattle.sync_store.specs.Effect.{after_arrival, after_leaving, is_serial};
 
 use crate::applied::Stepped;
 use crate::release_list::ReleaseList;
@@ -59,7 +59,7 @@ impl Barrier {
     /// The thread arrives. Where it is the last of those that meet, they are all let through.
     pub(crate) fn arrive(&mut self, thread: u32)
         requires { thread < 64 }
-        ensures { self.new ≡ arrived_at thread self.old }
+        ensures { self.new ≡ after_arrival thread self.old }
     {
         self.arrived.add(thread);
         if self.arrived.len() as i64 == self.count {
@@ -71,7 +71,7 @@ impl Barrier {
     /// The thread that was let through leaves. The answer is whether it was the serial one.
     pub(crate) fn leave(&mut self, thread: u32) -> bool
         requires { thread < 64 }
-        ensures left { self.new ≡ left_by thread self.old }
+        ensures left { self.new ≡ after_leaving thread self.old }
         ensures serial { result ≡ is_serial thread self.old.released }
     {
         let serial = self.released.has_serial(thread);
@@ -85,7 +85,7 @@ impl Store {
         requires there { thread < self.old.threads }
         requires barrier { barrier < length self.old.barriers }
         ensures { self.new
-            ≡ with_barrier self.old barrier (arrived_at thread (barrier_of self.old barrier)) }
+            ≡ with_barrier self.old barrier (after_arrival thread (barrier_of self.old barrier)) }
     {
         self.barriers[barrier as usize].arrive(thread);
     }
@@ -94,7 +94,7 @@ impl Store {
         requires there { thread < self.old.threads }
         requires barrier { barrier < length self.old.barriers }
         ensures store { self.new
-            ≡ with_barrier self.old barrier (left_by thread (barrier_of self.old barrier)) }
+            ≡ with_barrier self.old barrier (after_leaving thread (barrier_of self.old barrier)) }
         ensures applied { result ≡ Stepped.Answer
             (if is_serial thread (barrier_of self.old barrier).released then pos 1 else pos 0) }
     {

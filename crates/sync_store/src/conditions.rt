@@ -1,7 +1,8 @@
 ghost use Rattle.std.specs.Prelude.{◌≡◌, ◌<◌, ◌≤◌, [], pos, min, length, replicate, IfOk};
 ghost use Rattle.sync_store.specs.Store.{is_on, new_condition, condition_of, with_condition};
 ghost use Rattle.sync_store.specs.Store.{with_owner};
-ghost use Rattle.sync_store.specs.Effect.{onto, without, all_onto, signalled, effect, store_after};
+ghost use Rattle.sync_store.specs.Effect.{put_last, list_without, put_all_last, after_signal};
+ghost use Rattle.sync_store.specs.Effect.{effect, store_after};
 ghost use Rattle.sync_store.specs.Effect.{applied_of};
 ghost use Rattle.sync_store.specs.Stepped.{applied_by};
 
@@ -57,7 +58,7 @@ impl Condition {
     /// The thread waits for a signal.
     pub(crate) fn wait(&mut self, thread: u32)
         requires { thread < 64 }
-        ensures { self.new ≡ record self.old { waiting = onto thread self.old.waiting } }
+        ensures { self.new ≡ record self.old { waiting = put_last thread self.old.waiting } }
     {
         self.waiting.add(thread);
     }
@@ -65,14 +66,14 @@ impl Condition {
     /// The woken thread goes on.
     pub(crate) fn go_on(&mut self, thread: u32)
         requires { thread < 64 }
-        ensures { self.new ≡ record self.old { woken = without thread self.old.woken } }
+        ensures { self.new ≡ record self.old { woken = list_without thread self.old.woken } }
     {
         self.woken.leave(thread);
     }
 
     /// Wakes the longest waiter. The answer is how many it wakes.
     pub(crate) fn signal(&mut self) -> usize
-        ensures signalled { self.new ≡ signalled self.old.waiting self.old.woken }
+        ensures signalled { self.new ≡ after_signal self.old.waiting self.old.woken }
         ensures woken { result ≡ min 1 (length self.old.waiting) }
     {
         match self.waiting.take_first() {
@@ -87,7 +88,7 @@ impl Condition {
     /// Wakes all waiters. The answer is how many it wakes.
     pub(crate) fn broadcast(&mut self) -> usize
         ensures woken { self.new
-            ≡ record { waiting = []; woken = all_onto self.old.waiting self.old.woken } }
+            ≡ record { waiting = []; woken = put_all_last self.old.waiting self.old.woken } }
         ensures count { result ≡ length self.old.waiting }
         ensures few { result ≤ 64 }
     {
@@ -121,7 +122,7 @@ impl Store {
         ensures { self.new
             ≡ with_condition (with_owner self.old mutex (Some thread)) cond
             (record (condition_of self.old cond) {
-              woken = without thread (condition_of self.old cond).woken;
+              woken = list_without thread (condition_of self.old cond).woken;
             }) }
     {
         self.mutexes.lock(mutex, thread);
@@ -131,7 +132,7 @@ impl Store {
     pub(crate) fn signal(&mut self, cond: u32) -> Stepped
         requires { cond < length self.old.conditions }
         ensures store { self.new ≡ with_condition self.old cond
-            (signalled (condition_of self.old cond).waiting (condition_of self.old cond).woken) }
+            (after_signal (condition_of self.old cond).waiting (condition_of self.old cond).woken) }
         ensures applied { result
             ≡ Stepped.Answer (pos (min 1 (length (condition_of self.old cond).waiting))) }
     {
@@ -144,7 +145,8 @@ impl Store {
             ≡ with_condition self.old cond (record {
               waiting = [];
               woken =
-                  all_onto (condition_of self.old cond).waiting (condition_of self.old cond).woken;
+                  put_all_last (condition_of self.old cond).waiting
+                  (condition_of self.old cond).woken;
             }) }
         ensures applied { result
             ≡ Stepped.Answer (pos (length (condition_of self.old cond).waiting)) }

@@ -1,7 +1,7 @@
 ghost use Rattle.std.specs.Prelude.{◌≡◌, ◌<◌, if◌then◌else◌, is_none, pos, length, replicate};
 ghost use Rattle.std.specs.Prelude.{slice_index_or, slice_set, IfOk};
 ghost use Rattle.sync_store.specs.Store.{owner_of, with_owner};
-ghost use Rattle.sync_store.specs.Effect.{is_thread, effect, store_after, applied_of};
+ghost use Rattle.sync_store.specs.Effect.{is_held_by, effect, store_after, applied_of};
 ghost use Rattle.sync_store.specs.Stepped.{applied_by};
 
 use crate::applied::{Stepped, not_owner};
@@ -42,7 +42,7 @@ impl Mutexes {
 
     pub(crate) fn is_owner(&self, mutex: u32, thread: u32) -> bool
         requires { mutex < length self.now }
-        ensures { result ≡ is_thread thread (slice_index_or self.now mutex None) }
+        ensures { result ≡ is_held_by thread (slice_index_or self.now mutex None) }
     {
         self.owners[mutex as usize] == Some(thread)
     }
@@ -59,7 +59,7 @@ impl Mutexes {
     /// owner.
     pub(crate) fn unlock(&mut self, mutex: u32, thread: u32) -> bool
         requires { mutex < length self.old }
-        ensures owner { result ≡ is_thread thread (slice_index_or self.old mutex None) }
+        ensures owner { result ≡ is_held_by thread (slice_index_or self.old mutex None) }
         ensures owners { self.new ≡ (if result then slice_set self.old mutex None else self.old) }
     {
         let owner = self.is_owner(mutex, thread);

@@ -2,7 +2,7 @@ ghost use Rattle.std.specs.Prelude.{◌≡◌, ◌<◌, ◌+◌, if◌then◌els
 ghost use Rattle.std.specs.Prelude.{length, replicate, slice_index, IfOk, MatchOption};
 ghost use Rattle.sync_store.specs.Store.{new_rwlock, rwlock_of, with_rwlock};
 ghost use Rattle.sync_store.specs.Enabled.{is_unread};
-ghost use Rattle.sync_store.specs.Effect.{max_reads, with_writer, with_reads, unlocked, effect};
+ghost use Rattle.sync_store.specs.Effect.{max_reads, with_writer, with_reads, after_unlock, effect};
 ghost use Rattle.sync_store.specs.Effect.{store_after, applied_of};
 ghost use Rattle.sync_store.specs.Stepped.{applied_by};
 
@@ -96,8 +96,8 @@ impl ReadWriteLock {
     /// nothing changes, where it holds nothing.
     pub(crate) fn unlock(&mut self, thread: u32) -> bool
         requires { thread < length self.old.reads }
-        ensures held { result ≡ is_some (unlocked self.old thread) }
-        ensures lock { MatchOption (unlocked self.old thread) (self.new ≡ self.old)
+        ensures held { result ≡ is_some (after_unlock self.old thread) }
+        ensures lock { MatchOption (after_unlock self.old thread) (self.new ≡ self.old)
             (λ after. self.new ≡ after) }
     {
         if self.writer == Some(thread) {

@@ -1,5 +1,5 @@
 ghost use Rattle.std.specs.Prelude.{◌≡◌, ◌<◌, IfOk};
-ghost use Rattle.sync_store.specs.Store.{first, is_on, sizes_of, sizes_of_deal};
+ghost use Rattle.sync_store.specs.Store.{first_store, is_on, sizes_of, sizes_of_deal};
 ghost use Rattle.sync_store.specs.Effect.{effect, store_after, applied_of};
 ghost use Rattle.sync_store.specs.Stepped.{applied_by};
 
@@ -31,7 +31,7 @@ pub struct Store {
 
 impl Model for Store {
     ghost use Rattle.sync_store.specs.Store.{StoreState};
-    ghost use Rattle.sync_store.specs.Kept.{IsKept};
+    ghost use Rattle.sync_store.specs.Kept.{CountsReads};
 
     ghost Value = { StoreState };
 
@@ -46,13 +46,13 @@ impl Model for Store {
       rwlocks = s.rwlocks.items;
     } };
 
-    ghost invariant = { λ s. IsKept s.threads s.rwlocks.items };
+    ghost invariant = { λ s. CountsReads s.threads s.rwlocks.items };
 }
 
 impl Store {
     /// The store at the start of a run.
     pub fn new(alloc: Global, deal: &Deal) -> Result<Self, NoMemory>
-        ensures first { IfOk result (λ store. store ≡ first deal.now) }
+        ensures first { IfOk result (λ store. store ≡ first_store deal.now) }
         ensures sizes { IfOk result (λ store. sizes_of store ≡ sizes_of_deal deal.now) }
     {
         Ok(Store {

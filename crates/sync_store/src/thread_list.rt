@@ -1,6 +1,6 @@
 ghost use Rattle.std.specs.Prelude.{◌≡◌, ◌<◌, ◌≤◌, [], ◌∷◌, length, IfOk, MatchOption, All};
 ghost use Rattle.sync_store.specs.Store.{is_on};
-ghost use Rattle.sync_store.specs.Effect.{onto, without, all_onto};
+ghost use Rattle.sync_store.specs.Effect.{put_last, list_without, put_all_last};
 
 use std::alloc::{AllocError as NoMemory, Global};
 use std::marker::Model;
@@ -61,7 +61,7 @@ impl ThreadList {
     /// The thread goes last, unless the list has it.
     pub(crate) fn add(&mut self, thread: u32)
         requires { thread < 64 }
-        ensures { self.new ≡ onto thread self.old }
+        ensures { self.new ≡ put_last thread self.old }
     {
         if !self.present[thread as usize] {
             self.present[thread as usize] = true;
@@ -83,7 +83,7 @@ impl ThreadList {
 
     pub(crate) fn leave(&mut self, thread: u32)
         requires { thread < 64 }
-        ensures { self.new ≡ without thread self.old }
+        ensures { self.new ≡ list_without thread self.old }
     {
         self.present[thread as usize] = false;
         self.threads.retain(|other| thread != *other);
@@ -99,7 +99,7 @@ impl ThreadList {
     /// All threads go, in order, to the end of another list.
     pub(crate) fn move_to(&mut self, other: &mut ThreadList)
         ensures here { self.new ≡ [] }
-        ensures there { other.new ≡ all_onto self.old other.old }
+        ensures there { other.new ≡ put_all_last self.old other.old }
     {
         for thread in self.threads.as_slice() {
             other.add(*thread);

@@ -1,7 +1,7 @@
 ghost use Rattle.std.specs.Prelude.{◌≡◌, ◌<◌, ◌+ℤ◌, pos, if◌then◌else◌, Some, None, length};
 ghost use Rattle.std.specs.Prelude.{slice_index_or, slice_set, IfOk};
 ghost use Rattle.std.specs.Ordering.{int_eq};
-ghost use Rattle.sync_store.specs.Store.{value_of, with_value};
+ghost use Rattle.sync_store.specs.Store.{variable_value, with_value};
 ghost use Rattle.sync_store.specs.Effect.{is_i64, effect, store_after, applied_of};
 ghost use Rattle.sync_store.specs.Stepped.{applied_by};
 
@@ -107,10 +107,10 @@ impl Store {
     pub(crate) fn compare_exchange(&mut self, var: u32, old: i64, new: i64) -> Stepped
         requires { var < length self.old.values }
         ensures store { self.new
-            ≡ (if int_eq (value_of self.old var) old then with_value self.old var new
+            ≡ (if int_eq (variable_value self.old var) old then with_value self.old var new
             else self.old) }
         ensures applied { result
-            ≡ Stepped.Answer (if int_eq (value_of self.old var) old then pos 1 else pos 0) }
+            ≡ Stepped.Answer (if int_eq (variable_value self.old var) old then pos 1 else pos 0) }
     {
         Stepped::truth(self.variables.compare_exchange(var, old, new))
     }

@@ -1,6 +1,6 @@
 //! Orders of mutexes, and cycles of nestings, in lists of steps.
 ghost use Rattle.std.specs.Prelude.{IsTrue};
-ghost use Rattle.lock_order.specs.Nestings.{AreInRange, NamesOnly};
+ghost use Rattle.lock_order.specs.Nestings.{AreEventsInRange, EventNamesOnly};
 
 use lock_order::{IdList, LockReport, Nesting, NestingList, check_report, lock_order};
 use pct_ask::{Ask, Deal, Event, Sequence};
@@ -79,7 +79,7 @@ fn events_of(alloc: Global, steps: &[Step]) -> Result<Vec<Event>, AllocError> {
 
 /// Whether the event asks for mutexes alone, and names only what there is.
 fn fits(deal: &Deal, event: &Event) -> bool
-    ensures { IsTrue result → NamesOnly deal.now event.now }
+    ensures { IsTrue result → EventNamesOnly deal.now event.now }
 {
     let within = match event.ask {
         Ask::Lock { mutex } | Ask::TryLock { mutex } | Ask::Unlock { mutex } => mutex
@@ -92,7 +92,7 @@ fn fits(deal: &Deal, event: &Event) -> bool
 }
 
 fn all_fit(deal: &Deal, events: &[Event]) -> bool
-    ensures { IsTrue result → AreInRange deal.now events.now }
+    ensures { IsTrue result → AreEventsInRange deal.now events.now }
 {
     events.iter().all(|event| fits(deal, event))
 }

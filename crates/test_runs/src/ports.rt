@@ -4,7 +4,7 @@ ghost use Rattle.std.specs.Thread.{IsSync};
 ghost use Rattle.turn_lock.specs.Seen.{owes_of};
 ghost use Rattle.turn_lock.specs.Rule.{Serves};
 ghost use Rattle.turn_lock.specs.Calls.{ServesAll};
-ghost use Rattle.turn_lock.specs.Views.{view, IsOf};
+ghost use Rattle.turn_lock.specs.Views.{view, HasSeat};
 ghost use Rattle.test_runs.specs.Seats.{IsReadyFor, IsBackFrom};
 
 use crate::deals::deal_of;
@@ -28,12 +28,12 @@ fn value_of(asked: Asked) -> i64 {
 
 /// A thread of the kit's reads a number, and writes the next.
 fn count<R: Wait>(rt: &R, kit: &Kit, mut seat: Seat<Pct>, thread: u32, line: u32) -> Seat<Pct>
-    requires of { IsOf kit.now seat }
+    requires of { HasSeat kit.now seat }
     requires serves { Serves (view seat) thread }
     requires owes { owes_of (view seat).seen thread ≡ true }
     requires line { line ≤ 8 }
     requires vars { 1 ≤ length (view seat).seen.deal.vars }
-    ensures of { IsOf kit.now result }
+    ensures of { HasSeat kit.now result }
     ensures serves { Serves (view result) thread }
 {
     let mut port = kit.port(&mut seat, thread);
@@ -45,12 +45,12 @@ fn count<R: Wait>(rt: &R, kit: &Kit, mut seat: Seat<Pct>, thread: u32, line: u32
 
 /// A thread of the kit's waits for both counters, and checks the number.
 fn check<R: Wait>(rt: &R, kit: &Kit, mut seat: Seat<Pct>) -> Seat<Pct>
-    requires of { IsOf kit.now seat }
+    requires of { HasSeat kit.now seat }
     requires serves { Serves (view seat) 2 }
     requires owes { owes_of (view seat).seen 2 ≡ true }
     requires vars { 1 ≤ length (view seat).seen.deal.vars }
     requires threads { 2 ≤ (view seat).seen.deal.threads }
-    ensures of { IsOf kit.now result }
+    ensures of { HasSeat kit.now result }
     ensures serves { Serves (view result) 2 }
 {
     let mut port = kit.port(&mut seat, 2);
@@ -91,7 +91,7 @@ fn run_all<R: Threads + Wait + Sync>(
     owned: Kit,
     mut seat: Seat<Pct>,
 ) -> (EventList, Option<Outcome>)
-    requires of { IsOf owned seat }
+    requires of { HasSeat owned seat }
     requires all { ServesAll (view seat) }
     requires owe { (t : ℕ) → owes_of (view seat).seen t ≡ true }
     requires threads { (view seat).seen.deal.threads ≡ 3 }

@@ -4,8 +4,8 @@ ghost use Rattle.std.specs.Thread.{IsSync};
 ghost use Rattle.sync_store.specs.Store.{sizes_of_deal};
 ghost use Rattle.turn_book.specs.Told.{PostIsInRange};
 ghost use Rattle.turn_lock.specs.Rule.{Serves};
-ghost use Rattle.turn_lock.specs.Calls.{made, WaitsForTurn};
-ghost use Rattle.turn_lock.specs.Views.{view, IsOf};
+ghost use Rattle.turn_lock.specs.Calls.{first_book, WaitsForTurn};
+ghost use Rattle.turn_lock.specs.Views.{view, HasSeat};
 
 mod scripts;
 
@@ -38,8 +38,8 @@ struct Bench {
     lock: TurnLock<Pct>,
     seat: Seat<Pct>,
     deal: Deal,
-    ghost of: { IsOf lock seat },
-    ghost made: { (made lock).deal ≡ deal },
+    ghost of: { HasSeat lock seat },
+    ghost made: { (first_book lock).deal ≡ deal },
 }
 
 fn make_bench(alloc: Global, order: &[u32]) -> Result<Bench, Fail>
@@ -111,9 +111,9 @@ fn say<R: Wait>(
     thread: u32,
     had: &mut Had,
 ) -> bool
-    requires of { IsOf lock.now seat.old }
-    requires made { (made lock.now).deal ≡ deal.now }
-    ensures of { IsOf lock.now seat.new }
+    requires of { HasSeat lock.now seat.old }
+    requires made { (first_book lock.now).deal ≡ deal.now }
+    ensures of { HasSeat lock.now seat.new }
 {
     if !seat.serves(thread) || !seat.owes(thread) {
         return true;
@@ -139,9 +139,9 @@ fn say_all<R: Wait>(
     script: Script,
     had: &mut Had,
 ) -> bool
-    requires of { IsOf lock.now seat.old }
-    requires made { (made lock.now).deal ≡ deal.now }
-    ensures of { IsOf lock.now seat.new }
+    requires of { HasSeat lock.now seat.old }
+    requires made { (first_book lock.now).deal ≡ deal.now }
+    ensures of { HasSeat lock.now seat.new }
 {
     for thread in 0..64u32 {
         let post = had.next(script, thread);
@@ -160,9 +160,9 @@ fn play<R: Wait>(
     script: Script,
     mut seat: Seat<Pct>,
 ) -> Seat<Pct>
-    requires of { IsOf lock.now seat }
-    requires made { (made lock.now).deal ≡ deal.now }
-    ensures of { IsOf lock.now result }
+    requires of { HasSeat lock.now seat }
+    requires made { (first_book lock.now).deal ≡ deal.now }
+    ensures of { HasSeat lock.now result }
 {
     let mut had = Had::new();
     for _ in rt.forever() {
@@ -190,9 +190,9 @@ fn play_all<R: Threads + Wait + Sync>(
     mut seat: Seat<Pct>,
     thread: u32,
 ) -> Seat<Pct>
-    requires of { IsOf lock.now seat }
-    requires made { (made lock.now).deal ≡ deal.now }
-    ensures of { IsOf lock.now result }
+    requires of { HasSeat lock.now seat }
+    requires made { (first_book lock.now).deal ≡ deal.now }
+    ensures of { HasSeat lock.now result }
 {
     if thread >= 64 || !seat.serves(thread) {
         return seat;
@@ -201,13 +201,14 @@ fn play_all<R: Threads + Wait + Sync>(
     let (mine, mut rest) = join(
         rt,
         move || -> Seat<Pct>
-            requires { IsSync R.row × IsOf lock.now mine × (made lock.now).deal ≡ deal.now }
-            ensures { IsOf lock.entry.now result }
+            requires { IsSync R.row × HasSeat lock.now mine
+                × (first_book lock.now).deal ≡ deal.now }
+            ensures { HasSeat lock.entry.now result }
         { play(rt, lock, deal, script, mine) },
         move || -> Seat<Pct>
-            requires { IsSync R.row × IsOf lock.now seat × (made lock.now).deal ≡ deal.now
+            requires { IsSync R.row × HasSeat lock.now seat × (first_book lock.now).deal ≡ deal.now
                 × (thread < 64) }
-            ensures { IsOf lock.entry.now result }
+            ensures { HasSeat lock.entry.now result }
         { play_all(rt, lock, deal, script, seat, thread + 1) },
     );
     lock.join(&mut rest, mine);
@@ -235,8 +236,8 @@ fn expect_closed(
     steps: &[Event],
     verdict: Verdict,
 )
-    requires of { IsOf lock seat }
-    requires made { (made lock).deal ≡ deal.now }
+    requires of { HasSeat lock seat }
+    requires made { (first_book lock).deal ≡ deal.now }
 {
     assert!(rt; serves_all(&seat, deal.threads));
     let (events, found) = lock.close(seat).into_parts();
@@ -271,9 +272,9 @@ fn turn(
     thread: u32,
     post: Post,
 ) -> Turn
-    requires of { IsOf lock.now seat.old }
-    requires made { (made lock.now).deal ≡ deal.now }
-    ensures of { IsOf lock.now seat.new }
+    requires of { HasSeat lock.now seat.old }
+    requires made { (first_book lock.now).deal ≡ deal.now }
+    ensures of { HasSeat lock.now seat.new }
 {
     assert!(rt; seat.serves(thread));
     assert!(rt; seat.owes(thread));
@@ -408,12 +409,14 @@ fn two_and_one<R: Threads + Wait + Sync + Abort>(rt: &R, alloc: Global) -> Resul
     let (mine, mut both) = join(
         rt,
         move || -> Seat<Pct>
-            requires { IsSync R.row × IsOf lock.now mine × (made lock.now).deal ≡ deal.now }
-            ensures { IsOf lock.entry.now result }
+            requires { IsSync R.row × HasSeat lock.now mine
+                × (first_book lock.now).deal ≡ deal.now }
+            ensures { HasSeat lock.entry.now result }
         { play(rt, lock, deal, Script::Sums, mine) },
         move || -> Seat<Pct>
-            requires { IsSync R.row × IsOf lock.now seat × (made lock.now).deal ≡ deal.now }
-            ensures { IsOf lock.entry.now result }
+            requires { IsSync R.row × HasSeat lock.now seat
+                × (first_book lock.now).deal ≡ deal.now }
+            ensures { HasSeat lock.entry.now result }
         { play(rt, lock, deal, Script::Sums, seat) },
     );
     lock.join(&mut both, mine);

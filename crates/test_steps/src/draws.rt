@@ -1,5 +1,5 @@
 ghost use Rattle.std.specs.Prelude.{◌≡◌, ◌+◌, ◌≤◌, IfOk};
-ghost use Rattle.priority_draw.specs.Drawing.{drawn};
+ghost use Rattle.priority_draw.specs.Drawing.{draw_of_seed};
 
 use pct_ask::{OrderList, PointList};
 use priority_draw::{Words, declared_order, scale};
@@ -21,8 +21,8 @@ fn draw_both(
     requires few_steps { steps ≤ 100000 }
     requires some_depth { 1 ≤ depth }
     requires low_depth { depth ≤ 8 }
-    ensures order { IfOk result (λ both. both.0 ≡ (drawn seed threads steps depth).order) }
-    ensures points { IfOk result (λ both. both.1 ≡ (drawn seed threads steps depth).points) }
+    ensures order { IfOk result (λ both. both.0 ≡ (draw_of_seed seed threads steps depth).order) }
+    ensures points { IfOk result (λ both. both.1 ≡ (draw_of_seed seed threads steps depth).points) }
 {
     let mut words = Words::of_seed(seed);
     let order = words.draw_order(alloc, threads)?;

@@ -1,6 +1,6 @@
 ghost use Rattle.std.specs.Prelude.{◌≡◌, ℕ, ◌+◌, ◌<◌, ◌≤◌, ◌∷◌, [], ◌++◌, List, length, IsTrue};
 ghost use Rattle.policy_pick.specs.Plan.{SpeaksOf};
-ghost use Rattle.policy_pick.specs.Choice.{choice, TargetsAreAway, IsSound};
+ghost use Rattle.policy_pick.specs.Choice.{choice, TargetsAreAway, IsSoundPick};
 
 use crate::samples::ORDERS;
 use crate::slow::{slow_by_events, slow_by_list, slow_by_points, slow_choice};
@@ -33,7 +33,7 @@ fn step<P: Policy>(policy: &mut P, chances: &[Chance]) -> Pick
     ensures plan { P.plan policy.new ≡ P.plan policy.old }
     ensures picked { (schedule : List ℕ) → P.stands policy.old schedule
         → result ≡ choice (P.plan policy.old) schedule chances.now }
-    ensures sound { IsSound (P.plan policy.old) chances.now result }
+    ensures sound { IsSoundPick (P.plan policy.old) chances.now result }
     ensures stands { (schedule : List ℕ) → P.stands policy.old schedule
         → ((more : List ℕ) × (length more ≤ 1) × P.stands policy.new (schedule ++ more)) }
 {

@@ -3,7 +3,8 @@ ghost use Rattle.std.specs.Prelude.{◌≡◌, ℕ, ◌+◌, ◌-◌, ◌<◌, �
 ghost use Rattle.std.specs.Prelude.{map, slice_index, slice_get, IfOk, IfSome};
 ghost use Rattle.std.specs.List.{position_or_len, All, find, range_with_len};
 ghost use Rattle.rank_now.specs.declared.moment.Moment.{Moment};
-ghost use Rattle.rank_now.specs.Rank.{place_of, last_change, rank_by, index_of_point, own_steps};
+ghost use Rattle.rank_now.specs.Rank.{place_in_order, last_change, rank_by, index_of_point};
+ghost use Rattle.rank_now.specs.Rank.{own_steps};
 ghost use Rattle.rank_now.specs.Rank.{is_moment, index_of_moment, threads_of, ranks};
 ghost use Rattle.rank_now.specs.Rank.{ranks_by_events};
 ghost use Rattle.policy_pick.specs.Choice.{is_open, pick_at, chance_of, is_highest};
@@ -70,7 +71,7 @@ fn slow_moment(events: &[Moment], schedule: &[u32], place: usize) -> u32
 
 fn slow_place(order: &[u32], thread: u32) -> u32
     requires { length order.now ≤ 64 }
-    ensures { result ≡ place_of order.now thread }
+    ensures { result ≡ place_in_order order.now thread }
 {
     for (place, other) in order.iter().enumerate() {
         if *other == thread {

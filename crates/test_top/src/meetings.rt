@@ -2,7 +2,7 @@
 ghost use Rattle.std.specs.Prelude.{◌≡◌, map, IfOk};
 ghost use Rattle.script_code.specs.FlatPosts.{flat_pending};
 ghost use Rattle.script_code.specs.Listing.{listing};
-ghost use Rattle.script_body.specs.BodyPosts.{pending_of};
+ghost use Rattle.script_body.specs.BodyPosts.{pending_of_body};
 
 use crate::calls::{ADDERS, Given, IN_ORDER, SOUND, SUM, expect_gated};
 use pct_ask::{Ask, Body, Event, Outcome, Post, Verdict};
@@ -65,9 +65,9 @@ struct Looker<'c, 'f> {
 }
 
 impl<'c, 'f> Body for Looker<'c, 'f> {
-    ghost use Rattle.script_body.specs.BodyPosts.{pending_of};
+    ghost use Rattle.script_body.specs.BodyPosts.{pending_of_body};
 
-    ghost pending = { λ b. pending_of b.body };
+    ghost pending = { λ b. pending_of_body b.body };
 
     fn post(&self) -> Post {
         if self.answers == self.after {
@@ -118,7 +118,7 @@ fn lookers<'c, 'f>(
     second: &'f Flag,
 ) -> Result<Vec<Looker<'c, 'f>>, NoMemory>
     ensures { IfOk result (λ bodies.
-        map (λ b. pending_of b.body) bodies.items ≡ map flat_pending (listing code.now)) }
+        map (λ b. pending_of_body b.body) bodies.items ≡ map flat_pending (listing code.now)) }
 {
     let mut lookers = Vec::new(alloc);
     for thread in 0..code.threads() {

@@ -14,10 +14,11 @@ use Rattle.pct_ask.specs.declared.names.NameKind.TheVariants as kinds
 use Rattle.pct_ask.specs.declared.ask.FaultKind.{FaultKind}
 use Rattle.pct_ask.specs.declared.ask.Ask.{Ask}
 use Rattle.pct_ask.specs.declared.ask.Ask.TheVariants as asks
-use Rattle.trace_text.specs.reader.Numbers.{value_of}
+use Rattle.trace_text.specs.reader.Numbers.{i64_in}
 use Rattle.trace_text.specs.reader.Asks.{has_form, object_at, object, kind_of, ask_of, bare_ask}
-use Rattle.trace_text.specs.reader.Asks.{holds_of, with_operand, plain_ask, on_object, ask_by}
-use Rattle.trace_text.specs.reader.Asks.{ask_on_one, with_value, on_both, ask_on_two, exchange}
+use Rattle.trace_text.specs.reader.Asks.{holds_of, with_operand, plain_ask, on_object, ask_on_kind}
+use Rattle.trace_text.specs.reader.Asks.{ask_on_one, ask_with_value, on_both_objects, ask_on_two}
+use Rattle.trace_text.specs.reader.Asks.{exchange}
 use Rattle.trace_text.specs.reader.Asks.{ask_on_three}
 use Rattle.trace_text.specs.declared.asks.WordsRead.{WordsRead}
 use Rattle.trace_text.specs.declared.asks.WordsRead.TheVariants.{Is, NoForm, UnknownName}
@@ -228,7 +229,7 @@ place-inv ask UnknownName read h form = (refl, λ unknown. refl)
 
 on-form : (names : NameLists) (version : ℕ) (kind : NameKind) (word operand : List ℕ)
     (read : WordsRead Ask) → 1 ≤ version → kind_of version word ≡ Some kind
-    → ask_by names (Some kind) word operand ≡ read → has_form read ≡ true
+    → ask_on_kind names (Some kind) word operand ≡ read → has_form read ≡ true
     → IsAskWords names version (word ∷ operand ∷ []) read
 on-form names version kind word operand read some k h form =
     let m = place-inv (ask_of kind word) (object names kind operand) read h form in
@@ -249,20 +250,21 @@ unfolding ask_on_one
 one-form names version word operand read some h form = by (kind_of version word) refl h
   where
     by : (kind : Option NameKind) → kind_of version word ≡ kind
-        → ask_by names kind word operand ≡ read
+        → ask_on_kind names kind word operand ≡ read
         → IsAskWords names version (word ∷ operand ∷ []) read
     by None k b = plain-form names version word operand read b form
     by (Some kind) k b = on-form names version kind word operand read some k b form
 
 value-inv : (ask : ℕ → ℤ → Ask) (place : WordsRead ℕ) (value : Option ℤ) (read : WordsRead Ask)
-    → with_value ask place value ≡ read → has_form read ≡ true
+    → ask_with_value ask place value ≡ read → has_form read ≡ true
     → (v : ℤ) × (value ≡ Some v) × (has_form place ≡ true) × (read ≡ UnknownName
     → place ≡ UnknownName)
 value-inv ask place None read h form = absurd (no-form read h form)
 value-inv ask place (Some v) read h form = let m =
     place-inv (λ x. ask x v) place read h form in (v, refl, m.0, m.1)
 
-both-inv : (ask : ℕ → ℕ → Ask) (c m : WordsRead ℕ) (read : WordsRead Ask) → on_both ask c m ≡ read
+both-inv : (ask : ℕ → ℕ → Ask) (c m : WordsRead ℕ) (read : WordsRead Ask)
+    → on_both_objects ask c m ≡ read
     → has_form read ≡ true → (has_form c ≡ true) × (has_form m ≡ true) × (read ≡ UnknownName
     → (c ≡ UnknownName) ⊎ (m ≡ UnknownName))
 both-inv ask NoForm m read h form = absurd (no-form read h form)
@@ -282,13 +284,14 @@ two-by : (names : NameLists) (version : ℕ) (word a b : List ℕ) (read : Words
     (w p r g : Bool) → has_form read ≡ true → bytes_eq word (codes "write") ≡ w
     → bytes_eq word (codes "add") ≡ p → bytes_eq word (codes "release") ≡ r
     → bytes_eq word (codes "regain") ≡ g
-    → (if w then with_value asks.Write (object names kinds.Var a) (value_of b) else
-    (if p then with_value asks.Add (object names kinds.Var a) (value_of b) else
-    (if r then on_both asks.Release (object names kinds.Cond a) (object names kinds.Mutex b)
-    else (if g then on_both asks.Regain (object names kinds.Cond a) (object names kinds.Mutex b)
+    → (if w then ask_with_value asks.Write (object names kinds.Var a) (i64_in b) else
+    (if p then ask_with_value asks.Add (object names kinds.Var a) (i64_in b) else
+    (if r then on_both_objects asks.Release (object names kinds.Cond a) (object names kinds.Mutex b)
+    else (if g
+    then on_both_objects asks.Regain (object names kinds.Cond a) (object names kinds.Mutex b)
     else NoForm)))) ≡ read → IsAskWords names version (word ∷ a ∷ b ∷ []) read
 two-by names version word a b read true p r g form ew ep er eg h =
-    let i = value-inv asks.Write (object names kinds.Var a) (value_of b) read h form in
+    let i = value-inv asks.Write (object names kinds.Var a) (i64_in b) read h form in
     let o = object-inv names kinds.Var a i.2 in
     let v = Some-value_of b i.0 i.1 in
     record {
@@ -300,7 +303,7 @@ two-by names version word a b read true p r g form ew ep er eg h =
       unknown = λ unknown. o.1 (i.3 unknown);
     }
 two-by names version word a b read false true r g form ew ep er eg h =
-    let i = value-inv asks.Add (object names kinds.Var a) (value_of b) read h form in
+    let i = value-inv asks.Add (object names kinds.Var a) (i64_in b) read h form in
     let o = object-inv names kinds.Var a i.2 in
     let v = Some-value_of b i.0 i.1 in
     record {
@@ -360,10 +363,10 @@ exchange-inv place (Some u) (Some v) read h form = let m =
 
 three-by : (names : NameLists) (version : ℕ) (word a b c : List ℕ) (read : WordsRead Ask) (w : Bool)
     → has_form read ≡ true → bytes_eq word (codes "cas") ≡ w
-    → (if w then exchange (object names kinds.Var a) (value_of b) (value_of c) else NoForm) ≡ read
+    → (if w then exchange (object names kinds.Var a) (i64_in b) (i64_in c) else NoForm) ≡ read
     → IsAskWords names version (word ∷ a ∷ b ∷ c ∷ []) read
 three-by names version word a b c read true form ew h =
-    let i = exchange-inv (object names kinds.Var a) (value_of b) (value_of c) read h form in
+    let i = exchange-inv (object names kinds.Var a) (i64_in b) (i64_in c) read h form in
     let o = object-inv names kinds.Var a i.4 in
     let u = Some-value_of b i.0 i.2 in
     let v = Some-value_of c i.1 i.3 in
@@ -416,7 +419,8 @@ on-read names version verb object which of =
     let place = place_of object (list_of kind names) in
     record {
       read = on_object (ask_of kind (verb_word verb)) (object_at place);
-      is = ap (λ kd. ask_by names kd (verb_word verb) object) (kind-verb version verb which of.0)
+      is = ap (λ kd. ask_on_kind names kd (verb_word verb) object)
+          (kind-verb version verb which of.0)
           ∙ ap (on_object (ask_of kind (verb_word verb))) (object-lawful names kind object of.1);
       form = placed-ask (ask_of kind (verb_word verb)) place;
       unknown = λ none. ap (λ (p : Option ℕ). on_object (ask_of kind (verb_word verb))
@@ -451,14 +455,14 @@ cas-read names version var old new of = record {
 }
 
 both-form : (ask : ℕ → ℕ → Ask) (x y : Option ℕ)
-    → has_form (on_both ask (object_at x) (object_at y)) ≡ true
+    → has_form (on_both_objects ask (object_at x) (object_at y)) ≡ true
 both-form ask None None = refl
 both-form ask None (Some y) = refl
 both-form ask (Some x) None = refl
 both-form ask (Some x) (Some y) = refl
 
 none-both : (ask : ℕ → ℕ → Ask) (x y : Option ℕ) → (x ≡ None) ⊎ (y ≡ None)
-    → on_both ask (object_at x) (object_at y) ≡ UnknownName
+    → on_both_objects ask (object_at x) (object_at y) ≡ UnknownName
 none-both ask None None none = refl
 none-both ask None (Some y) none = refl
 none-both ask (Some x) None none = refl
@@ -468,7 +472,7 @@ none-both ask (Some x) (Some y) (inr none) = absurd cc
 release-read : (names : NameLists) (version : ℕ) (cond mutex : List ℕ) → IsAskOf version (forms.Release cond mutex) → IsAskRead names version (forms.Release cond mutex)
 unfolding ask_on_two
 release-read names version cond mutex of = record {
-  read = on_both asks.Release (object_at (place_of cond names.conds))
+  read = on_both_objects asks.Release (object_at (place_of cond names.conds))
       (object_at (place_of mutex names.mutexes));
   is = rw (object-lawful names kinds.Cond cond of.0, object-lawful names kinds.Mutex mutex of.1);
   form = both-form asks.Release (place_of cond names.conds) (place_of mutex names.mutexes);
@@ -478,7 +482,7 @@ release-read names version cond mutex of = record {
 regain-read : (names : NameLists) (version : ℕ) (cond mutex : List ℕ) → IsAskOf version (forms.Regain cond mutex) → IsAskRead names version (forms.Regain cond mutex)
 unfolding ask_on_two
 regain-read names version cond mutex of = record {
-  read = on_both asks.Regain (object_at (place_of cond names.conds))
+  read = on_both_objects asks.Regain (object_at (place_of cond names.conds))
       (object_at (place_of mutex names.mutexes));
   is = rw (object-lawful names kinds.Cond cond of.0, object-lawful names kinds.Mutex mutex of.1);
   form = both-form asks.Regain (place_of cond names.conds) (place_of mutex names.mutexes);

@@ -17,10 +17,12 @@ use Rattle.pct_ask.specs.declared.ask.FaultKind.TheVariants.{Overflow, ZeroDivis
 use Rattle.pct_ask.specs.declared.ask.Ask.{Ask}
 use Rattle.pct_ask.specs.declared.ask.Ask.TheVariants.{Read, Write, Add, Cas, Lock, TryLock, Unlock, Release, Regain, Signal, Broadcast, Down, TryDown, Up, Arrive, Leave, Join, Yield, Check, Fault, Start, Begin, RdLock, WrLock, TryRdLock, TryWrLock, RwUnlock}
 use Rattle.trace_text.specs.Lawful.{IsAsk, IsValue}
-use Rattle.trace_text.specs.reader.Numbers.{value_of}
+use Rattle.trace_text.specs.reader.Numbers.{i64_in}
 use Rattle.trace_text.specs.reader.Asks.{object, object_words, kind_of, ask_of, bare_ask, holds_of}
-use Rattle.trace_text.specs.reader.Asks.{with_operand, plain_ask, on_object, ask_by, ask_on_one}
-use Rattle.trace_text.specs.reader.Asks.{with_value, on_both, ask_on_two, exchange, ask_on_three}
+use Rattle.trace_text.specs.reader.Asks.{with_operand, plain_ask, on_object, ask_on_kind}
+use Rattle.trace_text.specs.reader.Asks.{ask_on_one}
+use Rattle.trace_text.specs.reader.Asks.{ask_with_value, on_both_objects, ask_on_two, exchange}
+use Rattle.trace_text.specs.reader.Asks.{ask_on_three}
 use Rattle.trace_text.specs.declared.asks.WordsRead.{WordsRead}
 use Rattle.trace_text.specs.declared.asks.WordsRead.TheVariants.{Is, NoForm, UnknownName}
 use Rattle.trace_text.proofs.Names.{object-known, known-object}
@@ -178,7 +180,7 @@ plain-by names version word operand ask false true ea eb h =
 plain-by names version word operand ask false false ea eb h = absurd cc
 
 one-by : (names : NameLists) (version : ℕ) (kind : Option NameKind) (word operand : List ℕ)
-    (ask : Ask) → kind_of version word ≡ kind → ask_by names kind word operand ≡ Is ask
+    (ask : Ask) → kind_of version word ≡ kind → ask_on_kind names kind word operand ≡ Is ask
     → IsTold names version (word ∷ operand ∷ []) ask
 one-by names version None word operand ask k h = plain-by names version word operand ask (bytes_eq word (codes "check")) (bytes_eq word (codes "fault")) refl refl h
 one-by names version (Some kind) word operand ask k h =
@@ -194,13 +196,13 @@ unfolding ask_on_one
 one-told names version word operand ask h = one-by names version (kind_of version word) word operand ask refl h
 
 value-told : (ask : ℕ → ℤ → Ask) (place : WordsRead ℕ) (value : Option ℤ) (told : Ask)
-    → with_value ask place value ≡ Is told → (x : ℕ) × (v : ℤ) × (place ≡ Is x) × (value ≡ Some
+    → ask_with_value ask place value ≡ Is told → (x : ℕ) × (v : ℤ) × (place ≡ Is x) × (value ≡ Some
     v) × (ask x v ≡ told)
 value-told ask place None told h = absurd cc
 value-told ask place (Some v) told h = let i =
     object-told (λ x. ask x v) place told h in (i.0, v, i.1, refl, i.2)
 
-both-told : (ask : ℕ → ℕ → Ask) (c m : WordsRead ℕ) (told : Ask) → on_both ask c m ≡ Is told
+both-told : (ask : ℕ → ℕ → Ask) (c m : WordsRead ℕ) (told : Ask) → on_both_objects ask c m ≡ Is told
     → (x : ℕ) × (y : ℕ) × (c ≡ Is x) × (m ≡ Is y) × (ask x y ≡ told)
 both-told ask NoForm m told h = absurd cc
 both-told ask UnknownName (Is y) told h = absurd cc
@@ -211,18 +213,19 @@ both-told ask (Is x) UnknownName told h = absurd cc
 both-told ask (Is x) (Is y) told h = (x, y, refl, refl, is_is (ask x y) told h)
 
 two-by : (names : NameLists) (version : ℕ) (word a b : List ℕ) (ask : Ask) (w p r g : Bool) → bytes_eq word (codes "write") ≡ w → bytes_eq word (codes "add") ≡ p → bytes_eq word (codes "release") ≡ r → bytes_eq word (codes "regain") ≡ g
-    → (if w then with_value Write (object names Var a) (value_of b) else
-    (if p then with_value Add (object names Var a) (value_of b) else
-    (if r then on_both Release (object names Cond a) (object names Mutex b) else
-    (if g then on_both Regain (object names Cond a) (object names Mutex b) else NoForm)))) ≡ Is
+    → (if w then ask_with_value Write (object names Var a) (i64_in b) else
+    (if p then ask_with_value Add (object names Var a) (i64_in b) else
+    (if r then on_both_objects Release (object names Cond a) (object names Mutex b) else
+    (if g then on_both_objects Regain (object names Cond a) (object names Mutex b) else NoForm))))
+    ≡ Is
     ask → IsTold names version (word ∷ a ∷ b ∷ []) ask
 two-by names version word a b ask true p r g ew ep er eg h =
-    let i = value-told Write (object names Var a) (value_of b) ask h in
+    let i = value-told Write (object names Var a) (i64_in b) ask h in
     let at = known-object names Var a i.0 i.2 in
     let v = Some-value_of b i.1 i.3 in
     same-told names version (word ∷ a ∷ b ∷ []) (codes "write" ∷ get_or names.vars i.0 [] ∷ number_text i.1 ∷ []) ask (Write i.0 i.1) (triple word a b (codes "write") (get_or names.vars i.0 []) (number_text i.1) (sym (same-word word (codes "write") ew)) at.1 (sym v.0)) i.4 (record { words_are = refl; lawful = (at.0, v.1) })
 two-by names version word a b ask false true r g ew ep er eg h =
-    let i = value-told Add (object names Var a) (value_of b) ask h in
+    let i = value-told Add (object names Var a) (i64_in b) ask h in
     let at = known-object names Var a i.0 i.2 in
     let v = Some-value_of b i.1 i.3 in
     same-told names version (word ∷ a ∷ b ∷ []) (codes "add" ∷ get_or names.vars i.0 [] ∷ number_text i.1 ∷ []) ask (Add i.0 i.1) (triple word a b (codes "add") (get_or names.vars i.0 []) (number_text i.1) (sym (same-word word (codes "add") ep)) at.1 (sym v.0)) i.4 (record { words_are = refl; lawful = (at.0, v.1) })
@@ -253,10 +256,10 @@ exchange-told place (Some u) (Some v) told h = let i =
     object-told (λ x. Cas x u v) place told h in (i.0, u, v, i.1, refl, refl, i.2)
 
 three-by : (names : NameLists) (version : ℕ) (word a b c : List ℕ) (ask : Ask) (w : Bool)
-    → bytes_eq word (codes "cas") ≡ w → (if w then exchange (object names Var a) (value_of b)
-    (value_of c) else NoForm) ≡ Is ask → IsTold names version (word ∷ a ∷ b ∷ c ∷ []) ask
+    → bytes_eq word (codes "cas") ≡ w → (if w then exchange (object names Var a) (i64_in b)
+    (i64_in c) else NoForm) ≡ Is ask → IsTold names version (word ∷ a ∷ b ∷ c ∷ []) ask
 three-by names version word a b c ask true ew h =
-    let i = exchange-told (object names Var a) (value_of b) (value_of c) ask h in
+    let i = exchange-told (object names Var a) (i64_in b) (i64_in c) ask h in
     let at = known-object names Var a i.0 i.3 in
     let u = Some-value_of b i.1 i.4 in
     let v = Some-value_of c i.2 i.5 in
@@ -279,7 +282,7 @@ one-known : (names : NameLists) (version : ℕ) (kind : NameKind) (word : List �
 unfolding ask_on_one
 one-known names version kind word id sound k h =
     let at = object-known names kind id sound h in
-    ap (λ kd. ask_by names kd word (get_or (list_of kind names) id [])) k ∙ rw at
+    ap (λ kd. ask_on_kind names kd word (get_or (list_of kind names) id [])) k ∙ rw at
 
 pub second : (version : ℕ) (word : List ℕ) (kind : Option NameKind) → version ≡ 2 → kind_of 2 word ≡ kind → kind_of version word ≡ kind
 second version word kind two k = ap (λ v. kind_of v word) two ∙ k
@@ -293,7 +296,7 @@ ask_in names version (word ∷ a ∷ b ∷ c ∷ []) = ask_on_three names word a
 ask_in names version words = NoForm
 
 changed : (names : NameLists) (x : ℕ) (value : ℤ) → AreNames names → x < length names.vars
-    → IsValue value → (object names Var (get_or names.vars x []) ≡ Is x) × (value_of
+    → IsValue value → (object names Var (get_or names.vars x []) ≡ Is x) × (i64_in
     (number_text value) ≡ Some value)
 changed names x value sound h v = (object-known names Var x sound h, value_of-Some value v)
 
@@ -331,7 +334,7 @@ plain-known : (names : NameLists) (version : ℕ) (word operand : List ℕ) (ask
     → kind_of version word ≡ None → plain_ask word operand ≡ Is ask
     → ask_on_one names version word operand ≡ Is ask
 unfolding ask_on_one
-plain-known names version word operand ask k h = ap (λ kd. ask_by names kd word operand) k ∙ h
+plain-known names version word operand ask k h = ap (λ kd. ask_on_kind names kd word operand) k ∙ h
 
 pub no-kind : (b : Bool) → (if◌then◌else◌ {A = Option NameKind} (b && false) (Some RwLock) None) ≡ None
 no-kind true = refl

@@ -8,7 +8,7 @@ use Rattle.pct_ask.specs.declared.event.Event.{Event}
 use Rattle.pct_ask.specs.declared.verdict.Verdict.{Verdict}
 use Rattle.trace_text.specs.Lines.{pieces_of, is_empty}
 use Rattle.trace_text.specs.reader.StepLines.{row_of}
-use Rattle.trace_text.specs.reader.Reading.{Fault, Body, unended_fault, judged, with_event, closed, after_line, body_of}
+use Rattle.trace_text.specs.reader.Reading.{Fault, Body, unended_fault, line_or_fault, with_event, body_at_verdict, body_from_line, body_of}
 use Rattle.trace_text.specs.reader.Seen.{pieces_after}
 use Rattle.trace_text.specs.declared.row.Row.{Row}
 use Rattle.trace_text.specs.declared.row.Row.TheVariants.{Step, End}
@@ -37,7 +37,7 @@ line_then line (Err kind) after others = Err (line, kind)
 line_then line (Ok (sound.Step event)) after others = with_event event others
 line_then line (Ok (sound.Last verdict)) after others = if is_empty after then Ok ([], verdict) else Err (line + 1, MoreAfterVerdict)
 
-closed-more : (t : Bool) (line : ℕ) (verdict : Verdict) (b : ℕ) (bs piece : List ℕ) (pieces : List (List ℕ)) → cond t ([] ∷ pieces_of bs) (onto_first b (pieces_of bs)) ≡ piece ∷ pieces → closed line verdict piece pieces ≡ Err (line, MoreAfterVerdict)
+closed-more : (t : Bool) (line : ℕ) (verdict : Verdict) (b : ℕ) (bs piece : List ℕ) (pieces : List (List ℕ)) → cond t ([] ∷ pieces_of bs) (onto_first b (pieces_of bs)) ≡ piece ∷ pieces → body_at_verdict line verdict piece pieces ≡ Err (line, MoreAfterVerdict)
 closed-more true line verdict b bs piece pieces is =
     let some = pieces_of-some bs in
     let first : [] ≡ piece = cc in
@@ -49,27 +49,27 @@ closed-more false line verdict b bs piece pieces is =
     let first : b ∷ some.0 ≡ piece = cc in
     rw (← first)
 
-closed-after : (line : ℕ) (verdict : Verdict) (after piece : List ℕ) (pieces : List (List ℕ)) → pieces_of after ≡ piece ∷ pieces → closed line verdict piece pieces ≡ (if is_empty after then Ok ([], verdict) else Err (line, MoreAfterVerdict))
+closed-after : (line : ℕ) (verdict : Verdict) (after piece : List ℕ) (pieces : List (List ℕ)) → pieces_of after ≡ piece ∷ pieces → body_at_verdict line verdict piece pieces ≡ (if is_empty after then Ok ([], verdict) else Err (line, MoreAfterVerdict))
 closed-after line verdict [] piece pieces is =
     let first : [] ≡ piece = cc in
     let others : [] ≡ pieces = cc in
     rw (← first, ← others)
 closed-after line verdict (b ∷ bs) piece pieces is = closed-more (b == 10) line verdict b bs piece pieces is
 
-line-after : (line : ℕ) (read : Result Sound TraceFault) (after piece : List ℕ) (pieces : List (List ℕ)) (others : Result Body Fault) → pieces_of after ≡ piece ∷ pieces → after_line line read piece pieces others ≡ line_then line read after others
+line-after : (line : ℕ) (read : Result Sound TraceFault) (after piece : List ℕ) (pieces : List (List ℕ)) (others : Result Body Fault) → pieces_of after ≡ piece ∷ pieces → body_from_line line read piece pieces others ≡ line_then line read after others
 line-after line (Err kind) after piece pieces others is = refl
 line-after line (Ok (sound.Step event)) after piece pieces others is = refl
 line-after line (Ok (sound.Last verdict)) after piece pieces others is = closed-after (line + 1) verdict after piece pieces is
 
 -- a line that has its LF
-pub body-line : (names : NameLists) (version limit next : ℕ) (pieces : List (List ℕ)) (text after : List ℕ) (row : Option Row) → pieces ≡ text ∷ pieces_of after → row ≡ row_of names version text → body_of names version limit next pieces ≡ line_then (next + 4) (judged limit next row) after (body_of names version limit (next + 1) (pieces_of after))
+pub body-line : (names : NameLists) (version limit next : ℕ) (pieces : List (List ℕ)) (text after : List ℕ) (row : Option Row) → pieces ≡ text ∷ pieces_of after → row ≡ row_of names version text → body_of names version limit next pieces ≡ line_then (next + 4) (line_or_fault limit next row) after (body_of names version limit (next + 1) (pieces_of after))
 body-line names version limit next pieces text after row is says =
     let some = pieces_of-some after in
     let whole : pieces ≡ text ∷ some.0 ∷ some.1 = is ∙ ap (λ ps. text ∷ ps) some.2 in
     ap (body_of names version limit next) whole
-    ∙ line-after (next + 4) (judged limit next (row_of names version text)) after some.0 some.1 (body_of names version limit (next + 1) (some.0 ∷ some.1)) some.2
-    ∙ ap (λ ps. line_then (next + 4) (judged limit next (row_of names version text)) after (body_of names version limit (next + 1) ps)) (sym some.2)
-    ∙ ap (λ r. line_then (next + 4) (judged limit next r) after (body_of names version limit (next + 1) (pieces_of after))) (sym says)
+    ∙ line-after (next + 4) (line_or_fault limit next (row_of names version text)) after some.0 some.1 (body_of names version limit (next + 1) (some.0 ∷ some.1)) some.2
+    ∙ ap (λ ps. line_then (next + 4) (line_or_fault limit next (row_of names version text)) after (body_of names version limit (next + 1) ps)) (sym some.2)
+    ∙ ap (λ r. line_then (next + 4) (line_or_fault limit next r) after (body_of names version limit (next + 1) (pieces_of after))) (sym says)
 
 -- a line that lacks its LF
 pub body-unended : (names : NameLists) (version limit next : ℕ) (pieces : List (List ℕ)) (text : List ℕ) (row : Option Row) → pieces ≡ text ∷ [] → row ≡ row_of names version text → body_of names version limit next pieces ≡ Err (next + 4, unended_fault limit row text)
@@ -82,7 +82,7 @@ cut-whole : (pieces : List (List ℕ)) (text : List ℕ) (rest : Option (Bor (Li
 cut-whole pieces text rest after is some = is ∙ ap (λ r. text ∷ pieces_after r) some
 
 -- a line that has its LF, after the steps before
-pub body-read : (names : NameLists) (version limit next : ℕ) (events : List Event) (pieces : List (List ℕ)) (text : List ℕ) (rest : Option (Bor (List ℕ))) (after : Bor (List ℕ)) (row : Option Row) (read : Result Sound TraceFault) (start : Result Body Fault) → with_events events (body_of names version limit next pieces) ≡ start → pieces ≡ text ∷ pieces_after rest → rest ≡ Some after → row ≡ row_of names version text → judged limit next row ≡ read
+pub body-read : (names : NameLists) (version limit next : ℕ) (events : List Event) (pieces : List (List ℕ)) (text : List ℕ) (rest : Option (Bor (List ℕ))) (after : Bor (List ℕ)) (row : Option Row) (read : Result Sound TraceFault) (start : Result Body Fault) → with_events events (body_of names version limit next pieces) ≡ start → pieces ≡ text ∷ pieces_after rest → rest ≡ Some after → row ≡ row_of names version text → line_or_fault limit next row ≡ read
     → start ≡ with_events events (line_then (next + 4) read after.now (body_of names version limit (next + 1) (pieces_of after.now)))
 body-read names version limit next events pieces text rest after row read start same is some says judge =
     sym same
@@ -109,7 +109,7 @@ past-unknown true other h = cc
 past-unknown false other h = cc
 
 -- a sound step is within the limit
-pub judged-within : (limit next : ℕ) (row : Option Row) (event : Event) → judged limit next row ≡ Ok (sound.Step event) → next ≤ limit
+pub judged-within : (limit next : ℕ) (row : Option Row) (event : Event) → line_or_fault limit next row ≡ Ok (sound.Step event) → next ≤ limit
 judged-within limit next None event h = absurd cc
 judged-within limit next (Some (Step number None)) event h = absurd (past-unknown (nat_lt limit number) event h)
 judged-within limit next (Some (Step number (Some e))) event h = within-by (nat_lt limit number) (number == next) limit next number e event refl refl h

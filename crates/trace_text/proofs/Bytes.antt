@@ -11,7 +11,7 @@ use Rattle.pct_ask.specs.Characters.{is_letter, is_digit, is_word_byte}
 use Rattle.pct_ask.specs.Words.{is_name, is_among, keywords, registers}
 use Rattle.pct_ask.specs.Numbers.{number_text}
 use Rattle.pct_ask.specs.NameLists.{NameLists, list_of, AreNames}
-use Rattle.pct_ask.specs.VerdictText.{NamedVerdict, NamedPassed, NamedFailed, NamedStuck, NamedMisuse, NamedFault, NamedCut, misuse_word, fault_word, place_words, verdict_words, IsPlace, IsForm}
+use Rattle.pct_ask.specs.VerdictText.{NamedVerdict, NamedPassed, NamedFailed, NamedStuck, NamedMisuse, NamedFault, NamedCut, misuse_word, fault_word, place_words, verdict_words, IsPlace, IsVerdictForm}
 use Rattle.pct_ask.specs.TraceText.{ask_words, check_word, event_words}
 use Rattle.pct_ask.specs.declared.names.NameKind.{NameKind}
 use Rattle.pct_ask.specs.declared.names.NameKind.TheVariants.{Thread, Var, Mutex, Cond, Sem, Barrier, RwLock}
@@ -197,7 +197,7 @@ places-high (p ∷ ps) all =
     let here = place-high p.0 p.1 (All-head IsPlace p ps all) in
     (here.0, (here.1.0, places-high ps (All-tail IsPlace p ps all)))
 
-pub form-high : (names : NameLists) (verdict : NamedVerdict) → IsForm names verdict → AreHigh (verdict_words verdict)
+pub form-high : (names : NameLists) (verdict : NamedVerdict) → IsVerdictForm names verdict → AreHigh (verdict_words verdict)
 form-high names NamedPassed form = (high-by (codes "passed") refl, tt)
 form-high names (NamedFailed name line) form = (high-by (codes "failed") refl, place-high name line form)
 form-high names (NamedStuck places) form = (high-by (codes "stuck") refl, places-high places form.1)

@@ -12,7 +12,7 @@ use Rattle.std.proofs.lemmas.Slice.Eq.{bytes_eq-Decides, ends_is}
 use Rattle.std.proofs.lemmas.Str.Parse.{digit_from_value}
 use Rattle.pct_ask.specs.NameLists.{NameLists, AreNames}
 use Rattle.pct_ask.specs.VerdictText as verdicts
-use Rattle.pct_ask.specs.VerdictText.{NamedVerdict, NamedPassed, NamedFailed, NamedStuck, NamedMisuse, NamedFault, NamedCut, misuse_word, fault_word, place_words, verdict_words, named_text, named, IsPlace}
+use Rattle.pct_ask.specs.VerdictText.{NamedVerdict, NamedPassed, NamedFailed, NamedStuck, NamedMisuse, NamedFault, NamedCut, misuse_word, fault_word, place_words, verdict_words, named_text, named_verdict, IsPlace}
 use Rattle.pct_ask.specs.VerdictRead.{ReadsAs}
 use Rattle.pct_ask.specs.VerdictWords.{words_of, verdict_of_words}
 use Rattle.pct_ask.specs.declared.ask.FaultKind.{FaultKind}
@@ -27,7 +27,7 @@ use Rattle.pct_ask.proofs.laws.VerdictsRead.{ReadsAs-words, ReadsAs-only}
 use Rattle.pct_ask.proofs.laws.SplitWords.{join-words_of, words_of-join}
 use Rattle.trace_text.specs.Lawful.{is_of_second}
 use Rattle.trace_text.specs.reader.StepLines.{step_of_words, tells_reads, end_of, row_of}
-use Rattle.trace_text.specs.Forms.{verdict_since, words_of_form, IsOf, HasUnknown}
+use Rattle.trace_text.specs.Forms.{verdict_since, words_of_form, IsLineOf, HasUnknown}
 use Rattle.trace_text.specs.Forms as forms
 use Rattle.trace_text.specs.declared.row.Row.{Row}
 use Rattle.trace_text.specs.declared.row.Row.TheVariants.{End}
@@ -114,7 +114,7 @@ fault-last Spin = refl
 -- ---- the version of a verdict
 
 -- the verdict is of the second version alone where its text ends so
-since-told : (names : NameLists) (verdict : NamedVerdict) → verdicts.IsForm names verdict → tells_reads (named_text verdict) ≡ (verdict_since verdict == 2)
+since-told : (names : NameLists) (verdict : NamedVerdict) → verdicts.IsVerdictForm names verdict → tells_reads (named_text verdict) ≡ (verdict_since verdict == 2)
 unfolding last_from
 since-told names NamedPassed form = refl
 since-told names (NamedFailed name line) form =
@@ -130,7 +130,7 @@ since-told names (NamedFault name line kind) form =
     tells-never (named_text (NamedFault name line kind)) (last_from 32 (fault_word kind)) (four-last (codes "fault") name (decimal line) (fault_word kind)) (fault-last kind)
 since-told names NamedCut form = refl
 
-since-known : (names : NameLists) (verdict : Verdict) → is_of_second verdict ≡ (verdict_since (named names verdict) == 2)
+since-known : (names : NameLists) (verdict : Verdict) → is_of_second verdict ≡ (verdict_since (named_verdict names verdict) == 2)
 since-known names Passed = refl
 since-known names (Failed thread line) = refl
 since-known names (Stuck places) = refl
@@ -179,10 +179,10 @@ kept version since second (inr b) is h = let other : (version == 1) ≡ false = 
 pub record IsEndText (names : NameLists) (version : ℕ) (text : List ℕ) (read : Option Verdict) : Type 0 where
   pub verdict : NamedVerdict
   pub words_are : words_of text ≡ words_of_form (forms.End verdict)
-  pub of : IsOf names version (forms.End verdict)
+  pub of : IsLineOf names version (forms.End verdict)
   pub unknown : read ≡ None → HasUnknown names (forms.End verdict)
 
-words-end : (names : NameLists) (text : List ℕ) (verdict : NamedVerdict) → verdicts.IsForm names verdict → text ≡ codes "verdict " ++ named_text verdict → words_of text ≡ words_of_form (forms.End verdict)
+words-end : (names : NameLists) (text : List ℕ) (verdict : NamedVerdict) → verdicts.IsVerdictForm names verdict → text ≡ codes "verdict " ++ named_text verdict → words_of text ≡ words_of_form (forms.End verdict)
 words-end names text verdict form is =
     let solid = are-solid (codes "verdict" ∷ verdict_words verdict) (high-by (codes "verdict") refl, form-high names verdict form) in
     ap words_of (is ∙ sym (verdict-joined verdict)) ∙ words_of-join (codes "verdict") (verdict_words verdict) solid.0 solid.1
@@ -212,9 +212,9 @@ end-by names version text front rest UnknownName read which is reads h =
 end-by names version text front rest (Is verdict) read which is reads h =
     let g = guarded (version == 1 && is_of_second verdict) (End (Some verdict)) (End read) h in
     record {
-      verdict = named names verdict;
-      words_are = words-end names text (named names verdict) reads.1 (is ∙ ap (λ (x : List ℕ). codes "verdict " ++ x) reads.2);
-      of = (reads.1, within version (verdict_since (named names verdict)) (is_of_second verdict) which (since-either (named names verdict)) (since-known names verdict) g.0);
+      verdict = named_verdict names verdict;
+      words_are = words-end names text (named_verdict names verdict) reads.1 (is ∙ ap (λ (x : List ℕ). codes "verdict " ++ x) reads.2);
+      of = (reads.1, within version (verdict_since (named_verdict names verdict)) (is_of_second verdict) which (since-either (named_verdict names verdict)) (since-known names verdict) g.0);
       unknown = λ none. absurd (some-none verdict read (read-is (Some verdict) read g.1) none);
     }
 
@@ -244,7 +244,7 @@ record IsEndPart (names : NameLists) (version : ℕ) (rest : List ℕ) (verdict 
 left-in : (b : Bool) (row : Row) → b ≡ false → (if b then None else Some row) ≡ Some row
 left-in b row h = rw h
 
-part-by : (names : NameLists) (version : ℕ) (rest : List ℕ) (verdict : NamedVerdict) (told : VerdictRead) → AreNames names → (version ≡ 1) ⊎ (version ≡ 2) → IsOf names version (forms.End verdict) → rest ≡ named_text verdict → verdict_of_words names (words_of rest) ≡ told → ReadsAs names rest told → IsEndPart names version rest verdict told
+part-by : (names : NameLists) (version : ℕ) (rest : List ℕ) (verdict : NamedVerdict) (told : VerdictRead) → AreNames names → (version ≡ 1) ⊎ (version ≡ 2) → IsLineOf names version (forms.End verdict) → rest ≡ named_text verdict → verdict_of_words names (words_of rest) ≡ told → ReadsAs names rest told → IsEndPart names version rest verdict told
 part-by names version rest verdict NoForm sound which of is words reads = absurd (reads verdict of.0 is)
 part-by names version rest verdict UnknownName sound which of is words reads =
     let second : tells_reads rest ≡ (verdict_since verdict == 2) = ap tells_reads is ∙ since-told names verdict of.0 in
@@ -254,8 +254,9 @@ part-by names version rest verdict UnknownName sound which of is words reads =
       unknown = λ none. refl;
     }
 part-by names version rest verdict (Is known) sound which of is words reads =
-    let same_text : named_text (named names known) ≡ named_text verdict = sym reads.2 ∙ is in
-    let second : is_of_second known ≡ (verdict_since verdict == 2) = since-known names known ∙ sym (since-told names (named names known) reads.1) ∙ ap tells_reads same_text ∙ since-told names verdict of.0 in
+    let same_text : named_text (named_verdict names known) ≡ named_text verdict =
+    sym reads.2 ∙ is in
+    let second : is_of_second known ≡ (verdict_since verdict == 2) = since-known names known ∙ sym (since-told names (named_verdict names known) reads.1) ∙ ap tells_reads same_text ∙ since-told names verdict of.0 in
     record {
       read = Some known;
       is = left-in (version == 1 && is_of_second known) (End (Some known)) (kept version (verdict_since verdict) (is_of_second known) which second of.1);
@@ -265,7 +266,7 @@ part-by names version rest verdict (Is known) sound which of is words reads =
     other : (known : Verdict) → Is known ≡ UnknownName → ⊥
     other known h = cc
 
-pub end-read : (names : NameLists) (version : ℕ) (text : List ℕ) (verdict : NamedVerdict) → AreNames names → (version ≡ 1) ⊎ (version ≡ 2) → words_of text ≡ words_of_form (forms.End verdict) → IsOf names version (forms.End verdict) → IsEndRead names version text verdict
+pub end-read : (names : NameLists) (version : ℕ) (text : List ℕ) (verdict : NamedVerdict) → AreNames names → (version ≡ 1) ⊎ (version ≡ 2) → words_of text ≡ words_of_form (forms.End verdict) → IsLineOf names version (forms.End verdict) → IsEndRead names version text verdict
 unfolding row_of
 end-read names version text verdict sound which words of =
     let rest = named_text verdict in

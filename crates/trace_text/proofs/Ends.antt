@@ -12,10 +12,10 @@ use Rattle.pct_ask.specs.declared.verdict_text.VerdictRead.TheVariants.{Is, NoFo
 use Rattle.pct_ask.specs.VerdictWords.{words_of}
 use Rattle.trace_text.specs.Lawful.{is_of_second}
 use Rattle.pct_ask.specs.VerdictWords.{line_number}
-use Rattle.trace_text.specs.reader.Numbers.{value_of, natural_of}
+use Rattle.trace_text.specs.reader.Numbers.{i64_in, natural_of}
 use Rattle.trace_text.specs.reader.Asks.{object, ask_on_three}
 use Rattle.trace_text.specs.declared.asks.WordsRead.{WordsRead}
-use Rattle.trace_text.specs.reader.StepLines.{tells_reads, end_of, numbered_step, step_of}
+use Rattle.trace_text.specs.reader.StepLines.{tells_reads, end_of, numbered_step, step_in_words}
 use Rattle.trace_text.specs.reader.StepLines.{step_of_words, row_of}
 use Rattle.trace_text.specs.reader.Seen.{seen}
 use Rattle.trace_text.specs.declared.row.Row.{Row}
@@ -53,17 +53,17 @@ end-verdict version text read verdict is apart = rw (is, other-version version a
 
 pub step-unanswered : (names : NameLists) (number thread line : List ℕ) (ask : WordsRead Ask)
     (sign answer : List ℕ) (n l : ℕ) → natural_of number ≡ Some n → line_number line ≡ Some l
-    → bytes_eq sign (codes "=") ≡ true → value_of answer ≡ None
-    → step_of names number thread line ask sign answer ≡ None
-unfolding step_of
+    → bytes_eq sign (codes "=") ≡ true → i64_in answer ≡ None
+    → step_in_words names number thread line ask sign answer ≡ None
+unfolding step_in_words
 step-unanswered names number thread line ask sign answer n l p q r s = rw (p, q, r, s)
 
 pub step-whole : (names : NameLists) (number thread line : List ℕ) (ask : WordsRead Ask)
     (sign answer : List ℕ) (n l : ℕ) (v : ℤ) → natural_of number ≡ Some n
-    → line_number line ≡ Some l → bytes_eq sign (codes "=") ≡ true → value_of answer ≡ Some v
-    → step_of names number thread line ask sign answer ≡ numbered_step n
+    → line_number line ≡ Some l → bytes_eq sign (codes "=") ≡ true → i64_in answer ≡ Some v
+    → step_in_words names number thread line ask sign answer ≡ numbered_step n
     (object names Thread thread) l ask v
-unfolding step_of
+unfolding step_in_words
 step-whole names number thread line ask sign answer n l v p q r s = rw (p, q, r, s)
 
 -- no other number of words makes a step
@@ -103,7 +103,7 @@ row-step names version text other = rw other
 pub nine-words : (names : NameLists) (version : ℕ) (words : List (Bor (List ℕ))) (d : Bor (List ℕ))
     (ask : WordsRead Ask) (result : Option Row) → length words ≡ 9
     → ask ≡ ask_on_three names (get_or words 3 d).now (get_or words 4 d).now (get_or words 5 d).now (get_or words 6 d).now
-    → result ≡ step_of names (get_or words 0 d).now (get_or words 1 d).now (get_or words 2 d).now ask (get_or words 7 d).now (get_or words 8 d).now
+    → result ≡ step_in_words names (get_or words 0 d).now (get_or words 1 d).now (get_or words 2 d).now ask (get_or words 7 d).now (get_or words 8 d).now
     → result ≡ step_of_words names version (seen words)
 nine-words names version [] x ask result long p q = absurd (omega arith)
 nine-words names version (a ∷ []) x ask result long p q = absurd (omega arith)
@@ -115,5 +115,5 @@ nine-words names version (a ∷ b ∷ c ∷ d ∷ e ∷ f ∷ []) x ask result l
 nine-words names version (a ∷ b ∷ c ∷ d ∷ e ∷ f ∷ g ∷ []) x ask result long p q = absurd (omega arith)
 nine-words names version (a ∷ b ∷ c ∷ d ∷ e ∷ f ∷ g ∷ h ∷ []) x ask result long p q = absurd (omega arith)
 nine-words names version (a ∷ b ∷ c ∷ d ∷ e ∷ f ∷ g ∷ h ∷ i ∷ []) x ask result long p q =
-    q ∙ ap (λ k. step_of names a.now b.now c.now k h.now i.now) p
+    q ∙ ap (λ k. step_in_words names a.now b.now c.now k h.now i.now) p
 nine-words names version (a ∷ b ∷ c ∷ d ∷ e ∷ f ∷ g ∷ h ∷ i ∷ j ∷ words) x ask result long p q = absurd (omega arith)

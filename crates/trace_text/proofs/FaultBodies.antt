@@ -7,13 +7,13 @@ use Rattle.pct_ask.specs.declared.event.Event.{Event}
 use Rattle.pct_ask.specs.declared.verdict.Verdict.{Verdict}
 use Rattle.trace_text.specs.Lines.{is_empty, piece_at, line_at, text_in, is_whole}
 use Rattle.trace_text.specs.reader.StepLines.{row_of}
-use Rattle.trace_text.specs.Faults.{is_there, rank}
+use Rattle.trace_text.specs.Faults.{has_byte, kind_rank}
 use Rattle.trace_text.proofs.FaultTests.{version_of, limit_of, row_at, is_verdict, has_verdict}
 use Rattle.trace_text.proofs.FaultTests.{is_in_body, number_in, number_before, is_past}
 use Rattle.trace_text.proofs.FaultTests.{has_unknown, is_other_number, is_head_line}
 use Rattle.trace_text.proofs.FaultTests.{has_unknown_thread, is_faulty, IsFirstFound}
-use Rattle.trace_text.specs.reader.Heads.{order_in}
-use Rattle.trace_text.specs.reader.Reading.{Fault, Body, unended_fault, judged, with_event, closed, after_line, body_of}
+use Rattle.trace_text.specs.reader.Heads.{order_on_line}
+use Rattle.trace_text.specs.reader.Reading.{Fault, Body, unended_fault, line_or_fault, with_event, body_at_verdict, body_from_line, body_of}
 use Rattle.trace_text.specs.declared.row.Row.TheVariants.{Step, End}
 use Rattle.trace_text.specs.declared.row.Sound.{Sound}
 use Rattle.trace_text.specs.declared.row.Sound.TheVariants as sound
@@ -70,7 +70,7 @@ below-more n P below here k h = by (nat_lt k n) refl
     by false e = let same : n ≡ k = grind (arith, nat_tests) in rw (← same) here
 
 -- one more sound step
-reach-more : (size : ℕ) (names : NameLists) (all : List (List ℕ)) (version limit m next : ℕ) (piece after : List ℕ) (pieces : List (List ℕ)) (event : Event) → IsReached size names all version limit m next (piece ∷ after ∷ pieces) → judged limit next (row_of names version piece) ≡ Ok (sound.Step event) → IsReached size names all version limit (suc m) (next + 1) (after ∷ pieces)
+reach-more : (size : ℕ) (names : NameLists) (all : List (List ℕ)) (version limit m next : ℕ) (piece after : List ℕ) (pieces : List (List ℕ)) (event : Event) → IsReached size names all version limit m next (piece ∷ after ∷ pieces) → line_or_fault limit next (row_of names version piece) ≡ Ok (sound.Step event) → IsReached size names all version limit (suc m) (next + 1) (after ∷ pieces)
 reach-more size names all version limit m next piece after pieces event r j =
     let row : row_at names all (m + 5) ≡ Some (Step next (Some event)) = row-here size names all version limit m next piece (after ∷ pieces) r ∙ judged-step limit next (row_of names version piece) event j in
     let place : suc m + 4 ≡ m + 5 = omega arith in
@@ -140,7 +140,7 @@ no-first-three : (a b c : Bool) → a ≡ false → (a && b && c) ≡ false
 no-first-three a b c p = rw p
 
 -- a line after the verdict's is faulty by no other kind
-after-none : (size : ℕ) (names : NameLists) (all : List (List ℕ)) (m k : ℕ) → has_verdict names all (suc m) ≡ true → m + 6 ≤ k → (kind : TraceFault) → rank kind < 6 → is_faulty size names all k kind ≡ false
+after-none : (size : ℕ) (names : NameLists) (all : List (List ℕ)) (m k : ℕ) → has_verdict names all (suc m) ≡ true → m + 6 ≤ k → (kind : TraceFault) → kind_rank kind < 6 → is_faulty size names all k kind ≡ false
 after-none size names all m k h far TooLong low =
     let high : (k == 1) ≡ false = grind (arith, nat_tests) in
     mixed-none (k == 1) (nat_lt 16777216 size) (is_in_body names all k) (is_past (limit_of all) (row_at names all k)) high (no-body names all m k h far)
@@ -148,14 +148,14 @@ after-none size names all m k h far BadHeader low =
     let high : nat_le k 4 ≡ false = grind (arith, nat_tests) in
     no-middle (nat_le 1 k) (nat_le k 4) (not (is_whole (line_at all k) && is_head_line names all k)) high
 after-none size names all m k h far BadLine low =
-    no-first-three (is_in_body names all k) (is_there all k) (not (is_whole (line_at all k) && is_some (row_at names all k))) (no-body names all m k h far)
+    no-first-three (is_in_body names all k) (has_byte all k) (not (is_whole (line_at all k) && is_some (row_at names all k))) (no-body names all m k h far)
 after-none size names all m k h far UnknownName low =
     let high : (k == 2) ≡ false = grind (arith, nat_tests) in
-    mixed-none (k == 2) (has_unknown_thread names (order_in names (text_in (line_at all k)))) (is_in_body names all k) (has_unknown (row_at names all k)) high (no-body names all m k h far)
+    mixed-none (k == 2) (has_unknown_thread names (order_on_line names (text_in (line_at all k)))) (is_in_body names all k) (has_unknown (row_at names all k)) high (no-body names all m k h far)
 after-none size names all m k h far OutOfOrder low =
     no-first (is_in_body names all k) (is_other_number (number_before names all k + 1) (row_at names all k)) (no-body names all m k h far)
 after-none size names all m k h far NoVerdict low =
-    no-first (is_in_body names all k) (not (is_there all k)) (no-body names all m k h far)
+    no-first (is_in_body names all k) (not (has_byte all k)) (no-body names all m k h far)
 after-none size names all m k h far MoreAfterVerdict low = absurd (omega arith)
 
 last-there : (i : ℕ) → (is_whole (piece_at ([] ∷ []) i) || not (is_empty (text_in (piece_at ([] ∷ []) i)))) ≡ false
@@ -169,7 +169,7 @@ record IsLast (size : ℕ) (names : NameLists) (all : List (List ℕ)) (m : ℕ)
   at : (i k : ℕ) → k ≡ m + 6 + i → line_at all k ≡ piece_at pieces i
   sound : (k : ℕ) (kind : TraceFault) → k < m + 6 → is_faulty size names all k kind ≡ false
 
-reach-last : (size : ℕ) (names : NameLists) (all : List (List ℕ)) (version limit m next : ℕ) (piece after : List ℕ) (pieces : List (List ℕ)) (verdict : Verdict) → IsReached size names all version limit m next (piece ∷ after ∷ pieces) → judged limit next (row_of names version piece) ≡ Ok (sound.Last verdict) → IsLast size names all m (after ∷ pieces)
+reach-last : (size : ℕ) (names : NameLists) (all : List (List ℕ)) (version limit m next : ℕ) (piece after : List ℕ) (pieces : List (List ℕ)) (verdict : Verdict) → IsReached size names all version limit m next (piece ∷ after ∷ pieces) → line_or_fault limit next (row_of names version piece) ≡ Ok (sound.Last verdict) → IsLast size names all m (after ∷ pieces)
 reach-last size names all version limit m next piece after pieces verdict r j =
     let row : row_at names all (m + 5) ≡ Some (End (Some verdict)) = row-here size names all version limit m next piece (after ∷ pieces) r ∙ judged-last limit next (row_of names version piece) verdict j in
     let here : is_verdict (row_at names all (m + 5)) ≡ true = ap is_verdict row in
@@ -196,7 +196,7 @@ last-none size names all m l k kind = by (nat_lt k (m + 6)) refl kind
     by false e MoreAfterVerdict =
         let far : m + 6 ≤ k = grind (arith, nat_tests) in
         let line = l.at (k - (m + 6)) k (omega arith) in
-        no-third (nat_le 6 k) (is_verdict (row_at names all (k - 1))) (is_there all k) (ap (λ x. is_whole x || not (is_empty (text_in x))) line ∙ last-there (k - (m + 6)))
+        no-third (nat_le 6 k) (is_verdict (row_at names all (k - 1))) (has_byte all k) (ap (λ x. is_whole x || not (is_empty (text_in x))) line ∙ last-there (k - (m + 6)))
       where
         no-third : (a b c : Bool) → c ≡ false → (a && b && c) ≡ false
         no-third true true c p = p
@@ -210,7 +210,7 @@ last-more size names all m pieces l some =
     let less : m + 6 - 1 ≡ m + 5 = omega arith in
     let high : nat_le 6 (m + 6) ≡ true = grind (arith, nat_tests) in
     record {
-      faulty = all-three (nat_le 6 (m + 6)) (is_verdict (row_at names all (m + 6 - 1))) (is_there all (m + 6)) high (ap (λ j. is_verdict (row_at names all j)) less ∙ l.verdict_here) (ap (λ x. is_whole x || not (is_empty (text_in x))) line ∙ some);
+      faulty = all-three (nat_le 6 (m + 6)) (is_verdict (row_at names all (m + 6 - 1))) (has_byte all (m + 6)) high (ap (λ j. is_verdict (row_at names all j)) less ∙ l.verdict_here) (ap (λ x. is_whole x || not (is_empty (text_in x))) line ∙ some);
       first_kind = λ other low. after-none size names all m (m + 6) l.has (omega arith) other low;
       first_line = λ k other low. l.sound k other low;
     }
@@ -228,14 +228,14 @@ told-event : (size : ℕ) (names : NameLists) (all : List (List ℕ)) (event : E
 told-event size names all event (Ok body) told = told
 told-event size names all event (Err fault) told = told
 
-told-closed : (size : ℕ) (names : NameLists) (all : List (List ℕ)) (m line : ℕ) (verdict : Verdict) (piece : List ℕ) (pieces : List (List ℕ)) → line ≡ m + 6 → IsLast size names all m (piece ∷ pieces) → IsTold size names all (closed line verdict piece pieces)
+told-closed : (size : ℕ) (names : NameLists) (all : List (List ℕ)) (m line : ℕ) (verdict : Verdict) (piece : List ℕ) (pieces : List (List ℕ)) → line ≡ m + 6 → IsLast size names all m (piece ∷ pieces) → IsTold size names all (body_at_verdict line verdict piece pieces)
 told-closed size names all m line verdict [] [] place l = last-none size names all m l
 told-closed size names all m line verdict [] (q ∷ pieces) place l = rw place (last-more size names all m ([] ∷ q ∷ pieces) l refl)
 told-closed size names all m line verdict (b ∷ bs) pieces place l = rw place (last-more size names all m ((b ∷ bs) ∷ pieces) l (or-right (not (is_empty pieces)) true refl))
 
 told-by : (size : ℕ) (names : NameLists) (all : List (List ℕ)) (version limit m next : ℕ) (piece after : List ℕ) (pieces : List (List ℕ)) → IsReached size names all version limit m next (piece ∷ after ∷ pieces)
     → (IsReached size names all version limit (suc m) (next + 1) (after ∷ pieces) → IsTold size names all (body_of names version limit (next + 1) (after ∷ pieces)))
-    → (read : Result Sound TraceFault) → judged limit next (row_of names version piece) ≡ read → IsTold size names all (after_line (next + 4) read after pieces (body_of names version limit (next + 1) (after ∷ pieces)))
+    → (read : Result Sound TraceFault) → line_or_fault limit next (row_of names version piece) ≡ read → IsTold size names all (body_from_line (next + 4) read after pieces (body_of names version limit (next + 1) (after ∷ pieces)))
 told-by size names all version limit m next piece after pieces r others (Err kind) j =
     fault-here size names all version limit m next piece (after ∷ pieces) kind r (judged-first limit next piece (row_of names version piece) kind j)
 told-by size names all version limit m next piece after pieces r others (Ok (sound.Step event)) j =
@@ -247,7 +247,7 @@ told-more : (size : ℕ) (names : NameLists) (all : List (List ℕ)) (version li
 told-more size names all version limit m next piece [] r =
     fault-here size names all version limit m next piece [] (unended_fault limit (row_of names version piece) piece) r (unended-first names version limit next piece (row_of names version piece) refl)
 told-more size names all version limit m next piece (after ∷ pieces) r =
-    told-by size names all version limit m next piece after pieces r (λ further. told-more size names all version limit (suc m) (next + 1) after pieces further) (judged limit next (row_of names version piece)) refl
+    told-by size names all version limit m next piece after pieces r (λ further. told-more size names all version limit (suc m) (next + 1) after pieces further) (line_or_fault limit next (row_of names version piece)) refl
 
 -- the lines after a sound head
 pub body-faults : (size : ℕ) (names : NameLists) (all : List (List ℕ)) (version limit : ℕ) (piece : List ℕ) (pieces : List (List ℕ)) → version_of all ≡ version → limit_of all ≡ limit → ((i k : ℕ) → k ≡ 5 + i → line_at all k ≡ piece_at (piece ∷ pieces) i) → ((k : ℕ) (kind : TraceFault) → k < 5 → is_faulty size names all k kind ≡ false) → IsTold size names all (body_of names version limit 1 (piece ∷ pieces))

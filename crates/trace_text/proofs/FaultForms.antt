@@ -9,10 +9,10 @@ use Rattle.pct_ask.specs.VerdictText.{NamedVerdict}
 use Rattle.pct_ask.specs.declared.event.Event.{Event}
 use Rattle.pct_ask.specs.declared.verdict.Verdict.{Verdict}
 use Rattle.trace_text.specs.Lines.{line_at, text_in, is_whole}
-use Rattle.trace_text.specs.reader.Heads.{order_in, points_in, limit_in}
-use Rattle.trace_text.specs.Forms.{AskForm, Form, words_of_form, IsOf, HasUnknown}
+use Rattle.trace_text.specs.reader.Heads.{order_on_line, points_on_line, limit_on_line}
+use Rattle.trace_text.specs.Forms.{AskForm, Form, words_of_form, IsLineOf, HasUnknown}
 use Rattle.trace_text.specs.Forms as forms
-use Rattle.trace_text.specs.Faults.{text_at, is_there, version_of, HasForm, IsStepLine}
+use Rattle.trace_text.specs.Faults.{text_at, has_byte, version_of, HasForm, IsStepLine}
 use Rattle.trace_text.specs.Faults.{IsVerdictLine, IsOpen, IsInBody, IsNextNumber, IsFaulty}
 use Rattle.trace_text.specs.Faults.{IsFirstFault}
 use Rattle.trace_text.specs.reader.Reading.{Fault}
@@ -194,15 +194,15 @@ module _ (names : NameLists) (sound : AreNames names) (size : ℕ) (pieces : Lis
   head-found zero low high h = absurd (omega arith)
   head-found (suc zero) low high h = let f = version-form (text_at pieces 1) h in (forms.Version f.0, record { stands = refl; spelled = f.1; of = f.2 })
   head-found (suc (suc zero)) low high h =
-      let words = some-of (order_in names (text_at pieces 2)) h in
+      let words = some-of (order_on_line names (text_at pieces 2)) h in
       let f = order-form names (version_of pieces) (text_at pieces 2) words.0 words.1 in
       (forms.Order words.0, record { stands = refl; spelled = f.0; of = f.1 })
   head-found (suc (suc (suc zero))) low high h =
-      let points = some-of (points_in (text_at pieces 3)) h in
+      let points = some-of (points_on_line (text_at pieces 3)) h in
       let f = points-form names (version_of pieces) (text_at pieces 3) points.0 points.1 in
       (forms.Points points.0, record { stands = refl; spelled = f.0; of = f.1 })
   head-found (suc (suc (suc (suc zero)))) low high h =
-      let limit = some-of (limit_in (text_at pieces 4)) h in
+      let limit = some-of (limit_on_line (text_at pieces 4)) h in
       let f = limit-form names (version_of pieces) (text_at pieces 4) limit.0 limit.1 in
       (forms.Limit limit.0, record { stands = refl; spelled = f.0; of = f.1 })
   head-found (suc (suc (suc (suc (suc k))))) low high h = absurd (omega arith)
@@ -258,17 +258,17 @@ module _ (names : NameLists) (sound : AreNames names) (size : ℕ) (pieces : Lis
   bad_line-test : (k : ℕ) → IsFaulty size names pieces k BadLine → is_faulty size names pieces k BadLine ≡ true
   bad_line-test k bad =
       let lost = never (is_whole (line_at pieces k) && is_some (row_at names pieces k)) (λ h. let f = row-found k bad.0.0 (and-right (is_whole (line_at pieces k)) (is_some (row_at names pieces k)) h) in bad.2 (and-left (is_whole (line_at pieces k)) (is_some (row_at names pieces k)) h, f.0, f.1)) in
-      three-both (is_in_body names pieces k) (is_there pieces k) (not (is_whole (line_at pieces k) && is_some (row_at names pieces k))) (body-test k bad.0) bad.1 (ap not lost)
+      three-both (is_in_body names pieces k) (has_byte pieces k) (not (is_whole (line_at pieces k) && is_some (row_at names pieces k))) (body-test k bad.0) bad.1 (ap not lost)
 
   late-unknown : (k : ℕ) → 5 ≤ k → IsOpen names pieces k → has_unknown (row_at names pieces k) ≡ true → is_faulty size names pieces k UnknownName ≡ true
   late-unknown k low free h =
-      or-right ((k == 2) && has_unknown_thread names (order_in names (text_in (line_at pieces k)))) (is_in_body names pieces k && has_unknown (row_at names pieces k)) (and-both (is_in_body names pieces k) (has_unknown (row_at names pieces k)) (body-test k (low, free)) h)
+      or-right ((k == 2) && has_unknown_thread names (order_on_line names (text_in (line_at pieces k)))) (is_in_body names pieces k && has_unknown (row_at names pieces k)) (and-both (is_in_body names pieces k) (has_unknown (row_at names pieces k)) (body-test k (low, free)) h)
 
   order-unknown : (k : ℕ) (threads : List (List ℕ)) → HasForm names pieces k (forms.Order threads) → HasUnknown names (forms.Order threads) → is_faulty size names pieces k UnknownName ≡ true
   order-unknown k threads form unknown =
       let two : (k == 2) ≡ true = let e = form.stands in grind (arith, nat_tests) in
-      let lost : has_unknown_thread names (order_in names (text_in (line_at pieces k))) ≡ true = ap (has_unknown_thread names) (order-read names (version_of pieces) (text_at pieces k) threads form.spelled form.of) ∙ unknown-read names threads unknown in
-      or-left ((k == 2) && has_unknown_thread names (order_in names (text_in (line_at pieces k)))) (is_in_body names pieces k && has_unknown (row_at names pieces k)) (and-both (k == 2) (has_unknown_thread names (order_in names (text_in (line_at pieces k)))) two lost)
+      let lost : has_unknown_thread names (order_on_line names (text_in (line_at pieces k))) ≡ true = ap (has_unknown_thread names) (order-read names (version_of pieces) (text_at pieces k) threads form.spelled form.of) ∙ unknown-read names threads unknown in
+      or-left ((k == 2) && has_unknown_thread names (order_on_line names (text_in (line_at pieces k)))) (is_in_body names pieces k && has_unknown (row_at names pieces k)) (and-both (k == 2) (has_unknown_thread names (order_on_line names (text_in (line_at pieces k)))) two lost)
 
   unknown-test : (k : ℕ) (form : Form) → IsOpen names pieces k → HasForm names pieces k form → HasUnknown names form → is_faulty size names pieces k UnknownName ≡ true
   unknown-test k (forms.Version v) at form unknown = absurd unknown
@@ -308,10 +308,10 @@ module _ (names : NameLists) (sound : AreNames names) (size : ℕ) (pieces : Lis
   fault-test k BadLine bad = bad_line-test k bad
   fault-test k UnknownName bad = unknown-test k bad.1 bad.0 bad.2 bad.3
   fault-test k OutOfOrder bad = order-test k bad
-  fault-test k NoVerdict bad = and-both (is_in_body names pieces k) (not (is_there pieces k)) (body-test k bad.0) (ap not bad.1)
+  fault-test k NoVerdict bad = and-both (is_in_body names pieces k) (not (has_byte pieces k)) (body-test k bad.0) (ap not bad.1)
   fault-test k MoreAfterVerdict bad =
       let high : nat_le 6 k ≡ true = let low = bad.0.1.stands in grind (arith, nat_tests) in
-      three-both (nat_le 6 k) (is_verdict (row_at names pieces (k - 1))) (is_there pieces k) high (verdict-row (k - 1) bad.0) bad.1
+      three-both (nat_le 6 k) (is_verdict (row_at names pieces (k - 1))) (has_byte pieces k) high (verdict-row (k - 1) bad.0) bad.1
 
   -- ---- a line that is found faulty is so, where none before it is
 
@@ -325,8 +325,8 @@ module _ (names : NameLists) (sound : AreNames names) (size : ℕ) (pieces : Lis
 
   limit-clean : is_faulty size names pieces 4 BadHeader ≡ false → HasForm names pieces 4 (forms.Limit (limit_of pieces))
   limit-clean clean =
-      let told = and-right (is_whole (line_at pieces 4)) (is_some (limit_in (text_at pieces 4))) (not-false (is_whole (line_at pieces 4) && is_some (limit_in (text_at pieces 4))) clean) in
-      let limit = some-of (limit_in (text_at pieces 4)) told in
+      let told = and-right (is_whole (line_at pieces 4)) (is_some (limit_on_line (text_at pieces 4))) (not-false (is_whole (line_at pieces 4) && is_some (limit_on_line (text_at pieces 4))) clean) in
+      let limit = some-of (limit_on_line (text_at pieces 4)) told in
       let form = limit-form names (version_of pieces) (text_at pieces 4) limit.0 limit.1 in
       let same : limit.0 ≡ limit_of pieces = sym (ap (λ o. unwrap_or o 0) limit.1) in
       rw (← same) (record { stands = refl; spelled = form.0; of = form.1 })
@@ -355,12 +355,12 @@ module _ (names : NameLists) (sound : AreNames names) (size : ℕ) (pieces : Lis
 
   bad_line-found : (k : ℕ) → is_faulty size names pieces k BadLine ≡ true → IsFaulty size names pieces k BadLine
   bad_line-found k h =
-      let parts = three (is_in_body names pieces k) (is_there pieces k) (not (is_whole (line_at pieces k) && is_some (row_at names pieces k))) h in
+      let parts = three (is_in_body names pieces k) (has_byte pieces k) (not (is_whole (line_at pieces k) && is_some (row_at names pieces k))) h in
       let lost = not-true (is_whole (line_at pieces k) && is_some (row_at names pieces k)) parts.2 in
       let body = body-found k parts.0 in
       (body, parts.1, λ line. unequal (is_whole (line_at pieces k) && is_some (row_at names pieces k)) (and-both (is_whole (line_at pieces k)) (is_some (row_at names pieces k)) line.0 (body-row k line.1 body.0 line.2)) lost)
 
-  order-found : (k : ℕ) (order : Option (List (List ℕ))) → k ≡ 2 → order_in names (text_at pieces 2) ≡ order → has_unknown_thread names order ≡ true → IsFaulty size names pieces k UnknownName
+  order-found : (k : ℕ) (order : Option (List (List ℕ))) → k ≡ 2 → order_on_line names (text_at pieces 2) ≡ order → has_unknown_thread names order ≡ true → IsFaulty size names pieces k UnknownName
   order-found k None two e h = absurd cc
   order-found k (Some threads) two e h =
       let form = order-form names (version_of pieces) (text_at pieces 2) threads e in
@@ -376,12 +376,12 @@ module _ (names : NameLists) (sound : AreNames names) (size : ℕ) (pieces : Lis
       (body.1, forms.End f.0, f.1, f.2 (none-of read h))
 
   unknown-found : (k : ℕ) → is_faulty size names pieces k UnknownName ≡ true → IsFaulty size names pieces k UnknownName
-  unknown-found k h = by (or-cases ((k == 2) && has_unknown_thread names (order_in names (text_in (line_at pieces k)))) (is_in_body names pieces k && has_unknown (row_at names pieces k)) h)
+  unknown-found k h = by (or-cases ((k == 2) && has_unknown_thread names (order_on_line names (text_in (line_at pieces k)))) (is_in_body names pieces k && has_unknown (row_at names pieces k)) h)
     where
-      by : (((k == 2) && has_unknown_thread names (order_in names (text_in (line_at pieces k)))) ≡ true) ⊎ ((is_in_body names pieces k && has_unknown (row_at names pieces k)) ≡ true) → IsFaulty size names pieces k UnknownName
+      by : (((k == 2) && has_unknown_thread names (order_on_line names (text_in (line_at pieces k)))) ≡ true) ⊎ ((is_in_body names pieces k && has_unknown (row_at names pieces k)) ≡ true) → IsFaulty size names pieces k UnknownName
       by (inl e) =
-          let two : k ≡ 2 = let t = and-left (k == 2) (has_unknown_thread names (order_in names (text_in (line_at pieces k)))) e in grind (arith, nat_tests) in
-          order-found k (order_in names (text_at pieces 2)) two refl (ap (λ j. has_unknown_thread names (order_in names (text_at pieces j))) (sym two) ∙ and-right (k == 2) (has_unknown_thread names (order_in names (text_in (line_at pieces k)))) e)
+          let two : k ≡ 2 = let t = and-left (k == 2) (has_unknown_thread names (order_on_line names (text_in (line_at pieces k)))) e in grind (arith, nat_tests) in
+          order-found k (order_on_line names (text_at pieces 2)) two refl (ap (λ j. has_unknown_thread names (order_on_line names (text_at pieces j))) (sym two) ∙ and-right (k == 2) (has_unknown_thread names (order_on_line names (text_in (line_at pieces k)))) e)
       by (inr e) =
           row-unknown k (row_at names pieces k) (body-found k (and-left (is_in_body names pieces k) (has_unknown (row_at names pieces k)) e)) refl (and-right (is_in_body names pieces k) (has_unknown (row_at names pieces k)) e)
 
@@ -393,8 +393,8 @@ module _ (names : NameLists) (sound : AreNames names) (size : ℕ) (pieces : Lis
   step-before k clean body low =
       let before = earlier k body low in
       let test = body-test (k - 1) before in
-      let there = guarded-not (is_in_body names pieces (k - 1)) (is_there pieces (k - 1)) (clean (k - 1) NoVerdict (omega arith)) test in
-      let line = whole (is_in_body names pieces (k - 1)) (is_there pieces (k - 1)) (is_whole (line_at pieces (k - 1)) && is_some (row_at names pieces (k - 1))) (clean (k - 1) BadLine (omega arith)) test there in
+      let there = guarded-not (is_in_body names pieces (k - 1)) (has_byte pieces (k - 1)) (clean (k - 1) NoVerdict (omega arith)) test in
+      let line = whole (is_in_body names pieces (k - 1)) (has_byte pieces (k - 1)) (is_whole (line_at pieces (k - 1)) && is_some (row_at names pieces (k - 1))) (clean (k - 1) BadLine (omega arith)) test there in
       by (row_at names pieces (k - 1)) refl (and-right (is_whole (line_at pieces (k - 1))) (is_some (row_at names pieces (k - 1))) line) before.0
     where
       whole : (a b c : Bool) → (a && b && not c) ≡ false → a ≡ true → b ≡ true → c ≡ true
@@ -438,9 +438,9 @@ module _ (names : NameLists) (sound : AreNames names) (size : ℕ) (pieces : Lis
   fault-found k UnknownName clean h = unknown-found k h
   fault-found k OutOfOrder clean h = out_of_order-found k clean h
   fault-found k NoVerdict clean h =
-      (body-found k (and-left (is_in_body names pieces k) (not (is_there pieces k)) h), not-true (is_there pieces k) (and-right (is_in_body names pieces k) (not (is_there pieces k)) h))
+      (body-found k (and-left (is_in_body names pieces k) (not (has_byte pieces k)) h), not-true (has_byte pieces k) (and-right (is_in_body names pieces k) (not (has_byte pieces k)) h))
   fault-found k MoreAfterVerdict clean h =
-      let parts = three (nat_le 6 k) (is_verdict (row_at names pieces (k - 1))) (is_there pieces k) h in
+      let parts = three (nat_le 6 k) (is_verdict (row_at names pieces (k - 1))) (has_byte pieces k) h in
       let low : 5 ≤ k - 1 = let t = parts.0 in grind (arith, nat_tests) in
       (verdict-found (k - 1) low parts.1, parts.2)
 

@@ -7,13 +7,13 @@ use Rattle.pct_ask.specs.declared.event.Event.{Event}
 use Rattle.pct_ask.specs.declared.verdict.Verdict.{Verdict}
 use Rattle.trace_text.specs.Lines.{is_empty, line_at, text_in, is_whole}
 use Rattle.trace_text.specs.reader.StepLines.{row_of}
-use Rattle.trace_text.specs.Faults.{is_there, rank}
+use Rattle.trace_text.specs.Faults.{has_byte, kind_rank}
 use Rattle.trace_text.proofs.FaultTests.{version_of, limit_of, row_at, is_verdict, has_verdict}
 use Rattle.trace_text.proofs.FaultTests.{is_in_body, number_before, is_past, has_unknown}
 use Rattle.trace_text.proofs.FaultTests.{is_other_number, is_head_line, has_unknown_thread}
 use Rattle.trace_text.proofs.FaultTests.{is_faulty}
-use Rattle.trace_text.specs.reader.Heads.{order_in}
-use Rattle.trace_text.specs.reader.Reading.{unended_fault, judged}
+use Rattle.trace_text.specs.reader.Heads.{order_on_line}
+use Rattle.trace_text.specs.reader.Reading.{unended_fault, line_or_fault}
 use Rattle.trace_text.specs.declared.row.Row.{Row}
 use Rattle.trace_text.specs.declared.row.Row.TheVariants.{Step, End}
 use Rattle.trace_text.specs.declared.row.Sound.{Sound}
@@ -35,7 +35,7 @@ line_fault limit next text whole row MoreAfterVerdict = false
 -- the kind is the first of a line
 pub record IsFirstKind (fault : TraceFault → Bool) (kind : TraceFault) : Type 0 where
   pub here : fault kind ≡ true
-  pub lower : (other : TraceFault) → rank other < rank kind → fault other ≡ false
+  pub lower : (other : TraceFault) → kind_rank other < kind_rank kind → fault other ≡ false
 
 first_too_long : (fault : TraceFault → Bool) → fault TooLong ≡ true → IsFirstKind fault TooLong
 first_too_long fault h = record { here = h; lower = λ other low. absurd (omega arith) }
@@ -43,7 +43,7 @@ first_too_long fault h = record { here = h; lower = λ other low. absurd (omega 
 first_bad_line : (fault : TraceFault → Bool) → fault TooLong ≡ false → fault BadHeader ≡ false → fault BadLine ≡ true → IsFirstKind fault BadLine
 first_bad_line fault a b h = record { here = h; lower = by }
   where
-    by : (other : TraceFault) → rank other < rank BadLine → fault other ≡ false
+    by : (other : TraceFault) → kind_rank other < kind_rank BadLine → fault other ≡ false
     by TooLong low = a
     by BadHeader low = b
     by BadLine low = absurd (omega arith)
@@ -55,7 +55,7 @@ first_bad_line fault a b h = record { here = h; lower = by }
 first_unknown : (fault : TraceFault → Bool) → fault TooLong ≡ false → fault BadHeader ≡ false → fault BadLine ≡ false → fault UnknownName ≡ true → IsFirstKind fault UnknownName
 first_unknown fault a b c h = record { here = h; lower = by }
   where
-    by : (other : TraceFault) → rank other < rank UnknownName → fault other ≡ false
+    by : (other : TraceFault) → kind_rank other < kind_rank UnknownName → fault other ≡ false
     by TooLong low = a
     by BadHeader low = b
     by BadLine low = c
@@ -67,7 +67,7 @@ first_unknown fault a b c h = record { here = h; lower = by }
 first_out_of_order : (fault : TraceFault → Bool) → fault TooLong ≡ false → fault BadHeader ≡ false → fault BadLine ≡ false → fault UnknownName ≡ false → fault OutOfOrder ≡ true → IsFirstKind fault OutOfOrder
 first_out_of_order fault a b c d h = record { here = h; lower = by }
   where
-    by : (other : TraceFault) → rank other < rank OutOfOrder → fault other ≡ false
+    by : (other : TraceFault) → kind_rank other < kind_rank OutOfOrder → fault other ≡ false
     by TooLong low = a
     by BadHeader low = b
     by BadLine low = c
@@ -79,7 +79,7 @@ first_out_of_order fault a b c d h = record { here = h; lower = by }
 first_no_verdict : (fault : TraceFault → Bool) → fault TooLong ≡ false → fault BadHeader ≡ false → fault BadLine ≡ false → fault UnknownName ≡ false → fault OutOfOrder ≡ false → fault NoVerdict ≡ true → IsFirstKind fault NoVerdict
 first_no_verdict fault a b c d e h = record { here = h; lower = by }
   where
-    by : (other : TraceFault) → rank other < rank NoVerdict → fault other ≡ false
+    by : (other : TraceFault) → kind_rank other < kind_rank NoVerdict → fault other ≡ false
     by TooLong low = a
     by BadHeader low = b
     by BadLine low = c
@@ -91,7 +91,7 @@ first_no_verdict fault a b c d e h = record { here = h; lower = by }
 pub first_bad_header : (fault : TraceFault → Bool) → fault TooLong ≡ false → fault BadHeader ≡ true → IsFirstKind fault BadHeader
 first_bad_header fault a h = record { here = h; lower = by }
   where
-    by : (other : TraceFault) → rank other < rank BadHeader → fault other ≡ false
+    by : (other : TraceFault) → kind_rank other < kind_rank BadHeader → fault other ≡ false
     by TooLong low = a
     by BadHeader low = absurd (omega arith)
     by BadLine low = absurd (omega arith)
@@ -100,7 +100,7 @@ first_bad_header fault a h = record { here = h; lower = by }
     by NoVerdict low = absurd (omega arith)
     by MoreAfterVerdict low = absurd (omega arith)
 
-pub first_more : (fault : TraceFault → Bool) → ((other : TraceFault) → rank other < rank MoreAfterVerdict → fault other ≡ false) → fault MoreAfterVerdict ≡ true → IsFirstKind fault MoreAfterVerdict
+pub first_more : (fault : TraceFault → Bool) → ((other : TraceFault) → kind_rank other < kind_rank MoreAfterVerdict → fault other ≡ false) → fault MoreAfterVerdict ≡ true → IsFirstKind fault MoreAfterVerdict
 first_more fault others h = record { here = h; lower = others }
 
 pub first_too_long_line : (fault : TraceFault → Bool) → fault TooLong ≡ true → IsFirstKind fault TooLong
@@ -139,7 +139,7 @@ judged-order false false limit next text number event kind p q h =
     let other : not (number == next) ≡ true = ap not q in
     rw (← err_is OutOfOrder kind h) (first_out_of_order (line_fault limit next text true (Some (Step number (Some event)))) p refl refl refl other)
 
-pub judged-first : (limit next : ℕ) (text : List ℕ) (row : Option Row) (kind : TraceFault) → judged limit next row ≡ Err kind → IsFirstKind (line_fault limit next text true row) kind
+pub judged-first : (limit next : ℕ) (text : List ℕ) (row : Option Row) (kind : TraceFault) → line_or_fault limit next row ≡ Err kind → IsFirstKind (line_fault limit next text true row) kind
 judged-first limit next text None kind h = rw (← err_is BadLine kind h) (first_bad_line (line_fault limit next text true None) refl refl refl)
 judged-first limit next text (Some (Step number None)) kind h = judged-unknown (nat_lt limit number) limit next text number kind refl h
 judged-first limit next text (Some (Step number (Some event))) kind h = judged-order (nat_lt limit number) (number == next) limit next text number event kind refl refl h
@@ -171,7 +171,7 @@ end-none limit next text verdict NoVerdict = refl
 end-none limit next text verdict MoreAfterVerdict = refl
 
 -- a sound line is faulty by none
-pub judged-none : (limit next : ℕ) (text : List ℕ) (row : Option Row) (s : Sound) → judged limit next row ≡ Ok s → (kind : TraceFault) → line_fault limit next text true row kind ≡ false
+pub judged-none : (limit next : ℕ) (text : List ℕ) (row : Option Row) (s : Sound) → line_or_fault limit next row ≡ Ok s → (kind : TraceFault) → line_fault limit next text true row kind ≡ false
 judged-none limit next text None s h kind = absurd cc
 judged-none limit next text (Some (Step number None)) s h kind = absurd (past-unknown (nat_lt limit number) s h)
 judged-none limit next text (Some (Step number (Some event))) s h kind = step-none (nat_lt limit number) (number == next) limit next text number event s refl refl h kind
@@ -223,22 +223,22 @@ faulty-at size names pieces version limit m next k text whole at BadHeader =
     no-middle (nat_le 1 k) (nat_le k 4) (not (is_whole (line_at pieces k) && is_head_line names pieces k)) high
 faulty-at size names pieces version limit m next k text whole at BadLine =
     let row : row_at names pieces k ≡ row_of names version text = ap (λ v. row_of names v (text_in (line_at pieces k))) at.version_is ∙ ap (λ l. row_of names version (text_in l)) at.line_is in
-    bad-parts (is_in_body names pieces k) (is_there pieces k) (is_whole (line_at pieces k)) (is_some (row_at names pieces k)) (whole || not (is_empty text)) whole (is_some (row_of names version text))
+    bad-parts (is_in_body names pieces k) (has_byte pieces k) (is_whole (line_at pieces k)) (is_some (row_at names pieces k)) (whole || not (is_empty text)) whole (is_some (row_of names version text))
     (in-body names pieces m k at.place at.free) (ap (λ l. is_whole l || not (is_empty (text_in l))) at.line_is) (ap is_whole at.line_is) (ap is_some row)
 faulty-at size names pieces version limit m next k text whole at UnknownName =
     let row : row_at names pieces k ≡ row_of names version text = ap (λ v. row_of names v (text_in (line_at pieces k))) at.version_is ∙ ap (λ l. row_of names version (text_in l)) at.line_is in
     let high : (k == 2) ≡ false = let p = at.place in grind (arith, nat_tests) in
-    mixed (k == 2) (has_unknown_thread names (order_in names (text_in (line_at pieces k)))) (is_in_body names pieces k) (has_unknown (row_at names pieces k)) high (in-body names pieces m k at.place at.free)
+    mixed (k == 2) (has_unknown_thread names (order_on_line names (text_in (line_at pieces k)))) (is_in_body names pieces k) (has_unknown (row_at names pieces k)) high (in-body names pieces m k at.place at.free)
     ∙ ap has_unknown row
 faulty-at size names pieces version limit m next k text whole at OutOfOrder =
     let row : row_at names pieces k ≡ row_of names version text = ap (λ v. row_of names v (text_in (line_at pieces k))) at.version_is ∙ ap (λ l. row_of names version (text_in l)) at.line_is in
     only-second (is_in_body names pieces k) (is_other_number (number_before names pieces k + 1) (row_at names pieces k)) (is_other_number next (row_of names version text)) (in-body names pieces m k at.place at.free)
     (ap (λ n. is_other_number n (row_at names pieces k)) at.number_is ∙ ap (is_other_number next) row)
 faulty-at size names pieces version limit m next k text whole at NoVerdict =
-    only-second (is_in_body names pieces k) (not (is_there pieces k)) (not (whole || not (is_empty text))) (in-body names pieces m k at.place at.free)
+    only-second (is_in_body names pieces k) (not (has_byte pieces k)) (not (whole || not (is_empty text))) (in-body names pieces m k at.place at.free)
     (ap (λ l. not (is_whole l || not (is_empty (text_in l)))) at.line_is)
 faulty-at size names pieces version limit m next k text whole at MoreAfterVerdict =
-    three (nat_le 6 k) (is_verdict (row_at names pieces (k - 1))) (is_there pieces k) at.before
+    three (nat_le 6 k) (is_verdict (row_at names pieces (k - 1))) (has_byte pieces k) at.before
   where
     three : (a b c : Bool) → (a && b) ≡ false → (a && b && c) ≡ false
     three true true c p = cc

@@ -3,9 +3,10 @@ use Rattle.std.specs.Prelude.{◌≡◌, ℕ, ◌+◌, ◌-◌, ◌<◌, zero, s
 use Rattle.std.specs.Option.{unwrap_or}
 use Rattle.pct_ask.specs.NameLists.{NameLists}
 use Rattle.trace_text.specs.Lines.{line_at, text_in, is_whole}
-use Rattle.trace_text.specs.reader.Heads.{version_in, order_in, threads_of, points_in, limit_in}
+use Rattle.trace_text.specs.reader.Heads.{version_on_line, order_on_line, threads_of_names}
+use Rattle.trace_text.specs.reader.Heads.{points_on_line, limit_on_line}
 use Rattle.trace_text.specs.reader.StepLines.{row_of}
-use Rattle.trace_text.specs.Faults.{is_there, rank}
+use Rattle.trace_text.specs.Faults.{has_byte, kind_rank}
 use Rattle.trace_text.specs.declared.row.Row.{Row}
 use Rattle.trace_text.specs.declared.row.Row.TheVariants.{Step, End}
 use Rattle.trace_text.specs.declared.fault.TraceFault.{TraceFault}
@@ -15,10 +16,10 @@ use Rattle.trace_text.specs.declared.fault.TraceFault.TheVariants.{TooLong, BadH
 
 -- the file's version and limit, by its first and its fourth line
 abbrev pub version_of : List (List ℕ) → ℕ
-version_of pieces = unwrap_or (version_in (text_in (line_at pieces 1))) 1
+version_of pieces = unwrap_or (version_on_line (text_in (line_at pieces 1))) 1
 
 abbrev pub limit_of : List (List ℕ) → ℕ
-limit_of pieces = unwrap_or (limit_in (text_in (line_at pieces 4))) 0
+limit_of pieces = unwrap_or (limit_on_line (text_in (line_at pieces 4))) 0
 
 abbrev pub row_at : NameLists → List (List ℕ) → ℕ → Option Row
 row_at names pieces k = row_of names (version_of pieces) (text_in (line_at pieces k))
@@ -66,14 +67,14 @@ is_other_number number (Some (End verdict)) = false
 -- line k of a head is of its form
 abbrev pub is_head_line : NameLists → List (List ℕ) → ℕ → Bool
 is_head_line names pieces k =
-    if k == 1 then is_some (version_in (text_in (line_at pieces k)))
-    else (if k == 2 then is_some (order_in names (text_in (line_at pieces k)))
-    else (if k == 3 then is_some (points_in (text_in (line_at pieces k)))
-    else is_some (limit_in (text_in (line_at pieces k)))))
+    if k == 1 then is_some (version_on_line (text_in (line_at pieces k)))
+    else (if k == 2 then is_some (order_on_line names (text_in (line_at pieces k)))
+    else (if k == 3 then is_some (points_on_line (text_in (line_at pieces k)))
+    else is_some (limit_on_line (text_in (line_at pieces k)))))
 
 abbrev pub has_unknown_thread : NameLists → Option (List (List ℕ)) → Bool
 has_unknown_thread names None = false
-has_unknown_thread names (Some words) = is_none (threads_of names words)
+has_unknown_thread names (Some words) = is_none (threads_of_names names words)
 
 -- ---- when line k is faulty by a kind
 
@@ -93,13 +94,13 @@ is_bad_header names pieces k =
 abbrev pub is_bad_line : NameLists → List (List ℕ) → ℕ → Bool
 is_bad_line names pieces k =
     is_in_body names pieces k
-    && is_there pieces k
+    && has_byte pieces k
     && not (is_whole (line_at pieces k) && is_some (row_at names pieces k))
 
 -- A name isn't declared with the kind that its place needs.
 abbrev pub is_unknown_name : NameLists → List (List ℕ) → ℕ → Bool
 is_unknown_name names pieces k =
-    (k == 2) && has_unknown_thread names (order_in names (text_in (line_at pieces k)))
+    (k == 2) && has_unknown_thread names (order_on_line names (text_in (line_at pieces k)))
     || is_in_body names pieces k && has_unknown (row_at names pieces k)
 
 -- A step line's number isn't one more than that of the step before it, or not 1 for the first step.
@@ -110,12 +111,12 @@ is_out_of_order names pieces k =
 
 -- The file ends where a line should follow, and no line is the verdict's.
 abbrev pub is_no_verdict : NameLists → List (List ℕ) → ℕ → Bool
-is_no_verdict names pieces k = is_in_body names pieces k && not (is_there pieces k)
+is_no_verdict names pieces k = is_in_body names pieces k && not (has_byte pieces k)
 
 -- A byte stands after the verdict line, which is the line before.
 abbrev pub is_more_after_verdict : NameLists → List (List ℕ) → ℕ → Bool
 is_more_after_verdict names pieces k =
-    nat_le 6 k && is_verdict (row_at names pieces (k - 1)) && is_there pieces k
+    nat_le 6 k && is_verdict (row_at names pieces (k - 1)) && has_byte pieces k
 
 -- a text of so many bytes and of these pieces: whether its line k is faulty by a kind
 abbrev pub is_faulty : ℕ → NameLists → List (List ℕ) → ℕ → TraceFault → Bool
@@ -132,5 +133,5 @@ is_faulty size names pieces k MoreAfterVerdict = is_more_after_verdict names pie
 -- the line is faulty by the kind and by none before it, and no line before is faulty
 pub record IsFirstFound (size : ℕ) (names : NameLists) (pieces : List (List ℕ)) (line : ℕ) (kind : TraceFault) : Type 0 where
   pub faulty : is_faulty size names pieces line kind ≡ true
-  pub first_kind : (other : TraceFault) → rank other < rank kind → is_faulty size names pieces line other ≡ false
+  pub first_kind : (other : TraceFault) → kind_rank other < kind_rank kind → is_faulty size names pieces line other ≡ false
   pub first_line : (before : ℕ) (other : TraceFault) → before < line → is_faulty size names pieces before other ≡ false

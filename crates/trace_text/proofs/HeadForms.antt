@@ -12,10 +12,11 @@ use Rattle.pct_ask.specs.Words.{is_name, is_among}
 use Rattle.pct_ask.specs.NameLists.{NameLists, AreDistinct, place_of}
 use Rattle.pct_ask.specs.VerdictWords.{words_of}
 use Rattle.pct_ask.proofs.laws.SplitWords.{join-words_of, words_of-join}
-use Rattle.trace_text.specs.reader.Heads.{version_in, are_different, are_order_names, order_words}
-use Rattle.trace_text.specs.reader.Heads.{order_in, points_in, limit_in}
-use Rattle.pct_ask.specs.Numbers.{onto, all_of}
-use Rattle.trace_text.specs.Forms.{words_of_form, IsName, IsOf, HasUnknown}
+use Rattle.trace_text.specs.reader.Heads.{version_on_line, are_different, are_order_names}
+use Rattle.trace_text.specs.reader.Heads.{names_after_order}
+use Rattle.trace_text.specs.reader.Heads.{order_on_line, points_on_line, limit_on_line}
+use Rattle.pct_ask.specs.Numbers.{onto_front, all_of}
+use Rattle.trace_text.specs.Forms.{words_of_form, IsName, IsLineOf, HasUnknown}
 use Rattle.trace_text.specs.Forms as forms
 use Rattle.trace_text.proofs.FaultTests.{has_unknown_thread}
 use Rattle.trace_text.proofs.Bytes.{are-solid}
@@ -34,7 +35,7 @@ unfolding digits
 version-spelled v text (inl one) is = rw (is, one) refl
 version-spelled v text (inr two) is = rw (is, two) refl
 
-pub version-form : (text : List ℕ) → is_some (version_in text) ≡ true → (v : ℕ) × (words_of text ≡ words_of_form (forms.Version v)) × ((v ≡ 1) ⊎ (v ≡ 2))
+pub version-form : (text : List ℕ) → is_some (version_on_line text) ≡ true → (v : ℕ) × (words_of text ≡ words_of_form (forms.Version v)) × ((v ≡ 1) ⊎ (v ≡ 2))
 unfolding digits
 version-form text h = by (bytes_eq text (codes "trace 1")) (bytes_eq text (codes "trace 2")) refl refl h
   where
@@ -43,11 +44,11 @@ version-form text h = by (bytes_eq text (codes "trace 1")) (bytes_eq text (codes
     by false true p q k = (2, version-spelled 2 text (inr refl) (same-word text (codes "trace 2") q), inr refl)
     by false false p q k = absurd cc
 
-pub version-read : (text : List ℕ) (v : ℕ) → words_of text ≡ words_of_form (forms.Version v) → (v ≡ 1) ⊎ (v ≡ 2) → version_in text ≡ Some v
-version-read text v words which = ap version_in (text-of text (words_of_form (forms.Version v)) words) ∙ version-known v which
+pub version-read : (text : List ℕ) (v : ℕ) → words_of text ≡ words_of_form (forms.Version v) → (v ≡ 1) ⊎ (v ≡ 2) → version_on_line text ≡ Some v
+version-read text v words which = ap version_on_line (text-of text (words_of_form (forms.Version v)) words) ∙ version-known v which
 
 -- the version of a file, read or not
-pub same-version : (text : List ℕ) → ◌≡◌ {A = ℕ} (unwrap_or (version_in text) 1) (if bytes_eq text (codes "trace 2") then 2 else 1)
+pub same-version : (text : List ℕ) → ◌≡◌ {A = ℕ} (unwrap_or (version_on_line text) 1) (if bytes_eq text (codes "trace 2") then 2 else 1)
 same-version text = by (bytes_eq text (codes "trace 1")) (bytes_eq text (codes "trace 2")) refl refl
   where
     two : text ≡ codes "trace 1" → bytes_eq text (codes "trace 2") ≡ false
@@ -108,10 +109,10 @@ guarded : {A : Type 0} (b : Bool) (x y : A) → (if b then Some x else None) ≡
 guarded true x y h = (refl, cc)
 guarded false x y h = absurd cc
 
-pub order-form : (names : NameLists) (version : ℕ) (text : List ℕ) (threads : List (List ℕ)) → order_in names text ≡ Some threads → (words_of text ≡ words_of_form (forms.Order threads)) × IsOf names version (forms.Order threads)
+pub order-form : (names : NameLists) (version : ℕ) (text : List ℕ) (threads : List (List ℕ)) → order_on_line names text ≡ Some threads → (words_of text ≡ words_of_form (forms.Order threads)) × IsLineOf names version (forms.Order threads)
 order-form names version text threads h = by (words_of text) h
   where
-    by : (words : List (List ℕ)) → order_words names words ≡ Some threads → (words ≡ words_of_form (forms.Order threads)) × IsOf names version (forms.Order threads)
+    by : (words : List (List ℕ)) → names_after_order names words ≡ Some threads → (words ≡ words_of_form (forms.Order threads)) × IsLineOf names version (forms.Order threads)
     by [] k = absurd cc
     by (head ∷ others) k =
         let g = guarded (bytes_eq head (codes "order") && are_order_names names others) others threads k in
@@ -119,10 +120,11 @@ order-form names version text threads h = by (words_of text) h
         let parts : are_order_names names threads ≡ true = ap (are_order_names names) (sym g.1) ∙ and-right (bytes_eq head (codes "order")) (are_order_names names others) g.0 in
         (ap (λ w. w ∷ others) head_is ∙ ap (λ (ws : List (List ℕ)). codes "order" ∷ ws) g.1, order-parts names threads parts)
 
-pub order-read : (names : NameLists) (version : ℕ) (text : List ℕ) (threads : List (List ℕ)) → words_of text ≡ words_of_form (forms.Order threads) → IsOf names version (forms.Order threads) → order_in names text ≡ Some threads
+pub order-read : (names : NameLists) (version : ℕ) (text : List ℕ) (threads : List (List ℕ)) → words_of text ≡ words_of_form (forms.Order threads) → IsLineOf names version (forms.Order threads) → order_on_line names text ≡ Some threads
 order-read names version text threads words of =
     let long : (length threads == length names.threads) ≡ true = let t = of.0 in grind (arith, nat_tests) in
-    ap (order_words names) words ∙ rw (long, lawful-all threads of.1, distinct-are threads of.2)
+    ap (names_after_order names) words ∙ rw
+    (long, lawful-all threads of.1, distinct-are threads of.2)
 
 -- ---- unknown threads
 
@@ -137,11 +139,11 @@ lost-any : (says : List ℕ → Option ℕ) (words : List (List ℕ)) → is_non
 lost-any says [] h = absurd cc
 lost-any says (w ∷ ws) h = by (says w) refl h (λ k. lost-any says ws k)
   where
-    by : (said : Option ℕ) → says w ≡ said → is_none (onto said (all_of says ws)) ≡ true → (is_none (all_of says ws) ≡ true → Any (λ x. says x ≡ None) ws) → Any (λ x. says x ≡ None) (w ∷ ws)
+    by : (said : Option ℕ) → says w ≡ said → is_none (onto_front said (all_of says ws)) ≡ true → (is_none (all_of says ws) ≡ true → Any (λ x. says x ≡ None) ws) → Any (λ x. says x ≡ None) (w ∷ ws)
     by None e k others = (0, w, omega arith, refl, e)
     by (Some x) e k others = more-any (λ v. says v ≡ None) w ws (others (sym (map-is_none (λ xs. x ∷ xs) (all_of says ws)) ∙ k))
 
-onto-none : (said : Option ℕ) (others : Option (List ℕ)) → is_none others ≡ true → is_none (onto said others) ≡ true
+onto-none : (said : Option ℕ) (others : Option (List ℕ)) → is_none others ≡ true → is_none (onto_front said others) ≡ true
 onto-none None others h = refl
 onto-none (Some x) others h = map-is_none (λ xs. x ∷ xs) others ∙ h
 
@@ -149,7 +151,7 @@ any-lost : (says : List ℕ → Option ℕ) (words : List (List ℕ)) → Any (�
 any-lost says [] any = absurd (let low = any.2 in omega arith)
 any-lost says (w ∷ ws) any = by any.0 any.1 any.2 any.3 any.4 (λ k. any-lost says ws k)
   where
-    by : (k : ℕ) (x : List ℕ) → k < length (w ∷ ws) → Rattle.std.specs.List.slice_index_or (w ∷ ws) k x ≡ x → says x ≡ None → (Any (λ v. says v ≡ None) ws → is_none (all_of says ws) ≡ true) → is_none (onto (says w) (all_of says ws)) ≡ true
+    by : (k : ℕ) (x : List ℕ) → k < length (w ∷ ws) → Rattle.std.specs.List.slice_index_or (w ∷ ws) k x ≡ x → says x ≡ None → (Any (λ v. says v ≡ None) ws → is_none (all_of says ws) ≡ true) → is_none (onto_front (says w) (all_of says ws)) ≡ true
     by zero x low at none others = let here : says w ≡ None = ap says at ∙ none in rw here
     by (suc k) x low at none others = onto-none (says w) (all_of says ws) (others (k, x, omega arith, at, none))
 
@@ -161,20 +163,20 @@ unknown-read names threads any = any-lost (λ word. place_of word names.threads)
 
 -- ---- the points and the limit
 
-pub points-form : (names : NameLists) (version : ℕ) (text points : List ℕ) → points_in text ≡ Some points → (words_of text ≡ words_of_form (forms.Points points)) × IsOf names version (forms.Points points)
+pub points-form : (names : NameLists) (version : ℕ) (text points : List ℕ) → points_on_line text ≡ Some points → (words_of text ≡ words_of_form (forms.Points points)) × IsLineOf names version (forms.Points points)
 points-form names version text points h =
     let told = points-told text points h in
     let solid = are-solid (codes "points" ∷ map decimal points) (points-line-high points told.2) in
     (ap words_of told.0 ∙ words_of-join (codes "points") (map decimal points) solid.0 solid.1, (told.1, told.2))
 
-pub points-read : (names : NameLists) (version : ℕ) (text points : List ℕ) → words_of text ≡ words_of_form (forms.Points points) → IsOf names version (forms.Points points) → points_in text ≡ Some points
-points-read names version text points words of = ap points_in (text-of text (words_of_form (forms.Points points)) words) ∙ points-known points of.0 of.1
+pub points-read : (names : NameLists) (version : ℕ) (text points : List ℕ) → words_of text ≡ words_of_form (forms.Points points) → IsLineOf names version (forms.Points points) → points_on_line text ≡ Some points
+points-read names version text points words of = ap points_on_line (text-of text (words_of_form (forms.Points points)) words) ∙ points-known points of.0 of.1
 
-pub limit-form : (names : NameLists) (version : ℕ) (text : List ℕ) (limit : ℕ) → limit_in text ≡ Some limit → (words_of text ≡ words_of_form (forms.Limit limit)) × IsOf names version (forms.Limit limit)
+pub limit-form : (names : NameLists) (version : ℕ) (text : List ℕ) (limit : ℕ) → limit_on_line text ≡ Some limit → (words_of text ≡ words_of_form (forms.Limit limit)) × IsLineOf names version (forms.Limit limit)
 limit-form names version text limit h =
     let told = limit-told text limit h in
     let solid = are-solid (codes "limit" ∷ decimal limit ∷ []) (limit-line-high limit told.1) in
     (ap words_of told.0 ∙ words_of-join (codes "limit") (decimal limit ∷ []) solid.0 solid.1, told.1)
 
-pub limit-read : (names : NameLists) (version : ℕ) (text : List ℕ) (limit : ℕ) → words_of text ≡ words_of_form (forms.Limit limit) → IsOf names version (forms.Limit limit) → limit_in text ≡ Some limit
-limit-read names version text limit words of = ap limit_in (text-of text (words_of_form (forms.Limit limit)) words) ∙ limit-known limit of
+pub limit-read : (names : NameLists) (version : ℕ) (text : List ℕ) (limit : ℕ) → words_of text ≡ words_of_form (forms.Limit limit) → IsLineOf names version (forms.Limit limit) → limit_on_line text ≡ Some limit
+limit-read names version text limit words of = ap limit_on_line (text-of text (words_of_form (forms.Limit limit)) words) ∙ limit-known limit of

@@ -11,10 +11,12 @@ use Rattle.trace_text.specs.declared.fault.TraceFault.TheVariants.{BadHeader}
 use Rattle.pct_ask.specs.Words.{is_name, is_among}
 use Rattle.pct_ask.specs.NameLists.{NameLists}
 use Rattle.trace_text.specs.Lines.{pieces_of}
-use Rattle.trace_text.specs.reader.Heads.{are_different, are_order_names, order_words, order_in}
-use Rattle.trace_text.specs.reader.Heads.{threads_of, point_words, limit_words}
-use Rattle.pct_ask.specs.Numbers.{step_counts, onto}
-use Rattle.trace_text.specs.reader.Reading.{Fault, ◌>>=◌, head_value, head_line, known, order_line}
+use Rattle.trace_text.specs.reader.Heads.{are_different, are_order_names, names_after_order}
+use Rattle.trace_text.specs.reader.Heads.{order_on_line}
+use Rattle.trace_text.specs.reader.Heads.{threads_of_names, point_words, limit_words}
+use Rattle.pct_ask.specs.Numbers.{step_counts, onto_front}
+use Rattle.trace_text.specs.reader.Reading.{Fault, ◌>>=◌, head_value, head_line, known_order}
+use Rattle.trace_text.specs.reader.Reading.{order_line}
 use Rattle.trace_text.specs.reader.Seen.{seen, pieces_after, cut_value}
 
 first-of : (x : ℕ) (pieces : List (List ℕ)) → (piece : List ℕ) × (others : List (List ℕ)) × (onto_first x pieces ≡ piece ∷ others)
@@ -55,7 +57,7 @@ pub fronted-none : (rest : Option (List ℕ)) → fronted [] rest ≡ rest
 fronted-none None = refl
 fronted-none (Some xs) = refl
 
-pub fronted-push : (front : List ℕ) (x : ℕ) (rest : Option (List ℕ)) → fronted (front ++ x ∷ []) rest ≡ fronted front (onto (Some x) rest)
+pub fronted-push : (front : List ℕ) (x : ℕ) (rest : Option (List ℕ)) → fronted (front ++ x ∷ []) rest ≡ fronted front (onto_front (Some x) rest)
 fronted-push front x None = refl
 fronted-push front x (Some xs) = ap (λ ys. Some ys) (append_assoc front (x ∷ []) xs)
 
@@ -84,10 +86,10 @@ pub point_words-take : (words : List (List ℕ)) → point_words (take 9 words) 
 point_words-take [] = refl
 point_words-take (head ∷ words) = points-by (nat_le (length words) 7) head words refl
 
-order-by : (short : Bool) (names : NameLists) (head : List ℕ) (words : List (List ℕ)) → nat_le (length words) (length names.threads) ≡ short → order_words names (head ∷ take (length names.threads + 1) words) ≡ order_words names (head ∷ words)
+order-by : (short : Bool) (names : NameLists) (head : List ℕ) (words : List (List ℕ)) → nat_le (length words) (length names.threads) ≡ short → names_after_order names (head ∷ take (length names.threads + 1) words) ≡ names_after_order names (head ∷ words)
 order-by true names head words h =
     let few : length words ≤ length names.threads + 1 = grind (arith, nat_tests) in
-    ap (λ ws. order_words names (head ∷ ws)) (take_all (length names.threads + 1) words few)
+    ap (λ ws. names_after_order names (head ∷ ws)) (take_all (length names.threads + 1) words few)
 order-by false names head words h =
     let long : length names.threads + 1 ≤ length words = grind (arith, nat_tests) in
     let cut : length (take (length names.threads + 1) words) ≡ length names.threads + 1 = length-take-le (length names.threads + 1) words long in
@@ -99,8 +101,8 @@ order-by false names head words h =
     no-order true x y = refl
     no-order false x y = refl
 
-pub order_words-take : (names : NameLists) (words : List (List ℕ)) → order_words names (take (length names.threads + 2) words) ≡ order_words names words
-order_words-take names [] = ap (order_words names) (take_all (length names.threads + 2) [] (omega arith))
+pub order_words-take : (names : NameLists) (words : List (List ℕ)) → names_after_order names (take (length names.threads + 2) words) ≡ names_after_order names words
+order_words-take names [] = ap (names_after_order names) (take_all (length names.threads + 2) [] (omega arith))
 order_words-take names (head ∷ words) =
     let one_less : length names.threads + 2 ≡ suc (length names.threads + 1) = omega arith in
     rw one_less (order-by (nat_le (length words) (length names.threads)) names head words refl)
@@ -121,23 +123,23 @@ lost-value f line value None e h = let same : (line, BadHeader) ≡ e = cc in ap
 lost-value f line None (Some r) e h = let same : (line, BadHeader) ≡ e = cc in ap (λ x. Err x) same
 lost-value f line (Some y) (Some r) e h = absurd cc
 
-order-value : (names : NameLists) (piece : List ℕ) (most : ℕ) (words : List (Bor (List ℕ))) (value : Option (Bor (List (Bor (List ℕ))))) → most ≡ length names.threads → seen words ≡ take (most + 2) (words_of piece) → option_map (λ found. seen found.now) value ≡ order_words names (seen words) → order_in names piece ≡ option_map (λ found. seen found.now) value
+order-value : (names : NameLists) (piece : List ℕ) (most : ℕ) (words : List (Bor (List ℕ))) (value : Option (Bor (List (Bor (List ℕ))))) → most ≡ length names.threads → seen words ≡ take (most + 2) (words_of piece) → option_map (λ found. seen found.now) value ≡ names_after_order names (seen words) → order_on_line names piece ≡ option_map (λ found. seen found.now) value
 order-value names piece most words value all are is =
-    sym (is ∙ ap (order_words names) (are ∙ ap (λ n. take (n + 2) (words_of piece)) all) ∙ order_words-take names (words_of piece))
+    sym (is ∙ ap (names_after_order names) (are ∙ ap (λ n. take (n + 2) (words_of piece)) all) ∙ order_words-take names (words_of piece))
 
 -- what the line of the order says, where it is one
-pub order_line-found : (names : NameLists) (pieces : List (List ℕ)) (piece : List ℕ) (after : Option (Bor (List ℕ))) (most : ℕ) (words : List (Bor (List ℕ))) (value : Option (Bor (List (Bor (List ℕ))))) (found : Bor (List (Bor (List ℕ)))) (rest : List (List ℕ)) → pieces ≡ piece ∷ pieces_after after → most ≡ length names.threads → seen words ≡ take (most + 2) (words_of piece) → option_map (λ found. seen found.now) value ≡ order_words names (seen words) → cut_value 2 value after ≡ Ok (found, rest)
-    → order_line names pieces ≡ (known (threads_of names (seen found.now)) >>= λ order. Ok (order, rest))
+pub order_line-found : (names : NameLists) (pieces : List (List ℕ)) (piece : List ℕ) (after : Option (Bor (List ℕ))) (most : ℕ) (words : List (Bor (List ℕ))) (value : Option (Bor (List (Bor (List ℕ))))) (found : Bor (List (Bor (List ℕ)))) (rest : List (List ℕ)) → pieces ≡ piece ∷ pieces_after after → most ≡ length names.threads → seen words ≡ take (most + 2) (words_of piece) → option_map (λ found. seen found.now) value ≡ names_after_order names (seen words) → cut_value 2 value after ≡ Ok (found, rest)
+    → order_line names pieces ≡ (known_order (threads_of_names names (seen found.now)) >>= λ order. Ok (order, rest))
 order_line-found names pieces piece after most words value found rest cut all are is got =
-    let says : cut_value 2 (order_in names piece) after ≡ Ok (seen found.now, rest) = rw (order-value names piece most words value all are is) (found-value (λ w. seen w.now) 2 value after found rest got) in
-    ap (λ r. r >>= λ ws. (known (threads_of names ws.0) >>= λ order. Ok (order, ws.1))) (head_line-cut 2 (order_in names) pieces piece after cut ∙ says)
+    let says : cut_value 2 (order_on_line names piece) after ≡ Ok (seen found.now, rest) = rw (order-value names piece most words value all are is) (found-value (λ w. seen w.now) 2 value after found rest got) in
+    ap (λ r. r >>= λ ws. (known_order (threads_of_names names ws.0) >>= λ order. Ok (order, ws.1))) (head_line-cut 2 (order_on_line names) pieces piece after cut ∙ says)
 
 -- and where it is none
-pub order_line-lost : (names : NameLists) (pieces : List (List ℕ)) (piece : List ℕ) (after : Option (Bor (List ℕ))) (most : ℕ) (words : List (Bor (List ℕ))) (value : Option (Bor (List (Bor (List ℕ))))) (e : Fault) → pieces ≡ piece ∷ pieces_after after → most ≡ length names.threads → seen words ≡ take (most + 2) (words_of piece) → option_map (λ found. seen found.now) value ≡ order_words names (seen words) → cut_value 2 value after ≡ Err e
+pub order_line-lost : (names : NameLists) (pieces : List (List ℕ)) (piece : List ℕ) (after : Option (Bor (List ℕ))) (most : ℕ) (words : List (Bor (List ℕ))) (value : Option (Bor (List (Bor (List ℕ))))) (e : Fault) → pieces ≡ piece ∷ pieces_after after → most ≡ length names.threads → seen words ≡ take (most + 2) (words_of piece) → option_map (λ found. seen found.now) value ≡ names_after_order names (seen words) → cut_value 2 value after ≡ Err e
     → order_line names pieces ≡ Err e
 order_line-lost names pieces piece after most words value e cut all are is got =
-    let says : cut_value 2 (order_in names piece) after ≡ Err e = rw (order-value names piece most words value all are is) (lost-value (λ w. seen w.now) 2 value after e got) in
-    ap (λ r. r >>= λ ws. (known (threads_of names ws.0) >>= λ order. Ok (order, ws.1))) (head_line-cut 2 (order_in names) pieces piece after cut ∙ says)
+    let says : cut_value 2 (order_on_line names piece) after ≡ Err e = rw (order-value names piece most words value all are is) (lost-value (λ w. seen w.now) 2 value after e got) in
+    ap (λ r. r >>= λ ws. (known_order (threads_of_names names ws.0) >>= λ order. Ok (order, ws.1))) (head_line-cut 2 (order_on_line names) pieces piece after cut ∙ says)
 
 -- ---- different words
 

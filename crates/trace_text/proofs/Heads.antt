@@ -17,11 +17,13 @@ use Rattle.pct_ask.specs.declared.names.NameKind.TheVariants.{Thread}
 use Rattle.pct_ask.proofs.laws.Names.{place_of-Some}
 use Rattle.pct_ask.proofs.laws.SplitWords.{join-words_of, words_of-join}
 use Rattle.trace_text.specs.Lawful.{IsStepCount}
-use Rattle.pct_ask.specs.Numbers.{onto, all_of, step_count, step_counts}
+use Rattle.pct_ask.specs.Numbers.{onto_front, all_of, step_count, step_counts}
 use Rattle.pct_ask.proofs.laws.Decimals.{number_in-decimal, number_in-Some}
-use Rattle.trace_text.specs.reader.Heads.{version_in, are_different, are_order_names, order_words}
-use Rattle.trace_text.specs.reader.Heads.{order_in, threads_of, point_words, points_in, limit_words}
-use Rattle.trace_text.specs.reader.Heads.{limit_in}
+use Rattle.trace_text.specs.reader.Heads.{version_on_line, are_different, are_order_names}
+use Rattle.trace_text.specs.reader.Heads.{names_after_order}
+use Rattle.trace_text.specs.reader.Heads.{order_on_line, threads_of_names, point_words}
+use Rattle.trace_text.specs.reader.Heads.{points_on_line, limit_words}
+use Rattle.trace_text.specs.reader.Heads.{limit_on_line}
 use Rattle.trace_text.proofs.Names.{place_of-kind, name-lawful}
 use Rattle.trace_text.proofs.Bytes.{AreHigh, high-by, name-high, decimal-high, are-solid}
 
@@ -54,24 +56,24 @@ version-by text v true b p q h = let is : 1 ≡ v = cc in (inl (sym is), same-wo
 version-by text v false true p q h = let is : 2 ≡ v = cc in (inr (sym is), same-word text (codes "trace 2") q ∙ ap (λ n. join_with_byte 32 (codes "trace" ∷ decimal n ∷ [])) is)
 version-by text v false false p q h = absurd cc
 
-pub version-told : (text : List ℕ) (v : ℕ) → version_in text ≡ Some v → ((v ≡ 1) ⊎ (v ≡ 2)) × (text ≡ join_with_byte 32 (codes "trace" ∷ decimal v ∷ []))
+pub version-told : (text : List ℕ) (v : ℕ) → version_on_line text ≡ Some v → ((v ≡ 1) ⊎ (v ≡ 2)) × (text ≡ join_with_byte 32 (codes "trace" ∷ decimal v ∷ []))
 version-told text v h = version-by text v (bytes_eq text (codes "trace 1")) (bytes_eq text (codes "trace 2")) refl refl h
 
-version-one : version_in (join_with_byte 32 (codes "trace" ∷ decimal 1 ∷ [])) ≡ Some 1
+version-one : version_on_line (join_with_byte 32 (codes "trace" ∷ decimal 1 ∷ [])) ≡ Some 1
 unfolding digits
 version-one = refl
 
-version-two : version_in (join_with_byte 32 (codes "trace" ∷ decimal 2 ∷ [])) ≡ Some 2
+version-two : version_on_line (join_with_byte 32 (codes "trace" ∷ decimal 2 ∷ [])) ≡ Some 2
 unfolding digits
 version-two = refl
 
-pub version-known : (v : ℕ) → (v ≡ 1) ⊎ (v ≡ 2) → version_in (join_with_byte 32 (codes "trace" ∷ decimal v ∷ [])) ≡ Some v
+pub version-known : (v : ℕ) → (v ≡ 1) ⊎ (v ≡ 2) → version_on_line (join_with_byte 32 (codes "trace" ∷ decimal v ∷ [])) ≡ Some v
 version-known v (inl one) = rw one version-one
 version-known v (inr two) = rw two version-two
 
 -- ---- what each word is
 
-onto-inv : {A : Type 0} (x : Option A) (others : Option (List A)) (xs : List A) → onto x others ≡ Some xs → (y : A) × (ys : List A) × (x ≡ Some y) × (others ≡ Some ys) × (y ∷ ys ≡ xs)
+onto-inv : {A : Type 0} (x : Option A) (others : Option (List A)) (xs : List A) → onto_front x others ≡ Some xs → (y : A) × (ys : List A) × (x ≡ Some y) × (others ≡ Some ys) × (y ∷ ys ≡ xs)
 onto-inv None others xs h = absurd cc
 onto-inv (Some y) None xs h = absurd cc
 onto-inv (Some y) (Some ys) xs h = (y, ys, refl, refl, some_is (y ∷ ys) xs h)
@@ -143,11 +145,11 @@ once-told names (t ∷ ts) h =
     not-true true h = cc
     not-true false h = refl
 
-pub order-told : (names : NameLists) (text : List ℕ) (words : List (List ℕ)) (order : List ℕ) → order_in names text ≡ Some words → threads_of names words ≡ Some order
+pub order-told : (names : NameLists) (text : List ℕ) (words : List (List ℕ)) (order : List ℕ) → order_on_line names text ≡ Some words → threads_of_names names words ≡ Some order
     → (text ≡ join_with_byte 32 (codes "order" ∷ map (thread_name names) order)) × All (λ t. t < length names.threads) order × AllPairs ◌≢◌ order × (length order ≡ length names.threads)
 order-told names text words order h known = by (words_of text) refl h
   where
-    by : (all : List (List ℕ)) → words_of text ≡ all → order_words names all ≡ Some words → (text ≡ join_with_byte 32 (codes "order" ∷ map (thread_name names) order)) × All (λ t. t < length names.threads) order × AllPairs ◌≢◌ order × (length order ≡ length names.threads)
+    by : (all : List (List ℕ)) → words_of text ≡ all → names_after_order names all ≡ Some words → (text ≡ join_with_byte 32 (codes "order" ∷ map (thread_name names) order)) × All (λ t. t < length names.threads) order × AllPairs ◌≢◌ order × (length order ≡ length names.threads)
     by [] is h = absurd cc
     by (head ∷ others) is h =
         let g = guarded (bytes_eq head (codes "order") && are_order_names names others) (Some others) words h in
@@ -203,13 +205,13 @@ pub order-line-high : (names : NameLists) (order : List ℕ) → AreNames names 
 order-line-high names order sound all = (high-by (codes "order") refl, order-high names order sound all)
 
 pub order-known : (names : NameLists) (order : List ℕ) → AreNames names → All (λ t. t < length names.threads) order → AllPairs ◌≢◌ order → length order ≡ length names.threads
-    → (order_in names (join_with_byte 32 (codes "order" ∷ map (thread_name names) order)) ≡ Some (map (thread_name names) order)) × (threads_of names (map (thread_name names) order) ≡ Some order)
+    → (order_on_line names (join_with_byte 32 (codes "order" ∷ map (thread_name names) order)) ≡ Some (map (thread_name names) order)) × (threads_of_names names (map (thread_name names) order) ≡ Some order)
 order-known names order sound all once long =
     let high = order-high names order sound all in
     let solid = are-solid (codes "order" ∷ map (thread_name names) order) (high-by (codes "order") refl, high) in
     let cut = words_of-join (codes "order") (map (thread_name names) order) solid.0 solid.1 in
     let same : (length (map (thread_name names) order) == length names.threads) ≡ true = let l : length (map (thread_name names) order) ≡ length names.threads = length-map order (thread_name names) ∙ long in grind (arith, nat_tests) in
-    (ap (order_words names) cut ∙ rw (same, lawful-known names order sound all, different-known names order sound all once), all-known (λ word. place_of word names.threads) (thread_name names) (HasName names) order (thread-known names sound) all)
+    (ap (names_after_order names) cut ∙ rw (same, lawful-known names order sound all, different-known names order sound all once), all-known (λ word. place_of word names.threads) (thread_name names) (HasName names) order (thread-known names sound) all)
 
 -- ---- the points and the limit
 
@@ -219,7 +221,7 @@ point-told word n h = let k = number_in-Some 1 100000 n word h in (k.2, (k.0, k.
 point-known : (n : ℕ) → IsStepCount n → step_count (decimal n) ≡ Some n
 point-known n h = number_in-decimal 1 100000 n (decimal n) h.0 h.1 (omega arith) refl
 
-pub points-told : (text : List ℕ) (points : List ℕ) → points_in text ≡ Some points → (text ≡ join_with_byte 32 (codes "points" ∷ map decimal points)) × (length points ≤ 7) × All IsStepCount points
+pub points-told : (text : List ℕ) (points : List ℕ) → points_on_line text ≡ Some points → (text ≡ join_with_byte 32 (codes "points" ∷ map decimal points)) × (length points ≤ 7) × All IsStepCount points
 points-told text points h = by (words_of text) refl h
   where
     by : (all : List (List ℕ)) → words_of text ≡ all → point_words all ≡ Some points → (text ≡ join_with_byte 32 (codes "points" ∷ map decimal points)) × (length points ≤ 7) × All IsStepCount points
@@ -241,14 +243,14 @@ points-high (p ∷ ps) all =
 pub points-line-high : (points : List ℕ) → All IsStepCount points → AreHigh (codes "points" ∷ map decimal points)
 points-line-high points all = (high-by (codes "points") refl, points-high points all)
 
-pub points-known : (points : List ℕ) → length points ≤ 7 → All IsStepCount points → points_in (join_with_byte 32 (codes "points" ∷ map decimal points)) ≡ Some points
+pub points-known : (points : List ℕ) → length points ≤ 7 → All IsStepCount points → points_on_line (join_with_byte 32 (codes "points" ∷ map decimal points)) ≡ Some points
 points-known points few all =
     let solid = are-solid (codes "points" ∷ map decimal points) (points-line-high points all) in
     let cut = words_of-join (codes "points") (map decimal points) solid.0 solid.1 in
     let short : nat_le (length (map decimal points)) 7 ≡ true = let l : length (map decimal points) ≡ length points = length-map points decimal in grind (arith, nat_tests) in
     ap point_words cut ∙ rw short (all-known step_count decimal IsStepCount points point-known all)
 
-pub limit-told : (text : List ℕ) (limit : ℕ) → limit_in text ≡ Some limit → (text ≡ join_with_byte 32 (codes "limit" ∷ decimal limit ∷ [])) × IsStepCount limit
+pub limit-told : (text : List ℕ) (limit : ℕ) → limit_on_line text ≡ Some limit → (text ≡ join_with_byte 32 (codes "limit" ∷ decimal limit ∷ [])) × IsStepCount limit
 limit-told text limit h = by (words_of text) refl h
   where
     by : (all : List (List ℕ)) → words_of text ≡ all → limit_words all ≡ Some limit → (text ≡ join_with_byte 32 (codes "limit" ∷ decimal limit ∷ [])) × IsStepCount limit
@@ -263,7 +265,7 @@ limit-told text limit h = by (words_of text) refl h
 pub limit-line-high : (limit : ℕ) → IsStepCount limit → AreHigh (codes "limit" ∷ decimal limit ∷ [])
 limit-line-high limit h = (high-by (codes "limit") refl, (decimal-high limit (omega (arith, h.0, h.1)), tt))
 
-pub limit-known : (limit : ℕ) → IsStepCount limit → limit_in (join_with_byte 32 (codes "limit" ∷ decimal limit ∷ [])) ≡ Some limit
+pub limit-known : (limit : ℕ) → IsStepCount limit → limit_on_line (join_with_byte 32 (codes "limit" ∷ decimal limit ∷ [])) ≡ Some limit
 limit-known limit h =
     let solid = are-solid (codes "limit" ∷ decimal limit ∷ []) (limit-line-high limit h) in
     ap limit_words (words_of-join (codes "limit") (decimal limit ∷ []) solid.0 solid.1) ∙ point-known limit h

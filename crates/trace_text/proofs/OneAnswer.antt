@@ -3,7 +3,7 @@ use Rattle.std.proofs.Common.{◌≡◌, ℕ, List, Result, Ok, Err, inl, inr, r
 use Rattle.std.specs.Prelude.{length}
 use Rattle.pct_ask.specs.NameLists.{NameLists, AreNames}
 use Rattle.trace_text.specs.Lines.{pieces_of}
-use Rattle.trace_text.specs.reader.Reading.{Fault, read}
+use Rattle.trace_text.specs.reader.Reading.{Fault, read_as_trace}
 use Rattle.trace_text.specs.Trace.{IsTrace}
 use Rattle.trace_text.specs.Faults.{IsTraceFault}
 use Rattle.trace_text.specs.Answers.{HasOneAnswer}
@@ -17,10 +17,11 @@ module _ (names : NameLists) (sound : AreNames names) (bytes : List ℕ) where
   no-both : (file : TraceFile) (line : ℕ) (kind : TraceFault) → IsTrace bytes names file → ¬ IsTraceFault bytes names line kind
   no-both file line kind trace fault =
       let two : ◌≡◌ {A = Result TraceFile Fault} (Ok file) (Err (line, kind)) =
-      sym (trace-read names bytes file sound trace) ∙ fault-read names bytes (read names bytes) line kind (read-found names bytes sound) fault in
+      sym (trace-read names bytes file sound trace) ∙ fault-read names bytes (read_as_trace names bytes) line kind (read-found names bytes sound) fault in
       absurd cc
 
-  by_reading : (r : Result TraceFile Fault) → read names bytes ≡ r → HasOneAnswer bytes names
+  by_reading : (r : Result TraceFile Fault) → read_as_trace names bytes ≡ r
+      → HasOneAnswer bytes names
   by_reading (Ok file) is =
       let trace : IsTrace bytes names file = answer-given names bytes (Ok file) sound is in
       inl (
@@ -44,7 +45,7 @@ module _ (names : NameLists) (sound : AreNames names) (bytes : List ℕ) where
       )
 
   pub answers-one : HasOneAnswer bytes names
-  answers-one = by_reading (read names bytes) refl
+  answers-one = by_reading (read_as_trace names bytes) refl
 
 pub one-answer : (names : NameLists) → AreNames names → (bytes : List ℕ) → HasOneAnswer bytes names
 one-answer = answers-one

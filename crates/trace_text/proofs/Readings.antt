@@ -4,9 +4,10 @@ use Rattle.std.proofs.Common.{◌≡◌, ℕ, ◌+◌, ◌-◌, ◌<◌, Bool, t
 use Rattle.std.proofs.lemmas.Bool.Decides.{nat_tests}
 use Rattle.pct_ask.specs.NameLists.{NameLists}
 use Rattle.trace_text.specs.Lines.{pieces_of, is_empty, piece_at, line_at, text_in, is_whole}
-use Rattle.trace_text.specs.reader.Heads.{version_in, order_in, threads_of, points_in, limit_in}
+use Rattle.trace_text.specs.reader.Heads.{version_on_line, order_on_line, threads_of_names}
+use Rattle.trace_text.specs.reader.Heads.{points_on_line, limit_on_line}
 use Rattle.trace_text.proofs.FaultTests.{is_head_line, has_unknown_thread, is_faulty, IsFirstFound}
-use Rattle.trace_text.specs.reader.Reading.{Fault, Body, ◌>>=◌, head_value, head_line, known, order_line, body_of, file_of, file_in, read}
+use Rattle.trace_text.specs.reader.Reading.{Fault, Body, ◌>>=◌, head_value, head_line, known_order, order_line, body_of, file_of, file_in, read_as_trace}
 use Rattle.trace_text.specs.declared.file.TraceFile.{TraceFile}
 use Rattle.trace_text.specs.declared.fault.TraceFault.{TraceFault}
 use Rattle.trace_text.specs.declared.fault.TraceFault.TheVariants.{TooLong, BadHeader, BadLine, UnknownName, OutOfOrder, NoVerdict, MoreAfterVerdict}
@@ -85,11 +86,11 @@ line-one size names all small sound OutOfOrder = refl
 line-one size names all small sound NoVerdict = refl
 line-one size names all small sound MoreAfterVerdict = refl
 
-line-two : (size : ℕ) (names : NameLists) (all : List (List ℕ)) → IsHeadLine names all 2 → has_unknown_thread names (order_in names (text_in (line_at all 2))) ≡ false → (kind : TraceFault) → is_faulty size names all 2 kind ≡ false
+line-two : (size : ℕ) (names : NameLists) (all : List (List ℕ)) → IsHeadLine names all 2 → has_unknown_thread names (order_on_line names (text_in (line_at all 2))) ≡ false → (kind : TraceFault) → is_faulty size names all 2 kind ≡ false
 line-two size names all sound known TooLong = refl
 line-two size names all sound known BadHeader = not-true (is_whole (line_at all 2) && is_head_line names all 2) sound
 line-two size names all sound known BadLine = refl
-line-two size names all sound known UnknownName = or-none (has_unknown_thread names (order_in names (text_in (line_at all 2)))) known
+line-two size names all sound known UnknownName = or-none (has_unknown_thread names (order_on_line names (text_in (line_at all 2)))) known
 line-two size names all sound known OutOfOrder = refl
 line-two size names all sound known NoVerdict = refl
 line-two size names all sound known MoreAfterVerdict = refl
@@ -164,29 +165,29 @@ some-true o x h = ap is_some h
 or-true : (a : Bool) → a ≡ true → (a || false) ≡ true
 or-true a p = rw p
 
-one-sound : (names : NameLists) (p1 : List ℕ) (rest : List (List ℕ)) (version : ℕ) → version_in p1 ≡ Some version → (not (is_empty rest) && is_some (version_in p1)) ≡ not (is_empty rest)
+one-sound : (names : NameLists) (p1 : List ℕ) (rest : List (List ℕ)) (version : ℕ) → version_on_line p1 ≡ Some version → (not (is_empty rest) && is_some (version_on_line p1)) ≡ not (is_empty rest)
 one-sound names p1 [] version v = refl
 one-sound names p1 (p ∷ rest) version v = ap is_some v
 
 -- the stages: a text of which some lines of the head are known
-stage-five : (size : ℕ) (names : NameLists) (p1 p2 p3 p4 p5 : List ℕ) (rest : List (List ℕ)) (version : ℕ) (words : List (List ℕ)) (order points : List ℕ) (limit : ℕ) → nat_lt 16777216 size ≡ false → version_in p1 ≡ Some version → order_in names p2 ≡ Some words → threads_of names words ≡ Some order → points_in p3 ≡ Some points → limit_in p4 ≡ Some limit
+stage-five : (size : ℕ) (names : NameLists) (p1 p2 p3 p4 p5 : List ℕ) (rest : List (List ℕ)) (version : ℕ) (words : List (List ℕ)) (order points : List ℕ) (limit : ℕ) → nat_lt 16777216 size ≡ false → version_on_line p1 ≡ Some version → order_on_line names p2 ≡ Some words → threads_of_names names words ≡ Some order → points_on_line p3 ≡ Some points → limit_on_line p4 ≡ Some limit
     → IsTold size names (p1 ∷ p2 ∷ p3 ∷ p4 ∷ p5 ∷ rest) (after-head names version order points limit (p5 ∷ rest))
 stage-five size names p1 p2 p3 p4 p5 rest version words order points limit small v o t p l =
     let all = p1 ∷ p2 ∷ p3 ∷ p4 ∷ p5 ∷ rest in
-    let one = line-one size names all small (some-true (version_in p1) version v) in
-    let two = line-two size names all (some-true (order_in names p2) words o) (ap (has_unknown_thread names) o ∙ unknown) in
-    let three = line-three size names all (some-true (points_in p3) points p) in
-    let four = line-four size names all (some-true (limit_in p4) limit l) in
+    let one = line-one size names all small (some-true (version_on_line p1) version v) in
+    let two = line-two size names all (some-true (order_on_line names p2) words o) (ap (has_unknown_thread names) o ∙ unknown) in
+    let three = line-three size names all (some-true (points_on_line p3) points p) in
+    let four = line-four size names all (some-true (limit_on_line p4) limit l) in
     told-file size names all version order points limit (body_of names version limit 1 (p5 ∷ rest))
     (body-faults size names all version limit p5 rest (versions v) (limits l) (λ i k e. places i k e) (sound-five size names all (sound-four size names all (sound-three size names all one two) three) four))
   where
     unknown : has_unknown_thread names (Some words) ≡ false
     unknown = rw t
 
-    versions : (h : version_in p1 ≡ Some version) → Rattle.trace_text.proofs.FaultTests.version_of (p1 ∷ p2 ∷ p3 ∷ p4 ∷ p5 ∷ rest) ≡ version
+    versions : (h : version_on_line p1 ≡ Some version) → Rattle.trace_text.proofs.FaultTests.version_of (p1 ∷ p2 ∷ p3 ∷ p4 ∷ p5 ∷ rest) ≡ version
     versions h = rw h
 
-    limits : (h : limit_in p4 ≡ Some limit) → Rattle.trace_text.proofs.FaultTests.limit_of (p1 ∷ p2 ∷ p3 ∷ p4 ∷ p5 ∷ rest) ≡ limit
+    limits : (h : limit_on_line p4 ≡ Some limit) → Rattle.trace_text.proofs.FaultTests.limit_of (p1 ∷ p2 ∷ p3 ∷ p4 ∷ p5 ∷ rest) ≡ limit
     limits h = rw h
 
     places : (i k : ℕ) → k ≡ 5 + i → line_at (p1 ∷ p2 ∷ p3 ∷ p4 ∷ p5 ∷ rest) k ≡ piece_at (p5 ∷ rest) i
@@ -195,82 +196,82 @@ stage-five size names p1 p2 p3 p4 p5 rest version words order points limit small
 same-ok : {A : Type 0} (x : A) (rest : List (List ℕ)) (next : List ℕ) (others : List (List ℕ)) (r : Result (A × List (List ℕ)) Fault) → r ≡ Ok (x, rest) → rest ≡ next ∷ others → r ≡ Ok (x, next ∷ others)
 same-ok x rest next others r h is = h ∙ ap (λ ps. Ok (x, ps)) is
 
-four-by : (size : ℕ) (names : NameLists) (p1 p2 p3 p4 : List ℕ) (rest : List (List ℕ)) (version : ℕ) (words : List (List ℕ)) (order points : List ℕ) (read : Result (ℕ × List (List ℕ)) Fault) → nat_lt 16777216 size ≡ false → version_in p1 ≡ Some version → order_in names p2 ≡ Some words → threads_of names words ≡ Some order → points_in p3 ≡ Some points → head_line 4 limit_in (p4 ∷ rest) ≡ read
+four-by : (size : ℕ) (names : NameLists) (p1 p2 p3 p4 : List ℕ) (rest : List (List ℕ)) (version : ℕ) (words : List (List ℕ)) (order points : List ℕ) (read : Result (ℕ × List (List ℕ)) Fault) → nat_lt 16777216 size ≡ false → version_on_line p1 ≡ Some version → order_on_line names p2 ≡ Some words → threads_of_names names words ≡ Some order → points_on_line p3 ≡ Some points → head_line 4 limit_on_line (p4 ∷ rest) ≡ read
     → IsTold size names (p1 ∷ p2 ∷ p3 ∷ p4 ∷ rest) (read >>= λ limit. after-head names version order points limit.0 limit.1)
 four-by size names p1 p2 p3 p4 rest version words order points (Err e) small v o t p h =
     let all = p1 ∷ p2 ∷ p3 ∷ p4 ∷ rest in
-    let bad = head-err 4 limit_in (p4 ∷ rest) e h in
+    let bad = head-err 4 limit_on_line (p4 ∷ rest) e h in
     let unknown : has_unknown_thread names (Some words) ≡ false = rw t in
-    let one = line-one size names all small (some-true (version_in p1) version v) in
-    let two = line-two size names all (some-true (order_in names p2) words o) (ap (has_unknown_thread names) o ∙ unknown) in
-    let three = line-three size names all (some-true (points_in p3) points p) in
-    let fault = head-fault size names all 4 BadHeader (first_bad_header (is_faulty size names all 4) refl (not-false (is_sound limit_in (p4 ∷ rest)) bad.1)) (sound-four size names all (sound-three size names all one two) three) in
+    let one = line-one size names all small (some-true (version_on_line p1) version v) in
+    let two = line-two size names all (some-true (order_on_line names p2) words o) (ap (has_unknown_thread names) o ∙ unknown) in
+    let three = line-three size names all (some-true (points_on_line p3) points p) in
+    let fault = head-fault size names all 4 BadHeader (first_bad_header (is_faulty size names all 4) refl (not-false (is_sound limit_on_line (p4 ∷ rest)) bad.1)) (sound-four size names all (sound-three size names all one two) three) in
     rw bad.0 fault
 four-by size names p1 p2 p3 p4 [] version words order points (Ok (l, ps)) small v o t p h = absurd cc
 four-by size names p1 p2 p3 p4 (p5 ∷ rest) version words order points (Ok (l, ps)) small v o t p h =
-    let is = value-inv 4 (limit_in p4) p5 rest l ps h in
+    let is = value-inv 4 (limit_on_line p4) p5 rest l ps h in
     rw is.1 (stage-five size names p1 p2 p3 p4 p5 rest version words order points l small v o t p is.0)
 
-three-by : (size : ℕ) (names : NameLists) (p1 p2 p3 : List ℕ) (rest : List (List ℕ)) (version : ℕ) (words : List (List ℕ)) (order : List ℕ) (read : Result (List ℕ × List (List ℕ)) Fault) → nat_lt 16777216 size ≡ false → version_in p1 ≡ Some version → order_in names p2 ≡ Some words → threads_of names words ≡ Some order → head_line 3 points_in (p3 ∷ rest) ≡ read
-    → IsTold size names (p1 ∷ p2 ∷ p3 ∷ rest) (read >>= λ points. (head_line 4 limit_in points.1 >>= λ limit. after-head names version order points.0 limit.0 limit.1))
+three-by : (size : ℕ) (names : NameLists) (p1 p2 p3 : List ℕ) (rest : List (List ℕ)) (version : ℕ) (words : List (List ℕ)) (order : List ℕ) (read : Result (List ℕ × List (List ℕ)) Fault) → nat_lt 16777216 size ≡ false → version_on_line p1 ≡ Some version → order_on_line names p2 ≡ Some words → threads_of_names names words ≡ Some order → head_line 3 points_on_line (p3 ∷ rest) ≡ read
+    → IsTold size names (p1 ∷ p2 ∷ p3 ∷ rest) (read >>= λ points. (head_line 4 limit_on_line points.1 >>= λ limit. after-head names version order points.0 limit.0 limit.1))
 three-by size names p1 p2 p3 rest version words order (Err e) small v o t h =
     let all = p1 ∷ p2 ∷ p3 ∷ rest in
-    let bad = head-err 3 points_in (p3 ∷ rest) e h in
+    let bad = head-err 3 points_on_line (p3 ∷ rest) e h in
     let unknown : has_unknown_thread names (Some words) ≡ false = rw t in
     let one = line-one size names all small (one-sound names p1 (p2 ∷ p3 ∷ rest) version v) in
-    let two = line-two size names all (some-true (order_in names p2) words o) (ap (has_unknown_thread names) o ∙ unknown) in
-    let fault = head-fault size names all 3 BadHeader (first_bad_header (is_faulty size names all 3) refl (not-false (is_sound points_in (p3 ∷ rest)) bad.1)) (sound-three size names all one two) in
+    let two = line-two size names all (some-true (order_on_line names p2) words o) (ap (has_unknown_thread names) o ∙ unknown) in
+    let fault = head-fault size names all 3 BadHeader (first_bad_header (is_faulty size names all 3) refl (not-false (is_sound points_on_line (p3 ∷ rest)) bad.1)) (sound-three size names all one two) in
     rw bad.0 fault
 three-by size names p1 p2 p3 [] version words order (Ok (x, ps)) small v o t h = absurd cc
 three-by size names p1 p2 p3 (p4 ∷ rest) version words order (Ok (x, ps)) small v o t h =
-    let is = value-inv 3 (points_in p3) p4 rest x ps h in
-    rw is.1 (four-by size names p1 p2 p3 p4 rest version words order x (head_line 4 limit_in (p4 ∷ rest)) small v o t is.0 refl)
+    let is = value-inv 3 (points_on_line p3) p4 rest x ps h in
+    rw is.1 (four-by size names p1 p2 p3 p4 rest version words order x (head_line 4 limit_on_line (p4 ∷ rest)) small v o t is.0 refl)
 
-threads-by : (size : ℕ) (names : NameLists) (p1 p2 p3 : List ℕ) (rest : List (List ℕ)) (version : ℕ) (words : List (List ℕ)) (order : Option (List ℕ)) → nat_lt 16777216 size ≡ false → version_in p1 ≡ Some version → order_in names p2 ≡ Some words → threads_of names words ≡ order
-    → IsTold size names (p1 ∷ p2 ∷ p3 ∷ rest) ((◌>>=◌ {A = List ℕ} {B = List ℕ × List (List ℕ)} (known order) (λ o. Ok (o, p3 ∷ rest))) >>= λ o. (head_line 3 points_in o.1 >>= λ points. (head_line 4 limit_in points.1 >>= λ limit. after-head names version o.0 points.0 limit.0 limit.1)))
+threads-by : (size : ℕ) (names : NameLists) (p1 p2 p3 : List ℕ) (rest : List (List ℕ)) (version : ℕ) (words : List (List ℕ)) (order : Option (List ℕ)) → nat_lt 16777216 size ≡ false → version_on_line p1 ≡ Some version → order_on_line names p2 ≡ Some words → threads_of_names names words ≡ order
+    → IsTold size names (p1 ∷ p2 ∷ p3 ∷ rest) ((◌>>=◌ {A = List ℕ} {B = List ℕ × List (List ℕ)} (known_order order) (λ o. Ok (o, p3 ∷ rest))) >>= λ o. (head_line 3 points_on_line o.1 >>= λ points. (head_line 4 limit_on_line points.1 >>= λ limit. after-head names version o.0 points.0 limit.0 limit.1)))
 threads-by size names p1 p2 p3 rest version words None small v o t =
     let all = p1 ∷ p2 ∷ p3 ∷ rest in
     let one = line-one size names all small (one-sound names p1 (p2 ∷ p3 ∷ rest) version v) in
-    let sound : IsHeadLine names all 2 = some-true (order_in names p2) words o in
+    let sound : IsHeadLine names all 2 = some-true (order_on_line names p2) words o in
     let missing : has_unknown_thread names (Some words) ≡ true = rw t in
-    let unknown : has_unknown_thread names (order_in names p2) ≡ true = ap (has_unknown_thread names) o ∙ missing in
-    head-fault size names all 2 UnknownName (first_unknown_line (is_faulty size names all 2) refl (not-true (is_some (order_in names p2)) sound) refl (or-true (has_unknown_thread names (order_in names p2)) unknown)) (sound-two size names all one)
+    let unknown : has_unknown_thread names (order_on_line names p2) ≡ true = ap (has_unknown_thread names) o ∙ missing in
+    head-fault size names all 2 UnknownName (first_unknown_line (is_faulty size names all 2) refl (not-true (is_some (order_on_line names p2)) sound) refl (or-true (has_unknown_thread names (order_on_line names p2)) unknown)) (sound-two size names all one)
 threads-by size names p1 p2 p3 rest version words (Some order) small v o t =
-    three-by size names p1 p2 p3 rest version words order (head_line 3 points_in (p3 ∷ rest)) small v o t refl
+    three-by size names p1 p2 p3 rest version words order (head_line 3 points_on_line (p3 ∷ rest)) small v o t refl
 
-two-by : (size : ℕ) (names : NameLists) (p1 p2 : List ℕ) (rest : List (List ℕ)) (version : ℕ) (read : Result (List (List ℕ) × List (List ℕ)) Fault) → nat_lt 16777216 size ≡ false → version_in p1 ≡ Some version → head_line 2 (order_in names) (p2 ∷ rest) ≡ read
-    → IsTold size names (p1 ∷ p2 ∷ rest) ((read >>= λ words. ◌>>=◌ {A = List ℕ} {B = List ℕ × List (List ℕ)} (known (threads_of names words.0)) (λ o. Ok (o, words.1))) >>= λ o. (head_line 3 points_in o.1 >>= λ points. (head_line 4 limit_in points.1 >>= λ limit. after-head names version o.0 points.0 limit.0 limit.1)))
+two-by : (size : ℕ) (names : NameLists) (p1 p2 : List ℕ) (rest : List (List ℕ)) (version : ℕ) (read : Result (List (List ℕ) × List (List ℕ)) Fault) → nat_lt 16777216 size ≡ false → version_on_line p1 ≡ Some version → head_line 2 (order_on_line names) (p2 ∷ rest) ≡ read
+    → IsTold size names (p1 ∷ p2 ∷ rest) ((read >>= λ words. ◌>>=◌ {A = List ℕ} {B = List ℕ × List (List ℕ)} (known_order (threads_of_names names words.0)) (λ o. Ok (o, words.1))) >>= λ o. (head_line 3 points_on_line o.1 >>= λ points. (head_line 4 limit_on_line points.1 >>= λ limit. after-head names version o.0 points.0 limit.0 limit.1)))
 two-by size names p1 p2 rest version (Err e) small v h =
     let all = p1 ∷ p2 ∷ rest in
-    let bad = head-err 2 (order_in names) (p2 ∷ rest) e h in
+    let bad = head-err 2 (order_on_line names) (p2 ∷ rest) e h in
     let one = line-one size names all small (one-sound names p1 (p2 ∷ rest) version v) in
-    let fault = head-fault size names all 2 BadHeader (first_bad_header (is_faulty size names all 2) refl (not-false (is_sound (order_in names) (p2 ∷ rest)) bad.1)) (sound-two size names all one) in
+    let fault = head-fault size names all 2 BadHeader (first_bad_header (is_faulty size names all 2) refl (not-false (is_sound (order_on_line names) (p2 ∷ rest)) bad.1)) (sound-two size names all one) in
     rw bad.0 fault
 two-by size names p1 p2 [] version (Ok (words, ps)) small v h = absurd cc
 two-by size names p1 p2 (p3 ∷ rest) version (Ok (words, ps)) small v h =
-    let is = value-inv 2 (order_in names p2) p3 rest words ps h in
-    rw is.1 (threads-by size names p1 p2 p3 rest version words (threads_of names words) small v is.0 refl)
+    let is = value-inv 2 (order_on_line names p2) p3 rest words ps h in
+    rw is.1 (threads-by size names p1 p2 p3 rest version words (threads_of_names names words) small v is.0 refl)
 
-one-by : (size : ℕ) (names : NameLists) (pieces : List (List ℕ)) (read : Result (ℕ × List (List ℕ)) Fault) → nat_lt 16777216 size ≡ false → head_line 1 version_in pieces ≡ read
-    → IsTold size names pieces (read >>= λ version. (order_line names version.1 >>= λ o. (head_line 3 points_in o.1 >>= λ points. (head_line 4 limit_in points.1 >>= λ limit. after-head names version.0 o.0 points.0 limit.0 limit.1))))
+one-by : (size : ℕ) (names : NameLists) (pieces : List (List ℕ)) (read : Result (ℕ × List (List ℕ)) Fault) → nat_lt 16777216 size ≡ false → head_line 1 version_on_line pieces ≡ read
+    → IsTold size names pieces (read >>= λ version. (order_line names version.1 >>= λ o. (head_line 3 points_on_line o.1 >>= λ points. (head_line 4 limit_on_line points.1 >>= λ limit. after-head names version.0 o.0 points.0 limit.0 limit.1))))
 one-by size names pieces (Err e) small h =
-    let bad = head-err 1 version_in pieces e h in
-    let fault = head-fault size names pieces 1 BadHeader (first_bad_header (is_faulty size names pieces 1) (or-none (nat_lt 16777216 size) small) (not-false (is_sound version_in pieces) bad.1)) (sound-one size names pieces) in
+    let bad = head-err 1 version_on_line pieces e h in
+    let fault = head-fault size names pieces 1 BadHeader (first_bad_header (is_faulty size names pieces 1) (or-none (nat_lt 16777216 size) small) (not-false (is_sound version_on_line pieces) bad.1)) (sound-one size names pieces) in
     rw bad.0 fault
 one-by size names [] (Ok (v, ps)) small h = absurd cc
 one-by size names (p1 ∷ []) (Ok (v, ps)) small h = absurd cc
 one-by size names (p1 ∷ p2 ∷ rest) (Ok (v, ps)) small h =
-    let is = value-inv 1 (version_in p1) p2 rest v ps h in
-    rw is.1 (two-by size names p1 p2 rest v (head_line 2 (order_in names) (p2 ∷ rest)) small is.0 refl)
+    let is = value-inv 1 (version_on_line p1) p2 rest v ps h in
+    rw is.1 (two-by size names p1 p2 rest v (head_line 2 (order_on_line names) (p2 ∷ rest)) small is.0 refl)
 
 -- the first fault of a text, or none where it is read
 pub file-told : (size : ℕ) (names : NameLists) (pieces : List (List ℕ)) → nat_lt 16777216 size ≡ false → IsTold size names pieces (file_in names pieces)
-file-told size names pieces small = one-by size names pieces (head_line 1 version_in pieces) small refl
+file-told size names pieces small = one-by size names pieces (head_line 1 version_on_line pieces) small refl
 
 too-long : (size : ℕ) (names : NameLists) (pieces : List (List ℕ)) → nat_lt 16777216 size ≡ true → IsFirstFound size names pieces 1 TooLong
 too-long size names pieces large = record { faulty = or-true (nat_lt 16777216 size) large; first_kind = λ other low. absurd (omega arith); first_line = λ before other low. sound-one size names pieces before other low }
 
-pub read-told : (names : NameLists) (bytes : List ℕ) → IsTold (length bytes) names (pieces_of bytes) (read names bytes)
+pub read-told : (names : NameLists) (bytes : List ℕ) → IsTold (length bytes) names (pieces_of bytes) (read_as_trace names bytes)
 read-told names bytes = by (nat_lt 16777216 (length bytes)) refl
   where
     by : (large : Bool) → nat_lt 16777216 (length bytes) ≡ large → IsTold (length bytes) names (pieces_of bytes) (if large then Err (1, TooLong) else file_in names (pieces_of bytes))

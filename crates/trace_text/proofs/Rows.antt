@@ -10,10 +10,10 @@ use Rattle.std.proofs.lemmas.Slice.Eq.{bytes_eq-Decides}
 use Rattle.std.proofs.lemmas.Str.Parse.{digit_from_value}
 use Rattle.std.specs.Str.Parse.{AllDigits}
 use Rattle.pct_ask.specs.NameLists.{NameLists, AreNames}
-use Rattle.pct_ask.specs.VerdictText.{thread_name, verdict_text, named_text, named, verdict_words, NamedVerdict, NamedPassed, NamedFailed, NamedStuck, NamedMisuse, NamedFault, NamedCut}
+use Rattle.pct_ask.specs.VerdictText.{thread_name, verdict_text, named_text, named_verdict, verdict_words, NamedVerdict, NamedPassed, NamedFailed, NamedStuck, NamedMisuse, NamedFault, NamedCut}
 use Rattle.pct_ask.specs.VerdictRead.{ReadsAs}
 use Rattle.pct_ask.specs.VerdictWords.{words_of, verdict_of_words}
-use Rattle.pct_ask.specs.TraceText.{ask_words, event_words, verdict_line}
+use Rattle.pct_ask.specs.TraceText.{ask_words, event_words, verdict_line_words}
 use Rattle.pct_ask.specs.declared.ask.Ask.{Ask}
 use Rattle.pct_ask.specs.declared.event.Event.{Event}
 use Rattle.pct_ask.specs.declared.verdict.Verdict.{Verdict}
@@ -22,8 +22,8 @@ use Rattle.pct_ask.specs.declared.verdict_text.VerdictRead.TheVariants.{Is, NoFo
 use Rattle.pct_ask.proofs.laws.VerdictsRead.{ReadsAs-words, ReadsAs-only}
 use Rattle.pct_ask.proofs.laws.SplitWords.{join-words_of, words_of-join}
 use Rattle.trace_text.specs.Lawful.{IsStep, IsEnd, is_of_second}
-use Rattle.trace_text.specs.reader.Asks.{has_form, known}
-use Rattle.trace_text.specs.reader.StepLines.{event_of, numbered_step, step_of_parts, step_of}
+use Rattle.trace_text.specs.reader.Asks.{has_form, known_words}
+use Rattle.trace_text.specs.reader.StepLines.{event_of, numbered_step, step_of_parts, step_in_words}
 use Rattle.trace_text.specs.reader.StepLines.{step_of_words, tells_reads, end_of, row_of}
 use Rattle.trace_text.specs.declared.asks.WordsRead.{WordsRead}
 use Rattle.trace_text.specs.declared.row.Row.TheVariants.{Step, End}
@@ -87,7 +87,8 @@ numbered-no-end : (number : ℕ) (thread : WordsRead ℕ) (line : ℕ) (ask : Wo
 numbered-no-end number thread line ask answer verdict h = by (has_form thread && has_form ask) h
   where
     by : (b : Bool) → (if b then Some (Step number
-        (event_of (known thread) line (known ask) answer)) else None) ≡ Some (End verdict) → ⊥
+        (event_of (known_words thread) line (known_words ask) answer)) else None)
+        ≡ Some (End verdict) → ⊥
     by true e = cc
     by false e = cc
 
@@ -103,8 +104,8 @@ parts-no-end (Some m) thread (Some l) ask true (Some v) verdict h =
 
 step-no-end : (names : NameLists) (number thread line : List ℕ) (ask : WordsRead Ask)
     (sign answer : List ℕ) (verdict : Option Verdict)
-    → step_of names number thread line ask sign answer ≡ Some (End verdict) → ⊥
-unfolding step_of
+    → step_in_words names number thread line ask sign answer ≡ Some (End verdict) → ⊥
+unfolding step_in_words
 step-no-end names number thread line ask sign answer verdict h = parts-no-end _ _ _ _ _ _ verdict h
 
 none-end : (verdict : Option Verdict) → None ≡ Some (End verdict) → ⊥
@@ -152,7 +153,7 @@ verdict-joined (NamedFault name line kind) = refl
 verdict-joined NamedCut = refl
 
 pub record IsEndLine (names : NameLists) (version : ℕ) (text : List ℕ) (verdict : Verdict) : Type 0 where
-  pub text_is : text ≡ join_with_byte 32 (verdict_line names verdict)
+  pub text_is : text ≡ join_with_byte 32 (verdict_line_words names verdict)
   pub lawful : IsEnd names version verdict
 
 end-by : (names : NameLists) (version : ℕ) (text : List ℕ) (first : Bool) (verdict : Verdict) → (version ≡ 1) ⊎ (version ≡ 2) → bytes_eq (take 8 text) (codes "verdict ") ≡ first → (if first then end_of version (drop 8 text) (verdict_of_words names (words_of (drop 8 text))) else step_of_words names version (words_of text)) ≡ Some (End (Some verdict)) → IsEndLine names version text verdict
@@ -161,7 +162,7 @@ end-by names version text true verdict which begins h =
     let reads : ReadsAs names (drop 8 text) (Is verdict) = rw i.0 at (ReadsAs-words names (drop 8 text)) in
     let front = (bytes_eq-Decides (take 8 text) (codes "verdict ")).0 begins in
     record {
-      text_is = sym (take-append-drop 8 text) ∙ ap (λ (x : List ℕ). x ++ drop 8 text) front ∙ ap (λ (x : List ℕ). codes "verdict " ++ x) reads.2 ∙ sym (verdict-joined (named names verdict));
+      text_is = sym (take-append-drop 8 text) ∙ ap (λ (x : List ℕ). x ++ drop 8 text) front ∙ ap (λ (x : List ℕ). codes "verdict " ++ x) reads.2 ∙ sym (verdict-joined (named_verdict names verdict));
       lawful = record { threads = reads.0; form = reads.1; known = known-by version (is_of_second verdict) (version == 1) refl i.1 which };
     }
 end-by names version text false verdict which begins h = absurd (words-no-end names version (words_of text) (Some verdict) h)
@@ -178,8 +179,8 @@ end-kept version text verdict (inl first) = rw first (by (version == 1))
     by false = refl
 end-kept version text verdict (inr two) = let other : (version == 1) ≡ false = grind (arith, nat_tests) in rw other
 
-pub end-known : (names : NameLists) (version : ℕ) (verdict : Verdict) → AreNames names → IsEnd names version verdict → row_of names version (join_with_byte 32 (verdict_line names verdict)) ≡ Some (End (Some verdict))
+pub end-known : (names : NameLists) (version : ℕ) (verdict : Verdict) → AreNames names → IsEnd names version verdict → row_of names version (join_with_byte 32 (verdict_line_words names verdict)) ≡ Some (End (Some verdict))
 unfolding row_of
 end-known names version verdict sound end =
     let reads = ReadsAs-only names (verdict_text names verdict) (Is verdict) sound (end.threads, end.form, refl) in
-    rw (verdict-joined (named names verdict), reads) (end-kept version (verdict_text names verdict) verdict end.known)
+    rw (verdict-joined (named_verdict names verdict), reads) (end-kept version (verdict_text names verdict) verdict end.known)

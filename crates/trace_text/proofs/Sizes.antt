@@ -11,9 +11,9 @@ use Rattle.pct_ask.specs.Characters.{is_letter, is_word_byte}
 use Rattle.pct_ask.specs.Words.{is_name, is_among, keywords, registers}
 use Rattle.pct_ask.specs.NameLists.{NameLists, list_of, AreNames}
 use Rattle.pct_ask.specs.Numbers.{number_text}
-use Rattle.pct_ask.specs.VerdictText.{thread_name, fault_word, misuse_word, place_words, verdict_words, named, known_threads, IsLine, IsForm, IsPlace, HasNames}
+use Rattle.pct_ask.specs.VerdictText.{thread_name, fault_word, misuse_word, place_words, verdict_words, named_verdict, known_threads, IsLine, IsVerdictForm, IsPlace, HasNames}
 use Rattle.pct_ask.specs.VerdictPieces.{HasName}
-use Rattle.pct_ask.specs.TraceText.{ask_words, check_word, event_words, step_lines, verdict_line, line_text, trace_text}
+use Rattle.pct_ask.specs.TraceText.{ask_words, check_word, event_words, step_lines, verdict_line_words, line_text, trace_text}
 use Rattle.pct_ask.specs.declared.names.NameKind.{NameKind}
 use Rattle.pct_ask.specs.declared.names.NameKind.TheVariants.{Thread, Var, Mutex, Cond, Sem, Barrier, RwLock}
 use Rattle.pct_ask.specs.declared.ask.FaultKind.{FaultKind}
@@ -28,7 +28,7 @@ use Rattle.pct_ask.specs.declared.verdict.Verdict.TheVariants.{Passed, Failed, S
 use Rattle.pct_ask.proofs.laws.Names.{place_of-thread}
 use Rattle.pct_ask.proofs.laws.RisingPlaces.{named_place, RiseFrom, RiseFrom-increasing}
 use Rattle.trace_text.specs.Lawful.{IsAsk, IsStep, IsStepCount, IsValue}
-use Rattle.trace_text.specs.Trace.{head_of, IsRun}
+use Rattle.trace_text.specs.Trace.{head_of, IsWritableFile}
 use Rattle.trace_text.specs.declared.file.TraceFile.{TraceFile}
 use Rattle.trace_text.proofs.Names.{name-lawful}
 
@@ -173,7 +173,7 @@ misuse-short TooManyReads = omega arith
 placed-size : (head name : List ℕ) (line : ℕ) (words : List (List ℕ)) → length head ≤ 12 → length name ≤ 32 → IsLine line → size words ≤ 15 → size (head ∷ name ∷ decimal line ∷ words) ≤ 2438
 placed-size head name line words a b c d = let l = line-short line c in omega arith
 
-verdict-size : (names : NameLists) (verdict : Verdict) → AreNames names → HasNames names verdict → IsForm names (named names verdict) → size (verdict_words (named names verdict)) ≤ 2438
+verdict-size : (names : NameLists) (verdict : Verdict) → AreNames names → HasNames names verdict → IsVerdictForm names (named_verdict names verdict) → size (verdict_words (named_verdict names verdict)) ≤ 2438
 verdict-size names Passed sound has form = omega arith
 verdict-size names (Failed thread line) sound has form = placed-size (codes "failed") (thread_name names thread) line [] (omega arith) (name-short (thread_name names thread) form.0) form.1 (omega arith)
 verdict-size names (Stuck places) sound has form =
@@ -213,10 +213,10 @@ sum-four : (a b c d e v o p l s : ℕ) → a ≤ 8 → b ≤ 2118 → c ≤ 56 �
 sum-four a b c d e v o p l s ha hb hc hd he hv ho hp hl hs = omega arith
 
 -- a trace has at most 16,777,216 bytes
-pub trace-size : (names : NameLists) (file : TraceFile) → AreNames names → IsRun names file → length (trace_text (head_of file.header) names file.events file.verdict) ≤ 16777216
+pub trace-size : (names : NameLists) (file : TraceFile) → AreNames names → IsWritableFile names file → length (trace_text (head_of file.header) names file.events file.verdict) ≤ 16777216
 trace-size names file sound run =
     let head = run.head in
-    let last = verdict_line names file.verdict in
+    let last = verdict_line_words names file.verdict in
     let steps = step_lines names 1 file.events ++ last ∷ [] in
     let l1 = codes "trace" ∷ decimal file.header.version ∷ [] in
     let l2 = codes "order" ∷ map (thread_name names) file.header.order in
@@ -226,6 +226,6 @@ trace-size names file sound run =
     let b : length (line_text l2) ≤ 2118 = let o = order-size names file.header.order sound head.threads in let f = sound.few Thread in let e = head.every in omega (arith, o, f, e, length-line (codes "order") (map (thread_name names) file.header.order)) in
     let c : length (line_text l3) ≤ 56 = let p = points-size file.header.points head.points in let f = head.few_points in omega (arith, p, f, length-line (codes "points") (map decimal file.header.points)) in
     let d : length (line_text l4) ≤ 13 = let l = length-decimal-le 6 file.header.limit (omega arith) (omega (arith, head.limit.0, head.limit.1)) (omega (arith, head.limit.0, head.limit.1)) in omega (arith, l, length-line (codes "limit") (decimal file.header.limit ∷ [])) in
-    let v : length (line_text last) ≤ 2446 = let w = verdict-size names file.verdict sound run.end.threads run.end.form in omega (arith, w, length-line (codes "verdict") (verdict_words (named names file.verdict))) in
+    let v : length (line_text last) ≤ 2446 = let w = verdict-size names file.verdict sound run.end.threads run.end.form in omega (arith, w, length-line (codes "verdict") (verdict_words (named_verdict names file.verdict))) in
     let e : sizes steps ≤ 14702446 = let s = steps-size names file.header.version 1 file.events last sound run.steps (let f = run.few in omega (arith, f, head.limit.1)) in let f = run.few in omega (arith, s, f, v, head.limit.1) in
     sum-four (length (line_text l1)) (length (line_text l2)) (length (line_text l3)) (length (line_text l4)) 14702446 (sizes (l1 ∷ l2 ∷ l3 ∷ l4 ∷ steps)) (sizes (l2 ∷ l3 ∷ l4 ∷ steps)) (sizes (l3 ∷ l4 ∷ steps)) (sizes (l4 ∷ steps)) (sizes steps) a b c d (omega arith) (sizes-cons l1 (l2 ∷ l3 ∷ l4 ∷ steps)) (sizes-cons l2 (l3 ∷ l4 ∷ steps)) (sizes-cons l3 (l4 ∷ steps)) (sizes-cons l4 steps) e

@@ -14,13 +14,13 @@ use Rattle.pct_ask.specs.declared.event.Event.{Event}
 use Rattle.pct_ask.proofs.laws.SplitWords.{join-words_of}
 use Rattle.pct_ask.specs.VerdictWords.{line_number}
 use Rattle.pct_ask.proofs.laws.Decimals.{number_in-decimal, number_in-Some}
-use Rattle.trace_text.specs.reader.Numbers.{value_of, natural_of}
-use Rattle.trace_text.specs.reader.Asks.{has_form, known, object_at, object}
-use Rattle.trace_text.specs.reader.StepLines.{event_of, numbered_step, step_of_parts, step_of}
+use Rattle.trace_text.specs.reader.Numbers.{i64_in, natural_of}
+use Rattle.trace_text.specs.reader.Asks.{has_form, known_words, object_at, object}
+use Rattle.trace_text.specs.reader.StepLines.{event_of, numbered_step, step_of_parts, step_in_words}
 use Rattle.trace_text.specs.reader.StepLines.{step_of_words, end_of, row_of}
 use Rattle.trace_text.specs.declared.asks.WordsRead.{WordsRead}
 use Rattle.trace_text.specs.declared.asks.WordsRead.TheVariants.{Is, NoForm, UnknownName}
-use Rattle.trace_text.specs.Forms.{AskForm, words_of_ask, words_of_form, IsOf, HasUnknown, AsksUnknown, IsUndeclared}
+use Rattle.trace_text.specs.Forms.{AskForm, words_of_ask, words_of_form, IsLineOf, HasUnknown, AsksUnknown, IsUndeclared}
 use Rattle.trace_text.specs.Forms as forms
 use Rattle.trace_text.specs.declared.row.Row.TheVariants.{Step}
 use Rattle.trace_text.proofs.Values.{value_of-Some, Some-value_of}
@@ -40,7 +40,7 @@ pub record IsStepWords (names : NameLists) (version : ℕ) (words : List (List �
   pub ask : AskForm
   pub answer : ℤ
   pub words_are : words ≡ words_of_form (forms.Step n thread line ask answer)
-  pub of : IsOf names version (forms.Step n thread line ask answer)
+  pub of : IsLineOf names version (forms.Step n thread line ask answer)
   pub unknown : event ≡ None → HasUnknown names (forms.Step n thread line ask answer)
 
 record Parts (number : Option ℕ) (thread : WordsRead ℕ) (line : Option ℕ) (ask : WordsRead Ask)
@@ -53,7 +53,7 @@ record Parts (number : Option ℕ) (thread : WordsRead ℕ) (line : Option ℕ) 
   ask_form : has_form ask ≡ true
   sign_is : sign ≡ true
   answer_is : answer ≡ Some v
-  event_is : event_of (known thread) l (known ask) v ≡ event
+  event_is : event_of (known_words thread) l (known_words ask) v ≡ event
 
 row-inv : (m n : ℕ) (e event : Option Event) → Some (Step m e) ≡ Some (Step n event) → (m ≡ n) × (e ≡ event)
 row-inv m n e event h = let same : Step m e ≡ Step n event = cc in (cc, cc)
@@ -64,10 +64,11 @@ numbered-inv : (m : ℕ) (thread : WordsRead ℕ) (l : ℕ) (ask : WordsRead Ask
 numbered-inv m thread l ask v n event h = by (has_form thread) (has_form ask) refl refl h
   where
     by : (a b : Bool) → has_form thread ≡ a → has_form ask ≡ b
-        → (if a && b then Some (Step m (event_of (known thread) l (known ask) v)) else None) ≡ Some
+        → (if a && b then Some (Step m (event_of (known_words thread) l (known_words ask) v))
+        else None) ≡ Some
         (Step n event) → Parts (Some m) thread (Some l) ask true (Some v) n event
     by true true p q k =
-        let r = row-inv m n (event_of (known thread) l (known ask) v) event k in
+        let r = row-inv m n (event_of (known_words thread) l (known_words ask) v) event k in
         record {
           l = l;
           v = v;
@@ -106,7 +107,7 @@ lost-event (Some t) l None v none = refl
 lost-event (Some t) l (Some a) v (inl none) = absurd cc
 lost-event (Some t) l (Some a) v (inr none) = absurd cc
 
-unknown-is : {A : Type 0} (read : WordsRead A) → has_form read ≡ true → known read ≡ None
+unknown-is : {A : Type 0} (read : WordsRead A) → has_form read ≡ true → known_words read ≡ None
     → read ≡ UnknownName
 unknown-is (Is x) form none = absurd cc
 unknown-is NoForm form none = absurd cc
@@ -115,7 +116,7 @@ unknown-is UnknownName form none = refl
 unknown-by : (names : NameLists) (thread : List ℕ) (ask : AskForm) (t : WordsRead ℕ)
     (a : WordsRead Ask) → has_form t ≡ true → has_form a ≡ true
     → (t ≡ UnknownName → IsUndeclared names Thread thread)
-    → (a ≡ UnknownName → AsksUnknown names ask) → (known t ≡ None) ⊎ (known a ≡ None)
+    → (a ≡ UnknownName → AsksUnknown names ask) → (known_words t ≡ None) ⊎ (known_words a ≡ None)
     → IsUndeclared names Thread thread ⊎ AsksUnknown names ask
 unknown-by names thread ask t a p q f g (inl none) = inl (f (unknown-is t p none))
 unknown-by names thread ask t a p q f g (inr none) = inr (g (unknown-is a q none))
@@ -123,11 +124,11 @@ unknown-by names thread ask t a p q f g (inr none) = inr (g (unknown-is a q none
 step-spelled : (number thread line sign answer n l v : List ℕ) (ask asked : List (List ℕ)) → number ≡ n → line ≡ l → ask ≡ asked → sign ≡ codes "=" → answer ≡ v → step_words number thread line ask sign answer ≡ step_words n thread l asked (codes "=") v
 step-spelled number thread line sign answer n l v ask asked p q r s t = rw (p, q, r, s, t)
 
-form-parts : (names : NameLists) (version : ℕ) (number thread line : List ℕ) (ask : List (List ℕ)) (sign answer : List ℕ) (n : ℕ) (event : Option Event) → 1 ≤ version → step_of names number thread line (ask_in names version ask) sign answer ≡ Some (Step n event) → IsStepWords names version (step_words number thread line ask sign answer) n event
-unfolding step_of
+form-parts : (names : NameLists) (version : ℕ) (number thread line : List ℕ) (ask : List (List ℕ)) (sign answer : List ℕ) (n : ℕ) (event : Option Event) → 1 ≤ version → step_in_words names number thread line (ask_in names version ask) sign answer ≡ Some (Step n event) → IsStepWords names version (step_words number thread line ask sign answer) n event
+unfolding step_in_words
 form-parts names version number thread line ask sign answer n event some h =
     let p = parts-inv (natural_of number) (object names Thread thread) (line_number line)
-    (ask_in names version ask) (bytes_eq sign (codes "=")) (value_of answer) n event h in
+    (ask_in names version ask) (bytes_eq sign (codes "=")) (i64_in answer) n event h in
     let number_is = natural-decimal number n p.number_is in
     let thread_is = object-inv names Thread thread p.thread_form in
     let line_is = number_in-Some 1 4096 p.l line p.line_is in
@@ -145,7 +146,8 @@ form-parts names version number thread line ask sign answer n event some h =
       of = (number_is.1, thread_is.0, (line_is.0, line_is.1), ask_is.of, answer_is.1);
       unknown = λ none. unknown-by names thread ask_is.ask (object names Thread thread)
           (ask_in names version ask) p.thread_form p.ask_form thread_is.1 ask_is.unknown
-          (event-lost (known (object names Thread thread)) p.l (known (ask_in names version ask))
+          (event-lost (known_words (object names Thread thread)) p.l
+          (known_words (ask_in names version ask))
           p.v event p.event_is none);
     }
 
@@ -188,12 +190,13 @@ no-verdict number words next text small is =
     let text_is : text ≡ decimal number ++ (32 ∷ join_with_byte 32 (next ∷ words)) = sym (join-words_of text) ∙ ap (join_with_byte 32) is in
     ap (λ t. bytes_eq (take 8 t) (codes "verdict ")) text_is ∙ digit-first (decimal number) (32 ∷ join_with_byte 32 (next ∷ words)) numeral.0 numeral.1
 
-pub step-read : (names : NameLists) (version : ℕ) (text : List ℕ) (n : ℕ) (thread : List ℕ) (line : ℕ) (ask : AskForm) (answer : ℤ) → (version ≡ 1) ⊎ (version ≡ 2) → words_of text ≡ words_of_form (forms.Step n thread line ask answer) → IsOf names version (forms.Step n thread line ask answer) → IsStepRead names version text n thread line ask answer
-unfolding step_of
+pub step-read : (names : NameLists) (version : ℕ) (text : List ℕ) (n : ℕ) (thread : List ℕ) (line : ℕ) (ask : AskForm) (answer : ℤ) → (version ≡ 1) ⊎ (version ≡ 2) → words_of text ≡ words_of_form (forms.Step n thread line ask answer) → IsLineOf names version (forms.Step n thread line ask answer) → IsStepRead names version text n thread line ask answer
+unfolding step_in_words
 step-read names version text n thread line ask answer which words of =
     let asked = ask-read names version ask which of.3 in
     record {
-      event = event_of (known (object_at (place_of thread names.threads))) line (known asked.read)
+      event = event_of (known_words (object_at (place_of thread names.threads))) line
+          (known_words asked.read)
           answer;
       is = row-step names version text (no-verdict n (decimal line ∷ (words_of_ask ask ++ codes "=" ∷ number_text answer ∷ [])) thread text of.0 words)
           ∙ ap (step_of_words names version) words
@@ -209,12 +212,13 @@ step-read names version text n thread line ask answer which words of =
             placed-form (place_of thread names.threads),
             asked.form,
           );
-      unknown = λ none. lost-event (known (object_at (place_of thread names.threads))) line
-          (known asked.read) answer (by asked.read asked.unknown none);
+      unknown = λ none. lost-event (known_words (object_at (place_of thread names.threads))) line
+          (known_words asked.read) answer (by asked.read asked.unknown none);
     }
   where
     by : (read : WordsRead Ask) → (AsksUnknown names ask → read ≡ UnknownName)
         → IsUndeclared names Thread thread ⊎ AsksUnknown names ask
-        → (known (object_at (place_of thread names.threads)) ≡ None) ⊎ (known read ≡ None)
-    by read lost (inl none) = inl (ap (λ (p : Option ℕ). known (object_at p)) none)
-    by read lost (inr none) = inr (ap (λ (r : WordsRead Ask). known r) (lost none))
+        → (known_words (object_at (place_of thread names.threads)) ≡ None)
+        ⊎ (known_words read ≡ None)
+    by read lost (inl none) = inl (ap (λ (p : Option ℕ). known_words (object_at p)) none)
+    by read lost (inr none) = inr (ap (λ (r : WordsRead Ask). known_words r) (lost none))

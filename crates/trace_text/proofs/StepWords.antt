@@ -13,9 +13,9 @@ use Rattle.pct_ask.specs.declared.names.NameKind.TheVariants.{Thread}
 use Rattle.pct_ask.specs.declared.ask.Ask.{Ask}
 use Rattle.pct_ask.specs.declared.event.Event.{Event}
 use Rattle.trace_text.specs.Lawful.{IsStep}
-use Rattle.trace_text.specs.reader.Numbers.{value_of, natural, natural_of}
-use Rattle.trace_text.specs.reader.Asks.{has_form, known, object}
-use Rattle.trace_text.specs.reader.StepLines.{event_of, numbered_step, step_of_parts, step_of}
+use Rattle.trace_text.specs.reader.Numbers.{i64_in, natural, natural_of}
+use Rattle.trace_text.specs.reader.Asks.{has_form, known_words, object}
+use Rattle.trace_text.specs.reader.StepLines.{event_of, numbered_step, step_of_parts, step_in_words}
 use Rattle.trace_text.specs.reader.StepLines.{step_of_words}
 use Rattle.trace_text.specs.declared.asks.WordsRead.{WordsRead}
 use Rattle.trace_text.specs.declared.asks.WordsRead.TheVariants.{Is, NoForm, UnknownName}
@@ -36,7 +36,7 @@ natural-inv (Some (negsuc m)) n h = absurd cc
 
 pub natural-decimal : (word : List ℕ) (n : ℕ) → natural_of word ≡ Some n → (word ≡ decimal n) × (n < 2 ^ 63)
 natural-decimal word n h =
-    let v = Some-value_of word (pos n) (natural-inv (value_of word) n h) in
+    let v = Some-value_of word (pos n) (natural-inv (i64_in word) n h) in
     (v.0, omega (arith, v.1.sfits))
 
 pub decimal-natural : (n : ℕ) → n < 2 ^ 63 → natural_of (decimal n) ≡ Some n
@@ -64,7 +64,7 @@ event-inv (Some t) line (Some a) answer event h =
 row-inv : (m n : ℕ) (e : Option Event) (event : Event) → Some (Step m e) ≡ Some (Step n (Some event)) → (m ≡ n) × (e ≡ Some event)
 row-inv m n e event h = let same : Step m e ≡ Step n (Some event) = cc in (cc, cc)
 
-known-is : {A : Type 0} (read : WordsRead A) (x : A) → known read ≡ Some x → read ≡ Is x
+known-is : {A : Type 0} (read : WordsRead A) (x : A) → known_words read ≡ Some x → read ≡ Is x
 known-is (Is y) x h = ap (λ z. Is z) (some_is y x h)
 known-is NoForm x h = absurd cc
 known-is UnknownName x h = absurd cc
@@ -74,12 +74,13 @@ numbered-inv : (m : ℕ) (thread : WordsRead ℕ) (l : ℕ) (ask : WordsRead Ask
     → Parts (Some m) thread (Some l) ask true (Some v) n event
 numbered-inv m thread l ask v n event h = by (has_form thread && has_form ask) h
   where
-    by : (b : Bool) → (if b then Some (Step m (event_of (known thread) l (known ask) v)) else
+    by : (b : Bool)
+        → (if b then Some (Step m (event_of (known_words thread) l (known_words ask) v)) else
         None) ≡ Some (Step n (Some event)) → Parts (Some m) thread (Some l) ask true (Some v) n
         event
     by true k =
-        let r = row-inv m n (event_of (known thread) l (known ask) v) event k in
-        let e = event-inv (known thread) l (known ask) v event r.1 in
+        let r = row-inv m n (event_of (known_words thread) l (known_words ask) v) event k in
+        let e = event-inv (known_words thread) l (known_words ask) v event r.1 in
         record {
           number_is = ap (λ x. Some x) r.0;
           thread_is =
@@ -108,7 +109,7 @@ abbrev pub step_words : List ℕ → List ℕ → List ℕ → List (List ℕ) �
 step_words number thread line ask sign answer = number ∷ thread ∷ line ∷ (ask ++ sign ∷ answer ∷ [])
 
 -- how the words are read: its ask by itself
-pub read-words : (names : NameLists) (version : ℕ) (number thread line : List ℕ) (ask : List (List ℕ)) (sign answer : List ℕ) → HasFewWords ask → step_of_words names version (step_words number thread line ask sign answer) ≡ step_of names number thread line (ask_in names version ask) sign answer
+pub read-words : (names : NameLists) (version : ℕ) (number thread line : List ℕ) (ask : List (List ℕ)) (sign answer : List ℕ) → HasFewWords ask → step_of_words names version (step_words number thread line ask sign answer) ≡ step_in_words names number thread line (ask_in names version ask) sign answer
 read-words names version number thread line [] sign answer few = absurd few
 read-words names version number thread line (a ∷ []) sign answer few = refl
 read-words names version number thread line (a ∷ b ∷ []) sign answer few = refl
@@ -121,11 +122,11 @@ pub record IsStepLine (names : NameLists) (version : ℕ) (words : List (List �
   pub words_are : words ≡ event_words names n event
   pub lawful : IsStep names version event
 
-told-parts : (names : NameLists) (version : ℕ) (number thread line : List ℕ) (ask : List (List ℕ)) (sign answer : List ℕ) (n : ℕ) (event : Event) → step_of names number thread line (ask_in names version ask) sign answer ≡ Some (Step n (Some event)) → IsStepLine names version (step_words number thread line ask sign answer) n event
-unfolding step_of
+told-parts : (names : NameLists) (version : ℕ) (number thread line : List ℕ) (ask : List (List ℕ)) (sign answer : List ℕ) (n : ℕ) (event : Event) → step_in_words names number thread line (ask_in names version ask) sign answer ≡ Some (Step n (Some event)) → IsStepLine names version (step_words number thread line ask sign answer) n event
+unfolding step_in_words
 told-parts names version number thread line ask sign answer n event h =
     let p = parts-inv (natural_of number) (object names Thread thread) (line_number line)
-    (ask_in names version ask) (bytes_eq sign (codes "=")) (value_of answer) n event h in
+    (ask_in names version ask) (bytes_eq sign (codes "=")) (i64_in answer) n event h in
     let number_is = (natural-decimal number n p.number_is).0 in
     let thread_is = known-object names Thread thread event.thread p.thread_is in
     let line_is = number_in-Some 1 4096 event.line line p.line_is in
@@ -161,7 +162,7 @@ words-told names version (a ∷ b ∷ c ∷ d ∷ e ∷ f ∷ g ∷ i ∷ j ∷ 
 
 -- and a step of the test is read of its words
 pub words-known : (names : NameLists) (version n : ℕ) (event : Event) → AreNames names → IsStep names version event → n < 2 ^ 63 → step_of_words names version (event_words names n event) ≡ Some (Step n (Some event))
-unfolding step_of
+unfolding step_in_words
 words-known names version n event sound step small =
     read-words names version (decimal n) (thread_name names event.thread) (decimal event.line) (ask_words names event.ask) (codes "=") (number_text event.answer) (few-words names event.ask)
     ∙ rw (

@@ -5,17 +5,18 @@ use Rattle.std.proofs.Common.{◌≡◌, ◌⊎◌, ℕ, ◌+◌, ◌<◌, ◌�
 use Rattle.std.proofs.lemmas.Bool.Decides.{nat_tests}
 use Rattle.std.proofs.lemmas.List.Elements.{All-head, All-tail}
 use Rattle.pct_ask.specs.NameLists.{NameLists, AreNames}
-use Rattle.pct_ask.specs.VerdictText.{named, thread_name}
-use Rattle.pct_ask.specs.TraceText.{TraceHead, event_words, step_lines, head_lines, verdict_line, trace_text}
+use Rattle.pct_ask.specs.VerdictText.{named_verdict, thread_name}
+use Rattle.pct_ask.specs.TraceText.{TraceHead, event_words, step_lines, head_lines, verdict_line_words, trace_text}
 use Rattle.pct_ask.specs.declared.event.Event.{Event}
 use Rattle.pct_ask.specs.declared.verdict.Verdict.{Verdict}
-use Rattle.trace_text.specs.Answers.{Answers}
+use Rattle.trace_text.specs.Answers.{AnswersTrace}
 use Rattle.trace_text.specs.Lawful.{IsStep, IsEnd}
 use Rattle.trace_text.specs.Lines.{pieces_of}
-use Rattle.trace_text.specs.Trace.{head_of, IsRun, IsTrace}
-use Rattle.trace_text.specs.reader.Heads.{version_in, order_in, threads_of, points_in, limit_in}
+use Rattle.trace_text.specs.Trace.{head_of, IsWritableFile, IsTrace}
+use Rattle.trace_text.specs.reader.Heads.{version_on_line, order_on_line, threads_of_names}
+use Rattle.trace_text.specs.reader.Heads.{points_on_line, limit_on_line}
 use Rattle.trace_text.specs.Faults.{IsTraceFault}
-use Rattle.trace_text.specs.reader.Reading.{Fault, Body, ◌>>=◌, head_line, known, order_line, body_of, file_of, file_in, read}
+use Rattle.trace_text.specs.reader.Reading.{Fault, Body, ◌>>=◌, head_line, known_order, order_line, body_of, file_of, file_in, read_as_trace}
 use Rattle.trace_text.specs.reader.Seen.{Gives}
 use Rattle.trace_text.specs.declared.file.TraceFile.{TraceFile}
 use Rattle.trace_text.specs.declared.fault.TraceFault.{TraceFault}
@@ -36,7 +37,7 @@ bind-ok : {A B : Type 0} (r : Result A Fault) (f : A → Result B Fault) (y : B)
 bind-ok (Ok x) f y h = (x, refl, h)
 bind-ok (Err e) f y h = absurd cc
 
-known-inv : (order : Option (List ℕ)) (threads : List ℕ) → known order ≡ Ok threads → order ≡ Some threads
+known-inv : (order : Option (List ℕ)) (threads : List ℕ) → known_order order ≡ Ok threads → order ≡ Some threads
 known-inv None threads h = absurd cc
 known-inv (Some order) threads h = let same : order ≡ threads = cc in ap (λ o. Some o) same
 
@@ -51,23 +52,24 @@ pair-parts a b u v h =
 -- the line of the order
 record OrderLine (names : NameLists) (pieces : List (List ℕ)) (order : List ℕ) (rest : List (List ℕ)) : Type 0 where
   words : List (List ℕ)
-  line : HeadLine (order_in names) pieces words rest
-  threads : threads_of names words ≡ Some order
+  line : HeadLine (order_on_line names) pieces words rest
+  threads : threads_of_names names words ≡ Some order
 
 order-ok : (names : NameLists) (pieces : List (List ℕ)) (order : List ℕ) (rest : List (List ℕ)) → order_line names pieces ≡ Ok (order, rest) → OrderLine names pieces order rest
 order-ok names pieces order rest h =
-    let first = bind-ok (head_line 2 (order_in names) pieces) (λ ws. ◌>>=◌ {A = List ℕ} {B = List ℕ × List (List ℕ)} (known (threads_of names ws.0)) (λ o. Ok (o, ws.1))) (order, rest) h in
-    let second = bind-ok {A = List ℕ} {B = List ℕ × List (List ℕ)} (known (threads_of names first.0.0)) (λ o. Ok (o, first.0.1)) (order, rest) first.2 in
+    let first = bind-ok (head_line 2 (order_on_line names) pieces) (λ ws. ◌>>=◌ {A = List ℕ} {B = List ℕ × List (List ℕ)} (known_order (threads_of_names names ws.0)) (λ o. Ok (o, ws.1))) (order, rest) h in
+    let second = bind-ok {A = List ℕ} {B = List ℕ × List (List ℕ)} (known_order (threads_of_names names first.0.0)) (λ o. Ok (o, first.0.1)) (order, rest) first.2 in
     let same = pair-parts second.0 order first.0.1 rest second.2 in
-    let line = head-ok 2 (order_in names) pieces first.0.0 first.0.1 first.1 in
+    let line = head-ok 2 (order_on_line names) pieces first.0.0 first.0.1 first.1 in
     record {
       words = first.0.0;
       line = rw same.1 at line;
-      threads = known-inv (threads_of names first.0.0) second.0 second.1 ∙ ap (λ o. Some o) same.0;
+      threads =
+          known-inv (threads_of_names names first.0.0) second.0 second.1 ∙ ap (λ o. Some o) same.0;
     }
 
 -- what a sound head and body make
-whole : (names : NameLists) (bytes p1 p2 p3 p4 : List ℕ) (rest words : List (List ℕ)) (version : ℕ) (order points : List ℕ) (limit : ℕ) (events : List Event) (verdict : Verdict) → length bytes ≤ 16777216 → pieces_of bytes ≡ p1 ∷ p2 ∷ p3 ∷ p4 ∷ rest → version_in p1 ≡ Some version → order_in names p2 ≡ Some words → threads_of names words ≡ Some order → points_in p3 ≡ Some points → limit_in p4 ≡ Some limit → body_of names version limit 1 rest ≡ Ok (events, verdict)
+whole : (names : NameLists) (bytes p1 p2 p3 p4 : List ℕ) (rest words : List (List ℕ)) (version : ℕ) (order points : List ℕ) (limit : ℕ) (events : List Event) (verdict : Verdict) → length bytes ≤ 16777216 → pieces_of bytes ≡ p1 ∷ p2 ∷ p3 ∷ p4 ∷ rest → version_on_line p1 ≡ Some version → order_on_line names p2 ≡ Some words → threads_of_names names words ≡ Some order → points_on_line p3 ≡ Some points → limit_on_line p4 ≡ Some limit → body_of names version limit 1 rest ≡ Ok (events, verdict)
     → IsTrace bytes names (file_of version order points limit (events, verdict))
 whole names bytes p1 p2 p3 p4 rest words version order points limit events verdict small pieces v o t p l b =
     let v_told = version-told p1 version v in
@@ -76,7 +78,7 @@ whole names bytes p1 p2 p3 p4 rest words version order points limit events verdi
     let l_told = limit-told p4 limit l in
     let body = body-told names version limit 1 rest events verdict v_told.0 (let low = l_told.1.0 in omega arith) b in
     let head : TraceHead = record { version = version; order = order; points = points; limit = limit } in
-    let lines = head_lines names head ++ step_lines names 1 events ++ verdict_line names verdict ∷ [] in
+    let lines = head_lines names head ++ step_lines names 1 events ++ verdict_line_words names verdict ∷ [] in
     let as_lines : pieces_of bytes ≡ line_pieces lines = pieces ∙ five p1 p2 p3 p4 rest _ _ _ _ _ v_told.1 o_told.0 p_told.0 l_told.0 body.lines in
     record {
       run = record {
@@ -98,15 +100,15 @@ four-pieces ps p1 n1 p2 n2 p3 n3 p4 n4 all r1 r2 r3 r4 o1 o2 o3 o4 a b c d e f g
 
 pub file-spelled : (names : NameLists) (bytes : List ℕ) (file : TraceFile) → length bytes ≤ 16777216 → file_in names (pieces_of bytes) ≡ Ok file → IsTrace bytes names file
 file-spelled names bytes file small h =
-    let a = bind-ok (head_line 1 version_in (pieces_of bytes)) _ file h in
+    let a = bind-ok (head_line 1 version_on_line (pieces_of bytes)) _ file h in
     let b = bind-ok (order_line names a.0.1) _ file a.2 in
-    let c = bind-ok (head_line 3 points_in b.0.1) _ file b.2 in
-    let d = bind-ok (head_line 4 limit_in c.0.1) _ file c.2 in
+    let c = bind-ok (head_line 3 points_on_line b.0.1) _ file b.2 in
+    let d = bind-ok (head_line 4 limit_on_line c.0.1) _ file c.2 in
     let e = bind-ok (body_of names a.0.0 d.0.0 1 d.0.1) _ file d.2 in
-    let one = head-ok 1 version_in (pieces_of bytes) a.0.0 a.0.1 a.1 in
+    let one = head-ok 1 version_on_line (pieces_of bytes) a.0.0 a.0.1 a.1 in
     let two = order-ok names a.0.1 b.0.0 b.0.1 b.1 in
-    let three = head-ok 3 points_in b.0.1 c.0.0 c.0.1 c.1 in
-    let four = head-ok 4 limit_in c.0.1 d.0.0 d.0.1 d.1 in
+    let three = head-ok 3 points_on_line b.0.1 c.0.0 c.0.1 c.1 in
+    let four = head-ok 4 limit_on_line c.0.1 d.0.0 d.0.1 d.1 in
     let pieces = four-pieces [] one.piece one.next two.line.piece two.line.next three.piece three.next four.piece four.next (pieces_of bytes) a.0.1 b.0.1 c.0.1 d.0.1 one.others two.line.others three.others four.others one.pieces_are one.rest_is two.line.pieces_are two.line.rest_is three.pieces_are three.rest_is four.pieces_are four.rest_is in
     let told = whole names bytes one.piece two.line.piece three.piece four.piece d.0.1 two.words a.0.0 b.0.0 c.0.0 d.0.0 e.0.0 e.0.1 small pieces one.says_so two.line.says_so two.threads three.says_so four.says_so e.1 in
     let same = ok_is (file_of a.0.0 b.0.0 c.0.0 d.0.0 e.0) file e.2 in
@@ -114,9 +116,9 @@ file-spelled names bytes file small h =
 
 -- ---- what is spelled so is read
 
-steps-no-end : (names : NameLists) (version next : ℕ) (events : List Event) (verdict : Verdict) → AreNames names → All (IsStep names version) events → IsEnd names version verdict → next + length events < 2 ^ 63 → HaveNoEnds (step_lines names next events ++ verdict_line names verdict ∷ [])
+steps-no-end : (names : NameLists) (version next : ℕ) (events : List Event) (verdict : Verdict) → AreNames names → All (IsStep names version) events → IsEnd names version verdict → next + length events < 2 ^ 63 → HaveNoEnds (step_lines names next events ++ verdict_line_words names verdict ∷ [])
 steps-no-end names version next [] verdict sound steps end few =
-    (no-end (verdict_line names verdict) (high-by (codes "verdict") refl, form-high names (named names verdict) end.form), tt)
+    (no-end (verdict_line_words names verdict) (high-by (codes "verdict") refl, form-high names (named_verdict names verdict) end.form), tt)
 steps-no-end names version next (event ∷ events) verdict sound steps end few =
     (no-end (event_words names next event) (step-high names version next event sound (All-head (IsStep names version) event events steps) (omega arith)), steps-no-end names version (next + 1) events verdict sound (All-tail (IsStep names version) event events steps) end (omega arith))
 
@@ -124,7 +126,7 @@ version-high : (version : ℕ) → (version ≡ 1) ⊎ (version ≡ 2) → AreHi
 version-high version (inl one) = (high-by (codes "trace") refl, (decimal-high version (omega arith), tt))
 version-high version (inr two) = (high-by (codes "trace") refl, (decimal-high version (omega arith), tt))
 
-pub lines-no-end : (names : NameLists) (file : TraceFile) → AreNames names → IsRun names file → HaveNoEnds (head_lines names (head_of file.header) ++ step_lines names 1 file.events ++ verdict_line names file.verdict ∷ [])
+pub lines-no-end : (names : NameLists) (file : TraceFile) → AreNames names → IsWritableFile names file → HaveNoEnds (head_lines names (head_of file.header) ++ step_lines names 1 file.events ++ verdict_line_words names file.verdict ∷ [])
 lines-no-end names file sound run =
     let head = run.head in (
       no-end (codes "trace" ∷ decimal file.header.version ∷ []) (version-high file.header.version head.version),
@@ -140,25 +142,25 @@ lines-no-end names file sound run =
       ),
     )
 
-pub trace-read : (names : NameLists) (bytes : List ℕ) (file : TraceFile) → AreNames names → IsTrace bytes names file → read names bytes ≡ Ok file
+pub trace-read : (names : NameLists) (bytes : List ℕ) (file : TraceFile) → AreNames names → IsTrace bytes names file → read_as_trace names bytes ≡ Ok file
 trace-read names bytes file sound trace =
     let run = trace.run in
     let head = run.head in
-    let lines = head_lines names (head_of file.header) ++ step_lines names 1 file.events ++ verdict_line names file.verdict ∷ [] in
+    let lines = head_lines names (head_of file.header) ++ step_lines names 1 file.events ++ verdict_line_words names file.verdict ∷ [] in
     let pieces : pieces_of bytes ≡ line_pieces lines = ap pieces_of trace.text ∙ pieces-lines lines (lines-no-end names file sound run) in
     let small : nat_lt 16777216 (length bytes) ≡ false = let s = trace.small in grind (arith, nat_tests) in
     let v = version-known file.header.version head.version in
     let o = order-known names file.header.order sound head.threads head.once head.every in
     let p = points-known file.header.points head.few_points head.points in
     let l = limit-known file.header.limit head.limit in
-    let some = line_pieces-some (step_lines names 1 file.events ++ verdict_line names file.verdict ∷ []) in
+    let some = line_pieces-some (step_lines names 1 file.events ++ verdict_line_words names file.verdict ∷ []) in
     let body : body_of names file.header.version file.header.limit 1 (some.0 ∷ some.1) ≡ Ok (file.events, file.verdict) =
     ap (body_of names file.header.version file.header.limit 1) (sym some.2) ∙ body-known names file.header.version file.header.limit 1 file.events file.verdict sound run.steps run.end (let few = run.few in omega arith) head.limit.1 in
     ap (λ large. if large then Err (1, TooLong) else file_in names (pieces_of bytes)) small
     ∙ ap (file_in names) (pieces ∙ ap (λ rest. join_with_byte 32 (codes "trace" ∷ decimal file.header.version ∷ []) ∷ join_with_byte 32 (codes "order" ∷ map (thread_name names) file.header.order) ∷ join_with_byte 32 (codes "points" ∷ map decimal file.header.points) ∷ join_with_byte 32 (codes "limit" ∷ decimal file.header.limit ∷ []) ∷ rest) some.2)
     ∙ head-read names (join_with_byte 32 (codes "trace" ∷ decimal file.header.version ∷ [])) (join_with_byte 32 (codes "order" ∷ map (thread_name names) file.header.order)) (join_with_byte 32 (codes "points" ∷ map decimal file.header.points)) (join_with_byte 32 (codes "limit" ∷ decimal file.header.limit ∷ [])) some.0 some.1 file.header.version (map (thread_name names) file.header.order) file.header.order file.header.points file.header.limit (file.events, file.verdict) v o.0 o.1 p l body
   where
-    head-read : (names : NameLists) (p1 p2 p3 p4 p5 : List ℕ) (rest : List (List ℕ)) (version : ℕ) (words : List (List ℕ)) (order points : List ℕ) (limit : ℕ) (body : Body) → version_in p1 ≡ Some version → order_in names p2 ≡ Some words → threads_of names words ≡ Some order → points_in p3 ≡ Some points → limit_in p4 ≡ Some limit → body_of names version limit 1 (p5 ∷ rest) ≡ Ok body → file_in names (p1 ∷ p2 ∷ p3 ∷ p4 ∷ p5 ∷ rest) ≡ Ok (file_of version order points limit body)
+    head-read : (names : NameLists) (p1 p2 p3 p4 p5 : List ℕ) (rest : List (List ℕ)) (version : ℕ) (words : List (List ℕ)) (order points : List ℕ) (limit : ℕ) (body : Body) → version_on_line p1 ≡ Some version → order_on_line names p2 ≡ Some words → threads_of_names names words ≡ Some order → points_on_line p3 ≡ Some points → limit_on_line p4 ≡ Some limit → body_of names version limit 1 (p5 ∷ rest) ≡ Ok body → file_in names (p1 ∷ p2 ∷ p3 ∷ p4 ∷ p5 ∷ rest) ≡ Ok (file_of version order points limit body)
     head-read names p1 p2 p3 p4 p5 rest version words order points limit body v o t p l b = rw (v, o, t, p, l, b)
 
 -- ---- the answers
@@ -168,8 +170,8 @@ small-read names bytes true file e h = absurd cc
 small-read names bytes false file e h = file-spelled names bytes file (grind (arith, nat_tests)) h
 
 -- a text is read as its first fault, or as a file where no line is faulty
-pub read-found : (names : NameLists) (bytes : List ℕ) → AreNames names → IsRead (length bytes) names (pieces_of bytes) (read names bytes)
-read-found names bytes sound = told-read names sound (length bytes) (pieces_of bytes) (read names bytes) (read-told names bytes)
+pub read-found : (names : NameLists) (bytes : List ℕ) → AreNames names → IsRead (length bytes) names (pieces_of bytes) (read_as_trace names bytes)
+read-found names bytes sound = told-read names sound (length bytes) (pieces_of bytes) (read_as_trace names bytes) (read-told names bytes)
 
 read-fault : (names : NameLists) (bytes : List ℕ) (r : Result TraceFile Fault) (line : ℕ) (kind : TraceFault) → IsRead (length bytes) names (pieces_of bytes) r → r ≡ Err (line, kind) → IsTraceFault bytes names line kind
 read-fault names bytes (Ok file) line kind told h = absurd cc
@@ -177,9 +179,9 @@ read-fault names bytes (Err e) line kind told h =
     let same : e ≡ (line, kind) = cc in
     rw same at told
 
-pub answer-given : (names : NameLists) (bytes : List ℕ) (result : Result TraceFile TraceError) → AreNames names → Gives (λ (file : TraceFile). file) result (read names bytes) → Answers bytes names result
+pub answer-given : (names : NameLists) (bytes : List ℕ) (result : Result TraceFile TraceError) → AreNames names → Gives (λ (file : TraceFile). file) result (read_as_trace names bytes) → AnswersTrace bytes names result
 answer-given names bytes (Ok file) sound given = small-read names bytes (nat_lt 16777216 (length bytes)) file refl given
-answer-given names bytes (Err (Bad line kind)) sound given = read-fault names bytes (read names bytes) line kind (read-found names bytes sound) given
+answer-given names bytes (Err (Bad line kind)) sound given = read-fault names bytes (read_as_trace names bytes) line kind (read-found names bytes sound) given
 answer-given names bytes (Err NoMemory) sound given = tt
 
 given-ok : (result : Result TraceFile TraceError) (r : Result TraceFile Fault) (file : TraceFile) → Gives (λ (f : TraceFile). f) result r → r ≡ Ok file → (result ≡ Ok file) ⊎ (result ≡ Err NoMemory)
@@ -187,8 +189,8 @@ given-ok (Ok f) r file given h = let same = ok_is f file (sym given ∙ h) in in
 given-ok (Err (Bad line kind)) r file given h = let two : ◌≡◌ {A = Result TraceFile Fault} (Err (line, kind)) (Ok file) = sym given ∙ h in absurd cc
 given-ok (Err NoMemory) r file given h = inr refl
 
-pub trace-given : (names : NameLists) (bytes : List ℕ) (result : Result TraceFile TraceError) (file : TraceFile) → AreNames names → Gives (λ (f : TraceFile). f) result (read names bytes) → IsTrace bytes names file → (result ≡ Ok file) ⊎ (result ≡ Err NoMemory)
-trace-given names bytes result file sound given trace = given-ok result (read names bytes) file given (trace-read names bytes file sound trace)
+pub trace-given : (names : NameLists) (bytes : List ℕ) (result : Result TraceFile TraceError) (file : TraceFile) → AreNames names → Gives (λ (f : TraceFile). f) result (read_as_trace names bytes) → IsTrace bytes names file → (result ≡ Ok file) ⊎ (result ≡ Err NoMemory)
+trace-given names bytes result file sound given trace = given-ok result (read_as_trace names bytes) file given (trace-read names bytes file sound trace)
 
 same-fault : (a b : ℕ) (j k : TraceFault) → a ≡ b → j ≡ k → ◌≡◌ {A = Fault} (a, j) (b, k)
 same-fault a b j k p q = cc
@@ -207,11 +209,11 @@ given-err (Err (Bad l k)) r line kind given h =
     inl (ap (λ (e : Fault). Err (Bad e.0 e.1)) same)
 given-err (Err NoMemory) r line kind given h = inr refl
 
-pub fault-given : (names : NameLists) (bytes : List ℕ) (result : Result TraceFile TraceError) (line : ℕ) (kind : TraceFault) → AreNames names → Gives (λ (f : TraceFile). f) result (read names bytes) → IsTraceFault bytes names line kind → (result ≡ Err (Bad line kind)) ⊎ (result ≡ Err NoMemory)
-fault-given names bytes result line kind sound given fault = given-err result (read names bytes) line kind given (fault-read names bytes (read names bytes) line kind (read-found names bytes sound) fault)
+pub fault-given : (names : NameLists) (bytes : List ℕ) (result : Result TraceFile TraceError) (line : ℕ) (kind : TraceFault) → AreNames names → Gives (λ (f : TraceFile). f) result (read_as_trace names bytes) → IsTraceFault bytes names line kind → (result ≡ Err (Bad line kind)) ⊎ (result ≡ Err NoMemory)
+fault-given names bytes result line kind sound given fault = given-err result (read_as_trace names bytes) line kind given (fault-read names bytes (read_as_trace names bytes) line kind (read-found names bytes sound) fault)
 
 -- ---- what is written
 
 -- a text that was written is a trace, and whatever is answered of it is what was written
-pub written-trace : (names : NameLists) (bytes : List ℕ) (file : TraceFile) → AreNames names → IsRun names file → bytes ≡ trace_text (head_of file.header) names file.events file.verdict → IsTrace bytes names file
+pub written-trace : (names : NameLists) (bytes : List ℕ) (file : TraceFile) → AreNames names → IsWritableFile names file → bytes ≡ trace_text (head_of file.header) names file.events file.verdict → IsTrace bytes names file
 written-trace names bytes file sound run is = record { run = run; small = rw is (trace-size names file sound run); text = is }

@@ -10,7 +10,7 @@ use Rattle.std.proofs.lemmas.Str.Parse.{digit_from_value}
 use Rattle.std.proofs.lemmas.Bool.Decides.{nat_tests}
 use Rattle.std.proofs.lemmas.Slice.Eq.{bytes_eq-Decides}
 use Rattle.pct_ask.specs.Numbers.{number_text}
-use Rattle.trace_text.specs.reader.Numbers.{minus, guess, is_small, small, value_of}
+use Rattle.trace_text.specs.reader.Numbers.{minus, guess, is_small, small, i64_in}
 
 guess-digits : (ds : List ℕ) → 0 < length ds → AllDigits 10 ds → guess ds ≡ pos (digits_value 10 ds)
 guess-digits [] some digits = absurd (omega arith)
@@ -29,8 +29,8 @@ guess-number_text (negsuc n) fits =
     ap minus k.1
 
 -- a word that spells a number of 128 bits is the i64's where it is one
-pub value_of-number : (word : List ℕ) (z : ℤ) → FitsSigned w128 z → word ≡ number_text z → value_of word ≡ small z
-unfolding value_of
+pub value_of-number : (word : List ℕ) (z : ℤ) → FitsSigned w128 z → word ≡ number_text z → i64_in word ≡ small z
+unfolding i64_in
 value_of-number word z fits is =
     let same : guess word ≡ z = ap guess is ∙ guess-number_text z fits in
     let canonical : bytes_eq (number_text z) word ≡ true = (bytes_eq-Decides (number_text z) word).1 (sym is) in
@@ -49,7 +49,7 @@ fits-wider (pos n) fits = fits_signed_from_abs w128 (pos n) (omega (arith, fits.
 fits-wider (negsuc n) fits = fits_signed_from_abs w128 (negsuc n) (omega (arith, fits.sfits))
 
 -- an i64 is read of its decimal
-pub value_of-Some : (z : ℤ) → FitsSigned w64 z → value_of (number_text z) ≡ Some z
+pub value_of-Some : (z : ℤ) → FitsSigned w64 z → i64_in (number_text z) ≡ Some z
 value_of-Some z fits =
     let little = fits-small z fits in
     value_of-number (number_text z) z (fits-wider z fits) refl ∙ rw little
@@ -60,17 +60,17 @@ guarded true false x y h = absurd cc
 guarded false b x y h = absurd cc
 
 -- and only of that
-pub Some-value_of : (word : List ℕ) (z : ℤ) → value_of word ≡ Some z → (word ≡ number_text z) × FitsSigned w64 z
-unfolding value_of
+pub Some-value_of : (word : List ℕ) (z : ℤ) → i64_in word ≡ Some z → (word ≡ number_text z) × FitsSigned w64 z
+unfolding i64_in
 Some-value_of word z h =
     let g = guarded (bytes_eq (number_text (guess word)) word) (is_small (guess word)) (guess word) z h in
     (sym ((bytes_eq-Decides (number_text (guess word)) word).0 g.0) ∙ ap number_text g.2, small-fits z (ap is_small (sym g.2) ∙ g.1))
 
 -- a word that spells no number
-pub value_of-none : (word : List ℕ) (read : Option ℤ) → ((z : ℤ) → FitsSigned w128 z → word ≡ number_text z → read ≡ Some z) → read ≡ None → value_of word ≡ None
-value_of-none word read every was = by (value_of word) refl
+pub value_of-none : (word : List ℕ) (read : Option ℤ) → ((z : ℤ) → FitsSigned w128 z → word ≡ number_text z → read ≡ Some z) → read ≡ None → i64_in word ≡ None
+value_of-none word read every was = by (i64_in word) refl
   where
-    by : (r : Option ℤ) → value_of word ≡ r → r ≡ None
+    by : (r : Option ℤ) → i64_in word ≡ r → r ≡ None
     by None e = refl
     by (Some z) e =
         let is = Some-value_of word z e in

@@ -6,13 +6,13 @@ use Rattle.std.proofs.lemmas.Bool.Decides.{nat_tests}
 use Rattle.std.proofs.lemmas.List.Elements.{All-nil, All-cons, All-head, All-tail}
 use Rattle.std.proofs.lemmas.List.Splits.{slice_split_at, join_with_byte-slice_split}
 use Rattle.pct_ask.specs.NameLists.{NameLists, AreNames}
-use Rattle.pct_ask.specs.TraceText.{event_words, step_lines, verdict_line, line_text}
+use Rattle.pct_ask.specs.TraceText.{event_words, step_lines, verdict_line_words, line_text}
 use Rattle.pct_ask.specs.declared.event.Event.{Event}
 use Rattle.pct_ask.specs.declared.verdict.Verdict.{Verdict}
 use Rattle.trace_text.specs.Lawful.{IsStep, IsEnd}
 use Rattle.trace_text.specs.Lines.{pieces_of}
 use Rattle.trace_text.specs.reader.StepLines.{row_of}
-use Rattle.trace_text.specs.reader.Reading.{Fault, Body, judged, with_event, closed, after_line, body_of}
+use Rattle.trace_text.specs.reader.Reading.{Fault, Body, line_or_fault, with_event, body_at_verdict, body_from_line, body_of}
 use Rattle.trace_text.specs.declared.row.Row.{Row}
 use Rattle.trace_text.specs.declared.row.Row.TheVariants.{Step, End}
 use Rattle.trace_text.specs.declared.row.Sound.{Sound}
@@ -78,7 +78,7 @@ no-last true same event verdict h = cc
 no-last false true event verdict h = cc
 no-last false false event verdict h = cc
 
-pub judged-step : (limit next : ℕ) (row : Option Row) (event : Event) → judged limit next row ≡ Ok (sound.Step event) → row ≡ Some (Step next (Some event))
+pub judged-step : (limit next : ℕ) (row : Option Row) (event : Event) → line_or_fault limit next row ≡ Ok (sound.Step event) → row ≡ Some (Step next (Some event))
 judged-step limit next None event h = absurd cc
 judged-step limit next (Some (Step number None)) event h = absurd (past-unknown (nat_lt limit number) (sound.Step event) h)
 judged-step limit next (Some (Step number (Some e))) event h =
@@ -87,7 +87,7 @@ judged-step limit next (Some (Step number (Some e))) event h =
 judged-step limit next (Some (End None)) event h = absurd cc
 judged-step limit next (Some (End (Some verdict))) event h = absurd cc
 
-pub judged-last : (limit next : ℕ) (row : Option Row) (verdict : Verdict) → judged limit next row ≡ Ok (sound.Last verdict) → row ≡ Some (End (Some verdict))
+pub judged-last : (limit next : ℕ) (row : Option Row) (verdict : Verdict) → line_or_fault limit next row ≡ Ok (sound.Last verdict) → row ≡ Some (End (Some verdict))
 judged-last limit next None verdict h = absurd cc
 judged-last limit next (Some (Step number None)) verdict h = absurd (past-unknown (nat_lt limit number) (sound.Last verdict) h)
 judged-last limit next (Some (Step number (Some e))) verdict h = absurd (no-last (nat_lt limit number) (number == next) e verdict h)
@@ -102,14 +102,14 @@ within-by true same limit next number event other p q h = absurd cc
 within-by false false limit next number event other p q h = absurd cc
 within-by false true limit next number event other p q h = grind (arith, nat_tests)
 
-pub step-within : (limit next : ℕ) (row : Option Row) (event : Event) → judged limit next row ≡ Ok (sound.Step event) → next ≤ limit
+pub step-within : (limit next : ℕ) (row : Option Row) (event : Event) → line_or_fault limit next row ≡ Ok (sound.Step event) → next ≤ limit
 step-within limit next None event h = absurd cc
 step-within limit next (Some (Step number None)) event h = absurd (past-unknown (nat_lt limit number) (sound.Step event) h)
 step-within limit next (Some (Step number (Some e))) event h = within-by (nat_lt limit number) (number == next) limit next number e event refl refl h
 step-within limit next (Some (End None)) event h = absurd cc
 step-within limit next (Some (End (Some verdict))) event h = absurd cc
 
-pub step-judged : (limit next : ℕ) (event : Event) → next ≤ limit → judged limit next (Some (Step next (Some event))) ≡ Ok (sound.Step event)
+pub step-judged : (limit next : ℕ) (event : Event) → next ≤ limit → line_or_fault limit next (Some (Step next (Some event))) ≡ Ok (sound.Step event)
 step-judged limit next event h =
     let a : nat_lt limit next ≡ false = grind (arith, nat_tests) in
     let b : (next == next) ≡ true = grind (arith, nat_tests) in
@@ -119,7 +119,8 @@ step-judged limit next event h =
 
 -- the pieces are those of these steps and this verdict
 pub record IsBody (names : NameLists) (version limit next : ℕ) (pieces : List (List ℕ)) (events : List Event) (verdict : Verdict) : Type 0 where
-  pub lines : pieces ≡ line_pieces (step_lines names next events ++ verdict_line names verdict ∷ [])
+  pub lines : pieces
+      ≡ line_pieces (step_lines names next events ++ verdict_line_words names verdict ∷ [])
   pub steps : All (IsStep names version) events
   pub end : IsEnd names version verdict
   pub few : next + length events ≤ limit + 1
@@ -129,7 +130,7 @@ pair-parts a b u v h =
     let same : ◌≡◌ {A = Body} (a, u) (b, v) = cc in
     (ap (λ p. p.0) same, ap (λ p. p.1) same)
 
-closed-inv : (line : ℕ) (verdict other : Verdict) (piece : List ℕ) (pieces : List (List ℕ)) (events : List Event) → closed line verdict piece pieces ≡ Ok (events, other) → (piece ∷ pieces ≡ [] ∷ []) × (events ≡ []) × (verdict ≡ other)
+closed-inv : (line : ℕ) (verdict other : Verdict) (piece : List ℕ) (pieces : List (List ℕ)) (events : List Event) → body_at_verdict line verdict piece pieces ≡ Ok (events, other) → (piece ∷ pieces ≡ [] ∷ []) × (events ≡ []) × (verdict ≡ other)
 closed-inv line verdict other [] [] events h = let p = pair-parts [] events verdict other h in (refl, sym p.0, p.1)
 closed-inv line verdict other [] (piece ∷ pieces) events h = absurd cc
 closed-inv line verdict other (b ∷ bs) pieces events h = absurd cc
@@ -164,7 +165,7 @@ body-more names version limit next piece pieces event es events verdict row are 
 
 body-by : (names : NameLists) (version limit next : ℕ) (piece after : List ℕ) (pieces : List (List ℕ)) (events : List Event) (verdict : Verdict) → (version ≡ 1) ⊎ (version ≡ 2) → next ≤ limit + 1
     → ((es : List Event) → next + 1 ≤ limit + 1 → body_of names version limit (next + 1) (after ∷ pieces) ≡ Ok (es, verdict) → IsBody names version limit (next + 1) (after ∷ pieces) es verdict)
-    → (read : Result Sound TraceFault) → judged limit next (row_of names version piece) ≡ read → after_line (next + 4) read after pieces (body_of names version limit (next + 1) (after ∷ pieces)) ≡ Ok (events, verdict) → IsBody names version limit next (piece ∷ after ∷ pieces) events verdict
+    → (read : Result Sound TraceFault) → line_or_fault limit next (row_of names version piece) ≡ read → body_from_line (next + 4) read after pieces (body_of names version limit (next + 1) (after ∷ pieces)) ≡ Ok (events, verdict) → IsBody names version limit next (piece ∷ after ∷ pieces) events verdict
 body-by names version limit next piece after pieces events verdict which within others (Err kind) j e = absurd cc
 body-by names version limit next piece after pieces events verdict which within others (Ok (sound.Step event)) j e =
     let i = event-inv event (body_of names version limit (next + 1) (after ∷ pieces)) events verdict e in
@@ -179,19 +180,19 @@ pub body-told : (names : NameLists) (version limit next : ℕ) (pieces : List (L
 body-told names version limit next [] events verdict which within h = absurd cc
 body-told names version limit next (piece ∷ []) events verdict which within h = absurd cc
 body-told names version limit next (piece ∷ after ∷ pieces) events verdict which within h =
-    body-by names version limit next piece after pieces events verdict which within (λ es small. body-told names version limit (next + 1) (after ∷ pieces) es verdict which small) (judged limit next (row_of names version piece)) refl h
+    body-by names version limit next piece after pieces events verdict which within (λ es small. body-told names version limit (next + 1) (after ∷ pieces) es verdict which small) (line_or_fault limit next (row_of names version piece)) refl h
 
 -- and steps and a verdict are read
-pub body-known : (names : NameLists) (version limit next : ℕ) (events : List Event) (verdict : Verdict) → AreNames names → All (IsStep names version) events → IsEnd names version verdict → next + length events ≤ limit + 1 → limit ≤ 100000 → body_of names version limit next (line_pieces (step_lines names next events ++ verdict_line names verdict ∷ [])) ≡ Ok (events, verdict)
+pub body-known : (names : NameLists) (version limit next : ℕ) (events : List Event) (verdict : Verdict) → AreNames names → All (IsStep names version) events → IsEnd names version verdict → next + length events ≤ limit + 1 → limit ≤ 100000 → body_of names version limit next (line_pieces (step_lines names next events ++ verdict_line_words names verdict ∷ [])) ≡ Ok (events, verdict)
 body-known names version limit next [] verdict sound steps end few small =
     let row = end-known names version verdict sound end in rw row
 body-known names version limit next (event ∷ events) verdict sound steps end few small =
     let step = step-known names version next event sound (All-head (IsStep names version) event events steps) (omega arith) in
     let judge = step-judged limit next event (omega arith) in
     let others = body-known names version limit (next + 1) events verdict sound (All-tail (IsStep names version) event events steps) end (omega arith) small in
-    let some = line_pieces-some (step_lines names (next + 1) events ++ verdict_line names verdict ∷ []) in
+    let some = line_pieces-some (step_lines names (next + 1) events ++ verdict_line_words names verdict ∷ []) in
     let others_here : body_of names version limit (next + 1) (some.0 ∷ some.1) ≡ Ok (events, verdict) = ap (body_of names version limit (next + 1)) (sym some.2) ∙ others in
     ap (λ ps. body_of names version limit next (join_with_byte 32 (event_words names next event) ∷ ps)) some.2
-    ∙ ap (λ row. after_line (next + 4) (judged limit next row) some.0 some.1 (body_of names version limit (next + 1) (some.0 ∷ some.1))) step
-    ∙ ap (λ read. after_line (next + 4) read some.0 some.1 (body_of names version limit (next + 1) (some.0 ∷ some.1))) judge
+    ∙ ap (λ row. body_from_line (next + 4) (line_or_fault limit next row) some.0 some.1 (body_of names version limit (next + 1) (some.0 ∷ some.1))) step
+    ∙ ap (λ read. body_from_line (next + 4) read some.0 some.1 (body_of names version limit (next + 1) (some.0 ∷ some.1))) judge
     ∙ ap (with_event event) others_here

@@ -3,8 +3,8 @@ use Rattle.std.specs.Prelude.{codes, decimal, map}
 use Rattle.std.proofs.Common.{◌≡◌, ℕ, List, [], ◌∷◌, ◌++◌, refl, ap}
 use Rattle.pct_ask.specs.NameLists.{NameLists}
 use Rattle.pct_ask.specs.Numbers.{number_text}
-use Rattle.pct_ask.specs.TraceText.{TraceHead, name_at, ask_words, event_words, head_lines, verdict_line}
-use Rattle.pct_ask.specs.VerdictText.{thread_name, named}
+use Rattle.pct_ask.specs.TraceText.{TraceHead, name_at, ask_words, event_words, head_lines, verdict_line_words}
+use Rattle.pct_ask.specs.VerdictText.{thread_name, named_verdict}
 use Rattle.pct_ask.specs.declared.ask.Ask.{Ask}
 use Rattle.pct_ask.specs.declared.ask.Ask.TheVariants as asks
 use Rattle.pct_ask.specs.declared.event.Event.{Event}
@@ -81,5 +81,5 @@ pub heads-agree : (names : NameLists) (head : TraceHead) → map words_of_form (
 heads-agree names head = refl
 
 -- the verdict's line
-pub verdicts-agree : (names : NameLists) (verdict : Verdict) → words_of_form (End (named names verdict)) ≡ verdict_line names verdict
+pub verdicts-agree : (names : NameLists) (verdict : Verdict) → words_of_form (End (named_verdict names verdict)) ≡ verdict_line_words names verdict
 verdicts-agree names verdict = refl

@@ -10,10 +10,10 @@ use Rattle.trace_text.specs.declared.fault.TraceError.TheVariants.{Bad, NoMemory
 
 -- A file is answered of a text that is its trace, and a fault of a text that has it. Want of memory
 -- says nothing of a text.
-abbrev pub Answers : List ℕ → NameLists → Result TraceFile TraceError → Type 0
-Answers bytes names (Ok file) = IsTrace bytes names file
-Answers bytes names (Err (Bad line kind)) = IsTraceFault bytes names line kind
-Answers bytes names (Err NoMemory) = Unit {0}
+abbrev pub AnswersTrace : List ℕ → NameLists → Result TraceFile TraceError → Type 0
+AnswersTrace bytes names (Ok file) = IsTrace bytes names file
+AnswersTrace bytes names (Err (Bad line kind)) = IsTraceFault bytes names line kind
+AnswersTrace bytes names (Err NoMemory) = Unit {0}
 
 -- the text is the trace of this file and of no other, and has no fault
 pub record IsOnlyTrace (bytes : List ℕ) (names : NameLists) (file : TraceFile) : Type 0 where

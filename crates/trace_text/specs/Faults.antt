@@ -8,7 +8,8 @@ use Rattle.pct_ask.specs.NameLists.{NameLists}
 use Rattle.pct_ask.specs.VerdictText.{NamedVerdict}
 use Rattle.pct_ask.specs.VerdictWords.{words_of}
 use Rattle.trace_text.specs.Lines.{pieces_of, is_empty, line_at, text_in, is_whole}
-use Rattle.trace_text.specs.Forms.{AskForm, Form, Limit, Step, End, words_of_form, StandsAt, IsOf}
+use Rattle.trace_text.specs.Forms.{AskForm, Form, Limit, Step, End, words_of_form, StandsAt}
+use Rattle.trace_text.specs.Forms.{IsLineOf}
 use Rattle.trace_text.specs.Forms.{HasUnknown}
 use Rattle.trace_text.specs.declared.fault.TraceFault.{TraceFault}
 use Rattle.trace_text.specs.declared.fault.TraceFault.TheVariants as kinds
@@ -20,8 +21,8 @@ abbrev pub text_at : List (List ℕ) → ℕ → List ℕ
 text_at pieces k = text_in (line_at pieces k)
 
 -- there is a byte of line k
-abbrev pub is_there : List (List ℕ) → ℕ → Bool
-is_there pieces k = is_whole (line_at pieces k) || not (is_empty (text_at pieces k))
+abbrev pub has_byte : List (List ℕ) → ℕ → Bool
+has_byte pieces k = is_whole (line_at pieces k) || not (is_empty (text_at pieces k))
 
 -- the file's version: the second where its first line is `trace 2`, and otherwise the first
 abbrev pub version_of : List (List ℕ) → ℕ
@@ -32,11 +33,11 @@ version_of pieces = if bytes_eq (text_at pieces 1) (codes "trace 2") then 2 else
 pub record HasForm (names : NameLists) (pieces : List (List ℕ)) (k : ℕ) (form : Form) : Type 0 where
   pub stands : StandsAt k form
   pub spelled : words_of (text_at pieces k) ≡ words_of_form form
-  pub of : IsOf names (version_of pieces) form
+  pub of : IsLineOf names (version_of pieces) form
 
 -- line k has its LF and some form
-abbrev pub IsSound : NameLists → List (List ℕ) → ℕ → Type 0
-IsSound names pieces k =
+abbrev pub IsSoundLine : NameLists → List (List ℕ) → ℕ → Type 0
+IsSoundLine names pieces k =
     (is_whole (line_at pieces k) ≡ true) × (form : Form) × HasForm names pieces k form
 
 -- line k is a step line with this number
@@ -76,12 +77,12 @@ TooLong size names pieces k =
 
 -- One of the lines 1 to 4 is missing, lacks its LF or isn't of its form.
 abbrev pub BadHeader : NameLists → List (List ℕ) → ℕ → Type 0
-BadHeader names pieces k = (1 ≤ k) × (k ≤ 4) × ¬ IsSound names pieces k
+BadHeader names pieces k = (1 ≤ k) × (k ≤ 4) × ¬ IsSoundLine names pieces k
 
 -- A later line is neither a step line nor a verdict line by form, or lacks its LF.
 abbrev pub BadLine : NameLists → List (List ℕ) → ℕ → Type 0
 BadLine names pieces k =
-    IsInBody names pieces k × (is_there pieces k ≡ true) × ¬ IsSound names pieces k
+    IsInBody names pieces k × (has_byte pieces k ≡ true) × ¬ IsSoundLine names pieces k
 
 -- A name isn't declared with the kind that its place needs, in the order or in a later line, where
 -- no verdict line stands before it.
@@ -111,12 +112,12 @@ OutOfOrder names pieces k =
 
 -- The file ends where a line should follow, and no line is the verdict's.
 abbrev pub NoVerdict : NameLists → List (List ℕ) → ℕ → Type 0
-NoVerdict names pieces k = IsInBody names pieces k × (is_there pieces k ≡ false)
+NoVerdict names pieces k = IsInBody names pieces k × (has_byte pieces k ≡ false)
 
 -- A byte stands after the verdict line, which is the line before.
 abbrev pub MoreAfterVerdict : NameLists → List (List ℕ) → ℕ → Type 0
 MoreAfterVerdict names pieces k =
-    IsVerdictLine names pieces (k - 1) × (is_there pieces k ≡ true)
+    IsVerdictLine names pieces (k - 1) × (has_byte pieces k ≡ true)
 
 -- a text of so many bytes and of these pieces: its line k is faulty by a kind
 abbrev pub IsFaulty : ℕ → NameLists → List (List ℕ) → ℕ → TraceFault → Type 0
@@ -131,19 +132,19 @@ IsFaulty size names pieces k kinds.MoreAfterVerdict = MoreAfterVerdict names pie
 -- ---- the first of them
 
 -- the kinds in their order: of a line's faults the first of these counts
-abbrev pub rank : TraceFault → ℕ
-rank kinds.TooLong = 0
-rank kinds.BadHeader = 1
-rank kinds.BadLine = 2
-rank kinds.UnknownName = 3
-rank kinds.OutOfOrder = 4
-rank kinds.NoVerdict = 5
-rank kinds.MoreAfterVerdict = 6
+abbrev pub kind_rank : TraceFault → ℕ
+kind_rank kinds.TooLong = 0
+kind_rank kinds.BadHeader = 1
+kind_rank kinds.BadLine = 2
+kind_rank kinds.UnknownName = 3
+kind_rank kinds.OutOfOrder = 4
+kind_rank kinds.NoVerdict = 5
+kind_rank kinds.MoreAfterVerdict = 6
 
 -- the first of its lines that is faulty, and the first kind by which that line is
 abbrev pub IsFirstFault : ℕ → NameLists → List (List ℕ) → ℕ → TraceFault → Type 0
 IsFirstFault size names pieces line kind =
-    texts.IsFirstFault rank (IsFaulty size names pieces) line kind
+    texts.IsFirstFault kind_rank (IsFaulty size names pieces) line kind
 
 -- the text's fault
 abbrev pub IsTraceFault : List ℕ → NameLists → ℕ → TraceFault → Type 0

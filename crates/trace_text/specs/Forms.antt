@@ -175,16 +175,16 @@ IsAskOf version (Fault kind) = Unit {0}
 -- lawful names as there are threads, there are at most 7 points, counts of steps are in 1..100000,
 -- lines in 1..4096, a step's number below 2 ^ 63, answers are i64s, and a verdict is one by form
 -- that the version has.
-abbrev pub IsOf : NameLists → ℕ → Form → Type 0
-IsOf names version (Version number) = (number ≡ 1) ⊎ (number ≡ 2)
-IsOf names version (Order threads) =
+abbrev pub IsLineOf : NameLists → ℕ → Form → Type 0
+IsLineOf names version (Version number) = (number ≡ 1) ⊎ (number ≡ 2)
+IsLineOf names version (Order threads) =
     (length threads ≡ length names.threads) × All IsName threads × AreDistinct threads
-IsOf names version (Points points) = (length points ≤ 7) × All IsStepCount points
-IsOf names version (Limit limit) = IsStepCount limit
-IsOf names version (Step number thread line ask answer) =
+IsLineOf names version (Points points) = (length points ≤ 7) × All IsStepCount points
+IsLineOf names version (Limit limit) = IsStepCount limit
+IsLineOf names version (Step number thread line ask answer) =
     (number < 2 ^ 63) × IsName thread × IsLine line × IsAskOf version ask × IsValue answer
-IsOf names version (End verdict) =
-    verdicts.IsForm names verdict × (verdict_since verdict ≤ version)
+IsLineOf names version (End verdict) =
+    verdicts.IsVerdictForm names verdict × (verdict_since verdict ≤ version)
 
 -- ---- the names in a line
 
@@ -209,5 +209,5 @@ abbrev pub HasUnknown : NameLists → Form → Type 0
 HasUnknown names (Order threads) = Any (IsUndeclared names kinds.Thread) threads
 HasUnknown names (Step number thread line ask answer) =
     IsUndeclared names kinds.Thread thread ⊎ AsksUnknown names ask
-HasUnknown names (End verdict) = verdicts.HasUnknown names verdict
+HasUnknown names (End verdict) = verdicts.HasUnknownThread names verdict
 HasUnknown names form = ⊥

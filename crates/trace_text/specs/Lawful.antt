@@ -4,7 +4,7 @@ use Rattle.std.specs.Prelude.{All}
 use Rattle.std.specs.Int.{w64}
 use Rattle.std.specs.List.{AllPairs}
 use Rattle.pct_ask.specs.NameLists.{NameLists}
-use Rattle.pct_ask.specs.VerdictText.{named, IsForm, HasNames, IsLine}
+use Rattle.pct_ask.specs.VerdictText.{named_verdict, IsVerdictForm, HasNames, IsLine}
 use Rattle.pct_ask.specs.declared.ask.Ask.{Ask}
 use Rattle.pct_ask.specs.declared.ask.Ask.TheVariants.{Read, Write, Add, Cas, Lock, TryLock, Unlock}
 use Rattle.pct_ask.specs.declared.ask.Ask.TheVariants.{Release, Regain, Signal, Broadcast, Down}
@@ -91,7 +91,7 @@ is_of_second Cut = false
 -- read-write lock.
 pub record IsEnd (names : NameLists) (version : ℕ) (verdict : Verdict) : Type 0 where
   pub threads : HasNames names verdict
-  pub form : IsForm names (named names verdict)
+  pub form : IsVerdictForm names (named_verdict names verdict)
   pub known : (is_of_second verdict ≡ false) ⊎ (version ≡ 2)
 
 -- a number in 1..100000: a limit, or the step of a change point

@@ -8,8 +8,8 @@ use Rattle.pct_ask.specs.VerdictWords.{words_of}
 use Rattle.pct_ask.specs.declared.ask.Ask.TheVariants.{Read, Add, RdLock}
 use Rattle.pct_ask.specs.declared.verdict.Verdict.TheVariants.{Stuck, Cut}
 use Rattle.pct_ask.specs.Numbers.{number_in}
-use Rattle.trace_text.specs.reader.Numbers.{value_of}
-use Rattle.trace_text.specs.reader.StepLines.{row_of, step_of}
+use Rattle.trace_text.specs.reader.Numbers.{i64_in}
+use Rattle.trace_text.specs.reader.StepLines.{row_of, step_in_words}
 use Rattle.trace_text.specs.reader.Asks.{ask_on_one}
 use Rattle.trace_text.specs.Faults.{version_of}
 use Rattle.trace_text.specs.Forms as forms
@@ -31,24 +31,24 @@ some_names = record {
 
 pub a_read : row_of some_names 1 (codes "1 A 4 read x = 0")
     ≡ Some (Step 1 (Some (record { thread = 0; line = 4; ask = Read 0; answer = pos 0 })))
-unfolding row_of step_of ask_on_one value_of number_in digits
+unfolding row_of step_in_words ask_on_one i64_in number_in digits
 a_read = refl
 
 pub unknown_name : row_of some_names 1 (codes "1 A 4 read y = 0") ≡ Some (Step 1 None)
-unfolding row_of step_of ask_on_one value_of number_in digits
+unfolding row_of step_in_words ask_on_one i64_in number_in digits
 unknown_name = refl
 
 pub leading_zero : row_of some_names 1 (codes "01 A 4 read x = 0") ≡ None
-unfolding row_of step_of ask_on_one value_of number_in digits
+unfolding row_of step_in_words ask_on_one i64_in number_in digits
 leading_zero = refl
 
 pub rdlock_in_second : row_of some_names 2 (codes "1 A 4 rdlock l = 0")
     ≡ Some (Step 1 (Some (record { thread = 0; line = 4; ask = RdLock 0; answer = pos 0 })))
-unfolding row_of step_of ask_on_one value_of number_in digits
+unfolding row_of step_in_words ask_on_one i64_in number_in digits
 rdlock_in_second = refl
 
 pub second_version_in_first : row_of some_names 1 (codes "1 A 4 rdlock l = 0") ≡ None
-unfolding row_of step_of ask_on_one value_of number_in digits
+unfolding row_of step_in_words ask_on_one i64_in number_in digits
 second_version_in_first = refl
 
 -- two steps of a trace of the second version

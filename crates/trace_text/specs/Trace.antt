@@ -19,11 +19,11 @@ head_of header = record {
 }
 
 -- a file of its three parts
-abbrev pub told : Header → List Event → Verdict → TraceFile
-told header events verdict = record { header = header; events = events; verdict = verdict }
+abbrev pub file_of_parts : Header → List Event → Verdict → TraceFile
+file_of_parts header events verdict = record { header = header; events = events; verdict = verdict }
 
 -- What may be written: the parts are lawful under the names, and there are at most `limit` steps.
-pub record IsRun (names : NameLists) (file : TraceFile) : Type 0 where
+pub record IsWritableFile (names : NameLists) (file : TraceFile) : Type 0 where
   pub head : IsHead names (head_of file.header)
   pub few : length file.events ≤ file.header.limit
   pub steps : All (IsStep names file.header.version) file.events
@@ -33,6 +33,6 @@ pub record IsRun (names : NameLists) (file : TraceFile) : Type 0 where
 -- numbered from 1, and of the verdict, each value in its one spelling; and it has at most
 -- 16,777,216 bytes.
 pub record IsTrace (bytes : List ℕ) (names : NameLists) (file : TraceFile) : Type 0 where
-  pub run : IsRun names file
+  pub run : IsWritableFile names file
   pub small : length bytes ≤ 16777216
   pub text : bytes ≡ trace_text (head_of file.header) names file.events file.verdict

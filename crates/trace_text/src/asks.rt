@@ -88,7 +88,7 @@ impl<T: Copy> WordsRead<T> {
 
     /// What they are, where all their names are known.
     pub fn known(self) -> Option<T>
-        ensures { result ≡ asks.known self }
+        ensures { result ≡ asks.known_words self }
     {
         match self {
             WordsRead::Is(what) => Some(what),
@@ -243,7 +243,7 @@ pub fn ask_on_one(names: &Names, version: u32, word: &[u8], operand: &[u8]) -> W
 }
 
 fn write(var: WordsRead<u32>, value: Option<i64>) -> WordsRead<Ask>
-    ensures { result ≡ asks.with_value Ask.Write var value }
+    ensures { result ≡ asks.ask_with_value Ask.Write var value }
 {
     let Some(value) = value else {
         return WordsRead::NoForm;
@@ -256,7 +256,7 @@ fn write(var: WordsRead<u32>, value: Option<i64>) -> WordsRead<Ask>
 }
 
 fn add(var: WordsRead<u32>, value: Option<i64>) -> WordsRead<Ask>
-    ensures { result ≡ asks.with_value Ask.Add var value }
+    ensures { result ≡ asks.ask_with_value Ask.Add var value }
 {
     let Some(value) = value else {
         return WordsRead::NoForm;
@@ -269,7 +269,7 @@ fn add(var: WordsRead<u32>, value: Option<i64>) -> WordsRead<Ask>
 }
 
 fn release(cond: WordsRead<u32>, mutex: WordsRead<u32>) -> WordsRead<Ask>
-    ensures { result ≡ asks.on_both Ask.Release cond mutex }
+    ensures { result ≡ asks.on_both_objects Ask.Release cond mutex }
 {
     match cond {
         WordsRead::Is(cond) => match mutex {
@@ -287,7 +287,7 @@ fn release(cond: WordsRead<u32>, mutex: WordsRead<u32>) -> WordsRead<Ask>
 }
 
 fn regain(cond: WordsRead<u32>, mutex: WordsRead<u32>) -> WordsRead<Ask>
-    ensures { result ≡ asks.on_both Ask.Regain cond mutex }
+    ensures { result ≡ asks.on_both_objects Ask.Regain cond mutex }
 {
     match cond {
         WordsRead::Is(cond) => match mutex {

@@ -54,7 +54,7 @@ fn head_value<T: Drop>(
 }
 
 fn version_in(text: &[u8]) -> Option<u32>
-    ensures { result ≡ heads.version_in text.now }
+    ensures { result ≡ heads.version_on_line text.now }
 {
     if text == FIRST {
         Some(1)
@@ -68,7 +68,7 @@ fn version_in(text: &[u8]) -> Option<u32>
 /// The version of a trace, and what follows its first line.
 pub fn read_version(text: &[u8]) -> Result<(u32, &[u8]), TraceError>
     ensures { Gives (λ x. (x.0, pieces_of x.1.now)) result
-        (reading.head_line 1 heads.version_in (pieces_of text.now)) }
+        (reading.head_line 1 heads.version_on_line (pieces_of text.now)) }
 {
     let (line, after) = cut_line(text);
     head_value(1, version_in(line), after)
@@ -98,7 +98,7 @@ fn are_order_names(names: &Names, words: &[&[u8]]) -> bool
 
 fn order_names<'a, 'b>(names: &Names, words: &'b [&'a [u8]]) -> Option<&'b [&'a [u8]]>
     ensures { option_map (λ found. seen found.now) result
-        ≡ heads.order_words names.now (seen words.now) }
+        ≡ heads.names_after_order names.now (seen words.now) }
 {
     let (head, others) = words.split_first()?;
     if *head == ORDER && are_order_names(names, others) {
@@ -110,7 +110,7 @@ fn order_names<'a, 'b>(names: &Names, words: &'b [&'a [u8]]) -> Option<&'b [&'a 
 
 /// The threads of these names, where each is one's.
 fn threads_of(alloc: Global, names: &Names, words: &[&[u8]]) -> Result<Option<OrderList>, NoMemory>
-    ensures { IfOk result (λ order. order ≡ heads.threads_of names.now (seen words.now)) }
+    ensures { IfOk result (λ order. order ≡ heads.threads_of_names names.now (seen words.now)) }
 {
     let mut order = OrderList::new(alloc);
     let mut rest = words;
@@ -177,7 +177,7 @@ fn points_in(alloc: Global, words: &[&[u8]]) -> Result<Option<PointList>, NoMemo
 /// The change points of a trace, and what follows their line.
 pub fn read_points(alloc: Global, text: &[u8]) -> Result<(PointList, &[u8]), TraceError>
     ensures { Gives (λ x. (x.0, pieces_of x.1.now)) result
-        (reading.head_line 3 heads.points_in (pieces_of text.now)) }
+        (reading.head_line 3 heads.points_on_line (pieces_of text.now)) }
 {
     let (line, after) = cut_line(text);
     let words = first_words(alloc, line, 9)?;
@@ -196,7 +196,7 @@ fn limit_in(words: &[&[u8]]) -> Option<u32>
 /// The limit of a trace, and what follows its line.
 pub fn read_limit(alloc: Global, text: &[u8]) -> Result<(u32, &[u8]), TraceError>
     ensures { Gives (λ x. (x.0, pieces_of x.1.now)) result
-        (reading.head_line 4 heads.limit_in (pieces_of text.now)) }
+        (reading.head_line 4 heads.limit_on_line (pieces_of text.now)) }
 {
     let (line, after) = cut_line(text);
     let words = first_words(alloc, line, 3)?;

@@ -8,7 +8,7 @@ use pct_ask::{number_in, read_number};
 
 /// The i64 that a canonical decimal spells.
 pub fn value_of(word: &[u8]) -> Option<i64>
-    ensures { result ≡ numbers.value_of word.now }
+    ensures { result ≡ numbers.i64_in word.now }
 {
     let number = read_number(word)?;
     as_value(number)

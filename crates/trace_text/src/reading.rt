@@ -2,7 +2,7 @@
 
 ghost use Rattle.std.specs.Prelude.{◌≡◌, ◌⊎◌, ℕ, ◌+◌, ◌≤◌};
 ghost use Rattle.pct_ask.specs.NameLists.{AreNames};
-ghost use Rattle.trace_text.specs.Answers.{Answers, EachHasOneAnswer};
+ghost use Rattle.trace_text.specs.Answers.{AnswersTrace, EachHasOneAnswer};
 ghost use Rattle.trace_text.specs.Faults.{IsTraceFault};
 ghost use Rattle.trace_text.specs.Lines.{pieces_of};
 ghost use Rattle.trace_text.specs.reader.Reading as reading;
@@ -77,7 +77,7 @@ fn read_body(
 }
 
 fn read(alloc: Global, bytes: &[u8], names: &Names) -> Result<TraceFile, TraceError>
-    ensures read { Gives (λ file. file) result (reading.read names.now bytes.now) }
+    ensures read { Gives (λ file. file) result (reading.read_as_trace names.now bytes.now) }
     ensures lawful { AreNames names.now }
 {
     let _ = names.count(NameKind::Thread);
@@ -107,7 +107,7 @@ fn read(alloc: Global, bytes: &[u8], names: &Names) -> Result<TraceFile, TraceEr
 
 /// Reads a trace under the names of a test.
 pub fn read_trace(alloc: Global, bytes: &[u8], names: &Names) -> Result<TraceFile, TraceError>
-    ensures answer { Answers bytes.now names.now result }
+    ensures answer { AnswersTrace bytes.now names.now result }
 
     // A trace gives its file, and a fault itself, unless there is no memory.
     ensures trace { (file : TraceFile) → IsTrace bytes.now names.now file

@@ -89,10 +89,11 @@ fn numbered_step(
     }
 }
 
-#[tactic(auto, unfolding(crate::specs::reader::StepLines::step_of))]
+#[tactic(auto, unfolding(crate::specs::reader::StepLines::step_in_words))]
 fn step_of(names: &Names, around: &Around<'_>, ask: WordsRead<Ask>) -> Option<Row>
     ensures { result
-        ≡ lines.step_of names.now around.now.number.now around.now.thread.now around.now.line.now
+        ≡ lines.step_in_words names.now around.now.number.now around.now.thread.now
+        around.now.line.now
         ask around.now.sign.now around.now.answer.now }
 {
     let number = natural_of(around.number)?;
@@ -266,7 +267,7 @@ pub fn unended_fault(limit: u32, row: Option<Row>, text: &[u8]) -> TraceFault
 
 /// What a line with its LF says, where the next step has this number, or its fault.
 pub fn judged(limit: u32, next: u32, row: Option<Row>) -> Result<Sound, TraceFault>
-    ensures { result ≡ reading.judged limit next row }
+    ensures { result ≡ reading.line_or_fault limit next row }
 {
     match row {
         None => Err(TraceFault::BadLine),

@@ -5,15 +5,15 @@ ghost use Rattle.std.specs.Prelude.{OnOk, OnErr, IfOk, length, map, codes, decim
 ghost use Rattle.std.specs.Fmt.{signed_decimal};
 ghost use Rattle.std.specs.List.{slice_index_or, flat_map};
 ghost use Rattle.pct_ask.specs.NameLists.{list_of};
-ghost use Rattle.pct_ask.specs.VerdictText.{thread_name, named, IsForm, HasNames};
-ghost use Rattle.pct_ask.specs.VerdictText.{IsWhole};
+ghost use Rattle.pct_ask.specs.VerdictText.{thread_name, named_verdict, IsVerdictForm, HasNames};
+ghost use Rattle.pct_ask.specs.VerdictText.{IsWholeVerdict};
 ghost use Rattle.pct_ask.specs.TraceText.{ask_words, event_words, step_lines, head_lines};
-ghost use Rattle.pct_ask.specs.TraceText.{verdict_line, line_text, trace_text, check_word};
-ghost use Rattle.trace_text.specs.Answers.{Answers};
+ghost use Rattle.pct_ask.specs.TraceText.{verdict_line_words, line_text, trace_text, check_word};
+ghost use Rattle.trace_text.specs.Answers.{AnswersTrace};
 ghost use Rattle.trace_text.specs.Lawful.{IsValue, HasObjects, IsAsk, NamesKnown, IsStep, IsHead};
 ghost use Rattle.trace_text.specs.Lawful.{is_of_second};
-ghost use Rattle.trace_text.specs.Spaced.{spaced};
-ghost use Rattle.trace_text.specs.Trace.{head_of, told, IsTrace};
+ghost use Rattle.trace_text.specs.Spaced.{behind_spaces};
+ghost use Rattle.trace_text.specs.Trace.{head_of, file_of_parts, IsTrace};
 ghost use Rattle.trace_text.specs.declared.file.TraceFile.{TraceFile};
 ghost use Rattle.trace_text.specs.declared.fault.TraceError.{TraceError};
 
@@ -29,21 +29,22 @@ use std::alloc::{AllocError as NoMemory, Global};
 
 /// A word behind a space.
 fn push_word(out: &mut Vec<u8>, word: &[u8]) -> Result<(), NoMemory>
-    ensures { OnOk result (out.new.items ≡ out.old.items ++ spaced (word.now ∷ [])) }
+    ensures { OnOk result (out.new.items ≡ out.old.items ++ behind_spaces (word.now ∷ [])) }
 {
     out.push(b' ')?;
     out.extend_from_slice(word)
 }
 
 fn push_value(out: &mut Vec<u8>, value: i64) -> Result<(), NoMemory>
-    ensures { OnOk result (out.new.items ≡ out.old.items ++ spaced (signed_decimal value ∷ [])) }
+    ensures { OnOk result
+        (out.new.items ≡ out.old.items ++ behind_spaces (signed_decimal value ∷ [])) }
 {
     out.push(b' ')?;
     write_number(i128::from(value), out)
 }
 
 fn push_count(out: &mut Vec<u8>, count: u32) -> Result<(), NoMemory>
-    ensures { OnOk result (out.new.items ≡ out.old.items ++ spaced (decimal count ∷ [])) }
+    ensures { OnOk result (out.new.items ≡ out.old.items ++ behind_spaces (decimal count ∷ [])) }
 {
     out.push(b' ')?;
     write_number(i128::from(count), out)
@@ -54,7 +55,7 @@ fn push_name(out: &mut Vec<u8>, names: &Names, kind: NameKind, id: u32) -> Resul
     requires { id < length (list_of kind names.now) }
     ensures { OnOk result
         (out.new.items
-        ≡ out.old.items ++ spaced (slice_index_or (list_of kind names.now) id [] ∷ [])) }
+        ≡ out.old.items ++ behind_spaces (slice_index_or (list_of kind names.now) id [] ∷ [])) }
 {
     push_word(out, names.name(kind, id).unwrap())
 }
@@ -70,7 +71,8 @@ fn push_object(
     requires { id < length (list_of kind names.now) }
     ensures { OnOk result
         (out.new.items
-        ≡ out.old.items ++ spaced (word.now ∷ slice_index_or (list_of kind names.now) id [] ∷ [])) }
+        ≡ out.old.items
+        ++ behind_spaces (word.now ∷ slice_index_or (list_of kind names.now) id [] ∷ [])) }
 {
     push_word(out, word)?;
     push_name(out, names, kind, id)
@@ -89,7 +91,7 @@ fn push_wait(
     ensures { OnOk result
         (out.new.items
         ≡ out.old.items
-        ++ spaced
+        ++ behind_spaces
         (word.now ∷ slice_index_or names.now.conds cond []
         ∷ slice_index_or names.now.mutexes mutex [] ∷ [])) }
 {
@@ -109,14 +111,16 @@ fn push_change(
     ensures { OnOk result
         (out.new.items
         ≡ out.old.items
-        ++ spaced (word.now ∷ slice_index_or names.now.vars var [] ∷ signed_decimal value ∷ [])) }
+        ++ behind_spaces
+        (word.now ∷ slice_index_or names.now.vars var [] ∷ signed_decimal value ∷ [])) }
 {
     push_object(out, names, word, NameKind::Var, var)?;
     push_value(out, value)
 }
 
 fn push_pair(out: &mut Vec<u8>, word: &[u8], operand: &[u8]) -> Result<(), NoMemory>
-    ensures { OnOk result (out.new.items ≡ out.old.items ++ spaced (word.now ∷ operand.now ∷ [])) }
+    ensures { OnOk result
+        (out.new.items ≡ out.old.items ++ behind_spaces (word.now ∷ operand.now ∷ [])) }
 {
     push_word(out, word)?;
     push_word(out, operand)
@@ -133,7 +137,7 @@ fn push_cas(out: &mut Vec<u8>, names: &Names, var: u32, old: i64, new: i64) -> R
     ensures { OnOk result
         (out.new.items
         ≡ out.old.items
-        ++ spaced
+        ++ behind_spaces
         (codes "cas" ∷ slice_index_or names.now.vars var [] ∷ signed_decimal old
         ∷ signed_decimal new ∷ [])) }
 {
@@ -144,7 +148,8 @@ fn push_cas(out: &mut Vec<u8>, names: &Names, var: u32, old: i64, new: i64) -> R
 fn push_ask(out: &mut Vec<u8>, names: &Names, version: u32, ask: Ask) -> Result<(), NoMemory>
     requires { HasObjects names.now version ask }
     ensures lawful { OnOk result (IsAsk names.now version ask) }
-    ensures text { OnOk result (out.new.items ≡ out.old.items ++ spaced (ask_words names.now ask)) }
+    ensures text { OnOk result
+        (out.new.items ≡ out.old.items ++ behind_spaces (ask_words names.now ask)) }
 {
     match ask {
         Ask::Read { var } => push_object(out, names, READ, NameKind::Var, var),
@@ -187,7 +192,8 @@ fn push_answer(out: &mut Vec<u8>, event: &Event) -> Result<(), NoMemory>
     ensures value { OnOk result (IsValue event.now.answer) }
     ensures text { OnOk result
         (out.new.items
-        ≡ out.old.items ++ (spaced (codes "=" ∷ signed_decimal event.now.answer ∷ []) ++ 10 ∷ [])) }
+        ≡ out.old.items
+        ++ (behind_spaces (codes "=" ∷ signed_decimal event.now.answer ∷ []) ++ 10 ∷ [])) }
 {
     push_word(out, b"=")?;
     push_value(out, event.answer)?;
@@ -254,7 +260,8 @@ fn push_order(out: &mut Vec<u8>, names: &Names, order: &[u32]) -> Result<(), NoM
     requires { All (λ thread. thread < length names.now.threads) order.now }
     ensures { OnOk result
         (out.new.items
-        ≡ out.old.items ++ (codes "order" ++ spaced (map (thread_name names.now) order.now))) }
+        ≡ out.old.items
+        ++ (codes "order" ++ behind_spaces (map (thread_name names.now) order.now))) }
 {
     out.extend_from_slice(b"order")?;
     for thread in order {
@@ -265,7 +272,8 @@ fn push_order(out: &mut Vec<u8>, names: &Names, order: &[u32]) -> Result<(), NoM
 
 fn push_points(out: &mut Vec<u8>, points: &[u32]) -> Result<(), NoMemory>
     ensures { OnOk result
-        (out.new.items ≡ out.old.items ++ (codes "points" ++ spaced (map decimal points.now))) }
+        (out.new.items
+        ≡ out.old.items ++ (codes "points" ++ behind_spaces (map decimal points.now))) }
 {
     out.extend_from_slice(b"points")?;
     for point in points {
@@ -277,7 +285,7 @@ fn push_points(out: &mut Vec<u8>, points: &[u32]) -> Result<(), NoMemory>
 fn push_version(out: &mut Vec<u8>, version: u32) -> Result<(), NoMemory>
     ensures { OnOk result
         (out.new.items
-        ≡ out.old.items ++ (codes "trace" ++ spaced (decimal version ∷ []) ++ 10 ∷ [])) }
+        ≡ out.old.items ++ (codes "trace" ++ behind_spaces (decimal version ∷ []) ++ 10 ∷ [])) }
 {
     out.extend_from_slice(b"trace")?;
     push_count(out, version)?;
@@ -288,7 +296,7 @@ fn push_version(out: &mut Vec<u8>, version: u32) -> Result<(), NoMemory>
 fn push_limit(out: &mut Vec<u8>, limit: u32) -> Result<(), NoMemory>
     ensures { OnOk result
         (out.new.items
-        ≡ out.old.items ++ (codes "limit" ++ spaced (decimal limit ∷ []) ++ 10 ∷ [])) }
+        ≡ out.old.items ++ (codes "limit" ++ behind_spaces (decimal limit ∷ []) ++ 10 ∷ [])) }
 {
     out.extend_from_slice(b"limit")?;
     push_count(out, limit)?;
@@ -312,10 +320,10 @@ fn push_head(out: &mut Vec<u8>, names: &Names, header: &Header) -> Result<(), No
 
 fn push_verdict(out: &mut Vec<u8>, names: &Names, verdict: &Verdict) -> Result<(), NoMemory>
     requires threads { HasNames names.now verdict.now }
-    requires whole { IsWhole verdict.now }
+    requires whole { IsWholeVerdict verdict.now }
     ensures text { OnOk result
-        (out.new.items ≡ out.old.items ++ line_text (verdict_line names.now verdict.now)) }
-    ensures form { OnOk result (IsForm names.now (named names.now verdict.now)) }
+        (out.new.items ≡ out.old.items ++ line_text (verdict_line_words names.now verdict.now)) }
+    ensures form { OnOk result (IsVerdictForm names.now (named_verdict names.now verdict.now)) }
 {
     out.extend_from_slice(b"verdict ")?;
     write_verdict(verdict, names, out)?;
@@ -335,17 +343,17 @@ pub fn write_trace(
     requires few { length events.now ≤ header.now.limit }
     requires steps { All (NamesKnown names.now header.now.version) events.now }
     requires threads { HasNames names.now verdict.now }
-    requires whole { IsWhole verdict.now }
+    requires whole { IsWholeVerdict verdict.now }
     requires version { (is_of_second verdict.now ≡ false) ⊎ (header.now.version ≡ 2) }
     ensures text { IfOk result (λ text.
         text.items ≡ trace_text (head_of header.now) names.now events.now verdict.now) }
     ensures trace { IfOk result (λ text.
-        IsTrace text.items names.now (told header.now events.now verdict.now)) }
+        IsTrace text.items names.now (file_of_parts header.now events.now verdict.now)) }
 
     // Whatever may be answered of the text, want of memory aside, is what was written.
     ensures read_back { IfOk result (λ text.
-        (answer : Result TraceFile TraceError) → Answers text.items names.now answer
-        → (answer ≡ Ok (told header.now events.now verdict.now))
+        (answer : Result TraceFile TraceError) → AnswersTrace text.items names.now answer
+        → (answer ≡ Ok (file_of_parts header.now events.now verdict.now))
         ⊎ (answer ≡ Err TraceError.NoMemory)) }
 {
     // The names are lawful, and so what is written can be read.

@@ -13,9 +13,9 @@ use Rattle.pct_ask.specs.declared.event.Event.{Event}
 use Rattle.pct_ask.specs.declared.event.Standing.TheVariants.{Away as AwayStanding}
 use Rattle.pct_ask.specs.declared.verdict.Verdict.{Verdict}
 use Rattle.pct_ask.specs.declared.verdict.Outcome.{Outcome}
-use Rattle.sync_store.specs.Store.{StoreState, Sizes, sizes_of, sizes_of_deal, first}
+use Rattle.sync_store.specs.Store.{StoreState, Sizes, sizes_of, sizes_of_deal, first_store}
 use Rattle.sync_store.specs.Enabled.{enabled}
-use Rattle.sync_store.specs.Ready.{awaited, unknown_target, ready_by}
+use Rattle.sync_store.specs.Ready.{join_target, unknown_target, ready_by}
 use Rattle.sync_store.specs.Effect.{effect}
 use Rattle.sync_store.specs.World.{Source, World, has_ended, world_after}
 use Rattle.policy_pick.specs.declared.chance.Chance.{Chance}
@@ -28,10 +28,10 @@ use Rattle.policy_pick.specs.Laws.Finds.{found-or-none}
 use Rattle.policy_pick.specs.Laws.Walks.{open_at, number-stops, number-ends}
 use Rattle.turn_book.specs.Chances.{is_unknown, is_ended, chance_by, chance_of_post, chance, chances, rest_verdict}
 use Rattle.turn_book.specs.Posts.{schedule_of, posts_of, source_of, HasMore, KeepsPosts}
-use Rattle.turn_book.specs.Obeys.{choice_after, Obeys, outcome_by_pick, outcome_by, settled}
+use Rattle.turn_book.specs.Obeys.{choice_after, Obeys, outcome_by_pick, outcome_by, outcome_after}
 use Rattle.turn_book.specs.Told.{next_post, standing_by_ask, standing_by, standing_of, choice_of, IsLawful}
-use Rattle.turn_book.specs.Board.{BoardState, TakesStep, listed}
-use Rattle.turn_book.specs.Kept.{posts_by, told, IsAt, IsKept}
+use Rattle.turn_book.specs.Board.{BoardState, TakesStep, next_posts_of}
+use Rattle.turn_book.specs.Kept.{posts_by, book_of_parts, IsAt, IsKept}
 use Rattle.turn_book.proofs.laws.Worlds.{effect-is, Steps, IsMade, made-events, made-push}
 use Rattle.turn_book.proofs.laws.MorePosts.{choice-at, settled-at, obeys-more, made-more, chosen-ready, nobody-closed, departs-may}
 use Rattle.turn_book.proofs.Boards.{chance-at, length-chances, nothing-posted}
@@ -47,25 +47,25 @@ module _ (plan : Plan) (deal : Deal) (board : BoardState) (events : List Event) 
   source = source_of (posts_by events board.posts)
 
   abbrev pub pick_now : Pick
-  pick_now = choice plan (schedule_of events) (chances deal.threads board.store (listed board.posts))
+  pick_now = choice plan (schedule_of events) (chances deal.threads board.store (next_posts_of board.posts))
 
   abbrev pub outcome_now : Option Verdict → Bool → Pick → Option Outcome
-  outcome_now verdict full pick = outcome_by verdict (outcome_by_pick (rest_verdict deal.threads board.store (listed board.posts)) full pick)
+  outcome_now verdict full pick = outcome_by verdict (outcome_by_pick (rest_verdict deal.threads board.store (next_posts_of board.posts)) full pick)
 
-  known : (λ t. source t events) ≡ listed board.posts
+  known : (λ t. source t events) ≡ next_posts_of board.posts
   known = λ j t. next-is events board.posts t j
 
   module _ (at : IsAt deal source events board) where
     abbrev pub world : World
     world = record { store = board.store; events = events; verdict = at.verdict }
 
-    pub is-made : IsMade (first deal) source events world
+    pub is-made : IsMade (first_store deal) source events world
     is-made = record { at = at.world; trace = refl }
 
     pub choice-now : choice_after plan deal source (schedule_of events) ≡ Some pick_now
     choice-now = choice-at plan deal source events world is-made ∙ ap (λ next. Some (choice plan (schedule_of events) (chances deal.threads board.store next))) known
 
-    pub settled-now : (limit : ℕ) → settled plan deal source limit events ≡ outcome_now at.verdict (eqb (length events) limit) pick_now
+    pub settled-now : (limit : ℕ) → outcome_after plan deal source limit events ≡ outcome_now at.verdict (eqb (length events) limit) pick_now
     settled-now limit =
         settled-at plan deal source limit events world is-made
         ∙ ap (λ next. outcome_by at.verdict (outcome_by_pick (rest_verdict deal.threads board.store next) (eqb (length events) limit) (choice plan (schedule_of events) (chances deal.threads board.store next)))) known
@@ -91,16 +91,16 @@ module _ (deal : Deal) (limit : ℕ) (plan : Plan) (board : BoardState) (events 
   pub threads-store : (board.store).threads ≡ deal.threads
   threads-store = ap (λ (s : Sizes). s.threads) kept.sizes
 
-  pub choice-told : choice_of (told deal limit plan board.posts events last) ≡ Some (pick_now plan deal board events)
+  pub choice-told : choice_of (book_of_parts deal limit plan board.posts events last) ≡ Some (pick_now plan deal board events)
   choice-told = choice-now plan deal board events kept.at
 
-  pub next-told : (t : ℕ) → next_post (told deal limit plan board.posts events last) t ≡ listed board.posts t
+  pub next-told : (t : ℕ) → next_post (book_of_parts deal limit plan board.posts events last) t ≡ next_posts_of board.posts t
   next-told t = next-is events board.posts t
 
-  pub standing-told : (t : ℕ) → standing_of (told deal limit plan board.posts events last) t ≡ standing_by (listed board.posts t)
+  pub standing-told : (t : ℕ) → standing_of (book_of_parts deal limit plan board.posts events last) t ≡ standing_by (next_posts_of board.posts t)
   standing-told t = ap standing_by (next-told t)
 
-  pub lawful-told : IsLawful (told deal limit plan board.posts events last)
+  pub lawful-told : IsLawful (book_of_parts deal limit plan board.posts events last)
   lawful-told = record {
     obeys = kept.obeys;
     outcome = kept.outcome;
@@ -118,39 +118,43 @@ module _ (deal : Deal) (limit : ℕ) (plan : Plan) (board : BoardState) (events 
     pub runs : (kept.at).verdict ≡ None
     runs = runs-from (kept.at).verdict _ unsettled
 
-    pub undecided : outcome_by_pick (rest_verdict deal.threads board.store (listed board.posts)) (eqb (length events) limit) (pick_now plan deal board events) ≡ None
-    undecided = ap (λ v. outcome_by v (outcome_by_pick (rest_verdict deal.threads board.store (listed board.posts)) (eqb (length events) limit) (pick_now plan deal board events))) (sym runs) ∙ unsettled
+    pub undecided : outcome_by_pick (rest_verdict deal.threads board.store (next_posts_of board.posts)) (eqb (length events) limit) (pick_now plan deal board events) ≡ None
+    undecided = ap (λ v. outcome_by v (outcome_by_pick (rest_verdict deal.threads board.store (next_posts_of board.posts)) (eqb (length events) limit) (pick_now plan deal board events))) (sym runs) ∙ unsettled
 
     module _ (t : ℕ) (turn : pick_now plan deal board events ≡ Thread t) where
       abbrev all : List Chance
-      all = chances deal.threads board.store (listed board.posts)
+      all = chances deal.threads board.store (next_posts_of board.posts)
 
-      pub turn-ready : (t < deal.threads) × (chance board.store (listed board.posts) t ≡ Goes)
+      pub turn-ready : (t < deal.threads)
+          × (chance board.store (next_posts_of board.posts) t ≡ Goes)
       turn-ready =
-          let long = length-chances deal.threads board.store (listed board.posts) in
+          let long = length-chances deal.threads board.store (next_posts_of board.posts) in
           let Speaks : ℕ → Type 0 = SpeaksOf plan in
           let ready = chosen-ready plan (schedule_of events) all t (subst Speaks (sym long) kept.speaks) turn in
-          let within : t < deal.threads = omega (arith, ready.0) in
-          (within, sym (chance-at deal.threads board.store (listed board.posts) t within) ∙ ready.1)
+          let within : t < deal.threads = omega (arith, ready.0) in (
+            within,
+            sym
+                (chance-at deal.threads board.store (next_posts_of board.posts) t within) ∙ ready.1,
+          )
 
       pub turn-room : length events < limit
       turn-room =
-          let full = room-from (rest_verdict deal.threads board.store (listed board.posts)) (eqb (length events) limit) t (ap (outcome_by_pick (rest_verdict deal.threads board.store (listed board.posts)) (eqb (length events) limit)) (sym turn) ∙ undecided) in
+          let full = room-from (rest_verdict deal.threads board.store (next_posts_of board.posts)) (eqb (length events) limit) t (ap (outcome_by_pick (rest_verdict deal.threads board.store (next_posts_of board.posts)) (eqb (length events) limit)) (sym turn) ∙ undecided) in
           let apart : length events ≢ limit = λ same. false≢true (sym full ∙ eq-eqb (length events) limit same) in
           omega (arith, (kept.obeys).within)
 
 -- ---- what a change of the board settles
 module _ (plan : Plan) (deal : Deal) (after : BoardState) (events : List Event) (at : IsAt deal (source plan deal after events) events after) (threads : (after.store).threads ≡ deal.threads) where
   module _ (limit : ℕ) (verdict : Option Verdict) (full : Bool) (next : Pick) (outcome : Option Outcome) (same : at.verdict ≡ verdict) (reached : full ≡ eqb (length events) limit)
-      (picks : next ≡ choice plan (schedule_of events) (chances (after.store).threads after.store (listed after.posts)))
-      (becomes : outcome ≡ outcome_by verdict (outcome_by_pick (rest_verdict (after.store).threads after.store (listed after.posts)) full next)) where
+      (picks : next ≡ choice plan (schedule_of events) (chances (after.store).threads after.store (next_posts_of after.posts)))
+      (becomes : outcome ≡ outcome_by verdict (outcome_by_pick (rest_verdict (after.store).threads after.store (next_posts_of after.posts)) full next)) where
     pub pick-is : next ≡ pick_now plan deal after events
-    pick-is = picks ∙ ap (λ n. choice plan (schedule_of events) (chances n after.store (listed after.posts))) threads
+    pick-is = picks ∙ ap (λ n. choice plan (schedule_of events) (chances n after.store (next_posts_of after.posts))) threads
 
-    pub outcome-is : outcome ≡ settled plan deal (source plan deal after events) limit events
+    pub outcome-is : outcome ≡ outcome_after plan deal (source plan deal after events) limit events
     outcome-is =
         becomes
-        ∙ ap (λ n. outcome_by verdict (outcome_by_pick (rest_verdict n after.store (listed after.posts)) full next)) threads
+        ∙ ap (λ n. outcome_by verdict (outcome_by_pick (rest_verdict n after.store (next_posts_of after.posts)) full next)) threads
         ∙ ap (λ v. outcome_now plan deal after events v full next) (sym same)
         ∙ ap (λ b. outcome_now plan deal after events at.verdict b next) reached
         ∙ ap (outcome_now plan deal after events at.verdict (eqb (length events) limit)) pick-is
@@ -158,7 +162,7 @@ module _ (plan : Plan) (deal : Deal) (after : BoardState) (events : List Event) 
 
 module _ (deal : Deal) (limit : ℕ) (plan : Plan) (board : BoardState) (events : List Event) (old_next : Pick) (last : Option Outcome) (reserved : ℕ) (kept : IsKept deal limit plan board events old_next last reserved) (running : last ≡ None) where
   -- ---- a post
-  module _ (t : ℕ) (post : Post) (after : BoardState) (within : t < deal.threads) (away : listed board.posts t ≡ None) (store : after.store ≡ board.store) (posts : after.posts ≡ set board.posts t (Some post)) where
+  module _ (t : ℕ) (post : Post) (after : BoardState) (within : t < deal.threads) (away : next_posts_of board.posts t ≡ None) (store : after.store ≡ board.store) (posts : after.posts ≡ set board.posts t (Some post)) where
     pub posts-after : posts_by events after.posts ≡ set (posts_by events board.posts) t (posts_of (posts_by events board.posts) t ++ post ∷ [])
     posts-after = ap (posts_by events) posts ∙ posts-posted events board.posts t post (omega (arith, kept.threads)) away
 
@@ -173,7 +177,7 @@ module _ (deal : Deal) (limit : ℕ) (plan : Plan) (board : BoardState) (events 
     at-post : IsAt deal (source plan deal after events) events after
     at-post = record {
       verdict = (kept.at).verdict;
-      world = (made-more (first deal) (source plan deal board events) (source plan deal after events) events (world plan deal board events kept.at) keeps (is-made plan deal board events kept.at)).at
+      world = (made-more (first_store deal) (source plan deal board events) (source plan deal after events) events (world plan deal board events kept.at) keeps (is-made plan deal board events kept.at)).at
           ∙ ap (λ (s : StoreState). Some (record { store = s; events = events; verdict = (kept.at).verdict })) (sym store);
     }
 
@@ -181,8 +185,8 @@ module _ (deal : Deal) (limit : ℕ) (plan : Plan) (board : BoardState) (events 
     threads-post = ap (λ (s : StoreState). s.threads) store ∙ threads-store deal limit plan board events old_next last reserved kept
 
     pub kept-post : (full : Bool) (next : Pick) (outcome : Option Outcome) → full ≡ eqb (length events) limit
-        → next ≡ choice plan (schedule_of events) (chances (after.store).threads after.store (listed after.posts))
-        → outcome ≡ outcome_by None (outcome_by_pick (rest_verdict (after.store).threads after.store (listed after.posts)) full next)
+        → next ≡ choice plan (schedule_of events) (chances (after.store).threads after.store (next_posts_of after.posts))
+        → outcome ≡ outcome_by None (outcome_by_pick (rest_verdict (after.store).threads after.store (next_posts_of after.posts)) full next)
         → IsKept deal limit plan after events next outcome reserved
     unfolding at-post
     kept-post full next outcome reached picks becomes =
@@ -205,7 +209,7 @@ module _ (deal : Deal) (limit : ℕ) (plan : Plan) (board : BoardState) (events 
     abbrev made_events : List Event
     made_events = events ++ event ∷ []
 
-    ready : (t < deal.threads) × (chance board.store (listed board.posts) t ≡ Goes)
+    ready : (t < deal.threads) × (chance board.store (next_posts_of board.posts) t ≡ Goes)
     ready = turn-ready deal limit plan board events old_next last reserved kept running t turn
 
     pub posts-same : posts_by made_events after.posts ≡ posts_by events board.posts
@@ -213,9 +217,9 @@ module _ (deal : Deal) (limit : ℕ) (plan : Plan) (board : BoardState) (events 
 
     enabled-now : enabled board.store (has_ended (source plan deal board events) events) t event.ask ≡ true
     enabled-now =
-        let next = listed board.posts in
+        let next = next_posts_of board.posts in
         let goes = sym (ap (chance_of_post board.store (is_unknown next) (is_ended next) t) taken.asked) ∙ ready.1 in
-        let b = ready-by (unknown_target (is_unknown next) (awaited event.ask)) (enabled board.store (is_ended next) t event.ask) goes in
+        let b = ready-by (unknown_target (is_unknown next) (join_target event.ask)) (enabled board.store (is_ended next) t event.ask) goes in
         ap (λ n. enabled board.store (is_ended n) t event.ask) (known plan deal board events) ∙ b
 
     abbrev world_after_step : World
@@ -233,23 +237,24 @@ module _ (deal : Deal) (limit : ℕ) (plan : Plan) (board : BoardState) (events 
           ∙ (λ j. record { store = sym taken.store j; events = events ++ record { thread = sym taken.thread j; line = event.line; ask = event.ask; answer = sym taken.answer j } ∷ []; verdict = sym taken.verdict j });
     }
 
-    made-step : IsMade (first deal) (source plan deal board events) made_events world_after_step
+    made-step : IsMade (first_store deal)
+        (source plan deal board events) made_events world_after_step
     made-step =
         let P : ℕ → Type 0 = λ u. Steps (source plan deal board events) (world plan deal board events kept.at) u world_after_step in
-        made-push (first deal) (source plan deal board events) events (world plan deal board events kept.at) world_after_step event (is-made plan deal board events kept.at) (subst P (sym taken.thread) steps) refl
+        made-push (first_store deal) (source plan deal board events) events (world plan deal board events kept.at) world_after_step event (is-made plan deal board events kept.at) (subst P (sym taken.thread) steps) refl
 
     pub obeys-step : Obeys plan deal (source plan deal board events) limit made_events
     obeys-step = obeys-push plan deal (source plan deal board events) limit events event kept.obeys
         (choice-now plan deal board events kept.at ∙ ap Some turn ∙ ap (λ u. Some (Thread u)) (sym taken.thread))
-        (made-events (first deal) (source plan deal board events) made_events world_after_step made-step)
+        (made-events (first_store deal) (source plan deal board events) made_events world_after_step made-step)
         (turn-room deal limit plan board events old_next last reserved kept running t turn)
 
     at-step : IsAt deal (source plan deal after made_events) made_events after
-    at-step = record { verdict = ends; world = ap (λ ps. world_after (first deal) (source_of ps) (schedule_of made_events)) posts-same ∙ made-step.at }
+    at-step = record { verdict = ends; world = ap (λ ps. world_after (first_store deal) (source_of ps) (schedule_of made_events)) posts-same ∙ made-step.at }
 
     pub kept-step : (full : Bool) (next : Pick) (outcome : Option Outcome) → sizes_of after.store ≡ sizes_of board.store → full ≡ eqb (length made_events) limit
-        → next ≡ choice plan (schedule_of made_events) (chances (after.store).threads after.store (listed after.posts))
-        → outcome ≡ outcome_by ends (outcome_by_pick (rest_verdict (after.store).threads after.store (listed after.posts)) full next)
+        → next ≡ choice plan (schedule_of made_events) (chances (after.store).threads after.store (next_posts_of after.posts))
+        → outcome ≡ outcome_by ends (outcome_by_pick (rest_verdict (after.store).threads after.store (next_posts_of after.posts)) full next)
         → IsKept deal limit plan after made_events next outcome reserved
     unfolding at-step
     kept-step full next outcome sizes reached picks becomes =
@@ -302,22 +307,22 @@ module _ (plan : Plan) (schedule : List ℕ) (all : List Chance) (some : 1 ≤ l
   pub first-waits : SpeaksOf plan (length all) → (u : ℕ) × (choice plan schedule all ≡ Waits u)
   first-waits speaks = waits-by (choice plan schedule all) speaks refl
 
-pub kept-new : (deal : Deal) (limit : ℕ) (plan : Plan) (board : BoardState) (next : Pick) (events : List Event) (reserved : ℕ) → board ≡ record { store = first deal; posts = replicate deal.threads None } → sizes_of board.store ≡ sizes_of_deal deal
-    → SpeaksOf plan deal.threads → 1 ≤ limit → limit ≤ 100000 → limit ≤ reserved → events ≡ [] → next ≡ choice plan [] (chances (board.store).threads board.store (listed board.posts)) → IsKept deal limit plan board events next None reserved
+pub kept-new : (deal : Deal) (limit : ℕ) (plan : Plan) (board : BoardState) (next : Pick) (events : List Event) (reserved : ℕ) → board ≡ record { store = first_store deal; posts = replicate deal.threads None } → sizes_of board.store ≡ sizes_of_deal deal
+    → SpeaksOf plan deal.threads → 1 ≤ limit → limit ≤ 100000 → limit ≤ reserved → events ≡ [] → next ≡ choice plan [] (chances (board.store).threads board.store (next_posts_of board.posts)) → IsKept deal limit plan board events next None reserved
 kept-new deal limit plan board next events reserved is sizes speaks some few room none picks =
     let store = ap (λ (b : BoardState). b.store) is in
     let posts = ap (λ (b : BoardState). b.posts) is in
     let threads : (board.store).threads ≡ deal.threads = ap (λ (s : Sizes). s.threads) sizes in
     let Kept : List Event → Type 0 = λ es. IsKept deal limit plan board es next None reserved in
     let at : IsAt deal (source plan deal board []) [] board = record { verdict = None; world = ap (λ (s : StoreState). Some (record { store = s; events = []; verdict = None })) (sym store) } in
-    let all = chances deal.threads board.store (listed board.posts) in
-    let long = length-chances deal.threads board.store (listed board.posts) in
+    let all = chances deal.threads board.store (next_posts_of board.posts) in
+    let long = length-chances deal.threads board.store (next_posts_of board.posts) in
     let Speaks : ℕ → Type 0 = SpeaksOf plan in
-    let unposted : (t : ℕ) → listed board.posts t ≡ None = λ t. ap (λ ps. listed ps t) posts ∙ nothing-posted deal.threads t in
+    let unposted : (t : ℕ) → next_posts_of board.posts t ≡ None = λ t. ap (λ ps. next_posts_of ps t) posts ∙ nothing-posted deal.threads t in
     let away : (t : ℕ) → t < length all → chance_of all t ≡ Away = λ t within.
-    chance-at deal.threads board.store (listed board.posts) t (omega arith) ∙ ap (chance_of_post board.store (is_unknown (listed board.posts)) (is_ended (listed board.posts)) t) (unposted t) in
+    chance-at deal.threads board.store (next_posts_of board.posts) t (omega arith) ∙ ap (chance_of_post board.store (is_unknown (next_posts_of board.posts)) (is_ended (next_posts_of board.posts)) t) (unposted t) in
     let waits = first-waits plan [] all (omega (arith, deal.some_thread)) away (subst Speaks (sym long) speaks) in
-    let rest = rest_verdict deal.threads board.store (listed board.posts) in
+    let rest = rest_verdict deal.threads board.store (next_posts_of board.posts) in
     subst Kept (sym none) (record {
       sizes = sizes;
       threads = ap length posts ∙ (let nothing : Option Post = None in length-replicate deal.threads nothing);
@@ -328,14 +333,14 @@ kept-new deal limit plan board next events reserved is sizes speaks some few roo
       at = at;
       obeys = obeys-none plan deal (source plan deal board []) limit;
       outcome = sym (settled-now plan deal board [] at limit ∙ ap (outcome_by_pick rest (eqb 0 limit)) waits.1);
-      pick = λ undecided. picks ∙ ap (λ n. choice plan [] (chances n board.store (listed board.posts))) threads;
+      pick = λ undecided. picks ∙ ap (λ n. choice plan [] (chances n board.store (next_posts_of board.posts))) threads;
     })
 
 -- ---- as the calls need it
-pub choice-next : (deal : Deal) (limit : ℕ) (plan : Plan) (board : BoardState) (events : List Event) (next : Pick) (last : Option Outcome) (reserved : ℕ) (kept : IsKept deal limit plan board events next last reserved) → last ≡ None → choice_of (told deal limit plan board.posts events last) ≡ Some next
+pub choice-next : (deal : Deal) (limit : ℕ) (plan : Plan) (board : BoardState) (events : List Event) (next : Pick) (last : Option Outcome) (reserved : ℕ) (kept : IsKept deal limit plan board events next last reserved) → last ≡ None → choice_of (book_of_parts deal limit plan board.posts events last) ≡ Some next
 choice-next deal limit plan board events next last reserved kept running = choice-told deal limit plan board events next last reserved kept ∙ ap Some (sym (kept.pick running))
 
-pub choice-first : (plan : Plan) (board : BoardState) (known : List Chance) (next : Pick) → known ≡ chances (board.store).threads board.store (listed board.posts) → next ≡ choice plan [] known → next ≡ choice plan [] (chances (board.store).threads board.store (listed board.posts))
+pub choice-first : (plan : Plan) (board : BoardState) (known : List Chance) (next : Pick) → known ≡ chances (board.store).threads board.store (next_posts_of board.posts) → next ≡ choice plan [] known → next ≡ choice plan [] (chances (board.store).threads board.store (next_posts_of board.posts))
 choice-first plan board all_chances next is picks = picks ∙ ap (choice plan []) is
 
 pub none-from : (o : Option Outcome) → is_some o ≡ false → o ≡ None
@@ -352,4 +357,4 @@ away-none (Some post) e = absurd (not-away post.ask e) where
 pub goes-on-book : (deal : Deal) (limit : ℕ) (plan : Plan) (board : BoardState) (events : List Event) (next : Pick) (last : Option Outcome) (reserved : ℕ) (kept : IsKept deal limit plan board events next last reserved) → last ≡ None → MayWait next
 goes-on-book deal limit plan board events next last reserved kept running =
     let P : Pick → Type 0 = MayWait in
-    subst P (sym (kept.pick running)) (may-wait (rest_verdict deal.threads board.store (listed board.posts)) (eqb (length events) limit) (pick_now plan deal board events) (undecided deal limit plan board events next last reserved kept running))
+    subst P (sym (kept.pick running)) (may-wait (rest_verdict deal.threads board.store (next_posts_of board.posts)) (eqb (length events) limit) (pick_now plan deal board events) (undecided deal limit plan board events next last reserved kept running))

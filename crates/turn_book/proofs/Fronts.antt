@@ -6,7 +6,7 @@ use Rattle.pct_ask.specs.declared.ask.Post.{Post}
 use Rattle.pct_ask.specs.declared.event.Event.{Event}
 use Rattle.pct_ask.specs.declared.verdict.Outcome.{Outcome}
 use Rattle.turn_book.specs.Posts.{source_of}
-use Rattle.turn_book.specs.Told.{Told, IsLawful, IsRunOver}
+use Rattle.turn_book.specs.Told.{BookState, IsLawful, IsRunOver}
 use Rattle.turn_book.proofs.laws.OwnSteps.{more-keeps}
 use Rattle.turn_book.proofs.laws.Prefixes.{IsFrontOf, front-of}
 
@@ -14,7 +14,7 @@ some-outcome : (o : Option Outcome) → IsSome o → (outcome : Outcome) × (o �
 some-outcome None is = absurd (false≢true is)
 some-outcome (Some outcome) is = (outcome, λ j. Some outcome)
 
-module _ (book : Told) (lawful : IsLawful book) (posts : List (List Post)) (events : List Event) (run : IsRunOver book posts events) where
+module _ (book : BookState) (lawful : IsLawful book) (posts : List (List Post)) (events : List Event) (run : IsRunOver book posts events) where
   front : IsFrontOf book.plan book.deal (source_of book.posts) book.limit book.trace events
   front = front-of book.plan book.deal (source_of book.posts) (source_of posts) book.limit book.trace events run.outcome lawful.speaks (more-keeps book.trace book.posts posts run.more) lawful.obeys run.obeys run.ends
 

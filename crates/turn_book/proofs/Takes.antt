@@ -11,8 +11,8 @@ use Rattle.turn_book.specs.declared.taken.Because.TheVariants.{Turn, Away}
 use Rattle.turn_book.specs.declared.taken.Taken.TheVariants.{Answer, NotYet, Over}
 use Rattle.turn_book.specs.declared.taken.Reply.TheVariants as replies
 use Rattle.turn_book.specs.Obeys.{outcome_by_pick}
-use Rattle.turn_book.specs.Told.{Told, choice_of, IsAnswered}
-use Rattle.turn_book.specs.Answers.{IsAnswer, MayWait, because_of, IsBecause}
+use Rattle.turn_book.specs.Told.{BookState, choice_of, IsAnswered}
+use Rattle.turn_book.specs.Answers.{IsAnswerTaken, MayWait, because_of, IsBecause}
 
 -- where no outcome stands, the choice is a thread's or waits
 pub may-wait : (rest : Verdict) (full : Bool) (pick : Pick) → outcome_by_pick rest full pick ≡ None → MayWait pick
@@ -67,13 +67,13 @@ waited Nobody u t e = absurd cc
 waited (Departs v) u t e = absurd cc
 
 -- ---- by the answer
-module _ (book : Told) (t : ℕ) (pick : Pick) (running : book.outcome ≡ None) (chosen : choice_of book ≡ Some pick) where
+module _ (book : BookState) (t : ℕ) (pick : Pick) (running : book.outcome ≡ None) (chosen : choice_of book ≡ Some pick) where
   same-pick : (other : Pick) → choice_of book ≡ Some other → pick ≡ other
   same-pick other e = let w = sym chosen ∙ e in cc
 
   -- it took its step
   module _ (answer : ℤ) (turn : pick ≡ Thread t) where
-    pub answer-answer : IsAnswer (Answer answer) ↔ ((book.outcome ≡ None) × (choice_of book ≡ Some (Thread t)))
+    pub answer-answer : IsAnswerTaken (Answer answer) ↔ ((book.outcome ≡ None) × (choice_of book ≡ Some (Thread t)))
     answer-answer = (λ _. (running, chosen ∙ ap Some turn), λ _. tt)
 
     pub answer-turn : (at u : ℕ) → (Answer answer ≡ NotYet at (Turn u)) ↔ ((book.outcome ≡ None) × (choice_of book ≡ Some (Thread u)) × (u ≢ t) × (at ≡ length book.trace))
@@ -87,7 +87,7 @@ module _ (book : Told) (t : ℕ) (pick : Pick) (running : book.outcome ≡ None)
 
   -- it waits
   module _ (n : ℕ) (because : Because) (long : n ≡ length book.trace) (is : because_of pick t ≡ Some because) where
-    pub not_yet-answer : IsAnswer (NotYet n because) ↔ ((book.outcome ≡ None) × (choice_of book ≡ Some (Thread t)))
+    pub not_yet-answer : IsAnswerTaken (NotYet n because) ↔ ((book.outcome ≡ None) × (choice_of book ≡ Some (Thread t)))
     not_yet-answer = (λ w. absurd w, λ w. let a = sym (ap (λ p. because_of p t) (same-pick (Thread t) w.1)) ∙ is in let b = sym (own-because t) ∙ a in cc)
 
     pub not_yet-turn : (at u : ℕ) → (NotYet n because ≡ NotYet at (Turn u)) ↔ ((book.outcome ≡ None) × (choice_of book ≡ Some (Thread u)) × (u ≢ t) × (at ≡ length book.trace))
@@ -127,6 +127,6 @@ none-by (Some outcome) says is not = absurd (false≢true (sym not ∙ is))
 pub same-answer : (one other : ℤ) → replies.Answer one ≡ replies.Answer other → one ≡ other
 same-answer one other e = cc
 
-pub because-is : (book : Told) (t : ℕ) (pick : Pick) → choice_of book ≡ Some pick → (because : Because) → because_of pick t ≡ Some because → IsBecause book t because
+pub because-is : (book : BookState) (t : ℕ) (pick : Pick) → choice_of book ≡ Some pick → (because : Because) → because_of pick t ≡ Some because → IsBecause book t because
 because-is book t pick chosen (Turn u) why = let w = other-turn pick u t why in (chosen ∙ ap Some w.0, w.1)
 because-is book t pick chosen (Away u) why = chosen ∙ ap Some (waited pick u t why)

@@ -2,14 +2,14 @@
 use Rattle.std.proofs.Common.{◌≡◌, ◌≢◌, ℕ, ℤ, ◌<◌, List, [], ◌∷◌, ◌++◌, length, refl, sym, ap, subst, ◌∙◌}
 use Rattle.std.proofs.lemmas.List.{append-nil, append_assoc, get_or-set_other, get_or-set_same}
 use Rattle.pct_ask.specs.declared.ask.Post.{Post}
-use Rattle.turn_book.specs.Posts.{events_of, posts_of, source_of, HasMore}
+use Rattle.turn_book.specs.Posts.{own_events, posts_of, source_of, HasMore}
 use Rattle.turn_book.specs.Obeys.{Obeys}
-use Rattle.turn_book.specs.Told.{Told, SameMaking, IsPosted, IsAnswered, IsLawful, Within}
+use Rattle.turn_book.specs.Told.{BookState, SameMaking, IsPosted, IsAnswered, IsLawful, Within}
 use Rattle.turn_book.proofs.laws.MorePosts.{obeys-more}
 use Rattle.turn_book.proofs.laws.OwnSteps.{more-keeps, events-own, events-other}
 use Rattle.turn_book.proofs.PostLists.{set-more}
 
-pub same-making : (book : Told) → SameMaking book book
+pub same-making : (book : BookState) → SameMaking book book
 same-making book = record { deal = refl; limit = refl; plan = refl }
 
 pub more-same : (earlier later : List (List Post)) → later ≡ earlier → HasMore earlier later
@@ -19,10 +19,10 @@ pub more-trans : (first second third : List (List Post)) → HasMore first secon
 more-trans first second third one two t =
     ((one t).0 ++ (two t).0, (two t).1 ∙ ap (λ l. l ++ (two t).0) (one t).1 ∙ append_assoc (posts_of first t) (one t).0 (two t).0)
 
-pub within-refl : (book : Told) → Within book book
+pub within-refl : (book : BookState) → Within book book
 within-refl book = record { making = same-making book; rest = []; trace = sym (append-nil book.trace); posts = more-same book.posts book.posts refl }
 
-pub within-trans : (first second third : Told) → Within first second → Within second third → Within first third
+pub within-trans : (first second third : BookState) → Within first second → Within second third → Within first third
 within-trans first second third one two = record {
   making = record { deal = (two.making).deal ∙ (one.making).deal; limit = (two.making).limit ∙ (one.making).limit; plan = (two.making).plan ∙ (one.making).plan };
   rest = one.rest ++ two.rest;
@@ -31,7 +31,7 @@ within-trans first second third one two = record {
 }
 
 -- ---- a post
-module _ (old new : Told) (t : ℕ) (post : Post) (within : t < length old.posts) (posted : IsPosted old t post new) where
+module _ (old new : BookState) (t : ℕ) (post : Post) (within : t < length old.posts) (posted : IsPosted old t post new) where
   pub within-posted : Within old new
   within-posted =
       let P : List (List Post) → Type 0 = HasMore old.posts in
@@ -49,7 +49,7 @@ module _ (old new : Told) (t : ℕ) (post : Post) (within : t < length old.posts
   posted-other u apart = let none : List Post = [] in ap (λ posts. posts_of posts u) posted.posts ∙ get_or-set_other old.posts t u (posts_of old.posts t ++ post ∷ []) none apart
 
 -- ---- a step
-module _ (old new : Told) (t : ℕ) (answer : ℤ) (answered : IsAnswered old t answer new) where
+module _ (old new : BookState) (t : ℕ) (answer : ℤ) (answered : IsAnswered old t answer new) where
   pub within-answered : Within old new
   within-answered = record {
     making = answered.making;
@@ -58,12 +58,12 @@ module _ (old new : Told) (t : ℕ) (answer : ℤ) (answered : IsAnswered old t 
     posts = more-same old.posts new.posts answered.posts;
   }
 
-  pub answered-own : events_of t new.trace ≡ events_of t old.trace ++ answered.event ∷ []
-  answered-own = ap (events_of t) answered.trace ∙ events-own t old.trace answered.event answered.thread
+  pub answered-own : own_events t new.trace ≡ own_events t old.trace ++ answered.event ∷ []
+  answered-own = ap (own_events t) answered.trace ∙ events-own t old.trace answered.event answered.thread
 
-  pub answered-other : (u : ℕ) → u ≢ t → events_of u new.trace ≡ events_of u old.trace
-  answered-other u apart = ap (events_of u) answered.trace ∙ events-other u old.trace answered.event (λ same. apart (sym same ∙ answered.thread))
+  pub answered-other : (u : ℕ) → u ≢ t → own_events u new.trace ≡ own_events u old.trace
+  answered-other u apart = ap (own_events u) answered.trace ∙ events-other u old.trace answered.event (λ same. apart (sym same ∙ answered.thread))
 
 -- ---- the steps of an earlier sight obey the plan over the posts of a later one
-pub within-obeys : (earlier later : Told) → Within earlier later → IsLawful earlier → Obeys earlier.plan earlier.deal (source_of later.posts) earlier.limit earlier.trace
+pub within-obeys : (earlier later : BookState) → Within earlier later → IsLawful earlier → Obeys earlier.plan earlier.deal (source_of later.posts) earlier.limit earlier.trace
 within-obeys earlier later within lawful = obeys-more earlier.plan earlier.deal (source_of earlier.posts) (source_of later.posts) earlier.limit earlier.trace (more-keeps earlier.trace earlier.posts later.posts within.posts) lawful.obeys

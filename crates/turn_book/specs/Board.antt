@@ -14,7 +14,7 @@ use Rattle.sync_store.specs.declared.touched.Touched.TheVariants.{Barrier, Threa
 use Rattle.sync_store.specs.Store.{StoreState, sizes_of}
 use Rattle.sync_store.specs.Effect.{Effect, Goes, Stops, effect, store_after}
 use Rattle.sync_store.specs.Touched.{is_mutex, is_cond, is_sem, is_barrier, is_thread, is_rwlock}
-use Rattle.sync_store.specs.Touched.{names}
+use Rattle.sync_store.specs.Touched.{names_object}
 use Rattle.policy_pick.specs.declared.chance.Chance.{Chance}
 use Rattle.turn_book.specs.Chances.{NextPosts, chances}
 use Rattle.turn_book.specs.Told.{PostIsInRange, standing_by}
@@ -24,25 +24,26 @@ pub record BoardState : Type 0 where
   pub posts : List (Option Post)
 
 -- each thread's next post, from the list of them
-abbrev pub listed : List (Option Post) → NextPosts
-listed posts t = slice_index_or posts t None
+abbrev pub next_posts_of : List (Option Post) → NextPosts
+next_posts_of posts t = slice_index_or posts t None
 
 abbrev pub ask_of_post : Option Post → Option Ask
 ask_of_post None = None
 ask_of_post (Some post) = post.ask
 
 -- the ids of every post are in range
-abbrev pub AreInRange : StoreState → List (Option Post) → Type 0
-AreInRange store posts = (t : ℕ) → PostIsInRange (sizes_of store) (ask_of_post (listed posts t))
+abbrev pub ArePostsInRange : StoreState → List (Option Post) → Type 0
+ArePostsInRange store posts =
+    (t : ℕ) → PostIsInRange (sizes_of store) (ask_of_post (next_posts_of posts t))
 
 -- what is kept beside the store and the posts is what they give
 pub record IsBoard (store : StoreState) (posts : List (Option Post)) (stands : List Standing)
     (known : List Chance) : Type 0 where
   pub threads : length posts ≡ store.threads
   pub few : store.threads ≤ 64
-  pub in_range : AreInRange store posts
+  pub in_range : ArePostsInRange store posts
   pub standings : stands ≡ map standing_by posts
-  pub chances : known ≡ chances store.threads store (listed posts)
+  pub chances : known ≡ chances store.threads store (next_posts_of posts)
 
 -- what the thread is told by a step, and how the run ends
 abbrev pub answer_of : Effect → ℤ
@@ -57,7 +58,7 @@ verdict_of (Stops verdict) = Some verdict
 pub record TakesStep (old : BoardState) (t : ℕ) (event : Event) (ends : Option Verdict)
     (new : BoardState) : Type 0 where
   pub thread : event.thread ≡ t
-  pub asked : listed old.posts t ≡ Some (record { ask = Some event.ask; line = event.line })
+  pub asked : next_posts_of old.posts t ≡ Some (record { ask = Some event.ask; line = event.line })
   pub answer : event.answer ≡ answer_of (effect old.store t event.line event.ask)
   pub verdict : ends ≡ verdict_of (effect old.store t event.line event.ask)
   pub store : new.store ≡ store_after old.store (effect old.store t event.line event.ask)
@@ -80,7 +81,7 @@ joins t ask = false
 
 abbrev pub concerns_ask : ℕ → Touched → ℕ → Option Ask → Bool
 concerns_ask t object u None = false
-concerns_ask t object u (Some ask) = names u ask object || joins t ask
+concerns_ask t object u (Some ask) = names_object u ask object || joins t ask
 
 -- whether the chance of a thread u with this post may change where the thread t posts or takes a
 -- step that touches an object

@@ -7,22 +7,22 @@ use Rattle.pct_ask.specs.declared.Deal.{Deal}
 use Rattle.pct_ask.specs.declared.event.Event.{Event}
 use Rattle.pct_ask.specs.declared.verdict.Verdict.{Verdict}
 use Rattle.pct_ask.specs.declared.verdict.Outcome.{Outcome}
-use Rattle.sync_store.specs.Store.{sizes_of, sizes_of_deal, first}
+use Rattle.sync_store.specs.Store.{sizes_of, sizes_of_deal, first_store}
 use Rattle.sync_store.specs.World.{Source, world_after}
 use Rattle.policy_pick.specs.declared.chance.Pick.{Pick}
 use Rattle.policy_pick.specs.Plan.{Plan, SpeaksOf}
 use Rattle.policy_pick.specs.Choice.{choice}
 use Rattle.turn_book.specs.Chances.{chances}
-use Rattle.turn_book.specs.Posts.{schedule_of, events_of, source_of}
-use Rattle.turn_book.specs.Obeys.{Obeys, settled}
-use Rattle.turn_book.specs.Told.{Told, post_of_event}
-use Rattle.turn_book.specs.Board.{BoardState, listed}
+use Rattle.turn_book.specs.Posts.{schedule_of, own_events, source_of}
+use Rattle.turn_book.specs.Obeys.{Obeys, outcome_after}
+use Rattle.turn_book.specs.Told.{BookState, post_of_event}
+use Rattle.turn_book.specs.Board.{BoardState, next_posts_of}
 
 -- from the thread k on, the posts of threads that took these steps and have these next posts
 abbrev pub posts_from : List Event → ℕ → List (Option Post) → List (List Post)
 posts_from events k [] = []
 posts_from events k (next ∷ more) =
-    (map post_of_event (events_of k events) ++ option_to_list next)
+    (map post_of_event (own_events k events) ++ option_to_list next)
     ∷ posts_from events (suc k) more
 
 -- each thread's posts: those of its steps, and its next one where that is known
@@ -30,8 +30,9 @@ abbrev pub posts_by : List Event → List (Option Post) → List (List Post)
 posts_by events next = posts_from events 0 next
 
 -- a book of which this is known, as contracts see it
-abbrev pub told : Deal → ℕ → Plan → List (Option Post) → List Event → Option Outcome → Told
-told deal limit plan next events outcome = record {
+abbrev pub book_of_parts : Deal → ℕ → Plan → List (Option Post) → List Event → Option Outcome
+    → BookState
+book_of_parts deal limit plan next events outcome = record {
   deal = deal;
   limit = limit;
   plan = plan;
@@ -44,7 +45,7 @@ told deal limit plan next events outcome = record {
 pub record IsAt (deal : Deal) (source : Source) (events : List Event) (board : BoardState)
     : Type 0 where
   pub verdict : Option Verdict
-  pub world : world_after (first deal) source (schedule_of events)
+  pub world : world_after (first_store deal) source (schedule_of events)
       ≡ Some (record { store = board.store; events = events; verdict = verdict })
 
 -- what a book keeps beside what it tells
@@ -58,7 +59,9 @@ pub record IsKept (deal : Deal) (limit : ℕ) (plan : Plan) (board : BoardState)
   pub room : limit ≤ reserved
   pub at : IsAt deal (source_of (posts_by events board.posts)) events board
   pub obeys : Obeys plan deal (source_of (posts_by events board.posts)) limit events
-  pub outcome : last ≡ settled plan deal (source_of (posts_by events board.posts)) limit events
+  pub outcome : last
+      ≡ outcome_after plan deal (source_of (posts_by events board.posts)) limit events
   pub pick : last ≡ None
       → next
-      ≡ choice plan (schedule_of events) (chances deal.threads board.store (listed board.posts))
+      ≡ choice plan (schedule_of events)
+      (chances deal.threads board.store (next_posts_of board.posts))

@@ -10,8 +10,8 @@ abbrev pub schedule_of : List Event → List ℕ
 schedule_of events = map (λ e. e.thread) events
 
 -- a thread's own steps
-abbrev pub events_of : ℕ → List Event → List Event
-events_of t events = filter (λ e. e.thread == t) events
+abbrev pub own_events : ℕ → List Event → List Event
+own_events t events = filter (λ e. e.thread == t) events
 
 -- a thread's list; a thread that there isn't has posted nothing
 abbrev pub posts_of : List (List Post) → ℕ → List Post
@@ -20,7 +20,7 @@ posts_of posts t = slice_index_or posts t []
 -- After some steps a thread's next post is the item behind as many as it has steps, and unknown
 -- where there is none.
 abbrev pub source_of : List (List Post) → Source
-source_of posts t events = slice_get (posts_of posts t) (length (events_of t events))
+source_of posts t events = slice_get (posts_of posts t) (length (own_events t events))
 
 -- each thread has posted the same, and perhaps more
 abbrev pub HasMore : List (List Post) → List (List Post) → Type 0

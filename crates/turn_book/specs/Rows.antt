@@ -30,8 +30,8 @@ store = record {
 abbrev next_of : List (Option Post) → NextPosts
 next_of posts t = slice_index_or posts t None
 
-abbrev read : Option Post
-read = Some (record { ask = Some (Read 0); line = 4 })
+abbrev read_post : Option Post
+read_post = Some (record { ask = Some (Read 0); line = 4 })
 
 abbrev join_first : Option Post
 join_first = Some (record { ask = Some (Join 0); line = 12 })
@@ -42,25 +42,25 @@ lock = Some (record { ask = Some (Lock 0); line = 6 })
 abbrev begin : Option Post
 begin = Some (record { ask = Some Begin; line = 8 })
 
-abbrev ended : Option Post
-ended = Some (record { ask = None; line = 9 })
+abbrev end_post : Option Post
+end_post = Some (record { ask = None; line = 9 })
 
 -- a join of a thread that hasn't posted is unknown; of one that asks it is blocked, and of one that
 -- has ended ready
-pub join_of_away : chances 3 store (next_of (None ∷ read ∷ join_first ∷ []))
+pub join_of_away : chances 3 store (next_of (None ∷ read_post ∷ join_first ∷ []))
     ≡ Away ∷ Ready ∷ Unknown 0 ∷ []
 join_of_away = refl
 
-pub join_of_asking : chances 3 store (next_of (lock ∷ read ∷ join_first ∷ []))
+pub join_of_asking : chances 3 store (next_of (lock ∷ read_post ∷ join_first ∷ []))
     ≡ Blocked ∷ Ready ∷ Blocked ∷ []
 join_of_asking = refl
 
-pub join_of_ended : chances 3 store (next_of (ended ∷ read ∷ join_first ∷ []))
+pub join_of_ended : chances 3 store (next_of (end_post ∷ read_post ∷ join_first ∷ []))
     ≡ Ended ∷ Ready ∷ Ready ∷ []
 join_of_ended = refl
 
 -- an idle thread doesn't keep a run from passing, but one that joins it is stuck
-pub idle_passes : rest_verdict 3 store (next_of (ended ∷ begin ∷ ended ∷ [])) ≡ Passed
+pub idle_passes : rest_verdict 3 store (next_of (end_post ∷ begin ∷ end_post ∷ [])) ≡ Passed
 idle_passes = refl
 
 pub joined_idle_is_stuck : rest_verdict 3 store (next_of (lock ∷ begin ∷ join_first ∷ []))

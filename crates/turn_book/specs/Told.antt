@@ -12,11 +12,11 @@ use Rattle.sync_store.specs.Store.{Sizes}
 use Rattle.sync_store.specs.Enabled.{IsInRange}
 use Rattle.policy_pick.specs.declared.chance.Pick.{Pick}
 use Rattle.policy_pick.specs.Plan.{Plan, SpeaksOf}
-use Rattle.turn_book.specs.Posts.{schedule_of, events_of, posts_of, source_of, HasMore}
-use Rattle.turn_book.specs.Obeys.{choice_after, Obeys, settled}
+use Rattle.turn_book.specs.Posts.{schedule_of, own_events, posts_of, source_of, HasMore}
+use Rattle.turn_book.specs.Obeys.{choice_after, Obeys, outcome_after}
 
 -- what it was made with, the posts of each thread, the steps, and what became of the run
-pub record Told : Type 0 where
+pub record BookState : Type 0 where
   pub deal : Deal
   pub limit : ℕ
   pub plan : Plan
@@ -25,7 +25,7 @@ pub record Told : Type 0 where
   pub outcome : Option Outcome
 
 -- a book in which nothing has happened
-abbrev pub new_book : Deal → ℕ → Plan → Told
+abbrev pub new_book : Deal → ℕ → Plan → BookState
 new_book deal limit plan = record {
   deal = deal;
   limit = limit;
@@ -36,7 +36,7 @@ new_book deal limit plan = record {
 }
 
 -- a thread's next post, where the book has it
-abbrev pub next_post : Told → ℕ → Option Post
+abbrev pub next_post : BookState → ℕ → Option Post
 next_post book t = source_of book.posts t book.trace
 
 -- the standing of a thread whose next post is known: it asks, or without an ask has ended
@@ -50,11 +50,11 @@ standing_by None = Away
 standing_by (Some post) = standing_by_ask post.ask
 
 -- what is known of a thread's next post
-abbrev pub standing_of : Told → ℕ → Standing
+abbrev pub standing_of : BookState → ℕ → Standing
 standing_of book t = standing_by (next_post book t)
 
 -- the plan's choice after the book's steps
-abbrev pub choice_of : Told → Option Pick
+abbrev pub choice_of : BookState → Option Pick
 choice_of book = choice_after book.plan book.deal (source_of book.posts) (schedule_of book.trace)
 
 -- a post's ask, if it has one, names only objects and threads that there are
@@ -68,31 +68,31 @@ post_of_event e = record { ask = Some e.ask; line = e.line }
 
 -- What every book keeps: its steps obey its plan over its posts, and its outcome is what became of
 -- the run. A thread's posts are those of its own steps, and its next one.
-pub record IsLawful (book : Told) : Type 0 where
+pub record IsLawful (book : BookState) : Type 0 where
   pub obeys : Obeys book.plan book.deal (source_of book.posts) book.limit book.trace
   pub outcome : book.outcome
-      ≡ settled book.plan book.deal (source_of book.posts) book.limit book.trace
+      ≡ outcome_after book.plan book.deal (source_of book.posts) book.limit book.trace
   pub threads : length book.posts ≡ book.deal.threads
   pub posts : (t : ℕ) → posts_of book.posts t
-      ≡ map post_of_event (events_of t book.trace) ++ option_to_list (next_post book t)
+      ≡ map post_of_event (own_events t book.trace) ++ option_to_list (next_post book t)
   pub speaks : SpeaksOf book.plan book.deal.threads
   pub some_steps : 1 ≤ book.limit
   pub few_steps : book.limit ≤ 100000
 
 -- it was made with the same
-pub record SameMaking (old new : Told) : Type 0 where
+pub record SameMaking (old new : BookState) : Type 0 where
   pub deal : new.deal ≡ old.deal
   pub limit : new.limit ≡ old.limit
   pub plan : new.plan ≡ old.plan
 
 -- the thread's post was added
-pub record IsPosted (old : Told) (t : ℕ) (post : Post) (new : Told) : Type 0 where
+pub record IsPosted (old : BookState) (t : ℕ) (post : Post) (new : BookState) : Type 0 where
   pub making : SameMaking old new
   pub trace : new.trace ≡ old.trace
   pub posts : new.posts ≡ slice_set old.posts t (posts_of old.posts t ++ post ∷ [])
 
 -- the thread took the step that it asked, with this answer
-pub record IsAnswered (old : Told) (t : ℕ) (told_answer : ℤ) (new : Told) : Type 0 where
+pub record IsAnswered (old : BookState) (t : ℕ) (told_answer : ℤ) (new : BookState) : Type 0 where
   pub event : Event
   pub making : SameMaking old new
   pub trace : new.trace ≡ old.trace ++ event ∷ []
@@ -103,15 +103,16 @@ pub record IsAnswered (old : Told) (t : ℕ) (told_answer : ℤ) (new : Told) : 
 
 -- A whole run over the book's posts, and perhaps more: steps that obey the book's plan and are
 -- settled.
-pub record IsRunOver (book : Told) (posts : List (List Post)) (events : List Event) : Type 0 where
+pub record IsRunOver (book : BookState) (posts : List (List Post)) (events : List Event)
+    : Type 0 where
   pub outcome : Outcome
   pub more : HasMore book.posts posts
   pub obeys : Obeys book.plan book.deal (source_of posts) book.limit events
-  pub ends : settled book.plan book.deal (source_of posts) book.limit events ≡ Some outcome
+  pub ends : outcome_after book.plan book.deal (source_of posts) book.limit events ≡ Some outcome
 
 -- A later sight of a book: what it was made with is the same, and its steps and each thread's posts
 -- begin with those of the earlier one.
-pub record Within (earlier later : Told) : Type 0 where
+pub record Within (earlier later : BookState) : Type 0 where
   pub making : SameMaking earlier later
   pub rest : List Event
   pub trace : later.trace ≡ earlier.trace ++ rest

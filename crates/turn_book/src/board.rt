@@ -1,13 +1,13 @@
 ghost use Rattle.std.specs.Prelude.{◌≡◌, ◌<◌, ◌≤◌, length, replicate, Option, Some, None};
 ghost use Rattle.std.specs.Prelude.{slice_set, IfOk};
 ghost use Rattle.pct_ask.specs.declared.verdict.Verdict.{Verdict};
-ghost use Rattle.sync_store.specs.Store.{first, sizes_of, sizes_of_deal};
+ghost use Rattle.sync_store.specs.Store.{first_store, sizes_of, sizes_of_deal};
 ghost use Rattle.policy_pick.specs.declared.chance.Chance.{Chance};
 ghost use Rattle.policy_pick.specs.Choice.{TargetsAreAway};
 ghost use Rattle.turn_book.specs.Chances.{chance, chances, rest_verdict};
 ghost use Rattle.turn_book.specs.Obeys.{outcome_by};
 ghost use Rattle.turn_book.specs.Told.{PostIsInRange, standing_by};
-ghost use Rattle.turn_book.specs.Board.{TakesStep, listed};
+ghost use Rattle.turn_book.specs.Board.{TakesStep, next_posts_of};
 
 use crate::known::{asked, blocked_line, look_again, standing_of, step_of};
 use pct_ask::{Blocked, Deal, Event, Outcome, Post, Standing, Verdict};
@@ -39,7 +39,10 @@ impl Board {
     /// No thread has posted.
     pub fn new(alloc: Global, deal: &Deal) -> Result<Self, NoMemory>
         ensures board { IfOk result (λ board.
-            board ≡ record { store = first deal.now; posts = replicate deal.now.threads None }) }
+            board ≡ record {
+              store = first_store deal.now;
+              posts = replicate deal.now.threads None;
+            }) }
         ensures sizes { IfOk result (λ board. sizes_of board.store ≡ sizes_of_deal deal.now) }
     {
         Ok(Board {
@@ -52,14 +55,14 @@ impl Board {
 
     pub fn standing(&self, thread: u32) -> Standing
         requires { thread < length self.now.posts }
-        ensures { result ≡ standing_by (listed self.now.posts thread) }
+        ensures { result ≡ standing_by (next_posts_of self.now.posts thread) }
     {
         self.standings[thread as usize]
     }
 
     pub fn chances(&self) -> &[Chance]
         ensures chances { result.now
-            ≡ chances self.now.store.threads self.now.store (listed self.now.posts) }
+            ≡ chances self.now.store.threads self.now.store (next_posts_of self.now.posts) }
         ensures targets { TargetsAreAway result.now }
     {
         self.chances.as_slice()
@@ -89,7 +92,8 @@ impl Board {
     /// the run, its verdict is noted.
     pub fn step(&mut self, thread: u32, outcome: &mut Option<Outcome>) -> Event
         requires thread { thread < length self.old.posts }
-        requires ready { chance self.old.store (listed self.old.posts) thread ≡ Chance.Ready }
+        requires ready { chance self.old.store (next_posts_of self.old.posts) thread
+            ≡ Chance.Ready }
         ensures step { (ends : Option Verdict) × TakesStep self.old thread result ends self.new
             × (outcome.new ≡ outcome_by ends outcome.old) }
         ensures sizes { sizes_of self.new.store ≡ sizes_of self.old.store }
@@ -117,7 +121,7 @@ impl Board {
     /// How the run ends where nobody may go on.
     pub fn rest_verdict(&self) -> Verdict
         ensures { result
-            ≡ rest_verdict self.now.store.threads self.now.store (listed self.now.posts) }
+            ≡ rest_verdict self.now.store.threads self.now.store (next_posts_of self.now.posts) }
     {
         let mut blocked = Blocked::new();
         let mut stuck = false;

@@ -10,7 +10,7 @@ ghost use Rattle.policy_pick.specs.Plan.{SpeaksOf};
 ghost use Rattle.turn_book.specs.Told.{new_book, standing_of, choice_of, PostIsInRange, IsLawful};
 ghost use Rattle.turn_book.specs.Told.{IsPosted, IsAnswered, IsRunOver};
 ghost use Rattle.turn_book.specs.declared.taken.Because.{Because};
-ghost use Rattle.turn_book.specs.Answers.{IsAnswer, IsBecause};
+ghost use Rattle.turn_book.specs.Answers.{IsAnswerTaken, IsBecause};
 
 use crate::board::Board;
 use crate::settle::settle;
@@ -38,13 +38,13 @@ pub struct TurnBook<P: Policy> {
 impl<P: Policy> Model for TurnBook<P> {
     ghost use Rattle.std.specs.Prelude.{vec_capacity};
     ghost use Rattle.turn_book.specs.Posts.{schedule_of};
-    ghost use Rattle.turn_book.specs.Told.{Told};
-    ghost use Rattle.turn_book.specs.Kept.{told, IsKept};
+    ghost use Rattle.turn_book.specs.Told.{BookState};
+    ghost use Rattle.turn_book.specs.Kept.{book_of_parts, IsKept};
 
-    ghost Value = { Told };
+    ghost Value = { BookState };
 
     ghost view = { λ b.
-        told b.deal b.limit (P.plan b.policy) b.board.posts b.trace.items b.outcome };
+        book_of_parts b.deal b.limit (P.plan b.policy) b.board.posts b.trace.items b.outcome };
 
     ghost invariant = { λ b.
         IsKept b.deal b.limit (P.plan b.policy) b.board b.trace.items b.next b.outcome
@@ -98,7 +98,7 @@ impl<P: Policy> TurnBook<P> {
         // Each answer comes exactly where this holds.
         ensures over { (outcome : Outcome)
             → (result ≡ Taken.Over outcome) ↔ (self.old.outcome ≡ Some outcome) }
-        ensures answer { IsAnswer result
+        ensures answer { IsAnswerTaken result
             ↔ ((self.old.outcome ≡ None) × (choice_of self.old ≡ Some (Pick.Thread thread))) }
         ensures turn { (at u : ℕ)
             → (result ≡ Taken.NotYet at (Because.Turn u))
@@ -111,7 +111,7 @@ impl<P: Policy> TurnBook<P> {
 
         ensures answered { (answer : ℤ) → result ≡ Taken.Answer answer
             → IsAnswered self.old thread answer self.new }
-        ensures unchanged { ¬ IsAnswer result → self.new ≡ self.old }
+        ensures unchanged { ¬ IsAnswerTaken result → self.new ≡ self.old }
         ensures lawful { IsLawful self.new }
     {
         if let Some(outcome) = self.outcome {

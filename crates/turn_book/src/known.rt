@@ -11,8 +11,9 @@ ghost use Rattle.turn_book.specs.Chances.{chance, chance_by, chance_of_post, cha
 ghost use Rattle.turn_book.specs.Chances.{is_unknown, blocked_by_post};
 ghost use Rattle.turn_book.specs.Obeys.{outcome_by};
 ghost use Rattle.turn_book.specs.Told.{PostIsInRange, standing_by};
-ghost use Rattle.turn_book.specs.Board.{AreInRange, ask_of_post, answer_of, verdict_of, concerns};
-ghost use Rattle.turn_book.specs.Board.{listed};
+ghost use Rattle.turn_book.specs.Board.{ArePostsInRange, ask_of_post, answer_of, verdict_of};
+ghost use Rattle.turn_book.specs.Board.{concerns};
+ghost use Rattle.turn_book.specs.Board.{next_posts_of};
 
 use crate::objects::{is_named, joins};
 use pct_ask::{Ask, Event, Outcome, Post, Standing};
@@ -153,13 +154,13 @@ pub fn look_again(
 )
     requires threads { length posts.now ≡ store.now.threads }
     requires few { store.now.threads ≤ 64 }
-    requires in_range { AreInRange store.now posts.now }
+    requires in_range { ArePostsInRange store.now posts.now }
     requires standings { standings.now ≡ map standing_by posts.now }
     requires as_many { length known.old ≡ store.now.threads }
     requires others { (u : ℕ) → u < store.now.threads
-        → concerns thread touched u (listed posts.now u) ≡ false
-        → chance_of known.old u ≡ chance store.now (listed posts.now) u }
-    ensures { known.new ≡ chances store.now.threads store.now (listed posts.now) }
+        → concerns thread touched u (next_posts_of posts.now u) ≡ false
+        → chance_of known.old u ≡ chance store.now (next_posts_of posts.now) u }
+    ensures { known.new ≡ chances store.now.threads store.now (next_posts_of posts.now) }
 {
     for (other, post) in posts.iter().enumerate() {
         if concerns(thread, touched, other as u32, *post) {

@@ -1,6 +1,6 @@
 ghost use Rattle.std.specs.Prelude.{◌≡◌, ◌||◌};
 ghost use Rattle.sync_store.specs.declared.touched.Touched.{Touched};
-ghost use Rattle.sync_store.specs.Touched.{names};
+ghost use Rattle.sync_store.specs.Touched.{names_object};
 ghost use Rattle.turn_book.specs.Board.{is_object, joins};
 
 use pct_ask::Ask;
@@ -9,7 +9,8 @@ use sync_store::Touched;
 /// The objects that an ask of a thread names. Where it names one, that is the second.
 fn named(thread: u32, ask: &Ask) -> (Touched, Touched)
     ensures { (object : Touched)
-        → names thread ask.now object ≡ (is_object result.0 object || is_object result.1 object) }
+        → names_object thread ask.now object
+        ≡ (is_object result.0 object || is_object result.1 object) }
 {
     match *ask {
         Ask::Lock { mutex } | Ask::TryLock { mutex } | Ask::Unlock { mutex } => {
@@ -60,7 +61,7 @@ fn is_object(one: Touched, other: Touched) -> bool
 
 /// Whether an ask of a thread names an object. Most steps touch none.
 pub fn is_named(thread: u32, ask: &Ask, object: Touched) -> bool
-    ensures { result ≡ names thread ask.now object }
+    ensures { result ≡ names_object thread ask.now object }
 {
     if let Touched::Nothing = object {
         return false;

@@ -4,7 +4,7 @@ ghost use Rattle.policy_pick.specs.Plan.{SpeaksOf};
 ghost use Rattle.policy_pick.specs.Choice.{choice};
 ghost use Rattle.turn_book.specs.Chances.{chances, rest_verdict};
 ghost use Rattle.turn_book.specs.Obeys.{outcome_by, outcome_by_pick};
-ghost use Rattle.turn_book.specs.Board.{listed};
+ghost use Rattle.turn_book.specs.Board.{next_posts_of};
 
 use crate::board::Board;
 use pct_ask::{Outcome, Verdict};
@@ -22,10 +22,10 @@ pub fn settle<P: Policy>(
     requires { SpeaksOf (P.plan policy.now) board.now.store.threads }
     ensures pick { (schedule : List ℕ) → P.stands policy.now schedule
         → result ≡ choice (P.plan policy.now) schedule
-        (chances board.now.store.threads board.now.store (listed board.now.posts)) }
+        (chances board.now.store.threads board.now.store (next_posts_of board.now.posts)) }
     ensures outcome { (verdict : Option Verdict) → outcome.old ≡ outcome_by verdict None
         → outcome.new ≡ outcome_by verdict (outcome_by_pick
-        (rest_verdict board.now.store.threads board.now.store (listed board.now.posts))
+        (rest_verdict board.now.store.threads board.now.store (next_posts_of board.now.posts))
         full result) }
 {
     let next = policy.pick(board.chances());
@@ -51,7 +51,8 @@ fn may_end(next: Pick, full: bool) -> bool
 fn note_end(next: Pick, board: &Board, full: bool, outcome: &mut Option<Outcome>)
     requires { outcome.old ≡ None }
     ensures { outcome.new ≡ outcome_by_pick
-        (rest_verdict board.now.store.threads board.now.store (listed board.now.posts)) full next }
+        (rest_verdict board.now.store.threads board.now.store (next_posts_of board.now.posts)) full
+        next }
 {
     match next {
         Pick::Nobody => *outcome = Some(Outcome::Verdict(board.rest_verdict())),

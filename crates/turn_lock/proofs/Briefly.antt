@@ -2,8 +2,8 @@
 use Rattle.std.proofs.Common.{◌≡◌, ◌≢◌, ℕ, Option, Some, None, refl, sym, ap, ◌∙◌}
 use Rattle.pct_ask.specs.declared.ask.Post.{Post}
 use Rattle.pct_ask.specs.declared.verdict.Outcome.{Outcome}
-use Rattle.turn_book.specs.Told.{Told}
-use Rattle.turn_lock.specs.Turns.{TookTurn, Gives}
+use Rattle.turn_book.specs.Told.{BookState}
+use Rattle.turn_lock.specs.Turns.{TookTurn, GivesOnce}
 use Rattle.turn_lock.specs.Briefs.{brief, IsWith}
 use Rattle.turn_lock.specs.declared.brief.Brief.TheVariants as briefs
 use Rattle.turn_lock.specs.declared.turn.Turn.{Turn}
@@ -40,13 +40,13 @@ has-outcome last (Busy holder) w e none = cc
 
 -- the outcome that was kept is the turn's
 pub with-took : (v : View) (t : ℕ) (post : Option Post) (turn : Turn) (w : View) (last : Option Outcome) → TookTurn v t post turn w → (brief turn ≡ briefs.Over → last ≡ (w.seen).outcome) → IsWith last turn
-with-took v t post (Over outcome) w last k kept = let row = k.turn.row in kept refl ∙ ap (λ (b : Told). b.outcome) row.1 ∙ row.0
+with-took v t post (Over outcome) w last k kept = let row = k.turn.row in kept refl ∙ ap (λ (b : BookState). b.outcome) row.1 ∙ row.0
 with-took v t post (Answer answer) w last k kept = tt
 with-took v t post Ended w last k kept = tt
 with-took v t post (NotYet at because) w last k kept = tt
 with-took v t post (Busy holder) w last k kept = tt
 
-pub with-gives : (v : View) (t : ℕ) (post : Option Post) (turn : Turn) (w : View) (last : Option Outcome) → Gives v t post turn w → (brief turn ≡ briefs.Over → last ≡ (w.seen).outcome) → IsWith last turn
+pub with-gives : (v : View) (t : ℕ) (post : Option Post) (turn : Turn) (w : View) (last : Option Outcome) → GivesOnce v t post turn w → (brief turn ≡ briefs.Over → last ≡ (w.seen).outcome) → IsWith last turn
 with-gives v t post (Over outcome) w last k kept = with-took v t post (Over outcome) w last k.took kept
 with-gives v t post (Answer answer) w last k kept = tt
 with-gives v t post Ended w last k kept = tt

@@ -4,18 +4,18 @@ use mathlib.Core.Option.{none, some, some-injective, some-ne-none}
 use lib.ListN.{get_elem?}
 use Rattle.atomic_table.specs.Table.{step, keeps, Allows, Splits, Joins}
 use Rattle.atomic_table.proofs.Lists.{at_set, set_else, at_longer, at_snoc}
-use Rattle.turn_book.specs.Told.{Told}
+use Rattle.turn_book.specs.Told.{BookState}
 use Rattle.turn_lock.specs.Seen.{SameOf}
-use Rattle.turn_lock.specs.Rule.{Serves, Ties, HoldsGate, Kept, spent_view}
-use Rattle.turn_lock.specs.Plays.{Seated, Looks}
-use Rattle.turn_lock.specs.Seats.{without, alone, seen_together, joined}
+use Rattle.turn_lock.specs.Rule.{Serves, Ties, HoldsGate, KeepsRule, spent_view}
+use Rattle.turn_lock.specs.Plays.{SeatWithSlots, Looks}
+use Rattle.turn_lock.specs.Seats.{seat_without, seat_of_one, seen_together, joined_seat}
 use Rattle.turn_lock.specs.declared.view.View.{View}
 use Rattle.turn_lock.proofs.laws.SeenBooks.{within-self, same-back, same-between, meets, Meets}
 use Rattle.turn_lock.proofs.laws.Serving.{not_both, none_has}
 use Rattle.turn_lock.proofs.Keeps.{each, not-holder, unmoved}
 use Rattle.turn_lock.proofs.laws.Serving.{alone-one, without-not, without-had, either-serves}
 
-pub looks : (made : Told) (slots id : ℕ) (m : Seated) → m.0.live ≡ true → m.0.held ≡ false → Allows (Kept made) slots id m 0 (λ n. n) (Looks (step slots 0 0 0 none) m)
+pub looks : (made : BookState) (slots id : ℕ) (m : SeatWithSlots) → m.0.live ≡ true → m.0.held ≡ false → Allows (KeepsRule made) slots id m 0 (λ n. n) (Looks (step slots 0 0 0 none) m)
 looks made slots id m live idle s k long at small = let tied : Ties m.0 k.slot.book = k.ties id m.0 at live in
     (m.0, keeps, tt, unmoved made s k id m.0 m.0 at refl refl idle idle (λ _. tied), record { same = refl; obeys = tied.obeys; left = tied.left; right = tied.right; left_own = tied.left_own; right_own = tied.right_own })
 
@@ -35,23 +35,23 @@ record Origin (vs : List View) (id t i n : ℕ) : Type 0 where
   serves : Serves view n
   is : ((i ≡ from) × (from ≡ id → n ≢ t)) ⊎ ((i ≡ length vs) × (n ≡ t) × (from ≡ id))
 
-origin : (vs : List View) (id t : ℕ) (v : View) → get_elem? vs id ≡ some v → Serves v t → (i : ℕ) (x : View) (n : ℕ) → get_elem? (set vs id (without v t) ++ alone v t ∷ []) i ≡ some x → Serves x n → Origin vs id t i n
+origin : (vs : List View) (id t : ℕ) (v : View) → get_elem? vs id ≡ some v → Serves v t → (i : ℕ) (x : View) (n : ℕ) → get_elem? (set vs id (seat_without v t) ++ seat_of_one v t ∷ []) i ≡ some x → Serves x n → Origin vs id t i n
 origin vs id t v at mine i x n is h = ⊎_elim
     (λ a. ⊎_elim
-    (λ (b : (i ≡ id) × (without v t ≡ x)). let w : Serves (without v t) n = subst (λ (u : View). Serves u n) (sym b.1) h in record { from = id; view = v; at = at; serves = without-had v t n w; is = inl (b.0, λ _. without-not v t n w) })
-    (λ (b : (i ≢ id) × (get_elem? vs i ≡ some x)). record { from = i; view = x; at = b.1; serves = h; is = inl (refl, λ e. absurd (b.0 e)) }) (at_set vs id i (without v t) x a))
-    (λ (a : (i ≡ length (set vs id (without v t))) × (alone v t ≡ x)).
-    let w : Serves (alone v t) n = subst (λ (u : View). Serves u n) (sym a.1) h in
+    (λ (b : (i ≡ id) × (seat_without v t ≡ x)). let w : Serves (seat_without v t) n = subst (λ (u : View). Serves u n) (sym b.1) h in record { from = id; view = v; at = at; serves = without-had v t n w; is = inl (b.0, λ _. without-not v t n w) })
+    (λ (b : (i ≢ id) × (get_elem? vs i ≡ some x)). record { from = i; view = x; at = b.1; serves = h; is = inl (refl, λ e. absurd (b.0 e)) }) (at_set vs id i (seat_without v t) x a))
+    (λ (a : (i ≡ length (set vs id (seat_without v t))) × (seat_of_one v t ≡ x)).
+    let w : Serves (seat_of_one v t) n = subst (λ (u : View). Serves u n) (sym a.1) h in
     let e = alone-one v t n w in
-    record { from = id; view = v; at = at; serves = subst (Serves v) (sym e) mine; is = inr (a.0 ∙ length-set vs id (without v t), e, refl) })
-    (at_end (set vs id (without v t)) (alone v t) x i is)
+    record { from = id; view = v; at = at; serves = subst (Serves v) (sym e) mine; is = inr (a.0 ∙ length-set vs id (seat_without v t), e, refl) })
+    (at_end (set vs id (seat_without v t)) (seat_of_one v t) x i is)
 
-pub splits : (made : Told) (id : ℕ) (v : View) (t : ℕ) → v.live ≡ true → v.held ≡ false → Serves v t → Splits (Kept made) id v (without v t) (alone v t)
+pub splits : (made : BookState) (id : ℕ) (v : View) (t : ℕ) → v.live ≡ true → v.held ≡ false → Serves v t → Splits (KeepsRule made) id v (seat_without v t) (seat_of_one v t)
 splits made id v t live idle mine s k at =
     let tied : Ties v k.slot.book = k.ties id v at live in
     let vs = s.views in
-    let w : View = without v t in
-    let a : View = alone v t in
+    let w : View = seat_without v t in
+    let a : View = seat_of_one v t in
     record {
       slot = k.slot;
       making = k.making;
@@ -107,23 +107,24 @@ record Source (vs : List View) (id other i n : ℕ) : Type 0 where
   is : (i ≡ from) ⊎ ((from ≡ other) × (i ≡ id))
 
 source : (vs : List View) (id : ℕ) (v : View) (other : ℕ) (w : View) → get_elem? vs id ≡ some v → (other ≡ id → ⊥) → get_elem? vs other ≡ some w
-    → (i : ℕ) (x : View) (n : ℕ) → get_elem? (set (set vs id (joined v w)) other spent_view) i ≡ some x → Serves x n → Source vs id other i n
+    → (i : ℕ) (x : View) (n : ℕ) → get_elem? (set (set vs id (joined_seat v w)) other spent_view) i ≡ some x → Serves x n → Source vs id other i n
 source vs id v other w at ne there i x n is h = ⊎_elim
     (λ (a : (i ≡ other) × (spent_view ≡ x)). absurd (spent-none n (subst (λ (u : View). Serves u n) (sym a.1) h)))
-    (λ (a : (i ≢ other) × (get_elem? (set vs id (joined v w)) i ≡ some x)). ⊎_elim
-    (λ (b : (i ≡ id) × (joined v w ≡ x)). ⊎_elim
+    (λ (a : (i ≢ other) × (get_elem? (set vs id (joined_seat v w)) i ≡ some x)). ⊎_elim
+    (λ (b : (i ≡ id) × (joined_seat v w ≡ x)). ⊎_elim
     (λ f. record { from = id; view = v; at = at; serves = f; not = a.0; is = inl b.0 })
     (λ g. record { from = other; view = w; at = there; serves = g; not = a.0; is = inr (refl, b.0) })
     (either-serves v.serves w.serves n (subst (λ (u : View). Serves u n) (sym b.1) h)))
     (λ (b : (i ≢ id) × (get_elem? vs i ≡ some x)). record { from = i; view = x; at = b.1; serves = h; not = a.0; is = inl refl })
-    (at_set vs id i (joined v w) x a.1))
-    (at_set (set vs id (joined v w)) other i spent_view x is)
+    (at_set vs id i (joined_seat v w) x a.1))
+    (at_set (set vs id (joined_seat v w)) other i spent_view x is)
 
 -- the joined seat's ties
-joined-ties : (v w : View) (book : Told) → Ties v book → Ties w book → Ties (joined v w) book
+joined-ties : (v w : View) (book : BookState) → Ties v book → Ties w book
+    → Ties (joined_seat v w) book
 joined-ties v w book one two =
     let m : Meets v.seen w.seen book = meets v.seen w.seen book one.within two.within one.obeys two.obeys in
-    let both : Told = seen_together v.seen w.seen in
+    let both : BookState = seen_together v.seen w.seen in
     let ones : (n : ℕ) → Serves v n → SameOf n both book = λ n f. same-between n v.seen both book m.left m.within (one.own n f) in
     let twos : (n : ℕ) → Serves w n → SameOf n both book = λ n f. same-between n w.seen both book m.right m.within (two.own n f) in
     record {
@@ -136,10 +137,10 @@ joined-ties v w book one two =
       right_own = λ n f. same-back n w.seen both book (two.own n f) (twos n f);
     }
 
-pub joins : (made : Told) (id : ℕ) (v : View) (other : ℕ) (w : View) → v.live ≡ true → v.held ≡ false → w.live ≡ true → w.held ≡ false → Joins (Kept made) id v other w (joined v w) spent_view
+pub joins : (made : BookState) (id : ℕ) (v : View) (other : ℕ) (w : View) → v.live ≡ true → v.held ≡ false → w.live ≡ true → w.held ≡ false → Joins (KeepsRule made) id v other w (joined_seat v w) spent_view
 joins made id v other w live idle alive resting s k at ne there' =
     let vs = s.views in
-    let j : View = joined v w in
+    let j : View = joined_seat v w in
     let there : get_elem? vs other ≡ some w = sym (set_else vs id other j ne) ∙ there' in
     record {
       slot = k.slot;

@@ -1,7 +1,7 @@
 -- Lists of flags, made one by one.
 use Rattle.std.proofs.Common.{◌≡◌, ℕ, zero, suc, ◌+◌, ◌-◌, ◌<◌, Bool, true, false, ◌||◌, List, [], ◌∷◌, ◌++◌, length, get_or, set, replicate, refl, ap, ◌∙◌, arith}
 use Rattle.turn_lock.specs.Rule.{first_threads}
-use Rattle.turn_lock.specs.Seats.{either_of}
+use Rattle.turn_lock.specs.Seats.{flags_of_either}
 
 -- ---- the first threads
 set-first : (k m : ℕ) → set (replicate k true ++ replicate (suc m) false) k true ≡ replicate (suc k) true ++ replicate m false
@@ -25,11 +25,11 @@ mixed-step i (x ∷ xs) [] d e h k = absurd (omega arith)
 mixed-step zero (x ∷ xs) (y ∷ ys) d e h k = refl
 mixed-step (suc i) (x ∷ xs) (y ∷ ys) d e h k = ap (λ l. (x || y) ∷ l) (mixed-step i xs ys d e (omega arith) (omega arith))
 
-none : (n : ℕ) → mixed n [] [] ≡ either_of [] []
+none : (n : ℕ) → mixed n [] [] ≡ flags_of_either [] []
 none zero = refl
 none (suc n) = refl
 
-pub mixed-all : (n : ℕ) (xs ys : List Bool) → length xs ≡ n → length ys ≡ n → mixed n xs ys ≡ either_of xs ys
+pub mixed-all : (n : ℕ) (xs ys : List Bool) → length xs ≡ n → length ys ≡ n → mixed n xs ys ≡ flags_of_either xs ys
 mixed-all n [] [] h k = none n
 mixed-all n [] (y ∷ ys) h k = absurd (omega arith)
 mixed-all n (x ∷ xs) [] h k = absurd (omega arith)

@@ -7,121 +7,122 @@ use native.Mathlib.Decide.{ℕ_discrete}
 use Rattle.pct_ask.specs.declared.ask.Post.{Post}
 use Rattle.pct_ask.specs.declared.event.Event.{Event}
 use Rattle.pct_ask.specs.declared.verdict.Outcome.{Outcome}
-use Rattle.turn_book.specs.Posts.{events_of}
-use Rattle.turn_book.specs.Told.{Told, IsPosted, IsAnswered, IsLawful, Within}
+use Rattle.turn_book.specs.Posts.{own_events}
+use Rattle.turn_book.specs.Told.{BookState, IsPosted, IsAnswered, IsLawful, Within}
 use Rattle.turn_book.proofs.laws.OwnSteps.{events-own, events-other}
-use Rattle.turn_lock.specs.Seen.{Begins, SameOf, pairs_of, posted_by}
+use Rattle.turn_lock.specs.Seen.{Begins, SameOf, pairs_of, posts_seen}
 use Rattle.turn_lock.specs.Slots.{Slot, NotesBelow}
 use Rattle.turn_lock.specs.Rule.{Serves, Ties}
 use Rattle.turn_lock.specs.Plays.{with_gate, with_book, IsTaken}
 use Rattle.turn_lock.specs.Turns.{IsAsked, Row, TurnsTo, GainsPair, TookTurn}
-use Rattle.turn_lock.specs.Hands.{GoesOn}
+use Rattle.turn_lock.specs.Hands.{SlotGoesOn}
 use Rattle.turn_lock.specs.declared.turn.Turn.{Turn}
 use Rattle.turn_lock.specs.declared.turn.Turn.TheVariants.{Answer, Ended, NotYet, Busy, Over}
 use Rattle.turn_lock.specs.declared.view.View.{View}
 use Rattle.turn_lock.proofs.laws.SeenBooks.{within-self, within-along, same-self, same-along}
 
 -- the book grew, by the thread t alone
-pub record Grew (t : ℕ) (old new : Told) : Type 0 where
+pub record Grew (t : ℕ) (old new : BookState) : Type 0 where
   pub within : Within old new
   pub others : (u : ℕ) → u ≢ t → SameOf u old new
 
-grew-self : (t : ℕ) (book : Told) → Grew t book book
+grew-self : (t : ℕ) (book : BookState) → Grew t book book
 grew-self t book = record { within = within-self book; others = λ u ne. same-self u book }
 
-grew-along : (t : ℕ) (a b c : Told) → Grew t a b → Grew t b c → Grew t a c
+grew-along : (t : ℕ) (a b c : BookState) → Grew t a b → Grew t b c → Grew t a c
 grew-along t a b c p q = record { within = within-along a b c p.within q.within; others = λ u ne. same-along u a b c (p.others u ne) (q.others u ne) }
 
 -- ---- a post
-posts-own : (t : ℕ) (old : Told) (post : Post) (new : Told) → t < length old.posts → IsPosted old t post new → posted_by new t ≡ posted_by old t ++ post ∷ []
-posts-own t old post new inside p = ap (λ (l : List (List Post)). get_or l t []) p.posts ∙ get_or-set_same old.posts t (posted_by old t ++ post ∷ []) [] inside
+posts-own : (t : ℕ) (old : BookState) (post : Post) (new : BookState) → t < length old.posts → IsPosted old t post new → posts_seen new t ≡ posts_seen old t ++ post ∷ []
+posts-own t old post new inside p = ap (λ (l : List (List Post)). get_or l t []) p.posts ∙ get_or-set_same old.posts t (posts_seen old t ++ post ∷ []) [] inside
 
-posts-other : (t u : ℕ) (old : Told) (post : Post) (new : Told) → u ≢ t → IsPosted old t post new → posted_by new u ≡ posted_by old u
-posts-other t u old post new ne p = ap (λ (l : List (List Post)). get_or l u []) p.posts ∙ get_or-set_other old.posts t u (posted_by old t ++ post ∷ []) [] ne
+posts-other : (t u : ℕ) (old : BookState) (post : Post) (new : BookState) → u ≢ t → IsPosted old t post new → posts_seen new u ≡ posts_seen old u
+posts-other t u old post new ne p = ap (λ (l : List (List Post)). get_or l u []) p.posts ∙ get_or-set_other old.posts t u (posts_seen old t ++ post ∷ []) [] ne
 
-grew-posted : (t : ℕ) (old : Told) (post : Post) (new : Told) → t < length old.posts → IsPosted old t post new → Grew t old new
+grew-posted : (t : ℕ) (old : BookState) (post : Post) (new : BookState) → t < length old.posts → IsPosted old t post new → Grew t old new
 grew-posted t old post new inside p = record {
   within = record {
     making = p.making;
     rest = [];
     trace = p.trace ∙ sym (append-nil old.trace);
     posts = λ u. dite (ℕ_discrete u t)
-        (λ e. subst (λ (n : ℕ). Begins (posted_by old n) (posted_by new n)) (sym e) (post ∷ [], posts-own t old post new inside p))
-        (λ ne. ([], posts-other t u old post new ne p ∙ sym (append-nil (posted_by old u))));
+        (λ e. subst (λ (n : ℕ). Begins (posts_seen old n) (posts_seen new n)) (sym e) (post ∷ [], posts-own t old post new inside p))
+        (λ ne. ([], posts-other t u old post new ne p ∙ sym (append-nil (posts_seen old u))));
   };
-  others = λ u ne. record { pairs = ap (events_of u) p.trace; posts = posts-other t u old post new ne p };
+  others = λ u ne. record { pairs = ap (own_events u) p.trace; posts = posts-other t u old post new ne p };
 }
 
 none-or-some : (o : Option Outcome) → (o ≡ None) ⊎ IsSome o
 none-or-some None = inl refl
 none-or-some (Some outcome) = inr refl
 
-grew-asked : (t : ℕ) (old : Told) (post : Option Post) (new : Told) → t < length old.posts → IsAsked old t post new → Grew t old new
+grew-asked : (t : ℕ) (old : BookState) (post : Option Post) (new : BookState) → t < length old.posts → IsAsked old t post new → Grew t old new
 grew-asked t old None new inside p = subst (Grew t old) (sym p) (grew-self t old)
 grew-asked t old (Some post) new inside p = ⊎_elim
     (λ none. grew-posted t old post new inside (p.0 none))
     (λ over. subst (Grew t old) (sym (p.1 over)) (grew-self t old)) (none-or-some old.outcome)
 
 -- ---- a turn
-grew-answered : (t : ℕ) (old : Told) (answer : ℤ) (new : Told) → IsAnswered old t answer new → Grew t old new
+grew-answered : (t : ℕ) (old : BookState) (answer : ℤ) (new : BookState) → IsAnswered old t answer new → Grew t old new
 grew-answered t old answer new p = record {
-  within = record { making = p.making; rest = p.event ∷ []; trace = p.trace; posts = λ u. ([], ap (λ (l : List (List Post)). get_or l u []) p.posts ∙ sym (append-nil (posted_by old u))) };
-  others = λ u ne. record { pairs = ap (events_of u) p.trace ∙ events-other u old.trace p.event (λ e. ne (sym e ∙ p.thread)); posts = ap (λ (l : List (List Post)). get_or l u []) p.posts };
+  within = record { making = p.making; rest = p.event ∷ []; trace = p.trace; posts = λ u. ([], ap (λ (l : List (List Post)). get_or l u []) p.posts ∙ sym (append-nil (posts_seen old u))) };
+  others = λ u ne. record { pairs = ap (own_events u) p.trace ∙ events-other u old.trace p.event (λ e. ne (sym e ∙ p.thread)); posts = ap (λ (l : List (List Post)). get_or l u []) p.posts };
 }
 
 -- where the row gives the book back as it was
-same-row : (t : ℕ) (old new : Told) → new ≡ old → Grew t old new
+same-row : (t : ℕ) (old new : BookState) → new ≡ old → Grew t old new
 same-row t old new e = subst (Grew t old) (sym e) (grew-self t old)
 
-grew-row : (t : ℕ) (old : Told) (turn : Turn) (new : Told) → Row old t turn new → Grew t old new
+grew-row : (t : ℕ) (old : BookState) (turn : Turn) (new : BookState) → Row old t turn new
+    → Grew t old new
 grew-row t old (Answer answer) new r = grew-answered t old answer new r.2
 grew-row t old Ended new r = same-row t old new r.2
 grew-row t old (NotYet at because) new r = same-row t old new r.4
 grew-row t old (Over outcome) new r = same-row t old new r.1
 grew-row t old (Busy holder) new r = absurd r
 
-pub grew-turn : (t : ℕ) (old : Told) (post : Option Post) (turn : Turn) (new : Told) → t < length old.posts → TurnsTo old t post turn new → Grew t old new
+pub grew-turn : (t : ℕ) (old : BookState) (post : Option Post) (turn : Turn) (new : BookState) → t < length old.posts → TurnsTo old t post turn new → Grew t old new
 grew-turn t old post turn new inside k = grew-along t old k.asked new (grew-asked t old post k.asked inside k.posted) (grew-row t k.asked turn new k.row)
 
 -- ---- what the thread gains
-asked-pairs : (t : ℕ) (old : Told) (post : Option Post) (new : Told) → IsAsked old t post new → pairs_of new t ≡ pairs_of old t
-asked-pairs t old None new p = ap (λ (b : Told). pairs_of b t) p
-asked-pairs t old (Some post) new p = ⊎_elim (λ none. ap (events_of t) (p.0 none).trace) (λ over. ap (λ (b : Told). pairs_of b t) (p.1 over)) (none-or-some old.outcome)
+asked-pairs : (t : ℕ) (old : BookState) (post : Option Post) (new : BookState) → IsAsked old t post new → pairs_of new t ≡ pairs_of old t
+asked-pairs t old None new p = ap (λ (b : BookState). pairs_of b t) p
+asked-pairs t old (Some post) new p = ⊎_elim (λ none. ap (own_events t) (p.0 none).trace) (λ over. ap (λ (b : BookState). pairs_of b t) (p.1 over)) (none-or-some old.outcome)
 
-asked-posts : (t : ℕ) (old : Told) (post : Option Post) (new : Told) → t < length old.posts → IsAsked old t post new → old.outcome ≡ None → posted_by new t ≡ posted_by old t ++ option_to_list post
-asked-posts t old None new inside p none = ap (λ (b : Told). posted_by b t) p ∙ sym (append-nil (posted_by old t))
+asked-posts : (t : ℕ) (old : BookState) (post : Option Post) (new : BookState) → t < length old.posts → IsAsked old t post new → old.outcome ≡ None → posts_seen new t ≡ posts_seen old t ++ option_to_list post
+asked-posts t old None new inside p none = ap (λ (b : BookState). posts_seen b t) p ∙ sym (append-nil (posts_seen old t))
 asked-posts t old (Some post) new inside p none = posts-own t old post new inside (p.0 none)
 
-asked-late : (t : ℕ) (old : Told) (post : Option Post) (new : Told) → IsAsked old t post new → IsSome old.outcome → posted_by new t ≡ posted_by old t
-asked-late t old None new p over = ap (λ (b : Told). posted_by b t) p
-asked-late t old (Some post) new p over = ap (λ (b : Told). posted_by b t) (p.1 over)
+asked-late : (t : ℕ) (old : BookState) (post : Option Post) (new : BookState) → IsAsked old t post new → IsSome old.outcome → posts_seen new t ≡ posts_seen old t
+asked-late t old None new p over = ap (λ (b : BookState). posts_seen b t) p
+asked-late t old (Some post) new p over = ap (λ (b : BookState). posts_seen b t) (p.1 over)
 
-row-posts : (t : ℕ) (old : Told) (turn : Turn) (new : Told) → Row old t turn new → posted_by new t ≡ posted_by old t
+row-posts : (t : ℕ) (old : BookState) (turn : Turn) (new : BookState) → Row old t turn new → posts_seen new t ≡ posts_seen old t
 row-posts t old (Answer answer) new r = ap (λ (l : List (List Post)). get_or l t []) (r.2).posts
-row-posts t old Ended new r = ap (λ (b : Told). posted_by b t) r.2
-row-posts t old (NotYet at because) new r = ap (λ (b : Told). posted_by b t) r.4
-row-posts t old (Over outcome) new r = ap (λ (b : Told). posted_by b t) r.1
+row-posts t old Ended new r = ap (λ (b : BookState). posts_seen b t) r.2
+row-posts t old (NotYet at because) new r = ap (λ (b : BookState). posts_seen b t) r.4
+row-posts t old (Over outcome) new r = ap (λ (b : BookState). posts_seen b t) r.1
 row-posts t old (Busy holder) new r = absurd r
 
 -- the pairs of what the seat had seen are those of the book after the post
-gains : (t : ℕ) (seen old : Told) (turn : Turn) (new : Told) → pairs_of old t ≡ pairs_of seen t → Row old t turn new → GainsPair seen t turn new
+gains : (t : ℕ) (seen old : BookState) (turn : Turn) (new : BookState) → pairs_of old t ≡ pairs_of seen t → Row old t turn new → GainsPair seen t turn new
 gains t seen old (Answer answer) new e r =
     let p = r.2 in
-    (p.event, p.answer, ap (events_of t) p.trace ∙ events-own t old.trace p.event p.thread ∙ ap (λ (l : List Event). l ++ p.event ∷ []) e, (old.trace, p.trace))
-gains t seen old Ended new e r = ap (λ (b : Told). pairs_of b t) r.2 ∙ e
-gains t seen old (NotYet at because) new e r = ap (λ (b : Told). pairs_of b t) r.4 ∙ e
-gains t seen old (Over outcome) new e r = ap (λ (b : Told). pairs_of b t) r.1 ∙ e
+    (p.event, p.answer, ap (own_events t) p.trace ∙ events-own t old.trace p.event p.thread ∙ ap (λ (l : List Event). l ++ p.event ∷ []) e, (old.trace, p.trace))
+gains t seen old Ended new e r = ap (λ (b : BookState). pairs_of b t) r.2 ∙ e
+gains t seen old (NotYet at because) new e r = ap (λ (b : BookState). pairs_of b t) r.4 ∙ e
+gains t seen old (Over outcome) new e r = ap (λ (b : BookState). pairs_of b t) r.1 ∙ e
 gains t seen old (Busy holder) new e r = absurd r
 
 -- ---- the seat
 -- a call that took the slot, made this of its book, and gave it back
-pub took : (v : View) (t : ℕ) (slot : Slot) (post : Option Post) (turn : Turn) (after : Told) → Serves v t → IsTaken v slot → t < length slot.book.posts → TurnsTo slot.book t post turn after → TookTurn v t post turn (with_book (with_gate v slot) after)
+pub took : (v : View) (t : ℕ) (slot : Slot) (post : Option Post) (turn : Turn) (after : BookState) → Serves v t → IsTaken v slot → t < length slot.book.posts → TurnsTo slot.book t post turn after → TookTurn v t post turn (with_book (with_gate v slot) after)
 took v t slot post turn after mine taken inside k =
-    let book : Told = slot.book in
+    let book : BookState = slot.book in
     let tied : Ties v book = taken.ties in
     let same : SameOf t v.seen book = tied.own t mine in
     let grew = grew-turn t book post turn after inside k in
-    let posts : posted_by after t ≡ posted_by k.asked t = row-posts t k.asked turn after k.row in
+    let posts : posts_seen after t ≡ posts_seen k.asked t = row-posts t k.asked turn after k.row in
     record {
       book = book;
       within = tied.within;
@@ -136,13 +137,13 @@ took v t slot post turn after mine taken inside k =
     }
 
 -- and so the slot may be given back
-pub goes : (v : View) (t : ℕ) (slot : Slot) (post : Option Post) (turn : Turn) (after : Slot) → Serves v t → t < length slot.book.posts → TurnsTo slot.book t post turn after.book → NotesBelow slot.book.deal.threads after.board → GoesOn v slot after
+pub goes : (v : View) (t : ℕ) (slot : Slot) (post : Option Post) (turn : Turn) (after : Slot) → Serves v t → t < length slot.book.posts → TurnsTo slot.book t post turn after.book → NotesBelow slot.book.deal.threads after.board → SlotGoesOn v slot after
 goes v t slot post turn after mine inside k notes =
     let grew = grew-turn t slot.book post turn after.book inside k in
     record { within = grew.within; lawful = k.lawful; notes = notes; others = λ u not. grew.others u (λ e. not (subst (Serves v) (sym e) mine)) }
 
 -- where only the board was changed
-pub goes-back : (v : View) (slot after : Slot) → after.book ≡ slot.book → IsLawful slot.book → NotesBelow slot.book.deal.threads after.board → GoesOn v slot after
+pub goes-back : (v : View) (slot after : Slot) → after.book ≡ slot.book → IsLawful slot.book → NotesBelow slot.book.deal.threads after.board → SlotGoesOn v slot after
 goes-back v slot after same lawful notes = record {
   within = subst (Within slot.book) (sym same) (within-self slot.book);
   lawful = subst IsLawful (sym same) lawful;

@@ -10,12 +10,13 @@ use prog.Atomic.{either}
 use Rattle.atomic_table.specs.Table.{step, Act, keeps, takes, gives, Valid, carried_after, stepped, Allows, opening, Final, Seen}
 use Rattle.atomic_table.proofs.Lists.{at_set, set_here, set_else, set_again, exchanged}
 use Rattle.pct_ask.specs.declared.Deal.{Deal}
-use Rattle.turn_book.specs.Told.{Told, SameMaking, IsLawful, Within}
+use Rattle.turn_book.specs.Told.{BookState, SameMaking, IsLawful, Within}
 use Rattle.turn_lock.specs.Seen.{SameOf, ObeysPlan}
 use Rattle.turn_lock.specs.Slots.{Slot, Board, NotesBelow}
-use Rattle.turn_lock.specs.Rule.{LockState, Has, Serves, Ties, HoldsGate, Holder, Kept, first_view}
-use Rattle.turn_lock.specs.Plays.{Seated, with_gate, turned_away, with_book, Grabs, Opens}
-use Rattle.turn_lock.specs.Hands.{GoesOn}
+use Rattle.turn_lock.specs.Rule.{LockState, HasFlag, Serves, Ties, HoldsGate, Holder, KeepsRule}
+use Rattle.turn_lock.specs.Rule.{first_view}
+use Rattle.turn_lock.specs.Plays.{SeatWithSlots, with_gate, turned_away, with_book, Grabs, Opens}
+use Rattle.turn_lock.specs.Hands.{SlotGoesOn}
 use Rattle.turn_lock.specs.declared.view.View.{View}
 use Rattle.turn_lock.proofs.laws.SeenBooks.{within-self, within-along, same-self, same-along, making-self, making-along}
 use Rattle.turn_lock.proofs.laws.Serving.{not_both, none_has, serves-along}
@@ -29,7 +30,8 @@ set_at (x ∷ xs) zero a b e = refl
 set_at (x ∷ xs) (suc i) a b e = set_at xs i a b e
 
 -- two deals of one making have as many threads
-pub as-many : (a b c : Told) → SameMaking a c → SameMaking b c → a.deal.threads ≡ b.deal.threads
+pub as-many : (a b c : BookState) → SameMaking a c → SameMaking b c
+    → a.deal.threads ≡ b.deal.threads
 as-many a b c p q = ap (λ (d : Deal). d.threads) (sym p.deal ∙ q.deal)
 
 -- ---- one view changes
@@ -50,7 +52,7 @@ pub not-holder : (vs : List View) (i j : ℕ) (v w : View) → get_elem? vs i �
 not-holder vs i j v w at held there idle same = not_both v.held held (ap (λ (u : View). u.held) (some-injective v w (sym at ∙ ap (get_elem? vs) same ∙ there)) ∙ idle)
 
 -- the rule after the seat id went from v to w, and the slot's value is `slot`
-moved : (made : Told) (s : LockState) (k : Kept made s) (id : ℕ) (v w : View) (slot : Slot) (words : List ℕ) (homes : List (Option Slot)) → get_elem? s.views id ≡ some v
+moved : (made : BookState) (s : LockState) (k : KeepsRule made s) (id : ℕ) (v w : View) (slot : Slot) (words : List ℕ) (homes : List (Option Slot)) → get_elem? s.views id ≡ some v
     → w.serves ≡ v.serves → w.live ≡ v.live → SameMaking made slot.book → IsLawful slot.book → NotesBelow made.deal.threads slot.board
     → length words ≡ made.deal.threads + 1 → length homes ≡ 1
     → (get_or words 0 0 ≡ 0 → get_elem? homes 0 ≡ some (some slot))
@@ -59,7 +61,7 @@ moved : (made : Told) (s : LockState) (k : Kept made s) (id : ℕ) (v w : View) 
     → ((j : ℕ) (u : View) → j ≢ id → get_elem? s.views j ≡ some u → u.held ≡ true → HoldsGate u slot (get_or words 0 0))
     → (w.live ≡ true → Ties w slot.book)
     → ((j : ℕ) (u : View) → j ≢ id → get_elem? s.views j ≡ some u → u.live ≡ true → Ties u slot.book)
-    → Kept made (state words homes (set s.views id w))
+    → KeepsRule made (state words homes (set s.views id w))
 moved made s k id v w slot words homes at e l making lawful notes wide long free taken mine others tie ties = record {
   slot = slot;
   making = making;
@@ -79,8 +81,8 @@ moved made s k id v w slot words homes at e l making lawful notes wide long free
 }
 
 -- a step that leaves the gate word as it is, of a seat that doesn't hold the gate
-pub unmoved : (made : Told) (s : LockState) (k : Kept made s) (id : ℕ) (v w : View) → get_elem? s.views id ≡ some v → w.serves ≡ v.serves → w.live ≡ v.live → w.held ≡ false → v.held ≡ false → (w.live ≡ true → Ties w k.slot.book)
-    → Kept made (state (set s.words 0 (get_or s.words 0 0)) s.homes (set s.views id w))
+pub unmoved : (made : BookState) (s : LockState) (k : KeepsRule made s) (id : ℕ) (v w : View) → get_elem? s.views id ≡ some v → w.serves ≡ v.serves → w.live ≡ v.live → w.held ≡ false → v.held ≡ false → (w.live ≡ true → Ties w k.slot.book)
+    → KeepsRule made (state (set s.words 0 (get_or s.words 0 0)) s.homes (set s.views id w))
 unmoved made s k id v w at e l idle was_idle tie =
     let x : ℕ = get_or s.words 0 0 in
     let wide = k.words in
@@ -97,29 +99,29 @@ unmoved made s k id v w at e l idle was_idle tie =
     (λ j u ne is alive. k.ties j u is alive)
 
 -- a view with the same parts but the gate's has the same ties
-same-ties : (v w : View) (book : Told) → w.seen ≡ v.seen → w.serves ≡ v.serves → w.left ≡ v.left → w.right ≡ v.right → w.left_had ≡ v.left_had → w.right_had ≡ v.right_had → Ties v book → Ties w book
+same-ties : (v w : View) (book : BookState) → w.seen ≡ v.seen → w.serves ≡ v.serves → w.left ≡ v.left → w.right ≡ v.right → w.left_had ≡ v.left_had → w.right_had ≡ v.right_had → Ties v book → Ties w book
 same-ties v w book seen serves left right left_had right_had t =
-    let L : Told × Told → Type 0 = λ x. Within x.0 x.1 in
+    let L : BookState × BookState → Type 0 = λ x. Within x.0 x.1 in
     record {
-      within = subst (λ (x : Told). Within x book) (sym seen) t.within;
+      within = subst (λ (x : BookState). Within x book) (sym seen) t.within;
       obeys = subst ObeysPlan (sym seen) t.obeys;
-      own = λ n h. subst (λ (x : Told). SameOf n x book) (sym seen) (t.own n (subst (λ (l : List Bool). Has l n) serves h));
+      own = λ n h. subst (λ (x : BookState). SameOf n x book) (sym seen) (t.own n (subst (λ (l : List Bool). HasFlag l n) serves h));
       left = subst L (λ i. (sym left i, sym seen i)) t.left;
       right = subst L (λ i. (sym right i, sym seen i)) t.right;
-      left_own = λ n h. subst (λ (x : Told × Told). SameOf n x.0 x.1) (λ i. (sym left i, sym seen i)) (t.left_own n (subst (λ (l : List Bool). Has l n) left_had h));
-      right_own = λ n h. subst (λ (x : Told × Told). SameOf n x.0 x.1) (λ i. (sym right i, sym seen i)) (t.right_own n (subst (λ (l : List Bool). Has l n) right_had h));
+      left_own = λ n h. subst (λ (x : BookState × BookState). SameOf n x.0 x.1) (λ i. (sym left i, sym seen i)) (t.left_own n (subst (λ (l : List Bool). HasFlag l n) left_had h));
+      right_own = λ n h. subst (λ (x : BookState × BookState). SameOf n x.0 x.1) (λ i. (sym right i, sym seen i)) (t.right_own n (subst (λ (l : List Bool). HasFlag l n) right_had h));
     }
 
 -- ---- compare and exchange on the gate word
-pub grabs : (made : Told) (slots id : ℕ) (m : Seated) (t : ℕ) → m.0.live ≡ true → m.0.held ≡ false → Serves m.0 t → t < m.0.seen.deal.threads
-    → Allows (Kept made) slots id m 0 (λ n. either (eqb n 0) (t + 1) n) (Grabs (step slots 0 0 (t + 1) none) m)
+pub grabs : (made : BookState) (slots id : ℕ) (m : SeatWithSlots) (t : ℕ) → m.0.live ≡ true → m.0.held ≡ false → Serves m.0 t → t < m.0.seen.deal.threads
+    → Allows (KeepsRule made) slots id m 0 (λ n. either (eqb n 0) (t + 1) n) (Grabs (step slots 0 0 (t + 1) none) m)
 grabs made slots id m t live idle serves inside s k long at small =
     let x : ℕ = get_or s.words 0 0 in
     let wide = k.words in
     let now : get_or (set s.words 0 (t + 1)) 0 0 ≡ t + 1 = get_or-set_same s.words 0 (t + 1) 0 (omega arith) in
     let tied : Ties m.0 k.slot.book = k.ties id m.0 at live in
     let many : made.deal.threads ≡ m.0.seen.deal.threads = as-many made m.0.seen k.slot.book k.making tied.within.making in
-    let F : ℕ → Type 0 = λ y. (w : View) × (a : Act Slot) × Valid s.homes m.1 a × Kept made (stepped s 0 y id m.1 w a) × Grabs (step slots 0 0 (t + 1) none) m x (w, carried_after m.1 a) in
+    let F : ℕ → Type 0 = λ y. (w : View) × (a : Act Slot) × Valid s.homes m.1 a × KeepsRule made (stepped s 0 y id m.1 w a) × Grabs (step slots 0 0 (t + 1) none) m x (w, carried_after m.1 a) in
     exchanged x 0 (t + 1) F
     (λ z. let w : View = with_gate m.0 k.slot in (
       w,
@@ -160,7 +162,7 @@ grabs made slots id m t live idle serves inside s k long at small =
 
 -- ---- the store that opens the gate
 -- a seat that serves none of the threads that posted or took a step keeps its ties
-other-ties : (v u : View) (slot after : Slot) → GoesOn v slot after → ((t : ℕ) → Serves u t → Serves v t → ⊥) → Ties u slot.book → Ties u after.book
+other-ties : (v u : View) (slot after : Slot) → SlotGoesOn v slot after → ((t : ℕ) → Serves u t → Serves v t → ⊥) → Ties u slot.book → Ties u after.book
 other-ties v u slot after on apart t = record {
   within = within-along u.seen slot.book after.book t.within on.within;
   obeys = t.obeys;
@@ -172,7 +174,7 @@ other-ties v u slot after on apart t = record {
 }
 
 -- the book of a call that opens the gate is all that it has seen
-new-ties : (v : View) (book : Told) → IsLawful book → Ties (with_book v book) book
+new-ties : (v : View) (book : BookState) → IsLawful book → Ties (with_book v book) book
 new-ties v book lawful = record {
   within = within-self book;
   obeys = lawful.obeys;
@@ -183,14 +185,14 @@ new-ties v book lawful = record {
   right_own = λ t h. none_has t h;
 }
 
-pub opens : (made : Told) (slots id : ℕ) (m : Seated) (v : View) (c : Slot) → m ≡ (v, (0, c) ∷ []) → v.live ≡ true → v.held ≡ true → GoesOn v v.base c
-    → Allows (Kept made) slots id m 0 (λ _. 0) (λ _. Opens (step slots 0 0 0 none) m 0)
-opens made slots id m v c is live held goes = subst (λ (x : Seated). Allows (Kept made) slots id x 0 (λ _. 0) (λ _. Opens (step slots 0 0 0 none) x 0)) (sym is)
+pub opens : (made : BookState) (slots id : ℕ) (m : SeatWithSlots) (v : View) (c : Slot) → m ≡ (v, (0, c) ∷ []) → v.live ≡ true → v.held ≡ true → SlotGoesOn v v.base c
+    → Allows (KeepsRule made) slots id m 0 (λ _. 0) (λ _. Opens (step slots 0 0 0 none) m 0)
+opens made slots id m v c is live held goes = subst (λ (x : SeatWithSlots). Allows (KeepsRule made) slots id x 0 (λ _. 0) (λ _. Opens (step slots 0 0 0 none) x 0)) (sym is)
     (λ s k long at small.
     let wide = k.words in
     let one = k.slots in
     let mine = k.holds id v at held in
-    let on : GoesOn v k.slot c = subst (λ (b : Slot). GoesOn v b c) mine.base goes in
+    let on : SlotGoesOn v k.slot c = subst (λ (b : Slot). SlotGoesOn v b c) mine.base goes in
     let many : k.slot.book.deal.threads ≡ made.deal.threads = ap (λ (d : Deal). d.threads) k.making.deal in
     let now : get_or (set s.words 0 0) 0 0 ≡ 0 = get_or-set_same s.words 0 0 0 (omega arith) in
     let mine-word = mine.gate_is in
@@ -213,14 +215,14 @@ opens made slots id m v c is live held goes = subst (λ (x : Seated). Allows (Ke
     ))
 
 -- ---- a step on a turn word
-pub marks : (made : Told) (slots id : ℕ) (m : Seated) (i : ℕ) (f : ℕ → ℕ) → 0 < i → Allows (Kept made) slots id m i f (λ _ n. n ≡ m)
+pub marks : (made : BookState) (slots id : ℕ) (m : SeatWithSlots) (i : ℕ) (f : ℕ → ℕ) → 0 < i → Allows (KeepsRule made) slots id m i f (λ _ n. n ≡ m)
 marks made slots id m i f off s k long at small =
     let words : List ℕ = set s.words i (f (get_or s.words i 0)) in
     let same : get_or words 0 0 ≡ get_or s.words 0 0 = get_or-set_other s.words i 0 (f (get_or s.words i 0)) 0 (λ e. omega arith) in (
       m.0,
       keeps,
       tt,
-      subst (λ (vs : List View). Kept made (state words s.homes vs)) (sym (set_again s.views id m.0 at)) record {
+      subst (λ (vs : List View). KeepsRule made (state words s.homes vs)) (sym (set_again s.views id m.0 at)) record {
         slot = k.slot;
         making = k.making;
         lawful = k.lawful;
@@ -238,11 +240,11 @@ marks made slots id m i f off s k long at small =
     )
 
 -- ---- how the table begins
-only : (b : Told) (j : ℕ) (u : View) → get_elem? (first_view b ∷ []) j ≡ some u → (j ≡ 0) × (first_view b ≡ u)
+only : (b : BookState) (j : ℕ) (u : View) → get_elem? (first_view b ∷ []) j ≡ some u → (j ≡ 0) × (first_view b ≡ u)
 only b zero u e = (refl, some-injective (first_view b) u e)
 only b (suc j) u e = absurd (some-ne-none u (sym e))
 
-pub starts : (b : Told) (board : Board) → IsLawful b → NotesBelow b.deal.threads board → Kept b (opening (replicate (b.deal.threads + 1) 0) (record { book = b; board = board } ∷ []) (first_view b))
+pub starts : (b : BookState) (board : Board) → IsLawful b → NotesBelow b.deal.threads board → KeepsRule b (opening (replicate (b.deal.threads + 1) 0) (record { book = b; board = board } ∷ []) (first_view b))
 starts b board lawful notes =
     let n : ℕ = b.deal.threads + 1 in record {
       slot = record { book = b; board = board };
@@ -261,7 +263,7 @@ starts b board lawful notes =
 
 -- ---- how it ends
 -- a seat that serves every thread and is idle has the lock for itself
-closes : (made : Told) (s : LockState) (k : Kept made s) (id : ℕ) (v : View) (homes : List Slot) → get_elem? s.views id ≡ some v → v.live ≡ true → v.held ≡ false → ((t : ℕ) → t < v.seen.deal.threads → Serves v t)
+closes : (made : BookState) (s : LockState) (k : KeepsRule made s) (id : ℕ) (v : View) (homes : List Slot) → get_elem? s.views id ≡ some v → v.live ≡ true → v.held ≡ false → ((t : ℕ) → t < v.seen.deal.threads → Serves v t)
     → ((i : ℕ) (y : Slot) → get_elem? s.homes i ≡ some (some y) → get_elem? homes i ≡ some y) → get_elem? homes 0 ≡ some k.slot
 closes made s k id v homes at live idle all home =
     let x : ℕ = get_or s.words 0 0 in
@@ -277,24 +279,24 @@ closes made s k id v homes at live idle all home =
     absurd (not-holder s.views own.id id own.view v own.at own.held at idle (k.apart own.id id own.view v h own.at at own.serves (all h (omega arith)))))
 
 -- what the last book has to do with what a seat has seen that serves every thread
-pub record IsLast (made : Told) (v : View) (book : Told) : Type 0 where
+pub record IsLast (made : BookState) (v : View) (book : BookState) : Type 0 where
   pub making : SameMaking made book
   pub lawful : IsLawful book
   pub seen : Within v.seen book
   pub own : (t : ℕ) → t < book.deal.threads → SameOf t v.seen book
 
-pub closed : (made : Told) (id : ℕ) (v : View) (words : List ℕ) (homes : List Slot) (last : Slot) → v.live ≡ true → v.held ≡ false → ((t : ℕ) → t < v.seen.deal.threads → Serves v t)
-    → Final (Seen (Kept made) id v) words homes → get_elem? homes 0 ≡ some last → IsLast made v last.book
+pub closed : (made : BookState) (id : ℕ) (v : View) (words : List ℕ) (homes : List Slot) (last : Slot) → v.live ≡ true → v.held ≡ false → ((t : ℕ) → t < v.seen.deal.threads → Serves v t)
+    → Final (Seen (KeepsRule made) id v) words homes → get_elem? homes 0 ≡ some last → IsLast made v last.book
 closed made id v words homes last live idle all f is =
     let s = f.0 in
-    let k : Kept made s = f.1.0 in
+    let k : KeepsRule made s = f.1.0 in
     let at = f.1.1 in
     let there = closes made s k id v homes at live idle all f.4 in
     let tied : Ties v k.slot.book = k.ties id v at live in
     let many : k.slot.book.deal.threads ≡ v.seen.deal.threads = ap (λ (d : Deal). d.threads) tied.within.making.deal in
     subst (λ (x : Slot). IsLast made v x.book) (some-injective k.slot last (sym there ∙ is)) record { making = k.making; lawful = k.lawful; seen = tied.within; own = λ t below. tied.own t (all t (omega arith)) }
 
-pub begins : (about : Slot) (words : List ℕ) (items : List Slot) (b : Told) (board : Board) → about ≡ record { book = b; board = board } → words ≡ replicate (b.deal.threads + 1) 0 → items ≡ record { book = b; board = board } ∷ [] → IsLawful b → NotesBelow b.deal.threads board
-    → Kept about.book (opening words items (first_view about.book))
+pub begins : (about : Slot) (words : List ℕ) (items : List Slot) (b : BookState) (board : Board) → about ≡ record { book = b; board = board } → words ≡ replicate (b.deal.threads + 1) 0 → items ≡ record { book = b; board = board } ∷ [] → IsLawful b → NotesBelow b.deal.threads board
+    → KeepsRule about.book (opening words items (first_view about.book))
 begins about words items b board a w i lawful notes =
-    subst (λ (x : Slot × List ℕ × List Slot). Kept x.0.book (opening x.1 x.2 (first_view x.0.book))) (λ j. (sym a j, sym w j, sym i j)) (starts b board lawful notes)
+    subst (λ (x : Slot × List ℕ × List Slot). KeepsRule x.0.book (opening x.1 x.2 (first_view x.0.book))) (λ j. (sym a j, sym w j, sym i j)) (starts b board lawful notes)

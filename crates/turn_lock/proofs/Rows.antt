@@ -8,7 +8,7 @@ use Rattle.pct_ask.specs.declared.event.Standing.TheVariants as standings
 use Rattle.pct_ask.specs.declared.verdict.Outcome.{Outcome}
 use Rattle.policy_pick.specs.declared.chance.Pick.TheVariants as picks
 use Rattle.turn_book.specs.Answers.{IsBecause}
-use Rattle.turn_book.specs.Told.{Told, IsAnswered, choice_of, standing_of}
+use Rattle.turn_book.specs.Told.{BookState, IsAnswered, choice_of, standing_of}
 use Rattle.turn_book.specs.declared.taken.Because.{Because}
 use Rattle.turn_book.specs.declared.taken.Reply.{Reply}
 use Rattle.turn_book.specs.declared.taken.Reply.TheVariants.{Answer, NotYet, Over}
@@ -16,14 +16,14 @@ use Rattle.turn_lock.specs.Turns.{Row}
 use Rattle.turn_lock.specs.Briefs.{InBrief, as_brief}
 use Rattle.turn_lock.specs.declared.brief.Brief.TheVariants as briefs
 use Rattle.turn_lock.specs.declared.turn.Turn.TheVariants as turns
-use Rattle.turn_lock.specs.Rule.{Has}
+use Rattle.turn_lock.specs.Rule.{HasFlag}
 use Rattle.turn_lock.specs.Wakes.{AreBelow}
 
-over-row : (b : Told) (t : ℕ) (c : Told) (last : Option Outcome) → b.outcome ≡ last → IsSome last → c ≡ b → InBrief (λ turn. Row b t turn c) briefs.Over
+over-row : (b : BookState) (t : ℕ) (c : BookState) (last : Option Outcome) → b.outcome ≡ last → IsSome last → c ≡ b → InBrief (λ turn. Row b t turn c) briefs.Over
 over-row b t c None is some same = absurd (false≢true some)
 over-row b t c (Some outcome) is some same = record { turn = turns.Over outcome; brief = refl; said = (is, same) }
 
-module _ (b : Told) (t : ℕ) (c : Told) (asks : b.outcome ≡ None → standing_of b t ≡ standings.Asks) where
+module _ (b : BookState) (t : ℕ) (c : BookState) (asks : b.outcome ≡ None → standing_of b t ≡ standings.Asks) where
   pub row-of : (reply : Reply)
       → (reply ≡ Over → IsSome b.outcome × (c ≡ b))
       → ((answer : ℤ) → reply ≡ Answer answer → (b.outcome ≡ None) × (choice_of b ≡ Some (picks.Thread t)) × IsAnswered b t answer c)
@@ -39,7 +39,7 @@ module _ (b : Told) (t : ℕ) (c : Told) (asks : b.outcome ≡ None → standing
 pub below-set : (threads word : ℕ) (words : List Bool) → word < threads → AreBelow threads words → AreBelow threads (set words word true)
 below-set threads word words below all w h = dite (ℕ_discrete w word) (λ e. subst (λ (n : ℕ). n < threads) (sym e) below) (λ ne. all w (sym (get_or-set_other words word w true false ne) ∙ h))
 
-none-has : (n w : ℕ) → Has (replicate n false) w → ⊥
+none-has : (n w : ℕ) → HasFlag (replicate n false) w → ⊥
 none-has zero w h = false≢true h
 none-has (suc n) zero h = false≢true h
 none-has (suc n) (suc w) h = none-has n w h

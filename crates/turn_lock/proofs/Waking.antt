@@ -5,9 +5,9 @@ use Rattle.std.proofs.lemmas.Bool.{cases_eq, false≢true}
 use Rattle.std.proofs.lemmas.Grind.{get_or-set_at}
 use Rattle.std.proofs.lemmas.List.{length-replicate, length-set, get_or-set_other}
 use Rattle.pct_ask.specs.declared.verdict.Outcome.{Outcome}
-use Rattle.turn_book.specs.Told.{Told}
+use Rattle.turn_book.specs.Told.{BookState}
 use Rattle.turn_lock.specs.Slots.{Board, word_noted}
-use Rattle.turn_lock.specs.Rule.{Has}
+use Rattle.turn_lock.specs.Rule.{HasFlag}
 use Rattle.turn_lock.specs.Wakes.{AreBelow, HasTurn}
 use Rattle.turn_lock.proofs.Rows.{below-set, none-below}
 
@@ -15,7 +15,7 @@ use Rattle.turn_lock.proofs.Rows.{below-set, none-below}
 pub record HasNoted (board : Board) (threads n : ℕ) (words : List Bool) : Type 0 where
   pub flags : length words ≡ 64
   pub below : AreBelow threads words
-  pub all : (u word : ℕ) → u < n → word_noted board u ≡ Some word → Has words word
+  pub all : (u word : ℕ) → u < n → word_noted board u ≡ Some word → HasFlag words word
 
 pub noted-first : (board : Board) (threads : ℕ) → HasNoted board threads 0 (replicate 64 false)
 noted-first board threads = record {
@@ -24,7 +24,7 @@ noted-first board threads = record {
   all = λ u word low e. absurd (omega (arith, low));
 }
 
-has-set : (words : List Bool) (word other : ℕ) → word < length words → Has words other → Has (set words word true) other
+has-set : (words : List Bool) (word other : ℕ) → word < length words → HasFlag words other → HasFlag (set words word true) other
 has-set words word other few has = elim (cases_eq other word) [
   | inl same ↦ get_or-set_at words word other true false same few
   | inr apart ↦ get_or-set_other words word other true false apart ∙ has
@@ -60,7 +60,7 @@ pub not-over : (last : Option Outcome) (says : Bool) → says ≡ is_some last �
 not-over None says is not = refl
 not-over (Some outcome) says is not = absurd (false≢true (sym not ∙ is))
 
-module _ (book : Told) (granted : Option ℕ) (iff : (u : ℕ) → (granted ≡ Some u) ↔ HasTurn book u) where
+module _ (book : BookState) (granted : Option ℕ) (iff : (u : ℕ) → (granted ≡ Some u) ↔ HasTurn book u) where
   pub nobodys-turn : granted ≡ None → (u : ℕ) → HasTurn book u → ⊥
   nobodys-turn none u turn = let both : None ≡ Some u = sym none ∙ (iff u).1 turn in cc
 

@@ -1,7 +1,7 @@
 -- What ties a seat to its lock, and what calls ask of it (this project).
 use Rattle.std.specs.Prelude.{◌≡◌, ◌<◌, ℕ, true, false, []}
 use Rattle.atomic_table.specs.declared.shared.Seat.{Seat as TableSeat}
-use Rattle.turn_book.specs.Told.{Told, SameMaking}
+use Rattle.turn_book.specs.Told.{BookState, SameMaking}
 use Rattle.turn_lock.specs.Seen.{owes_of}
 use Rattle.turn_lock.specs.Slots.{Slot}
 use Rattle.turn_lock.specs.Rule.{Serves}
@@ -9,13 +9,13 @@ use Rattle.turn_lock.specs.declared.view.View.{View}
 use Rattle.turn_lock.specs.declared.held.TurnLock.{TurnLock}
 
 -- the book that the lock was made with
-abbrev pub made : {P : Type 0} → TurnLock P → Told
-made lock = lock.table.shared.key.value.book
+abbrev pub first_book : {P : Type 0} → TurnLock P → BookState
+first_book lock = lock.table.shared.key.value.book
 
 -- the seat is one of the lock's table
 abbrev pub IsTableSeatOf : {P : Type 0} → TurnLock P → TableSeat Slot View → Type 0
 IsTableSeatOf lock seat =
-    (seat.table_id ≡ lock.table.shared.table_id) × SameMaking (made lock) seat.me.0.seen
+    (seat.table_id ≡ lock.table.shared.table_id) × SameMaking (first_book lock) seat.me.0.seen
 
 -- a seat between two calls: it holds neither the gate nor a slot
 pub record Idle (seat : TableSeat Slot View) : Type 0 where

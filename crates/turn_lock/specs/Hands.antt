@@ -5,8 +5,8 @@ use Rattle.pct_ask.specs.declared.ask.Post.{Post}
 use Rattle.turn_book.specs.Told.{IsLawful, Within}
 use Rattle.turn_lock.specs.Seen.{Begins, SameOf, owes_of}
 use Rattle.turn_lock.specs.Slots.{Slot, NotesBelow}
-use Rattle.turn_lock.specs.Rule.{Has, Serves}
-use Rattle.turn_lock.specs.Plays.{Seated}
+use Rattle.turn_lock.specs.Rule.{HasFlag, Serves}
+use Rattle.turn_lock.specs.Plays.{SeatWithSlots}
 use Rattle.turn_lock.specs.Turns.{GivenInRange, IsOwed, TurnsTo, TellsEnd}
 use Rattle.turn_lock.specs.Wakes.{WakesBelow}
 use Rattle.turn_lock.specs.Briefs.{brief}
@@ -15,13 +15,13 @@ use Rattle.turn_lock.specs.declared.view.View.{View}
 use Rattle.turn_lock.specs.declared.work.Work.{Work}
 
 -- the seat holds the gate, and this slot, which was at first what the view tells
-pub record HasInHand (m : Seated) (slot : Slot) : Type 0 where
+pub record HasInHand (m : SeatWithSlots) (slot : Slot) : Type 0 where
   pub live : m.0.live ≡ true
   pub held : m.0.held ≡ true
   pub one : m.1 ≡ (0, slot) ∷ []
 
 -- the seat holds the gate and its slot, and may make this turn
-pub record IsReady (m : Seated) (t : ℕ) (post : Option Post) : Type 0 where
+pub record IsReady (m : SeatWithSlots) (t : ℕ) (post : Option Post) : Type 0 where
   pub hand : HasInHand m m.0.base
   pub thread : t < m.0.base.book.deal.threads
   pub lawful : IsLawful m.0.base.book
@@ -30,17 +30,17 @@ pub record IsReady (m : Seated) (t : ℕ) (post : Option Post) : Type 0 where
   pub in_range : GivenInRange m.0.base.book post
 
 -- the same for a turn of one of these threads
-pub record IsReadyForAny (m : Seated) (threads : List Bool) (lowest : ℕ) : Type 0 where
+pub record IsReadyForAny (m : SeatWithSlots) (threads : List Bool) (lowest : ℕ) : Type 0 where
   pub hand : HasInHand m m.0.base
-  pub here : Has threads lowest
-  pub least : (t : ℕ) → Has threads t → lowest ≤ t
-  pub below : (t : ℕ) → Has threads t → t < m.0.base.book.deal.threads
-  pub posted : (t : ℕ) → Has threads t → owes_of m.0.base.book t ≡ false
+  pub here : HasFlag threads lowest
+  pub least : (t : ℕ) → HasFlag threads t → lowest ≤ t
+  pub below : (t : ℕ) → HasFlag threads t → t < m.0.base.book.deal.threads
+  pub posted : (t : ℕ) → HasFlag threads t → owes_of m.0.base.book t ≡ false
   pub lawful : IsLawful m.0.base.book
   pub notes : NotesBelow m.0.base.book.deal.threads m.0.base.board
 
 -- the slot went on from what the seat took, by the seat's threads alone
-pub record GoesOn (v : View) (slot after : Slot) : Type 0 where
+pub record SlotGoesOn (v : View) (slot after : Slot) : Type 0 where
   pub within : Within slot.book after.book
   pub lawful : IsLawful after.book
   pub notes : NotesBelow slot.book.deal.threads after.board
@@ -72,7 +72,7 @@ pub record IsPassed (slot after : Slot) : Type 0 where
 -- a turn of one of these threads, where one is answered
 pub record IsFound (threads : List Bool) (slot : Slot) (t : ℕ) (done : Work)
     (after : Slot) : Type 0 where
-  pub serves : Has threads t
+  pub serves : HasFlag threads t
   pub work : IsWork slot t None done after
   pub tells : TellsEnd threads t work.turn after.book
 

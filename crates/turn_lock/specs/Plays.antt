@@ -2,15 +2,15 @@
 -- project).
 use Rattle.std.specs.Prelude.{◌≡◌, ◌≢◌, ◌<◌, ◌+◌, ℕ, true, false, [], ◌∷◌, ◌++◌}
 use Rattle.atomic_table.specs.Table.{Me, Step, rest}
-use Rattle.turn_book.specs.Told.{Told, IsLawful, Within}
+use Rattle.turn_book.specs.Told.{BookState, IsLawful, Within}
 use Rattle.turn_lock.specs.Slots.{Slot, NotesBelow}
-use Rattle.turn_lock.specs.Rule.{Serves, Has, Ties}
+use Rattle.turn_lock.specs.Rule.{Serves, HasFlag, Ties}
 use Rattle.turn_lock.specs.Seen.{SameOf, ObeysPlan}
 use Rattle.turn_lock.specs.declared.view.View.{View}
 
 -- a seat: its view, and the slots that it has taken
-abbrev pub Seated : Type 0
-Seated = Me Slot View
+abbrev pub SeatWithSlots : Type 0
+SeatWithSlots = Me Slot View
 
 -- it holds the gate, and has taken this slot
 abbrev pub with_gate : View → Slot → View
@@ -45,7 +45,7 @@ turned_away v holder = record {
 }
 
 -- it has opened the gate, and gave this book back
-abbrev pub with_book : View → Told → View
+abbrev pub with_book : View → BookState → View
 with_book v book = record {
   live = v.live;
   serves = v.serves;
@@ -67,7 +67,7 @@ pub record IsTaken (v : View) (slot : Slot) : Type 0 where
   pub notes : NotesBelow v.seen.deal.threads slot.board
 
 -- a failed exchange found another seat's thread in the gate word
-pub record IsTurnedAway (m : Seated) (found : ℕ) (n : Seated) : Type 0 where
+pub record IsTurnedAway (m : SeatWithSlots) (found : ℕ) (n : SeatWithSlots) : Type 0 where
   pub holder : ℕ
   pub found_is : found ≡ holder + 1
   pub after : n ≡ (turned_away m.0 holder, m.1)
@@ -76,25 +76,26 @@ pub record IsTurnedAway (m : Seated) (found : ℕ) (n : Seated) : Type 0 where
   pub obeys : ObeysPlan m.0.seen
 
 -- compare and exchange on the gate word
-abbrev pub Grabs : Step Slot → Seated → ℕ → Seated → Type 0
+abbrev pub Grabs : Step Slot → SeatWithSlots → ℕ → SeatWithSlots → Type 0
 Grabs step m found n =
     (found ≡ 0 → (slot : Slot) × (n ≡ (with_gate m.0 slot, (0, slot) ∷ m.1)) × IsTaken m.0 slot)
     × (found ≢ 0 → IsTurnedAway m found n)
 
 -- the store that opens the gate: the slot goes back, and its book is what the seat has seen
-abbrev pub Opens : Step Slot → Seated → ℕ → Seated → Type 0
+abbrev pub Opens : Step Slot → SeatWithSlots → ℕ → SeatWithSlots → Type 0
 Opens step m stored n =
     (slot : Slot) → m.1 ≡ (0, slot) ∷ rest m.1 → n ≡ (with_book m.0 slot.book, rest m.1)
 
 -- a step on a turn word
-abbrev pub Marks : Step Slot → Seated → ℕ → Seated → Type 0
+abbrev pub Marks : Step Slot → SeatWithSlots → ℕ → SeatWithSlots → Type 0
 Marks step m found n = n ≡ m
 
 -- a load of the gate word by a joined seat, which tells what the rule says of its last join
-pub record Looks (step : Step Slot) (m : Seated) (found : ℕ) (n : Seated) : Type 0 where
+pub record Looks (step : Step Slot) (m : SeatWithSlots) (found : ℕ) (n : SeatWithSlots)
+    : Type 0 where
   pub same : n ≡ m
   pub obeys : ObeysPlan m.0.seen
   pub left : Within m.0.left m.0.seen
   pub right : Within m.0.right m.0.seen
-  pub left_own : (t : ℕ) → Has m.0.left_had t → SameOf t m.0.left m.0.seen
-  pub right_own : (t : ℕ) → Has m.0.right_had t → SameOf t m.0.right m.0.seen
+  pub left_own : (t : ℕ) → HasFlag m.0.left_had t → SameOf t m.0.left m.0.seen
+  pub right_own : (t : ℕ) → HasFlag m.0.right_had t → SameOf t m.0.right m.0.seen

@@ -10,7 +10,7 @@ use Prim.Native.Nat.{suc-le-suc, zero-le}
 use Rattle.atomic_table.specs.Table.{State}
 use Rattle.pct_ask.specs.declared.Deal.{Deal}
 use Rattle.policy_pick.specs.Plan.{ByList}
-use Rattle.turn_book.specs.Told.{Told, SameMaking, IsLawful, Within}
+use Rattle.turn_book.specs.Told.{BookState, SameMaking, IsLawful, Within}
 use Rattle.turn_lock.specs.Seen.{SameOf, ObeysPlan}
 use Rattle.turn_lock.specs.Slots.{Slot, NotesBelow}
 use Rattle.turn_lock.specs.declared.view.View.{View}
@@ -19,24 +19,24 @@ abbrev pub LockState : Type 0
 LockState = State Slot View
 
 -- whether a thread is on a list that has a flag for each thread
-abbrev pub Has : List Bool → ℕ → Type 0
-Has threads t = slice_index_or threads t false ≡ true
+abbrev pub HasFlag : List Bool → ℕ → Type 0
+HasFlag threads t = slice_index_or threads t false ≡ true
 
 -- the thread is one of the seat's own
 abbrev pub Serves : View → ℕ → Type 0
-Serves v t = Has v.serves t
+Serves v t = HasFlag v.serves t
 
 -- What a live seat has to do with the book. It has seen a beginning of it, and of its own threads
 -- all. Each of the two seats of its last join had seen a beginning of what it has seen since, with
 -- all of the threads that it served.
-pub record Ties (v : View) (book : Told) : Type 0 where
+pub record Ties (v : View) (book : BookState) : Type 0 where
   pub within : Within v.seen book
   pub obeys : ObeysPlan v.seen
   pub own : (t : ℕ) → Serves v t → SameOf t v.seen book
   pub left : Within v.left v.seen
   pub right : Within v.right v.seen
-  pub left_own : (t : ℕ) → Has v.left_had t → SameOf t v.left v.seen
-  pub right_own : (t : ℕ) → Has v.right_had t → SameOf t v.right v.seen
+  pub left_own : (t : ℕ) → HasFlag v.left_had t → SameOf t v.left v.seen
+  pub right_own : (t : ℕ) → HasFlag v.right_had t → SameOf t v.right v.seen
 
 -- what the seat that holds the gate knows: the slot that it took, and its own number in the gate
 -- word
@@ -54,7 +54,7 @@ pub record Holder (s : LockState) (t : ℕ) : Type 0 where
   pub serves : Serves view t
   pub held : view.held ≡ true
 
-pub record Kept (made : Told) (s : LockState) : Type 0 where
+pub record KeepsRule (made : BookState) (s : LockState) : Type 0 where
   -- the slot's value when it was last at home
   pub slot : Slot
   pub making : SameMaking made slot.book
@@ -79,7 +79,7 @@ abbrev pub first_threads : ℕ → List Bool
 first_threads threads = replicate threads true ++ replicate (64 - threads) false
 
 -- the first seat serves every thread of the book, and has seen it
-abbrev pub first_view : Told → View
+abbrev pub first_view : BookState → View
 first_view book = record {
   live = true;
   serves = first_threads book.deal.threads;
@@ -115,7 +115,7 @@ no_deal = record {
   barrier_counts = λ k d h. absurd (not-suc-le-zero h);
 }
 
-abbrev pub no_book : Told
+abbrev pub no_book : BookState
 no_book = record {
   deal = no_deal;
   limit = 1;

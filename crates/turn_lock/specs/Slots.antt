@@ -1,6 +1,6 @@
 -- What lies in the slot of the lock's table: a book and a wait board (this project).
 use Rattle.std.specs.Prelude.{◌≡◌, ◌<◌, ℕ, List, Option, Some, None, replicate, slice_index_or}
-use Rattle.turn_book.specs.Told.{Told}
+use Rattle.turn_book.specs.Told.{BookState}
 
 -- for each thread, the word that was noted for it last
 abbrev pub Board : Type 0
@@ -8,7 +8,7 @@ Board = List (Option ℕ)
 
 -- what a call takes with the gate: the book of turns, and the wait board
 pub record Slot : Type 0 where
-  pub book : Told
+  pub book : BookState
   pub board : Board
 
 -- the word that is noted for a thread
@@ -20,5 +20,5 @@ abbrev pub NotesBelow : ℕ → Board → Type 0
 NotesBelow threads board = (t word : ℕ) → word_noted board t ≡ Some word → word < threads
 
 -- a book, and nothing noted
-abbrev pub new_slot : Told → Slot
+abbrev pub new_slot : BookState → Slot
 new_slot book = record { book = book; board = replicate 64 None }

@@ -6,34 +6,35 @@ use Rattle.pct_ask.specs.declared.event.Event.{Event}
 use Rattle.pct_ask.specs.declared.event.Standing.TheVariants as standings
 use Rattle.policy_pick.specs.declared.chance.Pick.TheVariants as picks
 use Rattle.sync_store.specs.Store.{sizes_of_deal}
-use Rattle.turn_book.specs.Told.{Told, PostIsInRange, standing_of, choice_of, IsPosted, IsAnswered}
+use Rattle.turn_book.specs.Told.{BookState, PostIsInRange, standing_of, choice_of, IsPosted}
+use Rattle.turn_book.specs.Told.{IsAnswered}
 use Rattle.turn_book.specs.Told.{IsLawful, Within}
 use Rattle.turn_book.specs.Answers.{IsBecause}
-use Rattle.turn_lock.specs.Seen.{Begins, SameOf, pairs_of, posted_by, owes_of}
-use Rattle.turn_lock.specs.Rule.{Has, Serves}
+use Rattle.turn_lock.specs.Seen.{Begins, SameOf, pairs_of, posts_seen, owes_of}
+use Rattle.turn_lock.specs.Rule.{HasFlag, Serves}
 use Rattle.turn_lock.specs.Plays.{turned_away}
 use Rattle.turn_lock.specs.declared.view.View.{View}
 use Rattle.turn_lock.specs.declared.turn.Turn.{Turn}
 use Rattle.turn_lock.specs.declared.turn.Turn.TheVariants.{Answer, Ended, NotYet, Busy, Over}
 
 -- the book after the post that a call was given, if any; a post after an outcome changes nothing
-abbrev pub IsAsked : Told → ℕ → Option Post → Told → Type 0
+abbrev pub IsAsked : BookState → ℕ → Option Post → BookState → Type 0
 IsAsked book t None asked = asked ≡ book
 IsAsked book t (Some post) asked =
     (book.outcome ≡ None → IsPosted book t post asked) × (IsSome book.outcome → asked ≡ book)
 
 -- the ids of a post that is given are in range
-abbrev pub GivenInRange : Told → Option Post → Type 0
+abbrev pub GivenInRange : BookState → Option Post → Type 0
 GivenInRange book None = Unit {0}
 GivenInRange book (Some post) = PostIsInRange (sizes_of_deal book.deal) post.ask
 
 -- a post is given exactly where one is owed
-abbrev pub IsOwed : Told → ℕ → Option Post → Type 0
+abbrev pub IsOwed : BookState → ℕ → Option Post → Type 0
 IsOwed seen t None = owes_of seen t ≡ false
 IsOwed seen t (Some post) = owes_of seen t ≡ true
 
 -- each answer to a thread, by the book after the post; `after` is the book that is given back
-abbrev pub Row : Told → ℕ → Turn → Told → Type 0
+abbrev pub Row : BookState → ℕ → Turn → BookState → Type 0
 Row book t (Answer answer) after =
     (book.outcome ≡ None)
     × (choice_of book ≡ Some (picks.Thread t))
@@ -50,15 +51,16 @@ Row book t (Over outcome) after = (book.outcome ≡ Some outcome) × (after ≡ 
 Row book t (Busy holder) after = ⊥
 
 -- what a call made of the book that it took
-pub record TurnsTo (book : Told) (t : ℕ) (post : Option Post) (answer : Turn) (after : Told)
+pub record TurnsTo (book : BookState) (t : ℕ) (post : Option Post) (answer : Turn)
+    (after : BookState)
     : Type 0 where
-  pub asked : Told
+  pub asked : BookState
   pub posted : IsAsked book t post asked
   pub row : Row asked t answer after
   pub lawful : IsLawful after
 
 -- the thread's pairs: by an answer it gained one, which is the last step
-abbrev pub GainsPair : Told → ℕ → Turn → Told → Type 0
+abbrev pub GainsPair : BookState → ℕ → Turn → BookState → Type 0
 GainsPair seen t (Answer answer) after =
     (event : Event)
     × (event.answer ≡ answer)
@@ -69,15 +71,15 @@ GainsPair seen t answer after = pairs_of after t ≡ pairs_of seen t
 -- What a call that took the book leaves with its seat. `book` is the book as the call took it last.
 pub record TookTurn (v : View) (t : ℕ) (post : Option Post) (answer : Turn) (w : View)
     : Type 0 where
-  pub book : Told
+  pub book : BookState
   pub within : Within v.seen book
   pub own : (u : ℕ) → Serves v u → SameOf u v.seen book
   pub turn : TurnsTo book t post answer w.seen
   pub grown : Within v.seen w.seen
   pub pairs : GainsPair v.seen t answer w.seen
   -- the post is taken, but where an outcome stood before it
-  pub posts : book.outcome ≡ None → posted_by w.seen t ≡ posted_by v.seen t ++ option_to_list post
-  pub late : IsSome book.outcome → posted_by w.seen t ≡ posted_by v.seen t
+  pub posts : book.outcome ≡ None → posts_seen w.seen t ≡ posts_seen v.seen t ++ option_to_list post
+  pub late : IsSome book.outcome → posts_seen w.seen t ≡ posts_seen v.seen t
   pub others : (u : ℕ) → Serves v u → u ≢ t → SameOf u v.seen w.seen
   pub serves : w.serves ≡ v.serves
 
@@ -96,9 +98,9 @@ pub record TookOnce (v : View) (t : ℕ) (post : Option Post) (answer : Turn) (w
 
 -- what a call with one exchange leaves with its seat: where the answer is Busy, the exchange
 -- failed, and else the call took the book
-abbrev pub Gives : View → ℕ → Option Post → Turn → View → Type 0
-Gives v t post (Busy holder) w = IsBusy v holder w
-Gives v t post answer w = TookOnce v t post answer w
+abbrev pub GivesOnce : View → ℕ → Option Post → Turn → View → Type 0
+GivesOnce v t post (Busy holder) w = IsBusy v holder w
+GivesOnce v t post answer w = TookOnce v t post answer w
 
 -- a call that may have made several, of which the last took the book
 pub record TookAtLast (v : View) (t : ℕ) (post : Option Post) (answer : Turn) (w : View)
@@ -109,9 +111,9 @@ pub record TookAtLast (v : View) (t : ℕ) (post : Option Post) (answer : Turn) 
 
 -- Ended comes for the lowest thread of the seat, where each of them has ended. There is no other
 -- way not to have a turn.
-abbrev pub TellsEnd : List Bool → ℕ → Turn → Told → Type 0
+abbrev pub TellsEnd : List Bool → ℕ → Turn → BookState → Type 0
 TellsEnd serves t Ended book =
-    ((u : ℕ) → Has serves u → standing_of book u ≡ standings.Ended)
-    × ((u : ℕ) → Has serves u → t ≤ u)
+    ((u : ℕ) → HasFlag serves u → standing_of book u ≡ standings.Ended)
+    × ((u : ℕ) → HasFlag serves u → t ≤ u)
 TellsEnd serves t (NotYet at because) book = ⊥
 TellsEnd serves t answer book = Unit {0}

@@ -10,5 +10,5 @@ abbrev pub view : {P : Type 0} {policy : Ghosts P} → Seat P policy → View
 view seat = seat.seat.me.0
 
 -- the seat is one of the lock's
-abbrev pub IsOf : {P : Type 0} {policy : Ghosts P} → TurnLock P → Seat P policy → Type 0
-IsOf lock seat = IsTableSeatOf lock seat.seat
+abbrev pub HasSeat : {P : Type 0} {policy : Ghosts P} → TurnLock P → Seat P policy → Type 0
+HasSeat lock seat = IsTableSeatOf lock seat.seat

@@ -1,15 +1,15 @@
 -- Whom a call wakes: the turn words that it changes after it opened the gate (this project).
 use Rattle.std.specs.Prelude.{◌≡◌, ◌<◌, ℕ, Bool, List, Some, None, IsSome}
 use Rattle.policy_pick.specs.declared.chance.Pick.TheVariants.{Thread}
-use Rattle.turn_book.specs.Told.{Told, choice_of}
-use Rattle.turn_lock.specs.Rule.{Has}
+use Rattle.turn_book.specs.Told.{BookState, choice_of}
+use Rattle.turn_lock.specs.Rule.{HasFlag}
 use Rattle.turn_lock.specs.Slots.{Slot, word_noted}
 use Rattle.turn_lock.specs.declared.work.Wakes.{Wakes}
 use Rattle.turn_lock.specs.declared.work.Wakes.TheVariants.{Nobody, One, All}
 
 -- each of these words is a thread's
 abbrev pub AreBelow : ℕ → List Bool → Type 0
-AreBelow threads words = (word : ℕ) → Has words word → word < threads
+AreBelow threads words = (word : ℕ) → HasFlag words word → word < threads
 
 -- each word that a call changes is a thread's
 abbrev pub WakesBelow : ℕ → Wakes → Type 0
@@ -18,7 +18,7 @@ WakesBelow threads (One word) = word < threads
 WakesBelow threads (All words) = AreBelow threads words
 
 -- no outcome stands, and it is the thread's turn
-abbrev pub HasTurn : Told → ℕ → Type 0
+abbrev pub HasTurn : BookState → ℕ → Type 0
 HasTurn book t = (book.outcome ≡ None) × (choice_of book ≡ Some (Thread t))
 
 -- The words that a call changes are those of whoever may go on: the one that was noted for the
@@ -30,4 +30,4 @@ AreDue slot Nobody =
 AreDue slot (One word) = (u : ℕ) × HasTurn slot.book u × (word_noted slot.board u ≡ Some word)
 AreDue slot (All words) =
     IsSome slot.book.outcome
-    × ((u word : ℕ) → u < 64 → word_noted slot.board u ≡ Some word → Has words word)
+    × ((u word : ℕ) → u < 64 → word_noted slot.board u ≡ Some word → HasFlag words word)

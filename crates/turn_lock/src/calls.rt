@@ -3,11 +3,11 @@ ghost use Rattle.std.specs.Prelude.{◌≡◌, ◌<◌, ℕ, [], IfOk};
 ghost use Rattle.turn_book.specs.Told.{standing_of, IsLawful, SameMaking, Within};
 ghost use Rattle.turn_lock.specs.Seen.{ObeysPlan, SameOf};
 ghost use Rattle.turn_lock.specs.Rule.{Serves, first_view};
-ghost use Rattle.turn_lock.specs.Turns.{GivenInRange, IsOwed, Gives};
+ghost use Rattle.turn_lock.specs.Turns.{GivenInRange, IsOwed, GivesOnce};
 ghost use Rattle.turn_lock.specs.Briefs.{InBrief};
-ghost use Rattle.turn_lock.specs.Calls.{made, ServesAll};
-ghost use Rattle.turn_lock.specs.Seats.{without, alone, joined};
-ghost use Rattle.turn_lock.specs.Views.{view, IsOf};
+ghost use Rattle.turn_lock.specs.Calls.{first_book, ServesAll};
+ghost use Rattle.turn_lock.specs.Seats.{seat_without, seat_of_one, joined_seat};
+ghost use Rattle.turn_lock.specs.Views.{view, HasSeat};
 ghost use Rattle.pct_ask.specs.declared.event.Standing.TheVariants as standings;
 
 use crate::brief::Brief;
@@ -32,8 +32,8 @@ impl<P: Policy> TurnLock<P> {
     pub fn new(alloc: Global, book: TurnBook<P>) -> Result<(TurnLock<P>, Seat<P>), NoMemory>
         requires steps { book.trace ≡ [] }
         requires away { (t : ℕ) → t < book.deal.threads → standing_of book t ≡ standings.Away }
-        ensures made { IfOk result (λ r. made r.0 ≡ book) }
-        ensures of { IfOk result (λ r. IsOf r.0 r.1) }
+        ensures made { IfOk result (λ r. first_book r.0 ≡ book) }
+        ensures of { IfOk result (λ r. HasSeat r.0 r.1) }
         ensures view { IfOk result (λ r. view r.1 ≡ first_view book) }
         ensures obeys { IfOk result (λ r. ObeysPlan (view r.1).seen) }
     {
@@ -51,11 +51,11 @@ impl<P: Policy> TurnLock<P> {
 
     /// Takes a thread off the seat, into a new seat that serves it alone.
     pub fn split(&self, seat: &mut Seat<P>, thread: u32) -> Seat<P>
-        requires of { IsOf self.now seat.old }
+        requires of { HasSeat self.now seat.old }
         requires serves { Serves (view seat.old) thread }
-        ensures of { IsOf self.now seat.new × IsOf self.now result }
-        ensures left { view seat.new ≡ without (view seat.old) thread }
-        ensures right { view result ≡ alone (view seat.old) thread }
+        ensures of { HasSeat self.now seat.new × HasSeat self.now result }
+        ensures left { view seat.new ≡ seat_without (view seat.old) thread }
+        ensures right { view result ≡ seat_of_one (view seat.old) thread }
     {
         let other = self.split_as::<Brand>(&mut seat.seat, thread);
         seat.serves[thread as usize] = false;
@@ -70,9 +70,9 @@ impl<P: Policy> TurnLock<P> {
 
     /// The seat serves the other's threads too, and has seen what each of the two has seen.
     pub fn join(&self, seat: &mut Seat<P>, other: Seat<P>)
-        requires of { IsOf self.now seat.old × IsOf self.now other }
-        ensures of { IsOf self.now seat.new }
-        ensures view { view seat.new ≡ joined (view seat.old) (view other) }
+        requires of { HasSeat self.now seat.old × HasSeat self.now other }
+        ensures of { HasSeat self.now seat.new }
+        ensures view { view seat.new ≡ joined_seat (view seat.old) (view other) }
         ensures seen { Within (view seat.old).seen (view seat.new).seen
             × Within (view other).seen (view seat.new).seen }
         ensures own { (t : ℕ) → Serves (view seat.old) t
@@ -98,9 +98,9 @@ impl<P: Policy> TurnLock<P> {
 
     /// Gives the book back. A seat that serves every thread has the lock for itself.
     pub fn close(self, seat: Seat<P>) -> TurnBook<P>
-        requires of { IsOf self seat }
+        requires of { HasSeat self seat }
         requires all { ServesAll (view seat) }
-        ensures making { SameMaking (made self) result }
+        ensures making { SameMaking (first_book self) result }
         ensures lawful { IsLawful result }
         ensures seen { Within (view seat).seen result }
         ensures own { (t : ℕ) → t < result.deal.threads → SameOf t (view seat).seen result }
@@ -120,12 +120,12 @@ impl<P: Policy> TurnLock<P> {
     /// Posts, where a post is owed, and asks for the thread's turn. It waits for nobody: where
     /// another seat holds the gate it says so.
     pub fn try_turn(&self, seat: &mut Seat<P>, thread: u32, post: Option<Post>) -> Turn
-        requires of { IsOf self.now seat.old }
+        requires of { HasSeat self.now seat.old }
         requires serves { Serves (view seat.old) thread }
         requires owed { IsOwed (view seat.old).seen thread post }
-        requires in_range { GivenInRange (made self.now) post }
-        ensures of { IsOf self.now seat.new }
-        ensures gives { Gives (view seat.old) thread post result (view seat.new) }
+        requires in_range { GivenInRange (first_book self.now) post }
+        ensures of { HasSeat self.now seat.new }
+        ensures gives { GivesOnce (view seat.old) thread post result (view seat.new) }
         ensures obeys { ObeysPlan (view seat.new).seen }
     {
         let mut outcome = None;
@@ -141,13 +141,13 @@ impl<P: Policy> TurnLock<P> {
         post: Option<Post>,
         place: &mut K,
     ) -> Brief
-        requires of { IsOf self.now seat.old }
+        requires of { HasSeat self.now seat.old }
         requires serves { Serves (view seat.old) thread }
         requires owed { IsOwed (view seat.old).seen thread post }
-        requires in_range { GivenInRange (made self.now) post }
-        ensures of { IsOf self.now seat.new }
+        requires in_range { GivenInRange (first_book self.now) post }
+        ensures of { HasSeat self.now seat.new }
         ensures gives { InBrief (λ turn.
-            Gives (view seat.old) thread post turn (view seat.new)) result }
+            GivesOnce (view seat.old) thread post turn (view seat.new)) result }
         ensures obeys { ObeysPlan (view seat.new).seen }
         ensures kept { result ≡ Brief.Over → K.kept (view seat.new).seen.outcome place.new }
     {

@@ -1,7 +1,7 @@
 // A flag for each of 64 threads.
 ghost use Rattle.std.specs.Prelude.{◌≡◌, ◌<◌, ◌≤◌, ℕ, false, if◌then◌else◌, length, slice_index_or};
-ghost use Rattle.turn_lock.specs.Rule.{Has, first_threads};
-ghost use Rattle.turn_lock.specs.Seats.{either_of};
+ghost use Rattle.turn_lock.specs.Rule.{HasFlag, first_threads};
+ghost use Rattle.turn_lock.specs.Seats.{flags_of_either};
 
 /// The first so many threads.
 pub fn first_threads(threads: u32) -> [bool; 64]
@@ -18,7 +18,7 @@ pub fn first_threads(threads: u32) -> [bool; 64]
 
 /// The threads of both.
 pub fn either(one: &[bool; 64], other: &[bool; 64]) -> [bool; 64]
-    ensures { result ≡ either_of one.now other.now }
+    ensures { result ≡ flags_of_either one.now other.now }
 {
     let mut both = *one;
     for i in 0..64 {
@@ -44,9 +44,9 @@ pub fn chosen(wanted: &[bool; 64], one: &[bool; 64], other: &[bool; 64]) -> [boo
 
 /// The lowest of the threads.
 pub fn lowest(threads: &[bool; 64]) -> u32
-    requires { (t : ℕ) × Has threads.now t }
-    ensures here { Has threads.now result }
-    ensures least { (t : ℕ) → Has threads.now t → result ≤ t }
+    requires { (t : ℕ) × HasFlag threads.now t }
+    ensures here { HasFlag threads.now result }
+    ensures least { (t : ℕ) → HasFlag threads.now t → result ≤ t }
 {
     for thread in 0..64u32 {
         if threads[thread as usize] {

@@ -1,6 +1,6 @@
-ghost use Rattle.turn_lock.specs.Rule.{Kept, first_view, spent_view};
+ghost use Rattle.turn_lock.specs.Rule.{KeepsRule, first_view, spent_view};
 ghost use Rattle.turn_lock.specs.Plays.{Grabs, Opens, Marks, Looks};
-ghost use Rattle.turn_lock.specs.Seats.{without, alone, joined};
+ghost use Rattle.turn_lock.specs.Seats.{seat_without, seat_of_one, joined_seat};
 
 use crate::slot::Slot;
 use crate::view::View;
@@ -16,7 +16,7 @@ pub type TableSeat<P> = atomic_table::Seat<Slot<P>, View>;
 pub struct Law;
 
 impl<P: Policy> TableRule<Slot<P>, View, Snapshot<Slot<P>>> for Law {
-    ghost holds = { λ key. Kept key.value.book };
+    ghost holds = { λ key. KeepsRule key.value.book };
 
     ghost first = { λ key. first_view key.value.book };
 }
@@ -66,16 +66,16 @@ pub struct Part<W: Which> {
 }
 
 impl<W: Which> Split<View> for Part<W> {
-    ghost left = { λ v. without v W.thread };
+    ghost left = { λ v. seat_without v W.thread };
 
-    ghost right = { λ v. alone v W.thread };
+    ghost right = { λ v. seat_of_one v W.thread };
 }
 
 /// Two seats are made one.
 pub struct Both;
 
 impl Join<View> for Both {
-    ghost both = { joined };
+    ghost both = { joined_seat };
 
     ghost spent = { spent_view };
 }

@@ -2,7 +2,7 @@ ghost use Rattle.std.specs.Prelude.{◌≡◌, ◌<◌, ◌≤◌, ◌↔◌, �
 ghost use Rattle.turn_book.specs.Told.{IsLawful, standing_of};
 ghost use Rattle.turn_lock.specs.Seen.{owes_of};
 ghost use Rattle.turn_lock.specs.Slots.{NotesBelow, new_slot, word_noted};
-ghost use Rattle.turn_lock.specs.Rule.{Has};
+ghost use Rattle.turn_lock.specs.Rule.{HasFlag};
 ghost use Rattle.turn_lock.specs.Turns.{GivenInRange, IsOwed, TurnsTo};
 ghost use Rattle.turn_lock.specs.Hands.{IsWork, IsSwept};
 ghost use Rattle.turn_lock.specs.Briefs.{InBrief};
@@ -86,7 +86,7 @@ impl<P: Policy> Slot<P> {
     fn all_noted(&self) -> [bool; 64]
         requires { NotesBelow self.now.book.deal.threads self.now.board }
         ensures all { (u word : ℕ) → u < 64 → word_noted self.now.board u ≡ Some word
-            → Has result word }
+            → HasFlag result word }
         ensures below { AreBelow self.now.book.deal.threads result }
     {
         let mut words = [false; 64];
@@ -172,8 +172,8 @@ impl<P: Policy> Slot<P> {
 
     /// Each of these threads has ended.
     fn all_ended(&self, serves: &[bool; 64]) -> bool
-        requires { (t : ℕ) → Has serves.now t → t < self.now.book.deal.threads }
-        ensures { result ≡ true → (t : ℕ) → Has serves.now t
+        requires { (t : ℕ) → HasFlag serves.now t → t < self.now.book.deal.threads }
+        ensures { result ≡ true → (t : ℕ) → HasFlag serves.now t
             → standing_of self.now.book t ≡ standings.Ended }
     {
         for thread in 0..64u32 {
@@ -186,8 +186,8 @@ impl<P: Policy> Slot<P> {
 
     /// The one of these threads whose turn it is, or else the lowest.
     fn candidate(&self, serves: &[bool; 64], lowest: u32) -> u32
-        requires { Has serves.now lowest }
-        ensures { Has serves.now result }
+        requires { HasFlag serves.now lowest }
+        ensures { HasFlag serves.now result }
     {
         match self.book.granted() {
             Some(thread) if thread < 64 && serves[thread as usize] => thread,
@@ -203,9 +203,10 @@ impl<P: Policy> Slot<P> {
         lowest: u32,
         place: &mut K,
     ) -> Option<(u32, Work)>
-        requires lowest { Has serves.now lowest × ((t : ℕ) → Has serves.now t → lowest ≤ t) }
-        requires threads { (t : ℕ) → Has serves.now t → t < self.old.book.deal.threads }
-        requires posted { (t : ℕ) → Has serves.now t → owes_of self.old.book t ≡ false }
+        requires lowest { HasFlag serves.now lowest
+            × ((t : ℕ) → HasFlag serves.now t → lowest ≤ t) }
+        requires threads { (t : ℕ) → HasFlag serves.now t → t < self.old.book.deal.threads }
+        requires posted { (t : ℕ) → HasFlag serves.now t → owes_of self.old.book t ≡ false }
         requires lawful { IsLawful self.old.book }
         requires notes { NotesBelow self.old.book.deal.threads self.old.board }
         ensures swept { IsSwept serves.now self.old result self.new }

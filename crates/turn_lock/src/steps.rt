@@ -4,10 +4,11 @@ ghost use Rattle.atomic_table.specs.Table.{step};
 ghost use Rattle.turn_lock.specs.Slots.{Slot};
 ghost use Rattle.turn_lock.specs.Rule.{Serves};
 ghost use Rattle.turn_lock.specs.Plays.{Grabs, Looks, with_book};
-ghost use Rattle.turn_lock.specs.Hands.{HasInHand, IsReady, IsReadyForAny, GoesOn, IsWork, IsSwept};
+ghost use Rattle.turn_lock.specs.Hands.{HasInHand, IsReady, IsReadyForAny, SlotGoesOn, IsWork};
+ghost use Rattle.turn_lock.specs.Hands.{IsSwept};
 ghost use Rattle.turn_lock.specs.Wakes.{AreBelow, WakesBelow};
-ghost use Rattle.turn_lock.specs.Seats.{without, alone};
-ghost use Rattle.turn_lock.specs.Calls.{IsTableSeatOf, SameSeat, Idle, made};
+ghost use Rattle.turn_lock.specs.Seats.{seat_without, seat_of_one};
+ghost use Rattle.turn_lock.specs.Calls.{IsTableSeatOf, SameSeat, Idle, first_book};
 ghost use mathlib.Core.Option.{none};
 
 use crate::brief::Brief;
@@ -76,7 +77,7 @@ impl<P: Policy> TurnLock<P> {
     pub(crate) fn open_gate(&self, seat: &mut TableSeat<P>)
         requires of { seat.old.table_id ≡ self.now.table.shared.table_id }
         requires goes { (after : Slot) × HasInHand seat.old.me after
-            × GoesOn seat.old.me.0 seat.old.me.0.base after }
+            × SlotGoesOn seat.old.me.0 seat.old.me.0.base after }
         ensures same { SameSeat seat.old seat.new }
         ensures opened { (after : Slot) → HasInHand seat.old.me after
             → seat.new.me ≡ (with_book seat.old.me.0 after.book, []) }
@@ -87,7 +88,7 @@ impl<P: Policy> TurnLock<P> {
     /// Adds one to a turn word, and wakes its waiter.
     fn mark(&self, seat: &mut TableSeat<P>, word: u32)
         requires of { seat.old.table_id ≡ self.now.table.shared.table_id }
-        requires word { word < (made self.now).deal.threads }
+        requires word { word < (first_book self.now).deal.threads }
         ensures same { SameSeat seat.old seat.new }
         ensures view { seat.new.me ≡ seat.old.me }
     {
@@ -99,7 +100,7 @@ impl<P: Policy> TurnLock<P> {
     /// Marks each of these turn words.
     fn mark_all(&self, seat: &mut TableSeat<P>, words: &[bool; 64])
         requires of { seat.old.table_id ≡ self.now.table.shared.table_id }
-        requires words { AreBelow (made self.now).deal.threads words.now }
+        requires words { AreBelow (first_book self.now).deal.threads words.now }
         ensures same { SameSeat seat.old seat.new }
         ensures view { seat.new.me ≡ seat.old.me }
     {
@@ -115,7 +116,7 @@ impl<P: Policy> TurnLock<P> {
     /// it doesn't sleep on the word as it was.
     pub(crate) fn wake(&self, seat: &mut TableSeat<P>, wakes: &Wakes)
         requires of { seat.old.table_id ≡ self.now.table.shared.table_id }
-        requires words { WakesBelow (made self.now).deal.threads wakes.now }
+        requires words { WakesBelow (first_book self.now).deal.threads wakes.now }
         ensures same { SameSeat seat.old seat.new }
         ensures view { seat.new.me ≡ seat.old.me }
     {
@@ -132,8 +133,8 @@ impl<P: Policy> TurnLock<P> {
         requires idle { Idle seat.old }
         requires serves { Serves seat.old.me.0 thread }
         ensures same { SameSeat seat.old seat.new × (result.table_id ≡ seat.old.table_id) }
-        ensures left { seat.new.me ≡ (without seat.old.me.0 thread, []) }
-        ensures right { result.me ≡ (alone seat.old.me.0 thread, []) }
+        ensures left { seat.new.me ≡ (seat_without seat.old.me.0 thread, []) }
+        ensures right { result.me ≡ (seat_of_one seat.old.me.0 thread, []) }
     {
         self.table.shared.split_seat::<Part<W>>(seat)
     }

@@ -1,6 +1,6 @@
 ghost use Rattle.std.specs.Prelude.{ℕ, List, Bool};
 ghost use Rattle.std.specs.Borrow.{ftrue};
-ghost use Rattle.turn_book.specs.Told.{Told};
+ghost use Rattle.turn_book.specs.Told.{BookState};
 ghost use Rattle.turn_lock.specs.Slots.{Slot};
 
 use std::marker::Model;
@@ -12,7 +12,7 @@ pub struct View {
     // Of each thread, whether the seat serves it.
     pub ghost serves: { List Bool },
     // The book when this seat last gave it back.
-    pub ghost seen: { Told },
+    pub ghost seen: { BookState },
     // The holders that its own failed exchanges have read.
     pub ghost turned: { List ℕ },
     // How many of its own exchanges took the gate.
@@ -22,8 +22,8 @@ pub struct View {
     // The slot that it took, while it holds the gate.
     pub ghost base: { Slot },
     // What the two seats of its last join had seen, and which threads they served.
-    pub ghost left: { Told },
-    pub ghost right: { Told },
+    pub ghost left: { BookState },
+    pub ghost right: { BookState },
     pub ghost left_had: { List Bool },
     pub ghost right_had: { List Bool },
 }

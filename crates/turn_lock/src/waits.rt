@@ -7,8 +7,8 @@ ghost use Rattle.turn_lock.specs.Rule.{Serves};
 ghost use Rattle.turn_lock.specs.Turns.{TookAtLast, TellsEnd};
 ghost use Rattle.turn_lock.specs.Briefs.{InBrief};
 ghost use Rattle.turn_lock.specs.Rounds.{RoundTells};
-ghost use Rattle.turn_lock.specs.Calls.{made, WaitsForTurn};
-ghost use Rattle.turn_lock.specs.Views.{view, IsOf};
+ghost use Rattle.turn_lock.specs.Calls.{first_book, WaitsForTurn};
+ghost use Rattle.turn_lock.specs.Views.{view, HasSeat};
 
 use crate::brief::Brief;
 use crate::flags::lowest;
@@ -34,11 +34,11 @@ const LOOKS: u32 = 200;
 impl<P: Policy> TurnLock<P> {
     /// As `try_turn` with a post, and tries again while another seat holds the gate.
     pub fn post_wait<R: Wait>(&self, rt: &R, seat: &mut Seat<P>, thread: u32, post: Post) -> Turn
-        requires of { IsOf self.now seat.old }
+        requires of { HasSeat self.now seat.old }
         requires serves { Serves (view seat.old) thread }
         requires owed { owes_of (view seat.old).seen thread ≡ true }
-        requires in_range { PostIsInRange (sizes_of_deal (made self.now).deal) post.ask }
-        ensures of { IsOf self.now seat.new }
+        requires in_range { PostIsInRange (sizes_of_deal (first_book self.now).deal) post.ask }
+        ensures of { HasSeat self.now seat.new }
         ensures turn { TookAtLast (view seat.old) thread (Some post) result (view seat.new) }
         ensures obeys { ObeysPlan (view seat.new).seen }
     {
@@ -49,11 +49,11 @@ impl<P: Policy> TurnLock<P> {
 
     /// As `post_wait`, without the outcome of a run that is over.
     pub fn post_brief<R: Wait>(&self, rt: &R, seat: &mut Seat<P>, thread: u32, post: Post) -> Brief
-        requires of { IsOf self.now seat.old }
+        requires of { HasSeat self.now seat.old }
         requires serves { Serves (view seat.old) thread }
         requires owed { owes_of (view seat.old).seen thread ≡ true }
-        requires in_range { PostIsInRange (sizes_of_deal (made self.now).deal) post.ask }
-        ensures of { IsOf self.now seat.new }
+        requires in_range { PostIsInRange (sizes_of_deal (first_book self.now).deal) post.ask }
+        ensures of { HasSeat self.now seat.new }
         ensures turn { InBrief (λ turn.
             TookAtLast (view seat.old) thread (Some post) turn (view seat.new))
             result }
@@ -71,11 +71,11 @@ impl<P: Policy> TurnLock<P> {
         post: Post,
         place: &mut K,
     ) -> Brief
-        requires of { IsOf self.now seat.old }
+        requires of { HasSeat self.now seat.old }
         requires serves { Serves (view seat.old) thread }
         requires owed { owes_of (view seat.old).seen thread ≡ true }
-        requires in_range { PostIsInRange (sizes_of_deal (made self.now).deal) post.ask }
-        ensures of { IsOf self.now seat.new }
+        requires in_range { PostIsInRange (sizes_of_deal (first_book self.now).deal) post.ask }
+        ensures of { HasSeat self.now seat.new }
         ensures turn { InBrief (λ turn.
             TookAtLast (view seat.old) thread (Some post) turn (view seat.new))
             result }
@@ -95,12 +95,12 @@ impl<P: Policy> TurnLock<P> {
     /// none has it, the turn word of the lowest is noted for all of them, and read before the gate
     /// is opened.
     fn round<K: Keep>(&self, seat: &mut Seat<P>, lowest: u32, place: &mut K) -> Round
-        requires of { IsOf self.now seat.old }
+        requires of { HasSeat self.now seat.old }
         requires here { Serves (view seat.old) lowest }
         requires least { (t : ℕ) → Serves (view seat.old) t → lowest ≤ t }
         requires posted { (t : ℕ) → Serves (view seat.old) t
             → owes_of (view seat.old).seen t ≡ false }
-        ensures of { IsOf self.now seat.new }
+        ensures of { HasSeat self.now seat.new }
         ensures round { RoundTells (view seat.old) result (view seat.new) }
         ensures obeys { ObeysPlan (view seat.new).seen }
         ensures kept { (thread : ℕ) → result ≡ Round.Found thread Brief.Over
@@ -128,7 +128,7 @@ impl<P: Policy> TurnLock<P> {
 
     /// A thread's turn word as it is now: the low half of its place, on which the thread sleeps.
     fn turn_word(&self, thread: u32) -> u32
-        requires { thread < (made self.now).deal.threads }
+        requires { thread < (first_book self.now).deal.threads }
     {
         (self.table.shared.peek(thread as usize + 1) % 4294967296) as u32
     }
@@ -136,7 +136,7 @@ impl<P: Policy> TurnLock<P> {
     /// Looks a number of times whether a thread's turn word has changed from what it was, and then
     /// sleeps on it.
     fn look_or_park<R: Wait>(&self, rt: &R, thread: u32, word: u32)
-        requires { thread < (made self.now).deal.threads }
+        requires { thread < (first_book self.now).deal.threads }
     {
         for _ in 0..LOOKS {
             if self.turn_word(thread) != word {
@@ -151,9 +151,9 @@ impl<P: Policy> TurnLock<P> {
     /// ended. It sleeps only after a round in which it took the book, on its turn word as it was
     /// then, which whoever gives one of its threads the turn changes afterwards.
     pub fn turn_any<R: Wait>(&self, rt: &R, seat: &mut Seat<P>) -> (u32, Turn)
-        requires of { IsOf self.now seat.old }
+        requires of { HasSeat self.now seat.old }
         requires waits { WaitsForTurn (view seat.old) }
-        ensures of { IsOf self.now seat.new }
+        ensures of { HasSeat self.now seat.new }
         ensures serves { Serves (view seat.old) result.0 }
         ensures turn { TookAtLast (view seat.old) result.0 None result.1 (view seat.new) }
         ensures tells { TellsEnd (view seat.old).serves result.0 result.1 (view seat.new).seen }
@@ -166,9 +166,9 @@ impl<P: Policy> TurnLock<P> {
 
     /// As `turn_any`, without the outcome of a run that is over.
     pub fn turn_brief<R: Wait>(&self, rt: &R, seat: &mut Seat<P>) -> (u32, Brief)
-        requires of { IsOf self.now seat.old }
+        requires of { HasSeat self.now seat.old }
         requires waits { WaitsForTurn (view seat.old) }
-        ensures of { IsOf self.now seat.new }
+        ensures of { HasSeat self.now seat.new }
         ensures serves { Serves (view seat.old) result.0 }
         ensures turn { InBrief (λ turn.
             TookAtLast (view seat.old) result.0 None turn (view seat.new)
@@ -186,9 +186,9 @@ impl<P: Policy> TurnLock<P> {
         seat: &mut Seat<P>,
         place: &mut K,
     ) -> (u32, Brief)
-        requires of { IsOf self.now seat.old }
+        requires of { HasSeat self.now seat.old }
         requires waits { WaitsForTurn (view seat.old) }
-        ensures of { IsOf self.now seat.new }
+        ensures of { HasSeat self.now seat.new }
         ensures serves { Serves (view seat.old) result.0 }
         ensures turn { InBrief (λ turn.
             TookAtLast (view seat.old) result.0 None turn (view seat.new)

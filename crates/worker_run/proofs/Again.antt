@@ -12,7 +12,7 @@ use Rattle.pct_ask.specs.declared.Deal.{Deal}
 use Rattle.pct_ask.specs.declared.event.Event.{Event}
 use Rattle.pct_ask.specs.declared.verdict.Verdict.{Verdict}
 use Rattle.pct_ask.specs.declared.verdict.Outcome.{Outcome}
-use Rattle.sync_store.specs.Store.{first}
+use Rattle.sync_store.specs.Store.{first_store}
 use Rattle.sync_store.specs.World.{Source, World, answers_of}
 use Rattle.policy_pick.specs.declared.chance.Chance.{Chance}
 use Rattle.policy_pick.specs.declared.chance.Chance.TheVariants.{Ready as Goes}
@@ -24,7 +24,7 @@ use Rattle.policy_pick.specs.Laws.Finds.{found-or-none, find-none}
 use Rattle.policy_pick.specs.Laws.Walks.{open_at, number-stops, number-ends}
 use Rattle.turn_book.specs.Chances.{chance, chances, rest_verdict}
 use Rattle.turn_book.specs.Posts.{schedule_of}
-use Rattle.turn_book.specs.Obeys.{next_in, choice_in, Obeys, outcome_by_pick, outcome_by}
+use Rattle.turn_book.specs.Obeys.{next_posts_in, choice_in, Obeys, outcome_by_pick, outcome_by}
 use Rattle.turn_book.proofs.laws.Worlds.{IsMade, made-from, passes}
 use Rattle.turn_book.proofs.laws.ObeyingSteps.{obeys-within}
 use Rattle.turn_book.proofs.laws.MorePosts.{choice-at, settled-at, chosen-ready, nobody-closed, departs-may}
@@ -45,16 +45,17 @@ module _ (plan : Plan) (deal : Deal) (bodies : List Pending) (limit : ℕ) (even
   own = ByList (schedule_of events)
 
   abbrev all_in : World → List Chance
-  all_in world = chances deal.threads world.store (next_in source world)
+  all_in world = chances deal.threads world.store (next_posts_in source world)
 
   long : (world : World) → length (all_in world) ≡ deal.threads
-  long world = length-map-range_with_len (chance world.store (next_in source world)) 0 deal.threads
+  long world =
+      length-map-range_with_len (chance world.store (next_posts_in source world)) 0 deal.threads
 
   speaks-all : (world : World) → SpeaksOf plan (length (all_in world))
   speaks-all world = let Speaks : ℕ → Type 0 = SpeaksOf plan in subst Speaks (sym (long world)) speaks
 
-  abbrev made : (world : World) × IsMade (first deal) source events world
-  made = made-from (first deal) source events (played.obeys).made
+  abbrev made : (world : World) × IsMade (first_store deal) source events world
+  made = made-from (first_store deal) source events (played.obeys).made
 
   -- the list is of the deal's threads
   own-within : (before after : List Event) → events ≡ before ++ after → All (λ t. t < deal.threads) (schedule_of after)
@@ -78,8 +79,8 @@ module _ (plan : Plan) (deal : Deal) (bodies : List Pending) (limit : ℕ) (even
   obeys-again : Obeys own deal source limit events
   obeys-again = record {
     chosen = λ before after e cut.
-        let M : List Event → Type 0 = λ es. IsMade (first deal) source es made.0 in
-        let p = passes (first deal) source before (e ∷ after) made.0 (subst M cut made.1) in
+        let M : List Event → Type 0 = λ es. IsMade (first_store deal) source es made.0 in
+        let p = passes (first_store deal) source before (e ∷ after) made.0 (subst M cut made.1) in
         let was : choice_in plan deal.threads source (schedule_of before) p.world ≡ Thread e.thread = let both = sym (choice-at plan deal source before p.world p.made) ∙ (played.obeys).chosen before after e cut in cc in
         choice-at own deal source before p.world p.made ∙ ap Some (chosen-again before after e p.world cut was);
     made = (played.obeys).made;
@@ -111,7 +112,7 @@ module _ (plan : Plan) (deal : Deal) (bodies : List Pending) (limit : ℕ) (even
   number-nobody nobody = number-ends all (find-none (open_at all) 0 (length all) (λ k low high. nobody-closed plan (schedule_of events) all (speaks-all last) nobody k (omega arith)))
 
   abbrev rest : Verdict
-  rest = rest_verdict deal.threads last.store (next_in source last)
+  rest = rest_verdict deal.threads last.store (next_posts_in source last)
 
   same-by-pick : (full : Bool) (pick : Pick) → choice_in plan deal.threads source (schedule_of events) last ≡ pick → outcome_by_pick rest full pick ≡ Some outcome
       → outcome_by_pick rest full (choice_by_number all) ≡ Some outcome

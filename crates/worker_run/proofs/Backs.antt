@@ -2,11 +2,11 @@
 use Rattle.std.proofs.Common.{◌≡◌, ℕ, List, map, sym, ap, subst, ◌∙◌, arith, inl, inr}
 use Rattle.std.proofs.lemmas.Option.{slice_get_within}
 use Rattle.policy_pick.specs.declared.policy.Policy.{Ghosts}
-use Rattle.turn_lock.specs.Calls.{made}
-use Rattle.turn_lock.specs.Views.{view, IsOf}
+use Rattle.turn_lock.specs.Calls.{first_book}
+use Rattle.turn_lock.specs.Views.{view, HasSeat}
 use Rattle.turn_lock.proofs.laws.SeenBooks.{making-along}
 use Rattle.worker_run.specs.Bodies.{Pending, pending_of}
-use Rattle.worker_run.specs.Batch.{bodies_on, is_there, IsPart, IsWaiting, IsBack, WasServed}
+use Rattle.worker_run.specs.Batch.{bodies_on, is_there, IsPart, IsWaiting, IsPartBack, WasServed}
 use Rattle.worker_run.specs.Batches.{AreParts, AreBack}
 use Rattle.worker_run.specs.declared.batch.Stage.{Stage}
 use Rattle.worker_run.specs.declared.batch.Part.{Part}
@@ -17,11 +17,11 @@ use Rattle.worker_run.proofs.Eachs.{get-within, each-same, map-each}
 
 module _ {P : Type 0} {policy : Ghosts P} {B : Type 0} (pending : B → Pending) (t : ℕ) where
   -- it came back twice
-  pub back-along : (one two three : Part P B policy) → IsBack pending t one two
-      → IsBack pending t two three → IsBack pending t one three
+  pub back-along : (one two three : Part P B policy) → IsPartBack pending t one two
+      → IsPartBack pending t two three → IsPartBack pending t one three
   back-along one two three first second = elim first [
     | inl same ↦
-        let K : Part P B policy → Type 0 = λ p. IsBack pending t p three in
+        let K : Part P B policy → Type 0 = λ p. IsPartBack pending t p three in
         subst K same second
     | inr served ↦ elim second [
       | inl same ↦
@@ -34,7 +34,7 @@ module _ {P : Type 0} {policy : Ghosts P} {B : Type 0} (pending : B → Pending)
     ]
   ]
 
-  back-there : (before after : Part P B policy) → IsBack pending t before after
+  back-there : (before after : Part P B policy) → IsPartBack pending t before after
       → is_there after ≡ is_there before
   back-there before after back = elim back [
     | inl same ↦ ap (λ (p : Part P B policy). is_there p) same
@@ -47,15 +47,15 @@ module _ {P : Type 0} {policy : Ghosts P} {B : Type 0} (pending : B → Pending)
   pub back-all-there : (before after : List (Part P B policy)) → AreBack pending t before after
       → map is_there after ≡ map is_there before
   back-all-there before after back =
-      map-each is_there (λ one other. IsBack pending t one other) before after back-there back
+      map-each is_there (λ one other. IsPartBack pending t one other) before after back-there back
 
   pub back-same : (parts : List (Part P B policy)) → AreBack pending t parts parts
-  back-same parts = each-same (λ one other. IsBack pending t one other) parts
+  back-same parts = each-same (λ one other. IsPartBack pending t one other) parts
       (λ part. inl (λ i. part))
 
   -- ---- what comes back of a test's part is one
   back-part : (stage : Stage P B) (before after : Part P B policy) → IsPart pending stage t before
-      → IsBack pending t before after → IsPart pending stage t after
+      → IsPartBack pending t before after → IsPart pending stage t after
   back-part stage before after part back =
       let I : Part P B policy → Type 0 = λ p. IsPart pending stage t p in
       elim back [
@@ -66,9 +66,9 @@ module _ {P : Type 0} {policy : Ghosts P} {B : Type 0} (pending : B → Pending)
             let v = view w.seat in
             let x = view w.back in
             let served = w.served (pending_of bodies) waits.runs in
-            let of : IsOf stage.lock.now w.back = (
+            let of : HasSeat stage.lock.now w.back = (
               w.table ∙ (waits.seat_is).of.0,
-              making-along (made stage.lock.now) v.seen x.seen (waits.seat_is).of.1
+              making-along (first_book stage.lock.now) v.seen x.seen (waits.seat_is).of.1
                   (served.within).making,
             ) in
             let own = own-serves pending (pending_of bodies) t w.runner v waits.runs in

@@ -4,9 +4,9 @@ use Rattle.std.proofs.lemmas.Bool.{cases_eq}
 use Rattle.std.proofs.lemmas.List.{length-set}
 use Rattle.policy_pick.specs.declared.policy.Policy.{Ghosts}
 use Rattle.turn_lock.specs.Rule.{Serves}
-use Rattle.turn_lock.specs.Seats.{without, alone}
-use Rattle.turn_lock.specs.Calls.{made}
-use Rattle.turn_lock.specs.Views.{view, IsOf}
+use Rattle.turn_lock.specs.Seats.{seat_without, seat_of_one}
+use Rattle.turn_lock.specs.Calls.{first_book}
+use Rattle.turn_lock.specs.Views.{view, HasSeat}
 use Rattle.turn_lock.specs.declared.view.View.{View}
 use Rattle.turn_lock.specs.declared.seat.Seat.{Seat}
 use Rattle.turn_lock.proofs.laws.Serving.{alone-one, without-had, without-has}
@@ -30,14 +30,14 @@ module _ {P : Type 0} {policy : Ghosts P} {B : Type 0} (pending : B → Pending)
     within = runner-within crew.runners.items t runner at
 
     pub below : t < 64
-    below = let few = (made stage.lock.now).deal.few_threads in
+    below = let few = (first_book stage.lock.now).deal.few_threads in
         let here = within in omega (arith, is.long)
 
     pub parted-serves : Serves (view crew.seat) t
     parted-serves = split-serves pending crew.runners.items t runner at below (view crew.seat) start is.runs
 
-    pub parted-crew : (new : Crew P B policy) → IsOf stage.lock.now new.seat
-        → view new.seat ≡ without (view crew.seat) t
+    pub parted-crew : (new : Crew P B policy) → HasSeat stage.lock.now new.seat
+        → view new.seat ≡ seat_without (view crew.seat) t
         → new.runners.items ≡ set crew.runners.items t None → IsCrewOf pending stage new
     parted-crew new of left runners =
         let C : List (Option (Runner B)) × View → Type 0 = λ x. IsCrew pending start 0 x.0 x.1 in
@@ -51,8 +51,8 @@ module _ {P : Type 0} {policy : Ghosts P} {B : Type 0} (pending : B → Pending)
           long = ap length runners ∙ length-set crew.runners.items t None ∙ is.long;
         }
 
-    pub parted-part : (own : Seat P policy) → IsOf stage.lock.now own
-        → view own ≡ alone (view crew.seat) t → IsWaiting pending stage t own runner
+    pub parted-part : (own : Seat P policy) → HasSeat stage.lock.now own
+        → view own ≡ seat_of_one (view crew.seat) t → IsWaiting pending stage t own runner
     parted-part own of right =
         let C : View → Type 0 = λ v. IsCrew pending start t (Some runner ∷ []) v in
         let F : View → Type 0 = λ v. NoneOutside v.seen in
@@ -65,7 +65,7 @@ module _ {P : Type 0} {policy : Ghosts P} {B : Type 0} (pending : B → Pending)
           below = (let here = within in omega (arith, is.long));
         }
 
-    pub parted-shared : (w : View) → w ≡ without (view crew.seat) t → (u : ℕ) → Serves (view crew.seat) u → Serves w u ⊎ (u ≡ t)
+    pub parted-shared : (w : View) → w ≡ seat_without (view crew.seat) t → (u : ℕ) → Serves (view crew.seat) u → Serves w u ⊎ (u ≡ t)
     parted-shared w left u here = elim (cases_eq u t) [
       | inl same ↦ inr same
       | inr apart ↦ inl (subst (λ (v : View). Serves v u) (sym left) (without-has (view crew.seat) t u apart here))
@@ -88,7 +88,8 @@ module _ {P : Type 0} {policy : Ghosts P} {B : Type 0} (pending : B → Pending)
   -- ---- a part is taken in again
   module _ (t : ℕ) (runner : Runner B) (own : Seat P policy)
       (waits : IsWaiting pending stage t own runner) (new : Crew P B policy)
-      (of : IsOf stage.lock.now new.seat) (j : IsJoin (view crew.seat) (view own) (view new.seat))
+      (of : HasSeat stage.lock.now new.seat)
+      (j : IsJoin (view crew.seat) (view own) (view new.seat))
       (runners : new.runners.items ≡ set crew.runners.items t (Some runner)) where
     taken-within : t < length crew.runners.items
     taken-within = let under = waits.below in omega (arith, is.long)

@@ -5,8 +5,8 @@ use Rattle.std.proofs.lemmas.Bool.{cases_eq, false≢true}
 use Rattle.std.proofs.lemmas.List.{length-set, get_or-set_same, get_or-set_other, get_or_past, get_or_default}
 use Rattle.pct_ask.specs.declared.Deal.{Deal}
 use Rattle.pct_ask.specs.declared.event.Standing.TheVariants.{Ended as HasEnded}
-use Rattle.turn_book.specs.Told.{Told, IsLawful, Within, standing_by, standing_of}
-use Rattle.turn_lock.specs.Seen.{SameOf, pairs_of, posted_by, owes_of}
+use Rattle.turn_book.specs.Told.{BookState, IsLawful, Within, standing_by, standing_of}
+use Rattle.turn_lock.specs.Seen.{SameOf, pairs_of, posts_seen, owes_of}
 use Rattle.turn_lock.specs.Rule.{Serves}
 use Rattle.turn_lock.specs.declared.view.View.{View}
 use Rattle.turn_lock.proofs.laws.Serving.{serves-along}
@@ -87,10 +87,10 @@ module _ {B : Type 0} (pending : B → Pending) (start : ℕ → Pending) (base 
   crew-follows runners v crew t here = let was = crew.place t here in ((crew.running t was.0 was.1 was.2 was.3).1).follows
 
 -- ---- what was served by the end
-past : (book : Told) → IsLawful book → (t : ℕ) → book.deal.threads ≤ t → posted_by book t ≡ []
+past : (book : BookState) → IsLawful book → (t : ℕ) → book.deal.threads ≤ t → posts_seen book t ≡ []
 past book lawful t beyond = get_or_past book.posts t [] (omega (arith, lawful.threads))
 
-pub lawful-outside : (earlier later : Told) → IsLawful later → StaysOutside earlier later
+pub lawful-outside : (earlier later : BookState) → IsLawful later → StaysOutside earlier later
 lawful-outside earlier later lawful t beyond none = past later lawful t beyond
 
 -- a seat that serves nobody
@@ -119,8 +119,8 @@ module _ (start : ℕ → Pending) (v u w : View) (served : IsServed start u w) 
     ];
   }
 
-pub same-standing : (t : ℕ) (one other : Told) → SameOf t one other → standing_of other t ≡ standing_of one t
-same-standing t one other same = ap standing_by (ap (λ ps. slice_get ps (length (pairs_of other t))) same.posts ∙ ap (λ (es : List _). slice_get (posted_by one t) (length es)) same.pairs)
+pub same-standing : (t : ℕ) (one other : BookState) → SameOf t one other → standing_of other t ≡ standing_of one t
+same-standing t one other same = ap standing_by (ap (λ ps. slice_get ps (length (pairs_of other t))) same.posts ∙ ap (λ (es : List _). slice_get (posts_seen one t) (length es)) same.pairs)
 
 -- ---- one runner
 module _ {B : Type 0} (pending : B → Pending) (start : ℕ → Pending) (t : ℕ) (runner : Runner B) (v : View) (own : IsCrew pending start t (Some runner ∷ []) v) where

@@ -7,8 +7,8 @@ use Rattle.std.proofs.lemmas.List.{length-append}
 use Rattle.std.proofs.lemmas.Option.{slice_get_within}
 use Rattle.policy_pick.specs.declared.policy.Policy.{Ghosts}
 use Rattle.policy_pick.specs.Plan.{Plan}
-use Rattle.turn_lock.specs.Calls.{made}
-use Rattle.turn_lock.specs.Views.{view, IsOf}
+use Rattle.turn_lock.specs.Calls.{first_book}
+use Rattle.turn_lock.specs.Views.{view, HasSeat}
 use Rattle.turn_lock.specs.declared.held.TurnLock.{TurnLock}
 use Rattle.worker_run.specs.Batch.{Each, IsSeatOf, IsThreadTold}
 use Rattle.worker_run.specs.Bodies.{Pending}
@@ -59,7 +59,7 @@ module _ {P : Type 0} {policy : Ghosts P} {B : Type 0} (pending : B → Pending)
     (stages : List (Stage P B))
     (asked : AreTests pending plan stands tests) (made_for : Each (IsLockOf plan) tests locks)
     (firsts : Each (IsFirstCrew plan) tests crews)
-    (of : Each (λ lock crew. IsOf lock crew.seat) locks crews)
+    (of : Each (λ lock crew. HasSeat lock crew.seat) locks crews)
     (on : Each (λ lock stage. stage.lock.now ≡ lock) locks stages)
     (by : Each (λ crew stage. (stage.runners).value ≡ crew.runners) crews stages) where
   -- what stands at a test's place
@@ -82,14 +82,14 @@ module _ {P : Type 0} {policy : Ghosts P} {B : Type 0} (pending : B → Pending)
       → slice_get stages i ≡ Some stage → IsLockOf plan test stage.lock.now
   stage-made i test stage at there =
       let lock = lock-at i test at in
-      ap made (on.each i lock.0 stage lock.1 there) ∙ made_for.each i test lock.0 at lock.1
+      ap first_book (on.each i lock.0 stage lock.1 there) ∙ made_for.each i test lock.0 at lock.1
 
   stage-of : (i : ℕ) (test : Test P B) (stage : Stage P B) (crew : Crew P B policy)
       → slice_get tests i ≡ Some test → slice_get stages i ≡ Some stage
-      → slice_get crews i ≡ Some crew → IsOf stage.lock.now crew.seat
+      → slice_get crews i ≡ Some crew → HasSeat stage.lock.now crew.seat
   stage-of i test stage crew at there here =
       let lock = lock-at i test at in
-      let O : TurnLock P → Type 0 = λ l. IsOf l crew.seat in
+      let O : TurnLock P → Type 0 = λ l. HasSeat l crew.seat in
       subst O (sym (on.each i lock.0 stage lock.1 there)) (of.each i lock.0 crew lock.1 here)
 
   pub cast-crews : AreCrews pending stages crews

@@ -5,10 +5,10 @@ use Rattle.std.proofs.lemmas.List.{length-map}
 use Rattle.sync_store.specs.Store.{sizes_of_deal}
 use Rattle.policy_pick.specs.declared.policy.Policy.{Ghosts}
 use Rattle.policy_pick.specs.Plan.{Plan, SpeaksOf}
-use Rattle.turn_book.specs.Told.{Told, new_book}
+use Rattle.turn_book.specs.Told.{BookState, new_book}
 use Rattle.turn_lock.specs.Rule.{Serves}
-use Rattle.turn_lock.specs.Calls.{made, ServesAll}
-use Rattle.turn_lock.specs.Views.{view, IsOf}
+use Rattle.turn_lock.specs.Calls.{first_book, ServesAll}
+use Rattle.turn_lock.specs.Views.{view, HasSeat}
 use Rattle.turn_lock.specs.declared.held.TurnLock.{TurnLock}
 use Rattle.worker_run.specs.Bodies.{Pending, pending_of, AreInRange}
 use Rattle.worker_run.specs.Played.{IsPlayed, HasPlayed}
@@ -42,17 +42,19 @@ first-bodies {B = B} pending stage bodies are =
 
 module _ {P : Type 0} {policy : Ghosts P} {B : Type 0} (pending : B → Pending) (bodies : List B)
     (stage : Stage P B) (crew : Crew P B policy)
-    (are : (stage.runners).value.items ≡ first_runners bodies) (of : IsOf stage.lock.now crew.seat)
+    (are : (stage.runners).value.items ≡ first_runners bodies)
+    (of : HasSeat stage.lock.now crew.seat)
     (unposted : IsUnposted (view crew.seat).seen)
-    (count : length bodies ≡ (made stage.lock.now).deal.threads)
-    (in_range : AreInRange (sizes_of_deal (made stage.lock.now).deal) (map pending bodies))
+    (count : length bodies ≡ (first_book stage.lock.now).deal.threads)
+    (in_range : AreInRange (sizes_of_deal (first_book stage.lock.now).deal) (map pending bodies))
     (runners : crew.runners.items ≡ first_runners bodies)
     (serves : (t : ℕ) → t < length bodies → Serves (view crew.seat) t)
     (within : (t : ℕ) → Serves (view crew.seat) t → t < length bodies) where
   pub first-crew-of : IsCrewOf pending stage crew
   first-crew-of =
       let on = first-bodies pending stage bodies are in
-      let R : List Pending → Type 0 = λ bs. AreInRange (sizes_of_deal (made stage.lock.now).deal)
+      let R : List Pending → Type 0 =
+      λ bs. AreInRange (sizes_of_deal (first_book stage.lock.now).deal)
       bs in
       let C : List Pending → Type 0 = λ bs. IsCrew pending (pending_of bs) 0 crew.runners.items
       (view crew.seat) in
@@ -71,7 +73,7 @@ module _ {P : Type 0} {policy : Ghosts P} {B : Type 0} (pending : B → Pending)
     (stands : P → List ℕ → Type 0) (test : Test P B) (asked : IsTest pending plan stands test)
     (crew : Crew P B policy)
     (first : IsFirstCrew plan test crew) where
-  abbrev book : Told
+  abbrev book : BookState
   book = new_book test.deal test.limit (plan test.policy)
 
   pub cast-serves : (t : ℕ) → t < test.deal.threads → Serves (view crew.seat) t
@@ -85,15 +87,15 @@ module _ {P : Type 0} {policy : Ghosts P} {B : Type 0} (pending : B → Pending)
     cast-bodies = first-bodies pending stage test.bodies.items
         (ap (λ v. v.items) are ∙ first.runners_are)
 
-    pub cast-crew : IsOf stage.lock.now crew.seat → IsCrewOf pending stage crew
+    pub cast-crew : HasSeat stage.lock.now crew.seat → IsCrewOf pending stage crew
     cast-crew of =
         let bodies = test.bodies.items in
         let v = view crew.seat in
-        let lock = made stage.lock.now in
+        let lock = first_book stage.lock.now in
         first-crew-of pending bodies stage crew (ap (λ v. v.items) are ∙ first.runners_are) of
         (here-unposted pending bodies test.deal test.limit (plan test.policy) lock v made_is
         first.view_is asked.bodies)
-        (asked.bodies ∙ ap (λ (b : Told). b.deal.threads) (sym made_is))
+        (asked.bodies ∙ ap (λ (b : BookState). b.deal.threads) (sym made_is))
         (here-range pending bodies test.deal test.limit (plan test.policy) lock v made_is
         first.view_is asked.bodies asked.in_range)
         first.runners_are
@@ -109,23 +111,25 @@ module _ {P : Type 0} {policy : Ghosts P} {B : Type 0} (pending : B → Pending)
     (made_is : IsLockOf plan test lock) (seat : IsSeatOf lock crew.seat)
     (told : (t : ℕ) → t < test.deal.threads
     → IsThreadTold (bodies_in pending plan test) t (view crew.seat)) where
-  same : (made lock).deal.threads ≡ test.deal.threads
-  same = ap (λ (b : Told). b.deal.threads) made_is
+  same : (first_book lock).deal.threads ≡ test.deal.threads
+  same = ap (λ (b : BookState). b.deal.threads) made_is
 
   pub ends-all : ServesAll (view crew.seat)
-  ends-all = all-served-threads (made lock) (bodies_in pending plan test) (view crew.seat) seat.of.1
+  ends-all =
+      all-served-threads (first_book lock) (bodies_in pending plan test) (view crew.seat) seat.of.1
       seat.outside (λ t below. told t (omega (arith, same)))
 
-  pub ends-played : HasPlayed (made lock) (bodies_in pending plan test) (view crew.seat).seen
-  ends-played = all-played (made lock) (bodies_in pending plan test) (view crew.seat) seat.of.1
+  pub ends-played : HasPlayed (first_book lock) (bodies_in pending plan test) (view crew.seat).seen
+  ends-played =
+      all-played (first_book lock) (bodies_in pending plan test) (view crew.seat) seat.of.1
       seat.outside (λ t below. told t (omega (arith, same)))
 
-  pub ends-run : (played : Played) → IsPlayed (made lock).plan (made lock).deal
-      (bodies_in pending plan test) (made lock).limit played.events played.outcome
+  pub ends-run : (played : Played) → IsPlayed (first_book lock).plan (first_book lock).deal
+      (bodies_in pending plan test) (first_book lock).limit played.events played.outcome
       → IsRunOf pending plan test played
   ends-run played by =
       let bodies = bodies_in pending plan test in
-      let M : Told → Type 0 = λ b. IsPlayed b.plan b.deal bodies b.limit played.events
+      let M : BookState → Type 0 = λ b. IsPlayed b.plan b.deal bodies b.limit played.events
       played.outcome in
       let whole : IsPlayed (plan test.policy) test.deal bodies test.limit played.events
       played.outcome = subst M made_is by in

@@ -10,17 +10,17 @@ use Rattle.pct_ask.specs.declared.verdict.Outcome.{Outcome}
 use Rattle.pct_ask.specs.declared.verdict.Outcome.TheVariants.{Verdict as Ends}
 use Rattle.rank_now.specs.declared.moment.Moment.{Moment}
 use Rattle.rank_now.specs.Rank.{rank, rank_by_events}
-use Rattle.sync_store.specs.Store.{first}
+use Rattle.sync_store.specs.Store.{first_store}
 use Rattle.sync_store.specs.World.{Source, World, world_after}
 use Rattle.policy_pick.specs.declared.chance.Pick.TheVariants.{Thread}
 use Rattle.policy_pick.specs.Plan.{Plan, ByPoints, ByEvents, SpeaksOf}
 use Rattle.turn_book.specs.Posts.{schedule_of}
 use Rattle.turn_book.specs.Chances.{rest_verdict}
-use Rattle.turn_book.specs.Obeys.{next_in, choice_in, outcome_by_pick, outcome_by}
+use Rattle.turn_book.specs.Obeys.{next_posts_in, choice_in, outcome_by_pick, outcome_by}
 use Rattle.turn_book.proofs.laws.Worlds.{IsMade, made-from, last-step}
 use Rattle.turn_book.proofs.laws.MorePosts.{choice-at, settled-at}
 use Rattle.worker_run.specs.Bodies.{Pending, source_of_bodies}
-use Rattle.worker_run.specs.Run.{Setting, Over, Goes, next_of, next_thread, next_after, cut_at, go_on, run_from, run, directed}
+use Rattle.worker_run.specs.Run.{Setting, Over, Goes, next_of, next_thread, next_after, cut_at, go_on, run_from, run, directed_run}
 use Rattle.worker_run.specs.Played.{IsPlayed, IsRun}
 use Rattle.worker_run.proofs.laws.KnownPosts.{pick_of, pick_of-thread, points-pick, events-pick}
 
@@ -32,10 +32,10 @@ module _ (plan : Plan) (deal : Deal) (bodies : List Pending) (rank_after : List 
   source = source_of_bodies bodies
 
   abbrev rest_of : World → Verdict
-  rest_of world = rest_verdict deal.threads world.store (next_in source world)
+  rest_of world = rest_verdict deal.threads world.store (next_posts_in source world)
 
   -- what comes after some steps settles the run
-  over : (left : ℕ) (schedule : List ℕ) (world : World) (verdict : Verdict) → world_after (first deal) source schedule ≡ Some world → next_after setting schedule world ≡ Over verdict
+  over : (left : ℕ) (schedule : List ℕ) (world : World) (verdict : Verdict) → world_after (first_store deal) source schedule ≡ Some world → next_after setting schedule world ≡ Over verdict
       → run_from setting left schedule ≡ Some (world.events, verdict)
   over zero schedule world verdict at next =
       ap (option_map (λ w. cut_at w (next_after setting schedule w))) at ∙ ap (λ n. Some (cut_at world n)) next
@@ -44,13 +44,13 @@ module _ (plan : Plan) (deal : Deal) (bodies : List Pending) (rank_after : List 
       ∙ ap (go_on world (λ t. run_from setting left (schedule ++ t ∷ []))) next
 
   -- or cuts it
-  cut : (schedule : List ℕ) (world : World) (t : ℕ) → world_after (first deal) source schedule ≡ Some world → next_after setting schedule world ≡ Goes t
+  cut : (schedule : List ℕ) (world : World) (t : ℕ) → world_after (first_store deal) source schedule ≡ Some world → next_after setting schedule world ≡ Goes t
       → run_from setting 0 schedule ≡ Some (world.events, Cut)
   cut schedule world t at next =
       ap (option_map (λ w. cut_at w (next_after setting schedule w))) at ∙ ap (λ n. Some (cut_at world n)) next
 
   -- or it goes on
-  goes : (left : ℕ) (schedule : List ℕ) (world : World) (t : ℕ) → world_after (first deal) source schedule ≡ Some world → next_after setting schedule world ≡ Goes t
+  goes : (left : ℕ) (schedule : List ℕ) (world : World) (t : ℕ) → world_after (first_store deal) source schedule ≡ Some world → next_after setting schedule world ≡ Goes t
       → run_from setting (suc left) schedule ≡ run_from setting left (schedule ++ t ∷ [])
   goes left schedule world t at next =
       ap (option_and_then (λ w. go_on w (λ t. run_from setting left (schedule ++ t ∷ [])) (next_after setting schedule w))) at
@@ -62,7 +62,7 @@ module _ (plan : Plan) (deal : Deal) (bodies : List Pending) (rank_after : List 
 
   module _ (limit : ℕ) (events : List Event) (outcome : Outcome) (played : IsPlayed plan deal bodies limit events outcome)
       (picks : (schedule : List ℕ) (world : World) → choice_in plan deal.threads source schedule world ≡ pick_of (next_thread setting schedule world)) where
-    module _ (world : World) (made : IsMade (first deal) source events world) where
+    module _ (world : World) (made : IsMade (first_store deal) source events world) where
       last-by : (left : ℕ) (verdict : Option Verdict) (next : Option ℕ) → length events + left ≡ limit → world.verdict ≡ verdict → next_thread setting (schedule_of events) world ≡ next
           → outcome_by verdict (outcome_by_pick (rest_of world) (eqb (length events) limit) (pick_of next)) ≡ Some outcome → IsRun (run_from setting left (schedule_of events)) events outcome
       last-by left (Some verdict) next room ends goes_on e = record {
@@ -91,14 +91,14 @@ module _ (plan : Plan) (deal : Deal) (bodies : List Pending) (rank_after : List 
     follow : (left : ℕ) (before after : List Event) → events ≡ before ++ after → length before + left ≡ limit → IsRun (run_from setting left (schedule_of before)) events outcome
     follow left before [] whole room =
         let same : events ≡ before = whole ∙ append-nil before in
-        let w = made-from (first deal) source events (played.obeys).made in
+        let w = made-from (first_store deal) source events (played.obeys).made in
         let P : List Event → Type 0 = λ es. IsRun (run_from setting left (schedule_of es)) events outcome in
         subst P same (last w.0 w.1 left (ap (λ es. length es + left) same ∙ room))
     follow zero before (e ∷ after) whole room = absurd (omega (arith, (played.obeys).within, ap length whole, length-append before (e ∷ after)))
     follow (suc left) before (e ∷ after) whole room =
-        let w = made-from (first deal) source events (played.obeys).made in
-        let M : List Event → Type 0 = λ es. IsMade (first deal) source es w.0 in
-        let p = last-step (first deal) source before after e w.0 (subst M whole w.1) in
+        let w = made-from (first_store deal) source events (played.obeys).made in
+        let M : List Event → Type 0 = λ es. IsMade (first_store deal) source es w.0 in
+        let p = last-step (first_store deal) source before after e w.0 (subst M whole w.1) in
         let world = p.0 in
         let chosen : choice_in plan deal.threads source (schedule_of before) world ≡ Thread e.thread = let both = sym (choice-at plan deal source before world p.1) ∙ (played.obeys).chosen before after e whole in cc in
         let next = pick_of-thread (next_thread setting (schedule_of before) world) e.thread (sym (picks (schedule_of before) world) ∙ chosen) in
@@ -118,6 +118,6 @@ points-run deal bodies order points limit events outcome speaks played =
 
 -- With moments in the place of change points they are the directed run.
 pub events-run : (deal : Deal) (bodies : List Pending) (order : List ℕ) (moments : List Moment) (limit : ℕ) (events : List Event) (outcome : Outcome) → SpeaksOf (ByEvents order moments) deal.threads
-    → IsPlayed (ByEvents order moments) deal bodies limit events outcome → IsRun (directed deal bodies order moments limit) events outcome
+    → IsPlayed (ByEvents order moments) deal bodies limit events outcome → IsRun (directed_run deal bodies order moments limit) events outcome
 events-run deal bodies order moments limit events outcome speaks played =
     whole-run (ByEvents order moments) deal bodies (rank_by_events order moments) limit events outcome played (λ schedule world. events-pick deal bodies schedule world order moments speaks)

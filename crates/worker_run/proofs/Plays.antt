@@ -12,13 +12,13 @@ use Rattle.pct_ask.specs.declared.verdict.Outcome.{Outcome}
 use Rattle.sync_store.specs.Store.{sizes_of_deal}
 use Rattle.sync_store.specs.World.{answers_of}
 use Rattle.policy_pick.specs.Plan.{Plan, SpeaksOf}
-use Rattle.turn_book.specs.Posts.{events_of, source_of, KeepsPosts}
-use Rattle.turn_book.specs.Obeys.{Obeys, settled}
-use Rattle.turn_book.specs.Told.{Told, SameMaking, IsLawful, Within, new_book}
+use Rattle.turn_book.specs.Posts.{own_events, source_of, KeepsPosts}
+use Rattle.turn_book.specs.Obeys.{Obeys, outcome_after}
+use Rattle.turn_book.specs.Told.{BookState, SameMaking, IsLawful, Within, new_book}
 use Rattle.turn_book.proofs.laws.MorePosts.{obeys-more, settled-more}
 use Rattle.turn_lock.specs.Seen.{ObeysPlan}
 use Rattle.turn_lock.specs.Rule.{Serves, first_view}
-use Rattle.turn_lock.specs.Seats.{joined}
+use Rattle.turn_lock.specs.Seats.{joined_seat}
 use Rattle.turn_lock.specs.declared.view.View.{View}
 use Rattle.turn_lock.proofs.laws.FirstThreads.{first-has, first-below}
 use Rattle.worker_run.specs.Bodies.{Pending, pending_of, source_of_bodies, AreInRange}
@@ -73,7 +73,7 @@ module _ {B : Type 0} (pending : B → Pending) where
     }
 
 pub first-owe : (v : View) → IsUnposted v.seen → AllOwe v
-first-owe v unposted t here = λ i. eqb (length (unposted.posts t i)) (length (events_of t (unposted.steps i)))
+first-owe v unposted t here = λ i. eqb (length (unposted.posts t i)) (length (own_events t (unposted.steps i)))
 
 -- ---- by the end
 get-replicate : {X : Type 0} (n k : ℕ) (x : X) → get_or (replicate n x) k x ≡ x
@@ -85,14 +85,14 @@ pub new-unposted : (deal : Deal) (limit : ℕ) (plan : Plan) → IsUnposted (new
 new-unposted deal limit plan = record { steps = refl; posts = λ t. let none : List Post = [] in get-replicate deal.threads t none }
 
 -- a thread's answers so far are the first of all that it has had
-answers-front : (t : ℕ) (trace before after : List Event) → trace ≡ before ++ after → take (length (events_of t before)) (answers_of t trace) ≡ answers_of t before
+answers-front : (t : ℕ) (trace before after : List Event) → trace ≡ before ++ after → take (length (own_events t before)) (answers_of t trace) ≡ answers_of t before
 answers-front t trace before after cut =
-    let all = ap (answers_of t) cut ∙ ap (map (λ (e : Event). e.answer)) (filter-append (λ (e : Event). eqb e.thread t) before after) ∙ map-append (λ (e : Event). e.answer) (events_of t before) (events_of t after) in
-    ap (take (length (events_of t before))) all
-    ∙ ap (λ n. take n (answers_of t before ++ answers_of t after)) (sym (length-map (events_of t before) (λ (e : Event). e.answer)))
+    let all = ap (answers_of t) cut ∙ ap (map (λ (e : Event). e.answer)) (filter-append (λ (e : Event). eqb e.thread t) before after) ∙ map-append (λ (e : Event). e.answer) (own_events t before) (own_events t after) in
+    ap (take (length (own_events t before))) all
+    ∙ ap (λ n. take n (answers_of t before ++ answers_of t after)) (sym (length-map (own_events t before) (λ (e : Event). e.answer)))
     ∙ take-append_seam (answers_of t before) (answers_of t after)
 
-module _ (made : Told) (bodies : List Pending) (v w : View) (making : SameMaking made w.seen) (obeys : ObeysPlan w.seen) (unposted : IsUnposted v.seen) (all : (t : ℕ) → t < made.deal.threads → Serves v t)
+module _ (made : BookState) (bodies : List Pending) (v w : View) (making : SameMaking made w.seen) (obeys : ObeysPlan w.seen) (unposted : IsUnposted v.seen) (all : (t : ℕ) → t < made.deal.threads → Serves v t)
     (served : IsServed (pending_of bodies) v w) where
   threads : (w.seen).deal.threads ≡ made.deal.threads
   threads = ap (λ (d : Deal). d.threads) making.deal
@@ -105,9 +105,9 @@ module _ (made : Told) (bodies : List Pending) (v w : View) (making : SameMaking
 
   keeps-own : (before after : List Event) (t : ℕ) (post : Post) → (w.seen).trace ≡ before ++ after → source_of (w.seen).posts t before ≡ Some post → (t < made.deal.threads) ⊎ (made.deal.threads ≤ t) → source_of_bodies bodies t before ≡ Some post
   keeps-own before after t post cut at (inl within) =
-      ap Some (sym (served.follows t (all t within) (length (events_of t before)) post at ∙ ap (pending_of bodies t) (answers-front t (w.seen).trace before after cut)))
+      ap Some (sym (served.follows t (all t within) (length (own_events t before)) post at ∙ ap (pending_of bodies t) (answers-front t (w.seen).trace before after cut)))
   keeps-own before after t post cut at (inr beyond) =
-      absurd (none-at (length (events_of t before)) post (ap (λ l. slice_get l (length (events_of t before))) (sym (served.outside t (omega (arith, threads)) (unposted.posts t))) ∙ at))
+      absurd (none-at (length (own_events t before)) post (ap (λ l. slice_get l (length (own_events t before))) (sym (served.outside t (omega (arith, threads)) (unposted.posts t))) ∙ at))
 
   keeps : KeepsPosts (w.seen).trace (source_of (w.seen).posts) (source_of_bodies bodies)
   keeps before after t post cut at = keeps-own before after t post cut at (cases_lt t made.deal.threads)
@@ -115,10 +115,10 @@ module _ (made : Told) (bodies : List Pending) (v w : View) (making : SameMaking
   abbrev Making : Type 0
   Making = Plan × Deal × ℕ
 
-  pub has-played : (w.seen).outcome ≡ settled (w.seen).plan (w.seen).deal (source_of (w.seen).posts) (w.seen).limit (w.seen).trace → HasPlayed made bodies w.seen
+  pub has-played : (w.seen).outcome ≡ outcome_after (w.seen).plan (w.seen).deal (source_of (w.seen).posts) (w.seen).limit (w.seen).trace → HasPlayed made bodies w.seen
   has-played told =
       let O : Making → Type 0 = λ m. Obeys m.0 m.1 (source_of (w.seen).posts) m.2 (w.seen).trace in
-      let E : Making → Type 0 = λ m. settled m.0 m.1 (source_of (w.seen).posts) m.2 (w.seen).trace ≡ Some over.outcome in
+      let E : Making → Type 0 = λ m. outcome_after m.0 m.1 (source_of (w.seen).posts) m.2 (w.seen).trace ≡ Some over.outcome in
       let P : Making → Type 0 = λ m. IsPlayed m.0 m.1 bodies m.2 (w.seen).trace over.outcome in
       let same : ((w.seen).plan, (w.seen).deal, (w.seen).limit) ≡ (made.plan, made.deal, made.limit) = λ i. (making.plan i, making.deal i, making.limit i) in
       record {
@@ -133,15 +133,15 @@ module _ (made : Told) (bodies : List Pending) (v w : View) (making : SameMaking
       }
 
 -- what a joined seat has seen says what became of the run
-pub joined-outcome : (a b w : View) → w ≡ joined a b → (w.seen).outcome ≡ settled (w.seen).plan (w.seen).deal (source_of (w.seen).posts) (w.seen).limit (w.seen).trace
-joined-outcome a b w is = subst (λ (x : View). (x.seen).outcome ≡ settled (x.seen).plan (x.seen).deal (source_of (x.seen).posts) (x.seen).limit (x.seen).trace) (sym is) refl
+pub joined-outcome : (a b w : View) → w ≡ joined_seat a b → (w.seen).outcome ≡ outcome_after (w.seen).plan (w.seen).deal (source_of (w.seen).posts) (w.seen).limit (w.seen).trace
+joined-outcome a b w is = subst (λ (x : View). (x.seen).outcome ≡ outcome_after (x.seen).plan (x.seen).deal (source_of (x.seen).posts) (x.seen).limit (x.seen).trace) (sym is) refl
 
 -- ---- the closed lock's book
-module _ (made seen book : Told) (bodies : List Pending) (played : HasPlayed made bodies seen) (making : SameMaking made seen) (within : Within seen book) (lawful : IsLawful book) where
+module _ (made seen book : BookState) (bodies : List Pending) (played : HasPlayed made bodies seen) (making : SameMaking made seen) (within : Within seen book) (lawful : IsLawful book) where
   abbrev seen-over : IsOver seen
   seen-over =
       let O : Plan × Deal × ℕ → Type 0 = λ m. Obeys m.0 m.1 (source_of seen.posts) m.2 seen.trace in
-      let E : Plan × Deal × ℕ → Type 0 = λ m. settled m.0 m.1 (source_of seen.posts) m.2 seen.trace ≡ Some played.outcome in
+      let E : Plan × Deal × ℕ → Type 0 = λ m. outcome_after m.0 m.1 (source_of seen.posts) m.2 seen.trace ≡ Some played.outcome in
       let same : (made.plan, made.deal, made.limit) ≡ (seen.plan, seen.deal, seen.limit) = λ i. (sym making.plan i, sym making.deal i, sym making.limit i) in
       record {
         speaks = subst (λ (x : Plan × Deal). SpeaksOf x.0 (x.1).threads) (λ i. ((within.making).plan i, (within.making).deal i)) lawful.speaks;
@@ -164,10 +164,10 @@ module _ (made seen book : Told) (bodies : List Pending) (played : HasPlayed mad
       subst E (sym (are ∙ closed-trace)) (subst O (sym same) played.played)
 
 -- ---- on the first seat of a new lock
-module _ {B : Type 0} (pending : B → Pending) (bodies : List B) (deal : Deal) (limit : ℕ) (plan : Plan) (made : Told) (v : View)
+module _ {B : Type 0} (pending : B → Pending) (bodies : List B) (deal : Deal) (limit : ℕ) (plan : Plan) (made : BookState) (v : View)
     (made_is : made ≡ new_book deal limit plan) (view_is : v ≡ first_view (new_book deal limit plan)) (count : length bodies ≡ deal.threads) where
   pub here-range : AreInRange (sizes_of_deal deal) (map pending bodies) → AreInRange (sizes_of_deal made.deal) (map pending bodies)
-  here-range in_range = subst (λ (b : Told). AreInRange (sizes_of_deal b.deal) (map pending bodies)) (sym made_is) in_range
+  here-range in_range = subst (λ (b : BookState). AreInRange (sizes_of_deal b.deal) (map pending bodies)) (sym made_is) in_range
 
   pub here-unposted : IsUnposted v.seen
   here-unposted = subst (λ (x : View). IsUnposted x.seen) (sym view_is) (new-unposted deal limit plan)
@@ -179,11 +179,11 @@ module _ {B : Type 0} (pending : B → Pending) (bodies : List B) (deal : Deal) 
   here-within t here = let below = first-below deal.threads t (subst (λ (x : View). Serves x t) view_is here) in omega arith
 
   pub here-all : (t : ℕ) → t < made.deal.threads → Serves v t
-  here-all t within = here-serves t (omega (arith, ap (λ (b : Told). b.deal.threads) made_is))
+  here-all t within = here-serves t (omega (arith, ap (λ (b : BookState). b.deal.threads) made_is))
 
   pub here-crew : (runners : List (Option (Runner B))) → runners ≡ first_runners bodies → IsCrew pending (pending_of (map pending bodies)) 0 runners v
   here-crew runners are = first-crew pending bodies runners are v here-unposted here-serves here-within
 
   -- what was played by the lock is by what it was made with
   pub here-played : (starts : List Pending) (events : List Event) (outcome : Outcome) → IsPlayed made.plan made.deal starts made.limit events outcome → IsPlayed plan deal starts limit events outcome
-  here-played starts events outcome is = subst (λ (b : Told). IsPlayed b.plan b.deal starts b.limit events outcome) made_is is
+  here-played starts events outcome is = subst (λ (b : BookState). IsPlayed b.plan b.deal starts b.limit events outcome) made_is is

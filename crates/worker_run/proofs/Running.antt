@@ -10,10 +10,10 @@ use Rattle.pct_ask.specs.declared.event.Event.{Event}
 use Rattle.pct_ask.specs.declared.verdict.Outcome.{Outcome}
 use Rattle.pct_ask.specs.declared.event.Standing.TheVariants.{Ended as HasEnded}
 use Rattle.sync_store.specs.World.{answers_of}
-use Rattle.turn_book.specs.Posts.{events_of, posts_of}
-use Rattle.turn_book.specs.Told.{Told, IsLawful, IsAnswered, standing_of, post_of_event}
-use Rattle.turn_lock.specs.Seen.{SameOf, pairs_of, posted_by, owes_of}
-use Rattle.turn_lock.specs.Rule.{Has, Serves}
+use Rattle.turn_book.specs.Posts.{own_events, posts_of}
+use Rattle.turn_book.specs.Told.{BookState, IsLawful, IsAnswered, standing_of, post_of_event}
+use Rattle.turn_lock.specs.Seen.{SameOf, pairs_of, posts_seen, owes_of}
+use Rattle.turn_lock.specs.Rule.{HasFlag, Serves}
 use Rattle.turn_lock.specs.Turns.{IsAsked, GainsPair, TookTurn, TellsEnd}
 use Rattle.turn_lock.specs.declared.turn.Turn.{Turn}
 use Rattle.turn_lock.specs.declared.turn.Turn.TheVariants.{Answer, Ended, NotYet, Busy, Over}
@@ -42,17 +42,18 @@ get-more xs (Some x) n y e = elim (get-snoc xs x n y e) [
 ]
 
 -- ---- what stays as long as the thread does nothing
-answers-long : (seen : Told) (t : ℕ) → length (answers_of t seen.trace) ≡ length (pairs_of seen t)
+answers-long : (seen : BookState) (t : ℕ)
+    → length (answers_of t seen.trace) ≡ length (pairs_of seen t)
 answers-long seen t = length-map (pairs_of seen t) (λ (e : Event). e.answer)
 
-same-answers : (t : ℕ) (one other : Told) → SameOf t one other → answers_of t other.trace ≡ answers_of t one.trace
+same-answers : (t : ℕ) (one other : BookState) → SameOf t one other → answers_of t other.trace ≡ answers_of t one.trace
 same-answers t one other same = ap (map (λ (e : Event). e.answer)) same.pairs
 
-pub follows-same : (start : Pending) (t : ℕ) (one other : Told) → SameOf t one other → Follows start t one → Follows start t other
+pub follows-same : (start : Pending) (t : ℕ) (one other : BookState) → SameOf t one other → Follows start t one → Follows start t other
 follows-same start t one other same follows n post at =
     follows n post (ap (λ l. slice_get l n) (sym same.posts) ∙ at) ∙ ap (λ l. start (take n l)) (sym (same-answers t one other same))
 
-pub running-same : (start now : Pending) (answered t : ℕ) (one other : Told) → SameOf t one other → IsRunning start now answered t one → IsRunning start now answered t other
+pub running-same : (start now : Pending) (answered t : ℕ) (one other : BookState) → SameOf t one other → IsRunning start now answered t one → IsRunning start now answered t other
 running-same start now answered t one other same r = record {
   follows = follows-same start t one other same r.follows;
   next = λ answers. r.next answers ∙ ap (λ l. start (l ++ answers)) (sym (same-answers t one other same));
@@ -61,12 +62,13 @@ running-same start now answered t one other same r = record {
 }
 
 -- ---- what a thread gains by a call: perhaps a post, and perhaps a step
-record Gained (t : ℕ) (post : Option Post) (told : List Event) (one other : Told) : Type 0 where
-  posts : posted_by other t ≡ posted_by one t ++ option_to_list post
+record Gained (t : ℕ) (post : Option Post) (told : List Event)
+    (one other : BookState) : Type 0 where
+  posts : posts_seen other t ≡ posts_seen one t ++ option_to_list post
   pairs : pairs_of other t ≡ pairs_of one t ++ told
 
-module _ (start now then : Pending) (answered t : ℕ) (one other : Told) (r : IsRunning start now answered t one) (post : Option Post) (told : List Event) (g : Gained t post told one other)
-    (owed : (q : Post) → post ≡ Some q → (length (posted_by one t) ≡ length (pairs_of one t)) × (q ≡ now [])) where
+module _ (start now then : Pending) (answered t : ℕ) (one other : BookState) (r : IsRunning start now answered t one) (post : Option Post) (told : List Event) (g : Gained t post told one other)
+    (owed : (q : Post) → post ≡ Some q → (length (posts_seen one t) ≡ length (pairs_of one t)) × (q ≡ now [])) where
   abbrev heard : List ℤ
   heard = map (λ (e : Event). e.answer) told
 
@@ -77,10 +79,10 @@ module _ (start now then : Pending) (answered t : ℕ) (one other : Told) (r : I
   gained-follows n q at =
       let answers = answers_of t one.trace in
       let whole = ap (λ l. start (take n l)) (sym heard-more) in
-      elim (get-more (posted_by one t) post n q (ap (λ l. slice_get l n) (sym g.posts) ∙ at)) [
+      elim (get-more (posts_seen one t) post n q (ap (λ l. slice_get l n) (sym g.posts) ∙ at)) [
         | inl w ↦
             let few = r.few in
-            let below = slice_get_within (posted_by one t) n q w in
+            let below = slice_get_within (posts_seen one t) n q w in
             r.follows n q w ∙ ap start (sym (take-append-le n answers heard (omega (arith, answers-long one t)))) ∙ whole
         | inr w ↦
             let is = owed q w.1 in
@@ -88,10 +90,10 @@ module _ (start now then : Pending) (answered t : ℕ) (one other : Told) (r : I
             is.1 ∙ r.next [] ∙ ap start (append-nil answers ∙ sym (take-append_seam answers heard) ∙ ap (λ k. take k (answers ++ heard)) (sym n_is)) ∙ whole
       ]
 
-  gained-few : length (posted_by one t) + length (option_to_list post) ≤ length (pairs_of one t) + 1 → length (posted_by other t) ≤ length (pairs_of other t) + 1
-  gained-few room = omega (arith, ap length g.posts, length-append (posted_by one t) (option_to_list post), ap length g.pairs, length-append (pairs_of one t) told)
+  gained-few : length (posts_seen one t) + length (option_to_list post) ≤ length (pairs_of one t) + 1 → length (posts_seen other t) ≤ length (pairs_of other t) + 1
+  gained-few room = omega (arith, ap length g.posts, length-append (posts_seen one t) (option_to_list post), ap length g.pairs, length-append (pairs_of one t) told)
 
-  gained : (count : ℕ) → length (posted_by one t) + length (option_to_list post) ≤ length (pairs_of one t) + 1 → count ≡ answered + length told → ((answers : List ℤ) → then answers ≡ now (heard ++ answers)) → IsRunning start then count t other
+  gained : (count : ℕ) → length (posts_seen one t) + length (option_to_list post) ≤ length (pairs_of one t) + 1 → count ≡ answered + length told → ((answers : List ℤ) → then answers ≡ now (heard ++ answers)) → IsRunning start then count t other
   gained count room counts next = record {
     follows = gained-follows;
     next = λ answers. next answers ∙ r.next (heard ++ answers) ∙ ap start (sym (append_assoc (answers_of t one.trace) heard answers)) ∙ ap (λ l. start (l ++ answers)) (sym heard-more);
@@ -100,8 +102,8 @@ module _ (start now then : Pending) (answered t : ℕ) (one other : Told) (r : I
   }
 
 -- ---- what the calls of the lock make of it
-room-for : (t : ℕ) (one : Told) (post : Option Post) → length (posted_by one t) ≤ length (pairs_of one t) + 1 → ((q : Post) → post ≡ Some q → length (posted_by one t) ≡ length (pairs_of one t))
-    → length (posted_by one t) + length (option_to_list post) ≤ length (pairs_of one t) + 1
+room-for : (t : ℕ) (one : BookState) (post : Option Post) → length (posts_seen one t) ≤ length (pairs_of one t) + 1 → ((q : Post) → post ≡ Some q → length (posts_seen one t) ≡ length (pairs_of one t))
+    → length (posts_seen one t) + length (option_to_list post) ≤ length (pairs_of one t) + 1
 room-for t one None few owed = omega arith
 room-for t one (Some q) few owed = let same = owed q refl in omega arith
 
@@ -110,29 +112,29 @@ module _ (v w : View) (t : ℕ) (mine : Serves v t) (given : Option Post) where
   pairs-taken : (answer : Turn) → (took : TookTurn v t given answer w) → pairs_of (took.turn).asked t ≡ pairs_of v.seen t
   pairs-taken answer took = by given (took.turn).posted ∙ (took.own t mine).pairs where
     by : (post : Option Post) → IsAsked took.book t post (took.turn).asked → pairs_of (took.turn).asked t ≡ pairs_of took.book t
-    by None same = ap (λ (b : Told). pairs_of b t) same
+    by None same = ap (λ (b : BookState). pairs_of b t) same
     by (Some post) p = by-outcome (took.book).outcome refl where
       by-outcome : (o : Option Outcome) → (took.book).outcome ≡ o → pairs_of (took.turn).asked t ≡ pairs_of took.book t
-      by-outcome None is = ap (events_of t) (p.0 is).trace
-      by-outcome (Some outcome) is = ap (λ (b : Told). pairs_of b t) (p.1 (ap is_some is))
+      by-outcome None is = ap (own_events t) (p.0 is).trace
+      by-outcome (Some outcome) is = ap (λ (b : BookState). pairs_of b t) (p.1 (ap is_some is))
 
   -- an outcome that stood before the post stands after it
-  open-before : (book asked : Told) (post : Option Post) → IsAsked book t post asked → asked.outcome ≡ None → book.outcome ≡ None
-  open-before book asked None same e = ap (λ (b : Told). b.outcome) (sym same) ∙ e
+  open-before : (book asked : BookState) (post : Option Post) → IsAsked book t post asked → asked.outcome ≡ None → book.outcome ≡ None
+  open-before book asked None same e = ap (λ (b : BookState). b.outcome) (sym same) ∙ e
   open-before book asked (Some post) p e = by book.outcome refl where
     by : (o : Option Outcome) → book.outcome ≡ o → book.outcome ≡ None
     by None is = is
-    by (Some outcome) is = ap (λ (b : Told). b.outcome) (sym (p.1 (ap is_some is))) ∙ e
+    by (Some outcome) is = ap (λ (b : BookState). b.outcome) (sym (p.1 (ap is_some is))) ∙ e
 
   -- the post was taken, unless an outcome stood before it
-  posts-gained : (answer : Turn) → TookTurn v t given answer w → (post : Option Post) × (posted_by w.seen t ≡ posted_by v.seen t ++ option_to_list post) × ((post ≡ given) ⊎ (post ≡ None))
+  posts-gained : (answer : Turn) → TookTurn v t given answer w → (post : Option Post) × (posts_seen w.seen t ≡ posts_seen v.seen t ++ option_to_list post) × ((post ≡ given) ⊎ (post ≡ None))
   posts-gained answer took = by (took.book).outcome refl where
-    by : (o : Option Outcome) → (took.book).outcome ≡ o → (post : Option Post) × (posted_by w.seen t ≡ posted_by v.seen t ++ option_to_list post) × ((post ≡ given) ⊎ (post ≡ None))
+    by : (o : Option Outcome) → (took.book).outcome ≡ o → (post : Option Post) × (posts_seen w.seen t ≡ posts_seen v.seen t ++ option_to_list post) × ((post ≡ given) ⊎ (post ≡ None))
     by None is = (given, took.posts is, inl refl)
-    by (Some outcome) is = (None, took.late (ap is_some is) ∙ sym (append-nil (posted_by v.seen t)), inr refl)
+    by (Some outcome) is = (None, took.late (ap is_some is) ∙ sym (append-nil (posts_seen v.seen t)), inr refl)
 
   module _ (value : ℤ) (took : TookTurn v t given (Answer value) w) where
-    abbrev asked : Told
+    abbrev asked : BookState
     asked = (took.turn).asked
 
     abbrev answered_with : IsAnswered asked t value w.seen
@@ -146,17 +148,17 @@ module _ (v w : View) (t : ℕ) (mine : Serves v t) (given : Option Post) where
         (pair.0, pair.1, record { posts = took.posts open_yet; pairs = pair.2 })
 
     -- the step was that of the thread's last post
-    answer-post : slice_get (posted_by w.seen t) (length (pairs_of v.seen t)) ≡ Some (post_of_event answered_with.event)
+    answer-post : slice_get (posts_seen w.seen t) (length (pairs_of v.seen t)) ≡ Some (post_of_event answered_with.event)
     answer-post =
         ap (λ ps. slice_get (posts_of ps t) (length (pairs_of v.seen t))) answered_with.posts
-        ∙ ap (λ (es : List Event). slice_get (posted_by asked t) (length es)) (sym (pairs-taken (Answer value) took))
+        ∙ ap (λ (es : List Event). slice_get (posts_seen asked t) (length es)) (sym (pairs-taken (Answer value) took))
         ∙ answered_with.asked
 
     module _ (start now : Pending) (answered : ℕ) (r : IsRunning start now answered t v.seen) (owed : (q : Post) → given ≡ Some q → (owes_of v.seen t ≡ true) × (q ≡ now [])) where
-      owed-long : (q : Post) → given ≡ Some q → (length (posted_by v.seen t) ≡ length (pairs_of v.seen t)) × (q ≡ now [])
+      owed-long : (q : Post) → given ≡ Some q → (length (posts_seen v.seen t) ≡ length (pairs_of v.seen t)) × (q ≡ now [])
       owed-long q is = let o = owed q is in (owes-length v.seen t o.0, o.1)
 
-      room : length (posted_by v.seen t) + length (option_to_list given) ≤ length (pairs_of v.seen t) + 1
+      room : length (posts_seen v.seen t) + length (option_to_list given) ≤ length (pairs_of v.seen t) + 1
       room = room-for t v.seen given r.few (λ q is. (owed-long q is).0)
 
       abbrev event : Event
@@ -191,9 +193,9 @@ module _ (v w : View) (t : ℕ) (mine : Serves v t) (given : Option Post) where
       -- and the thread owes its next post
       pub answer-owes : owes_of w.seen t ≡ true
       answer-owes =
-          let some = slice_get_within (posted_by w.seen t) (length (pairs_of v.seen t)) (post_of_event answered_with.event) answer-post in
+          let some = slice_get_within (posts_seen w.seen t) (length (pairs_of v.seen t)) (post_of_event answered_with.event) answer-post in
           let fits = room in
-          eq-eqb (length (posted_by w.seen t)) (length (pairs_of w.seen t)) (omega (arith, ap length gain.posts, length-append (posted_by v.seen t) (option_to_list given), ap length gain.pairs, length-append (pairs_of v.seen t) (event ∷ [])))
+          eq-eqb (length (posts_seen w.seen t)) (length (pairs_of w.seen t)) (omega (arith, ap length gain.posts, length-append (posts_seen v.seen t) (option_to_list given), ap length gain.pairs, length-append (pairs_of v.seen t) (event ∷ [])))
 
   -- ---- without an answer
   same-pairs : (turn : Turn) → ((value : ℤ) → turn ≡ Answer value → ⊥) → GainsPair v.seen t turn w.seen → pairs_of w.seen t ≡ pairs_of v.seen t
@@ -208,7 +210,7 @@ module _ (v w : View) (t : ℕ) (mine : Serves v t) (given : Option Post) where
   other-running turn not took start now answered r owed =
       let p = posts-gained turn took in
       let gain : Gained t p.0 [] v.seen w.seen = record { posts = p.1; pairs = same-pairs turn not took.pairs ∙ sym (append-nil (pairs_of v.seen t)) } in
-      let owed_long : (q : Post) → p.0 ≡ Some q → (length (posted_by v.seen t) ≡ length (pairs_of v.seen t)) × (q ≡ now []) =
+      let owed_long : (q : Post) → p.0 ≡ Some q → (length (posts_seen v.seen t) ≡ length (pairs_of v.seen t)) × (q ≡ now []) =
       λ q is. elim p.2 [
         | inl same ↦ let o = owed q (sym same ∙ is) in (owes-length v.seen t o.0, o.1)
         | inr none ↦ absurd (let both = sym none ∙ is in cc)
@@ -220,7 +222,7 @@ module _ (v w : View) (t : ℕ) (mine : Serves v t) (given : Option Post) where
   over-is outcome took =
       let lawful = (took.turn).lawful in
       let row = (took.turn).row in
-      record { speaks = lawful.speaks; obeys = lawful.obeys; outcome = outcome; ends = sym lawful.outcome ∙ ap (λ (b : Told). b.outcome) row.1 ∙ row.0 }
+      record { speaks = lawful.speaks; obeys = lawful.obeys; outcome = outcome; ends = sym lawful.outcome ∙ ap (λ (b : BookState). b.outcome) row.1 ∙ row.0 }
 
   pub over-told : (turn : Turn) → is_over turn ≡ true → TookTurn v t given turn w → IsOver w.seen
   over-told (Answer value) e took = absurd (false≢true e)
@@ -232,13 +234,13 @@ module _ (v w : View) (t : ℕ) (mine : Serves v t) (given : Option Post) where
   -- or the thread has posted
   pub posted-told : (turn : Turn) → ((value : ℤ) → turn ≡ Answer value → ⊥) → is_over turn ≡ false → TookTurn v t given turn w → owes_of w.seen t ≡ false
   posted-told (Answer value) not e took = absurd (not value refl)
-  posted-told Ended not e took = here-owes w.seen t (λ away. let row = (took.turn).row in let both = sym row.1 ∙ ap (λ (b : Told). standing_of b t) (sym row.2) ∙ away in cc)
-  posted-told (NotYet at because) not e took = here-owes w.seen t (λ away. let row = (took.turn).row in let both = sym row.1 ∙ ap (λ (b : Told). standing_of b t) (sym row.4) ∙ away in cc)
+  posted-told Ended not e took = here-owes w.seen t (λ away. let row = (took.turn).row in let both = sym row.1 ∙ ap (λ (b : BookState). standing_of b t) (sym row.2) ∙ away in cc)
+  posted-told (NotYet at because) not e took = here-owes w.seen t (λ away. let row = (took.turn).row in let both = sym row.1 ∙ ap (λ (b : BookState). standing_of b t) (sym row.4) ∙ away in cc)
   posted-told (Busy holder) not e took = absurd (took.turn).row
   posted-told (Over outcome) not e took = absurd (false≢true (sym e))
 
   -- where no thread is answered, the run is over or the threads of the seat have ended
-  pub ended-told : (serves : List Bool) (turn : Turn) → ((value : ℤ) → turn ≡ Answer value → ⊥) → TookTurn v t given turn w → TellsEnd serves t turn w.seen → IsOver w.seen ⊎ ((u : ℕ) → Has serves u → standing_of w.seen u ≡ HasEnded)
+  pub ended-told : (serves : List Bool) (turn : Turn) → ((value : ℤ) → turn ≡ Answer value → ⊥) → TookTurn v t given turn w → TellsEnd serves t turn w.seen → IsOver w.seen ⊎ ((u : ℕ) → HasFlag serves u → standing_of w.seen u ≡ HasEnded)
   ended-told serves (Answer value) not took tells = absurd (not value refl)
   ended-told serves Ended not took tells = inr tells.0
   ended-told serves (NotYet at because) not took tells = absurd tells
@@ -253,11 +255,11 @@ fewer-by : (goes : Bool) (e : Event) (events : List Event) (n : ℕ) → length 
 fewer-by true e events n few = omega arith
 fewer-by false e events n few = omega arith
 
-events-fewer : (t : ℕ) (events : List Event) → length (events_of t events) ≤ length events
+events-fewer : (t : ℕ) (events : List Event) → length (own_events t events) ≤ length events
 events-fewer t [] = omega arith
-events-fewer t (e ∷ events) = fewer-by (eqb e.thread t) e (events_of t events) (length events) (events-fewer t events)
+events-fewer t (e ∷ events) = fewer-by (eqb e.thread t) e (own_events t events) (length events) (events-fewer t events)
 
-pub answers-few : (seen : Told) (t count : ℕ) → IsLawful seen → count ≡ length (answers_of t seen.trace) → count ≤ 100000
+pub answers-few : (seen : BookState) (t count : ℕ) → IsLawful seen → count ≡ length (answers_of t seen.trace) → count ≤ 100000
 answers-few seen t count lawful is =
     let within = (lawful.obeys).within in
     let few = lawful.few_steps in

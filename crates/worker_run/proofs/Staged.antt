@@ -5,8 +5,8 @@ use Rattle.std.proofs.lemmas.Bool.{cases_eq}
 use Rattle.std.proofs.lemmas.List.{get_or-set_same, get_or-set_other}
 use Rattle.pct_ask.specs.declared.Deal.{Deal}
 use Rattle.pct_ask.specs.declared.event.Standing.TheVariants.{Ended as HasEnded}
-use Rattle.turn_book.specs.Told.{Told, SameMaking, IsLawful, Within, new_book, standing_of}
-use Rattle.turn_lock.specs.Seen.{SameOf, ObeysPlan, posted_by}
+use Rattle.turn_book.specs.Told.{BookState, SameMaking, IsLawful, Within, new_book, standing_of}
+use Rattle.turn_lock.specs.Seen.{SameOf, ObeysPlan, posts_seen}
 use Rattle.turn_lock.specs.Rule.{Serves, first_view}
 use Rattle.turn_lock.specs.Calls.{ServesAll}
 use Rattle.turn_lock.specs.declared.view.View.{View}
@@ -30,7 +30,7 @@ pub outside-joined : (a b w : View) → NoneOutside a.seen → NoneOutside b.see
 outside-joined a b w one other j t beyond =
     let first = ap (λ (d : Deal). d.threads) (j.seen.0.making).deal in
     let second = ap (λ (d : Deal). d.threads) (j.seen.1.making).deal in
-    ap (λ (u : View). posted_by u.seen t) j.is
+    ap (λ (u : View). posts_seen u.seen t) j.is
     ∙ posts-none (a.seen).posts (b.seen).posts t
     (one t (omega (arith, first))) (other t (omega (arith, second)))
 
@@ -129,7 +129,7 @@ taken-owe v mine w j owe owes u here = elim (joined-either v mine w u j.is here)
 ]
 
 -- ---- by the end
-all-ended : (seen : Told) (n : ℕ) → ((t : ℕ) → t < n → IsOver seen ⊎ (standing_of seen t ≡ HasEnded)) → IsOver seen ⊎ ((t : ℕ) → t < n → standing_of seen t ≡ HasEnded)
+all-ended : (seen : BookState) (n : ℕ) → ((t : ℕ) → t < n → IsOver seen ⊎ (standing_of seen t ≡ HasEnded)) → IsOver seen ⊎ ((t : ℕ) → t < n → standing_of seen t ≡ HasEnded)
 all-ended seen zero each = inr (λ t below. absurd (omega arith))
 all-ended seen (suc n) each = elim (all-ended seen n (λ t below. each t (omega arith))) [
   | inl over ↦ inl over
@@ -143,11 +143,11 @@ all-ended seen (suc n) each = elim (all-ended seen n (λ t below. each t (omega 
 ]
 
 -- By what a seat of a lock has seen, each thread of the lock's was served.
-module _ (first : Told) (bodies : List Pending) (w : View) (making : SameMaking first w.seen)
+module _ (first : BookState) (bodies : List Pending) (w : View) (making : SameMaking first w.seen)
     (none : NoneOutside w.seen)
     (told : (t : ℕ) → t < first.deal.threads → IsThreadTold bodies t w) where
   -- a book that was made with the same, in which nothing has happened
-  abbrev blank : Told
+  abbrev blank : BookState
   blank = new_book first.deal first.limit first.plan
 
   blank-within : Within blank w.seen
@@ -157,7 +157,7 @@ module _ (first : Told) (bodies : List Pending) (w : View) (making : SameMaking 
     trace = refl;
     posts = λ t.
         let no = (new-unposted first.deal first.limit first.plan).posts t in
-        (posted_by w.seen t, ap (λ l. l ++ posted_by w.seen t) (sym no));
+        (posts_seen w.seen t, ap (λ l. l ++ posts_seen w.seen t) (sym no));
   }
 
   abbrev one : IsThreadTold bodies 0 w
@@ -189,7 +189,7 @@ module _ (first : Told) (bodies : List Pending) (w : View) (making : SameMaking 
       (λ t within. first-has first.deal.threads t within) all-served one.told
 
 -- The threads of one seat were told of, and it is joined to a seat that served none of them.
-module _ (first : Told) (bodies : List Pending) (left mine w : View)
+module _ (first : BookState) (bodies : List Pending) (left mine w : View)
     (making : SameMaking first w.seen)
     (none : NoneOutside left.seen) (none_too : NoneOutside mine.seen) (j : IsJoin left mine w)
     (told : (t : ℕ) → t < first.deal.threads → IsThreadTold bodies t mine) where

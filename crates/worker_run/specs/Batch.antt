@@ -6,16 +6,16 @@ use Rattle.sync_store.specs.Store.{sizes_of_deal}
 use Rattle.policy_pick.specs.Plan.{SpeaksOf}
 use Rattle.policy_pick.specs.declared.policy.Policy.{Ghosts}
 use Rattle.turn_book.specs.Posts.{source_of}
-use Rattle.turn_book.specs.Obeys.{settled}
-use Rattle.turn_book.specs.Told.{Told, standing_of}
-use Rattle.turn_lock.specs.Seen.{ObeysPlan, posted_by}
+use Rattle.turn_book.specs.Obeys.{outcome_after}
+use Rattle.turn_book.specs.Told.{BookState, standing_of}
+use Rattle.turn_lock.specs.Seen.{ObeysPlan, posts_seen}
 use Rattle.turn_lock.specs.Rule.{Serves}
-use Rattle.turn_lock.specs.Calls.{made}
-use Rattle.turn_lock.specs.Views.{view, IsOf}
+use Rattle.turn_lock.specs.Calls.{first_book}
+use Rattle.turn_lock.specs.Views.{view, HasSeat}
 use Rattle.turn_lock.specs.declared.view.View.{View}
 use Rattle.turn_lock.specs.declared.held.TurnLock.{TurnLock}
 use Rattle.turn_lock.specs.declared.seat.Seat.{Seat}
-use Rattle.worker_run.specs.Bodies.{Pending, nobody, pending_of, AreInRange}
+use Rattle.worker_run.specs.Bodies.{Pending, no_body, pending_of, AreInRange}
 use Rattle.worker_run.specs.Served.{Follows, IsCrew, AllOwe, IsOver, IsServed}
 use Rattle.worker_run.specs.declared.runner.Runner.{Runner}
 use Rattle.worker_run.specs.declared.batch.Stage.{Stage}
@@ -33,7 +33,7 @@ pub record Each {X : Type 0} {Y : Type 0} (R : X → Y → Type 0) (xs : List X)
 
 -- what a place's runner posts, if there is one
 abbrev pub posts_at : {B : Type 0} → (B → Pending) → Option (Runner B) → Pending
-posts_at pending None = nobody
+posts_at pending None = no_body
 posts_at pending (Some runner) = pending runner.body
 
 -- what the bodies of a test post
@@ -43,16 +43,17 @@ bodies_on pending stage = map (λ place. posts_at pending place) (stage.runners)
 -- a body for each thread, which names only what there is
 pub record IsStage {P : Type 0} {B : Type 0} (pending : B → Pending)
     (stage : Stage P B) : Type 0 where
-  pub in_range : AreInRange (sizes_of_deal (made stage.lock.now).deal) (bodies_on pending stage)
+  pub in_range : AreInRange (sizes_of_deal (first_book stage.lock.now).deal)
+      (bodies_on pending stage)
 
 -- Threads that there aren't have no posts.
-abbrev pub NoneOutside : Told → Type 0
-NoneOutside seen = (t : ℕ) → seen.deal.threads ≤ t → posted_by seen t ≡ []
+abbrev pub NoneOutside : BookState → Type 0
+NoneOutside seen = (t : ℕ) → seen.deal.threads ≤ t → posts_seen seen t ≡ []
 
 -- a seat of the lock, which has seen no posts of others
 pub record IsSeatOf {P : Type 0} {policy : Ghosts P} (lock : TurnLock P)
     (seat : Seat P policy) : Type 0 where
-  pub of : IsOf lock seat
+  pub of : HasSeat lock seat
   pub outside : NoneOutside (view seat).seen
 
 -- The crew's seat serves the threads that it has runners for, and none has posted.
@@ -63,7 +64,7 @@ pub record IsCrewOf {P : Type 0} {policy : Ghosts P} {B : Type 0} (pending : B �
   pub runs : IsCrew pending (pending_of (bodies_on pending stage)) 0 crew.runners.items
       (view crew.seat)
   pub owe : AllOwe (view crew.seat)
-  pub long : length crew.runners.items ≡ (made stage.lock.now).deal.threads
+  pub long : length crew.runners.items ≡ (first_book stage.lock.now).deal.threads
 
 -- a seat for one thread alone, with its runner, that has not posted
 pub record IsWaiting {P : Type 0} {policy : Ghosts P} {B : Type 0} (pending : B → Pending)
@@ -72,7 +73,7 @@ pub record IsWaiting {P : Type 0} {policy : Ghosts P} {B : Type 0} (pending : B 
   pub seat_is : IsSeatOf stage.lock.now seat
   pub runs : IsCrew pending (pending_of (bodies_on pending stage)) t (Some runner ∷ []) (view seat)
   pub owe : AllOwe (view seat)
-  pub below : t < (made stage.lock.now).deal.threads
+  pub below : t < (first_book stage.lock.now).deal.threads
 
 -- The thread was served by its body until the run was over or it had ended.
 pub record IsThreadServed (bodies : List Pending) (t : ℕ) (v : View) : Type 0 where
@@ -85,7 +86,7 @@ pub record IsThreadServed (bodies : List Pending) (t : ℕ) (v : View) : Type 0 
 pub record IsThreadTold (bodies : List Pending) (t : ℕ) (v : View) : Type 0 where
   pub served : IsThreadServed bodies t v
   pub obeys : ObeysPlan v.seen
-  pub told : v.seen.outcome ≡ settled v.seen.plan v.seen.deal
+  pub told : v.seen.outcome ≡ outcome_after v.seen.plan v.seen.deal
       (source_of v.seen.posts) v.seen.limit v.seen.trace
 
 -- whether the test has the thread
@@ -124,6 +125,6 @@ pub record WasServed {P : Type 0} {policy : Ghosts P} {B : Type 0} (pending : B 
       → IsServed start (view seat) (view back)
 
 -- a part that comes back from its thread: it is as it was, or was served
-abbrev pub IsBack : {P : Type 0} {policy : Ghosts P} {B : Type 0} → (B → Pending) → ℕ
+abbrev pub IsPartBack : {P : Type 0} {policy : Ghosts P} {B : Type 0} → (B → Pending) → ℕ
     → Part P B policy → Part P B policy → Type 0
-IsBack pending t before after = (after ≡ before) ⊎ WasServed pending t before after
+IsPartBack pending t before after = (after ≡ before) ⊎ WasServed pending t before after

@@ -6,7 +6,7 @@ use Rattle.turn_lock.specs.Rule.{Serves}
 use Rattle.turn_lock.specs.Views.{view}
 use Rattle.worker_run.specs.Bodies.{Pending}
 use Rattle.worker_run.specs.Batch.{Each, IsSeatOf, IsCrewOf, IsPart, IsServedPart, IsThreadTold}
-use Rattle.worker_run.specs.Batch.{IsBack, bodies_on, is_there}
+use Rattle.worker_run.specs.Batch.{IsPartBack, bodies_on, is_there}
 use Rattle.worker_run.specs.declared.batch.Stage.{Stage}
 use Rattle.worker_run.specs.declared.batch.Crew.{Crew}
 use Rattle.worker_run.specs.declared.batch.Part.{Part}
@@ -31,7 +31,7 @@ module _ {P : Type 0} {policy : Ghosts P} {B : Type 0} where
 
   -- the parts of a thread, and what came back of them
   abbrev pub AreBack : (B → Pending) → ℕ → List (Part P B policy) → List (Part P B policy) → Type 0
-  AreBack pending t before after = Each (λ one other. IsBack pending t one other) before after
+  AreBack pending t before after = Each (λ one other. IsPartBack pending t one other) before after
 
   -- the thread's part of test i is there
   abbrev pub IsThere : List (Part P B policy) → ℕ → Type 0

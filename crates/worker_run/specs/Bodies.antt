@@ -10,12 +10,12 @@ abbrev pub Pending : Type 0
 Pending = List ℤ → Post
 
 -- a thread that there isn't has ended
-abbrev pub nobody : Pending
-nobody answers = record { ask = None; line = 0 }
+abbrev pub no_body : Pending
+no_body answers = record { ask = None; line = 0 }
 
 -- what the thread's body posts
 abbrev pub pending_of : List Pending → ℕ → Pending
-pending_of bodies t = slice_index_or bodies t nobody
+pending_of bodies t = slice_index_or bodies t no_body
 
 -- After some steps each thread's next post is what its body posts after the answers that the thread has had.
 abbrev pub source_of_bodies : List Pending → Source

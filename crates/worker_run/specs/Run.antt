@@ -11,13 +11,13 @@ use Rattle.pct_ask.specs.declared.Deal.{Deal}
 use Rattle.pct_ask.specs.declared.event.Event.{Event}
 use Rattle.pct_ask.specs.declared.verdict.Verdict.{Verdict}
 use Rattle.pct_ask.specs.declared.verdict.Verdict.TheVariants.{Cut}
-use Rattle.sync_store.specs.Store.{first}
+use Rattle.sync_store.specs.Store.{first_store}
 use Rattle.sync_store.specs.Enabled.{enabled}
 use Rattle.sync_store.specs.World.{World, has_ended, answers_of, world_after}
 use Rattle.rank_now.specs.declared.moment.Moment.{Moment}
 use Rattle.rank_now.specs.Rank.{rank, rank_by_events}
 use Rattle.turn_book.specs.Chances.{threads_below, rest_verdict}
-use Rattle.turn_book.specs.Obeys.{next_in}
+use Rattle.turn_book.specs.Obeys.{next_posts_in}
 use Rattle.worker_run.specs.Bodies.{Pending, pending_of, source_of_bodies}
 
 -- what a run is made of: what the threads share, their bodies, and each thread's rank after a
@@ -65,7 +65,7 @@ next_of setting world (Some verdict) t = Over verdict
 next_of setting world None None =
     Over
     (rest_verdict setting.deal.threads world.store
-    (next_in (source_of_bodies setting.bodies) world))
+    (next_posts_in (source_of_bodies setting.bodies) world))
 next_of setting world None (Some t) = Goes t
 
 -- what comes after a schedule, in the world that it led to
@@ -91,13 +91,13 @@ go_on world further (Goes t) = further t
 abbrev pub run_from : Setting → ℕ → List ℕ → Option Run
 run_from setting zero schedule =
     option_map (λ world. cut_at world (next_after setting schedule world))
-    (world_after (first setting.deal) (source_of_bodies setting.bodies) schedule)
+    (world_after (first_store setting.deal) (source_of_bodies setting.bodies) schedule)
 run_from setting (suc left) schedule =
     option_and_then
     (λ world.
     go_on world (λ t. run_from setting left (schedule ++ t ∷ []))
     (next_after setting schedule world))
-    (world_after (first setting.deal) (source_of_bodies setting.bodies) schedule)
+    (world_after (first_store setting.deal) (source_of_bodies setting.bodies) schedule)
 
 -- The run of an order and change points, of at most `limit` steps. It is cut where it would be
 -- longer.
@@ -106,7 +106,7 @@ run deal bodies order points limit =
     run_from (record { deal = deal; bodies = bodies; rank_after = rank order points }) limit []
 
 -- the same with moments in the place of change points
-abbrev pub directed : Deal → List Pending → List ℕ → List Moment → ℕ → Option Run
-directed deal bodies order events limit =
+abbrev pub directed_run : Deal → List Pending → List ℕ → List Moment → ℕ → Option Run
+directed_run deal bodies order events limit =
     run_from (record { deal = deal; bodies = bodies; rank_after = rank_by_events order events })
     limit []

@@ -13,27 +13,27 @@ abbrev pub next_number : ℤ → ℤ
 next_number seen = if int_eq seen (pos 0) then pos 1 else pos 2
 
 -- a post with this ask, on a line of the test
-abbrev pub asks : Ask → ℕ → Post
-asks ask line = record { ask = Some ask; line = line }
+abbrev pub asking_post : Ask → ℕ → Post
+asking_post ask line = record { ask = Some ask; line = line }
 
 -- a post by which the thread has ended, on a line of the test
-abbrev pub ends : ℕ → Post
-ends line = record { ask = None; line = line }
+abbrev pub ending_post : ℕ → Post
+ending_post line = record { ask = None; line = line }
 
 -- a thread that reads and writes, from this line on, by how many answers it has had and the last of
 -- them
 abbrev pub counter_post : ℕ → ℕ → ℤ → Post
-counter_post line zero seen = asks (Read 0) line
-counter_post line (suc zero) seen = asks (Write 0 (next_number seen)) (line + 1)
-counter_post line (suc (suc steps)) seen = ends (line + 2)
+counter_post line zero seen = asking_post (Read 0) line
+counter_post line (suc zero) seen = asking_post (Write 0 (next_number seen)) (line + 1)
+counter_post line (suc (suc steps)) seen = ending_post (line + 2)
 
 -- the thread that checks
 abbrev pub checker_post : ℕ → ℤ → Post
-checker_post zero seen = asks (Join 0) 12
-checker_post (suc zero) seen = asks (Join 1) 13
-checker_post (suc (suc zero)) seen = asks (Read 0) 14
-checker_post (suc (suc (suc zero))) seen = asks (Check (int_eq seen (pos 2))) 15
-checker_post (suc (suc (suc (suc steps)))) seen = ends 16
+checker_post zero seen = asking_post (Join 0) 12
+checker_post (suc zero) seen = asking_post (Join 1) 13
+checker_post (suc (suc zero)) seen = asking_post (Read 0) 14
+checker_post (suc (suc (suc zero))) seen = asking_post (Check (int_eq seen (pos 2))) 15
+checker_post (suc (suc (suc (suc steps)))) seen = ending_post 16
 
 -- what each thread of the test posts, by how many answers it has had and the last of them: the
 -- first two begin on the lines 4 and 8

@@ -7,9 +7,9 @@ use Rattle.sync_store.specs.Store.{Sizes}
 use Rattle.sync_store.specs.World.{answers_of}
 use Rattle.policy_pick.specs.Plan.{SpeaksOf}
 use Rattle.turn_book.specs.Posts.{source_of}
-use Rattle.turn_book.specs.Obeys.{settled}
-use Rattle.turn_book.specs.Told.{Told, Within, standing_of}
-use Rattle.turn_lock.specs.Seen.{SameOf, ObeysPlan, pairs_of, posted_by, owes_of}
+use Rattle.turn_book.specs.Obeys.{outcome_after}
+use Rattle.turn_book.specs.Told.{BookState, Within, standing_of}
+use Rattle.turn_lock.specs.Seen.{SameOf, ObeysPlan, pairs_of, posts_seen, owes_of}
 use Rattle.turn_lock.specs.Rule.{Serves}
 use Rattle.turn_lock.specs.declared.turn.Turn.{Turn}
 use Rattle.turn_lock.specs.declared.turn.Turn.TheVariants.{Over}
@@ -18,23 +18,24 @@ use Rattle.worker_run.specs.Bodies.{Pending, IsInRangeBody}
 use Rattle.worker_run.specs.declared.runner.Runner.{Runner}
 
 -- nothing was posted, and no step was taken
-pub record IsUnposted (seen : Told) : Type 0 where
+pub record IsUnposted (seen : BookState) : Type 0 where
   pub steps : seen.trace ≡ []
-  pub posts : (t : ℕ) → posted_by seen t ≡ []
+  pub posts : (t : ℕ) → posts_seen seen t ≡ []
 
 -- ---- What follows is for this crate's own use.
 
 -- each post of the thread is what its body posts after the answers before it
-abbrev pub Follows : Pending → ℕ → Told → Type 0
-Follows start t seen = (n : ℕ) (post : Post) → slice_get (posted_by seen t) n ≡ Some post → post ≡ start (take n (answers_of t seen.trace))
+abbrev pub Follows : Pending → ℕ → BookState → Type 0
+Follows start t seen = (n : ℕ) (post : Post) → slice_get (posts_seen seen t) n ≡ Some post
+    → post ≡ start (take n (answers_of t seen.trace))
 
 -- A body that was `start` at first runs as the thread: the thread's posts were its own, and it has been told the thread's
 -- answers.
-pub record IsRunning (start now : Pending) (answered t : ℕ) (seen : Told) : Type 0 where
+pub record IsRunning (start now : Pending) (answered t : ℕ) (seen : BookState) : Type 0 where
   pub follows : Follows start t seen
   pub next : (answers : List ℤ) → now answers ≡ start (answers_of t seen.trace ++ answers)
   pub counted : answered ≡ length (answers_of t seen.trace)
-  pub few : length (posted_by seen t) ≤ length (pairs_of seen t) + 1
+  pub few : length (posts_seen seen t) ≤ length (pairs_of seen t) + 1
 
 -- the runner of a place, if there is one
 abbrev pub runner_at : {B : Type 0} → List (Option (Runner B)) → ℕ → Option (Runner B)
@@ -56,11 +57,12 @@ abbrev pub NoneOwes : View → Type 0
 NoneOwes v = (t : ℕ) → Serves v t → owes_of v.seen t ≡ false
 
 -- the run is over, by what was posted
-pub record IsOver (seen : Told) : Type 0 where
+pub record IsOver (seen : BookState) : Type 0 where
   pub speaks : SpeaksOf seen.plan seen.deal.threads
   pub obeys : ObeysPlan seen
   pub outcome : Outcome
-  pub ends : settled seen.plan seen.deal (source_of seen.posts) seen.limit seen.trace ≡ Some outcome
+  pub ends : outcome_after seen.plan seen.deal (source_of seen.posts) seen.limit seen.trace
+      ≡ Some outcome
 
 -- an answer that says so
 abbrev pub is_over : Turn → Bool
@@ -78,8 +80,9 @@ pub record Moves (t : ℕ) (v w : View) : Type 0 where
   pub others : (u : ℕ) → Serves v u → u ≢ t → SameOf u v.seen w.seen
 
 -- What stands of a thread that there isn't: it still has no posts.
-abbrev pub StaysOutside : Told → Told → Type 0
-StaysOutside earlier later = (t : ℕ) → later.deal.threads ≤ t → posted_by earlier t ≡ [] → posted_by later t ≡ []
+abbrev pub StaysOutside : BookState → BookState → Type 0
+StaysOutside earlier later =
+    (t : ℕ) → later.deal.threads ≤ t → posts_seen earlier t ≡ [] → posts_seen later t ≡ []
 
 -- The threads of the seat were served by their bodies until the run was over or all of them had ended.
 pub record IsServed (start : ℕ → Pending) (v w : View) : Type 0 where
@@ -95,7 +98,7 @@ abbrev pub first_runners : {B : Type 0} → List B → List (Option (Runner B))
 first_runners bodies = map (λ body. Some (record { body = body; answered = 0 })) bodies
 
 -- A seat that serves the first so many threads, and has seen no more than that nothing was posted.
-pub record IsWhole (threads : ℕ) (seen : Told) (v : View) : Type 0 where
+pub record IsWhole (threads : ℕ) (seen : BookState) (v : View) : Type 0 where
   pub serves : (t : ℕ) → t < threads → Serves v t
   pub within : (t : ℕ) → Serves v t → t < threads
   pub unposted : IsUnposted v.seen

@@ -6,11 +6,11 @@ use Rattle.policy_pick.specs.Plan.{Plan, SpeaksOf, ByPoints, ByEvents}
 use Rattle.policy_pick.specs.declared.policy.Policy.{Ghosts}
 use Rattle.turn_book.specs.Told.{new_book}
 use Rattle.turn_lock.specs.Rule.{first_view}
-use Rattle.turn_lock.specs.Calls.{made}
+use Rattle.turn_lock.specs.Calls.{first_book}
 use Rattle.turn_lock.specs.Views.{view}
 use Rattle.turn_lock.specs.declared.held.TurnLock.{TurnLock}
 use Rattle.worker_run.specs.Bodies.{Pending, AreInRange}
-use Rattle.worker_run.specs.Run.{run, directed}
+use Rattle.worker_run.specs.Run.{run, directed_run}
 use Rattle.worker_run.specs.Played.{IsPlayed, IsRun}
 use Rattle.worker_run.specs.Served.{first_runners}
 use Rattle.worker_run.specs.Batch.{IsThreadTold}
@@ -47,7 +47,7 @@ module _ {P : Type 0} {B : Type 0} (pending : B → Pending) (plan : P → Plan)
         → IsRun (run test.deal (bodies_in test) order points test.limit) ended.events ended.outcome
     pub by_events : (order : List ℕ) (events : List Moment)
         → plan test.policy ≡ ByEvents order events
-        → IsRun (directed test.deal (bodies_in test) order events test.limit)
+        → IsRun (directed_run test.deal (bodies_in test) order events test.limit)
         ended.events ended.outcome
 
   -- the crews have seen that every thread was served
@@ -59,7 +59,7 @@ module _ {P : Type 0} {B : Type 0} (pending : B → Pending) (plan : P → Plan)
 module _ {P : Type 0} {B : Type 0} (plan : P → Plan) where
   -- a lock that was made for the test
   abbrev pub IsLockOf : Test P B → TurnLock P → Type 0
-  IsLockOf test lock = made lock ≡ new_book test.deal test.limit (plan test.policy)
+  IsLockOf test lock = first_book lock ≡ new_book test.deal test.limit (plan test.policy)
 
   -- a crew before the first post: it has the first seat of the test's lock, and a new runner for
   -- each body

@@ -7,7 +7,7 @@ ghost use Rattle.rank_now.specs.Order.{IsOrder};
 ghost use Rattle.policy_pick.specs.Plan.{ByPoints, ByEvents};
 ghost use Rattle.policy_pick.specs.Kept.{points_plan, PointsStand, events_plan, EventsStand};
 ghost use Rattle.worker_run.specs.Bodies.{AreInRange};
-ghost use Rattle.worker_run.specs.Run.{run, directed};
+ghost use Rattle.worker_run.specs.Run.{run, directed_run};
 ghost use Rattle.worker_run.specs.Played.{IsPlayed};
 
 use crate::played::Played;
@@ -149,7 +149,7 @@ pub fn run_by_events<R: Threads + Wait + Sync, B: Body, G: Gate>(
     requires bodies { length bodies.items ≡ deal.threads }
     requires in_range { AreInRange (sizes_of_deal deal) (map B.pending bodies.items) }
     ensures directed { IfOk result (λ whole.
-        directed deal (map B.pending bodies.items) order.now events.now limit
+        directed_run deal (map B.pending bodies.items) order.now events.now limit
         ≡ Some (whole.events, whole.verdict)) }
     // The same, as the run that is played by these priorities.
     ensures played { IfOk result (λ whole. IsPlayed (ByEvents order.now events.now) deal

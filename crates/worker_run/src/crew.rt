@@ -3,8 +3,8 @@ ghost use Rattle.std.specs.Prelude.{◌≡◌, ◌≤◌, ℕ, true, false, None
 ghost use Rattle.sync_store.specs.Store.{sizes_of_deal};
 ghost use Rattle.turn_book.specs.Told.{IsLawful};
 ghost use Rattle.turn_lock.specs.Rule.{Serves};
-ghost use Rattle.turn_lock.specs.Calls.{made};
-ghost use Rattle.turn_lock.specs.Views.{view, IsOf};
+ghost use Rattle.turn_lock.specs.Calls.{first_book};
+ghost use Rattle.turn_lock.specs.Views.{view, HasSeat};
 ghost use Rattle.worker_run.specs.Bodies.{Pending, IsInRangeBody};
 ghost use Rattle.worker_run.specs.Served.{IsCrew, HasCrew, AllOwe, NoneOwes, GoesOn, IsOver, IsServed, runner_at};
 ghost use Rattle.worker_run.specs.declared.runner.Runner.{Runner};
@@ -37,11 +37,12 @@ fn begin<R: Wait, P: Policy, B: Body, G: Gate>(
     runners: &mut [Option<Runner<B>>],
     gate: &G,
 ) -> bool
-    requires of { IsOf lock.now seat.old }
-    requires crew { HasCrew (sizes_of_deal (made lock.now).deal) B.pending 0 runners.old (view seat.old) }
+    requires of { HasSeat lock.now seat.old }
+    requires crew { HasCrew (sizes_of_deal (first_book lock.now).deal) B.pending 0 runners.old
+        (view seat.old) }
     requires owe { AllOwe (view seat.old) }
     requires few { length runners.old ≤ 64 }
-    ensures of { IsOf lock.now seat.new }
+    ensures of { HasSeat lock.now seat.new }
     ensures crew { (start : ℕ → Pending) → IsCrew B.pending start 0 runners.old (view seat.old) → IsCrew B.pending start 0 runners.new (view seat.new) }
     ensures on { GoesOn (view seat.old) (view seat.new) }
     ensures runners { length runners.new ≡ length runners.old }
@@ -67,12 +68,13 @@ fn take_turns<R: Wait, P: Policy, B: Body, G: Gate>(
     runners: &mut [Option<Runner<B>>],
     gate: &G,
 )
-    requires of { IsOf lock.now seat.old }
-    requires crew { HasCrew (sizes_of_deal (made lock.now).deal) B.pending 0 runners.old (view seat.old) }
+    requires of { HasSeat lock.now seat.old }
+    requires crew { HasCrew (sizes_of_deal (first_book lock.now).deal) B.pending 0 runners.old
+        (view seat.old) }
     requires some { (t : ℕ) × Serves (view seat.old) t }
     requires posted { NoneOwes (view seat.old) }
     requires few { length runners.old ≤ 64 }
-    ensures of { IsOf lock.now seat.new }
+    ensures of { HasSeat lock.now seat.new }
     ensures served { (start : ℕ → Pending) → IsCrew B.pending start 0 runners.old (view seat.old) → IsServed start (view seat.old) (view seat.new) }
     ensures lawful { IsLawful (view seat.new).seen }
 {
@@ -101,11 +103,12 @@ pub fn serve_all<R: Wait, P: Policy, B: Body, G: Gate>(
     runners: &mut [Option<Runner<B>>],
     gate: &G,
 )
-    requires of { IsOf lock.now seat.old }
-    requires crew { HasCrew (sizes_of_deal (made lock.now).deal) B.pending 0 runners.old (view seat.old) }
+    requires of { HasSeat lock.now seat.old }
+    requires crew { HasCrew (sizes_of_deal (first_book lock.now).deal) B.pending 0 runners.old
+        (view seat.old) }
     requires owe { AllOwe (view seat.old) }
     requires few { length runners.old ≤ 64 }
-    ensures of { IsOf lock.now seat.new }
+    ensures of { HasSeat lock.now seat.new }
     ensures served { (start : ℕ → Pending) → IsCrew B.pending start 0 runners.old (view seat.old) → IsServed start (view seat.old) (view seat.new) }
     ensures lawful { (t : ℕ) → Serves (view seat.old) t → IsLawful (view seat.new).seen }
 {

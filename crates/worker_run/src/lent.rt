@@ -2,8 +2,8 @@
 ghost use Rattle.std.specs.Prelude.{◌≡◌, ◌<◌, ◌≤◌, ◌+◌, ℕ, [], length, map, Some, OnErr, OnOk, IfOk};
 ghost use Rattle.sync_store.specs.Store.{sizes_of_deal};
 ghost use Rattle.turn_lock.specs.Rule.{Serves};
-ghost use Rattle.turn_lock.specs.Calls.{made, ServesAll};
-ghost use Rattle.turn_lock.specs.Views.{view, IsOf};
+ghost use Rattle.turn_lock.specs.Calls.{first_book, ServesAll};
+ghost use Rattle.turn_lock.specs.Views.{view, HasSeat};
 ghost use Rattle.worker_run.specs.Bodies.{AreInRange};
 ghost use Rattle.worker_run.specs.Played.{HasPlayed};
 ghost use Rattle.worker_run.specs.Served.{IsUnposted, IsWhole, first_runners};
@@ -36,12 +36,12 @@ pub fn runners_of<B: Body>(
 
 /// Takes all threads off the seat, into one of their own.
 fn split_all<P: Policy>(lock: &TurnLock<P>, seat: &mut Seat<P>, threads: u32) -> Seat<P>
-    requires of { IsOf lock.now seat.old }
+    requires of { HasSeat lock.now seat.old }
     requires some { 1 ≤ threads }
     requires few { threads ≤ 64 }
     requires all { (t : ℕ) → t < threads → Serves (view seat.old) t }
     requires unposted { IsUnposted (view seat.old).seen }
-    ensures of { IsOf lock.now seat.new × IsOf lock.now result }
+    ensures of { HasSeat lock.now seat.new × HasSeat lock.now result }
     ensures left { (view seat.new).seen ≡ (view seat.old).seen }
     ensures right { IsWhole threads (view seat.old).seen (view result) }
 {
@@ -64,14 +64,16 @@ pub fn run_on<R: Threads + Wait + Sync, P: Policy, B: Body, G: Gate>(
     bodies: Vec<B>,
     gate: &G,
 ) -> Result<(), NoMemory>
-    requires of { IsOf lock.now seat.old }
+    requires of { HasSeat lock.now seat.old }
     requires all { ServesAll (view seat.old) }
     requires unposted { IsUnposted (view seat.old).seen }
-    requires bodies { length bodies.items ≡ (made lock.now).deal.threads }
-    requires in_range { AreInRange (sizes_of_deal (made lock.now).deal) (map B.pending bodies.items) }
-    ensures of { IsOf lock.now seat.new }
+    requires bodies { length bodies.items ≡ (first_book lock.now).deal.threads }
+    requires in_range { AreInRange (sizes_of_deal (first_book lock.now).deal)
+        (map B.pending bodies.items) }
+    ensures of { HasSeat lock.now seat.new }
     ensures all { ServesAll (view seat.new) }
-    ensures played { OnOk result (HasPlayed (made lock.now) (map B.pending bodies.items) (view seat.new).seen) }
+    ensures played { OnOk result
+        (HasPlayed (first_book lock.now) (map B.pending bodies.items) (view seat.new).seen) }
     ensures no_memory { OnErr result (seat.new ≡ seat.old) }
 {
     let threads = bodies.len() as u32;

@@ -1,6 +1,6 @@
 // Many tests, for which threads are started once.
 ghost use Rattle.std.specs.Prelude.{◌≡◌, ◌≤◌, length, IfOk, vec_len, vec_capacity};
-ghost use Rattle.turn_lock.specs.Views.{IsOf};
+ghost use Rattle.turn_lock.specs.Views.{HasSeat};
 ghost use Rattle.worker_run.specs.Batch.{Each, IsSeatOf};
 ghost use Rattle.worker_run.specs.Batches.{AreCrews};
 ghost use Rattle.worker_run.specs.Tests.{IsTest, AreTests, IsRunOf, AllTold, IsLockOf, IsFirstCrew};
@@ -28,7 +28,7 @@ fn cast_of<P: Policy, B: Body>(
     requires test { IsTest B.pending P.plan P.stands test }
     ensures lock { IfOk result (λ r. IsLockOf P.plan test r.0) }
     ensures crew { IfOk result (λ r. IsFirstCrew P.plan test r.1) }
-    ensures of { IfOk result (λ r. IsOf r.0 r.1.seat) }
+    ensures of { IfOk result (λ r. HasSeat r.0 r.1.seat) }
 {
     let Test {
         deal,
@@ -49,7 +49,7 @@ fn casts_of<P: Policy, B: Body>(
     requires tests { AreTests B.pending P.plan P.stands tests.items }
     ensures locks { IfOk result (λ r. Each (IsLockOf P.plan) tests.items r.0.items) }
     ensures crews { IfOk result (λ r. Each (IsFirstCrew P.plan) tests.items r.1.items) }
-    ensures of { IfOk result (λ r. Each (λ lock crew. IsOf lock crew.seat) r.0.items r.1.items) }
+    ensures of { IfOk result (λ r. Each (λ lock crew. HasSeat lock crew.seat) r.0.items r.1.items) }
 {
     let mut locks = Vec::with_capacity(alloc, tests.len())?;
     let mut crews = Vec::with_capacity(alloc, tests.len())?;
@@ -106,7 +106,7 @@ fn play_tests<R: Threads + Wait + Sync, P: Policy, B: Body, G: Gate>(
     requires tests { AreTests B.pending P.plan P.stands tests.now.value.items }
     requires locks { Each (IsLockOf P.plan) tests.now.value.items locks.now }
     requires crews { Each (IsFirstCrew P.plan) tests.now.value.items crews.items }
-    requires of { Each (λ lock crew. IsOf lock crew.seat) locks.now crews.items }
+    requires of { Each (λ lock crew. HasSeat lock crew.seat) locks.now crews.items }
     ensures seats { IfOk result (λ after.
         Each (λ lock crew. IsSeatOf lock crew.seat) locks.now after.items) }
     ensures told { IfOk result (λ after.

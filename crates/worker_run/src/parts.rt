@@ -2,12 +2,12 @@
 ghost use Rattle.std.specs.Prelude.{◌≡◌, ◌⊎◌, ℕ, ◌∷◌, [], true, Some};
 ghost use Rattle.sync_store.specs.Store.{sizes_of_deal};
 ghost use Rattle.turn_lock.specs.Rule.{Serves};
-ghost use Rattle.turn_lock.specs.Calls.{made};
-ghost use Rattle.turn_lock.specs.Views.{view, IsOf};
+ghost use Rattle.turn_lock.specs.Calls.{first_book};
+ghost use Rattle.turn_lock.specs.Views.{view, HasSeat};
 ghost use Rattle.worker_run.specs.Bodies.{Pending};
 ghost use Rattle.worker_run.specs.Served.{IsCrew, HasCrew, AllOwe, IsServed};
 ghost use Rattle.worker_run.specs.Batch.{IsSeatOf, IsCrewOf, IsPart, IsServedPart};
-ghost use Rattle.worker_run.specs.Batch.{IsBack, IsThreadTold, bodies_on, is_there};
+ghost use Rattle.worker_run.specs.Batch.{IsPartBack, IsThreadTold, bodies_on, is_there};
 
 use crate::batch::{Crew, Part, Stage};
 use crate::crew::serve_all;
@@ -49,11 +49,11 @@ fn serve<R: Wait, P: Policy, B: Body, G: Gate>(
     mut runner: Runner<B>,
     gate: &G,
 ) -> Seat<P>
-    requires of { IsOf lock.now seat }
-    requires crew { HasCrew (sizes_of_deal (made lock.now).deal) B.pending thread
+    requires of { HasSeat lock.now seat }
+    requires crew { HasCrew (sizes_of_deal (first_book lock.now).deal) B.pending thread
         (Some runner ∷ []) (view seat) }
     requires owe { AllOwe (view seat) }
-    ensures of { IsOf lock.now result }
+    ensures of { HasSeat lock.now result }
     ensures served { (start : ℕ → Pending)
         → IsCrew B.pending start thread (Some runner ∷ []) (view seat)
         → IsServed start (view seat) (view result) }
@@ -84,7 +84,7 @@ pub fn serve_part<R: Wait, P: Policy, B: Body, G: Gate>(
 )
     requires part { IsPart B.pending stage.now thread part.old }
     ensures served { IsServedPart B.pending stage.now thread part.new }
-    ensures back { IsBack B.pending thread part.old part.new }
+    ensures back { IsPartBack B.pending thread part.old part.new }
 {
     match mem::replace(part, Part::Absent) {
         Part::Absent => {}

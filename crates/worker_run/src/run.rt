@@ -4,10 +4,10 @@ ghost use Rattle.rank_now.specs.declared.moment.Moment.{Moment};
 ghost use Rattle.policy_pick.specs.Plan.{SpeaksOf, ByPoints, ByEvents};
 ghost use Rattle.turn_book.specs.Told.{new_book};
 ghost use Rattle.turn_lock.specs.Rule.{first_view};
-ghost use Rattle.turn_lock.specs.Calls.{made, ServesAll};
-ghost use Rattle.turn_lock.specs.Views.{view, IsOf};
+ghost use Rattle.turn_lock.specs.Calls.{first_book, ServesAll};
+ghost use Rattle.turn_lock.specs.Views.{view, HasSeat};
 ghost use Rattle.worker_run.specs.Bodies.{Pending, AreInRange};
-ghost use Rattle.worker_run.specs.Run.{run, directed};
+ghost use Rattle.worker_run.specs.Run.{run, directed_run};
 ghost use Rattle.worker_run.specs.Played.{IsPlayed, IsRun, HasPlayed};
 
 use crate::crew::serve_all;
@@ -33,8 +33,8 @@ pub fn new_lock<P: Policy>(
     requires few_steps { limit ≤ 100000 }
     requires stands { P.stands policy [] }
     requires speaks { SpeaksOf (P.plan policy) deal.threads }
-    ensures made { IfOk result (λ r. made r.0 ≡ new_book deal limit (P.plan policy)) }
-    ensures of { IfOk result (λ r. IsOf r.0 r.1) }
+    ensures made { IfOk result (λ r. first_book r.0 ≡ new_book deal limit (P.plan policy)) }
+    ensures of { IfOk result (λ r. HasSeat r.0 r.1) }
     ensures view { IfOk result (λ r. view r.1 ≡ first_view (new_book deal limit (P.plan policy))) }
 {
     let book = TurnBook::new(alloc, deal, policy, limit)?;
@@ -43,10 +43,13 @@ pub fn new_lock<P: Policy>(
 
 /// The run of the lock's book, which is over.
 pub fn finish<P: Policy>(lock: TurnLock<P>, seat: Seat<P>) -> Played
-    requires of { IsOf lock seat }
+    requires of { HasSeat lock seat }
     requires all { ServesAll (view seat) }
-    requires played { (bodies : List Pending) × HasPlayed (made lock) bodies (view seat).seen }
-    ensures { (bodies : List Pending) → HasPlayed (made lock) bodies (view seat).seen → IsPlayed (made lock).plan (made lock).deal bodies (made lock).limit result.events result.outcome }
+    requires played { (bodies : List Pending)
+        × HasPlayed (first_book lock) bodies (view seat).seen }
+    ensures { (bodies : List Pending) → HasPlayed (first_book lock) bodies (view seat).seen
+        → IsPlayed (first_book lock).plan (first_book lock).deal bodies
+        (first_book lock).limit result.events result.outcome }
 {
     let (events, outcome) = lock.close(seat).into_parts();
     match outcome {
@@ -74,7 +77,9 @@ pub fn run_here<R: Wait, P: Policy, B: Body, G: Gate>(
     requires in_range { AreInRange (sizes_of_deal deal) (map B.pending bodies.items) }
     ensures played { IfOk result (λ played. IsPlayed (P.plan policy) deal (map B.pending bodies.items) limit played.events played.outcome) }
     ensures run { (order points : List ℕ) → P.plan policy ≡ ByPoints order points → IfOk result (λ played. IsRun (run deal (map B.pending bodies.items) order points limit) played.events played.outcome) }
-    ensures directed { (order : List ℕ) (events : List Moment) → P.plan policy ≡ ByEvents order events → IfOk result (λ played. IsRun (directed deal (map B.pending bodies.items) order events limit) played.events played.outcome) }
+    ensures directed { (order : List ℕ) (events : List Moment)
+        → P.plan policy ≡ ByEvents order events → IfOk result (λ played. IsRun (directed_run deal
+        (map B.pending bodies.items) order events limit) played.events played.outcome) }
 {
     let mut runners = runners_of(alloc, bodies)?;
     let (lock, mut seat) = new_lock(alloc, deal, policy, limit)?;
@@ -100,7 +105,9 @@ pub fn run_threads<R: Threads + Wait + Sync, P: Policy, B: Body, G: Gate>(
     requires in_range { AreInRange (sizes_of_deal deal) (map B.pending bodies.items) }
     ensures played { IfOk result (λ played. IsPlayed (P.plan policy) deal (map B.pending bodies.items) limit played.events played.outcome) }
     ensures run { (order points : List ℕ) → P.plan policy ≡ ByPoints order points → IfOk result (λ played. IsRun (run deal (map B.pending bodies.items) order points limit) played.events played.outcome) }
-    ensures directed { (order : List ℕ) (events : List Moment) → P.plan policy ≡ ByEvents order events → IfOk result (λ played. IsRun (directed deal (map B.pending bodies.items) order events limit) played.events played.outcome) }
+    ensures directed { (order : List ℕ) (events : List Moment)
+        → P.plan policy ≡ ByEvents order events → IfOk result (λ played. IsRun (directed_run deal
+        (map B.pending bodies.items) order events limit) played.events played.outcome) }
 {
     let (lock, mut seat) = new_lock(alloc, deal, policy, limit)?;
     run_on(rt, alloc, &lock, &mut seat, bodies, gate)?;

@@ -3,8 +3,8 @@ ghost use Rattle.sync_store.specs.Store.{sizes_of_deal};
 ghost use Rattle.turn_book.specs.Told.{IsLawful};
 ghost use Rattle.turn_lock.specs.Seen.{owes_of};
 ghost use Rattle.turn_lock.specs.Rule.{Serves};
-ghost use Rattle.turn_lock.specs.Calls.{made};
-ghost use Rattle.turn_lock.specs.Views.{view, IsOf};
+ghost use Rattle.turn_lock.specs.Calls.{first_book};
+ghost use Rattle.turn_lock.specs.Views.{view, HasSeat};
 ghost use Rattle.turn_lock.specs.Briefs.{brief};
 ghost use Rattle.turn_lock.specs.declared.turn.Turn.{Turn};
 ghost use Rattle.worker_run.specs.Bodies.{Pending, IsInRangeBody};
@@ -57,11 +57,13 @@ impl<B: Body> Runner<B> {
         thread: u32,
         gate: &G,
     ) -> bool
-        requires of { IsOf lock.now seat.old }
+        requires of { HasSeat lock.now seat.old }
         requires serves { Serves (view seat.old) thread }
         requires owes { owes_of (view seat.old).seen thread ≡ true }
-        requires runs { (start : Pending) × IsInRangeBody (sizes_of_deal (made lock.now).deal) start × IsRunning start (B.pending self.old.body) self.old.answered thread (view seat.old).seen }
-        ensures of { IsOf lock.now seat.new }
+        requires runs { (start : Pending)
+            × IsInRangeBody (sizes_of_deal (first_book lock.now).deal) start × IsRunning start
+            (B.pending self.old.body) self.old.answered thread (view seat.old).seen }
+        ensures of { HasSeat lock.now seat.new }
         ensures runs { (start : Pending) → IsRunning start (B.pending self.old.body) self.old.answered thread (view seat.old).seen → IsRunning start (B.pending self.new.body) self.new.answered thread (view seat.new).seen }
         ensures moves { Moves thread (view seat.old) (view seat.new) }
         ensures lawful { IsLawful (view seat.new).seen }

@@ -12,14 +12,14 @@ use Rattle.rank_now.specs.declared.moment.Moment.{Moment}
 use Rattle.rank_now.specs.Order.{IsOrder}
 use Rattle.turn_book.specs.Posts.{schedule_of}
 use Rattle.worker_run.specs.Bodies.{Pending}
-use Rattle.worker_run.specs.Run.{Run, run, directed}
+use Rattle.worker_run.specs.Run.{Run, run, directed_run}
 use Rattle.worker_run.proofs.laws.WholeRuns.{directed-is-there, run-played}
 use Rattle.directive_find.specs.declared.reducing.Short.{Short}
 use Rattle.directive_find.specs.declared.finding.FoundOut.{FoundOut}
 use Rattle.directive_find.specs.declared.finding.FoundOut.TheVariants.{Events, Passes}
-use Rattle.directive_find.specs.Moments.{events_of, Fits}
+use Rattle.directive_find.specs.Moments.{events_of, MomentFits}
 use Rattle.directive_find.specs.Reduced.{HasVerdict, NeedsFirst, Reduces, IsReduced}
-use Rattle.directive_find.specs.Found.{HasOther, IsFound, IsPass, Finds}
+use Rattle.directive_find.specs.Found.{HasOther, IsFinding, IsPass, Finds}
 use Rattle.directive_find.proofs.laws.FoundMoments.{found-run, moments-few}
 use Rattle.directive_find.proofs.laws.FittingMoments.{found-fit}
 use Rattle.directive_find.proofs.laws.Reducing.{reduced-least, reduced-only, reduced-all, reduced-few}
@@ -31,9 +31,9 @@ same-whole events other verdict last whole one two =
     (ap (λ (r : Run). r.0) pair, ap (λ (r : Run). r.1) pair)
 
 -- A step that there may be is one where there may be more.
-pub fits-more : (threads steps more : ℕ) → steps ≤ more → (moments : List Moment) → All (Fits threads steps) moments → All (Fits threads more) moments
+pub fits-more : (threads steps more : ℕ) → steps ≤ more → (moments : List Moment) → All (MomentFits threads steps) moments → All (MomentFits threads more) moments
 fits-more threads steps more within moments all =
-    All-weaker (Fits threads steps) (Fits threads more) (λ m f. record { thread = f.thread; some = f.some; few = omega (arith, f.few, within) }) moments all
+    All-weaker (MomentFits threads steps) (MomentFits threads more) (λ m f. record { thread = f.thread; some = f.some; few = omega (arith, f.few, within) }) moments all
 
 module _ (deal : Deal) (bodies : List Pending) (order : List ℕ) (limit : ℕ) where
   -- Without any single moment of the list that is left the directed run has another verdict.
@@ -41,7 +41,7 @@ module _ (deal : Deal) (bodies : List Pending) (order : List ℕ) (limit : ℕ) 
       → (place : ℕ) → place < length moments → HasOther deal bodies order limit verdict (remove moments place)
   needed-by verdict moments threads needs place within =
       let r = directed-is-there deal bodies order (remove moments place) limit threads in
-      let P : Verdict → Type 0 = λ v. directed deal bodies order (remove moments place) limit ≡ Some ((r.0).0, v) in
+      let P : Verdict → Type 0 = λ v. directed_run deal bodies order (remove moments place) limit ≡ Some ((r.0).0, v) in
       record {
         made = (r.0).0;
         other = (r.0).1;
@@ -53,7 +53,7 @@ module _ (deal : Deal) (bodies : List Pending) (order : List ℕ) (limit : ℕ) 
     -- A run that doesn't pass, and its moments as they were reduced, are what is found.
     pub made-found : (made : List Event) (verdict : Verdict) (moments : List Moment) (short : Short) → IsOrder order → length order ≡ deal.threads → All (λ point. 1 ≤ point) points → length made ≤ limit
         → run deal bodies order points limit ≡ Some (made, verdict) → verdict ≢ Passed → moments ≡ events_of (schedule_of made) points → IsReduced deal bodies order limit verdict moments short
-        → IsFound deal bodies order points limit short.events verdict short.steps
+        → IsFinding deal bodies order points limit short.events verdict short.steps
     made-found made verdict moments short ordered whole some room is fails are reduces =
         let all = events_of (schedule_of made) points in
         let R : List Moment → Type 0 = λ ms. Reduces (HasVerdict deal bodies order limit verdict) ms short.events in
@@ -70,7 +70,7 @@ module _ (deal : Deal) (bodies : List Pending) (order : List ℕ) (limit : ℕ) 
           leads = reduces.leads;
           needed = needed-by verdict short.events (sym whole) (reduced-least (HasVerdict deal bodies order limit verdict) moments short.events reduces.reduced);
           few = (let left = reduced-few (HasVerdict deal bodies order limit verdict) all short.events reduced in let kept = moments-few (schedule_of made) points in omega arith);
-          fit = reduced-all (HasVerdict deal bodies order limit verdict) (Fits deal.threads limit) (record { thread = 0; number = 0 }) all short.events reduced near;
+          fit = reduced-all (HasVerdict deal bodies order limit verdict) (MomentFits deal.threads limit) (record { thread = 0; number = 0 }) all short.events reduced near;
         }
 
     -- A run that passes.
@@ -81,19 +81,19 @@ module _ (deal : Deal) (bodies : List Pending) (order : List ℕ) (limit : ℕ) 
         let run_is = subst V passed is in
         record { made = made; is_run = run_is; same_run = found-run deal bodies order points limit made Passed ordered (sym whole) run_is; number = number }
 
-    events-once : (one other : List Moment) (verdict last : Verdict) (steps count : ℕ) → IsFound deal bodies order points limit one verdict steps → IsFound deal bodies order points limit other last count
+    events-once : (one other : List Moment) (verdict last : Verdict) (steps count : ℕ) → IsFinding deal bodies order points limit one verdict steps → IsFinding deal bodies order points limit other last count
         → Events one verdict steps ≡ Events other last count
     events-once one other verdict last steps count a b =
         let same = same-whole b.made a.made last verdict (run deal bodies order points limit) b.is_run a.is_run in
         let M : List Event → Type 0 = λ es. Reduces (HasVerdict deal bodies order limit last) (events_of (schedule_of es) points) other in
         let V : Verdict → Type 0 = λ v. Reduces (HasVerdict deal bodies order limit v) (events_of (schedule_of a.made) points) other in
         let events = reduced-only (HasVerdict deal bodies order limit verdict) (events_of (schedule_of a.made) points) one other a.reduced (subst V same.1 (subst M same.0 b.reduced)) in
-        let made = same-whole (b.leads).made (a.leads).made last verdict (directed deal bodies order other limit) (b.leads).is_directed (ap (λ ms. directed deal bodies order ms limit) (sym events) ∙ (a.leads).is_directed) in
+        let made = same-whole (b.leads).made (a.leads).made last verdict (directed_run deal bodies order other limit) (b.leads).is_directed (ap (λ ms. directed_run deal bodies order ms limit) (sym events) ∙ (a.leads).is_directed) in
         let number : steps ≡ count = (a.leads).number ∙ ap length (sym made.0) ∙ sym (b.leads).number in
         let ends = same.1 in
         cc
 
-    passes-not : (events : List Moment) (verdict : Verdict) (steps count : ℕ) → IsFound deal bodies order points limit events verdict steps → IsPass deal bodies order points limit count → ⊥
+    passes-not : (events : List Moment) (verdict : Verdict) (steps count : ℕ) → IsFinding deal bodies order points limit events verdict steps → IsPass deal bodies order points limit count → ⊥
     passes-not events verdict steps count a b = a.fails (same-whole a.made b.made verdict Passed (run deal bodies order points limit) a.is_run b.is_run).1
 
     -- Of a deal, bodies, an order and points one thing is found.

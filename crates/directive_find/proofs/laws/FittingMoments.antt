@@ -18,10 +18,10 @@ use Rattle.turn_book.proofs.laws.ObeyingSteps.{obeys-within}
 use Rattle.worker_run.specs.Bodies.{Pending, source_of_bodies}
 use Rattle.worker_run.specs.Played.{IsPlayed}
 use Rattle.worker_run.proofs.laws.Moments.{own-step, own-rises}
-use Rattle.directive_find.specs.Moments.{moment_at, is_kept, events_of, Fits}
+use Rattle.directive_find.specs.Moments.{moment_at, is_kept, events_of, MomentFits}
 
 module _ (schedule : List ℕ) (threads : ℕ) (below : (k : ℕ) → k < length schedule → get_or schedule k 0 < threads) where
-  moment-fits : (point : ℕ) → 0 < point → point ≤ length schedule → Fits threads (length schedule) (moment_at schedule point)
+  moment-fits : (point : ℕ) → 0 < point → point ≤ length schedule → MomentFits threads (length schedule) (moment_at schedule point)
   moment-fits zero some within = absurd (omega arith)
   moment-fits (suc k) some within =
       let m = moment_at schedule (suc k) in
@@ -35,16 +35,16 @@ module _ (schedule : List ℕ) (threads : ℕ) (below : (k : ℕ) → k < length
       let number : m.number ≡ own_steps schedule m.thread (suc k) = refl in
       record { thread = (let b = below k (omega arith) in omega (arith, here)); some = omega arith; few = omega arith }
 
-  fit-by : (point : ℕ) (later : List ℕ) → 0 < point → (b : Bool) → is_kept schedule point later ≡ b → All (Fits threads (length schedule)) (events_of schedule later)
-      → All (Fits threads (length schedule)) (cond b (moment_at schedule point ∷ events_of schedule later) (events_of schedule later))
+  fit-by : (point : ℕ) (later : List ℕ) → 0 < point → (b : Bool) → is_kept schedule point later ≡ b → All (MomentFits threads (length schedule)) (events_of schedule later)
+      → All (MomentFits threads (length schedule)) (cond b (moment_at schedule point ∷ events_of schedule later) (events_of schedule later))
   fit-by point later some true is rest =
       let parts = and_parts (leb point (length schedule)) (not (list_any (λ other. eqb other point) later)) is in
       let first = parts.0 in
-      All-cons (Fits threads (length schedule)) (moment_at schedule point) (events_of schedule later) (moment-fits point some (grind (arith, nat_tests))) rest
+      All-cons (MomentFits threads (length schedule)) (moment_at schedule point) (events_of schedule later) (moment-fits point some (grind (arith, nat_tests))) rest
   fit-by point later some false is rest = rest
 
-  pub moments-fit : (points : List ℕ) → ((k : ℕ) → k < length points → 0 < get_or points k 0) → All (Fits threads (length schedule)) (events_of schedule points)
-  moments-fit [] some = All-nil (Fits threads (length schedule))
+  pub moments-fit : (points : List ℕ) → ((k : ℕ) → k < length points → 0 < get_or points k 0) → All (MomentFits threads (length schedule)) (events_of schedule points)
+  moments-fit [] some = All-nil (MomentFits threads (length schedule))
   moments-fit (point ∷ later) some = fit-by point later (some 0 (omega arith)) (is_kept schedule point later) refl (moments-fit later (λ k p. some (suc k) (omega arith)))
 
 -- the threads of a run's steps
@@ -55,6 +55,7 @@ below-by threads (e ∷ es) within (suc k) p = below-by threads es (λ x before 
 
 pub found-fit : (deal : Deal) (bodies : List Pending) (order points : List ℕ) (limit : ℕ) (events : List Event) (outcome : Outcome) → deal.threads ≡ length order
     → ((k : ℕ) → k < length points → 0 < get_or points k 0) → IsPlayed (ByPoints order points) deal bodies limit events outcome
-    → All (Fits deal.threads (length (schedule_of events))) (events_of (schedule_of events) points)
+    → All (MomentFits deal.threads (length (schedule_of events)))
+    (events_of (schedule_of events) points)
 found-fit deal bodies order points limit events outcome threads some played =
     moments-fit (schedule_of events) deal.threads (below-by deal.threads events (obeys-within (ByPoints order points) deal (source_of_bodies bodies) limit events threads played.obeys)) points some

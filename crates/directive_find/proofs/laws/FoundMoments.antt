@@ -10,12 +10,12 @@ use Rattle.pct_ask.specs.declared.event.Event.{Event}
 use Rattle.pct_ask.specs.declared.verdict.Verdict.{Verdict}
 use Rattle.rank_now.specs.declared.moment.Moment.{Moment}
 use Rattle.rank_now.specs.Order.{IsOrder}
-use Rattle.rank_now.specs.Positions.{greatest, passes_at, last_position}
+use Rattle.rank_now.specs.Positions.{greatest_where, passes_at, last_position}
 use Rattle.rank_now.specs.Rank.{index_of_point, own_steps, is_moment, index_of_moment, rank, rank_by_events}
 use Rattle.rank_now.proofs.laws.Positions.{greatest-le, passes_at-read}
 use Rattle.turn_book.specs.Posts.{schedule_of}
 use Rattle.worker_run.specs.Bodies.{Pending}
-use Rattle.worker_run.specs.Run.{run, directed}
+use Rattle.worker_run.specs.Run.{run, directed_run}
 use Rattle.worker_run.proofs.laws.SameRuns.{same-from}
 use Rattle.worker_run.proofs.laws.RanksAlike.{GivenAlike, rank_by-alike}
 use Rattle.worker_run.proofs.laws.Moments.{own-step, moment-once, is_moment-append}
@@ -26,12 +26,12 @@ module _ {X : Type 0} (test : X → Bool) (x : X) (xs : List X) where
   abbrev more : ℕ → ℕ
   more k = cond (nat_lt 0 k) (suc k) (cond (test x) 1 0)
 
-  greatest-cons-by : (n : ℕ) (b : Bool) → passes_at test xs (suc n) ≡ b → greatest (passes_at test (x ∷ xs)) (suc n) ≡ more (greatest (passes_at test xs) n)
-      → cond b (suc (suc n)) (greatest (passes_at test (x ∷ xs)) (suc n)) ≡ more (cond b (suc n) (greatest (passes_at test xs) n))
+  greatest-cons-by : (n : ℕ) (b : Bool) → passes_at test xs (suc n) ≡ b → greatest_where (passes_at test (x ∷ xs)) (suc n) ≡ more (greatest_where (passes_at test xs) n)
+      → cond b (suc (suc n)) (greatest_where (passes_at test (x ∷ xs)) (suc n)) ≡ more (cond b (suc n) (greatest_where (passes_at test xs) n))
   greatest-cons-by n true is rest = sym (ap (λ b. cond b (suc (suc n)) (cond (test x) 1 0)) (let some : nat_lt 0 (suc n) ≡ true = grind (arith, nat_tests) in some))
   greatest-cons-by n false is rest = rest
 
-  greatest-cons : (n : ℕ) → greatest (passes_at test (x ∷ xs)) (suc n) ≡ more (greatest (passes_at test xs) n)
+  greatest-cons : (n : ℕ) → greatest_where (passes_at test (x ∷ xs)) (suc n) ≡ more (greatest_where (passes_at test xs) n)
   greatest-cons zero = refl
   greatest-cons (suc n) = greatest-cons-by n (passes_at test xs (suc n)) refl (greatest-cons n)
 
@@ -208,7 +208,7 @@ module _ (points schedule taken more : List ℕ) (t : ℕ) (cut : schedule ≡ t
 
 -- The run of an order and points is the directed run of its moments.
 pub found-run : (deal : Deal) (bodies : List Pending) (order points : List ℕ) (limit : ℕ) (events : List Event) (verdict : Verdict) → IsOrder order → deal.threads ≡ length order
-    → run deal bodies order points limit ≡ Some (events, verdict) → directed deal bodies order (events_of (schedule_of events) points) limit ≡ Some (events, verdict)
+    → run deal bodies order points limit ≡ Some (events, verdict) → directed_run deal bodies order (events_of (schedule_of events) points) limit ≡ Some (events, verdict)
 found-run deal bodies order points limit events verdict ordered threads is =
     let moments = events_of (schedule_of events) points in
     same-from deal bodies (rank order points) (rank_by_events order moments) limit [] events verdict

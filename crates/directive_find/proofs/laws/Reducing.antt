@@ -4,7 +4,7 @@ use Rattle.std.specs.List.{All, remove}
 use Rattle.std.proofs.lemmas.Bool.{cases_eq, cases_lt}
 use Rattle.std.proofs.lemmas.List.Elements.{All-get_or, All-from_get_or}
 use Rattle.std.proofs.lemmas.List.Edits.{length-remove, get_or-remove_below, get_or-remove_above}
-use Rattle.directive_find.specs.Reduced.{NeedsFirst, IsFirst, Reduces, Stays, Drops}
+use Rattle.directive_find.specs.Reduced.{NeedsFirst, IsFirstToLeaveOut, Reduces, Stays, Drops}
 
 -- what holds of each item holds of those that are left
 all-remove : {X : Type 0} (P : X → Type 0) (d : X) (items : List X) (place : ℕ) → place < length items → All P items → All P (remove items place)
@@ -37,7 +37,7 @@ module _ {X : Type 0} (Holds : List X → Type 0) where
       let fewer = reduced-few (remove items place) left rest in
       omega (arith, fewer, length-remove items place first.within, first.within)
 
-  same-place : (items : List X) (one other : ℕ) → IsFirst Holds items one → IsFirst Holds items other → one ≡ other
+  same-place : (items : List X) (one other : ℕ) → IsFirstToLeaveOut Holds items one → IsFirstToLeaveOut Holds items other → one ≡ other
   same-place items one other a b = elim (cases_eq one other) [
     | inl e ↦ e
     | inr ne ↦ elim (cases_lt one other) [ inl lt ↦ absurd (b.before one lt a.holds) | inr ge ↦ absurd (a.before other (omega arith) b.holds) ]

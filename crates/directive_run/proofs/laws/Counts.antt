@@ -16,7 +16,7 @@ use Rattle.pct_ask.proofs.laws.SameVerdicts.{verdict-Decides}
 use Rattle.worker_run.specs.Bodies.{Pending}
 use Rattle.worker_run.specs.Run.{run}
 use Rattle.directive_run.specs.Exposing.{IsWithin}
-use Rattle.directive_run.specs.Orders.{factorial, ending, orders_by, orders, threads_below, low_orders}
+use Rattle.directive_run.specs.Orders.{factorial, orders_ending, orders_by, orders, threads_below, low_orders}
 use Rattle.directive_run.specs.Counting.{pointlists, has_verdict, hits_under, hits}
 use Rattle.directive_run.proofs.laws.OrderLists.{get-left, get-right, get-map, length-low-orders, length-threads, thread-at}
 
@@ -76,14 +76,14 @@ order-hits deal bodies order points made verdict k many limit long within is =
 
 -- ---- the sum over all orders is at least that over those that place the thread last
 
-ending-sum : (f : List ℕ → ℕ) (others : List ℕ → List (List ℕ)) (list : List ℕ) (place p : ℕ) → p < place → sum_by f (map (λ order. order ++ slice_index list p ∷ []) (others (remove list p))) ≤ sum_by f (ending others list place)
+ending-sum : (f : List ℕ → ℕ) (others : List ℕ → List (List ℕ)) (list : List ℕ) (place p : ℕ) → p < place → sum_by f (map (λ order. order ++ slice_index list p ∷ []) (others (remove list p))) ≤ sum_by f (orders_ending others list place)
 ending-sum f others list zero p less = absurd (omega arith)
 ending-sum f others list (suc q) p less = elim (cases_eq p q) [
   | inl same ↦
-      let P : ℕ → Type 0 = λ z. sum_by f (map (λ order. order ++ slice_index list p ∷ []) (others (remove list p))) ≤ sum_by f (ending others list (suc z)) in
-      subst P same (omega (arith, sum_by-append f (map (λ order. order ++ slice_index list p ∷ []) (others (remove list p))) (ending others list p)))
+      let P : ℕ → Type 0 = λ z. sum_by f (map (λ order. order ++ slice_index list p ∷ []) (others (remove list p))) ≤ sum_by f (orders_ending others list (suc z)) in
+      subst P same (omega (arith, sum_by-append f (map (λ order. order ++ slice_index list p ∷ []) (others (remove list p))) (orders_ending others list p)))
   | inr apart ↦
-      omega (arith, ending-sum f others list q p (omega arith), sum_by-append f (map (λ order. order ++ slice_index list q ∷ []) (others (remove list q))) (ending others list q))
+      omega (arith, ending-sum f others list q p (omega arith), sum_by-append f (map (λ order. order ++ slice_index list q ∷ []) (others (remove list q))) (orders_ending others list q))
 ]
 
 low-sum : (f : List ℕ → ℕ) (threads low : ℕ) → low < threads → sum_by f (low_orders threads low) ≤ sum_by f (orders (threads_below threads))

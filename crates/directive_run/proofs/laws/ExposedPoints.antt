@@ -9,26 +9,27 @@ use Rattle.pct_ask.specs.declared.Deal.{Deal}
 use Rattle.pct_ask.specs.declared.event.Event.{Event}
 use Rattle.pct_ask.specs.declared.verdict.Verdict.{Verdict}
 use Rattle.rank_now.specs.declared.moment.Moment.{Moment}
-use Rattle.rank_now.specs.Positions.{greatest, passes_at}
+use Rattle.rank_now.specs.Positions.{greatest_where, passes_at}
 use Rattle.rank_now.specs.Rank.{rank_by, index_of_point, is_moment, index_of_moment, rank, rank_by_events}
 use Rattle.rank_now.proofs.laws.Positions.{greatest-agree, greatest-passes, greatest-le, passes_at-agree, rank_by-agree}
 use Rattle.turn_book.specs.Posts.{schedule_of}
 use Rattle.worker_run.specs.Bodies.{Pending}
-use Rattle.worker_run.specs.Run.{run, directed}
+use Rattle.worker_run.specs.Run.{run, directed_run}
 use Rattle.worker_run.proofs.laws.Moments.{moment-once, is_moment-append}
 use Rattle.worker_run.proofs.laws.SameRuns.{same-from}
 use Rattle.directive_run.specs.Points.{step_of_moment, point_of_moment, points_of}
 use Rattle.directive_run.specs.Exposing.{IsWithin}
 
 -- a greatest number of 0: none passes
-greatest-zero-by : (test : ℕ → Bool) (n : ℕ) (b : Bool) → test (suc n) ≡ b → greatest test (suc n) ≡ 0 → (greatest test n ≡ 0 → (j : ℕ) → 0 < j → j ≤ n → test j ≡ false) → (j : ℕ) → 0 < j → j ≤ suc n → test j ≡ false
-greatest-zero-by test n true is e rest j low high = absurd (let z : suc n ≡ 0 = sym (ap (λ b. cond b (suc n) (greatest test n)) is) ∙ e in omega arith)
+greatest-zero-by : (test : ℕ → Bool) (n : ℕ) (b : Bool) → test (suc n) ≡ b → greatest_where test (suc n) ≡ 0 → (greatest_where test n ≡ 0 → (j : ℕ) → 0 < j → j ≤ n → test j ≡ false) → (j : ℕ) → 0 < j → j ≤ suc n → test j ≡ false
+greatest-zero-by test n true is e rest j low high = absurd (let z : suc n ≡ 0 = sym (ap (λ b. cond b (suc n) (greatest_where test n)) is) ∙ e in omega arith)
 greatest-zero-by test n false is e rest j low high = elim (cases_eq j (suc n)) [
   | inl same ↦ ap test same ∙ is
-  | inr ne ↦ rest (sym (ap (λ b. cond b (suc n) (greatest test n)) is) ∙ e) j low (omega arith)
+  | inr ne ↦ rest (sym (ap (λ b. cond b (suc n) (greatest_where test n)) is) ∙ e) j low
+      (omega arith)
 ]
 
-greatest-zero : (test : ℕ → Bool) (n : ℕ) → greatest test n ≡ 0 → (j : ℕ) → 0 < j → j ≤ n → test j ≡ false
+greatest-zero : (test : ℕ → Bool) (n : ℕ) → greatest_where test n ≡ 0 → (j : ℕ) → 0 < j → j ≤ n → test j ≡ false
 greatest-zero test zero e j low high = absurd (omega arith)
 greatest-zero test (suc n) e j low high = greatest-zero-by test n (test (suc n)) refl e (λ f. greatest-zero test n f) j low high
 
@@ -75,7 +76,7 @@ module _ (order : List ℕ) (events : List Moment) (schedule : List ℕ) (steps 
 
     index-same : (step : ℕ) → 0 < step → step ≤ length taken → index_of_point points step ≡ index_of_moment events taken step
     index-same step low high =
-        ap (greatest (passes_at (λ point. eqb point step) points)) long
+        ap (greatest_where (passes_at (λ point. eqb point step) points)) long
         ∙ greatest-agree (passes_at (λ point. eqb point step) points) (passes_at (is_moment taken step) events) (length events) (λ k p q.
         passes_at-map (point_of_moment schedule steps) (λ point. eqb point step) events k
         ∙ passes_at-agree (λ moment. eqb (point_of_moment schedule steps moment) step) (is_moment taken step) (marks step low high) events k)
@@ -87,7 +88,7 @@ module _ (order : List ℕ) (events : List Moment) (schedule : List ℕ) (steps 
 
 -- The directed run is the run of the points that stand for its moments.
 pub exposed-run : (deal : Deal) (bodies : List Pending) (order : List ℕ) (moments : List Moment) (limit steps : ℕ) (events : List Event) (verdict : Verdict) → length (schedule_of events) ≤ steps
-    → directed deal bodies order moments limit ≡ Some (events, verdict) → run deal bodies order (points_of (schedule_of events) steps moments) limit ≡ Some (events, verdict)
+    → directed_run deal bodies order moments limit ≡ Some (events, verdict) → run deal bodies order (points_of (schedule_of events) steps moments) limit ≡ Some (events, verdict)
 exposed-run deal bodies order moments limit steps events verdict room is =
     same-from deal bodies (rank_by_events order moments) (rank order (points_of (schedule_of events) steps moments)) limit [] events verdict
     (λ taken more t cut a b p q. λ i. leb (sym (exposed-rank order moments (schedule_of events) steps room taken more t cut a) i) (sym (exposed-rank order moments (schedule_of events) steps room taken more t cut b) i))

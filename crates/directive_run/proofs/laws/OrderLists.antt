@@ -7,18 +7,18 @@ use Rattle.std.proofs.lemmas.List.{length-append, length-map}
 use Rattle.std.proofs.lemmas.List.Edits.{length-remove}
 use Rattle.std.proofs.lemmas.List.Elements.{All-nil, All-cons, All-append, All-map}
 use Rattle.rank_now.specs.Order.{IsOrder}
-use Rattle.directive_run.specs.Orders.{factorial, ending, orders_by, orders, threads_below, low_orders}
+use Rattle.directive_run.specs.Orders.{factorial, orders_ending, orders_by, orders, threads_below, low_orders}
 use Rattle.directive_run.specs.Guarantees.{EndsIn}
 
 -- ---- how many there are
 
-length-ending : (others : List ℕ → List (List ℕ)) (list : List ℕ) (many place : ℕ) → ((p : ℕ) → p < length list → length (others (remove list p)) ≡ many) → place ≤ length list → length (ending others list place) ≡ place * many
+length-ending : (others : List ℕ → List (List ℕ)) (list : List ℕ) (many place : ℕ) → ((p : ℕ) → p < length list → length (others (remove list p)) ≡ many) → place ≤ length list → length (orders_ending others list place) ≡ place * many
 length-ending others list many zero each within = let e : 0 * many ≡ 0 = omega arith in sym e
 length-ending others list many (suc p) each within =
     let block = each p (omega arith) in
     let rest = length-ending others list many p each (omega arith) in
     let mapped = length-map (others (remove list p)) (λ order. order ++ slice_index list p ∷ []) in
-    let sum = length-append (map (λ order. order ++ slice_index list p ∷ []) (others (remove list p))) (ending others list p) in
+    let sum = length-append (map (λ order. order ++ slice_index list p ∷ []) (others (remove list p))) (orders_ending others list p) in
     let product : suc p * many ≡ many + p * many = grind arith in
     omega (arith, sum, mapped, block, rest, product)
 
@@ -177,10 +177,10 @@ arranges-last list front p within is = record {
   same = λ x. omega (arith, count-last x front (slice_index list p), is.same x, count-remove x list p within);
 }
 
-ending-all : (others : List ℕ → List (List ℕ)) (list : List ℕ) (place : ℕ) → ((p : ℕ) → p < length list → All (Arranges (remove list p)) (others (remove list p))) → place ≤ length list → All (Arranges list) (ending others list place)
+ending-all : (others : List ℕ → List (List ℕ)) (list : List ℕ) (place : ℕ) → ((p : ℕ) → p < length list → All (Arranges (remove list p)) (others (remove list p))) → place ≤ length list → All (Arranges list) (orders_ending others list place)
 ending-all others list zero each within = All-nil (Arranges list)
 ending-all others list (suc p) each within =
-    All-append (Arranges list) (map (λ order. order ++ slice_index list p ∷ []) (others (remove list p))) (ending others list p)
+    All-append (Arranges list) (map (λ order. order ++ slice_index list p ∷ []) (others (remove list p))) (orders_ending others list p)
     (All-map (Arranges list) (λ order. order ++ slice_index list p ∷ []) (others (remove list p)) (λ k d inside. arranges-last list (get_or (others (remove list p)) k d) p (omega arith) (each p (omega arith) k d inside)))
     (ending-all others list p each (omega arith))
 
@@ -209,22 +209,22 @@ get-map f [] k x is = absurd cc
 get-map f (y ∷ xs) zero x is = ap (λ z. Some (f z)) (let same : y ≡ x = cc in same)
 get-map f (y ∷ xs) (suc k) x is = get-map f xs k x is
 
-listed-in : (others : List ℕ → List (List ℕ)) (list front : List ℕ) (p place : ℕ) → p < place → IsListed (others (remove list p)) front → IsListed (ending others list place) (front ++ slice_index list p ∷ [])
+listed-in : (others : List ℕ → List (List ℕ)) (list front : List ℕ) (p place : ℕ) → p < place → IsListed (others (remove list p)) front → IsListed (orders_ending others list place) (front ++ slice_index list p ∷ [])
 listed-in others list front p zero less is = absurd (omega arith)
 listed-in others list front p (suc q) less is = elim (cases_eq p q) [
   | inl same ↦ here q same
   | inr apart ↦
       let rest = listed-in others list front p q (omega arith) is in
       let block = map (λ order. order ++ slice_index list q ∷ []) (others (remove list q)) in
-      (length block + rest.0, omega (arith, rest.1, length-append block (ending others list q)), get-right block (ending others list q) rest.0 ∙ rest.2)
+      (length block + rest.0, omega (arith, rest.1, length-append block (orders_ending others list q)), get-right block (orders_ending others list q) rest.0 ∙ rest.2)
 ]
   where
-    here : (q : ℕ) → p ≡ q → IsListed (ending others list (suc q)) (front ++ slice_index list p ∷ [])
+    here : (q : ℕ) → p ≡ q → IsListed (orders_ending others list (suc q)) (front ++ slice_index list p ∷ [])
     here q same =
-        let P : ℕ → Type 0 = λ z. IsListed (ending others list (suc z)) (front ++ slice_index list p ∷ []) in
+        let P : ℕ → Type 0 = λ z. IsListed (orders_ending others list (suc z)) (front ++ slice_index list p ∷ []) in
         let block = map (λ order. order ++ slice_index list p ∷ []) (others (remove list p)) in
         let inside : is.0 < length block = omega (arith, is.1, length-map (others (remove list p)) (λ order. order ++ slice_index list p ∷ [])) in
-        subst P same (is.0, omega (arith, inside, length-append block (ending others list p)), get-left block (ending others list p) is.0 inside ∙ get-map (λ order. order ++ slice_index list p ∷ []) (others (remove list p)) is.0 front is.2)
+        subst P same (is.0, omega (arith, inside, length-append block (orders_ending others list p)), get-left block (orders_ending others list p) is.0 inside ∙ get-map (λ order. order ++ slice_index list p ∷ []) (others (remove list p)) is.0 front is.2)
 
 -- a list that isn't empty has a last item
 split-last : (order : List ℕ) (n : ℕ) → length order ≡ suc n → (front : List ℕ) × (t : ℕ) × (order ≡ front ++ t ∷ []) × (length front ≡ n)

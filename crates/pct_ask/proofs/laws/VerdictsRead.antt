@@ -9,7 +9,7 @@ use Rattle.std.proofs.lemmas.List.{length-map}
 use Rattle.std.proofs.lemmas.Slice.Eq.{bytes_eq-Decides}
 use Rattle.pct_ask.specs.Words.{is_name}
 use Rattle.pct_ask.specs.NameLists.{NameLists, AreNames, place_of}
-use Rattle.pct_ask.specs.VerdictText.{NamedVerdict, NamedPassed, NamedFailed, NamedStuck, NamedMisuse, NamedFault, NamedCut, misuse_word, fault_word, place_words, verdict_words, named_text, named, thread_name, IsPlace, IsForm, IsWhole, known_threads, HasUnknown, HasNames, IsLine, verdict_text}
+use Rattle.pct_ask.specs.VerdictText.{NamedVerdict, NamedPassed, NamedFailed, NamedStuck, NamedMisuse, NamedFault, NamedCut, misuse_word, fault_word, place_words, verdict_words, named_text, named_verdict, thread_name, IsPlace, IsVerdictForm, IsWholeVerdict, known_threads, HasUnknownThread, HasNames, IsLine, verdict_text}
 use Rattle.pct_ask.specs.VerdictPieces.{HasName, Rises}
 use Rattle.pct_ask.specs.VerdictRead.{ReadsAs}
 use Rattle.pct_ask.specs.VerdictWords.{words_of, line_number, place_by, first_place, misuse_kind, fault_kind, placed_kind, verdict_at, placed_read, placed_words, stuck_read, stuck_words, verdict_of_words}
@@ -52,7 +52,7 @@ places-solid (p ∷ ps) all =
     (here.0, (here.1, places-solid ps (All-tail IsPlace p ps all)))
 
 -- a verdict's text is cut into its words
-words_of-named : (names : NameLists) (verdict : NamedVerdict) → IsForm names verdict → words_of (named_text verdict) ≡ verdict_words verdict
+words_of-named : (names : NameLists) (verdict : NamedVerdict) → IsVerdictForm names verdict → words_of (named_text verdict) ≡ verdict_words verdict
 words_of-named names NamedPassed form = refl
 words_of-named names (NamedFailed name line) form =
     let here = place-solid name line form in
@@ -91,7 +91,7 @@ fault-read Overflow = refl
 fault-read ZeroDivisor = refl
 fault-read Spin = refl
 
-form-read : (names : NameLists) (verdict : NamedVerdict) → IsForm names verdict → verdict_of_words names (verdict_words verdict) ≡ outcome names verdict
+form-read : (names : NameLists) (verdict : NamedVerdict) → IsVerdictForm names verdict → verdict_of_words names (verdict_words verdict) ≡ outcome names verdict
 form-read names NamedPassed form = refl
 form-read names (NamedFailed name line) form = rw (form.0, line_number-decimal line (decimal line) form.1 refl)
 form-read names (NamedStuck []) form = absurd (omega (arith, form.0))
@@ -106,7 +106,7 @@ form-read names NamedCut form = refl
 
 record Shown (names : NameLists) (words : List (List ℕ)) (read : VerdictRead) : Type 0 where
   verdict : NamedVerdict
-  form : IsForm names verdict
+  form : IsVerdictForm names verdict
   spelled : words ≡ verdict_words verdict
   same : outcome names verdict ≡ read
 
@@ -229,11 +229,11 @@ stuck-some : (unknown : Bool) (blocked : List (ℕ × ℕ)) → stuck_read unkno
 stuck-some true blocked h = cc
 stuck-some false blocked h = cc
 
-outcome-stuck : (names : NameLists) (places : List (List ℕ × ℕ)) → IsForm names (NamedStuck places) → outcome names (NamedStuck places) ≡ stuck_read (any_unknown names places) (known_places names places)
+outcome-stuck : (names : NameLists) (places : List (List ℕ × ℕ)) → IsVerdictForm names (NamedStuck places) → outcome names (NamedStuck places) ≡ stuck_read (any_unknown names places) (known_places names places)
 outcome-stuck names places form =
     stuck_places-rising names 0 [] false places (RiseFrom-increasing (known_threads names places) form.2)
 
-form-some : (names : NameLists) (verdict : NamedVerdict) → IsForm names verdict → outcome names verdict ≡ NoForm → ⊥
+form-some : (names : NameLists) (verdict : NamedVerdict) → IsVerdictForm names verdict → outcome names verdict ≡ NoForm → ⊥
 form-some names NamedPassed form h = cc
 form-some names (NamedFailed name line) form h = placed-some Failure (place_of name names.threads) line h
 form-some names (NamedStuck places) form h =
@@ -247,12 +247,12 @@ named_at Failure name line = NamedFailed name line
 named_at (Misused kind) name line = NamedMisuse name line kind
 named_at (Faulted kind) name line = NamedFault name line kind
 
-named-verdict_at : (names : NameLists) (kind : PlacedKind) (thread line : ℕ) → thread < length names.threads → (named names (verdict_at kind thread line) ≡ named_at kind (thread_name names thread) line) × HasNames names (verdict_at kind thread line)
+named-verdict_at : (names : NameLists) (kind : PlacedKind) (thread line : ℕ) → thread < length names.threads → (named_verdict names (verdict_at kind thread line) ≡ named_at kind (thread_name names thread) line) × HasNames names (verdict_at kind thread line)
 named-verdict_at names Failure thread line h = (refl, All-cons (HasName names) thread [] h (All-nil (HasName names)))
 named-verdict_at names (Misused kind) thread line h = (refl, All-cons (HasName names) thread [] h (All-nil (HasName names)))
 named-verdict_at names (Faulted kind) thread line h = (refl, All-cons (HasName names) thread [] h (All-nil (HasName names)))
 
-is-placed : (names : NameLists) (kind : PlacedKind) (name : List ℕ) (line : ℕ) (thread : Option ℕ) (verdict : Verdict) → place_of name names.threads ≡ thread → placed_read (Some kind) thread line ≡ Is verdict → (named names verdict ≡ named_at kind name line) × HasNames names verdict
+is-placed : (names : NameLists) (kind : PlacedKind) (name : List ℕ) (line : ℕ) (thread : Option ℕ) (verdict : Verdict) → place_of name names.threads ≡ thread → placed_read (Some kind) thread line ≡ Is verdict → (named_verdict names verdict ≡ named_at kind name line) × HasNames names verdict
 is-placed names kind name line None verdict at h = cc
 is-placed names kind name line (Some t) verdict at h =
     let same : verdict_at kind t line ≡ verdict = cc in
@@ -260,14 +260,14 @@ is-placed names kind name line (Some t) verdict at h =
     let there = named-verdict_at names kind t line found.0 in
     rw (← same) (there.0 ∙ ap (λ n. named_at kind n line) found.1, there.1)
 
-is-stuck : (names : NameLists) (places : List (List ℕ × ℕ)) (unknown : Bool) (verdict : Verdict) → any_unknown names places ≡ unknown → stuck_read unknown (known_places names places) ≡ Is verdict → (named names verdict ≡ NamedStuck places) × HasNames names verdict
+is-stuck : (names : NameLists) (places : List (List ℕ × ℕ)) (unknown : Bool) (verdict : Verdict) → any_unknown names places ≡ unknown → stuck_read unknown (known_places names places) ≡ Is verdict → (named_verdict names verdict ≡ NamedStuck places) × HasNames names verdict
 is-stuck names places true verdict at h = cc
 is-stuck names places false verdict at h =
     let same : Stuck (known_places names places) ≡ verdict = cc in
     let there = named-known names places at in
     rw (← same) (ap (λ ps. NamedStuck ps) there.0, there.1)
 
-is-outcome : (names : NameLists) (form : NamedVerdict) (verdict : Verdict) → IsForm names form → outcome names form ≡ Is verdict → (named names verdict ≡ form) × HasNames names verdict
+is-outcome : (names : NameLists) (form : NamedVerdict) (verdict : Verdict) → IsVerdictForm names form → outcome names form ≡ Is verdict → (named_verdict names verdict ≡ form) × HasNames names verdict
 is-outcome names NamedPassed verdict lawful h = let same : Passed ≡ verdict = cc in rw (← same) (refl, All-nil (HasName names))
 is-outcome names (NamedFailed name line) verdict lawful h = is-placed names Failure name line (place_of name names.threads) verdict refl h
 is-outcome names (NamedStuck places) verdict lawful h =
@@ -284,7 +284,7 @@ unknown-stuck : (names : NameLists) (places : List (List ℕ × ℕ)) (unknown :
 unknown-stuck names places true at h = unknown-any names places at
 unknown-stuck names places false at h = cc
 
-unknown-outcome : (names : NameLists) (form : NamedVerdict) → IsForm names form → outcome names form ≡ UnknownName → HasUnknown names form
+unknown-outcome : (names : NameLists) (form : NamedVerdict) → IsVerdictForm names form → outcome names form ≡ UnknownName → HasUnknownThread names form
 unknown-outcome names NamedPassed lawful h = cc
 unknown-outcome names (NamedFailed name line) lawful h = unknown-placed names Failure name line (place_of name names.threads) refl h
 unknown-outcome names (NamedStuck places) lawful h =
@@ -298,7 +298,7 @@ placed-unknown names kind name line zero other h at none =
     let here : place_of name names.threads ≡ None = ap (λ n. place_of n names.threads) at ∙ none in rw here
 placed-unknown names kind name line (suc k) other h at none = absurd (omega arith)
 
-outcome-unknown : (names : NameLists) (form : NamedVerdict) → IsForm names form → HasUnknown names form → outcome names form ≡ UnknownName
+outcome-unknown : (names : NameLists) (form : NamedVerdict) → IsVerdictForm names form → HasUnknownThread names form → outcome names form ≡ UnknownName
 outcome-unknown names NamedPassed lawful u = let h = u.2 in absurd (omega arith)
 outcome-unknown names (NamedFailed name line) lawful u = placed-unknown names Failure name line u.0 u.1 u.2 u.3 u.4
 outcome-unknown names (NamedStuck places) lawful u =
@@ -308,7 +308,7 @@ outcome-unknown names (NamedMisuse name line kind) lawful u = placed-unknown nam
 outcome-unknown names (NamedFault name line kind) lawful u = placed-unknown names (Faulted kind) name line u.0 u.1 u.2 u.3 u.4
 outcome-unknown names NamedCut lawful u = let h = u.2 in absurd (omega arith)
 
-outcome-is : (names : NameLists) (verdict : Verdict) → AreNames names → HasNames names verdict → IsForm names (named names verdict) → outcome names (named names verdict) ≡ Is verdict
+outcome-is : (names : NameLists) (verdict : Verdict) → AreNames names → HasNames names verdict → IsVerdictForm names (named_verdict names verdict) → outcome names (named_verdict names verdict) ≡ Is verdict
 outcome-is names Passed sound has form = refl
 outcome-is names (Failed thread line) sound has form =
     let at = place_of-thread names thread sound (All-head (HasName names) thread [] has) in rw at
@@ -323,7 +323,7 @@ outcome-is names Cut sound has form = refl
 
 -- ---- the theorem
 
-text-read : (names : NameLists) (text : List ℕ) (form : NamedVerdict) → IsForm names form → text ≡ named_text form → verdict_of_words names (words_of text) ≡ outcome names form
+text-read : (names : NameLists) (text : List ℕ) (form : NamedVerdict) → IsVerdictForm names form → text ≡ named_text form → verdict_of_words names (words_of text) ≡ outcome names form
 text-read names text form lawful is =
     ap (verdict_of_words names) (ap words_of is ∙ words_of-named names form lawful) ∙ form-read names form lawful
 
@@ -359,7 +359,8 @@ none-by names text UnknownName e none =
 -- and nothing else is
 pub ReadsAs-only : (names : NameLists) (text : List ℕ) (other : VerdictRead) → AreNames names → ReadsAs names text other → verdict_of_words names (words_of text) ≡ other
 ReadsAs-only names text (Is verdict) sound h =
-    text-read names text (named names verdict) h.1 h.2 ∙ outcome-is names verdict sound h.0 h.1
+    text-read names text
+    (named_verdict names verdict) h.1 h.2 ∙ outcome-is names verdict sound h.0 h.1
 ReadsAs-only names text UnknownName sound h =
     text-read names text h.0 h.1 h.3 ∙ outcome-unknown names h.0 h.1 h.2
 ReadsAs-only names text NoForm sound h =
@@ -383,7 +384,7 @@ place-form : (names : NameLists) (thread line : ℕ) → AreNames names → All 
 place-form names thread line sound has lines =
     (thread-lawful names thread sound (All-head (HasName names) thread [] has), lines)
 
-named-form : (names : NameLists) (verdict : Verdict) → AreNames names → HasNames names verdict → IsWhole verdict → Rises verdict → IsForm names (named names verdict)
+named-form : (names : NameLists) (verdict : Verdict) → AreNames names → HasNames names verdict → IsWholeVerdict verdict → Rises verdict → IsVerdictForm names (named_verdict names verdict)
 named-form names Passed sound has whole rises = tt
 named-form names (Failed thread line) sound has whole rises = place-form names thread line sound has whole
 named-form names (Stuck places) sound has whole rises =
@@ -394,7 +395,7 @@ named-form names (Fault thread line kind) sound has whole rises = place-form nam
 named-form names Cut sound has whole rises = tt
 
 -- what is written of a verdict is read as it
-pub ReadsAs-written : (names : NameLists) (verdict : Verdict) → AreNames names → HasNames names verdict → IsWhole verdict → Rises verdict → ReadsAs names (verdict_text names verdict) (Is verdict)
+pub ReadsAs-written : (names : NameLists) (verdict : Verdict) → AreNames names → HasNames names verdict → IsWholeVerdict verdict → Rises verdict → ReadsAs names (verdict_text names verdict) (Is verdict)
 ReadsAs-written names verdict sound has whole rises = (has, named-form names verdict sound has whole rises, refl)
 
 lines-named : (names : NameLists) (places : List (ℕ × ℕ)) → All IsPlace (map (named_place names) places) → All (λ (p : ℕ × ℕ). IsLine p.1) places
@@ -403,7 +404,7 @@ lines-named names (p ∷ ps) all =
     let here : IsPlace (named_place names p) = All-head IsPlace (named_place names p) (map (named_place names) ps) all in
     All-cons (λ (q : ℕ × ℕ). IsLine q.1) p ps here.1 (lines-named names ps (All-tail IsPlace (named_place names p) (map (named_place names) ps) all))
 
-form-whole : (names : NameLists) (verdict : Verdict) → IsForm names (named names verdict) → IsWhole verdict
+form-whole : (names : NameLists) (verdict : Verdict) → IsVerdictForm names (named_verdict names verdict) → IsWholeVerdict verdict
 form-whole names Passed form = tt
 form-whole names (Failed thread line) form = form.1
 form-whole names (Stuck places) form =
@@ -413,7 +414,7 @@ form-whole names (Fault thread line kind) form = form.1
 form-whole names Cut form = tt
 
 -- a verdict that was read can be written
-pub read-written : (names : NameLists) (text : List ℕ) (read : VerdictRead) (verdict : Verdict) → ReadsAs names text read → read ≡ Is verdict → HasNames names verdict × IsWhole verdict
+pub read-written : (names : NameLists) (text : List ℕ) (read : VerdictRead) (verdict : Verdict) → ReadsAs names text read → read ≡ Is verdict → HasNames names verdict × IsWholeVerdict verdict
 read-written names text read verdict reads is =
     let as_verdict : ReadsAs names text (Is verdict) = rw is at reads in
     (as_verdict.0, form-whole names verdict as_verdict.1)

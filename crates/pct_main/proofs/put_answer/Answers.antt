@@ -1,25 +1,25 @@
 use Rattle.std.proofs.Common.{◌≡◌, ℕ, List, Result, Ok, Err, refl, sym, subst, ap, ◌∙◌}
 use Rattle.pct_outside.specs.Counter.{Rose}
-use Rattle.pct_outside.specs.Piece.{AppendedPart}
+use Rattle.pct_outside.specs.Piece.{IsPartAppended}
 use Rattle.pct_outside.specs.declared.sinks.SinkError.{SinkError}
 use Rattle.pct_outside.specs.declared.sinks.SinkError.TheVariants.{Failed, NoMemory}
 use Rattle.pct_top.specs.declared.refusal.Refusal.{Refusal}
 use Rattle.pct_top.specs.declared.status.Status.{Status}
 use Rattle.pct_top.specs.Outside.{StreamTold}
 use Rattle.pct_top.specs.Refusing.{IsOfSink, status_of_refusal, refusal_line}
-use Rattle.pct_top.specs.Saying.{Says}
+use Rattle.pct_top.specs.Saying.{SaysLine}
 use Rattle.pct_main.specs.Own.{IsPut}
 use Rattle.pct_main.proofs.put_answer.Goals as goal
 
-module _ (text : List ℕ) (out out' err err' : StreamTold) (part : AppendedPart text out.written out'.written) where
+module _ (text : List ℕ) (out out' err err' : StreamTold) (part : IsPartAppended text out.written out'.written) where
   abbrev Is : Refusal → Type 0
-  Is refusal = Says (refusal_line refusal) err err' → IsPut text out out' err err' (status_of_refusal refusal)
+  Is refusal = SaysLine (refusal_line refusal) err err' → IsPut text out out' err err' (status_of_refusal refusal)
 
   by_error : (error : SinkError) (refusal : Refusal) → IsOfSink error refusal → (error ≡ Failed → Rose out.faults out'.faults) → (error ≡ NoMemory → Rose out.shorts out'.shorts) → Is refusal
   by_error Failed refusal is failed short = subst Is (sym is) (λ says. (failed refl, part, says))
   by_error NoMemory refusal is failed short = subst Is (sym is) (λ says. (short refl, part, says))
 
-  refused : (error : SinkError) (refusal : Refusal) (status : Status) → IsOfSink error refusal → (error ≡ Failed → Rose out.faults out'.faults) → (error ≡ NoMemory → Rose out.shorts out'.shorts) → status ≡ status_of_refusal refusal → Says (refusal_line refusal) err err'
+  refused : (error : SinkError) (refusal : Refusal) (status : Status) → IsOfSink error refusal → (error ≡ Failed → Rose out.faults out'.faults) → (error ≡ NoMemory → Rose out.shorts out'.shorts) → status ≡ status_of_refusal refusal → SaysLine (refusal_line refusal) err err'
       → IsPut text out out' err err' status
   refused error refusal status is failed short ends says = subst (IsPut text out out' err err') (sym ends) (by_error error refusal is failed short says)
 
@@ -29,5 +29,5 @@ returns-in-Err g c =
     let out' : StreamTold = record { written = g.O.Sink.written c.put.new.self; faults = g.O.Sink.faults c.put.new.self; shorts = g.O.Sink.shorts c.put.new.self } in
     let err : StreamTold = record { written = g.E.Sink.written c.args.err.now; faults = g.E.Sink.faults c.args.err.now; shorts = g.E.Sink.shorts c.args.err.now } in
     let err' : StreamTold = record { written = g.E.Sink.written c.refuse.new.err; faults = g.E.Sink.faults c.refuse.new.err; shorts = g.E.Sink.shorts c.refuse.new.err } in
-    refused c.args.text.now out out' err err' (subst (λ piece. AppendedPart piece out.written out'.written) c.as_bytes.ensures.value c.in-Err.ensures.part) c.in-Err.error c.from.result c.refuse.result c.from.ensures
+    refused c.args.text.now out out' err err' (subst (λ piece. IsPartAppended piece out.written out'.written) c.as_bytes.ensures.value c.in-Err.ensures.part) c.in-Err.error c.from.result c.refuse.result c.from.ensures
     (λ failed. c.in-Err.ensures.failed (ap Err failed)) (λ short. c.in-Err.ensures.short (ap Err short)) c.refuse.ensures.status c.refuse.ensures.said

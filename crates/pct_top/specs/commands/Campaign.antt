@@ -11,7 +11,7 @@ use Rattle.failure_rank.specs.Groups.{IsRanking}
 use Rattle.report_text.specs.declared.frame.Frame.{Frame}
 use Rattle.report_text.specs.Text.{text_of}
 use Rattle.report_text.specs.Json.{json_of}
-use Rattle.pct_top.specs.Printed.{Printed, told}
+use Rattle.pct_top.specs.Printed.{Printed, printed_text}
 use Rattle.pct_top.specs.Runs.{DrawsFrom, is_passed}
 
 -- what the runs of a campaign of a script have in common
@@ -39,9 +39,9 @@ campaign_text json script frame rows groups =
     if json then json_of frame rows groups script.names else text_of frame rows groups script.names
 
 -- The report on these rows and groups is printed. It is done where every run passes.
-abbrev pub told_campaign : Bool → ScriptText → Frame → List Row → List Group → Printed
-told_campaign json script frame rows groups =
-    told (campaign_text json script frame rows groups) (all_pass rows)
+abbrev pub printed_campaign : Bool → ScriptText → Frame → List Row → List Group → Printed
+printed_campaign json script frame rows groups =
+    printed_text (campaign_text json script frame rows groups) (all_pass rows)
 
 -- the rows of so many seeds from the first one on, with their groups
 pub record AreOfSeeds (setup : Setup) (first count : ℕ) (rows : List Row) (groups : List Group) :
@@ -54,7 +54,7 @@ abbrev pub OfSeeds : ℕ → ℕ → ℕ → ℕ → ℕ → Bool → ScriptText
 OfSeeds first count depth k limit json script deal printed =
     (rows : List Row) × (groups : List Group)
     × AreOfSeeds (setup_of script deal depth k limit) first count rows groups
-    × (printed ≡ told_campaign json script (frame_of deal depth k limit) rows groups)
+    × (printed ≡ printed_campaign json script (frame_of deal depth k limit) rows groups)
 
 -- the report on the runs of so many seeds, whose points are drawn from the steps that are given, or
 -- else from as many as the run in declared order has

@@ -11,7 +11,7 @@ use Rattle.pct_ask.specs.SameVerdict.{same_verdict}
 use Rattle.directive_run.specs.Exposing.{Exposes}
 use Rattle.directive_run.specs.declared.answers.Exposed.{Exposed}
 use Rattle.directive_run.specs.declared.answers.Exposed.TheVariants.{Points, TooLong}
-use Rattle.pct_top.specs.Printed.{Printed, told, OfOrder, OfDirective}
+use Rattle.pct_top.specs.Printed.{Printed, printed_text, OfOrder, OfDirective}
 use Rattle.pct_top.specs.Runs.{run_of, TellsRun}
 
 -- `toolong` and the number of steps, which are more than there may be
@@ -26,7 +26,7 @@ TellsExposed script deal order limit verdict (Points points played) printed =
     (ended : Run) × (run_of script deal order points limit ≡ Some ended)
     × TellsRun script order points limit ended (same_verdict ended.1 verdict) printed
 TellsExposed script deal order limit verdict (TooLong many) printed =
-    printed ≡ told (long_text many) false
+    printed ≡ printed_text (long_text many) false
 
 -- what is exposed of the directive under the order
 abbrev pub PrintsExposed :

@@ -13,7 +13,7 @@ use Rattle.directive.specs.Directive.{IsDirective}
 use Rattle.directive_find.specs.declared.finding.FoundOut.{FoundOut}
 use Rattle.directive_find.specs.declared.finding.FoundOut.TheVariants.{Events, Passes}
 use Rattle.directive_find.specs.Found.{Finds}
-use Rattle.pct_top.specs.Printed.{Printed, told}
+use Rattle.pct_top.specs.Printed.{Printed, printed_text}
 
 -- the thread of the lowest priority
 abbrev pub last_of : List ℕ → ℕ
@@ -31,13 +31,13 @@ found_text names order (Events events verdict steps) =
 found_text names order (Passes steps) = line_text (codes "passes" ∷ decimal steps ∷ [])
 
 -- whether the run passes, so that there is no directive to find
-abbrev pub passes : FoundOut → Bool
-passes (Events events verdict steps) = false
-passes (Passes steps) = true
+abbrev pub is_pass : FoundOut → Bool
+is_pass (Events events verdict steps) = false
+is_pass (Passes steps) = true
 
 -- This is printed of what was found. It is done where the run passes.
-abbrev pub told_found : NameLists → List ℕ → FoundOut → Printed
-told_found names order found = told (found_text names order found) (passes found)
+abbrev pub printed_finding : NameLists → List ℕ → FoundOut → Printed
+printed_finding names order found = printed_text (found_text names order found) (is_pass found)
 
 -- Where it is a directive, it is one by the grammar of directive files.
 abbrev pub IsWellFormed : NameLists → List ℕ → FoundOut → Type 0
@@ -50,4 +50,4 @@ IsWellFormed names order (Passes steps) = Unit {0}
 abbrev pub PrintsFound : ScriptText → Deal → List ℕ → List ℕ → ℕ → Printed → Type 0
 PrintsFound script deal order points limit printed =
     (found : FoundOut) × Finds deal (bodies_of script) order points limit found
-    × IsWellFormed script.names order found × (printed ≡ told_found script.names order found)
+    × IsWellFormed script.names order found × (printed ≡ printed_finding script.names order found)

@@ -1,7 +1,7 @@
 -- What may be written of a finding: it names only what the script has.
 use Rattle.std.specs.Prelude.{◌≤◌, List, length, All}
 use Rattle.pct_ask.specs.NameLists.{NameLists}
-use Rattle.pct_ask.specs.VerdictText.{HasNames, IsWhole}
+use Rattle.pct_ask.specs.VerdictText.{HasNames, IsWholeVerdict}
 use Rattle.pct_ask.specs.declared.verdict.Verdict.{Verdict}
 use Rattle.rank_now.specs.declared.moment.Moment.{Moment}
 use Rattle.directive.specs.Directive.{IsMoment}
@@ -14,7 +14,7 @@ pub record AreKnownMoments (names : NameLists) (events : List Moment) (verdict :
   pub few : length events ≤ 7
   pub moments : All (IsMoment names) events
   pub threads : HasNames names verdict
-  pub whole : IsWhole verdict
+  pub whole : IsWholeVerdict verdict
 
 abbrev pub IsKnownFinding : NameLists → FoundOut → Type 0
 IsKnownFinding names (Events events verdict steps) = AreKnownMoments names events verdict

@@ -12,7 +12,7 @@ use Rattle.lock_order.specs.declared.nesting.Nesting.{Nesting}
 use Rattle.lock_order.specs.declared.report.LockReport.{LockReport}
 use Rattle.lock_order.specs.declared.report.LockReport.TheVariants.{Order, Cycle}
 use Rattle.lock_order.specs.Chosen.{IsChosen}
-use Rattle.pct_top.specs.Printed.{Printed, told}
+use Rattle.pct_top.specs.Printed.{Printed, printed_text}
 use Rattle.pct_top.specs.Runs.{run_of}
 
 -- the step and its thread, and the mutexes that it held and took
@@ -37,12 +37,12 @@ is_order (Order order) = true
 is_order (Cycle cycle) = false
 
 -- This report is printed. It is done where there is an order.
-abbrev pub told_locks : NameLists → LockReport → Printed
-told_locks names report = told (lock_text names report) (is_order report)
+abbrev pub printed_locks : NameLists → LockReport → Printed
+printed_locks names report = printed_text (lock_text names report) (is_order report)
 
 -- the report on the run under the order and the points
 abbrev pub PrintsLocks : ScriptText → Deal → List ℕ → List ℕ → ℕ → Printed → Type 0
 PrintsLocks script deal order points limit printed =
     (ended : Run) × (run_of script deal order points limit ≡ Some ended)
     × ((report : LockReport) × IsChosen deal.mutexes ended.0 report
-    × (printed ≡ told_locks script.names report))
+    × (printed ≡ printed_locks script.names report))

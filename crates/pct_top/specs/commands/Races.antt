@@ -8,7 +8,7 @@ use Rattle.script_tree.specs.ScriptText.{ScriptText}
 use Rattle.worker_run.specs.Run.{Run}
 use Rattle.hb_race.specs.declared.race.Race.{Race}
 use Rattle.hb_race.specs.Races.{AreRaces}
-use Rattle.pct_top.specs.Printed.{Printed, told}
+use Rattle.pct_top.specs.Printed.{Printed, printed_text}
 use Rattle.pct_top.specs.Runs.{run_of}
 
 -- the variable, and the numbers of its two steps
@@ -26,11 +26,11 @@ abbrev pub race_text : NameLists → List Race → List ℕ
 race_text names races = flat_map line_text (race_lines names races)
 
 -- These races are printed. It is done where there is none.
-abbrev pub told_races : NameLists → List Race → Printed
-told_races names races = told (race_text names races) (length races == 0)
+abbrev pub printed_races : NameLists → List Race → Printed
+printed_races names races = printed_text (race_text names races) (length races == 0)
 
 -- the races of the run under the order and the points
 abbrev pub PrintsRaces : ScriptText → Deal → List ℕ → List ℕ → ℕ → Printed → Type 0
 PrintsRaces script deal order points limit printed =
     (ended : Run) × (run_of script deal order points limit ≡ Some ended)
-    × ((races : List Race) × AreRaces ended.0 races × (printed ≡ told_races script.names races))
+    × ((races : List Race) × AreRaces ended.0 races × (printed ≡ printed_races script.names races))

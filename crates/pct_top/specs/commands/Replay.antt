@@ -4,8 +4,8 @@ use Rattle.std.specs.Prelude.{◌≡◌, ℕ, Bool, true, false, List, [], ◌�
 use Rattle.std.specs.List.{flat_map}
 use Rattle.pct_ask.specs.declared.Deal.{Deal}
 use Rattle.pct_ask.specs.NameLists.{NameLists}
-use Rattle.pct_ask.specs.VerdictText.{thread_name, named, verdict_words}
-use Rattle.pct_ask.specs.TraceText.{event_words, verdict_line, line_text}
+use Rattle.pct_ask.specs.VerdictText.{thread_name, named_verdict, verdict_words}
+use Rattle.pct_ask.specs.TraceText.{event_words, verdict_line_words, line_text}
 use Rattle.script_tree.specs.ScriptText.{ScriptText}
 use Rattle.trace_text.specs.declared.file.TraceFile.{TraceFile}
 use Rattle.replay_run.specs.declared.answer.Written.{Written}
@@ -16,12 +16,12 @@ use Rattle.replay_run.specs.declared.answer.Replayed.{Replayed}
 use Rattle.replay_run.specs.declared.answer.Replayed.TheVariants.{Confirmed, Departs}
 use Rattle.script_body.specs.Bodies.{bodies_of}
 use Rattle.replay_run.specs.Replay.{IsReplay}
-use Rattle.pct_top.specs.Printed.{Printed, told, OfTrace}
+use Rattle.pct_top.specs.Printed.{Printed, printed_text, OfTrace}
 
 -- what the trace has at a step
 abbrev pub written_words : NameLists → ℕ → Written → List (List ℕ)
 written_words names step (written.Event event) = event_words names step event
-written_words names step (written.Verdict verdict) = verdict_line names verdict
+written_words names step (written.Verdict verdict) = verdict_line_words names verdict
 
 -- what the run has at a step
 abbrev pub found_words : NameLists → ℕ → Found → List (List ℕ)
@@ -29,12 +29,12 @@ found_words names step (found.Event event) = event_words names step event
 found_words names step (found.NotEnabled thread) =
     codes "notenabled" ∷ thread_name names thread ∷ []
 found_words names step (found.Goes thread) = codes "goes" ∷ thread_name names thread ∷ []
-found_words names step (found.Over verdict) = verdict_line names verdict
+found_words names step (found.Over verdict) = verdict_line_words names verdict
 
 -- one line where the trace is confirmed, or the three lines of a departure
 abbrev pub reply_lines : NameLists → Replayed → List (List (List ℕ))
 reply_lines names (Confirmed verdict) =
-    (codes "confirmed" ∷ verdict_words (named names verdict)) ∷ []
+    (codes "confirmed" ∷ verdict_words (named_verdict names verdict)) ∷ []
 reply_lines names (Departs step found written) =
     (codes "departs" ∷ decimal step ∷ []) ∷ (codes "written" ∷ written_words names step written)
     ∷ (codes "found" ∷ found_words names step found) ∷ []
@@ -49,14 +49,14 @@ is_confirmed (Confirmed verdict) = true
 is_confirmed (Departs step found written) = false
 
 -- the reply, whole
-abbrev pub replied : ScriptText → Replayed → Printed
-replied script reply = told (reply_text script.names reply) (is_confirmed reply)
+abbrev pub printed_reply : ScriptText → Replayed → Printed
+printed_reply script reply = printed_text (reply_text script.names reply) (is_confirmed reply)
 
 -- the reply to the trace
 abbrev pub PrintsReply : ScriptText → Deal → TraceFile → Printed → Type 0
 PrintsReply script deal file printed =
     (reply : Replayed) × IsReplay deal (bodies_of script) file reply
-    × (printed ≡ replied script reply)
+    × (printed ≡ printed_reply script reply)
 
 -- the reply to the trace that these bytes are, or their fault
 abbrev pub OfReplay : List ℕ → ScriptText → Deal → Printed → Type 0

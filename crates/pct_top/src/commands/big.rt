@@ -3,8 +3,8 @@
 ghost use Rattle.std.specs.Prelude.{◌≡◌, ◌≤◌, IfOk};
 ghost use Rattle.std.specs.List.{flat_map};
 ghost use Rattle.pct_ask.specs.TraceText.{line_text};
-ghost use Rattle.script_tree.specs.ScriptSeen.{text};
-ghost use Rattle.pct_top.specs.Ready.{IsReady};
+ghost use Rattle.script_tree.specs.ScriptSeen.{plain_script};
+ghost use Rattle.pct_top.specs.Ready.{IsReadyTest};
 ghost use Rattle.pct_top.specs.Outcome.{printed_of};
 ghost use Rattle.pct_top.specs.commands.Big.{failures as failures_by, big_lines, OfBig};
 
@@ -71,10 +71,10 @@ pub fn big_of<R: Threads + Wait + Sync, G: Gate>(
     pieces: u32,
     gate: &G,
 ) -> Result<Outcome, NoMemory>
-    requires ready { IsReady test.now }
+    requires ready { IsReadyTest test.now }
     requires pieces { pieces ≤ 100 }
     ensures { IfOk result (λ outcome.
-        OfBig pieces (text test.now.script) test.now.deal (printed_of outcome)) }
+        OfBig pieces (plain_script test.now.script) test.now.deal (printed_of outcome)) }
 {
     let (first, count) = SEEDS;
     let steps = steps_of(rt, alloc, test, None, LIMIT, gate)?;

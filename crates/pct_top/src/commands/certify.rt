@@ -2,18 +2,19 @@
 
 ghost use Rattle.std.specs.Prelude.{◌≡◌, ℕ, [], ◌∷◌, ◌++◌, List, map, OnOk, IfOk, Some, take};
 ghost use Rattle.std.specs.Prelude.{codes, decimal};
-ghost use Rattle.directive.specs.Answers.{told as plain};
+ghost use Rattle.directive.specs.Answers.{plain_directive as plain};
 ghost use Rattle.directive.specs.Directive.{IsDirective};
 ghost use Rattle.pct_ask.specs.TraceText.{line_text};
-ghost use Rattle.pct_ask.specs.VerdictText.{thread_name, named, verdict_words, HasNames, IsWhole};
-ghost use Rattle.script_tree.specs.ScriptSeen.{text};
+ghost use Rattle.pct_ask.specs.VerdictText.{thread_name, named_verdict, verdict_words, HasNames};
+ghost use Rattle.pct_ask.specs.VerdictText.{IsWholeVerdict};
+ghost use Rattle.script_tree.specs.ScriptSeen.{plain_script};
 ghost use Rattle.trace_text.specs.Lawful.{IsStepCount};
-ghost use Rattle.trace_text.specs.Spaced.{spaced};
+ghost use Rattle.trace_text.specs.Spaced.{behind_spaces};
 ghost use Rattle.pct_top.specs.Printed.{directive_bytes};
-ghost use Rattle.pct_top.specs.Ready.{IsReady};
+ghost use Rattle.pct_top.specs.Ready.{IsReadyTest};
 ghost use Rattle.pct_top.specs.Files.{Misses};
 ghost use Rattle.pct_top.specs.Outcome.{printed_of, Comes};
-ghost use Rattle.pct_top.specs.commands.Certify.{order_words, row_words, bound_words};
+ghost use Rattle.pct_top.specs.commands.Certify.{order_words, certificate_row_words, bound_words};
 ghost use Rattle.pct_top.specs.commands.Certify.{certificate_text, is_certified as is_certified_by};
 ghost use Rattle.pct_top.specs.commands.Certify.{PrintsCertificate, OfCertify};
 ghost use Rattle.pct_top.specs.commands.KnownCertificate.{IsKnownCertificate};
@@ -35,7 +36,7 @@ use std::thread::Threads;
 /// An order's names, each behind a space.
 fn push_names(out: &mut Vec<u8>, names: &Names, order: &[u32]) -> Result<(), NoMemory>
     ensures { OnOk result (out.new.items
-        ≡ out.old.items ++ spaced (map (thread_name names.now) order.now)) }
+        ≡ out.old.items ++ behind_spaces (map (thread_name names.now) order.now)) }
 {
     for thread in order {
         push_word(out, name_of(names, NameKind::Thread, *thread))?;
@@ -59,7 +60,7 @@ fn push_points(out: &mut Vec<u8>, points: &[u32]) -> Result<(), NoMemory>
 /// The line of an order and its points.
 fn push_row(out: &mut Vec<u8>, names: &Names, row: &CertifyRow) -> Result<(), NoMemory>
     ensures { OnOk result (out.new.items
-        ≡ out.old.items ++ line_text (row_words names.now row.now)) }
+        ≡ out.old.items ++ line_text (certificate_row_words names.now row.now)) }
 {
     out.extend_from_slice(b"order")?;
     push_names(out, names, row.order.as_slice())?;
@@ -86,10 +87,10 @@ fn push_refuted(
     verdict: &Verdict,
 ) -> Result<(), NoMemory>
     requires threads { HasNames names.now verdict.now }
-    requires whole { IsWhole verdict.now }
+    requires whole { IsWholeVerdict verdict.now }
     ensures { OnOk result (out.new.items ≡ out.old.items
         ++ line_text (codes "refuted" ∷ order_words names.now order.now
-        ++ codes "verdict" ∷ verdict_words (named names.now verdict.now))) }
+        ++ codes "verdict" ∷ verdict_words (named_verdict names.now verdict.now))) }
 {
     out.extend_from_slice(b"refuted order")?;
     push_names(out, names, order)?;
@@ -153,12 +154,12 @@ fn certificate_of<R: Threads + Wait + Sync, G: Gate>(
     limit: u32,
     gate: &G,
 ) -> Result<Outcome, NoMemory>
-    requires ready { IsReady test.now }
+    requires ready { IsReadyTest test.now }
     requires directive { (bytes : List ℕ)
-        × IsDirective bytes (text test.now.script).names (plain directive.now) }
+        × IsDirective bytes (plain_script test.now.script).names (plain directive.now) }
     requires steps { IsStepCount steps }
     requires limit { IsStepCount limit }
-    ensures { IfOk result (λ outcome. PrintsCertificate (text test.now.script) test.now.deal
+    ensures { IfOk result (λ outcome. PrintsCertificate (plain_script test.now.script) test.now.deal
         steps limit directive.now (printed_of outcome)) }
 {
     let certified = certify(
@@ -180,12 +181,12 @@ pub fn certify_file<R: Threads + Wait + Sync, H: Shelf, G: Gate>(
     shelf: &mut H,
     gate: &G,
 ) -> Result<Outcome, Refusal>
-    requires ready { IsReady test.now }
+    requires ready { IsReadyTest test.now }
     requires steps { IsStepCount steps }
     requires limit { IsStepCount limit }
     ensures { Comes
         (λ files. OfCertify (take directive_bytes (files directive.now)) steps limit
-        (text test.now.script) test.now.deal)
+        (plain_script test.now.script) test.now.deal)
         (H.files shelf.old)
         (Misses (Some directive.now) (H.failed shelf.old) (H.failed shelf.new)) result }
 {

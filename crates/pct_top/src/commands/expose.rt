@@ -4,11 +4,11 @@ ghost use Rattle.std.specs.Prelude.{◌≡◌, length, IfOk, Some, take};
 ghost use Rattle.rank_now.specs.Order.{IsOrder};
 ghost use Rattle.directive_run.specs.Exposing.{Exposes};
 ghost use Rattle.script_body.specs.Bodies.{bodies_of};
-ghost use Rattle.script_tree.specs.ScriptSeen.{text};
+ghost use Rattle.script_tree.specs.ScriptSeen.{plain_script};
 ghost use Rattle.trace_text.specs.Lawful.{IsStepCount};
 ghost use Rattle.pct_top.specs.Ordered.{OrderFits};
 ghost use Rattle.pct_top.specs.Printed.{directive_bytes};
-ghost use Rattle.pct_top.specs.Ready.{IsReady};
+ghost use Rattle.pct_top.specs.Ready.{IsReadyTest};
 ghost use Rattle.pct_top.specs.Files.{Misses};
 ghost use Rattle.pct_top.specs.Outcome.{printed_of, Comes};
 ghost use Rattle.pct_top.specs.commands.Expose.{long_text, TellsExposed, PrintsExposed, OfExpose};
@@ -49,14 +49,15 @@ fn told_exposed(
     limit: u32,
     exposed: Exposed,
 ) -> Result<Outcome, NoMemory>
-    requires ready { IsReady test.now }
+    requires ready { IsReadyTest test.now }
     requires order { IsOrder order }
     requires whole { length order ≡ test.now.deal.threads }
     requires steps { IsStepCount steps }
     requires limit { IsStepCount limit }
-    requires exposed { Exposes test.now.deal (bodies_of (text test.now.script)) order
+    requires exposed { Exposes test.now.deal (bodies_of (plain_script test.now.script)) order
         directive.now.events steps limit exposed }
-    ensures { IfOk result (λ outcome. TellsExposed (text test.now.script) test.now.deal order limit
+    ensures { IfOk result
+        (λ outcome. TellsExposed (plain_script test.now.script) test.now.deal order limit
         directive.now.verdict exposed (printed_of outcome)) }
 {
     match exposed {
@@ -84,12 +85,13 @@ fn exposed_by<R: Threads + Wait + Sync, G: Gate>(
     limit: u32,
     gate: &G,
 ) -> Result<Outcome, NoMemory>
-    requires ready { IsReady test.now }
+    requires ready { IsReadyTest test.now }
     requires order { IsOrder order }
     requires whole { length order ≡ test.now.deal.threads }
     requires steps { IsStepCount steps }
     requires limit { IsStepCount limit }
-    ensures { IfOk result (λ outcome. PrintsExposed (text test.now.script) test.now.deal order
+    ensures { IfOk result
+        (λ outcome. PrintsExposed (plain_script test.now.script) test.now.deal order
         steps limit directive.now (printed_of outcome)) }
 {
     let exposed = expose(
@@ -120,15 +122,15 @@ pub fn expose_file<R: Threads + Wait + Sync, H: Shelf, G: Gate>(
     shelf: &mut H,
     gate: &G,
 ) -> Result<Outcome, Refusal>
-    requires ready { IsReady test.now }
+    requires ready { IsReadyTest test.now }
     requires steps { IsStepCount steps }
     requires limit { IsStepCount limit }
     ensures { Comes
         (λ files. OfExpose (take directive_bytes (files directive.now)) order.now word steps limit
-        (text test.now.script) test.now.deal)
+        (plain_script test.now.script) test.now.deal)
         (H.files shelf.old)
         (Misses (Some directive.now) (H.failed shelf.old) (H.failed shelf.new)
-        × OrderFits (text test.now.script).names (Some order.now)) result }
+        × OrderFits (plain_script test.now.script).names (Some order.now)) result }
 {
     let names = test.script.names();
     let order = match order_given(alloc, names, order.as_slice(), word) {

@@ -1,13 +1,13 @@
 //! `find`: from a script's failing run to a short directive.
 
 ghost use Rattle.std.specs.Prelude.{◌≡◌, ◌≤◌, ◌<◌, length, IfOk};
-ghost use Rattle.script_tree.specs.ScriptSeen.{text};
+ghost use Rattle.script_tree.specs.ScriptSeen.{plain_script};
 ghost use Rattle.trace_text.specs.Lawful.{IsStepCount};
-ghost use Rattle.pct_top.specs.Ready.{IsReady};
+ghost use Rattle.pct_top.specs.Ready.{IsReadyTest};
 ghost use Rattle.pct_top.specs.Priorities.{ArePriorities};
 ghost use Rattle.pct_top.specs.Outcome.{printed_of};
 ghost use Rattle.pct_top.specs.commands.Find.{last_of, found_text, IsWellFormed};
-ghost use Rattle.pct_top.specs.commands.Find.{passes as passes_by, PrintsFound};
+ghost use Rattle.pct_top.specs.commands.Find.{is_pass as passes_by, PrintsFound};
 ghost use Rattle.pct_top.specs.commands.KnownFinding.{IsKnownFinding};
 
 use crate::lines::push_count;
@@ -73,10 +73,10 @@ pub fn directive_of<R: Threads + Wait + Sync, G: Gate>(
     limit: u32,
     gate: &G,
 ) -> Result<Outcome, NoMemory>
-    requires ready { IsReady test.now }
+    requires ready { IsReadyTest test.now }
     requires priorities { ArePriorities test.now.deal.threads priorities }
     requires limit { IsStepCount limit }
-    ensures { IfOk result (λ outcome. PrintsFound (text test.now.script) test.now.deal
+    ensures { IfOk result (λ outcome. PrintsFound (plain_script test.now.script) test.now.deal
         priorities.order priorities.points limit (printed_of outcome)) }
 {
     let order = priorities.order.as_slice();

@@ -2,10 +2,10 @@
 
 ghost use Rattle.std.specs.Prelude.{◌≡◌, ℕ, ◌∷◌, ◌++◌, List, Some, OnOk, IfOk, take, codes};
 ghost use Rattle.pct_ask.specs.TraceText.{line_text};
-ghost use Rattle.script_tree.specs.ScriptSeen.{text};
+ghost use Rattle.script_tree.specs.ScriptSeen.{plain_script};
 ghost use Rattle.trace_text.specs.Trace.{IsTrace};
 ghost use Rattle.pct_top.specs.Printed.{trace_bytes};
-ghost use Rattle.pct_top.specs.Ready.{IsReady};
+ghost use Rattle.pct_top.specs.Ready.{IsReadyTest};
 ghost use Rattle.pct_top.specs.Files.{Misses};
 ghost use Rattle.pct_top.specs.Outcome.{printed_of, Comes};
 ghost use Rattle.pct_top.specs.commands.Replay.{written_words, found_words, reply_text};
@@ -97,10 +97,10 @@ fn reply_to<R: Threads + Wait + Sync, G: Gate>(
     told: &TraceFile,
     gate: &G,
 ) -> Result<Outcome, NoMemory>
-    requires ready { IsReady test.now }
+    requires ready { IsReadyTest test.now }
     requires trace { (bytes : List ℕ) × IsTrace bytes test.now.script.names told.now }
     ensures { IfOk result (λ outcome.
-        PrintsReply (text test.now.script) test.now.deal told.now (printed_of outcome)) }
+        PrintsReply (plain_script test.now.script) test.now.deal told.now (printed_of outcome)) }
 {
     let reply = replay(rt, alloc, &test.code, &test.deal, told, gate)?;
     let text = write_reply(alloc, test.script.names(), &reply)?;
@@ -117,10 +117,10 @@ pub fn reply_to_file<R: Threads + Wait + Sync, H: Shelf, G: Gate>(
     shelf: &mut H,
     gate: &G,
 ) -> Result<Outcome, Refusal>
-    requires { IsReady test.now }
+    requires { IsReadyTest test.now }
     ensures { Comes
         (λ files.
-        OfReplay (take trace_bytes (files trace.now)) (text test.now.script) test.now.deal)
+        OfReplay (take trace_bytes (files trace.now)) (plain_script test.now.script) test.now.deal)
         (H.files shelf.old)
         (Misses (Some trace.now) (H.failed shelf.old) (H.failed shelf.new)) result }
 {

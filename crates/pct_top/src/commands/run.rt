@@ -1,9 +1,9 @@
 //! `run`: the trace of a script's run.
 
 ghost use Rattle.std.specs.Prelude.{IfOk};
-ghost use Rattle.script_tree.specs.ScriptSeen.{text};
+ghost use Rattle.script_tree.specs.ScriptSeen.{plain_script};
 ghost use Rattle.trace_text.specs.Lawful.{IsStepCount};
-ghost use Rattle.pct_top.specs.Ready.{IsReady};
+ghost use Rattle.pct_top.specs.Ready.{IsReadyTest};
 ghost use Rattle.pct_top.specs.Priorities.{ArePriorities};
 ghost use Rattle.pct_top.specs.Outcome.{printed_of};
 ghost use Rattle.pct_top.specs.commands.Run.{PrintsTrace};
@@ -27,10 +27,10 @@ pub fn trace_of<R: Threads + Wait + Sync, G: Gate>(
     limit: u32,
     gate: &G,
 ) -> Result<Outcome, NoMemory>
-    requires ready { IsReady test.now }
+    requires ready { IsReadyTest test.now }
     requires priorities { ArePriorities test.now.deal.threads priorities }
     requires limit { IsStepCount limit }
-    ensures { IfOk result (λ outcome. PrintsTrace (text test.now.script) test.now.deal
+    ensures { IfOk result (λ outcome. PrintsTrace (plain_script test.now.script) test.now.deal
         priorities.order priorities.points limit (printed_of outcome)) }
 {
     let order = priorities.order.as_slice();

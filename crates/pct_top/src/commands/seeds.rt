@@ -1,11 +1,11 @@
 //! `campaign`: the report on a script's runs over seeds.
 
 ghost use Rattle.std.specs.Prelude.{◌≡◌, All, IfOk, IfSome};
-ghost use Rattle.script_tree.specs.ScriptSeen.{text};
+ghost use Rattle.script_tree.specs.ScriptSeen.{plain_script};
 ghost use Rattle.trace_text.specs.Lawful.{IsStepCount};
 ghost use Rattle.report_text.specs.Report.{IsWritable};
 ghost use Rattle.pct_top.specs.Settings.{IsDepth};
-ghost use Rattle.pct_top.specs.Ready.{IsReady};
+ghost use Rattle.pct_top.specs.Ready.{IsReadyTest};
 ghost use Rattle.pct_top.specs.Outcome.{printed_of};
 ghost use Rattle.pct_top.specs.commands.Campaign.{all_pass as all_pass_by, campaign_text};
 ghost use Rattle.pct_top.specs.commands.Campaign.{OfCampaign};
@@ -48,7 +48,7 @@ fn write_report(
     requires rows { All (λ row. IsWritable script.now.names row.verdict) rows.now }
     requires groups { All (λ group. IsWritable script.now.names group.verdict) groups.now }
     ensures { IfOk result (λ report. report.items
-        ≡ campaign_text json (text script.now) frame.now rows.now groups.now) }
+        ≡ campaign_text json (plain_script script.now) frame.now rows.now groups.now) }
 {
     if json {
         json_report(alloc, frame, rows, groups, script.names())
@@ -70,13 +70,13 @@ pub fn report_on<R: Threads + Wait + Sync, G: Gate>(
     json: bool,
     gate: &G,
 ) -> Result<Outcome, NoMemory>
-    requires ready { IsReady test.now }
+    requires ready { IsReadyTest test.now }
     requires count { IsStepCount count }
     requires depth { IsDepth depth }
     requires steps { IfSome steps IsStepCount }
     requires limit { IsStepCount limit }
     ensures { IfOk result (λ outcome. OfCampaign first count depth steps limit json
-        (text test.now.script) test.now.deal (printed_of outcome)) }
+        (plain_script test.now.script) test.now.deal (printed_of outcome)) }
 {
     let steps = steps_of(rt, alloc, test, steps, limit, gate)?;
     let rows = campaign(

@@ -6,7 +6,7 @@ use Rattle.policy_pick.specs.declared.chance.Chance.TheVariants.{Ended}
 use Rattle.policy_pick.specs.declared.chance.Pick.{Pick}
 use Rattle.policy_pick.specs.Plan.{Plan}
 use Rattle.policy_pick.specs.Choice.{MayDepart, chance_of, is_open, is_known, pick_at}
-use Rattle.policy_pick.specs.Choice.{HasAwayTarget, IsSound, IsWaits, KeepsKnown}
+use Rattle.policy_pick.specs.Choice.{HasAwayTarget, IsSoundPick, IsWaits, KeepsKnown}
 
 -- a thread that a walk passes over is known
 pub closed-known : (c : Chance) → is_open c ≡ false → is_known c ≡ true
@@ -36,8 +36,8 @@ pick-known ready thread Ended h = refl
 
 sound-by : (plan : Plan) (chances : List Chance) (ready : Pick) (thread : ℕ) (c : Chance)
     → thread < length chances → chance_of chances thread ≡ c
-    → (c ≡ Ready → IsSound plan chances ready) → (is_open c ≡ false → MayDepart plan)
-    → HasAwayTarget chances c → IsSound plan chances (pick_at ready thread c)
+    → (c ≡ Ready → IsSoundPick plan chances ready) → (is_open c ≡ false → MayDepart plan)
+    → HasAwayTarget chances c → IsSoundPick plan chances (pick_at ready thread c)
 sound-by plan chances ready thread Away within is sound departs target = (within, is)
 sound-by plan chances ready thread Ready within is sound departs target = sound refl
 sound-by plan chances ready thread Blocked within is sound departs target = (departs refl, within)
@@ -46,10 +46,10 @@ sound-by plan chances ready thread Ended within is sound departs target = (depar
 
 -- the pick at a thread is sound
 pub sound-at : (plan : Plan) (chances : List Chance) (ready : Pick) (thread : ℕ)
-    → thread < length chances → (chance_of chances thread ≡ Ready → IsSound plan chances ready)
+    → thread < length chances → (chance_of chances thread ≡ Ready → IsSoundPick plan chances ready)
     → (is_open (chance_of chances thread) ≡ false → MayDepart plan)
     → HasAwayTarget chances (chance_of chances thread)
-    → IsSound plan chances (pick_at ready thread (chance_of chances thread))
+    → IsSoundPick plan chances (pick_at ready thread (chance_of chances thread))
 sound-at plan chances ready thread within sound departs target =
     sound-by plan chances ready thread (chance_of chances thread) within refl sound departs target
 

@@ -33,25 +33,27 @@ find-none test from (suc many) none =
     ∙ find-none test (from + 1) many (λ k p q. none k (omega arith) (omega arith))
 
 -- what a search found
-pub record IsFirst (test : ℕ → Bool) (many found : ℕ) : Type 0 where
+pub record IsFirstMatch (test : ℕ → Bool) (many found : ℕ) : Type 0 where
   pub within : found < many
   pub passes : test found ≡ true
   pub before : (k : ℕ) → k < found → test k ≡ false
 
-record Found (test : ℕ → Bool) (from many found : ℕ) : Type 0 where
+record IsFoundFrom (test : ℕ → Bool) (from many found : ℕ) : Type 0 where
   pub low : from ≤ found
   pub high : found < from + many
   pub passes : test found ≡ true
   pub before : (k : ℕ) → from ≤ k → k < found → test k ≡ false
 
-abbrev Finds : (ℕ → Bool) → ℕ → ℕ → Type 0
-Finds test from many =
-    ((found : ℕ) × (find test (range_with_len from many) ≡ Some found) × Found test from many found)
+abbrev FindsFirst : (ℕ → Bool) → ℕ → ℕ → Type 0
+FindsFirst test from many =
+    ((found : ℕ) × (find test (range_with_len from many) ≡ Some found)
+    × IsFoundFrom test from many found)
     ⊎ ((find test (range_with_len from many) ≡ None)
     × ((k : ℕ) → from ≤ k → k < from + many → test k ≡ false))
 
-finds-by : (test : ℕ → Bool) (from many : ℕ) (b : Bool) → test from ≡ b → Finds test (from + 1) many
-    → Finds test from (suc many)
+finds-by : (test : ℕ → Bool) (from many : ℕ) (b : Bool) → test from ≡ b
+    → FindsFirst test (from + 1) many
+    → FindsFirst test from (suc many)
 finds-by test from many true is rest =
     inl (
       from,
@@ -86,13 +88,14 @@ finds-by test from many false is rest = elim rest [
       )
 ]
 
-finds : (test : ℕ → Bool) (from many : ℕ) → Finds test from many
+finds : (test : ℕ → Bool) (from many : ℕ) → FindsFirst test from many
 finds test from zero = inr (refl, λ k p q. absurd (omega arith))
 finds test from (suc many) = finds-by test from many (test from) refl (finds test (from + 1) many)
 
 -- a search from 0 on finds the first, or none passes
 pub found-or-none : (test : ℕ → Bool) (many : ℕ)
-    → ((found : ℕ) × (find test (range_with_len 0 many) ≡ Some found) × IsFirst test many found)
+    → ((found : ℕ) × (find test (range_with_len 0 many) ≡ Some found)
+    × IsFirstMatch test many found)
     ⊎ ((find test (range_with_len 0 many) ≡ None) × ((k : ℕ) → k < many → test k ≡ false))
 found-or-none test many = elim (finds test 0 many) [
   | inl w ↦

@@ -11,9 +11,10 @@ use Rattle.policy_pick.specs.declared.chance.Pick.{Pick}
 use Rattle.policy_pick.specs.declared.chance.Pick.TheVariants.{Thread, Nobody, Departs}
 use Rattle.policy_pick.specs.Plan.{Plan}
 use Rattle.policy_pick.specs.Choice.{MayDepart, chance_of, is_open, is_known, pick_at, pick_of_walk}
-use Rattle.policy_pick.specs.Choice.{threads_of, is_highest, choice_by_rank, choice_by_number}
-use Rattle.policy_pick.specs.Choice.{TargetsAreAway, IsSound, IsWaits, KeepsKnown}
-use Rattle.policy_pick.specs.Laws.Finds.{find-is, find-none, found-or-none, IsFirst, all-below}
+use Rattle.policy_pick.specs.Choice.{threads_of_chances, is_highest, choice_by_rank}
+use Rattle.policy_pick.specs.Choice.{choice_by_number}
+use Rattle.policy_pick.specs.Choice.{TargetsAreAway, IsSoundPick, IsWaits, KeepsKnown}
+use Rattle.policy_pick.specs.Laws.Finds.{find-is, find-none, found-or-none, IsFirstMatch, all-below}
 use Rattle.policy_pick.specs.Laws.Finds.{all-from-below}
 use Rattle.policy_pick.specs.Laws.Chances.{open-ready, sound-at, open-before, closed-after}
 
@@ -46,7 +47,8 @@ pub highest-parts : (ranks : List ℕ) (chances : List Chance) (thread : ℕ)
 highest-parts ranks chances thread e =
     let test : ℕ → Bool = λ other.
     not (open_at chances other) || leb (get_or ranks other 0) (get_or ranks thread 0) in
-    let both = and_parts (open_at chances thread) (list_all test (threads_of chances)) e in (
+    let both =
+    and_parts (open_at chances thread) (list_all test (threads_of_chances chances)) e in (
       both.0,
       λ other within goes. le-from (open_at chances other) (get_or ranks other 0)
           (get_or ranks thread 0) (all-below test (length chances) both.1 other within) goes,
@@ -58,7 +60,7 @@ pub highest-from : (ranks : List ℕ) (chances : List Chance) (thread : ℕ)
 highest-from ranks chances thread goes leads =
     let test : ℕ → Bool = λ other.
     not (open_at chances other) || leb (get_or ranks other 0) (get_or ranks thread 0) in
-    and-both (open_at chances thread) (list_all test (threads_of chances)) goes
+    and-both (open_at chances thread) (list_all test (threads_of_chances chances)) goes
     (all-from-below test (length chances) (λ other within.
     from-le (open_at chances other) (get_or ranks other 0) (get_or ranks thread 0)
     (leads other within)))
@@ -71,7 +73,7 @@ closed-not-highest ranks chances thread closed =
     b
     && list_all
     (λ other. not (open_at chances other) || leb (get_or ranks other 0) (get_or ranks thread 0))
-    (threads_of chances)) closed
+    (threads_of_chances chances)) closed
 
 pub false-by : (b : Bool) → (b ≡ true → ⊥) → b ≡ false
 false-by true h = absurd (h refl)
@@ -156,13 +158,13 @@ none-open ranks chances none k within =
 
 -- ---- the walk by falling rank
 pub rank-stops : (ranks : List ℕ) (chances : List Chance) (thread : ℕ)
-    → find (is_highest ranks chances) (threads_of chances) ≡ Some thread
+    → find (is_highest ranks chances) (threads_of_chances chances) ≡ Some thread
     → choice_by_rank ranks chances ≡ pick_at (Thread thread) thread (chance_of chances thread)
 unfolding choice_by_rank
 rank-stops ranks chances thread is = ap (pick_of_walk Thread chances) is
 
 pub rank-ends : (ranks : List ℕ) (chances : List Chance)
-    → find (is_highest ranks chances) (threads_of chances) ≡ None
+    → find (is_highest ranks chances) (threads_of_chances chances) ≡ None
     → choice_by_rank ranks chances ≡ Nobody
 unfolding choice_by_rank
 rank-ends ranks chances is = ap (pick_of_walk Thread chances) is
@@ -171,9 +173,9 @@ module _ (ranks : List ℕ) (earlier later : List Chance) (keeps : KeepsKnown ea
   within-later : (thread : ℕ) → thread < length later → thread < length earlier
   within-later thread p = omega (arith, keeps.threads)
 
-  rank-keeps-at : (thread : ℕ) → IsFirst (is_highest ranks earlier) (length earlier) thread
+  rank-keeps-at : (thread : ℕ) → IsFirstMatch (is_highest ranks earlier) (length earlier) thread
       → chance_of earlier thread ≡ Ready
-      → find (is_highest ranks later) (threads_of later) ≡ Some thread
+      → find (is_highest ranks later) (threads_of_chances later) ≡ Some thread
   rank-keeps-at thread first ready =
       let leads = (highest-parts ranks earlier thread first.passes).1 in
       let same = keeps.known thread first.within (ap is_known ready) in
@@ -216,9 +218,9 @@ module _ (ranks : List ℕ) (earlier later : List Chance) (keeps : KeepsKnown ea
   ]
 
 pub rank-sound : (plan : Plan) (ranks : List ℕ) (chances : List Chance) → TargetsAreAway chances
-    → IsSound plan chances (choice_by_rank ranks chances)
+    → IsSoundPick plan chances (choice_by_rank ranks chances)
 rank-sound plan ranks chances targets =
-    let P : Pick → Type 0 = IsSound plan chances in
+    let P : Pick → Type 0 = IsSoundPick plan chances in
     elim (found-or-none (is_highest ranks chances) (length chances)) [
       | inl w ↦
           subst P (sym (rank-stops ranks chances w.0 w.1))
@@ -230,12 +232,13 @@ rank-sound plan ranks chances targets =
 
 -- ---- the walk by rising number
 pub number-stops : (chances : List Chance) (thread : ℕ)
-    → find (open_at chances) (threads_of chances) ≡ Some thread
+    → find (open_at chances) (threads_of_chances chances) ≡ Some thread
     → choice_by_number chances ≡ pick_at (Departs thread) thread (chance_of chances thread)
 unfolding choice_by_number
 number-stops chances thread is = ap (pick_of_walk Departs chances) is
 
-pub number-ends : (chances : List Chance) → find (open_at chances) (threads_of chances) ≡ None
+pub number-ends : (chances : List Chance)
+    → find (open_at chances) (threads_of_chances chances) ≡ None
     → choice_by_number chances ≡ Nobody
 unfolding choice_by_number
 number-ends chances is = ap (pick_of_walk Departs chances) is
@@ -264,9 +267,9 @@ number-keeps earlier later keeps waits = elim (found-or-none (open_at earlier) (
 ]
 
 pub number-sound : (plan : Plan) (chances : List Chance) → MayDepart plan → TargetsAreAway chances
-    → IsSound plan chances (choice_by_number chances)
+    → IsSoundPick plan chances (choice_by_number chances)
 number-sound plan chances departs targets =
-    let P : Pick → Type 0 = IsSound plan chances in
+    let P : Pick → Type 0 = IsSoundPick plan chances in
     elim (found-or-none (open_at chances) (length chances)) [
       | inl w ↦
           subst P (sym (number-stops chances w.0 w.1))

@@ -5,7 +5,7 @@ use Rattle.std.proofs.lemmas.Bool.{cases_lt}
 use Rattle.std.proofs.lemmas.List.{get_or_default}
 use Rattle.std.proofs.lemmas.List.Edits.{length-remove, get_or-remove_below}
 use Rattle.std.proofs.lemmas.List.FromFn.{length-range_with_len, get_or-range_with_len}
-use Rattle.priority_draw.specs.Orders.{declared_order, IsOrderOf, ArePlaces, taken_from, order_of, places_of, AreOnlyPlaces}
+use Rattle.priority_draw.specs.Orders.{declared_order, IsOrderOf, AreInBounds, taken_from, order_of, places_of, AreOnlyPlaces}
 use Rattle.priority_draw.proofs.CountLemmas.{one_if, count_of, count-remove, count-none, count-all, count-some, located, count-once}
 use Rattle.priority_draw.proofs.PlaceLemmas.{IsRising, taken-same, places-of-taken, places-are}
 
@@ -38,19 +38,19 @@ order-counts threads order is thread =
           declared-none threads thread past ∙ sym (count-none (λ y. eqb y thread) order (λ k p. ne_eqb (get_or order k 0) thread (λ e. omega (arith, is.is_order.below k p, is.whole))))
     ]
 
-order-of-taken : (threads : ℕ) (places : List ℕ) → ArePlaces threads places → order_of places ≡ taken_from (declared_order threads) places
+order-of-taken : (threads : ℕ) (places : List ℕ) → AreInBounds threads places → order_of places ≡ taken_from (declared_order threads) places
 unfolding order_of
 order-of-taken threads places are = ap (λ n. taken_from (declared_order n) places) are.whole
 
-as-long : (threads : ℕ) (places : List ℕ) → ArePlaces threads places → ArePlaces (length (declared_order threads)) places
-as-long threads places are = let P : ℕ → Type 0 = λ n. ArePlaces n places in subst P (sym (long threads)) are
+as-long : (threads : ℕ) (places : List ℕ) → AreInBounds threads places → AreInBounds (length (declared_order threads)) places
+as-long threads places are = let P : ℕ → Type 0 = λ n. AreInBounds n places in subst P (sym (long threads)) are
 
 -- the places of an order are the only ones in bounds that give it
 pub only-places : (threads : ℕ) (order : List ℕ) → IsOrderOf threads order → AreOnlyPlaces threads order (places_of order)
 only-places threads order is =
     let both = places-are order (declared_order threads) (rising threads) (is.whole ∙ sym (long threads)) (order-counts threads order is) in
-    let P : ℕ → Type 0 = λ n. ArePlaces n (places_of order) in
-    let bounds : ArePlaces threads (places_of order) = subst P is.whole both.0 in
+    let P : ℕ → Type 0 = λ n. AreInBounds n (places_of order) in
+    let bounds : AreInBounds threads (places_of order) = subst P is.whole both.0 in
     record {
       bounds = bounds;
       gives = order-of-taken threads (places_of order) bounds ∙ both.1;
@@ -97,7 +97,7 @@ module _ (threads : ℕ) (order : List ℕ) (same : (p : ℕ → Bool) → count
   }
 
 -- places in bounds give an order
-pub order-of-is : (threads : ℕ) (places : List ℕ) → ArePlaces threads places → IsOrderOf threads (order_of places)
+pub order-of-is : (threads : ℕ) (places : List ℕ) → AreInBounds threads places → IsOrderOf threads (order_of places)
 order-of-is threads places are =
     let taken = order-of-taken threads places are in
     is-order threads (order_of places) (λ p. ap (λ xs. count_by p xs) taken ∙ taken-same p places (declared_order threads) (as-long threads places are))

@@ -8,15 +8,15 @@ use Rattle.std.proofs.lemmas.Bool.{and_parts}
 use Rattle.rank_now.specs.declared.moment.Moment.{Moment}
 use Rattle.rank_now.specs.Positions.{passes_at}
 use Rattle.rank_now.specs.Order.{IsOrder}
-use Rattle.rank_now.specs.Rank.{place_of, last_change, rank_by, index_of_point, own_steps, is_moment, index_of_moment, threads_of, ranks, ranks_by_events}
+use Rattle.rank_now.specs.Rank.{place_in_order, last_change, rank_by, index_of_point, own_steps, is_moment, index_of_moment, threads_of, ranks, ranks_by_events}
 use Rattle.rank_now.proofs.laws.Orders.{place-within-order}
 use Rattle.rank_now.proofs.laws.Positions.{greatest-le, greatest-agree, greatest-passes, passes_at-append, passes_at-last, passes_at-agree, passes_at-both, ranks_by-same, ranks_by-step}
 
 -- ---- a value that no step has given
 module _ (given : ℕ → ℕ) (count : ℕ) (order schedule : List ℕ) (is : IsOrder order) (value : ℕ) (low : value ≤ count) (new : (step : ℕ) → 0 < step → step ≤ length schedule → given step ≢ value) where
-  at-free : (other : ℕ) → other < length order → (step : ℕ) → step ≤ length schedule → cond (eqb step 0) (count + length order - place_of order other) (given step) ≢ value
+  at-free : (other : ℕ) → other < length order → (step : ℕ) → step ≤ length schedule → cond (eqb step 0) (count + length order - place_in_order order other) (given step) ≢ value
   at-free other small zero within e = let place = place-within-order order is other small in omega arith
-  at-free other small (suc k) within e = new (suc k) (omega arith) within (sym (ap (λ b. cond b (count + length order - place_of order other) (given (suc k))) (ne_eqb (suc k) 0 (λ z. omega arith))) ∙ e)
+  at-free other small (suc k) within e = new (suc k) (omega arith) within (sym (ap (λ b. cond b (count + length order - place_in_order order other) (given (suc k))) (ne_eqb (suc k) 0 (λ z. omega arith))) ∙ e)
 
   rank_by-free : (other : ℕ) → other < length order → rank_by given count order schedule other ≢ value
   unfolding rank_by
@@ -119,12 +119,12 @@ same_maps : (f g : ℕ → ℕ) → ((x : ℕ) → f x ≡ g x) → (xs : List �
 same_maps f g agree [] = refl
 same_maps f g agree (x ∷ xs) = λ i. agree x i ∷ same_maps f g agree xs i
 
-rank_by-first : (given : ℕ → ℕ) (count : ℕ) (order : List ℕ) (thread : ℕ) → rank_by given count order [] thread ≡ count + length order - place_of order thread
+rank_by-first : (given : ℕ → ℕ) (count : ℕ) (order : List ℕ) (thread : ℕ) → rank_by given count order [] thread ≡ count + length order - place_in_order order thread
 unfolding rank_by
 rank_by-first given count order thread = refl
 
-pub ranks-first : (order points values : List ℕ) (count : ℕ) → length points ≡ count → values ≡ map (λ t. count + length order - place_of order t) (threads_of order) → values ≡ ranks order points []
-ranks-first order points values count same is = is ∙ same_maps (λ t. count + length order - place_of order t) (rank_by (index_of_point points) (length points) order []) (λ t. ap (λ x. x + length order - place_of order t) (sym same) ∙ sym (rank_by-first (index_of_point points) (length points) order t)) (threads_of order)
+pub ranks-first : (order points values : List ℕ) (count : ℕ) → length points ≡ count → values ≡ map (λ t. count + length order - place_in_order order t) (threads_of order) → values ≡ ranks order points []
+ranks-first order points values count same is = is ∙ same_maps (λ t. count + length order - place_in_order order t) (rank_by (index_of_point points) (length points) order []) (λ t. ap (λ x. x + length order - place_in_order order t) (sym same) ∙ sym (rank_by-first (index_of_point points) (length points) order t)) (threads_of order)
 
-pub ranks_by_events-first : (order : List ℕ) (events : List Moment) (values : List ℕ) (count : ℕ) → length events ≡ count → values ≡ map (λ t. count + length order - place_of order t) (threads_of order) → values ≡ ranks_by_events order events []
-ranks_by_events-first order events values count same is = is ∙ same_maps (λ t. count + length order - place_of order t) (rank_by (index_of_moment events []) (length events) order []) (λ t. ap (λ x. x + length order - place_of order t) (sym same) ∙ sym (rank_by-first (index_of_moment events []) (length events) order t)) (threads_of order)
+pub ranks_by_events-first : (order : List ℕ) (events : List Moment) (values : List ℕ) (count : ℕ) → length events ≡ count → values ≡ map (λ t. count + length order - place_in_order order t) (threads_of order) → values ≡ ranks_by_events order events []
+ranks_by_events-first order events values count same is = is ∙ same_maps (λ t. count + length order - place_in_order order t) (rank_by (index_of_moment events []) (length events) order []) (λ t. ap (λ x. x + length order - place_in_order order t) (sym same) ∙ sym (rank_by-first (index_of_moment events []) (length events) order t)) (threads_of order)

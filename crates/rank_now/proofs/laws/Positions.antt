@@ -5,40 +5,40 @@ use Rattle.std.proofs.lemmas.List.{length_push, length-set, get_or-set_same, get
 use Rattle.std.proofs.lemmas.List.FromFn.{fill_by_all, length-map-range_with_len, get_or-map-range_with_len}
 use Rattle.std.proofs.lemmas.Bool.{cases_eq}
 use Rattle.std.proofs.lemmas.Bool.Decides.{nat_tests}
-use Rattle.rank_now.specs.Positions.{greatest, passes_at}
-use Rattle.rank_now.specs.Rank.{place_of, last_change, rank_by, threads_of}
+use Rattle.rank_now.specs.Positions.{greatest_where, passes_at}
+use Rattle.rank_now.specs.Rank.{place_in_order, last_change, rank_by, threads_of}
 
 -- ---- positions
-pub greatest-le : (test : ℕ → Bool) (n : ℕ) → greatest test n ≤ n
+pub greatest-le : (test : ℕ → Bool) (n : ℕ) → greatest_where test n ≤ n
 greatest-le test zero = omega arith
-greatest-le test (suc n) = elim (test (suc n)) as (λ b. cond b (suc n) (greatest test n) ≤ suc n) [ true ↦ omega arith | false ↦ omega (arith, greatest-le test n) ]
+greatest-le test (suc n) = elim (test (suc n)) as (λ b. cond b (suc n) (greatest_where test n) ≤ suc n) [ true ↦ omega arith | false ↦ omega (arith, greatest-le test n) ]
 
-pub greatest-agree : (p q : ℕ → Bool) (n : ℕ) → ((k : ℕ) → 0 < k → k ≤ n → p k ≡ q k) → greatest p n ≡ greatest q n
+pub greatest-agree : (p q : ℕ → Bool) (n : ℕ) → ((k : ℕ) → 0 < k → k ≤ n → p k ≡ q k) → greatest_where p n ≡ greatest_where q n
 greatest-agree p q zero agree = refl
 greatest-agree p q (suc n) agree =
     let rest = greatest-agree p q n (λ k low high. agree k low (omega arith)) in
-    ap (λ b. cond b (suc n) (greatest p n)) (agree (suc n) (omega arith) (omega arith)) ∙ ap (λ m. cond (q (suc n)) (suc n) m) rest
+    ap (λ b. cond b (suc n) (greatest_where p n)) (agree (suc n) (omega arith) (omega arith)) ∙ ap (λ m. cond (q (suc n)) (suc n) m) rest
 
-greatest-passes-by : (test : ℕ → Bool) (n : ℕ) (b : Bool) → test (suc n) ≡ b → (0 < greatest test n → test (greatest test n) ≡ true) → 0 < cond b (suc n) (greatest test n) → test (cond b (suc n) (greatest test n)) ≡ true
+greatest-passes-by : (test : ℕ → Bool) (n : ℕ) (b : Bool) → test (suc n) ≡ b → (0 < greatest_where test n → test (greatest_where test n) ≡ true) → 0 < cond b (suc n) (greatest_where test n) → test (cond b (suc n) (greatest_where test n)) ≡ true
 greatest-passes-by test n true e rest some = e
 greatest-passes-by test n false e rest some = rest some
 
 -- it passes, unless it is 0
-pub greatest-passes : (test : ℕ → Bool) (n : ℕ) → 0 < greatest test n → test (greatest test n) ≡ true
+pub greatest-passes : (test : ℕ → Bool) (n : ℕ) → 0 < greatest_where test n → test (greatest_where test n) ≡ true
 greatest-passes test zero some = absurd (omega arith)
 greatest-passes test (suc n) some = greatest-passes-by test n (test (suc n)) refl (λ p. greatest-passes test n p) some
 
 -- a number that passes, with none greater up to n, is the greatest
-pub greatest-is : (test : ℕ → Bool) (n k : ℕ) → 0 < k → k ≤ n → test k ≡ true → ((j : ℕ) → k < j → j ≤ n → test j ≡ false) → greatest test n ≡ k
+pub greatest-is : (test : ℕ → Bool) (n k : ℕ) → 0 < k → k ≤ n → test k ≡ true → ((j : ℕ) → k < j → j ≤ n → test j ≡ false) → greatest_where test n ≡ k
 greatest-is test zero k some low passes above = absurd (omega arith)
 greatest-is test (suc n) k some low passes above = elim (cases_eq k (suc n)) [
-  | inl e ↦ ap (λ b. cond b (suc n) (greatest test n)) (sym (ap test e) ∙ passes) ∙ sym e
-  | inr ne ↦ ap (λ b. cond b (suc n) (greatest test n)) (above (suc n) (omega arith) (omega arith)) ∙ greatest-is test n k some (omega arith) passes (λ j p q. above j p (omega arith))
+  | inl e ↦ ap (λ b. cond b (suc n) (greatest_where test n)) (sym (ap test e) ∙ passes) ∙ sym e
+  | inr ne ↦ ap (λ b. cond b (suc n) (greatest_where test n)) (above (suc n) (omega arith) (omega arith)) ∙ greatest-is test n k some (omega arith) passes (λ j p q. above j p (omega arith))
 ]
 
-pub greatest-none : (test : ℕ → Bool) (n : ℕ) → ((j : ℕ) → 0 < j → j ≤ n → test j ≡ false) → greatest test n ≡ 0
+pub greatest-none : (test : ℕ → Bool) (n : ℕ) → ((j : ℕ) → 0 < j → j ≤ n → test j ≡ false) → greatest_where test n ≡ 0
 greatest-none test zero none = refl
-greatest-none test (suc n) none = ap (λ b. cond b (suc n) (greatest test n)) (none (suc n) (omega arith) (omega arith)) ∙ greatest-none test n (λ j p q. none j p (omega arith))
+greatest-none test (suc n) none = ap (λ b. cond b (suc n) (greatest_where test n)) (none (suc n) (omega arith) (omega arith)) ∙ greatest-none test n (λ j p q. none j p (omega arith))
 
 slice_get-append : {X : Type 0} (xs ys : List X) (k : ℕ) → k < length xs → slice_get (xs ++ ys) k ≡ slice_get xs k
 slice_get-append [] ys k within = absurd (omega arith)
@@ -78,8 +78,8 @@ pub passes_at-read : {X : Type 0} (test : X → Bool) (xs : List X) (k : ℕ) (d
 passes_at-read test xs k d within = ap (passes_at test xs) (add-one k) ∙ passes_at-suc test xs k d within
 
 -- the greatest number up to one more
-pub greatest-more : (test : ℕ → Bool) (n : ℕ) → greatest test (n + 1) ≡ cond (test (n + 1)) (n + 1) (greatest test n)
-greatest-more test n = ap (greatest test) (add-one n) ∙ ap (λ x. cond (test x) x (greatest test n)) (sym (add-one n))
+pub greatest-more : (test : ℕ → Bool) (n : ℕ) → greatest_where test (n + 1) ≡ cond (test (n + 1)) (n + 1) (greatest_where test n)
+greatest-more test n = ap (greatest_where test) (add-one n) ∙ ap (λ x. cond (test x) x (greatest_where test n)) (sym (add-one n))
 
 -- one item at a position that passes two tests
 pub passes_at-both : {X : Type 0} (p q : X → Bool) (xs : List X) (k : ℕ) → passes_at p xs k ≡ true → passes_at q xs k ≡ true → (x : X) × (p x ≡ true) × (q x ≡ true)
@@ -91,14 +91,14 @@ module _ (given given' : ℕ → ℕ) (count : ℕ) (order schedule : List ℕ) 
   last_change-agree : (thread : ℕ) → last_change given' schedule thread ≡ last_change given schedule thread
   last_change-agree thread = greatest-agree (λ step. passes_at (λ taker. eqb taker thread) schedule step && nat_lt 0 (given' step)) (λ step. passes_at (λ taker. eqb taker thread) schedule step && nat_lt 0 (given step)) (length schedule) (λ k low high. ap (λ x. passes_at (λ taker. eqb taker thread) schedule k && nat_lt 0 x) (agree k low high))
 
-  value-agree : (thread step : ℕ) → step ≤ length schedule → cond (eqb step 0) (count + length order - place_of order thread) (given' step) ≡ cond (eqb step 0) (count + length order - place_of order thread) (given step)
+  value-agree : (thread step : ℕ) → step ≤ length schedule → cond (eqb step 0) (count + length order - place_in_order order thread) (given' step) ≡ cond (eqb step 0) (count + length order - place_in_order order thread) (given step)
   value-agree thread zero within = refl
-  value-agree thread (suc k) within = ap (λ x. cond (eqb (suc k) 0) (count + length order - place_of order thread) x) (agree (suc k) (omega arith) within)
+  value-agree thread (suc k) within = ap (λ x. cond (eqb (suc k) 0) (count + length order - place_in_order order thread) x) (agree (suc k) (omega arith) within)
 
   pub rank_by-agree : (thread : ℕ) → rank_by given' count order schedule thread ≡ rank_by given count order schedule thread
   unfolding rank_by
   rank_by-agree thread =
-      ap (λ step. cond (eqb step 0) (count + length order - place_of order thread) (given' step)) (last_change-agree thread) ∙ value-agree thread (last_change given schedule thread) (greatest-le (λ step. passes_at (λ taker. eqb taker thread) schedule step && nat_lt 0 (given step)) (length schedule))
+      ap (λ step. cond (eqb step 0) (count + length order - place_in_order order thread) (given' step)) (last_change-agree thread) ∙ value-agree thread (last_change given schedule thread) (greatest-le (λ step. passes_at (λ taker. eqb taker thread) schedule step && nat_lt 0 (given step)) (length schedule))
 
 -- ---- one more step
 and-false : (b : Bool) → (b && false) ≡ false
@@ -115,7 +115,7 @@ module _ (given given' : ℕ → ℕ) (count : ℕ) (order schedule : List ℕ) 
   abbrev changes : (ℕ → ℕ) → List ℕ → ℕ → ℕ → Bool
   changes by steps other step = passes_at (λ taker. eqb taker other) steps step && nat_lt 0 (by step)
 
-  earlier : (other : ℕ) → greatest (changes given' after other) (length schedule) ≡ last_change given schedule other
+  earlier : (other : ℕ) → greatest_where (changes given' after other) (length schedule) ≡ last_change given schedule other
   earlier other = greatest-agree (changes given' after other) (changes given schedule other) (length schedule) (λ k low high.
       ap (λ b. b && nat_lt 0 (given' k)) (passes_at-append (λ taker. eqb taker other) schedule (thread ∷ []) k high) ∙ ap (λ x. passes_at (λ taker. eqb taker other) schedule k && nat_lt 0 x) (agree k low high))
 
@@ -124,13 +124,13 @@ module _ (given given' : ℕ → ℕ) (count : ℕ) (order schedule : List ℕ) 
 
   last_change-step : (other : ℕ) → last_change given' after other ≡ cond (eqb thread other && nat_lt 0 now) (suc (length schedule)) (last_change given schedule other)
   last_change-step other =
-      ap (greatest (changes given' after other)) (length_push schedule thread ∙ add-one (length schedule)) ∙ ap (λ b. cond b (suc (length schedule)) (greatest (changes given' after other) (length schedule))) (last other) ∙ ap (λ m. cond (eqb thread other && nat_lt 0 now) (suc (length schedule)) m) (earlier other)
+      ap (greatest_where (changes given' after other)) (length_push schedule thread ∙ add-one (length schedule)) ∙ ap (λ b. cond b (suc (length schedule)) (greatest_where (changes given' after other) (length schedule))) (last other) ∙ ap (λ m. cond (eqb thread other && nat_lt 0 now) (suc (length schedule)) m) (earlier other)
 
   abbrev at : (ℕ → ℕ) → ℕ → ℕ → ℕ
-  at by other step = cond (eqb step 0) (count + length order - place_of order other) (by step)
+  at by other step = cond (eqb step 0) (count + length order - place_in_order order other) (by step)
 
   at-suc : (by : ℕ → ℕ) (other k : ℕ) → at by other (suc k) ≡ by (suc k)
-  at-suc by other k = ap (λ b. cond b (count + length order - place_of order other) (by (suc k))) (ne_eqb (suc k) 0 (λ e. omega arith))
+  at-suc by other k = ap (λ b. cond b (count + length order - place_in_order order other) (by (suc k))) (ne_eqb (suc k) 0 (λ e. omega arith))
 
   at-agree : (other step : ℕ) → step ≤ length schedule → at given' other step ≡ at given other step
   at-agree other zero within = refl

@@ -10,7 +10,7 @@ use Rattle.pct_ask.specs.declared.Deal.{Deal}
 use Rattle.pct_ask.specs.declared.event.Event.{Event}
 use Rattle.pct_ask.specs.declared.verdict.Verdict.{Verdict}
 use Rattle.pct_ask.specs.declared.verdict.Outcome.TheVariants.{Verdict as Ends}
-use Rattle.sync_store.specs.Store.{first}
+use Rattle.sync_store.specs.Store.{first_store}
 use Rattle.sync_store.specs.World.{Source, World, world_after}
 use Rattle.policy_pick.specs.declared.chance.Chance.{Chance}
 use Rattle.policy_pick.specs.declared.chance.Chance.TheVariants.{Away, Ready, Blocked, Unknown, Ended}
@@ -23,7 +23,7 @@ use Rattle.policy_pick.specs.Laws.Finds.{find-none, found-or-none}
 use Rattle.policy_pick.specs.Laws.Walks.{number-stops, number-ends}
 use Rattle.turn_book.specs.Chances.{chance, chances, rest_verdict}
 use Rattle.turn_book.specs.Posts.{schedule_of}
-use Rattle.turn_book.specs.Obeys.{next_in, choice_in, choice_after, Obeys, outcome_by_pick, outcome_by, settled}
+use Rattle.turn_book.specs.Obeys.{next_posts_in, choice_in, choice_after, Obeys, outcome_by_pick, outcome_by, outcome_after}
 use Rattle.turn_book.proofs.laws.Worlds.{map-some, made-from}
 use Rattle.turn_book.proofs.laws.MorePosts.{nobody-closed, chosen-ready, departs-may, settled-at}
 use Rattle.worker_run.specs.Bodies.{Pending, source_of_bodies}
@@ -88,8 +88,8 @@ pub listed_short : (listed : List ℕ) (deal : Deal) (source : Source) (limit : 
 listed_short listed deal source limit events obeys = elim (cases_lt (length listed) (length events)) [
   | inl longer ↦
       let c = cut_at events (length listed) longer in
-      let w = map-some (choice_in (ByList listed) deal.threads source (schedule_of c.before)) (world_after (first deal) source (schedule_of c.before)) (Thread (c.event).thread) (obeys.chosen c.before c.after c.event c.cut) in
-      let all = chances deal.threads (w.0).store (next_in source w.0) in
+      let w = map-some (choice_in (ByList listed) deal.threads source (schedule_of c.before)) (world_after (first_store deal) source (schedule_of c.before)) (Thread (c.event).thread) (obeys.chosen c.before c.after c.event c.cut) in
+      let all = chances deal.threads (w.0).store (next_posts_in source w.0) in
       let past = slice_get_past listed (length (schedule_of c.before)) (omega (arith, c.long, length-map c.before (λ (e : Event). e.thread))) in
       absurd (number_goes all (c.event).thread (sym (ap (λ next. choice_by_list next all) past) ∙ w.2))
   | inr short ↦ short
@@ -109,10 +109,11 @@ module _ (plan : Plan) (deal : Deal) (bodies : List Pending) (limit : ℕ) (even
   source = source_of_bodies bodies
 
   abbrev all_in : World → List Chance
-  all_in world = chances deal.threads world.store (next_in source world)
+  all_in world = chances deal.threads world.store (next_posts_in source world)
 
   long : (world : World) → length (all_in world) ≡ deal.threads
-  long world = length-map-range_with_len (chance world.store (next_in source world)) 0 deal.threads
+  long world =
+      length-map-range_with_len (chance world.store (next_posts_in source world)) 0 deal.threads
 
   speaks_in : (world : World) → SpeaksOf plan (length (all_in world))
   speaks_in world = let Speaks : ℕ → Type 0 = SpeaksOf plan in subst Speaks (sym (long world)) speaks
@@ -120,7 +121,7 @@ module _ (plan : Plan) (deal : Deal) (bodies : List Pending) (limit : ℕ) (even
   -- at each step the listed thread may go
   chosen_again : (before after : List Event) (e : Event) → events ≡ before ++ e ∷ after → choice_after again deal source (schedule_of before) ≡ Some (Thread e.thread)
   chosen_again before after e cut =
-      let w = map-some (choice_in plan deal.threads source (schedule_of before)) (world_after (first deal) source (schedule_of before)) (Thread e.thread) (obeys.chosen before after e cut) in
+      let w = map-some (choice_in plan deal.threads source (schedule_of before)) (world_after (first_store deal) source (schedule_of before)) (Thread e.thread) (obeys.chosen before after e cut) in
       let ready = chosen-ready plan (schedule_of before) (all_in w.0) e.thread (speaks_in w.0) w.2 in
       let at : slice_get (schedule_of events) (length (schedule_of before)) ≡ Some e.thread = ap (λ es. slice_get (schedule_of es) (length (schedule_of before))) cut ∙ listed_at before after e in
       ap (option_map (choice_in again deal.threads source (schedule_of before))) w.1
@@ -132,7 +133,7 @@ module _ (plan : Plan) (deal : Deal) (bodies : List Pending) (limit : ℕ) (even
     all = all_in world
 
     abbrev rest : Verdict
-    rest = rest_verdict deal.threads world.store (next_in source world)
+    rest = rest_verdict deal.threads world.store (next_posts_in source world)
 
     abbrev last : List ℕ
     last = schedule_of events
@@ -158,9 +159,9 @@ module _ (plan : Plan) (deal : Deal) (bodies : List Pending) (limit : ℕ) (even
     ends_by None full (Waits u) is e = absurd cc
     ends_by None full (Departs u) is e = absurd (stays (departs-may plan last all u (speaks_in world) is))
 
-  settled_again : (verdict : Verdict) → settled plan deal source limit events ≡ Some (Ends verdict) → settled again deal source limit events ≡ Some (Ends verdict)
+  settled_again : (verdict : Verdict) → outcome_after plan deal source limit events ≡ Some (Ends verdict) → outcome_after again deal source limit events ≡ Some (Ends verdict)
   settled_again verdict ends =
-      let w = made-from (first deal) source events obeys.made in
+      let w = made-from (first_store deal) source events obeys.made in
       settled-at again deal source limit events w.0 w.1
       ∙ ends_by verdict w.0 (w.0).verdict (eqb (length events) limit) (choice_in plan deal.threads source (schedule_of events) w.0) refl (sym (settled-at plan deal source limit events w.0 w.1) ∙ ends)
 

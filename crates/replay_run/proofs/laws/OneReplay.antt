@@ -17,7 +17,7 @@ use Rattle.replay_run.specs.declared.answer.Found.{Found}
 use Rattle.replay_run.specs.declared.answer.Found.TheVariants.{Event as FoundEvent, NotEnabled, Goes, Over}
 use Rattle.replay_run.specs.declared.answer.Replayed.{Replayed}
 use Rattle.replay_run.specs.declared.answer.Replayed.TheVariants.{Confirmed, Departs}
-use Rattle.replay_run.specs.Replay.{DifferAt, EndsBefore, IsDeparture, Tells, IsReplay}
+use Rattle.replay_run.specs.Replay.{DifferAt, EndsBefore, IsDeparture, TellsReply, IsReplay}
 use Rattle.replay_run.proofs.Compared.{no_difference, no_end}
 
 -- two lists differ first at one place
@@ -83,7 +83,7 @@ module _ (made told : List Event) where
     departs_once step other found (FoundEvent e2) written (WrittenVerdict w2) d c = absurd c
     departs_once step other found (NotEnabled t2) written (WrittenVerdict w2) d c = absurd c
 
-    confirmed_not : (v : Verdict) (step : ℕ) (found : Found) (written : Written) → Tells made outcome told verdict (Confirmed v) → IsDeparture made outcome told verdict step found written → ⊥
+    confirmed_not : (v : Verdict) (step : ℕ) (found : Found) (written : Written) → TellsReply made outcome told verdict (Confirmed v) → IsDeparture made outcome told verdict step found written → ⊥
     confirmed_not v step (FoundEvent e) (WrittenEvent f) same d = no_difference step made told e f same.0 d
     confirmed_not v step (NotEnabled t) (WrittenEvent f) same d = no_end step made told f same.0 d.0
     confirmed_not v step (Over w) (WrittenEvent f) same d = no_end step made told f same.0 d.0
@@ -93,7 +93,7 @@ module _ (made told : List Event) where
     confirmed_not v step (FoundEvent e) (WrittenVerdict w) same d = d
     confirmed_not v step (NotEnabled t) (WrittenVerdict w) same d = d
 
-    pub tells_once : (one other : Replayed) → Tells made outcome told verdict one → Tells made outcome told verdict other → one ≡ other
+    pub tells_once : (one other : Replayed) → TellsReply made outcome told verdict one → TellsReply made outcome told verdict other → one ≡ other
     tells_once (Confirmed v) (Confirmed w) a b = ap Confirmed (sym a.2 ∙ b.2)
     tells_once (Confirmed v) (Departs step found written) a b = absurd (confirmed_not v step found written a b)
     tells_once (Departs step found written) (Confirmed w) a b = absurd (confirmed_not w step found written b a)
@@ -103,6 +103,6 @@ module _ (made told : List Event) where
 pub one_replay : (deal : Deal) (bodies : List Pending) (file : TraceFile) (one other : Replayed) → IsReplay deal bodies file one → IsReplay deal bodies file other → one ≡ other
 one_replay deal bodies file one other a b =
     let only = only-played (ByList (schedule_of file.events)) deal bodies (file.header).limit b.made a.made b.outcome a.outcome b.played a.played in
-    let E : List Event → Type 0 = λ es. Tells es a.outcome file.events file.verdict other in
-    let O : Outcome → Type 0 = λ o. Tells b.made o file.events file.verdict other in
+    let E : List Event → Type 0 = λ es. TellsReply es a.outcome file.events file.verdict other in
+    let O : Outcome → Type 0 = λ o. TellsReply b.made o file.events file.verdict other in
     tells_once a.made file.events a.outcome file.verdict one other a.tells (subst E only.0 (subst O only.1 b.tells))

@@ -2,7 +2,7 @@
 use Rattle.std.proofs.Common.{◌≡◌, ℕ, ◌+◌, ◌⊎◌, inl, inr, length, List, [], ◌∷◌, ◌++◌, refl, sym, ap, ◌∙◌, arith, subst}
 use Rattle.std.proofs.lemmas.Bool.{cases_lt}
 use Rattle.script_tree.specs.declared.fault.ScriptFault.{ScriptFault}
-use Rattle.script_tree.specs.Faults.{Place, IsFaulty, rank, IsFirstKind, IsFirstLine, IsFirstFault, IsFault}
+use Rattle.script_tree.specs.Faults.{Place, IsFaulty, kind_rank, IsFirstKind, HasNoFaultBefore, IsFirstFault, IsFault}
 use Rattle.script_parse.proofs.FirstKinds.{same_rank_kind}
 use Rattle.script_parse.proofs.TextFaults.{at_place}
 
@@ -26,9 +26,9 @@ compare (u ∷ us) ms (v ∷ vs) ns a b e =
     cons_same a b us vs p q = cc
 
 one_kind : (p q : Place) (kind other : ScriptFault) → IsFirstKind p kind → IsFirstKind q other → p ≡ q → kind ≡ other
-one_kind p q kind other f g e = elim (cases_lt (rank kind) (rank other)) [
+one_kind p q kind other f g e = elim (cases_lt (kind_rank kind) (kind_rank other)) [
   | inl low ↦ absurd (g.first kind low (subst (λ (x : Place). IsFaulty kind x) e f.faulty))
-  | inr high ↦ elim (cases_lt (rank other) (rank kind)) [
+  | inr high ↦ elim (cases_lt (kind_rank other) (kind_rank kind)) [
     | inl low ↦ absurd (f.first other low (subst (λ (x : Place). IsFaulty other x) (sym e) g.faulty))
     | inr low ↦ same_rank_kind kind other (omega arith)
   ]
@@ -37,7 +37,7 @@ one_kind p q kind other f g e = elim (cases_lt (rank kind) (rank other)) [
 same_place : (before others : List (List ℕ)) (line other : List ℕ) (after more : List (List ℕ)) → before ≡ others → line ≡ other → after ≡ more → at_place before line after ≡ at_place others other more
 same_place before others line other after more p q r = cc
 
-earlier_not : (p q : Place) (kind other : ScriptFault) → IsFirstKind p kind → IsFirstLine q → (mid : List (List ℕ)) → q.before ≡ p.before ++ p.line ∷ mid → p.after ≡ mid ++ q.line ∷ q.after → ⊥
+earlier_not : (p q : Place) (kind other : ScriptFault) → IsFirstKind p kind → HasNoFaultBefore q → (mid : List (List ℕ)) → q.before ≡ p.before ++ p.line ∷ mid → p.after ≡ mid ++ q.line ∷ q.after → ⊥
 earlier_not p q kind other f first mid e g = first p.before mid p.line kind e (subst (λ (a : List (List ℕ)). IsFaulty kind (at_place p.before p.line a)) g f.faulty)
 
 one_first : (bytes : List ℕ) (n m : ℕ) (kind other : ScriptFault) → IsFirstFault bytes n kind → IsFirstFault bytes m other → (n ≡ m) × (kind ≡ other)

@@ -16,13 +16,13 @@ use Rattle.pct_ask.specs.NameLists.{NameLists, AreNames, all_names, list_of}
 use Rattle.pct_ask.specs.declared.names.NameKind.{NameKind}
 use Rattle.pct_ask.specs.declared.names.NameKind.TheVariants as kinds
 use Rattle.script_tree.specs.ScriptText.{ScriptText, Thread}
-use Rattle.script_tree.specs.Forms.{Meant, kind_since, has_value, is_plain, value_in}
+use Rattle.script_tree.specs.Forms.{MeantForm, kind_since, has_value, is_plain, value_in}
 use Rattle.script_tree.specs.Fitting.{IsScript, thread_fits, rwlocks_fit}
 use Rattle.script_tree.specs.Lines.{names_of, values_of}
-use Rattle.script_tree.specs.Grammar.{Line, declares, thread_lines, all_thread_lines, AreLines, IsSound, Spells}
+use Rattle.script_tree.specs.Grammar.{Line, declares, thread_lines, all_thread_lines, AreLines, IsLineText, Spells}
 use Rattle.script_tree.specs.Layout.{token_text, form_text, value_tokens, plain_forms, valued_forms, declared_forms, meanings, forms_of, header_text, layout}
 use Rattle.script_tree.specs.Printing.{are_ranged}
-use Rattle.script_tree.specs.Renumbering.{renumbered, renumbered_threads, IsShort}
+use Rattle.script_tree.specs.Renumbering.{renumbered_script, renumbered_threads, IsShort}
 use Rattle.script_tree.proofs.Cuts.{IsCut, minus_cut}
 use Rattle.script_tree.proofs.ExpressionCuts.{decimal_cut, decimal_value}
 use Rattle.script_tree.proofs.FormCuts.{IsGoodValue}
@@ -136,7 +136,7 @@ plain_declare : (kind : NameKind) (names : List (List ℕ)) → list_all declare
 plain_declare kind [] = refl
 plain_declare kind (n ∷ ns) = plain_declare kind ns
 
-declare-append : (a b : List Meant) → list_all declares a ≡ true → list_all declares b ≡ true → list_all declares (a ++ b) ≡ true
+declare-append : (a b : List MeantForm) → list_all declares a ≡ true → list_all declares b ≡ true → list_all declares (a ++ b) ≡ true
 declare-append [] b in_a in_b = in_b
 declare-append (m ∷ a) b in_a in_b =
     let both = and_parts (declares m) (list_all declares a) in_a in
@@ -145,7 +145,8 @@ declare-append (m ∷ a) b in_a in_b =
 abbrev Declares : Line → Type 0
 Declares line = declares line.1 ≡ true
 
-all_declare : (n : ℕ) (ms : List Meant) → list_all declares ms ≡ true → All Declares (numbered n ms)
+all_declare : (n : ℕ) (ms : List MeantForm) → list_all declares ms ≡ true
+    → All Declares (numbered n ms)
 all_declare n [] h = All-nil Declares
 all_declare n (m ∷ ms) h =
     let both = and_parts (declares m) (list_all declares ms) h in
@@ -168,7 +169,7 @@ module _ (script : ScriptText) (is : IsScript script) (names : AreNames script.n
   abbrev N : NameLists
   N = script.names
 
-  abbrev D : List Meant
+  abbrev D : List MeantForm
   D = declared_forms script
 
   abbrev L : List Line
@@ -186,22 +187,22 @@ module _ (script : ScriptText) (is : IsScript script) (names : AreNames script.n
   barriers_printed : ArePrinted kinds.Barrier script.barriers
   barriers_printed = all_printed kinds.Barrier IsBarrierCount barrier_printed script.barriers is.barrier_counts
 
-  abbrev var_forms : List Meant
+  abbrev var_forms : List MeantForm
   var_forms = valued_forms kinds.Var N.vars script.vars
 
-  abbrev mutex_forms : List Meant
+  abbrev mutex_forms : List MeantForm
   mutex_forms = plain_forms kinds.Mutex N.mutexes
 
-  abbrev cond_forms : List Meant
+  abbrev cond_forms : List MeantForm
   cond_forms = plain_forms kinds.Cond N.conds
 
-  abbrev sem_forms : List Meant
+  abbrev sem_forms : List MeantForm
   sem_forms = valued_forms kinds.Sem N.sems script.sems
 
-  abbrev barrier_forms : List Meant
+  abbrev barrier_forms : List MeantForm
   barrier_forms = valued_forms kinds.Barrier N.barriers script.barriers
 
-  abbrev rwlock_forms : List Meant
+  abbrev rwlock_forms : List MeantForm
   rwlock_forms = plain_forms kinds.RwLock N.rwlocks
 
   declared_fit : AreFit script.version D
@@ -239,7 +240,8 @@ module _ (script : ScriptText) (is : IsScript script) (names : AreNames script.n
   lines_are = lines_of_text (header_text script.version ∷ below) plain
 
   abbrev renumbered_lines : List Line
-  renumbered_lines = all_thread_lines script.names script.names.threads (renumbered script).threads
+  renumbered_lines =
+      all_thread_lines script.names script.names.threads (renumbered_script script).threads
 
   numbered_lines : numbered 2 (forms_of script) ≡ numbered 2 D ++ renumbered_lines
   numbered_lines =
@@ -249,11 +251,11 @@ module _ (script : ScriptText) (is : IsScript script) (names : AreNames script.n
   length-meanings [] = refl
   length-meanings (line ∷ lines) = omega (arith, length-meanings lines)
 
-  length-map : (ms : List Meant) → length (map form_text ms) ≡ length ms
+  length-map : (ms : List MeantForm) → length (map form_text ms) ≡ length ms
   length-map [] = refl
   length-map (m ∷ ms) = omega (arith, length-map ms)
 
-  refit : IsShort (layout script) → IsScript (renumbered script)
+  refit : IsShort (layout script) → IsScript (renumbered_script script)
   refit short =
       let count : length (header_text script.version ∷ below) ≤ 4096 = subst (λ lines. length lines ≤ 4096) lines_are short.few_lines in
       let high : 2 + length D + length L ≤ 4097 = omega (arith, length-map (forms_of script), length-append D (meanings L), length-meanings L) in
@@ -274,11 +276,11 @@ module _ (script : ScriptText) (is : IsScript script) (names : AreNames script.n
         threads_fit = threads_refit script.version N (2 + length D) N.threads script.threads is.same_threads is.threads_fit (omega arith) high;
       }
 
-  pub layout_spells : IsShort (layout script) → Spells (layout script) (renumbered script)
+  pub layout_spells : IsShort (layout script) → Spells (layout script) (renumbered_script script)
   layout_spells short = record {
     small = short.small;
     few_lines = short.few_lines;
-    sound = subst (All IsSound) (sym lines_are) (all_sound (header_text script.version ∷ below) plain (subst (All IsShortLine) lines_are short.short_lines));
+    sound = subst (All IsLineText) (sym lines_are) (all_sound (header_text script.version ∷ below) plain (subst (All IsShortLine) lines_are short.short_lines));
     above = [];
     header = header_text script.version;
     below = below;

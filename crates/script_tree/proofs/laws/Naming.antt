@@ -10,12 +10,12 @@ use Rattle.pct_ask.specs.declared.ask.Ask.TheVariants as asks
 use Rattle.pct_ask.specs.declared.ask.FaultKind.{FaultKind}
 use Rattle.pct_ask.specs.declared.ask.FaultKind.TheVariants.{Spin}
 use Rattle.pct_ask.specs.declared.deal.Deal.{Deal}
-use Rattle.script_tree.specs.Trees.{Statement, Statements, Closed, Then, Read, Write, Add, Cas, Lock, TryLock, Unlock, Wait, Signal, Broadcast, Down, TryDown, Up, Arrive, Join, Yield, Assert, Set, If, IfElse, While, Start, RdLock, WrLock, TryRdLock, TryWrLock, RwUnlock, line_of, list, end_line}
+use Rattle.script_tree.specs.Trees.{Statement, Statements, Closed, Then, Read, Write, Add, Cas, Lock, TryLock, Unlock, Wait, Signal, Broadcast, Down, TryDown, Up, Arrive, Join, Yield, Assert, Set, If, IfElse, While, Start, RdLock, WrLock, TryRdLock, TryWrLock, RwUnlock, line_of, statement_list, end_line}
 use Rattle.script_tree.specs.ScriptText.{Thread, ScriptText}
 use Rattle.script_tree.specs.Fitting.{line_fits, reg_fits, place_fits, expression_fits, counts_of, statement_fits, statements_fit, thread_fits, IsScript}
 use Rattle.script_tree.specs.Values.{Value, is_zero, value_of}
 use Rattle.script_tree.specs.Machine.{Act, Moves, Asks, Ends, Stand, by_act, faults, stand, pending_from}
-use Rattle.script_tree.specs.Moves.{State, ended, moves, asks_by, act, head, at_start}
+use Rattle.script_tree.specs.Moves.{State, end_state, moves, asks_by, act, head, at_start}
 use Rattle.script_tree.specs.Posts.{most_moves, body_pending, held_pending, is_held, thread_of, no_thread, pending}
 use Rattle.script_tree.specs.DealOf.{IsDealOf}
 use Rattle.script_tree.specs.Naming.{NamesOnly, AsksOnly, IsPostOf}
@@ -68,7 +68,7 @@ module _ (version : ℕ) (names : NameLists) where
   AllFit [] = Unit {0}
   AllFit (s ∷ rest) = ((room : ℕ) × (statement_fits version names room s ≡ true)) × AllFit rest
 
-  all_fit : (room : ℕ) (ss : Statements) (rest : List Statement) → statements_fit version names room ss ≡ true → AllFit rest → AllFit (list ss ++ rest)
+  all_fit : (room : ℕ) (ss : Statements) (rest : List Statement) → statements_fit version names room ss ≡ true → AllFit rest → AllFit (statement_list ss ++ rest)
   all_fit room (Closed line) rest h f = f
   all_fit room (Then s ss) rest h f =
       ((room, left_true (statement_fits version names room s) (statements_fit version names room ss) h), all_fit room ss rest (right_true (statement_fits version names room s) (statements_fit version names room ss) h) f)
@@ -131,15 +131,15 @@ module _ (version : ℕ) (names : NameLists) where
       act_fits halfway room (Set line reg value) h = by_move_of (value_of registers value) _ (λ n. f)
       act_fits halfway room (If line test first) h =
           let inner = right_true (line_fits line && expression_fits test && nat_lt 0 room) (statements_fit version names (room - 1) first) h in
-          by_move_of (value_of registers test) _ (λ n. fit_chosen (is_zero n) (list first ++ rest) rest (all_fit (room - 1) first rest inner f) f)
+          by_move_of (value_of registers test) _ (λ n. fit_chosen (is_zero n) (statement_list first ++ rest) rest (all_fit (room - 1) first rest inner f) f)
       act_fits halfway room (IfElse line test first otherwise) h =
           let front = line_fits line && expression_fits test && nat_lt 0 room in
           let inner = right_true front (statements_fit version names (room - 1) first) (left_true (front && statements_fit version names (room - 1) first) (statements_fit version names (room - 1) otherwise) h) in
           let other = right_true (front && statements_fit version names (room - 1) first) (statements_fit version names (room - 1) otherwise) h in
-          by_move_of (value_of registers test) _ (λ n. fit_chosen (is_zero n) (list first ++ rest) (list otherwise ++ rest) (all_fit (room - 1) first rest inner f) (all_fit (room - 1) otherwise rest other f))
+          by_move_of (value_of registers test) _ (λ n. fit_chosen (is_zero n) (statement_list first ++ rest) (statement_list otherwise ++ rest) (all_fit (room - 1) first rest inner f) (all_fit (room - 1) otherwise rest other f))
       act_fits halfway room (While line test body) h =
           let inner = right_true (line_fits line && expression_fits test && nat_lt 0 room) (statements_fit version names (room - 1) body) h in
-          by_move_of (value_of registers test) _ (λ n. fit_chosen (is_zero n) (list body ++ While line test body ∷ rest) rest (all_fit (room - 1) body (While line test body ∷ rest) inner ((room, h), f)) f)
+          by_move_of (value_of registers test) _ (λ n. fit_chosen (is_zero n) (statement_list body ++ While line test body ∷ rest) rest (all_fit (room - 1) body (While line test body ∷ rest) inner ((room, h), f)) f)
       act_fits halfway room (Start line thread) h = (within names.threads deal.threads thread threads (right_true (line_fits line && nat_le 2 version) (place_fits names.threads thread) h), λ x. f)
       act_fits halfway room (RdLock line rwlock) h = (within names.rwlocks deal.rwlocks rwlock rwlocks (right_true (line_fits line && nat_le 3 version) (place_fits names.rwlocks rwlock) h), λ x. f)
       act_fits halfway room (WrLock line rwlock) h = (within names.rwlocks deal.rwlocks rwlock rwlocks (right_true (line_fits line && nat_le 3 version) (place_fits names.rwlocks rwlock) h), λ x. f)
@@ -157,11 +157,11 @@ module _ (version : ℕ) (names : NameLists) where
         post : IsPostOf deal s.post
         after : (x : ℤ) → AllFit (s.after x).rest
 
-      fault_fits : (line : ℕ) (kind : FaultKind) → line_fits line ≡ true → StandFits (faults (head end) ended line kind)
+      fault_fits : (line : ℕ) (kind : FaultKind) → line_fits line ≡ true → StandFits (faults (head end) end_state line kind)
       fault_fits line kind l = record { post = post_of line (Some (asks.Fault kind)) l tt; after = λ x. tt }
 
       act_stands : (line : ℕ) (a : Act State) (f : Result State FaultKind → Stand State) → line_fits line ≡ true → ActFits a →
-          ((s : State) → AllFit s.rest → StandFits (f (Ok s))) → ((kind : FaultKind) → StandFits (f (Err kind))) → StandFits (by_act (head end) ended line a f)
+          ((s : State) → AllFit s.rest → StandFits (f (Ok s))) → ((kind : FaultKind) → StandFits (f (Err kind))) → StandFits (by_act (head end) end_state line a f)
       act_stands line (Moves (Ok s)) f l h go stop = go s h
       act_stands line (Moves (Err kind)) f l h go stop = stop kind
       act_stands line (Asks ask after) f l h go stop = record { post = post_of line (Some ask) l h.0; after = h.1 }
@@ -175,7 +175,7 @@ module _ (version : ℕ) (names : NameLists) where
       head_fits [] registers halfway f = tt
       head_fits (s ∷ rest) registers halfway f = act_fits rest registers f.1 halfway f.0.0 s f.0.1
 
-      stand_fits : (limit : ℕ) (s : State) → AllFit s.rest → StandFits (stand (head end) ended limit s)
+      stand_fits : (limit : ℕ) (s : State) → AllFit s.rest → StandFits (stand (head end) end_state limit s)
       stand_fits zero s f =
           let l = head_line s.rest s.registers s.halfway f in
           act_stands (head end s).0 (head end s).1 _ l (head_fits s.rest s.registers s.halfway f) (λ t g. fault_fits (head end s).0 Spin l) (λ kind. fault_fits (head end s).0 Spin l)
@@ -183,7 +183,7 @@ module _ (version : ℕ) (names : NameLists) where
           let l = head_line s.rest s.registers s.halfway f in
           act_stands (head end s).0 (head end s).1 _ l (head_fits s.rest s.registers s.halfway f) (λ t g. stand_fits limit t g) (λ kind. fault_fits (head end s).0 kind l)
 
-      from_fits : (limit : ℕ) (answers : List ℤ) (s : State) → AllFit s.rest → IsPostOf deal (pending_from (head end) ended limit s answers)
+      from_fits : (limit : ℕ) (answers : List ℤ) (s : State) → AllFit s.rest → IsPostOf deal (pending_from (head end) end_state limit s answers)
       from_fits limit [] s f = (stand_fits limit s f).post
       from_fits limit (x ∷ answers) s f = from_fits limit answers _ ((stand_fits limit s f).after x)
 
@@ -191,7 +191,7 @@ module _ (version : ℕ) (names : NameLists) where
 
     body_fits : (limit : ℕ) (body : Statements) (answers : List ℤ) → statements_fit version names 32 body ≡ true → IsPostOf deal (body_pending limit body answers)
     body_fits limit body answers h =
-        from_fits (end_line body) (end_ok 32 body h) limit answers (at_start body) (subst AllFit (append-nil (list body)) (all_fit 32 body [] h tt))
+        from_fits (end_line body) (end_ok 32 body h) limit answers (at_start body) (subst AllFit (append-nil (statement_list body)) (all_fit 32 body [] h tt))
 
     held_fits : (held : Bool) (limit : ℕ) (t : Thread) (answers : List ℤ) → thread_fits version names t ≡ true → IsPostOf deal (held_pending held limit t answers)
     held_fits held limit t answers h = go held answers

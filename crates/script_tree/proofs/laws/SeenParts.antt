@@ -1,7 +1,7 @@
 -- What a statement and a block of the code are seen as, by their parts.
 use Rattle.std.proofs.Common.{◌≡◌, ℕ, ℤ, List, [], ◌∷◌, Box, Global, Some, None, refl, sym, ap, ◌∙◌}
 use Rattle.script_tree.specs.Trees as trees
-use Rattle.script_tree.specs.Trees.{Expression, Statement, Statements, Closed, Then, list, end_line, closed_at}
+use Rattle.script_tree.specs.Trees.{Expression, Statement, Statements, Closed, Then, statement_list, end_line, closed_at}
 use Rattle.script_tree.specs.Seen.{expression, statement, block, statements, expression_step, statement_step, block_step}
 use Rattle.script_tree.specs.declared.expr.Op.{Op}
 use Rattle.script_tree.specs.declared.expr.Expr.{Expr, Expr-F, fold-roll-Expr}
@@ -109,7 +109,8 @@ statement-IfElse line test first otherwise = ap statement (sym (rolls-If line te
 pub block-parts : (b : Block) → block b ≡ closed_at b.end_line (statements b.stmts.items)
 block-parts b = fold_out-Block Statement Statements statement_step block_step b
 
-pub list-closed_at : (line : ℕ) (rest : List Statement) → list (closed_at line rest) ≡ rest
+pub list-closed_at : (line : ℕ) (rest : List Statement)
+    → statement_list (closed_at line rest) ≡ rest
 list-closed_at line [] = refl
 list-closed_at line (s ∷ rest) = ap (λ r. s ∷ r) (list-closed_at line rest)
 
@@ -117,8 +118,9 @@ pub end_line-closed_at : (line : ℕ) (rest : List Statement) → end_line (clos
 end_line-closed_at line [] = refl
 end_line-closed_at line (s ∷ rest) = end_line-closed_at line rest
 
-pub list-block : (b : Block) → list (block b) ≡ statements b.stmts.items
-list-block b = ap list (block-parts b) ∙ list-closed_at b.end_line (statements b.stmts.items)
+pub list-block : (b : Block) → statement_list (block b) ≡ statements b.stmts.items
+list-block b =
+    ap statement_list (block-parts b) ∙ list-closed_at b.end_line (statements b.stmts.items)
 
 pub end_line-block : (b : Block) → end_line (block b) ≡ b.end_line
 end_line-block b = ap end_line (block-parts b) ∙ end_line-closed_at b.end_line (statements b.stmts.items)

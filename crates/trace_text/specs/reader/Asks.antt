@@ -17,7 +17,7 @@ use Rattle.pct_ask.specs.declared.ask.Ask.TheVariants.{Check, Fault, Start, Begi
 use Rattle.pct_ask.specs.declared.ask.Ask.TheVariants.{TryRdLock, TryWrLock, RwUnlock}
 use Rattle.trace_text.specs.declared.asks.WordsRead.{WordsRead}
 use Rattle.trace_text.specs.declared.asks.WordsRead.TheVariants.{Is, NoForm, UnknownName}
-use Rattle.trace_text.specs.reader.Numbers.{value_of}
+use Rattle.trace_text.specs.reader.Numbers.{i64_in}
 
 -- whether words have the form, be their names known or not
 abbrev pub has_form : {T : Type 0} → WordsRead T → Bool
@@ -26,10 +26,10 @@ has_form NoForm = false
 has_form UnknownName = true
 
 -- what words are, where all their names are known
-abbrev pub known : {T : Type 0} → WordsRead T → Option T
-known (Is what) = Some what
-known NoForm = None
-known UnknownName = None
+abbrev pub known_words : {T : Type 0} → WordsRead T → Option T
+known_words (Is what) = Some what
+known_words NoForm = None
+known_words UnknownName = None
 
 -- a lawful name with its place, if it has one
 abbrev pub object_at : Option ℕ → WordsRead ℕ
@@ -112,36 +112,37 @@ on_object ask NoForm = NoForm
 on_object ask UnknownName = UnknownName
 
 -- an ask of two words, where the first asks something of an object of this kind, or of none
-abbrev pub ask_by : NameLists → Option NameKind → List ℕ → List ℕ → WordsRead Ask
-ask_by names None word operand = plain_ask word operand
-ask_by names (Some kind) word operand = on_object (ask_of kind word) (object names kind operand)
+abbrev pub ask_on_kind : NameLists → Option NameKind → List ℕ → List ℕ → WordsRead Ask
+ask_on_kind names None word operand = plain_ask word operand
+ask_on_kind names (Some kind) word operand =
+    on_object (ask_of kind word) (object names kind operand)
 
 -- an ask of two words
 unfoldable pub ask_on_one : NameLists → ℕ → List ℕ → List ℕ → WordsRead Ask
-ask_on_one names version word operand = ask_by names (kind_of version word) word operand
+ask_on_one names version word operand = ask_on_kind names (kind_of version word) word operand
 
 -- an ask of an object and with a number, where the number is read
-abbrev pub with_value : (ℕ → ℤ → Ask) → WordsRead ℕ → Option ℤ → WordsRead Ask
-with_value ask place None = NoForm
-with_value ask place (Some value) = on_object (λ id. ask id value) place
+abbrev pub ask_with_value : (ℕ → ℤ → Ask) → WordsRead ℕ → Option ℤ → WordsRead Ask
+ask_with_value ask place None = NoForm
+ask_with_value ask place (Some value) = on_object (λ id. ask id value) place
 
 -- an ask of two objects: each has a form, and the names of both are known
-abbrev pub on_both : (ℕ → ℕ → Ask) → WordsRead ℕ → WordsRead ℕ → WordsRead Ask
-on_both ask NoForm second = NoForm
-on_both ask first NoForm = NoForm
-on_both ask UnknownName second = UnknownName
-on_both ask first UnknownName = UnknownName
-on_both ask (Is first) (Is second) = Is (ask first second)
+abbrev pub on_both_objects : (ℕ → ℕ → Ask) → WordsRead ℕ → WordsRead ℕ → WordsRead Ask
+on_both_objects ask NoForm second = NoForm
+on_both_objects ask first NoForm = NoForm
+on_both_objects ask UnknownName second = UnknownName
+on_both_objects ask first UnknownName = UnknownName
+on_both_objects ask (Is first) (Is second) = Is (ask first second)
 
 -- an ask of three words: write X V, add X V, release C M, regain C M
 unfoldable pub ask_on_two : NameLists → List ℕ → List ℕ → List ℕ → WordsRead Ask
 ask_on_two names word a b =
-    if bytes_eq word (codes "write") then with_value Write (object names Var a) (value_of b)
-    else (if bytes_eq word (codes "add") then with_value Add (object names Var a) (value_of b)
+    if bytes_eq word (codes "write") then ask_with_value Write (object names Var a) (i64_in b)
+    else (if bytes_eq word (codes "add") then ask_with_value Add (object names Var a) (i64_in b)
     else (if bytes_eq word (codes "release")
-    then on_both Release (object names Cond a) (object names Mutex b)
+    then on_both_objects Release (object names Cond a) (object names Mutex b)
     else (if bytes_eq word (codes "regain")
-    then on_both Regain (object names Cond a) (object names Mutex b)
+    then on_both_objects Regain (object names Cond a) (object names Mutex b)
     else NoForm)))
 
 -- an exchange, where its two numbers are read
@@ -153,5 +154,5 @@ exchange place (Some old) (Some new) = on_object (λ id. Cas id old new) place
 -- an ask of four words: cas X OLD NEW
 unfoldable pub ask_on_three : NameLists → List ℕ → List ℕ → List ℕ → List ℕ → WordsRead Ask
 ask_on_three names word a b c =
-    if bytes_eq word (codes "cas") then exchange (object names Var a) (value_of b) (value_of c)
+    if bytes_eq word (codes "cas") then exchange (object names Var a) (i64_in b) (i64_in c)
     else NoForm

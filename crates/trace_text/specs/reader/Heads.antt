@@ -9,8 +9,8 @@ use Rattle.pct_ask.specs.NameLists.{NameLists, place_of}
 use Rattle.pct_ask.specs.VerdictWords.{words_of}
 
 -- trace 1, trace 2
-abbrev pub version_in : List ℕ → Option ℕ
-version_in text =
+abbrev pub version_on_line : List ℕ → Option ℕ
+version_on_line text =
     if bytes_eq text (codes "trace 1") then Some 1
     else (if bytes_eq text (codes "trace 2") then Some 2 else None)
 
@@ -25,18 +25,18 @@ are_order_names names words =
     (length words == length names.threads) && list_all (is_name 1) words && are_different words
 
 -- the names behind the word `order`
-abbrev pub order_words : NameLists → List (List ℕ) → Option (List (List ℕ))
-order_words names [] = None
-order_words names (head ∷ words) =
+abbrev pub names_after_order : NameLists → List (List ℕ) → Option (List (List ℕ))
+names_after_order names [] = None
+names_after_order names (head ∷ words) =
     if bytes_eq head (codes "order") && are_order_names names words then Some words else None
 
 -- order NAME NAME ..: as many different lawful names as there are threads
-abbrev pub order_in : NameLists → List ℕ → Option (List (List ℕ))
-order_in names text = order_words names (words_of text)
+abbrev pub order_on_line : NameLists → List ℕ → Option (List (List ℕ))
+order_on_line names text = names_after_order names (words_of text)
 
 -- the threads of these names, where each is one's
-abbrev pub threads_of : NameLists → List (List ℕ) → Option (List ℕ)
-threads_of names words = all_of (λ word. place_of word names.threads) words
+abbrev pub threads_of_names : NameLists → List (List ℕ) → Option (List ℕ)
+threads_of_names names words = all_of (λ word. place_of word names.threads) words
 
 -- the numbers behind the word `points`
 abbrev pub point_words : List (List ℕ) → Option (List ℕ)
@@ -45,8 +45,8 @@ point_words (head ∷ words) =
     if bytes_eq head (codes "points") && nat_le (length words) 7 then step_counts words else None
 
 -- points NUMBER NUMBER ..: none to 7 numbers in 1..100000
-abbrev pub points_in : List ℕ → Option (List ℕ)
-points_in text = point_words (words_of text)
+abbrev pub points_on_line : List ℕ → Option (List ℕ)
+points_on_line text = point_words (words_of text)
 
 -- the number behind the word `limit`
 abbrev pub limit_words : List (List ℕ) → Option ℕ
@@ -55,5 +55,5 @@ limit_words (head ∷ number ∷ []) =
 limit_words words = None
 
 -- limit NUMBER: a number in 1..100000
-abbrev pub limit_in : List ℕ → Option ℕ
-limit_in text = limit_words (words_of text)
+abbrev pub limit_on_line : List ℕ → Option ℕ
+limit_on_line text = limit_words (words_of text)

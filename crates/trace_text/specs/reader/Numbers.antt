@@ -25,8 +25,8 @@ abbrev pub small : ℤ → Option ℤ
 small z = if is_small z then Some z else None
 
 -- the i64 of which the word is the canonical decimal
-unfoldable pub value_of : List ℕ → Option ℤ
-value_of word = if bytes_eq (number_text (guess word)) word then small (guess word) else None
+unfoldable pub i64_in : List ℕ → Option ℤ
+i64_in word = if bytes_eq (number_text (guess word)) word then small (guess word) else None
 
 -- the number, where it is 0 or more
 abbrev pub natural : Option ℤ → Option ℕ
@@ -36,4 +36,4 @@ natural (Some (negsuc n)) = None
 
 -- a number from 0 on
 abbrev pub natural_of : List ℕ → Option ℕ
-natural_of word = natural (value_of word)
+natural_of word = natural (i64_in word)

@@ -5,7 +5,8 @@ use Rattle.pct_ask.specs.NameLists.{NameLists}
 use Rattle.pct_ask.specs.declared.event.Event.{Event}
 use Rattle.pct_ask.specs.declared.verdict.Verdict.{Verdict}
 use Rattle.trace_text.specs.Lines.{pieces_of, is_empty}
-use Rattle.trace_text.specs.reader.Heads.{version_in, order_in, threads_of, points_in, limit_in}
+use Rattle.trace_text.specs.reader.Heads.{version_on_line, order_on_line, threads_of_names}
+use Rattle.trace_text.specs.reader.Heads.{points_on_line, limit_on_line}
 use Rattle.trace_text.specs.reader.StepLines.{row_of}
 use Rattle.trace_text.specs.declared.row.Row.{Row}
 use Rattle.trace_text.specs.declared.row.Row.TheVariants.{Step, End}
@@ -43,15 +44,15 @@ head_line line says [] = Err (line, BadHeader)
 head_line line says (piece ∷ pieces) = head_value line (says piece) pieces
 
 -- the order, where each of its names is a thread's
-abbrev pub known : Option (List ℕ) → Result (List ℕ) Fault
-known None = Err (2, UnknownName)
-known (Some order) = Ok order
+abbrev pub known_order : Option (List ℕ) → Result (List ℕ) Fault
+known_order None = Err (2, UnknownName)
+known_order (Some order) = Ok order
 
 -- the line of the order, whose names are threads'
 abbrev pub order_line : NameLists → List (List ℕ) → Result (List ℕ × List (List ℕ)) Fault
 order_line names pieces = do
-  words ← head_line 2 (order_in names) pieces
-  order ← known (threads_of names words.0)
+  words ← head_line 2 (order_on_line names) pieces
+  order ← known_order (threads_of_names names words.0)
   Ok (order, words.1)
 
 -- ---- the steps and the verdict
@@ -70,12 +71,12 @@ judged_event next number (Some event) =
     if number == next then Ok (sound.Step event) else Err OutOfOrder
 
 -- what a line with its LF is, where the next step has this number, or its fault
-abbrev pub judged : ℕ → ℕ → Option Row → Result Sound TraceFault
-judged limit next None = Err BadLine
-judged limit next (Some (Step number event)) =
+abbrev pub line_or_fault : ℕ → ℕ → Option Row → Result Sound TraceFault
+line_or_fault limit next None = Err BadLine
+line_or_fault limit next (Some (Step number event)) =
     if nat_lt limit number then Err TooLong else judged_event next number event
-judged limit next (Some (End None)) = Err UnknownName
-judged limit next (Some (End (Some verdict))) = Ok (sound.Last verdict)
+line_or_fault limit next (Some (End None)) = Err UnknownName
+line_or_fault limit next (Some (End (Some verdict))) = Ok (sound.Last verdict)
 
 -- the steps and the verdict
 abbrev pub Body : Type 0
@@ -87,18 +88,18 @@ with_event event (Ok body) = Ok (event ∷ body.0, body.1)
 with_event event (Err fault) = Err fault
 
 -- nothing stands after the verdict line
-abbrev pub closed : ℕ → Verdict → List ℕ → List (List ℕ) → Result Body Fault
-closed line verdict [] [] = Ok ([], verdict)
-closed line verdict [] (piece ∷ pieces) = Err (line, MoreAfterVerdict)
-closed line verdict (b ∷ bs) pieces = Err (line, MoreAfterVerdict)
+abbrev pub body_at_verdict : ℕ → Verdict → List ℕ → List (List ℕ) → Result Body Fault
+body_at_verdict line verdict [] [] = Ok ([], verdict)
+body_at_verdict line verdict [] (piece ∷ pieces) = Err (line, MoreAfterVerdict)
+body_at_verdict line verdict (b ∷ bs) pieces = Err (line, MoreAfterVerdict)
 
 -- what is read from a line on, by what the line is and what is read of the lines behind it
-abbrev pub after_line : ℕ → Result Sound TraceFault → List ℕ → List (List ℕ) → Result Body Fault
+abbrev pub body_from_line : ℕ → Result Sound TraceFault → List ℕ → List (List ℕ) → Result Body Fault
     → Result Body Fault
-after_line line (Err kind) piece pieces others = Err (line, kind)
-after_line line (Ok (sound.Step event)) piece pieces others = with_event event others
-after_line line (Ok (sound.Last verdict)) piece pieces others =
-    closed (line + 1) verdict piece pieces
+body_from_line line (Err kind) piece pieces others = Err (line, kind)
+body_from_line line (Ok (sound.Step event)) piece pieces others = with_event event others
+body_from_line line (Ok (sound.Last verdict)) piece pieces others =
+    body_at_verdict (line + 1) verdict piece pieces
 
 -- the steps and the verdict, where the next step has this number
 abbrev pub body_of : NameLists → ℕ → ℕ → ℕ → List (List ℕ) → Result Body Fault
@@ -106,7 +107,7 @@ body_of names version limit next [] = Err (next + 4, NoVerdict)
 body_of names version limit next (piece ∷ []) =
     Err (next + 4, unended_fault limit (row_of names version piece) piece)
 body_of names version limit next (piece ∷ after ∷ pieces) =
-    after_line (next + 4) (judged limit next (row_of names version piece)) after pieces
+    body_from_line (next + 4) (line_or_fault limit next (row_of names version piece)) after pieces
     (body_of names version limit (next + 1) (after ∷ pieces))
 
 -- ---- the whole
@@ -122,14 +123,14 @@ file_of version order points limit body = record {
 -- the file that the pieces tell, or the fault
 abbrev pub file_in : NameLists → List (List ℕ) → Result TraceFile Fault
 file_in names pieces = do
-  version ← head_line 1 version_in pieces
+  version ← head_line 1 version_on_line pieces
   order ← order_line names version.1
-  points ← head_line 3 points_in order.1
-  limit ← head_line 4 limit_in points.1
+  points ← head_line 3 points_on_line order.1
+  limit ← head_line 4 limit_on_line points.1
   body ← body_of names version.0 limit.0 1 limit.1
   Ok (file_of version.0 order.0 points.0 limit.0 body)
 
 -- the file that a text is read as, or its fault
-abbrev pub read : NameLists → List ℕ → Result TraceFile Fault
-read names bytes =
+abbrev pub read_as_trace : NameLists → List ℕ → Result TraceFile Fault
+read_as_trace names bytes =
     if nat_lt 16777216 (length bytes) then Err (1, TooLong) else file_in names (pieces_of bytes)

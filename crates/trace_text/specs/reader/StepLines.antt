@@ -10,8 +10,9 @@ use Rattle.pct_ask.specs.declared.ask.Ask.{Ask}
 use Rattle.pct_ask.specs.declared.event.Event.{Event}
 use Rattle.pct_ask.specs.declared.verdict_text.VerdictRead.{VerdictRead}
 use Rattle.pct_ask.specs.declared.verdict_text.VerdictRead.TheVariants.{Is, NoForm, UnknownName}
-use Rattle.trace_text.specs.reader.Numbers.{value_of, natural_of}
-use Rattle.trace_text.specs.reader.Asks.{has_form, known, object, bare_ask, ask_on_one, ask_on_two}
+use Rattle.trace_text.specs.reader.Numbers.{i64_in, natural_of}
+use Rattle.trace_text.specs.reader.Asks.{has_form, known_words, object, bare_ask, ask_on_one}
+use Rattle.trace_text.specs.reader.Asks.{ask_on_two}
 use Rattle.trace_text.specs.reader.Asks.{ask_on_three}
 use Rattle.trace_text.specs.Lawful.{is_of_second}
 use Rattle.trace_text.specs.declared.asks.WordsRead.{WordsRead}
@@ -29,7 +30,7 @@ event_of (Some thread) line (Some ask) answer =
 abbrev pub numbered_step : ℕ → WordsRead ℕ → ℕ → WordsRead Ask → ℤ → Option Row
 numbered_step number thread line ask answer =
     if has_form thread && has_form ask
-    then Some (Step number (event_of (known thread) line (known ask) answer))
+    then Some (Step number (event_of (known_words thread) line (known_words ask) answer))
     else None
 
 -- a step, where each of its parts is read and `=` stands before the answer
@@ -43,22 +44,23 @@ step_of_parts (Some n) thread (Some line) ask true (Some answer) =
     numbered_step n thread line ask answer
 
 -- the parts of a step line, but for its ask
-unfoldable pub step_of : NameLists → List ℕ → List ℕ → List ℕ → WordsRead Ask → List ℕ → List ℕ
+unfoldable pub step_in_words : NameLists → List ℕ → List ℕ → List ℕ → WordsRead Ask → List ℕ
+    → List ℕ
     → Option Row
-step_of names number thread line ask sign answer =
+step_in_words names number thread line ask sign answer =
     step_of_parts (natural_of number) (object names Thread thread) (line_number line) ask
-    (bytes_eq sign (codes "=")) (value_of answer)
+    (bytes_eq sign (codes "=")) (i64_in answer)
 
 -- STEP THREAD LINE ASK = ANSWER, where ASK has one word to four
 abbrev pub step_of_words : NameLists → ℕ → List (List ℕ) → Option Row
 step_of_words names version (number ∷ thread ∷ line ∷ word ∷ sign ∷ answer ∷ []) =
-    step_of names number thread line (bare_ask word) sign answer
+    step_in_words names number thread line (bare_ask word) sign answer
 step_of_words names version (number ∷ thread ∷ line ∷ word ∷ a ∷ sign ∷ answer ∷ []) =
-    step_of names number thread line (ask_on_one names version word a) sign answer
+    step_in_words names number thread line (ask_on_one names version word a) sign answer
 step_of_words names version (number ∷ thread ∷ line ∷ word ∷ a ∷ b ∷ sign ∷ answer ∷ []) =
-    step_of names number thread line (ask_on_two names word a b) sign answer
+    step_in_words names number thread line (ask_on_two names word a b) sign answer
 step_of_words names version (number ∷ thread ∷ line ∷ word ∷ a ∷ b ∷ c ∷ sign ∷ answer ∷ []) =
-    step_of names number thread line (ask_on_three names word a b c) sign answer
+    step_in_words names number thread line (ask_on_three names word a b c) sign answer
 step_of_words names version words = None
 
 -- the text of a verdict of the second version alone, where it is a verdict

@@ -15,26 +15,26 @@ use Rattle.pct_ask.specs.declared.event.Event.{Event}
 use Rattle.pct_ask.specs.declared.Deal.{Deal}
 use Rattle.pct_ask.specs.declared.verdict.Verdict.{Verdict}
 use Rattle.pct_ask.specs.declared.verdict.Outcome.{Outcome}
-use Rattle.sync_store.specs.Store.{StoreState, first}
+use Rattle.sync_store.specs.Store.{StoreState, first_store}
 use Rattle.sync_store.specs.Enabled.{enabled}
-use Rattle.sync_store.specs.Ready.{awaited, unknown_target, ready_by, readiness}
-use Rattle.sync_store.specs.World.{Source, World, has_ended, step_of, world_from}
+use Rattle.sync_store.specs.Ready.{join_target, unknown_target, ready_by, readiness}
+use Rattle.sync_store.specs.World.{Source, World, has_ended, world_by_step, world_from}
 use Rattle.policy_pick.specs.declared.chance.Chance.{Chance}
 use Rattle.policy_pick.specs.declared.chance.Chance.TheVariants.{Away, Ready as Goes, Blocked, Unknown, Ended}
 use Rattle.policy_pick.specs.declared.chance.Pick.{Pick}
 use Rattle.policy_pick.specs.declared.chance.Pick.TheVariants.{Thread, Waits, Nobody, Departs}
 use Rattle.policy_pick.specs.Plan.{Plan, SpeaksOf}
-use Rattle.policy_pick.specs.Choice.{choice, chance_of, is_open, is_known, IsSound, IsWaits, MayDepart, KeepsKnown, HasAwayTarget, TargetsAreAway}
+use Rattle.policy_pick.specs.Choice.{choice, chance_of, is_open, is_known, IsSoundPick, IsWaits, MayDepart, KeepsKnown, HasAwayTarget, TargetsAreAway}
 use Rattle.policy_pick.specs.Laws.{choice-keeps, choice-sound}
 use Rattle.policy_pick.specs.Laws.Chances.{closed-known}
 use Rattle.turn_book.specs.Chances.{NextPosts, is_unknown, is_ended, chance_by, chance_of_ask, chance_of_post, chance, chances, blocked_by_post, blocked_at, verdict_of_blocked, rest_verdict}
 use Rattle.turn_book.specs.Posts.{schedule_of, KeepsPosts}
-use Rattle.turn_book.specs.Obeys.{next_in, choice_in, choice_after, Obeys, outcome_by_pick, outcome_by, outcome_in, settled}
+use Rattle.turn_book.specs.Obeys.{next_posts_in, choice_in, choice_after, Obeys, outcome_by_pick, outcome_by, outcome_in, outcome_after}
 use Rattle.turn_book.proofs.laws.Worlds.{Steps, steps-from, step-is, grows, IsMade, made-from, made-events, passes}
 
 -- ---- asks
 -- whether an ask is enabled depends on who has ended only at the thread that it joins
-pub enabled-same : (store : StoreState) (one other : ℕ → Bool) (t : ℕ) (ask : Ask) → ((u : ℕ) → awaited ask ≡ Some u → one u ≡ other u) → enabled store one t ask ≡ enabled store other t ask
+pub enabled-same : (store : StoreState) (one other : ℕ → Bool) (t : ℕ) (ask : Ask) → ((u : ℕ) → join_target ask ≡ Some u → one u ≡ other u) → enabled store one t ask ≡ enabled store other t ask
 enabled-same store one other t (asks.Join u) same = same u refl
 enabled-same store one other t ask same = refl
 
@@ -49,12 +49,12 @@ target-same one other (Some u) same = ap (λ b. cond b (Some u) None) (same u re
 
 -- what is known of an ask depends on the other threads only at the one that it joins
 pub readiness-same : (store : StoreState) (away ended away_too ended_too : ℕ → Bool) (t : ℕ) (ask : Ask)
-    → ((u : ℕ) → awaited ask ≡ Some u → (away u ≡ away_too u) × (ended u ≡ ended_too u)) → readiness store away ended t ask ≡ readiness store away_too ended_too t ask
+    → ((u : ℕ) → join_target ask ≡ Some u → (away u ≡ away_too u) × (ended u ≡ ended_too u)) → readiness store away ended t ask ≡ readiness store away_too ended_too t ask
 readiness-same store away ended away_too ended_too t ask same =
-    ap (λ target. ready_by target (enabled store ended t ask)) (target-same away away_too (awaited ask) (λ u e. (same u e).0))
-    ∙ ap (ready_by (unknown_target away_too (awaited ask))) (enabled-same store ended ended_too t ask (λ u e. (same u e).1))
+    ap (λ target. ready_by target (enabled store ended t ask)) (target-same away away_too (join_target ask) (λ u e. (same u e).0))
+    ∙ ap (ready_by (unknown_target away_too (join_target ask))) (enabled-same store ended ended_too t ask (λ u e. (same u e).1))
 
-unknown-target : (store : StoreState) (away ended : ℕ → Bool) (t u : ℕ) (ask : Ask) → awaited ask ≡ Some u → away u ≡ true → is_known (chance_by (readiness store away ended t ask)) ≡ false
+unknown-target : (store : StoreState) (away ended : ℕ → Bool) (t u : ℕ) (ask : Ask) → join_target ask ≡ Some u → away u ≡ true → is_known (chance_by (readiness store away ended t ask)) ≡ false
 unknown-target store away ended t u ask joins is =
     ap (λ target. is_known (chance_by (ready_by (unknown_target away target) (enabled store ended t ask)))) joins
     ∙ ap (λ b. is_known (chance_by (ready_by (cond b (Some u) None) (enabled store ended t ask)))) is
@@ -144,7 +144,7 @@ as_away-target chances (Unknown target) = tt
 as_away-target chances Ended = tt
 
 -- a choice that waits for nobody is sound, whatever the targets are
-sound-anyway : (plan : Plan) (schedule : List ℕ) (all : List Chance) → SpeaksOf plan (length all) → ¬ IsWaits (choice plan schedule all) → IsSound plan (map as_away all) (choice plan schedule all)
+sound-anyway : (plan : Plan) (schedule : List ℕ) (all : List Chance) → SpeaksOf plan (length all) → ¬ IsWaits (choice plan schedule all) → IsSoundPick plan (map as_away all) (choice plan schedule all)
 sound-anyway plan schedule all speaks waits =
     let away = map as_away all in
     let long : length away ≡ length all = length-map all as_away in
@@ -153,7 +153,7 @@ sound-anyway plan schedule all speaks waits =
     let still : choice plan schedule away ≡ choice plan schedule all = choice-keeps plan schedule all away keeps waits in
     let Target : Chance → Type 0 = HasAwayTarget away in
     let targets : TargetsAreAway away = λ u there. subst Target (sym (at u)) (as_away-target away (chance_of all u)) in
-    let P : Pick → Type 0 = IsSound plan away in
+    let P : Pick → Type 0 = IsSoundPick plan away in
     let Speaks : ℕ → Type 0 = SpeaksOf plan in
     subst P still (choice-sound plan schedule away (subst Speaks (sym long) speaks) targets)
 
@@ -162,7 +162,7 @@ NoWait pick = ¬ IsWaits pick
 
 pub nobody-closed : (plan : Plan) (schedule : List ℕ) (all : List Chance) → SpeaksOf plan (length all) → choice plan schedule all ≡ Nobody → (t : ℕ) → t < length all → is_open (chance_of all t) ≡ false
 nobody-closed plan schedule all speaks nobody t within =
-    let P : Pick → Type 0 = IsSound plan (map as_away all) in
+    let P : Pick → Type 0 = IsSoundPick plan (map as_away all) in
     let closed = subst P nobody (sound-anyway plan schedule all speaks (subst NoWait (sym nobody) (λ h. h))) in
     sym (as_away-open (chance_of all t)) ∙ sym (ap is_open (get_or-map as_away all t Ended)) ∙ closed t (omega (arith, length-map all as_away))
 
@@ -176,14 +176,14 @@ as_away-ready Ended e = e
 -- a chosen thread is there, and Ready
 pub chosen-ready : (plan : Plan) (schedule : List ℕ) (all : List Chance) (t : ℕ) → SpeaksOf plan (length all) → choice plan schedule all ≡ Thread t → (t < length all) × (chance_of all t ≡ Goes)
 chosen-ready plan schedule all t speaks chosen =
-    let P : Pick → Type 0 = IsSound plan (map as_away all) in
+    let P : Pick → Type 0 = IsSoundPick plan (map as_away all) in
     let sound = subst P chosen (sound-anyway plan schedule all speaks (subst NoWait (sym chosen) (λ h. h))) in
     (omega (arith, sound.0, length-map all as_away), as_away-ready (chance_of all t) (sym (get_or-map as_away all t Ended) ∙ sound.1))
 
 -- only a list is departed from
 pub departs-may : (plan : Plan) (schedule : List ℕ) (all : List Chance) (t : ℕ) → SpeaksOf plan (length all) → choice plan schedule all ≡ Departs t → MayDepart plan
 departs-may plan schedule all t speaks departs =
-    let P : Pick → Type 0 = IsSound plan (map as_away all) in
+    let P : Pick → Type 0 = IsSoundPick plan (map as_away all) in
     (subst P departs (sound-anyway plan schedule all speaks (subst NoWait (sym departs) (λ h. h)))).0
 
 filter_map-same : {X : Type 0} (f g : ℕ → Option X) (from many : ℕ) → ((k : ℕ) → from ≤ k → k < from + many → f k ≡ g k) → filter_map f (range_with_len from many) ≡ filter_map g (range_with_len from many)
@@ -213,14 +213,14 @@ rest-more plan schedule threads store earlier later keeps speaks nobody =
     ap verdict_of_blocked (filter_map-same (blocked_at store later) (blocked_at store earlier) 0 threads same)
 
 -- ---- worlds
-pub steps-more : (earlier later : Source) (world next : World) (t : ℕ) → KeepsNext (next_in earlier world) (next_in later world) → Steps earlier world t next → Steps later world t next
+pub steps-more : (earlier later : Source) (world next : World) (t : ℕ) → KeepsNext (next_posts_in earlier world) (next_posts_in later world) → Steps earlier world t next → Steps later world t next
 steps-more earlier later world next t keeps steps = record {
   post = steps.post;
   ask = steps.ask;
   runs = steps.runs;
   posted = keeps t steps.post steps.posted;
   asks = steps.asks;
-  goes = enabled-more world.store (has_ended earlier world.events) (has_ended later world.events) t steps.ask (ended-more (next_in earlier world) (next_in later world) keeps) steps.goes;
+  goes = enabled-more world.store (has_ended earlier world.events) (has_ended later world.events) t steps.ask (ended-more (next_posts_in earlier world) (next_posts_in later world) keeps) steps.goes;
   next_is = steps.next_is;
 }
 
@@ -231,7 +231,7 @@ world-more : (earlier later : Source) (schedule : List ℕ) (world last : World)
 world-more earlier later [] world last keeps e = e
 world-more earlier later (t ∷ schedule) world last keeps e =
     let whole = grows earlier (t ∷ schedule) world last e in
-    option_and_then_some (λ next. world_from earlier next schedule) (step_of earlier world t) last e (λ next first rest.
+    option_and_then_some (λ next. world_from earlier next schedule) (world_by_step earlier world t) last e (λ next first rest.
     let steps = steps-more earlier later world next t (keeps world.events whole.more whole.events) (steps-from earlier world t next first) in
     ap (option_and_then (λ next. world_from later next schedule)) (step-is later world t next steps) ∙ world-more earlier later schedule next last keeps rest)
 
@@ -242,7 +242,7 @@ made-more store earlier later events world keeps made = record {
 }
 
 -- the posts known after the last of the steps
-pub keeps-next : (earlier later : Source) (events : List Event) (world : World) → KeepsPosts events earlier later → world.events ≡ events → KeepsNext (next_in earlier world) (next_in later world)
+pub keeps-next : (earlier later : Source) (events : List Event) (world : World) → KeepsPosts events earlier later → world.events ≡ events → KeepsNext (next_posts_in earlier world) (next_posts_in later world)
 keeps-next earlier later events world keeps is =
     let P : List Event → Type 0 = λ es. KeepsAt earlier later es in
     subst P (sym is) (λ t post. keeps events [] t post (sym (append-nil events)))
@@ -252,27 +252,27 @@ keeps-front earlier later before after keeps front rest t post e = keeps front (
 
 -- ---- choices and outcomes
 module _ (plan : Plan) (deal : Deal) where
-  pub choice-at : (source : Source) (events : List Event) (world : World) → IsMade (first deal) source events world → choice_after plan deal source (schedule_of events) ≡ Some (choice_in plan deal.threads source (schedule_of events) world)
+  pub choice-at : (source : Source) (events : List Event) (world : World) → IsMade (first_store deal) source events world → choice_after plan deal source (schedule_of events) ≡ Some (choice_in plan deal.threads source (schedule_of events) world)
   choice-at source events world made = ap (option_map (choice_in plan deal.threads source (schedule_of events))) made.at
 
-  pub settled-at : (source : Source) (limit : ℕ) (events : List Event) (world : World) → IsMade (first deal) source events world → settled plan deal source limit events ≡ outcome_in plan deal.threads source (eqb (length events) limit) (schedule_of events) world
+  pub settled-at : (source : Source) (limit : ℕ) (events : List Event) (world : World) → IsMade (first_store deal) source events world → outcome_after plan deal source limit events ≡ outcome_in plan deal.threads source (eqb (length events) limit) (schedule_of events) world
   settled-at source limit events world made = ap (option_and_then (outcome_in plan deal.threads source (eqb (length events) limit) (schedule_of events))) made.at
 
   -- Steps that obey a plan over some posts obey it over more posts.
   pub obeys-more : (earlier later : Source) (limit : ℕ) (events : List Event) → KeepsPosts events earlier later → Obeys plan deal earlier limit events → Obeys plan deal later limit events
   obeys-more earlier later limit events keeps obeys =
-      let w = made-from (first deal) earlier events obeys.made in
+      let w = made-from (first_store deal) earlier events obeys.made in
       record {
         chosen = λ before after e cut.
             let P : List Event → Type 0 = λ es. KeepsPosts es earlier later in
-            let M : List Event → Type 0 = λ es. IsMade (first deal) earlier es w.0 in
-            let p = passes (first deal) earlier before (e ∷ after) w.0 (subst M cut w.1) in
+            let M : List Event → Type 0 = λ es. IsMade (first_store deal) earlier es w.0 in
+            let p = passes (first_store deal) earlier before (e ∷ after) w.0 (subst M cut w.1) in
             let front = keeps-front earlier later before (e ∷ after) (subst P cut keeps) in
             let was : choice_in plan deal.threads earlier (schedule_of before) p.world ≡ Thread e.thread = let both = sym (choice-at earlier before p.world p.made) ∙ obeys.chosen before after e cut in cc in
             let NoWait : Pick → Type 0 = λ p. ¬ IsWaits p in
-            let still = choice-more (next_in earlier p.world) (next_in later p.world) (keeps-next earlier later before p.world front p.made.trace) (p.world).store plan (schedule_of before) deal.threads (subst NoWait (sym was) (λ h. h)) in
-            choice-at later before p.world (made-more (first deal) earlier later before p.world front p.made) ∙ ap Some (still ∙ was);
-        made = made-events (first deal) later events w.0 (made-more (first deal) earlier later events w.0 keeps w.1);
+            let still = choice-more (next_posts_in earlier p.world) (next_posts_in later p.world) (keeps-next earlier later before p.world front p.made.trace) (p.world).store plan (schedule_of before) deal.threads (subst NoWait (sym was) (λ h. h)) in
+            choice-at later before p.world (made-more (first_store deal) earlier later before p.world front p.made) ∙ ap Some (still ∙ was);
+        made = made-events (first_store deal) later events w.0 (made-more (first_store deal) earlier later events w.0 keeps w.1);
         within = obeys.within;
       }
 
@@ -288,21 +288,22 @@ module _ (plan : Plan) (deal : Deal) where
   outcome-rest one other full Nobody same = ap (λ v. outcome_by_pick v full Nobody) (same refl)
   outcome-rest one other full (Departs t) same = refl
 
-  module _ (earlier later : Source) (limit : ℕ) (schedule : List ℕ) (world : World) (speaks : SpeaksOf plan deal.threads) (keeps : KeepsNext (next_in earlier world) (next_in later world)) (full : Bool) (outcome : Outcome) where
-    outcome-by-more : (verdict : Option Verdict) → world.verdict ≡ verdict → outcome_by verdict (outcome_by_pick (rest_verdict deal.threads world.store (next_in earlier world)) full (choice_in plan deal.threads earlier schedule world)) ≡ Some outcome
-        → outcome_by verdict (outcome_by_pick (rest_verdict deal.threads world.store (next_in later world)) full (choice_in plan deal.threads later schedule world)) ≡ Some outcome
+  module _ (earlier later : Source) (limit : ℕ) (schedule : List ℕ) (world : World) (speaks : SpeaksOf plan deal.threads) (keeps : KeepsNext (next_posts_in earlier world) (next_posts_in later world)) (full : Bool) (outcome : Outcome) where
+    outcome-by-more : (verdict : Option Verdict) → world.verdict ≡ verdict → outcome_by verdict (outcome_by_pick (rest_verdict deal.threads world.store (next_posts_in earlier world)) full (choice_in plan deal.threads earlier schedule world)) ≡ Some outcome
+        → outcome_by verdict (outcome_by_pick (rest_verdict deal.threads world.store (next_posts_in later world)) full (choice_in plan deal.threads later schedule world)) ≡ Some outcome
     outcome-by-more (Some verdict) is e = e
     outcome-by-more None is e =
-        let waits = outcome-waits (rest_verdict deal.threads world.store (next_in earlier world)) full (choice_in plan deal.threads earlier schedule world) outcome e in
-        let still = choice-more (next_in earlier world) (next_in later world) keeps world.store plan schedule deal.threads waits in
-        ap (outcome_by_pick (rest_verdict deal.threads world.store (next_in later world)) full) still
-        ∙ outcome-rest (rest_verdict deal.threads world.store (next_in later world)) (rest_verdict deal.threads world.store (next_in earlier world)) full (choice_in plan deal.threads earlier schedule world) (λ nobody. rest-more plan schedule deal.threads world.store (next_in earlier world) (next_in later world) keeps speaks nobody)
+        let waits = outcome-waits (rest_verdict deal.threads world.store (next_posts_in earlier world)) full (choice_in plan deal.threads earlier schedule world) outcome e in
+        let still = choice-more (next_posts_in earlier world) (next_posts_in later world) keeps world.store plan schedule deal.threads waits in
+        ap (outcome_by_pick (rest_verdict deal.threads world.store (next_posts_in later world)) full) still
+        ∙ outcome-rest (rest_verdict deal.threads world.store (next_posts_in later world)) (rest_verdict deal.threads world.store (next_posts_in earlier world)) full (choice_in plan deal.threads earlier schedule world) (λ nobody. rest-more plan schedule deal.threads world.store (next_posts_in earlier world) (next_posts_in later world) keeps speaks nobody)
         ∙ e
 
   -- An outcome over some posts is the outcome over more posts.
   pub settled-more : (earlier later : Source) (limit : ℕ) (events : List Event) (outcome : Outcome) → SpeaksOf plan deal.threads → KeepsPosts events earlier later → Obeys plan deal earlier limit events
-      → settled plan deal earlier limit events ≡ Some outcome → settled plan deal later limit events ≡ Some outcome
+      → outcome_after plan deal earlier limit events ≡ Some outcome → outcome_after plan deal later limit events ≡ Some outcome
   settled-more earlier later limit events outcome speaks keeps obeys settles =
-      let w = made-from (first deal) earlier events obeys.made in
-      settled-at later limit events w.0 (made-more (first deal) earlier later events w.0 keeps w.1)
+      let w = made-from (first_store deal) earlier events obeys.made in
+      settled-at later limit events w.0
+      (made-more (first_store deal) earlier later events w.0 keeps w.1)
       ∙ outcome-by-more earlier later limit (schedule_of events) w.0 speaks (keeps-next earlier later events w.0 keeps w.1.trace) (eqb (length events) limit) outcome (w.0).verdict refl (sym (settled-at earlier limit events w.0 w.1) ∙ settles)

@@ -4,7 +4,7 @@ use Rattle.std.specs.Option.{option_map}
 use Rattle.std.proofs.lemmas.List.{length-append}
 use Rattle.pct_ask.specs.declared.Deal.{Deal}
 use Rattle.pct_ask.specs.declared.event.Event.{Event}
-use Rattle.sync_store.specs.Store.{first}
+use Rattle.sync_store.specs.Store.{first_store}
 use Rattle.sync_store.specs.World.{Source, world_after}
 use Rattle.policy_pick.specs.declared.chance.Pick.TheVariants.{Thread}
 use Rattle.policy_pick.specs.Plan.{Plan, SpeaksOf}
@@ -35,7 +35,7 @@ module _ (plan : Plan) (deal : Deal) (source : Source) (limit : ℕ) where
   -- the thread of each step is one of the deal's
   pub obeys-within : (events : List Event) → SpeaksOf plan deal.threads → Obeys plan deal source limit events → (e : Event) (before after : List Event) → events ≡ before ++ e ∷ after → e.thread < deal.threads
   obeys-within events speaks obeys e before after cut =
-      let w = map-some (choice_in plan deal.threads source (schedule_of before)) (world_after (first deal) source (schedule_of before)) (Thread e.thread) (obeys.chosen before after e cut) in
+      let w = map-some (choice_in plan deal.threads source (schedule_of before)) (world_after (first_store deal) source (schedule_of before)) (Thread e.thread) (obeys.chosen before after e cut) in
       let all = chances deal.threads (w.0).store (λ t. source t (w.0).events) in
       let long = length-chances deal.threads (w.0).store (λ t. source t (w.0).events) in
       let Speaks : ℕ → Type 0 = SpeaksOf plan in
@@ -43,7 +43,7 @@ module _ (plan : Plan) (deal : Deal) (source : Source) (limit : ℕ) where
 
   -- one more step obeys, where its thread is chosen and there is room
   pub obeys-push : (events : List Event) (e : Event) → Obeys plan deal source limit events → choice_after plan deal source (schedule_of events) ≡ Some (Thread e.thread)
-      → option_map (λ world. world.events) (world_after (first deal) source (schedule_of (events ++ e ∷ []))) ≡ Some (events ++ e ∷ []) → length events < limit → Obeys plan deal source limit (events ++ e ∷ [])
+      → option_map (λ world. world.events) (world_after (first_store deal) source (schedule_of (events ++ e ∷ []))) ≡ Some (events ++ e ∷ []) → length events < limit → Obeys plan deal source limit (events ++ e ∷ [])
   obeys-push events e obeys chosen made room = record {
     chosen = λ before after f cut. elim (snoc-cut events e before after f cut) [
       | inl w ↦ ap (λ es. choice_after plan deal source (schedule_of es)) w.0 ∙ chosen ∙ ap (λ (x : Event). Some (Thread x.thread)) (sym w.1)

@@ -6,14 +6,15 @@ use Rattle.pct_ask.specs.declared.Deal.{Deal}
 use Rattle.pct_ask.specs.declared.event.Event.{Event}
 use Rattle.pct_ask.specs.declared.verdict.Verdict.{Verdict}
 use Rattle.pct_ask.specs.declared.verdict.Outcome.{Outcome}
-use Rattle.sync_store.specs.Store.{first}
+use Rattle.sync_store.specs.Store.{first_store}
 use Rattle.sync_store.specs.World.{Source, World, world_after}
 use Rattle.policy_pick.specs.declared.chance.Pick.{Pick}
 use Rattle.policy_pick.specs.declared.chance.Pick.TheVariants.{Thread}
 use Rattle.policy_pick.specs.Plan.{Plan, SpeaksOf}
 use Rattle.turn_book.specs.Posts.{schedule_of, KeepsPosts}
 use Rattle.turn_book.specs.Chances.{rest_verdict}
-use Rattle.turn_book.specs.Obeys.{next_in, choice_in, Obeys, outcome_by_pick, outcome_by, settled}
+use Rattle.turn_book.specs.Obeys.{next_posts_in, choice_in, Obeys, outcome_by_pick, outcome_by}
+use Rattle.turn_book.specs.Obeys.{outcome_after}
 use Rattle.turn_book.proofs.laws.Worlds.{cons-same, same-cut, IsMade, made-from, passes, last-step}
 use Rattle.turn_book.proofs.laws.MorePosts.{choice-at, settled-at, obeys-more, settled-more}
 
@@ -23,11 +24,11 @@ IsPrefix events whole = (rest : List Event) × (whole ≡ events ++ rest)
 
 module _ (plan : Plan) (deal : Deal) (source : Source) where
   -- the first of the steps that obey are made as they stand
-  front-made : (limit : ℕ) (events before after : List Event) → Obeys plan deal source limit events → events ≡ before ++ after → (world : World) × IsMade (first deal) source before world
+  front-made : (limit : ℕ) (events before after : List Event) → Obeys plan deal source limit events → events ≡ before ++ after → (world : World) × IsMade (first_store deal) source before world
   front-made limit events before after obeys cut =
-      let w = made-from (first deal) source events obeys.made in
-      let M : List Event → Type 0 = λ es. IsMade (first deal) source es w.0 in
-      let p = passes (first deal) source before after w.0 (subst M cut w.1) in
+      let w = made-from (first_store deal) source events obeys.made in
+      let M : List Event → Type 0 = λ es. IsMade (first_store deal) source es w.0 in
+      let p = passes (first_store deal) source before after w.0 (subst M cut w.1) in
       (p.world, p.made)
 
   -- after the same steps both take the same next one
@@ -38,7 +39,7 @@ module _ (plan : Plan) (deal : Deal) (source : Source) where
       let one = front-made limit events (before ++ e ∷ []) after obeys (cut ∙ sym (append_assoc before (e ∷ []) after)) in
       let two = front-made limit other (before ++ f ∷ []) after_too obeys_too (cut_too ∙ sym (append_assoc before (f ∷ []) after_too)) in
       let schedules : schedule_of (before ++ e ∷ []) ≡ schedule_of (before ++ f ∷ []) = map-append (λ (x : Event). x.thread) before (e ∷ []) ∙ ap (λ u. schedule_of before ++ u ∷ []) thread ∙ sym (map-append (λ (x : Event). x.thread) before (f ∷ [])) in
-      let world : one.0 ≡ two.0 = let both = sym one.1.at ∙ ap (world_after (first deal) source) schedules ∙ two.1.at in cc in
+      let world : one.0 ≡ two.0 = let both = sym one.1.at ∙ ap (world_after (first_store deal) source) schedules ∙ two.1.at in cc in
       let lists : before ++ e ∷ [] ≡ before ++ f ∷ [] = sym one.1.trace ∙ ap (λ (w : World). w.events) world ∙ two.1.trace in
       (cons-same e f [] [] ((same-cut before (e ∷ []) before (f ∷ []) refl lists).1)).0
 
@@ -69,25 +70,25 @@ module _ (plan : Plan) (deal : Deal) (source : Source) where
       ∙ ap (λ b. outcome_by_pick rest b pick) room
       ∙ ap (outcome_by_pick rest false) goes
 
-  pub goes-on : (limit : ℕ) (events before after : List Event) (e : Event) → Obeys plan deal source limit events → events ≡ before ++ e ∷ after → settled plan deal source limit before ≡ None
+  pub goes-on : (limit : ℕ) (events before after : List Event) (e : Event) → Obeys plan deal source limit events → events ≡ before ++ e ∷ after → outcome_after plan deal source limit before ≡ None
   goes-on limit events before after e obeys cut =
-      let w = made-from (first deal) source events obeys.made in
-      let M : List Event → Type 0 = λ es. IsMade (first deal) source es w.0 in
-      let p = last-step (first deal) source before after e w.0 (subst M cut w.1) in
+      let w = made-from (first_store deal) source events obeys.made in
+      let M : List Event → Type 0 = λ es. IsMade (first_store deal) source es w.0 in
+      let p = last-step (first_store deal) source before after e w.0 (subst M cut w.1) in
       let world = p.0 in
       let chosen : choice_in plan deal.threads source (schedule_of before) world ≡ Thread e.thread = let both = sym (choice-at plan deal source before world p.1) ∙ obeys.chosen before after e cut in cc in
       let room : eqb (length before) limit ≡ false = ne_eqb (length before) limit (λ full. omega (arith, obeys.within, ap length cut, length-append before (e ∷ after))) in
       settled-at plan deal source limit before world p.1
-      ∙ goes-on-by world.verdict (rest_verdict deal.threads world.store (next_in source world)) (eqb (length before) limit) (choice_in plan deal.threads source (schedule_of before) world) e.thread (p.2.1).runs room chosen
+      ∙ goes-on-by world.verdict (rest_verdict deal.threads world.store (next_posts_in source world)) (eqb (length before) limit) (choice_in plan deal.threads source (schedule_of before) world) e.thread (p.2.1).runs room chosen
 
 -- Steps that obey a plan over some posts are a prefix of steps that obey it over more posts and are settled over these,
 -- and equal to them where they are settled themselves.
 pub record IsFrontOf (plan : Plan) (deal : Deal) (earlier : Source) (limit : ℕ) (events whole : List Event) : Type 0 where
   pub prefix : IsPrefix events whole
-  pub equal : (outcome : Outcome) → settled plan deal earlier limit events ≡ Some outcome → whole ≡ events
+  pub equal : (outcome : Outcome) → outcome_after plan deal earlier limit events ≡ Some outcome → whole ≡ events
 
 front-by : (plan : Plan) (deal : Deal) (earlier later : Source) (limit : ℕ) (events whole : List Event) (last : Outcome) → SpeaksOf plan deal.threads → KeepsPosts events earlier later
-    → Obeys plan deal earlier limit events → Obeys plan deal later limit whole → settled plan deal later limit whole ≡ Some last
+    → Obeys plan deal earlier limit events → Obeys plan deal later limit whole → outcome_after plan deal later limit whole ≡ Some last
     → Compared plan deal later events whole → IsFrontOf plan deal earlier limit events whole
 front-by plan deal earlier later limit events whole last speaks keeps obeys obeys_too ends (Same same) = record { prefix = ([], sym same ∙ sym (append-nil events)); equal = λ outcome is. sym same }
 front-by plan deal earlier later limit events whole last speaks keeps obeys obeys_too ends (Shorter e rest cut) = record {
@@ -98,6 +99,6 @@ front-by plan deal earlier later limit events whole last speaks keeps obeys obey
     absurd (let none = sym (goes-on plan deal later limit events whole rest e (obeys-more plan deal earlier later limit events keeps obeys) cut) ∙ ends in cc)
 
 pub front-of : (plan : Plan) (deal : Deal) (earlier later : Source) (limit : ℕ) (events whole : List Event) (last : Outcome) → SpeaksOf plan deal.threads → KeepsPosts events earlier later
-    → Obeys plan deal earlier limit events → Obeys plan deal later limit whole → settled plan deal later limit whole ≡ Some last → IsFrontOf plan deal earlier limit events whole
+    → Obeys plan deal earlier limit events → Obeys plan deal later limit whole → outcome_after plan deal later limit whole ≡ Some last → IsFrontOf plan deal earlier limit events whole
 front-of plan deal earlier later limit events whole last speaks keeps obeys obeys_too ends =
     front-by plan deal earlier later limit events whole last speaks keeps obeys obeys_too ends (compare plan deal later limit events whole (obeys-more plan deal earlier later limit events keeps obeys) obeys_too)

@@ -11,7 +11,7 @@ use Rattle.pct_ask.specs.declared.verdict.Verdict.{Verdict}
 use Rattle.sync_store.specs.Store.{StoreState}
 use Rattle.sync_store.specs.Enabled.{enabled}
 use Rattle.sync_store.specs.Effect.{Effect, Goes, Stops, effect, store_after}
-use Rattle.sync_store.specs.World.{Source, World, start, has_ended, with_effect, step_on, step_by, step_of, world_from, world_after}
+use Rattle.sync_store.specs.World.{Source, World, first_world, has_ended, with_effect, step_on, step_by, world_by_step, world_from, world_after}
 use Rattle.turn_book.specs.Posts.{schedule_of}
 use Rattle.turn_book.specs.Board.{answer_of, verdict_of}
 
@@ -68,12 +68,12 @@ steps-by-post : (source : Source) (world next : World) (t : ℕ) (post : Option 
 steps-by-post source world next t None runs posted e = absurd cc
 steps-by-post source world next t (Some post) runs posted e = steps-by-ask source world next t post post.ask runs posted refl e
 
-pub steps-from : (source : Source) (world : World) (t : ℕ) (next : World) → step_of source world t ≡ Some next → Steps source world t next
+pub steps-from : (source : Source) (world : World) (t : ℕ) (next : World) → world_by_step source world t ≡ Some next → Steps source world t next
 steps-from source world t next e =
     let parts = runs-by world.verdict (step_by source world t (source t world.events)) next e in
     steps-by-post source world next t (source t world.events) parts.0 refl parts.1
 
-pub step-is : (source : Source) (world : World) (t : ℕ) (next : World) → Steps source world t next → step_of source world t ≡ Some next
+pub step-is : (source : Source) (world : World) (t : ℕ) (next : World) → Steps source world t next → world_by_step source world t ≡ Some next
 step-is source world t next steps =
     ap (λ v. cond (is_none v) (step_by source world t (source t world.events)) None) steps.runs
     ∙ ap (step_by source world t) steps.posted
@@ -95,7 +95,7 @@ append-by source xs ys rest (Some next) = rest next
 
 pub world_from-append : (source : Source) (xs ys : List ℕ) (world : World) → world_from source world (xs ++ ys) ≡ option_and_then (λ w. world_from source w ys) (world_from source world xs)
 world_from-append source [] ys world = refl
-world_from-append source (t ∷ xs) ys world = append-by source xs ys (world_from-append source xs ys) (step_of source world t)
+world_from-append source (t ∷ xs) ys world = append-by source xs ys (world_from-append source xs ys) (world_by_step source world t)
 
 -- the events after a schedule are those before it and one for each of its threads
 pub record Grows (earlier later : World) (schedule : List ℕ) : Type 0 where
@@ -106,7 +106,7 @@ pub record Grows (earlier later : World) (schedule : List ℕ) : Type 0 where
 pub grows : (source : Source) (schedule : List ℕ) (world later : World) → world_from source world schedule ≡ Some later → Grows world later schedule
 grows source [] world later e = record { more = []; events = let same : world ≡ later = cc in ap (λ (w : World). w.events) (sym same) ∙ sym (append-nil world.events); threads = refl }
 grows source (t ∷ schedule) world later e =
-    option_and_then_some (λ next. world_from source next schedule) (step_of source world t) later e (λ next first rest.
+    option_and_then_some (λ next. world_from source next schedule) (world_by_step source world t) later e (λ next first rest.
     let event = step-event source world t next (steps-from source world t next first) in
     let tail = grows source schedule next later rest in
     record {
@@ -136,9 +136,9 @@ pub record Passes (store : StoreState) (source : Source) (before after : List Ev
 
 pub passes : (store : StoreState) (source : Source) (before after : List Event) (last : World) → IsMade store source (before ++ after) last → Passes store source before after last
 passes store source before after last made =
-    let split = sym (world_from-append source (schedule_of before) (schedule_of after) (start store)) ∙ ap (world_after store source) (sym (map-append (λ (e : Event). e.thread) before after)) ∙ made.at in
-    option_and_then_some (λ w. world_from source w (schedule_of after)) (world_from source (start store) (schedule_of before)) last split (λ world at rest.
-    let front = grows source (schedule_of before) (start store) world at in
+    let split = sym (world_from-append source (schedule_of before) (schedule_of after) (first_world store)) ∙ ap (world_after store source) (sym (map-append (λ (e : Event). e.thread) before after)) ∙ made.at in
+    option_and_then_some (λ w. world_from source w (schedule_of after)) (world_from source (first_world store) (schedule_of before)) last split (λ world at rest.
+    let front = grows source (schedule_of before) (first_world store) world at in
     let back = grows source (schedule_of after) world last rest in
     let long : length before ≡ length world.events = sym (length-map before (λ (e : Event). e.thread)) ∙ ap length (sym front.threads) ∙ length-map front.more (λ (e : Event). e.thread) ∙ ap length (sym front.events) in
     let cut = same-cut before after world.events back.more long (sym made.trace ∙ back.events) in
@@ -148,7 +148,7 @@ passes store source before after last made =
 pub made-push : (store : StoreState) (source : Source) (events : List Event) (world next : World) (e : Event) → IsMade store source events world → Steps source world e.thread next → next.events ≡ events ++ e ∷ [] → IsMade store source (events ++ e ∷ []) next
 made-push store source events world next e made steps is = record {
   at = ap (world_after store source) (map-append (λ (e : Event). e.thread) events (e ∷ []))
-      ∙ world_from-append source (schedule_of events) (e.thread ∷ []) (start store)
+      ∙ world_from-append source (schedule_of events) (e.thread ∷ []) (first_world store)
       ∙ ap (option_and_then (λ w. world_from source w (e.thread ∷ []))) made.at
       ∙ ap (option_and_then (λ w. world_from source w [])) (step-is source world e.thread next steps);
   trace = is;
@@ -158,5 +158,5 @@ made-push store source events world next e made steps is = record {
 pub last-step : (store : StoreState) (source : Source) (before after : List Event) (e : Event) (last : World) → IsMade store source (before ++ e ∷ after) last → (world : World) × IsMade store source before world × ((next : World) × Steps source world e.thread next)
 last-step store source before after e last made =
     let p = passes store source before (e ∷ after) last made in
-    option_and_then_some (λ next. world_from source next (schedule_of after)) (step_of source p.world e.thread) last p.rest (λ next first rest.
+    option_and_then_some (λ next. world_from source next (schedule_of after)) (world_by_step source p.world e.thread) last p.rest (λ next first rest.
     (p.world, p.made, (next, steps-from source p.world e.thread next first)))

@@ -11,14 +11,14 @@ use Rattle.rank_now.specs.Rank.{rank, rank_by_events, ranks, ranks_by_events}
 use Rattle.sync_store.specs.declared.ready.Ready.TheVariants.{Yes, No}
 use Rattle.sync_store.specs.Store.{StoreState}
 use Rattle.sync_store.specs.Enabled.{enabled}
-use Rattle.sync_store.specs.Ready.{awaited, unknown_target, ready_by}
+use Rattle.sync_store.specs.Ready.{join_target, unknown_target, ready_by}
 use Rattle.sync_store.specs.World.{World, answers_of}
 use Rattle.policy_pick.specs.declared.chance.Chance.{Chance}
 use Rattle.policy_pick.specs.declared.chance.Chance.TheVariants.{Away, Ready, Blocked, Unknown, Ended}
 use Rattle.policy_pick.specs.declared.chance.Pick.{Pick}
 use Rattle.policy_pick.specs.declared.chance.Pick.TheVariants.{Thread, Waits, Nobody}
 use Rattle.policy_pick.specs.Plan.{Plan, ByPoints, ByEvents, SpeaksOf}
-use Rattle.policy_pick.specs.Choice.{choice, choice_by_rank, chance_of, is_open, is_known, is_highest, pick_at, threads_of, HasAwayTarget, TargetsAreAway, IsSound}
+use Rattle.policy_pick.specs.Choice.{choice, choice_by_rank, chance_of, is_open, is_known, is_highest, pick_at, threads_of_chances, HasAwayTarget, TargetsAreAway, IsSoundPick}
 use Rattle.policy_pick.specs.Laws.{choice-sound}
 use Rattle.policy_pick.specs.Laws.Finds.{found-or-none}
 use Rattle.policy_pick.specs.Laws.Walks.{rank-stops, rank-ends, highest-parts}
@@ -73,7 +73,7 @@ target-by all Ended known = tt
 pub known-no-wait : (plan : Plan) (schedule : List ℕ) (all : List Chance) (u : ℕ) → SpeaksOf plan (length all) → ((t : ℕ) → t < length all → is_known (chance_of all t) ≡ true) → choice plan schedule all ≡ Waits u → ⊥
 known-no-wait plan schedule all u speaks known waits =
     let targets : TargetsAreAway all = λ t within. target-by all (chance_of all t) (known t within) in
-    let P : Pick → Type 0 = IsSound plan all in
+    let P : Pick → Type 0 = IsSoundPick plan all in
     let sound = subst P waits (choice-sound plan schedule all speaks targets) in
     let here = known u sound.0 in
     let away = ap is_known sound.1 in
@@ -98,13 +98,13 @@ module _ (store : StoreState) (posts : ℕ → Post) where
   open-ask : (t : ℕ) (ask : Option Ask) → is_open (chance_of_ask store (is_unknown known) (is_ended known) t ask) ≡ option_map_or (enabled store (is_ended known) t) ask false
   open-ask t None = refl
   open-ask t (Some ask) =
-      ap (λ target. is_open (chance_by (ready_by target (enabled store (is_ended known) t ask)))) (no-target (awaited ask))
+      ap (λ target. is_open (chance_by (ready_by target (enabled store (is_ended known) t ask)))) (no-target (join_target ask))
       ∙ open-by (enabled store (is_ended known) t ask)
 
   known-ask : (t : ℕ) (ask : Option Ask) → is_known (chance_of_ask store (is_unknown known) (is_ended known) t ask) ≡ true
   known-ask t None = refl
   known-ask t (Some ask) =
-      ap (λ target. is_known (chance_by (ready_by target (enabled store (is_ended known) t ask)))) (no-target (awaited ask))
+      ap (λ target. is_known (chance_by (ready_by target (enabled store (is_ended known) t ask)))) (no-target (join_target ask))
       ∙ known-by (enabled store (is_ended known) t ask)
 
   module _ (threads : ℕ) where
@@ -146,7 +146,7 @@ module _ (store : StoreState) (posts : ℕ → Post) where
           let whole = ap (λ n. list_all (λ other. not (is_open (chance_of all other)) || leb (get_or ranks other 0) (get_or ranks t 0)) (range_with_len 0 n)) (sym long) in
           λ j. one j && (each ∙ whole) j
 
-      first-leads : find leads (threads_below threads) ≡ find (is_highest ranks all) (threads_of all)
+      first-leads : find leads (threads_below threads) ≡ find (is_highest ranks all) (threads_of_chances all)
       first-leads =
           find-same leads (is_highest ranks all) 0 threads (λ k low high. highest-leads k (omega arith))
           ∙ ap (λ n. find (is_highest ranks all) (range_with_len 0 n)) (sym long)

@@ -5,7 +5,7 @@ use Rattle.std.proofs.lemmas.Bool.{and_parts}
 use Rattle.std.proofs.lemmas.Bool.Decides.{nat_tests}
 use Rattle.rank_now.specs.Order.{IsOrder}
 use Rattle.rank_now.specs.Positions.{passes_at}
-use Rattle.rank_now.specs.Rank.{place_of, last_change, rank_by}
+use Rattle.rank_now.specs.Rank.{place_in_order, last_change, rank_by}
 use Rattle.rank_now.proofs.laws.Orders.{place-within-order}
 use Rattle.rank_now.proofs.laws.Positions.{greatest-le, greatest-agree, greatest-passes}
 
@@ -33,10 +33,11 @@ module _ (given given' : ℕ → ℕ) (count count' : ℕ) (order schedule : Lis
       grind (arith, nat_tests)
 
   abbrev at : (ℕ → ℕ) → ℕ → ℕ → ℕ → ℕ
-  at by many thread step = cond (eqb step 0) (many + length order - place_of order thread) (by step)
+  at by many thread step =
+      cond (eqb step 0) (many + length order - place_in_order order thread) (by step)
 
   at-suc : (by : ℕ → ℕ) (many thread k : ℕ) → at by many thread (suc k) ≡ by (suc k)
-  at-suc by many thread k = ap (λ b. cond b (many + length order - place_of order thread) (by (suc k))) (ne_eqb (suc k) 0 (λ e. omega arith))
+  at-suc by many thread k = ap (λ b. cond b (many + length order - place_in_order order thread) (by (suc k))) (ne_eqb (suc k) 0 (λ e. omega arith))
 
   leb-both : (a b c d x y : ℕ) → a ≡ c → b ≡ d → leb c d ≡ leb x y → leb a b ≡ leb x y
   leb-both a b c d x y e f g = (λ i. leb (e i) (f i)) ∙ g
@@ -52,21 +53,21 @@ module _ (given given' : ℕ → ℕ) (count count' : ℕ) (order schedule : Lis
 
   at-alike : (a b : ℕ) → a < length order → b < length order → (s t : ℕ) → s ≤ length schedule → t ≤ length schedule → (0 < s → 0 < given s) → (0 < t → 0 < given t)
       → leb (at given count a s) (at given count b t) ≡ leb (at given' count' a s) (at given' count' b t)
-  at-alike a b pa pb zero zero ps pt ns nt = leb-shift count count' (length order) (place_of order a) (place_of order b) (place-within-order order is a pa) (place-within-order order is b pb)
+  at-alike a b pa pb zero zero ps pt ns nt = leb-shift count count' (length order) (place_in_order order a) (place_in_order order b) (place-within-order order is a pa) (place-within-order order is b pb)
   at-alike a b pa pb zero (suc t) ps pt ns nt =
       let place = place-within-order order is a pa in
       let low = alike.low (suc t) (omega arith) pt in
       let low' = alike.low' (suc t) (omega arith) pt in
       let one = at-suc given count b t in
       let two = at-suc given' count' b t in
-      leb-low (count + length order - place_of order a) (at given count b (suc t)) (count' + length order - place_of order a) (at given' count' b (suc t)) (omega arith) (omega arith)
+      leb-low (count + length order - place_in_order order a) (at given count b (suc t)) (count' + length order - place_in_order order a) (at given' count' b (suc t)) (omega arith) (omega arith)
   at-alike a b pa pb (suc s) zero ps pt ns nt =
       let place = place-within-order order is b pb in
       let low = alike.low (suc s) (omega arith) ps in
       let low' = alike.low' (suc s) (omega arith) ps in
       let one = at-suc given count a s in
       let two = at-suc given' count' a s in
-      leb-high (at given count a (suc s)) (count + length order - place_of order b) (at given' count' a (suc s)) (count' + length order - place_of order b) (omega arith) (omega arith)
+      leb-high (at given count a (suc s)) (count + length order - place_in_order order b) (at given' count' a (suc s)) (count' + length order - place_in_order order b) (omega arith) (omega arith)
   at-alike a b pa pb (suc s) (suc t) ps pt ns nt =
       (λ i. leb (at-suc given count a s i) (at-suc given count b t i))
       ∙ alike.order (suc s) (suc t) (omega arith) ps (omega arith) pt (ns (omega arith)) (nt (omega arith))

@@ -10,8 +10,8 @@ use Rattle.std.proofs.lemmas.Option.{option_and_then_some}
 use Rattle.pct_ask.specs.declared.Deal.{Deal}
 use Rattle.pct_ask.specs.declared.event.Event.{Event}
 use Rattle.pct_ask.specs.declared.verdict.Verdict.{Verdict}
-use Rattle.sync_store.specs.Store.{first}
-use Rattle.sync_store.specs.World.{Source, World, start, world_after}
+use Rattle.sync_store.specs.Store.{first_store}
+use Rattle.sync_store.specs.World.{Source, World, first_world, world_after}
 use Rattle.policy_pick.specs.Laws.Finds.{find-none, found-or-none, all-from-below}
 use Rattle.turn_book.specs.Chances.{threads_below}
 use Rattle.turn_book.specs.Posts.{schedule_of}
@@ -91,15 +91,15 @@ module _ (deal : Deal) (bodies : List Pending) where
   none-alike one two schedule world none = none-from two schedule world (closed one schedule world none)
 
   -- ---- a run's steps begin with those of the schedule
-  made-of : (schedule : List ℕ) (world : World) → world_after (first deal) source schedule ≡ Some world → schedule_of world.events ≡ schedule
+  made-of : (schedule : List ℕ) (world : World) → world_after (first_store deal) source schedule ≡ Some world → schedule_of world.events ≡ schedule
   made-of schedule world at =
-      let g = grows source schedule (start (first deal)) world at in
+      let g = grows source schedule (first_world (first_store deal)) world at in
       ap schedule_of g.events ∙ g.threads
 
   abbrev Begins : List ℕ → List Event → Type 0
   Begins schedule events = (rest : List ℕ) × (schedule_of events ≡ schedule ++ rest)
 
-  begins-here : (schedule : List ℕ) (world : World) (events : List Event) → world_after (first deal) source schedule ≡ Some world → world.events ≡ events → Begins schedule events
+  begins-here : (schedule : List ℕ) (world : World) (events : List Event) → world_after (first_store deal) source schedule ≡ Some world → world.events ≡ events → Begins schedule events
   begins-here schedule world events at are = ([], ap schedule_of (sym are) ∙ made-of schedule world at ∙ sym (append-nil schedule))
 
   cut-events : (world : World) (next : Next) (events : List Event) (verdict : Verdict) → ◌≡◌ {A = Run} (cut_at world next) (events, verdict) → world.events ≡ events
@@ -110,7 +110,7 @@ module _ (deal : Deal) (bodies : List Pending) where
   some-events events other verdict last e = let pair : ◌≡◌ {A = Run} (events, verdict) (other, last) = cc in ap (λ (r : Run). r.0) pair
 
   module _ (rank : List ℕ → ℕ → ℕ) where
-    begins-on : (schedule : List ℕ) (world : World) (further : ℕ → Option Run) (events : List Event) (verdict : Verdict) → world_after (first deal) source schedule ≡ Some world
+    begins-on : (schedule : List ℕ) (world : World) (further : ℕ → Option Run) (events : List Event) (verdict : Verdict) → world_after (first_store deal) source schedule ≡ Some world
         → ((t : ℕ) → further t ≡ Some (events, verdict) → Begins (schedule ++ t ∷ []) events)
         → (next : Next) → go_on world further next ≡ Some (events, verdict) → Begins schedule events
     begins-on schedule world further events verdict at more (Over v) e = begins-here schedule world events at (some-events world.events events v verdict e)
@@ -120,10 +120,10 @@ module _ (deal : Deal) (bodies : List Pending) where
 
     begins : (left : ℕ) (schedule : List ℕ) (events : List Event) (verdict : Verdict) → run_from (by rank) left schedule ≡ Some (events, verdict) → Begins schedule events
     begins zero schedule events verdict e =
-        let w = map-some (λ world. cut_at world (next_after (by rank) schedule world)) (world_after (first deal) source schedule) (events, verdict) e in
+        let w = map-some (λ world. cut_at world (next_after (by rank) schedule world)) (world_after (first_store deal) source schedule) (events, verdict) e in
         begins-here schedule w.0 events w.1 (cut-events w.0 (next_after (by rank) schedule w.0) events verdict w.2)
     begins (suc left) schedule events verdict e =
-        option_and_then_some (λ world. go_on world (λ t. run_from (by rank) left (schedule ++ t ∷ [])) (next_after (by rank) schedule world)) (world_after (first deal) source schedule) (events, verdict) e
+        option_and_then_some (λ world. go_on world (λ t. run_from (by rank) left (schedule ++ t ∷ [])) (next_after (by rank) schedule world)) (world_after (first_store deal) source schedule) (events, verdict) e
         (λ world at rest. begins-on schedule world (λ t. run_from (by rank) left (schedule ++ t ∷ [])) events verdict at (λ t f. begins left (schedule ++ t ∷ []) events verdict f) (next_after (by rank) schedule world) rest)
 
   -- ---- one run
@@ -150,7 +150,7 @@ module _ (deal : Deal) (bodies : List Pending) where
     same-last : (schedule : List ℕ) → run_from (by one) zero schedule ≡ run_from (by two) zero schedule
     same-last schedule =
         let each : (world : World) → cut_at world (next_after (by one) schedule world) ≡ cut_at world (next_after (by two) schedule world) = λ world. cut-same world world.verdict (next_thread (by one) schedule world) (next_thread (by two) schedule world) (none-alike one two schedule world) (none-alike two one schedule world) in
-        λ i. option_map (λ world. each world i) (world_after (first deal) source schedule)
+        λ i. option_map (λ world. each world i) (world_after (first_store deal) source schedule)
 
     abbrev further : (List ℕ → ℕ → ℕ) → ℕ → List ℕ → ℕ → Option Run
     further rank left schedule t = run_from (by rank) left (schedule ++ t ∷ [])
@@ -178,7 +178,7 @@ module _ (deal : Deal) (bodies : List Pending) where
         → run_from (by one) left schedule ≡ Some (events, verdict) → run_from (by two) left schedule ≡ Some (events, verdict)
     same-from zero schedule events verdict along e = sym (same-last schedule) ∙ e
     same-from (suc left) schedule events verdict along e =
-        option_and_then_some (λ world. go_on world (further one left schedule) (next_after (by one) schedule world)) (world_after (first deal) source schedule) (events, verdict) e
+        option_and_then_some (λ world. go_on world (further one left schedule) (next_after (by one) schedule world)) (world_after (first_store deal) source schedule) (events, verdict) e
         (λ world at rest.
         ap (option_and_then (λ w. go_on w (further two left schedule) (next_after (by two) schedule w))) at
         ∙ same-step left schedule events verdict along (λ t f. same-from left (schedule ++ t ∷ []) events verdict along f) world world.verdict (next_thread (by one) schedule world) refl rest)

@@ -12,9 +12,9 @@ use Rattle.pct_ask.specs.declared.verdict.Verdict.{Verdict}
 use Rattle.pct_ask.specs.declared.verdict.Outcome.{Outcome}
 use Rattle.pct_ask.specs.declared.verdict.Outcome.TheVariants.{Verdict as Ends}
 use Rattle.rank_now.specs.declared.moment.Moment.{Moment}
-use Rattle.sync_store.specs.Store.{StoreState, first}
+use Rattle.sync_store.specs.Store.{StoreState, first_store}
 use Rattle.sync_store.specs.Enabled.{enabled}
-use Rattle.sync_store.specs.Ready.{awaited, unknown_target, ready_by}
+use Rattle.sync_store.specs.Ready.{join_target, unknown_target, ready_by}
 use Rattle.sync_store.specs.Effect.{Effect, effect, store_after}
 use Rattle.sync_store.specs.World.{Source, World, has_ended, answers_of}
 use Rattle.policy_pick.specs.declared.chance.Chance.{Chance}
@@ -25,13 +25,14 @@ use Rattle.policy_pick.specs.Plan.{Plan, ByPoints, ByEvents, SpeaksOf}
 use Rattle.policy_pick.specs.Choice.{chance_of}
 use Rattle.turn_book.specs.Chances.{is_unknown, is_ended, chance_by, chance_of_ask, chance, chances, rest_verdict}
 use Rattle.turn_book.specs.Posts.{schedule_of}
-use Rattle.turn_book.specs.Obeys.{next_in, choice_in, Obeys, outcome_by_pick, outcome_by, settled}
+use Rattle.turn_book.specs.Obeys.{next_posts_in, choice_in, Obeys, outcome_by_pick, outcome_by}
+use Rattle.turn_book.specs.Obeys.{outcome_after}
 use Rattle.turn_book.specs.Board.{verdict_of}
 use Rattle.turn_book.proofs.laws.Worlds.{event_of, effect-is, Steps, IsMade, made-from, made-events, made-push}
 use Rattle.turn_book.proofs.laws.MorePosts.{chosen-ready, choice-at, settled-at}
 use Rattle.turn_book.proofs.laws.ObeyingSteps.{obeys-push, obeys-none}
 use Rattle.worker_run.specs.Bodies.{Pending, pending_of, source_of_bodies}
-use Rattle.worker_run.specs.Run.{Run, run, directed}
+use Rattle.worker_run.specs.Run.{Run, run, directed_run}
 use Rattle.worker_run.specs.Played.{IsPlayed, IsRun}
 use Rattle.worker_run.proofs.laws.KnownPosts.{bodies-no-wait}
 use Rattle.worker_run.proofs.Follows.{points-run, events-run}
@@ -60,7 +61,7 @@ enabled-by (Some u) goes e = cc
 -- a Ready thread asks, and is enabled
 ready-enabled : (store : StoreState) (away ended : ℕ → Bool) (t : ℕ) (ask : Option Ask) → chance_of_ask store away ended t ask ≡ Goes → (a : Ask) × (ask ≡ Some a) × (enabled store ended t a ≡ true)
 ready-enabled store away ended t None e = cc
-ready-enabled store away ended t (Some ask) e = (ask, refl, enabled-by (unknown_target away (awaited ask)) (enabled store ended t ask) e)
+ready-enabled store away ended t (Some ask) e = (ask, refl, enabled-by (unknown_target away (join_target ask)) (enabled store ended t ask) e)
 
 module _ (plan : Plan) (deal : Deal) (bodies : List Pending) (limit : ℕ) (speaks : SpeaksOf plan deal.threads) where
   abbrev source : Source
@@ -71,23 +72,23 @@ module _ (plan : Plan) (deal : Deal) (bodies : List Pending) (limit : ℕ) (spea
     pub event : Event
     pub obeys : Obeys plan deal source limit (events ++ event ∷ [])
 
-  module _ (events : List Event) (obeys : Obeys plan deal source limit events) (world : World) (made : IsMade (first deal) source events world)
+  module _ (events : List Event) (obeys : Obeys plan deal source limit events) (world : World) (made : IsMade (first_store deal) source events world)
       (going : GoesOn world.verdict (eqb (length events) limit) (choice_in plan deal.threads source (schedule_of events) world)) where
     abbrev all : List Chance
-    all = chances deal.threads world.store (next_in source world)
+    all = chances deal.threads world.store (next_posts_in source world)
 
     abbrev post : Post
     post = pending_of bodies going.thread (answers_of going.thread world.events)
 
     ready : (going.thread < length all) × (chance_of all going.thread ≡ Goes)
     ready =
-        let long = length-map-range_with_len (chance world.store (next_in source world)) 0 deal.threads in
+        let long = length-map-range_with_len (chance world.store (next_posts_in source world)) 0 deal.threads in
         let Speaks : ℕ → Type 0 = SpeaksOf plan in
         chosen-ready plan (schedule_of events) all going.thread (subst Speaks (sym long) speaks) going.picks
 
     asks : (a : Ask) × (post.ask ≡ Some a) × (enabled world.store (has_ended source world.events) going.thread a ≡ true)
     asks =
-        let next = next_in source world in
+        let next = next_posts_in source world in
         let long = length-map-range_with_len (chance world.store next) 0 deal.threads in
         let within : going.thread < deal.threads = omega (arith, ready.0, long) in
         let at = get_or-map-range_with_len (chance world.store next) 0 deal.threads going.thread going.thread Ended within (omega arith) in
@@ -120,10 +121,10 @@ module _ (plan : Plan) (deal : Deal) (bodies : List Pending) (limit : ℕ) (spea
 
     one-more : OneMore events
     one-more =
-        let pushed = made-push (first deal) source events world next_world event made steps (ap (λ es. es ++ event ∷ []) made.trace) in
+        let pushed = made-push (first_store deal) source events world next_world event made steps (ap (λ es. es ++ event ∷ []) made.trace) in
         record {
           event = event;
-          obeys = obeys-push plan deal source limit events event obeys (choice-at plan deal source events world made ∙ ap Some going.picks) (made-events (first deal) source (events ++ event ∷ []) next_world pushed) room;
+          obeys = obeys-push plan deal source limit events event obeys (choice-at plan deal source events world made ∙ ap Some going.picks) (made-events (first_store deal) source (events ++ event ∷ []) next_world pushed) room;
         }
 
   -- a whole run
@@ -132,18 +133,18 @@ module _ (plan : Plan) (deal : Deal) (bodies : List Pending) (limit : ℕ) (spea
     pub outcome : Outcome
     pub played : IsPlayed plan deal bodies limit events outcome
 
-  more-by : (events : List Event) → Obeys plan deal source limit events → (o : Option Outcome) → settled plan deal source limit events ≡ o → ((more : OneMore events) → length events < limit → HasRun) → HasRun
+  more-by : (events : List Event) → Obeys plan deal source limit events → (o : Option Outcome) → outcome_after plan deal source limit events ≡ o → ((more : OneMore events) → length events < limit → HasRun) → HasRun
   more-by events obeys (Some outcome) ends further = record { events = events; outcome = outcome; played = record { obeys = obeys; ends = ends } }
   more-by events obeys None ends further =
-      let w = made-from (first deal) source events obeys.made in
+      let w = made-from (first_store deal) source events obeys.made in
       let world = w.0 in
-      let going = goes-on (rest_verdict deal.threads world.store (next_in source world)) world.verdict (eqb (length events) limit) (choice_in plan deal.threads source (schedule_of events) world)
+      let going = goes-on (rest_verdict deal.threads world.store (next_posts_in source world)) world.verdict (eqb (length events) limit) (choice_in plan deal.threads source (schedule_of events) world)
       (sym (settled-at plan deal source limit events world w.1) ∙ ends) (λ u waits. bodies-no-wait deal bodies (schedule_of events) world plan u speaks waits) in
       further (one-more events obeys world w.1 going) (room events obeys world w.1 going)
 
   run-on : (left : ℕ) (events : List Event) → Obeys plan deal source limit events → length events + left ≡ limit → HasRun
-  run-on zero events obeys reached = more-by events obeys (settled plan deal source limit events) refl (λ more short. absurd (omega arith))
-  run-on (suc left) events obeys reached = more-by events obeys (settled plan deal source limit events) refl (λ more short.
+  run-on zero events obeys reached = more-by events obeys (outcome_after plan deal source limit events) refl (λ more short. absurd (omega arith))
+  run-on (suc left) events obeys reached = more-by events obeys (outcome_after plan deal source limit events) refl (λ more short.
       run-on left (events ++ (more.event) ∷ []) more.obeys (omega (arith, length-append events (more.event ∷ []))))
 
   pub has-run : HasRun
@@ -177,14 +178,14 @@ run-played deal bodies order points limit events verdict speaks is =
     played-by (ByPoints order points) deal bodies limit (run deal bodies order points limit) events r.events verdict r.outcome is (points-run deal bodies order points limit r.events r.outcome speaks r.played) r.played
 
 -- The same of the directed run.
-pub directed-is-there : (deal : Deal) (bodies : List Pending) (order : List ℕ) (moments : List Moment) (limit : ℕ) → SpeaksOf (ByEvents order moments) deal.threads → (whole : Run) × (directed deal bodies order moments limit ≡ Some whole)
+pub directed-is-there : (deal : Deal) (bodies : List Pending) (order : List ℕ) (moments : List Moment) (limit : ℕ) → SpeaksOf (ByEvents order moments) deal.threads → (whole : Run) × (directed_run deal bodies order moments limit ≡ Some whole)
 directed-is-there deal bodies order moments limit speaks =
     let r = has-run (ByEvents order moments) deal bodies limit speaks in
     let is = events-run deal bodies order moments limit r.events r.outcome speaks r.played in
     ((r.events, is.verdict), is.steps)
 
 pub directed-played : (deal : Deal) (bodies : List Pending) (order : List ℕ) (moments : List Moment) (limit : ℕ) (events : List Event) (verdict : Verdict) → SpeaksOf (ByEvents order moments) deal.threads
-    → directed deal bodies order moments limit ≡ Some (events, verdict) → IsPlayed (ByEvents order moments) deal bodies limit events (Ends verdict)
+    → directed_run deal bodies order moments limit ≡ Some (events, verdict) → IsPlayed (ByEvents order moments) deal bodies limit events (Ends verdict)
 directed-played deal bodies order moments limit events verdict speaks is =
     let r = has-run (ByEvents order moments) deal bodies limit speaks in
-    played-by (ByEvents order moments) deal bodies limit (directed deal bodies order moments limit) events r.events verdict r.outcome is (events-run deal bodies order moments limit r.events r.outcome speaks r.played) r.played
+    played-by (ByEvents order moments) deal bodies limit (directed_run deal bodies order moments limit) events r.events verdict r.outcome is (events-run deal bodies order moments limit r.events r.outcome speaks r.played) r.played

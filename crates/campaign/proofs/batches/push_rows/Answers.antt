@@ -1,7 +1,7 @@
 -- The row of the next seed, by its run.
 use Rattle.std.proofs.Common.{◌≡◌, ◌+◌, ◌∙◌, ap, length, arith}
 use Rattle.campaign.specs.Rows.{seed_at}
-use Rattle.campaign.specs.Batches.{setup_of}
+use Rattle.campaign.specs.Batches.{setup_of_task}
 use Rattle.campaign.proofs.Rows.{next-row}
 use Rattle.campaign.proofs.Runs.{run-at}
 use Rattle.campaign.proofs.batches.push_rows.Goals as goal
@@ -16,8 +16,8 @@ row_of-requires c =
     let place : c.len.result ≡ first + i = c.len.ensures ∙ at.invariant.long in
     record {
       run = (
-        setup_of script task,
-        run-at (setup_of script task) task.first first i c.seed_at-seed.result c.args.runs.now
+        setup_of_task script task,
+        run-at (setup_of_task script task) task.first first i c.seed_at-seed.result c.args.runs.now
             c.played-item.result (c.seed_at-seed.ensures ∙ ap (seed_at task.first) place)
             c.loop-played-test.true c.played-item.is (c.requires.runs script c.requires.script.1),
       );
@@ -36,12 +36,12 @@ loop-played-preserved c =
       long = omega (arith, c.push_reserved.ensures.len, at.invariant.long);
       room = c.push_reserved.ensures.capacity ∙ at.invariant.room;
       rows = λ script of before.
-          next-row (setup_of script task) task.first seed at.rows.items
+          next-row (setup_of_task script task) task.first seed at.rows.items
           c.push_reserved.new.self.items c.row_of.result
           (c.seed_at-seed.ensures ∙ ap (seed_at task.first) here)
           (at.invariant.rows script of before) c.push_reserved.ensures.items
-          (c.row_of.ensures (setup_of script task)
-          (run-at (setup_of script task) task.first first i seed c.args.runs.now
+          (c.row_of.ensures (setup_of_task script task)
+          (run-at (setup_of_task script task) task.first first i seed c.args.runs.now
           c.played-item.result (c.seed_at-seed.ensures ∙ ap (seed_at task.first) place)
           c.loop-played-test.true c.played-item.is (c.requires.runs script of)));
     }

@@ -1,11 +1,11 @@
 -- The seed's test was run by itself.
-use Rattle.campaign.specs.Batches.{setup_of}
+use Rattle.campaign.specs.Batches.{setup_of_task}
 use Rattle.campaign.proofs.Runs.{seed-run}
 use Rattle.campaign.proofs.batches.row_of_seed.Goals as goal
 
 pub row_of-requires : goal.row_of-requires
 row_of-requires g c =
-    let setup = setup_of c.requires.script.0 c.args.task.now in
+    let setup = setup_of_task c.requires.script.0 c.args.task.now in
     let made = c.in_ok-deal.ensures in
     let ran = c.in_ok-played.ensures in
     record {
@@ -19,7 +19,7 @@ row_of-requires g c =
 
 pub returns : goal.returns
 returns g c = λ script of.
-    let setup = setup_of script c.args.task.now in
+    let setup = setup_of_task script c.args.task.now in
     let made = c.in_ok-deal.ensures in
     let ran = c.in_ok-played.ensures in
     c.row_of.ensures setup

@@ -1,5 +1,5 @@
 -- The runs of the seeds' tests are the seeds' runs.
-use Rattle.campaign.specs.Batches.{setup_of}
+use Rattle.campaign.specs.Batches.{setup_of_task}
 use Rattle.campaign.proofs.Runs.{all-ran, as-many}
 use Rattle.campaign.proofs.batches.runs_of_seeds.Goals as goal
 
@@ -10,6 +10,6 @@ returns-clause-long g c =
 
 pub returns-clause-runs : goal.returns-clause-runs
 returns-clause-runs g c = λ script of.
-    all-ran (setup_of script c.args.task.now) c.args.task.now.first c.args.start
+    all-ran (setup_of_task script c.args.task.now) c.args.task.now.first c.args.start
     c.in_ok-tests.tests.items c.run_many.result c.in_ok-tests.ensures.asked
     (c.in_ok-tests.ensures.of_seeds script of) c.run_many.ensures.runs

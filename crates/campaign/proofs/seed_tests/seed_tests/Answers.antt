@@ -1,9 +1,9 @@
 use Rattle.std.proofs.Common.{◌≡◌, ◌+◌, ◌∙◌, ap, length, arith}
 use Rattle.policy_pick.specs.Kept.{points_plan, PointsStand}
-use Rattle.script_body.specs.BodyPosts.{pending_of}
+use Rattle.script_body.specs.BodyPosts.{pending_of_body}
 use Rattle.worker_run.proofs.laws.Batches.{no-tests-in, one-more-test}
 use Rattle.campaign.specs.Rows.{seed_at}
-use Rattle.campaign.specs.Batches.{setup_of}
+use Rattle.campaign.specs.Batches.{setup_of_task}
 use Rattle.campaign.proofs.Runs.{no-tests, next-test}
 use Rattle.campaign.proofs.seed_tests.seed_tests.Goals as goal
 
@@ -15,9 +15,9 @@ loop-place-init c =
     record {
       long = omega (arith, c.in_ok-tests.ensures.len);
       room = omega (arith, c.in_ok-tests.ensures.exact, c.requires.places);
-      asked = no-tests-in pending_of points_plan PointsStand tests none;
+      asked = no-tests-in pending_of_body points_plan PointsStand tests none;
       of_seeds = λ script of.
-          no-tests (setup_of script c.args.task.now) first c.args.start tests none;
+          no-tests (setup_of_task script c.args.task.now) first c.args.start tests none;
     }
 
 pub loop-place-preserved : goal.loop-place-preserved
@@ -32,10 +32,11 @@ loop-place-preserved c =
     record {
       long = omega (arith, c.push_reserved.ensures.len, at.invariant.long);
       room = ap (λ n. c.args.start + n) c.push_reserved.ensures.capacity ∙ at.invariant.room;
-      asked = one-more-test pending_of points_plan PointsStand at.tests.items new test is
+      asked = one-more-test pending_of_body points_plan PointsStand at.tests.items new test is
           c.in_ok-test.ensures.asked at.invariant.asked;
       of_seeds = λ script of.
-          next-test (setup_of script task) task.first c.args.start c.seed_at.result at.tests.items
+          next-test
+          (setup_of_task script task) task.first c.args.start c.seed_at.result at.tests.items
           new test (c.seed_at.ensures ∙ ap (seed_at task.first) next) is
           (c.in_ok-test.ensures.of_seed script of) (at.invariant.of_seeds script of);
     }

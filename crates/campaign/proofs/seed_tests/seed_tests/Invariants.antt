@@ -2,9 +2,9 @@ use Rattle.std.proofs.Common.{◌≡◌, ◌+◌, vec_len}
 use Rattle.std.specs.Prelude.{vec_capacity}
 use Rattle.policy_pick.specs.Kept.{points_plan, PointsStand}
 use Rattle.script_tree.specs.ScriptText.{ScriptText}
-use Rattle.script_body.specs.BodyPosts.{pending_of}
+use Rattle.script_body.specs.BodyPosts.{pending_of_body}
 use Rattle.worker_run.specs.Tests.{AreTests}
-use Rattle.campaign.specs.Batches.{IsTaskOf, setup_of, AreSeedTests}
+use Rattle.campaign.specs.Batches.{IsTaskOf, setup_of_task, AreSeedTests}
 use Rattle.campaign.proofs.seed_tests.seed_tests.Given as goal
 
 -- the tests so far are those of the seeds before the place, and there is room for the others
@@ -12,7 +12,7 @@ abbrev pub invariant-loop-place : goal.invariant-loop-place
 invariant-loop-place l = record {
   long : l.start + vec_len l.tests ≡ l.place;
   room : l.start + vec_capacity l.tests ≡ l.end;
-  asked : AreTests pending_of points_plan PointsStand l.tests.items;
+  asked : AreTests pending_of_body points_plan PointsStand l.tests.items;
   of_seeds : (script : ScriptText) → IsTaskOf script l.task
-      → AreSeedTests (setup_of script l.task) l.task.first l.start l.tests.items;
+      → AreSeedTests (setup_of_task script l.task) l.task.first l.start l.tests.items;
 }

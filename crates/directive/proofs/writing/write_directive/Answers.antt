@@ -1,6 +1,6 @@
 -- The lines one behind another are the directive's text, and there are few of them.
 use Rattle.std.proofs.Common.{◌≤◌, List, ℕ, length, sym, subst}
-use Rattle.directive.specs.Answers.{told}
+use Rattle.directive.specs.Answers.{plain_directive}
 use Rattle.directive.specs.Directive.{IsSound}
 use Rattle.directive.proofs.Texts.{directive-size, whole-text}
 use Rattle.directive.proofs.writing.write_directive.Goals as goal
@@ -8,7 +8,7 @@ use Rattle.directive.proofs.writing.write_directive.Goals as goal
 pub returns-clause-directive : goal.returns-clause-directive
 returns-clause-directive c =
     let names = c.args.names.now in
-    let text = told c.args.directive.now in
+    let text = plain_directive c.args.directive.now in
     let is = whole-text names text _ _ _ _ _ _ c.in_ok-extend_from_slice.ensures.items c.new-text.ensures.items c.in_ok-push_low.ensures c.in_ok-push_moments.ensures c.as_slice.ensures c.in_ok-push_verdict.ensures.text in
     let sound : IsSound names text = record {
       low = c.requires.low;

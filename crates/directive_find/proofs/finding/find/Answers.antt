@@ -2,7 +2,7 @@
 use Rattle.std.proofs.Common.{length, arith, ap, sym, ◌∙◌}
 use Rattle.turn_book.specs.Posts.{schedule_of}
 use Rattle.script_body.specs.Bodies.{bodies_of}
-use Rattle.worker_run.specs.Run.{directed}
+use Rattle.worker_run.specs.Run.{directed_run}
 use Rattle.directive_find.specs.Moments.{events_of}
 use Rattle.directive_find.proofs.laws.FoundMoments.{found-run, moments-few}
 use Rattle.directive_find.proofs.laws.Findings.{made-found, made-pass}
@@ -17,7 +17,7 @@ reduce-requires-clause-leads g c κs within = λ script of.
     let all = c.in_ok-events.ensures ∙ ap (λ es. events_of (schedule_of es) c.args.points.now) c.as_slice.ensures in
     record {
       made = c.in_ok-whole.whole.events;
-      is_directed = ap (λ ms. directed c.args.deal.now (bodies_of script) c.args.order.now ms c.args.limit) all
+      is_directed = ap (λ ms. directed_run c.args.deal.now (bodies_of script) c.args.order.now ms c.args.limit) all
           ∙ found-run c.args.deal.now (bodies_of script) c.args.order.now c.args.points.now c.args.limit c.in_ok-whole.whole.events c.in_ok-whole.whole.verdict c.requires.order (sym c.requires.whole) (c.in_ok-whole.ensures.run script of);
       number = c.len-steps.ensures;
     }

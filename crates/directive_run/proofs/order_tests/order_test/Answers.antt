@@ -3,7 +3,7 @@ use Rattle.std.proofs.Common.{length, map, refl, sym, subst, ap, ◌∙◌}
 use Rattle.pct_ask.specs.declared.Deal.{Deal}
 use Rattle.rank_now.specs.Order.{IsOrder}
 use Rattle.sync_store.specs.Store.{sizes_of_deal}
-use Rattle.script_body.specs.BodyPosts.{pending_of}
+use Rattle.script_body.specs.BodyPosts.{pending_of_body}
 use Rattle.script_body.specs.Bodies.{AskInRange}
 use Rattle.directive_run.specs.Tested.{directed_setup}
 use Rattle.directive_run.proofs.Certificates.{low-at}
@@ -29,7 +29,7 @@ by_events-requires-clause-whole c κs =
 
 pub by_events-requires-clause-in_range : goal.by_events-requires-clause-in_range
 by_events-requires-clause-in_range c κs =
-    let posting = map pending_of c.in_ok-bodies.bodies.items in
+    let posting = map pending_of_body c.in_ok-bodies.bodies.items in
     let D : Deal → Type 0 = λ d. AskInRange (sizes_of_deal d) posting in
     subst D (sym c.in_ok-own.ensures)
     (c.in_ok-bodies.ensures.in_range c.requires.script.0 c.args.task.now.deal.now

@@ -1,6 +1,6 @@
 use Rattle.std.proofs.Common.{◌≡◌, ◌+◌, ◌∙◌, ap, length, arith}
 use Rattle.policy_pick.specs.Kept.{events_plan, EventsStand}
-use Rattle.script_body.specs.BodyPosts.{pending_of}
+use Rattle.script_body.specs.BodyPosts.{pending_of_body}
 use Rattle.worker_run.proofs.laws.Batches.{no-tests-in, one-more-test}
 use Rattle.directive_run.specs.Tested.{directed_setup}
 use Rattle.directive_run.proofs.OrderRuns.{no-tests, next-test}
@@ -13,7 +13,7 @@ loop-place-init c =
     record {
       long = omega (arith, c.in_ok-tests.ensures.len);
       room = omega (arith, c.in_ok-tests.ensures.exact, c.requires.places);
-      asked = no-tests-in pending_of events_plan EventsStand tests none;
+      asked = no-tests-in pending_of_body events_plan EventsStand tests none;
       of_orders = λ script of.
           no-tests (directed_setup script c.args.task.now) c.args.start tests none;
     }
@@ -29,7 +29,7 @@ loop-place-preserved c =
     record {
       long = omega (arith, c.push_reserved.ensures.len, at.invariant.long);
       room = ap (λ n. c.args.start + n) c.push_reserved.ensures.capacity ∙ at.invariant.room;
-      asked = one-more-test pending_of events_plan EventsStand at.tests.items new test is
+      asked = one-more-test pending_of_body events_plan EventsStand at.tests.items new test is
           c.in_ok-test.ensures.asked at.invariant.asked;
       of_orders = λ script of.
           next-test (directed_setup script c.args.task.now) c.args.start at.place at.tests.items new

@@ -1,5 +1,5 @@
 use Rattle.std.proofs.Common.{◌≡◌, ◌≤◌}
-use Rattle.rank_now.specs.Positions.{greatest}
+use Rattle.rank_now.specs.Positions.{greatest_where}
 use Rattle.rank_now.specs.Rank.{own_steps, is_moment}
 use Rattle.turn_book.specs.Posts.{schedule_of}
 use Rattle.directive_run.specs.Points.{point_at}
@@ -10,5 +10,5 @@ abbrev pub invariant-loop-place : goal.invariant-loop-place
 invariant-loop-place l = record {
   own : l.own ≡ own_steps (schedule_of l.events) l.moment.thread l.place;
   few : l.own ≤ l.place;
-  point : l.point ≡ point_at l.steps (greatest (λ step. is_moment (schedule_of l.events) step l.moment) l.place);
+  point : l.point ≡ point_at l.steps (greatest_where (λ step. is_moment (schedule_of l.events) step l.moment) l.place);
 }

@@ -3,7 +3,7 @@ use Rattle.std.proofs.Common.{◌≡◌, ◌≢◌, ◌+◌, take, [], ◌∷◌
 use Rattle.std.proofs.lemmas.Bool.{not-false}
 use Rattle.std.proofs.lemmas.List.{take_more, length-take-le}
 use Rattle.pct_ask.specs.declared.verdict.Verdict.TheVariants.{Passed}
-use Rattle.failure_rank.specs.Growing.{IsCounted}
+use Rattle.failure_rank.specs.Growing.{AreRowsCounted}
 use Rattle.failure_rank.proofs.RowLemmas.{equal, same-true}
 use Rattle.failure_rank.proofs.Counting.{IsCounted-passed, IsCounted-failed, counts_fit}
 use Rattle.failure_rank.proofs.ranking.count_failures.Goals as goal
@@ -20,7 +20,7 @@ loop-row-preserved c =
     let i = c.loop-row.row-index in
     let row = c.row-item.result in
     let more : take (i + 1) rows ≡ take i rows ++ row ∷ [] = take_more rows i row c.loop-row-test.true ∙ ap (λ r. take i rows ++ r ∷ []) (sym c.row-item.is) in
-    let counted : IsCounted (take i rows ++ row ∷ []) c.if-ne.failures.entries = elim c.if-ne.branch [
+    let counted : AreRowsCounted (take i rows ++ row ∷ []) c.if-ne.failures.entries = elim c.if-ne.branch [
       | then-ne+in_ok-add_row w ↦
           let failed : row.verdict ≢ Passed = λ e. true≢false (sym w.if-ne.true ∙ c.ne.ensures ∙ ap not (same-true row.verdict Passed e)) in
           let entries = ap (λ failures. failures.entries) w.failures-is ∙ w.in_ok-add_row.ensures in

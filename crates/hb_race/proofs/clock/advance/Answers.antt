@@ -1,7 +1,7 @@
 -- Both gives together make the next table.
 use Rattle.std.proofs.Common.{◌<◌, max, cond, eqb, get_or, length, ap, ◌∙◌, arith}
 use Rattle.hb_race.specs.Objects.{is_at}
-use Rattle.hb_race.specs.Table.{entry}
+use Rattle.hb_race.specs.Table.{clock_entry}
 use Rattle.hb_race.proofs.Advance.{stamp-is, advanced, counted-is}
 use Rattle.hb_race.proofs.clock.advance.Goals as goal
 
@@ -18,5 +18,5 @@ returns-clause-table c = λ s n step is.
     (λ u. c.stamp_of-stamp.ensures u ∙ stamp-is s n e c.args.table.now c.args.counts.now step c.requires.range is u)
     (λ u. counted-is c.args.counts.now e.thread u low)
     c.give.ensures.rows c.give_object.ensures.rows
-    (λ o u there. c.give.ensures.entries o u there ∙ ap (λ r. cond (eqb r o) (max (entry c.args.table.now o u) (get_or made u 0)) (entry c.args.table.now o u)) c.place.ensures)
-    (λ o u there. c.give_object.ensures.entries o u there ∙ ap (λ p. cond (is_at p o) (max (entry c.give.new.table o u) (get_or made u 0)) (entry c.give.new.table o u)) c.object_given.ensures)
+    (λ o u there. c.give.ensures.entries o u there ∙ ap (λ r. cond (eqb r o) (max (clock_entry c.args.table.now o u) (get_or made u 0)) (clock_entry c.args.table.now o u)) c.place.ensures)
+    (λ o u there. c.give_object.ensures.entries o u there ∙ ap (λ p. cond (is_at p o) (max (clock_entry c.give.new.table o u) (get_or made u 0)) (clock_entry c.give.new.table o u)) c.object_given.ensures)

@@ -1,6 +1,6 @@
 use Rattle.std.proofs.Common.{◌≡◌, subst}
 use Rattle.std.specs.Prelude.{IfOk}
-use Rattle.script_tree.specs.ScriptSeen.{text}
+use Rattle.script_tree.specs.ScriptSeen.{plain_script}
 use Rattle.script_tree.specs.Layout.{layout}
 use Rattle.large_script.proofs.Shortness.{spelled_of}
 use Rattle.large_script.proofs.large.print_large.Goals as goal
@@ -11,5 +11,5 @@ returns-clause-layout c =
 
 pub returns-clause-spelled : goal.returns-clause-spelled
 returns-clause-spelled c =
-    spelled_of c.print_script.result (text c.in_ok-large_script.field-0) c.args.many c.requires c.in_ok-large_script.ensures
+    spelled_of c.print_script.result (plain_script c.in_ok-large_script.field-0) c.args.many c.requires c.in_ok-large_script.ensures
     c.print_script.ensures.layout c.print_script.ensures.spelled

@@ -1,7 +1,7 @@
 use Rattle.std.proofs.Common.{◌≡◌, ℕ, ◌+◌, length, get_or, sym, subst, ap, ◌∙◌, inl, inr, slice_get}
 use Rattle.std.proofs.lemmas.List.{length_push}
 use Rattle.lock_order.specs.declared.nesting.Nesting.{Nesting}
-use Rattle.lock_order.specs.Chosen.{AreNested, IsFirstOfPair, next_in}
+use Rattle.lock_order.specs.Chosen.{AreNested, IsFirstOfPair, next_in_ring}
 use Rattle.lock_order.proofs.Places.{slice_get-push}
 use Rattle.lock_order.proofs.chosen.nestings_of.Goals as goal
 
@@ -23,8 +23,8 @@ loop-place-preserved c =
         | inr (last, same) ↦
             let here : earlier ≡ place = last ∙ c.loop-place.invariant.0 in
             let P : ℕ → Type 0 = λ next. IsFirstOfPair events (get_or ring place 0) next first in
-            let Q : ℕ → Type 0 = λ k. IsFirstOfPair events (get_or ring k 0) (next_in ring k) first in
-            let R : Nesting → Type 0 = λ n. IsFirstOfPair events (get_or ring earlier 0) (next_in ring earlier) n in
+            let Q : ℕ → Type 0 = λ k. IsFirstOfPair events (get_or ring k 0) (next_in_ring ring k) first in
+            let R : Nesting → Type 0 = λ n. IsFirstOfPair events (get_or ring earlier 0) (next_in_ring ring earlier) n in
             subst R same (subst Q (sym here) (subst P c.after.ensures c.first_nesting.ensures))
       ],
     )

@@ -1,7 +1,7 @@
 -- What is left to read gives the answer, after the places that were read.
 use Rattle.std.proofs.Common.{◌≡◌, ◌<◌, ◌≤◌, ℕ, false, []}
 use Rattle.std.specs.List.{All}
-use Rattle.pct_ask.specs.VerdictWords.{words_of, words_after, length_after, stuck_words}
+use Rattle.pct_ask.specs.VerdictWords.{words_of, words_after, length_with_space, stuck_words}
 use Rattle.pct_ask.proofs.verdict_words.read_stuck.Given as goal
 
 abbrev pub invariant-places : goal.invariant-places
@@ -12,4 +12,4 @@ invariant-places l = record {
 }
 
 abbrev pub decreases-places : goal.decreases-places
-decreases-places l = length_after l.rest
+decreases-places l = length_with_space l.rest

@@ -1,5 +1,5 @@
 use Rattle.std.proofs.Common.{Ok, subst}
-use Rattle.script_tree.specs.ScriptSeen.{text}
+use Rattle.script_tree.specs.ScriptSeen.{plain_script}
 use Rattle.pct_top.specs.Outside.{ShelfTold}
 use Rattle.pct_top.specs.Output.{script_file, script_text, OfCommand}
 use Rattle.pct_top.specs.Outcome.{Comes}
@@ -28,7 +28,7 @@ pub returns-in-Ok : goal.returns-in-Ok
 returns-in-Ok g c =
     let settings = c.args.settings.now in
     let test = c.in-Ok.test in
-    let script = text test.script in
+    let script = plain_script test.script in
     let before : ShelfTold = record {
       files = g.H.Shelf.files c.args.shelf.now;
       failed = g.H.Shelf.failed c.args.shelf.now;

@@ -1,5 +1,5 @@
 use Rattle.std.proofs.Common.{ℕ, List, Some, take, subst}
-use Rattle.script_tree.specs.ScriptSeen.{text}
+use Rattle.script_tree.specs.ScriptSeen.{plain_script}
 use Rattle.pct_top.specs.Printed.{Files, Printed, trace_bytes, directive_bytes}
 use Rattle.pct_top.specs.Ordered.{OrderFits}
 use Rattle.pct_top.specs.Files.{Misses}
@@ -17,18 +17,19 @@ returns-in-Replay g c =
     let failed = g.H.Shelf.failed c.args.shelf.now in
     let failed' = g.H.Shelf.failed c.reply_to_file.new.shelf in
     let P : List ℕ → Type 0 = λ name.
-    Comes (λ files. OfReplay (take trace_bytes (files name)) (text test.script) test.deal) told
+    Comes (λ files. OfReplay (take trace_bytes (files name)) (plain_script test.script) test.deal)
+    told
     (Misses (Some name) failed failed') c.reply_to_file.result in
     let missed : Type 0 = Misses (Some c.in-Replay.trace) failed failed' in
     rw c.in-Replay.is (comes_as (λ files.
-    OfReplay (take trace_bytes (files c.in-Replay.trace)) (text test.script) test.deal) told
+    OfReplay (take trace_bytes (files c.in-Replay.trace)) (plain_script test.script) test.deal) told
     missed (missed × Unit {0}) (λ m. (m, tt)) c.reply_to_file.result
     (subst P c.as_str.ensures c.reply_to_file.ensures))
 
 pub returns-in-Expose : goal.returns-in-Expose
 returns-in-Expose g c =
     let test = c.args.test.now in
-    let script = text test.script in
+    let script = plain_script test.script in
     let told = g.H.Shelf.files c.args.shelf.now in
     let failed = g.H.Shelf.failed c.args.shelf.now in
     let failed' = g.H.Shelf.failed c.expose_file.new.shelf in
@@ -43,7 +44,7 @@ returns-in-Expose g c =
 pub returns-in-Certify : goal.returns-in-Certify
 returns-in-Certify g c =
     let test = c.args.test.now in
-    let script = text test.script in
+    let script = plain_script test.script in
     let told = g.H.Shelf.files c.args.shelf.now in
     let failed = g.H.Shelf.failed c.args.shelf.now in
     let failed' = g.H.Shelf.failed c.certify_file.new.shelf in

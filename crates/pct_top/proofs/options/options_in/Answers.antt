@@ -4,12 +4,14 @@ use Rattle.pct_outside.specs.Reading.{texts_of}
 use Rattle.pct_top.specs.declared.options.Options.{Options}
 use Rattle.pct_top.specs.declared.settings.WordsError.{WordsError}
 use Rattle.pct_top.specs.declared.settings.WordsError.TheVariants.{Word, NoMemory}
-use Rattle.pct_top.specs.Options.{Given, GivesOptions, LeavesTo, none, options_from, count}
+use Rattle.pct_top.specs.Options.{OptionsOrWord, GivesOptions, LeavesTo, no_options, options_from}
+use Rattle.pct_top.specs.Options.{option_count}
 use Rattle.pct_top.proofs.OptionLists.{few_options}
 use Rattle.pct_top.proofs.options.options_in.Goals as goal
 
 -- a word that isn't taken, and want of memory
-left_err : {A B : Type 0} (further : A → Given) (options : B → Options) (given last : Given)
+left_err : {A B : Type 0} (further : A → OptionsOrWord) (options : B → Options)
+    (given last : OptionsOrWord)
     (e : WordsError) → given ≡ last → LeavesTo further given (Err e)
     → GivesOptions options (Err e) last
 left_err further options given last (Word number) same h = sym same ∙ h
@@ -21,7 +23,7 @@ returns-in_err-rest-clause-options c =
     ≡ c.as_str.result.now ∷ texts_of c.in-Some.others.now = search rules in
     let same = ap (options_from c.args.command c.loop-word.options c.loop-word.number) (sym texts)
     ∙ c.loop-word.invariant.given in
-    let given = options_from c.args.command none c.args.first (texts_of c.args.words.now) in
+    let given = options_from c.args.command no_options c.args.first (texts_of c.args.words.now) in
     let failed : c.from_residual.result ≡ Err c.in_err-rest.field-0.0 = search rules in
     let P : Result (Options × ℕ) WordsError → Type 0 =
     λ r. GivesOptions (λ (o : Options × ℕ). o.0) r given in
@@ -44,5 +46,5 @@ loop-word-preserved c =
 
 pub overflow_add-number : goal.overflow_add-number
 overflow_add-number c =
-    let few : count c.loop-word.options ≤ 9 = few_options c.loop-word.options in
+    let few : option_count c.loop-word.options ≤ 9 = few_options c.loop-word.options in
     omega (arith, c.loop-word.invariant.counted)

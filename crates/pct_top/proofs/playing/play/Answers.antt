@@ -3,8 +3,8 @@ use Rattle.std.proofs.lemmas.Result.{IfOk-weaker}
 use Rattle.pct_ask.specs.declared.Deal.{Deal}
 use Rattle.pct_ask.specs.declared.verdict.Outcome.TheVariants.{Verdict as Ends}
 use Rattle.sync_store.specs.Store.{sizes_of_deal}
-use Rattle.script_tree.specs.ScriptSeen.{text}
-use Rattle.script_body.specs.BodyPosts.{pending_of}
+use Rattle.script_tree.specs.ScriptSeen.{plain_script}
+use Rattle.script_body.specs.BodyPosts.{pending_of_body}
 use Rattle.script_body.specs.Bodies.{bodies_of, AskInRange}
 use Rattle.policy_pick.specs.Plan.{ByPoints}
 use Rattle.worker_run.specs.declared.by_order.WholeRun.{WholeRun}
@@ -19,18 +19,18 @@ pub run_by_points-requires-clause-in_range : goal.run_by_points-requires-clause-
 run_by_points-requires-clause-in_range g c κs within =
     let test = c.args.test.now in
     let D : Deal → Type 0 = λ d. AskInRange (sizes_of_deal d)
-    (map pending_of c.in_ok-bodies.bodies.items) in
+    (map pending_of_body c.in_ok-bodies.bodies.items) in
     subst D (sym c.in_ok-deal.ensures)
-    (c.in_ok-bodies.ensures.in_range (text test.script) test.deal c.requires.ready)
+    (c.in_ok-bodies.ensures.in_range (plain_script test.script) test.deal c.requires.ready)
 
 pub returns-clause-run : goal.returns-clause-run
 returns-clause-run g c =
     let test = c.args.test.now in
-    let script = text test.script in
+    let script = plain_script test.script in
     let order = c.args.order.now in
     let points = c.args.points.now in
     let D : Deal → Type 0 = λ d. IfOk c.run_by_points.result
-    (λ (r : WholeRun). run d (map pending_of c.in_ok-bodies.bodies.items) order points
+    (λ (r : WholeRun). run d (map pending_of_body c.in_ok-bodies.bodies.items) order points
     c.args.limit ≡ Some (r.events, r.verdict)) in
     let B : List Pending → Type 0 = λ bs.
     IfOk c.run_by_points.result (λ (r : WholeRun). run test.deal bs order points c.args.limit
@@ -41,10 +41,11 @@ returns-clause-run g c =
 pub returns-clause-known : goal.returns-clause-known
 returns-clause-known g c =
     let test = c.args.test.now in
-    let script = text test.script in
+    let script = plain_script test.script in
     let plan = ByPoints c.args.order.now c.args.points.now in
     let D : Deal → Type 0 = λ d. IfOk c.run_by_points.result
-    (λ (r : WholeRun). IsPlayed plan d (map pending_of c.in_ok-bodies.bodies.items) c.args.limit
+    (λ (r : WholeRun). IsPlayed plan d
+    (map pending_of_body c.in_ok-bodies.bodies.items) c.args.limit
     r.events (Ends r.verdict)) in
     let B : List Pending → Type 0 = λ bs.
     IfOk c.run_by_points.result (λ (r : WholeRun).

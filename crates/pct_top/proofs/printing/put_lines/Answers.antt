@@ -1,7 +1,7 @@
 use Rattle.std.proofs.Common.{◌≡◌, List, ℕ, ◌++◌, take, drop, ap, sym, ◌∙◌, subst, append_assoc}
 use Rattle.std.proofs.Common.{arith}
 use Rattle.std.proofs.lemmas.List.{take-append-drop}
-use Rattle.pct_outside.specs.Piece.{AppendedPart}
+use Rattle.pct_outside.specs.Piece.{IsPartAppended}
 use Rattle.pct_outside.proofs.laws.Pieces.{Appended-then, AppendedPart-then, AppendedPart-longer}
 use Rattle.pct_top.proofs.printing.put_lines.Goals as goal
 
@@ -34,7 +34,7 @@ returns-in-Err-clause-part g c =
     let written = g.O.Sink.written in
     let next = cut c.loop-rest.rest.now line others c.line_length.result c.split_at.ensures.front
     c.split_at.ensures.back in
-    subst (λ (x : List ℕ). AppendedPart x (written c.args.out.now) (written c.put.new.self))
+    subst (λ (x : List ℕ). IsPartAppended x (written c.args.out.now) (written c.put.new.self))
     (sym (split ∙ ap (λ (x : List ℕ). done ++ x) next))
     (AppendedPart-then done (line ++ others) (written c.args.out.now) (written c.loop-rest.out)
     (written c.put.new.self) appended

@@ -2,7 +2,7 @@ use Rattle.std.proofs.Common.{◌≡◌, [], Some, length, max, sym, subst, ap, 
 use Rattle.std.specs.List.{range_with_len}
 use Rattle.std.proofs.lemmas.List.FromFn.{length-range_with_len}
 use Rattle.rank_now.specs.Order.{IsOrder}
-use Rattle.script_tree.specs.ScriptSeen.{text}
+use Rattle.script_tree.specs.ScriptSeen.{plain_script}
 use Rattle.worker_run.specs.Run.{Run}
 use Rattle.pct_top.specs.Runs.{run_of}
 use Rattle.worker_run.proofs.laws.Orders.{declared_is_order}
@@ -21,7 +21,7 @@ play-requires-clause-whole g c κs within =
 pub returns-clause-draws : goal.returns-clause-draws
 returns-clause-draws g c =
     let test = c.args.test.now in
-    let script = text test.script in
+    let script = plain_script test.script in
     let ended : Run = (c.in_ok-run.run'.events, c.in_ok-run.run'.verdict) in
     let order = c.deref.ensures.value ∙ c.in_ok-order.ensures
     ∙ ap (range_with_len 0) ((c.requires.ready).is_deal).threads in (

@@ -5,7 +5,7 @@ use Rattle.pct_ask.specs.declared.Deal.{Deal}
 use Rattle.pct_ask.specs.declared.event.Event.{Event}
 use Rattle.sync_store.specs.Store.{sizes_of_deal}
 use Rattle.script_code.specs.Listing.{listing}
-use Rattle.script_body.specs.BodyPosts.{pending_of}
+use Rattle.script_body.specs.BodyPosts.{pending_of_body}
 use Rattle.policy_pick.specs.Plan.{Plan, ByList, SpeaksOf}
 use Rattle.policy_pick.specs.Kept.{list_plan}
 use Rattle.turn_book.specs.Posts.{schedule_of}
@@ -26,16 +26,16 @@ run_threads-requires-clause-speaks g c κs within =
 
 pub run_threads-requires-clause-in_range : goal.run_threads-requires-clause-in_range
 run_threads-requires-clause-in_range g c κs within =
-    let D : Deal → Type 0 = λ d. AskInRange (sizes_of_deal d) (map pending_of c.in_ok-bodies.bodies.items) in
+    let D : Deal → Type 0 = λ d. AskInRange (sizes_of_deal d) (map pending_of_body c.in_ok-bodies.bodies.items) in
     subst D (sym c.in_ok-own.ensures) (c.in_ok-bodies.ensures.in_range c.requires.script.0 c.args.deal.now c.requires.script.1)
 
 pub compare-requires-clause-no_longer : goal.compare-requires-clause-no_longer
 compare-requires-clause-no_longer g c =
     let plan = c.in_ok-policy.ensures.plan ∙ ap ByList (c.as_slice-2.ensures.value ∙ c.in_ok-threads.ensures ∙ ap schedule_of c.as_slice.ensures) in
     let events = c.args.file.now.events in
-    let played = played_as (list_plan c.in_ok-policy.policy) (ByList (schedule_of events)) c.in_ok-own.own c.in_ok-own.own (map pending_of c.in_ok-bodies.bodies.items) (map pending_of c.in_ok-bodies.bodies.items)
+    let played = played_as (list_plan c.in_ok-policy.policy) (ByList (schedule_of events)) c.in_ok-own.own c.in_ok-own.own (map pending_of_body c.in_ok-bodies.bodies.items) (map pending_of_body c.in_ok-bodies.bodies.items)
     c.args.file.now.header.limit c.in_ok-played.played.events c.in_ok-played.played.outcome plan refl refl c.in_ok-played.ensures.played in
-    let short = listed_short (schedule_of events) c.in_ok-own.own (source_of_bodies (map pending_of c.in_ok-bodies.bodies.items)) c.args.file.now.header.limit c.in_ok-played.played.events played.obeys in
+    let short = listed_short (schedule_of events) c.in_ok-own.own (source_of_bodies (map pending_of_body c.in_ok-bodies.bodies.items)) c.args.file.now.header.limit c.in_ok-played.played.events played.obeys in
     omega (arith, short, length-map events (λ (e : Event). e.thread))
 
 pub returns-clause-replay : goal.returns-clause-replay
@@ -45,7 +45,7 @@ returns-clause-replay g c = λ script of.
     record {
       made = c.in_ok-played.played.events;
       outcome = c.in_ok-played.played.outcome;
-      played = played_as (list_plan c.in_ok-policy.policy) (ByList (schedule_of c.args.file.now.events)) c.in_ok-own.own c.args.deal.now (map pending_of c.in_ok-bodies.bodies.items) (bodies_of script)
+      played = played_as (list_plan c.in_ok-policy.policy) (ByList (schedule_of c.args.file.now.events)) c.in_ok-own.own c.args.deal.now (map pending_of_body c.in_ok-bodies.bodies.items) (bodies_of script)
           c.args.file.now.header.limit c.in_ok-played.played.events c.in_ok-played.played.outcome plan c.in_ok-own.ensures bodies c.in_ok-played.ensures.played;
       tells = c.compare.ensures;
     }

@@ -2,7 +2,7 @@ use Rattle.std.proofs.Common.{◌<◌, ◌≤◌, length, map, ap, refl, ◌∙�
 use Rattle.std.proofs.lemmas.List.{take_all}
 use Rattle.script_code.specs.FlatPosts.{flat_pending}
 use Rattle.script_code.specs.Listing.{listing}
-use Rattle.script_body.specs.BodyPosts.{pending_of}
+use Rattle.script_body.specs.BodyPosts.{pending_of_body}
 use Rattle.script_body.proofs.laws.ScriptBodies.{one_more, code_bodies, all_in_range}
 use Rattle.script_body.proofs.bodies.bodies_of.Goals as goal
 
@@ -11,7 +11,7 @@ loop-thread-preserved c =
     let code = listing c.args.code.now in
     let within : c.loop-thread.thread < length code =
     omega (arith, c.loop-thread-test.true, c.threads-thread-end.ensures) in
-    one_more pending_of code c.loop-thread.bodies.items c.push.new.self.items c.new.result
+    one_more pending_of_body code c.loop-thread.bodies.items c.push.new.self.items c.new.result
     c.loop-thread.thread within c.loop-thread.invariant c.in_ok-push.ensures.items
     c.new.ensures.code
 
@@ -28,5 +28,5 @@ returns-clause-script c =
 
 pub returns-clause-in_range : goal.returns-clause-in_range
 returns-clause-in_range c =
-    λ script deal of. all_in_range c.loop-thread.bodies.items pending_of script
+    λ script deal of. all_in_range c.loop-thread.bodies.items pending_of_body script
     (listing c.args.code.now) deal deal of refl (returns-clause-code c)

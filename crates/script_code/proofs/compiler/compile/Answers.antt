@@ -1,8 +1,8 @@
 use Rattle.std.proofs.Common.{◌≡◌, ◌<◌, ◌≤◌, true, length, get_or, arith, sym, ap, subst}
 use Rattle.std.specs.List.{list_all}
 use Rattle.std.proofs.lemmas.List.{length-map}
-use Rattle.script_tree.specs.ScriptParts.{thread}
-use Rattle.script_tree.specs.ScriptSeen.{text}
+use Rattle.script_tree.specs.ScriptParts.{thread_text}
+use Rattle.script_tree.specs.ScriptSeen.{plain_script}
 use Rattle.script_code.specs.Operations.{operations}
 use Rattle.script_code.specs.Placed.{is_listing}
 use Rattle.script_code.specs.CodeOf.{IsCodeOf}
@@ -26,7 +26,7 @@ invariant_of-result c =
     let past : length script.threads.items ≤ c.loop-t.t =
     subst (λ l. length l ≤ c.loop-t.t) c.deref-text-items.ensures.value c.loop-t-test.false in
     let all = listings_all script c.loop-t.threads c.loop-t.t past c.loop-t.invariant in
-    let n = length-code_from (text script) 0 (text script).threads in
+    let n = length-code_from (plain_script script) 0 (plain_script script).threads in
     record {
       few =
           omega (
@@ -34,11 +34,11 @@ invariant_of-result c =
             few_threads script script.sound,
             ap length all,
             length-map c.loop-t.threads operations,
-            length-map script.threads.items thread,
+            length-map script.threads.items thread_text,
           );
       placed =
           subst (λ l. list_all is_listing l ≡ true) (sym all)
-          (all_listed (text script) script.sound);
+          (all_listed (plain_script script) script.sound);
     }
 
 pub returns : goal.returns
@@ -46,6 +46,6 @@ returns c =
     let script = c.args.script.now in
     let past : length script.threads.items ≤ c.loop-t.t =
     subst (λ l. length l ≤ c.loop-t.t) c.deref-text-items.ensures.value c.loop-t-test.false in
-    subst (IsCodeOf (text script)) (sym
+    subst (IsCodeOf (plain_script script)) (sym
     (listings_all script c.loop-t.threads c.loop-t.t past c.loop-t.invariant))
-    (is_code_of (text script))
+    (is_code_of (plain_script script))

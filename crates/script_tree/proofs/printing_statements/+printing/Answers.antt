@@ -8,8 +8,8 @@ use Rattle.script_tree.specs.Trees.{Statement}
 use Rattle.script_tree.specs.Forms as forms
 use Rattle.script_tree.specs.Seen.{statement, expression, block}
 use Rattle.script_tree.specs.Grammar.{statement_lines, block_lines}
-use Rattle.script_tree.specs.Layout.{spaced, expression_text}
-use Rattle.script_tree.specs.Printing.{printed, are_ranged, is_ranged}
+use Rattle.script_tree.specs.Layout.{spaced_words, expression_text}
+use Rattle.script_tree.specs.Printing.{printed_lines, are_ranged, is_ranged}
 use Rattle.script_tree.specs.declared.stmt.Stmt.TheVariants as stmts
 use Rattle.script_tree.proofs.laws.SeenParts.{statement-While, statement-If, statement-IfElse}
 use Rattle.script_tree.proofs.PrintLemmas.{one-printed, two-printed, ranged-block, are_ranged-append, lines_in, more-written, more-ranged, all-written, all-ranged}
@@ -23,7 +23,7 @@ push_statement-returns-in_ok-push_statements-in-While-clause-written t c =
     let body = block c.in-While.body in
     let seen : statement c.args.stmt.now ≡ trees.While c.in-While.line test body = ap statement c.in-While.is ∙ statement-While c.in-While.line c.in-While.test c.in-While.body in
     on_ok_weaker c.push_last-in-While.result
-    (λ e. one-printed names body (spaced (codes "while" ∷ expression_text test ∷ [])) _ _ _ _ c.in_ok-push_test-in-While.ensures.written c.in_ok-push_statements-in-While.ensures.written e ∙ ap (λ s. c.args.out.now.items ++ printed (statement_lines names s)) (sym seen))
+    (λ e. one-printed names body (spaced_words (codes "while" ∷ expression_text test ∷ [])) _ _ _ _ c.in_ok-push_test-in-While.ensures.written c.in_ok-push_statements-in-While.ensures.written e ∙ ap (λ s. c.args.out.now.items ++ printed_lines (statement_lines names s)) (sym seen))
     c.push_last-in-While.ensures
 
 pub push_statement-returns-in_ok-push_statements-in-While-clause-ranged : goal.push_statement-returns-in_ok-push_statements-in-While-clause-ranged
@@ -41,7 +41,7 @@ push_statement-returns-after-otherwise-clause-written t c =
     let names = c.args.names.now in
     let test = expression c.in-If.test in
     let first = block c.in-If.then in
-    let text = spaced (codes "if" ∷ expression_text test ∷ []) in
+    let text = spaced_words (codes "if" ∷ expression_text test ∷ []) in
     on_ok_weaker c.push_last-in-If.result
     (λ e. elim c.match-otherwise.branch [
       | push_statement-in-Some+in_ok-push_last-in-If+in_ok-push_statements-in-If-2 w ↦
@@ -49,12 +49,12 @@ push_statement-returns-after-otherwise-clause-written t c =
           let seen : statement c.args.stmt.now ≡ trees.IfElse c.in-If.line test first other =
           ap statement (c.in-If.is ∙ ap (stmts.If c.in-If.line c.in-If.test c.in-If.then) w.in-Some.is) ∙ statement-IfElse c.in-If.line c.in-If.test c.in-If.then w.in-Some.otherwise in
           two-printed names first other text _ _ _ _ _ _ c.in_ok-push_test-in-If.ensures.written c.in_ok-push_statements-in-If.ensures.written w.in_ok-push_last-in-If.ensures w.in_ok-push_statements-in-If-2.ensures.written (rw w.out-is at e)
-          ∙ ap (λ s. c.args.out.now.items ++ printed (statement_lines names s)) (sym seen)
+          ∙ ap (λ s. c.args.out.now.items ++ printed_lines (statement_lines names s)) (sym seen)
       | push_statement-in_default-otherwise w ↦
           let seen : statement c.args.stmt.now ≡ trees.If c.in-If.line test first =
           ap statement (c.in-If.is ∙ ap (stmts.If c.in-If.line c.in-If.test c.in-If.then) w.in_default-otherwise.is) ∙ statement-If c.in-If.line c.in-If.test c.in-If.then in
           one-printed names first text _ _ _ _ c.in_ok-push_test-in-If.ensures.written c.in_ok-push_statements-in-If.ensures.written (rw w.out-is at e)
-          ∙ ap (λ s. c.args.out.now.items ++ printed (statement_lines names s)) (sym seen)
+          ∙ ap (λ s. c.args.out.now.items ++ printed_lines (statement_lines names s)) (sym seen)
     ])
     c.push_last-in-If.ensures
 

@@ -1,7 +1,7 @@
 use Rattle.std.proofs.Common.{map, ap, sym, subst, ◌∙◌}
 use Rattle.pct_ask.specs.declared.Deal.{Deal}
 use Rattle.sync_store.specs.Store.{sizes_of_deal}
-use Rattle.turn_book.specs.Told.{Told}
+use Rattle.turn_book.specs.Told.{BookState}
 use Rattle.worker_run.specs.Bodies.{AreInRange}
 use Rattle.worker_run.specs.Samples.{sample_pending}
 use Rattle.test_runs.specs.declared.samples.Sample.{Sample}
@@ -18,4 +18,4 @@ run_on-requires-clause-in_range g c = λ κs.
     let fit = samples-fit deal c.in_ok-deal.ensures.vars c.in_ok-deal.ensures.threads
     (λ (s : Sample). s.thread) (λ (s : Sample). s.steps) (λ (s : Sample). s.seen)
     c.in_ok-bodies.bodies.items in
-    subst D (sym (ap (λ (b : Told). b.deal) making)) fit
+    subst D (sym (ap (λ (b : BookState). b.deal) making)) fit

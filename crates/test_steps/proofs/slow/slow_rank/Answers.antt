@@ -2,14 +2,14 @@ use Rattle.std.proofs.Common.{◌≡◌, ℕ, ◌≤◌, ◌+◌, ◌-◌, ◌&&
 use Rattle.std.proofs.Common.{length, get_or, arith, ne_eqb}
 use Rattle.std.proofs.lemmas.List.Sums.{prefix_len-le-length}
 use Rattle.rank_now.specs.Positions.{passes_at}
-use Rattle.rank_now.specs.Rank.{rank_by, place_of, last_change}
+use Rattle.rank_now.specs.Rank.{rank_by, place_in_order, last_change}
 use Rattle.rank_now.proofs.laws.Positions.{greatest-le}
 use Rattle.test_steps.proofs.slow.slow_rank.Goals as goal
 
 pub overflow_sub-result : goal.overflow_sub-result
 overflow_sub-result c =
     let order = c.args.order.now in
-    let place : place_of order c.args.thread ≤ length order =
+    let place : place_in_order order c.args.thread ≤ length order =
     prefix_len-le-length (λ other. not (eqb other c.args.thread)) order in
     omega (arith, c.slow_place-place.ensures)
 
@@ -35,7 +35,7 @@ returns-then-last-eq0 c =
     let none : eqb step 0 ≡ eqb 0 0 = ap (λ x. eqb x 0) (sym last ∙ c.if-last-eq0.true) in
     let top = c.args.count + length order in
     ap (λ x. top - x) c.slow_place-place.ensures
-    ∙ sym (ap (λ b. cond b (top - place_of order thread) (given step)) none)
+    ∙ sym (ap (λ b. cond b (top - place_in_order order thread) (given step)) none)
 
 pub returns-else-last-eq0 : goal.returns-else-last-eq0
 unfolding rank_by
@@ -47,4 +47,4 @@ returns-else-last-eq0 c =
     let some = ne_eqb step 0 (λ e. c.if-last-eq0.false (c.slow_change-last.ensures ∙ e)) in
     let top = c.args.count + length order in
     ap given c.slow_change-last.ensures
-    ∙ sym (ap (λ b. cond b (top - place_of order thread) (given step)) some)
+    ∙ sym (ap (λ b. cond b (top - place_in_order order thread) (given step)) some)

@@ -7,16 +7,16 @@ use Rattle.pct_ask.specs.declared.event.Event.{Event}
 use Rattle.pct_ask.specs.declared.verdict_text.VerdictRead.TheVariants.{Is}
 use Rattle.pct_ask.proofs.laws.VerdictsRead.{read-written}
 use Rattle.trace_text.specs.Lawful.{IsStep}
-use Rattle.trace_text.specs.Trace.{IsRun}
+use Rattle.trace_text.specs.Trace.{IsWritableFile}
 use Rattle.trace_text.specs.declared.file.TraceFile.{TraceFile}
 use Rattle.trace_text.proofs.laws.Objects.{has_objects}
 use Rattle.test_words.proofs.traces.rewritten.Goals as goal
 
-few-steps : (names : NameLists) (file : TraceFile) (events : List Event) → IsRun names file
+few-steps : (names : NameLists) (file : TraceFile) (events : List Event) → IsWritableFile names file
     → events ≡ file.events → length events ≤ file.header.limit
 few-steps names file events run is = rw is run.few
 
-all-steps : (names : NameLists) (file : TraceFile) (events : List Event) → IsRun names file
+all-steps : (names : NameLists) (file : TraceFile) (events : List Event) → IsWritableFile names file
     → events ≡ file.events → All (IsStep names file.header.version) events
 all-steps names file events run is = rw is run.steps
 

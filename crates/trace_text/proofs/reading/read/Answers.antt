@@ -1,18 +1,18 @@
 -- The limit that the head tells is a number of steps.
 use Rattle.std.proofs.Common.{◌≡◌, ℕ, ◌≤◌, List, [], ◌∷◌, Option, Some, None, Ok, refl, ap, arith}
 use Rattle.trace_text.specs.Lines.{pieces_of}
-use Rattle.trace_text.specs.reader.Heads.{limit_in}
+use Rattle.trace_text.specs.reader.Heads.{limit_on_line}
 use Rattle.trace_text.specs.reader.Reading.{head_value, head_line}
 use Rattle.trace_text.proofs.Heads.{limit-told}
 use Rattle.trace_text.proofs.reading.read.Goals as goal
 
 limit-few : (pieces rest : List (List ℕ)) (limit : ℕ)
-    → head_line 4 limit_in pieces ≡ Ok (limit, rest) → limit ≤ 100000
+    → head_line 4 limit_on_line pieces ≡ Ok (limit, rest) → limit ≤ 100000
 limit-few [] rest limit h = absurd cc
 limit-few (piece ∷ []) rest limit h = absurd cc
-limit-few (piece ∷ next ∷ pieces) rest limit h = by (limit_in piece) refl h
+limit-few (piece ∷ next ∷ pieces) rest limit h = by (limit_on_line piece) refl h
   where
-    by : (read : Option ℕ) → limit_in piece ≡ read
+    by : (read : Option ℕ) → limit_on_line piece ≡ read
         → head_value 4 read (next ∷ pieces) ≡ Ok (limit, rest) → limit ≤ 100000
     by None is h = absurd cc
     by (Some n) is h =

@@ -4,7 +4,7 @@ use Rattle.std.proofs.lemmas.List.{get_or-set_other, get_or-set_same, length-set
 use Rattle.policy_pick.specs.declared.chance.Chance.TheVariants.{Ended}
 use Rattle.policy_pick.specs.Choice.{chance_of}
 use Rattle.turn_book.specs.Chances.{chance}
-use Rattle.turn_book.specs.Board.{listed}
+use Rattle.turn_book.specs.Board.{next_posts_of}
 use Rattle.turn_book.proofs.Boards.{chance-is, chances-are}
 use Rattle.turn_book.proofs.known.look_again.Goals as goal
 use Rattle.turn_book.proofs.known.look_again.Goals.{then-concerns, else-concerns}
@@ -27,7 +27,7 @@ loop-other-preserved c =
           record {
             long = ap length w.known-is ∙ length-set was i w.chance_of.result ∙ before.long;
             done = λ u low. at u ∙ elim (cases_eq u i) [
-              | inl same ↦ ap (chance_of (set was i w.chance_of.result)) same ∙ get_or-set_same was i w.chance_of.result Ended there ∙ one ∙ ap (chance store (listed posts)) (sym same)
+              | inl same ↦ ap (chance_of (set was i w.chance_of.result)) same ∙ get_or-set_same was i w.chance_of.result Ended there ∙ one ∙ ap (chance store (next_posts_of posts)) (sym same)
               | inr apart ↦ get_or-set_other was i u w.chance_of.result Ended apart ∙ before.done u (omega arith)
             ];
             rest = λ u low. at u ∙ get_or-set_other was i u w.chance_of.result Ended (λ same. omega arith) ∙ before.rest u (omega arith);
@@ -37,7 +37,7 @@ loop-other-preserved c =
           record {
             long = ap length w.known-is ∙ before.long;
             done = λ u low. at u ∙ elim (cases_eq u i) [
-              | inl same ↦ ap (chance_of was) same ∙ before.rest i (omega arith) ∙ c.requires.others i (omega (arith, c.requires.threads, c.loop-other-test.true)) (sym c.concerns.ensures ∙ w.if-concerns.false) ∙ ap (chance store (listed posts)) (sym same)
+              | inl same ↦ ap (chance_of was) same ∙ before.rest i (omega arith) ∙ c.requires.others i (omega (arith, c.requires.threads, c.loop-other-test.true)) (sym c.concerns.ensures ∙ w.if-concerns.false) ∙ ap (chance store (next_posts_of posts)) (sym same)
               | inr apart ↦ before.done u (omega arith)
             ];
             rest = λ u low. at u ∙ before.rest u (omega arith);
@@ -45,4 +45,4 @@ loop-other-preserved c =
     ]
 
 pub returns : goal.returns
-returns c = chances-are c.args.store.now.threads c.args.store.now (listed c.args.posts.now) c.loop-other.known (omega (arith, c.loop-other.invariant.long, c.requires.as_many)) (λ t within. c.loop-other.invariant.done t (omega (arith, c.requires.threads, c.loop-other-test.false)))
+returns c = chances-are c.args.store.now.threads c.args.store.now (next_posts_of c.args.posts.now) c.loop-other.known (omega (arith, c.loop-other.invariant.long, c.requires.as_many)) (λ t within. c.loop-other.invariant.done t (omega (arith, c.requires.threads, c.loop-other-test.false)))

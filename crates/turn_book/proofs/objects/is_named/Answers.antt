@@ -2,11 +2,11 @@ use Rattle.std.proofs.Common.{◌≡◌, ℕ, false, refl, sym, ap, ◌∙◌}
 use Rattle.pct_ask.specs.declared.ask.Ask.{Ask}
 use Rattle.pct_ask.specs.declared.ask.Ask.TheVariants.{Read, Write, Add, Cas, Lock, TryLock, Unlock, Release, Regain, Signal, Broadcast, Down, TryDown, Up, Arrive, Leave, Join, Yield, Check, Fault, Start, Begin, RdLock, WrLock, TryRdLock, TryWrLock, RwUnlock}
 use Rattle.sync_store.specs.declared.touched.Touched.TheVariants.{Nothing}
-use Rattle.sync_store.specs.Touched.{names}
+use Rattle.sync_store.specs.Touched.{names_object}
 use Rattle.turn_book.proofs.objects.is_named.Goals as goal
 
 -- no ask names nothing
-names-nothing : (u : ℕ) (ask : Ask) → names u ask Nothing ≡ false
+names-nothing : (u : ℕ) (ask : Ask) → names_object u ask Nothing ≡ false
 names-nothing u (Read x) = refl
 names-nothing u (Write x value) = refl
 names-nothing u (Add x value) = refl
@@ -36,4 +36,4 @@ names-nothing u (TryWrLock l) = refl
 names-nothing u (RwUnlock l) = refl
 
 pub returns-in-Nothing : goal.returns-in-Nothing
-returns-in-Nothing c = sym (ap (names c.args.thread c.args.ask.now) c.in-Nothing.is ∙ names-nothing c.args.thread c.args.ask.now)
+returns-in-Nothing c = sym (ap (names_object c.args.thread c.args.ask.now) c.in-Nothing.is ∙ names-nothing c.args.thread c.args.ask.now)

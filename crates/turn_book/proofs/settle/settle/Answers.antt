@@ -1,6 +1,6 @@
 use Rattle.std.proofs.Common.{ℕ, length, sym, ap, subst, ◌∙◌}
 use Rattle.policy_pick.specs.Plan.{SpeaksOf}
-use Rattle.turn_book.specs.Board.{listed}
+use Rattle.turn_book.specs.Board.{next_posts_of}
 use Rattle.turn_book.proofs.Boards.{length-chances}
 use Rattle.turn_book.proofs.settle.settle.Goals as goal
 
@@ -8,4 +8,4 @@ pub pick-next-requires-clause-threads : goal.pick-next-requires-clause-threads
 pick-next-requires-clause-threads g c =
     let board = c.args.board.now in
     let Speaks : ℕ → Type 0 = SpeaksOf (g.P.Policy.plan c.args.policy.now) in
-    subst Speaks (sym (ap length c.chances.ensures.chances ∙ length-chances (board.store).threads board.store (listed board.posts))) c.requires
+    subst Speaks (sym (ap length c.chances.ensures.chances ∙ length-chances (board.store).threads board.store (next_posts_of board.posts))) c.requires

@@ -1,7 +1,7 @@
 use Rattle.std.proofs.Common.{map}
 use Rattle.policy_pick.specs.Plan.{ByEvents}
 use Rattle.policy_pick.specs.Kept.{events_plan}
-use Rattle.worker_run.specs.Run.{directed}
+use Rattle.worker_run.specs.Run.{directed_run}
 use Rattle.worker_run.proofs.Wholes.{told-run, told-played}
 use Rattle.worker_run.proofs.by_order.run_by_events.Goals as goal
 
@@ -11,7 +11,7 @@ into_whole-requires g c = let is = c.in_ok-played.ensures.directed c.args.order.
 pub returns-clause-directed : goal.returns-clause-directed
 returns-clause-directed g c =
     let start = map g.B.Body.pending c.args.bodies.items in
-    told-run (directed c.args.deal start c.args.order.now c.args.events.now c.args.limit) c.in_ok-played.played.events c.into_whole.result.events c.in_ok-played.played.outcome c.into_whole.result.verdict
+    told-run (directed_run c.args.deal start c.args.order.now c.args.events.now c.args.limit) c.in_ok-played.played.events c.into_whole.result.events c.in_ok-played.played.outcome c.into_whole.result.verdict
     (c.in_ok-played.ensures.directed c.args.order.now c.args.events.now c.in_ok-policy.ensures.plan) c.into_whole.ensures.events c.into_whole.ensures.verdict
 
 pub returns-clause-played : goal.returns-clause-played

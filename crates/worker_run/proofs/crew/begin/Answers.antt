@@ -1,5 +1,5 @@
 use Rattle.std.proofs.Common.{◌<◌, ◌+◌, Option, List, length, sym, subst, ◌∙◌, arith}
-use Rattle.turn_lock.specs.Views.{view, IsOf}
+use Rattle.turn_lock.specs.Views.{view, HasSeat}
 use Rattle.turn_lock.specs.declared.seat.Seat.{Seat}
 use Rattle.worker_run.specs.declared.runner.Runner.{Runner}
 use Rattle.worker_run.proofs.Crews.{IsBegun, begun-first, begun-none, begun-more, begun-crew, begun-all, on-along, serves-on, runner-read, none-read, set-read}
@@ -45,7 +45,7 @@ loop-place-preserved g c =
     let runners = c.loop-place.runners in
     let begun = c.loop-place.invariant.begun in
     let within : place < length runners = omega (arith, c.loop-place-test.true, c.loop-place.auto.runners) in
-    let O : Seat g.row.P.Denot g.P.Policy → Type 0 = λ s. IsOf c.args.lock.now s in
+    let O : Seat g.row.P.Denot g.P.Policy → Type 0 = λ s. HasSeat c.args.lock.now s in
     let B : List (Option (Runner g.row.B.Denot)) × Seat g.row.P.Denot g.P.Policy → Type 0 = λ x. IsBegun g.B.Body.pending c.args.runners.now (view c.args.seat.now) (place + 1) x.0 (view x.1) in
     elim c.match-runners-place.branch [
       | in-Some+else-speak w ↦

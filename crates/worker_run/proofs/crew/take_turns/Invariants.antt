@@ -1,12 +1,12 @@
 use Rattle.std.proofs.Common.{◌≡◌, ℕ, length}
-use Rattle.turn_lock.specs.Views.{view, IsOf}
+use Rattle.turn_lock.specs.Views.{view, HasSeat}
 use Rattle.worker_run.specs.Bodies.{Pending}
 use Rattle.worker_run.specs.Served.{IsCrew, GoesOn, NoneOwes}
 use Rattle.worker_run.proofs.crew.take_turns.Given as goal
 
 abbrev pub invariant-loop : goal.invariant-loop
 invariant-loop g l = record {
-  of : IsOf l.lock l.seat;
+  of : HasSeat l.lock l.seat;
   crew : (start : ℕ → Pending) → IsCrew g.B.Body.pending start 0 l.fn.runners (view l.fn.seat) → IsCrew g.B.Body.pending start 0 l.runners (view l.seat);
   on : GoesOn (view l.fn.seat) (view l.seat);
   long : length l.runners ≡ length l.fn.runners;

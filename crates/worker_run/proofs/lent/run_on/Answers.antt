@@ -1,7 +1,7 @@
 use Rattle.std.proofs.Common.{◌<◌, ℕ, List, map, sym, ap, subst, ◌∙◌, arith}
-use Rattle.turn_book.specs.Told.{Told}
-use Rattle.turn_lock.specs.Seen.{posted_by}
-use Rattle.turn_lock.specs.Calls.{made}
+use Rattle.turn_book.specs.Told.{BookState}
+use Rattle.turn_lock.specs.Seen.{posts_seen}
+use Rattle.turn_lock.specs.Calls.{first_book}
 use Rattle.turn_lock.specs.Views.{view}
 use Rattle.worker_run.specs.Bodies.{Pending}
 use Rattle.worker_run.specs.Batch.{IsCrewOf, NoneOutside, IsThreadTold}
@@ -16,7 +16,7 @@ pub play_stages-played-requires-clause-crews : goal.play_stages-played-requires-
 play_stages-played-requires-clause-crews g c = λ κs lives.
     let f = g.B.Body.pending in
     let bodies = c.args.bodies.items in
-    let few = (made c.args.lock.now).deal.few_threads in
+    let few = (first_book c.args.lock.now).deal.few_threads in
     let count = c.requires.bodies in
     let whole = c.split_all-all.ensures.right in
     each-alone (IsCrewOf f) _ _ _ _ _ _ c.in_ok-stages.ensures.items c.push_reserved.ensures.items
@@ -46,7 +46,7 @@ pub returns-clause-all : goal.returns-clause-all
 returns-clause-all g c =
     let f = g.B.Body.pending in
     let bodies = c.args.bodies.items in
-    let few = (made c.args.lock.now).deal.few_threads in
+    let few = (first_book c.args.lock.now).deal.few_threads in
     let count = c.requires.bodies in
     let whole = c.split_all-all.ensures.right in
     let left = view c.split_all-all.new.seat in
@@ -60,7 +60,7 @@ returns-clause-all g c =
     (p.seats.long ∙ stages) c.in-Some.ensures.items in
     let on = first-bodies f (record { lock = c.args.lock; runners = c.of-first.result }) bodies
     (ap (λ v. v.items) c.of-first.ensures ∙ c.in_ok-runners.ensures) in
-    let T : List Pending → Type 0 = λ bs. (t : ℕ) → t < (made c.args.lock.now).deal.threads
+    let T : List Pending → Type 0 = λ bs. (t : ℕ) → t < (first_book c.args.lock.now).deal.threads
     → IsThreadTold bs t mine in
     let told : T (map f bodies) = subst T on
     (λ t below. p.told 0 t
@@ -70,7 +70,7 @@ returns-clause-all g c =
       serves = whole.serves t (omega (arith, c.len-threads.ensures, c.args.bodies.ok.0));
     }) _
     c.in-Some.crew at_stage at) in
-    let none : NoneOutside left.seen = λ t beyond. ap (λ (b : Told). posted_by b t)
+    let none : NoneOutside left.seen = λ t beyond. ap (λ (b : BookState). posts_seen b t)
     c.split_all-all.ensures.left ∙ c.requires.unposted.posts t in
     let j : IsJoin left mine w =
     record {
@@ -80,14 +80,14 @@ returns-clause-all g c =
       theirs = c.join.ensures.theirs;
       obeys = c.join.ensures.obeys;
     } in
-    joined-all (made c.args.lock.now) (map f bodies) left mine w c.join.ensures.of.1 none
+    joined-all (first_book c.args.lock.now) (map f bodies) left mine w c.join.ensures.of.1 none
     (p.seats.each 0 _ c.in-Some.crew at_stage at).outside j told
 
 pub returns-clause-played : goal.returns-clause-played
 returns-clause-played g c =
     let f = g.B.Body.pending in
     let bodies = c.args.bodies.items in
-    let few = (made c.args.lock.now).deal.few_threads in
+    let few = (first_book c.args.lock.now).deal.few_threads in
     let count = c.requires.bodies in
     let whole = c.split_all-all.ensures.right in
     let left = view c.split_all-all.new.seat in
@@ -101,7 +101,7 @@ returns-clause-played g c =
     (p.seats.long ∙ stages) c.in-Some.ensures.items in
     let on = first-bodies f (record { lock = c.args.lock; runners = c.of-first.result }) bodies
     (ap (λ v. v.items) c.of-first.ensures ∙ c.in_ok-runners.ensures) in
-    let T : List Pending → Type 0 = λ bs. (t : ℕ) → t < (made c.args.lock.now).deal.threads
+    let T : List Pending → Type 0 = λ bs. (t : ℕ) → t < (first_book c.args.lock.now).deal.threads
     → IsThreadTold bs t mine in
     let told : T (map f bodies) = subst T on
     (λ t below. p.told 0 t
@@ -111,7 +111,7 @@ returns-clause-played g c =
       serves = whole.serves t (omega (arith, c.len-threads.ensures, c.args.bodies.ok.0));
     }) _
     c.in-Some.crew at_stage at) in
-    let none : NoneOutside left.seen = λ t beyond. ap (λ (b : Told). posted_by b t)
+    let none : NoneOutside left.seen = λ t beyond. ap (λ (b : BookState). posts_seen b t)
     c.split_all-all.ensures.left ∙ c.requires.unposted.posts t in
     let j : IsJoin left mine w =
     record {
@@ -121,5 +121,5 @@ returns-clause-played g c =
       theirs = c.join.ensures.theirs;
       obeys = c.join.ensures.obeys;
     } in
-    joined-played (made c.args.lock.now) (map f bodies) left mine w c.join.ensures.of.1 none
+    joined-played (first_book c.args.lock.now) (map f bodies) left mine w c.join.ensures.of.1 none
     (p.seats.each 0 _ c.in-Some.crew at_stage at).outside j told

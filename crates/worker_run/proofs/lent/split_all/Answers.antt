@@ -1,7 +1,7 @@
 use Rattle.std.proofs.Common.{◌+◌, ap, sym, subst, ◌∙◌, arith}
-use Rattle.turn_book.specs.Told.{Told}
+use Rattle.turn_book.specs.Told.{BookState}
 use Rattle.turn_lock.specs.Rule.{Serves}
-use Rattle.turn_lock.specs.Seats.{alone}
+use Rattle.turn_lock.specs.Seats.{seat_of_one}
 use Rattle.turn_lock.specs.Views.{view}
 use Rattle.turn_lock.specs.declared.view.View.{View}
 use Rattle.worker_run.specs.Served.{IsUnposted, IsWhole}
@@ -31,10 +31,10 @@ loop-thread-preserved g c =
     let s = c.split-one.ensures in
     let below = c.loop-thread-test.true in
     let J : View → Type 0 = λ x. IsJoin all x w in
-    let j : IsJoin all (alone u k) w = subst J s.right (record { is = c.join.ensures.view; seen = c.join.ensures.seen; own = c.join.ensures.own; theirs = c.join.ensures.theirs; obeys = c.join.ensures.obeys }) in
-    let U : Told → Type 0 = λ x. IsUnposted x in
-    let W : Told → Type 0 = λ x. IsWhole k x all in
-    let R : Told → Type 0 = λ x. IsWhole (k + 1) x w in
+    let j : IsJoin all (seat_of_one u k) w = subst J s.right (record { is = c.join.ensures.view; seen = c.join.ensures.seen; own = c.join.ensures.own; theirs = c.join.ensures.theirs; obeys = c.join.ensures.obeys }) in
+    let U : BookState → Type 0 = λ x. IsUnposted x in
+    let W : BookState → Type 0 = λ x. IsWhole k x all in
+    let R : BookState → Type 0 = λ x. IsWhole (k + 1) x w in
     record {
       of = (s.of.0, c.join.ensures.of);
       left = ap (λ (x : View). x.seen) s.left ∙ i.left;

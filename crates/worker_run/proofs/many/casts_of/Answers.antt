@@ -2,7 +2,7 @@ use Rattle.std.proofs.Common.{◌≡◌, ◌++◌, ◌∷◌, [], List, length, 
 use Rattle.std.proofs.Common.{append_assoc, append-nil, arith}
 use Rattle.std.specs.Prelude.{slice_get}
 use Rattle.std.specs.Vec.Iter.{into_iter_items}
-use Rattle.turn_lock.specs.Views.{IsOf}
+use Rattle.turn_lock.specs.Views.{HasSeat}
 use Rattle.turn_lock.specs.declared.held.TurnLock.{TurnLock}
 use Rattle.worker_run.specs.Batch.{Each}
 use Rattle.worker_run.specs.Tests.{IsLockOf, IsFirstCrew}
@@ -23,7 +23,7 @@ loop-test-init g c = record {
   );
   locks = no-items (IsLockOf g.P.Policy.plan) [] _ refl c.in_ok-locks.ensures.items;
   crews = no-items (IsFirstCrew g.P.Policy.plan) [] _ refl c.in_ok-crews.ensures.items;
-  of = no-items (λ lock crew. IsOf lock crew.seat) _ _ c.in_ok-locks.ensures.items
+  of = no-items (λ lock crew. HasSeat lock crew.seat) _ _ c.in_ok-locks.ensures.items
       c.in_ok-crews.ensures.items;
 }
 
@@ -51,7 +51,7 @@ loop-test-preserved g c =
     let C : List (Crew g.row.P.Denot g.row.B.Denot g.P.Policy) → Type 0 =
     λ l. Each (IsFirstCrew plan) (at.yielded ++ x ∷ []) l in
     let O : List (TurnLock g.row.P.Denot) × List (Crew g.row.P.Denot g.row.B.Denot g.P.Policy)
-    → Type 0 = λ p. Each (λ lock crew. IsOf lock crew.seat) p.0 p.1 in
+    → Type 0 = λ p. Each (λ lock crew. HasSeat lock crew.seat) p.0 p.1 in
     let locks = sym c.in_ok-push.ensures.items in
     let crews = sym c.in_ok-push-2.ensures.items in
     record {
@@ -66,7 +66,7 @@ loop-test-preserved g c =
           (each-more (IsFirstCrew plan) at.yielded at.crews.items x c.in_ok-lock.crew
           at.invariant.crews c.in_ok-lock.ensures.crew);
       of = subst O (λ i. (locks i, crews i))
-          (each-more (λ lock crew. IsOf lock crew.seat) at.locks.items at.crews.items
+          (each-more (λ lock crew. HasSeat lock crew.seat) at.locks.items at.crews.items
           c.in_ok-lock.lock c.in_ok-lock.crew at.invariant.of c.in_ok-lock.ensures.of);
     }
 

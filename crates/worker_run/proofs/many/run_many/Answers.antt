@@ -1,6 +1,6 @@
 use Rattle.std.proofs.Common.{List, Vec, Global, sym, ap, subst, ◌∙◌}
 use Rattle.std.specs.Prelude.{slice_get}
-use Rattle.turn_lock.specs.Views.{IsOf}
+use Rattle.turn_lock.specs.Views.{HasSeat}
 use Rattle.turn_lock.specs.declared.held.TurnLock.{TurnLock}
 use Rattle.worker_run.specs.Batch.{Each, IsSeatOf}
 use Rattle.worker_run.specs.declared.batch.Test.{Test}
@@ -15,7 +15,7 @@ play_tests-requires-clause-tests g c = λ κs lives i test at.
 pub play_tests-requires-clause-of : goal.play_tests-requires-clause-of
 play_tests-requires-clause-of g c = λ κs lives.
     let O : List (TurnLock g.row.P.Denot) → Type 0 =
-    λ l. Each (λ lock crew. IsOf lock crew.seat) l c.in_ok-locks.crews.items in
+    λ l. Each (λ lock crew. HasSeat lock crew.seat) l c.in_ok-locks.crews.items in
     subst O (sym c.as_slice.ensures.value) c.in_ok-locks.ensures.of
 
 pub runs_of-requires-clause-tests : goal.runs_of-requires-clause-tests

@@ -1,5 +1,5 @@
 use Rattle.std.proofs.Common.{List, Option, length, sym, ap, subst, arith}
-use Rattle.turn_lock.specs.Calls.{made}
+use Rattle.turn_lock.specs.Calls.{first_book}
 use Rattle.turn_lock.specs.Views.{view}
 use Rattle.worker_run.specs.Bodies.{pending_of}
 use Rattle.worker_run.specs.Served.{IsCrew}
@@ -17,7 +17,7 @@ serve_all-requires-clause-crew g c = λ κs lives.
 
 pub serve_all-requires-clause-few : goal.serve_all-requires-clause-few
 serve_all-requires-clause-few g c = λ κs lives.
-    let few = (made c.args.stage.now.lock.now).deal.few_threads in
+    let few = (first_book c.args.stage.now.lock.now).deal.few_threads in
     omega (arith, ap length c.as_mut_slice.ensures.value, c.requires.crew.long)
 
 pub returns-clause-seat : goal.returns-clause-seat

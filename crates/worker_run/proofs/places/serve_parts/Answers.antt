@@ -1,6 +1,6 @@
 use Rattle.std.proofs.Common.{◌<◌, length, get_or, refl, arith}
 use Rattle.std.proofs.lemmas.Option.{slice_get-get_or, slice_get_read}
-use Rattle.worker_run.specs.Batch.{IsPart, IsServedPart, IsBack}
+use Rattle.worker_run.specs.Batch.{IsPart, IsServedPart, IsPartBack}
 use Rattle.worker_run.proofs.Eachs.{each-set, get-within}
 use Rattle.worker_run.proofs.Backs.{back-same, back-along}
 use Rattle.worker_run.proofs.Loops.{below-set, below-all, served-is}
@@ -48,7 +48,8 @@ loop-place-preserved g c =
     record {
       parts = each-set (λ s p. IsPart f s c.args.thread p) stages parts i.parts k stage new within here (served-is f stage c.args.thread new s.served);
       done = below-set (λ s p. IsServedPart f s c.args.thread p) stages parts k stage new within here s.served i.done;
-      back = each-set (λ one other. IsBack f c.args.thread one other) first parts i.back k old.0 new
+      back = each-set
+          (λ one other. IsPartBack f c.args.thread one other) first parts i.back k old.0 new
           within old.1
           (back-along f c.args.thread old.0 part new (i.back.each k old.0 part old.1 there) s.back);
     }

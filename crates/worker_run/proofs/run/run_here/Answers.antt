@@ -1,7 +1,7 @@
 use Rattle.std.proofs.Common.{map, ap, subst, ◌∙◌, arith}
 use Rattle.pct_ask.specs.declared.Deal.{Deal}
 use Rattle.policy_pick.specs.Plan.{Plan, SpeaksOf}
-use Rattle.turn_lock.specs.Calls.{made}
+use Rattle.turn_lock.specs.Calls.{first_book}
 use Rattle.turn_lock.specs.Views.{view}
 use Rattle.worker_run.specs.Bodies.{pending_of}
 use Rattle.worker_run.specs.Played.{IsPlayed}
@@ -13,7 +13,7 @@ pub serve_all-requires-clause-crew : goal.serve_all-requires-clause-crew
 serve_all-requires-clause-crew g c = λ κs lives.
     let start = map g.B.Body.pending c.args.bodies.items in
     let plan = g.P.Policy.plan c.args.policy in
-    let lock = made c.in_ok-lock.lock in
+    let lock = first_book c.in_ok-lock.lock in
     let v = view c.in_ok-lock.seat in
     let crew = here-crew g.B.Body.pending c.args.bodies.items c.args.deal c.args.limit plan lock v c.in_ok-lock.ensures.made c.in_ok-lock.ensures.view c.requires.bodies c.as_mut_slice.result.now (c.as_mut_slice.ensures.value ∙ c.in_ok-runners.ensures) in
     (pending_of start, here-range g.B.Body.pending c.args.bodies.items c.args.deal c.args.limit plan lock v c.in_ok-lock.ensures.made c.in_ok-lock.ensures.view c.requires.bodies c.requires.in_range, crew)
@@ -22,7 +22,7 @@ pub serve_all-requires-clause-owe : goal.serve_all-requires-clause-owe
 serve_all-requires-clause-owe g c = λ κs lives.
     let start = map g.B.Body.pending c.args.bodies.items in
     let plan = g.P.Policy.plan c.args.policy in
-    let lock = made c.in_ok-lock.lock in
+    let lock = first_book c.in_ok-lock.lock in
     let v = view c.in_ok-lock.seat in
     first-owe v (here-unposted g.B.Body.pending c.args.bodies.items c.args.deal c.args.limit plan lock v c.in_ok-lock.ensures.made c.in_ok-lock.ensures.view c.requires.bodies)
 
@@ -30,7 +30,7 @@ pub finish-requires-clause-all : goal.finish-requires-clause-all
 finish-requires-clause-all g c = λ κs lives t within.
     let start = map g.B.Body.pending c.args.bodies.items in
     let plan = g.P.Policy.plan c.args.policy in
-    let lock = made c.in_ok-lock.lock in
+    let lock = first_book c.in_ok-lock.lock in
     let v = view c.in_ok-lock.seat in
     let crew = here-crew g.B.Body.pending c.args.bodies.items c.args.deal c.args.limit plan lock v c.in_ok-lock.ensures.made c.in_ok-lock.ensures.view c.requires.bodies c.as_mut_slice.result.now (c.as_mut_slice.ensures.value ∙ c.in_ok-runners.ensures) in
     let w = view c.serve_all.new.seat in
@@ -45,7 +45,7 @@ pub finish-requires-clause-played : goal.finish-requires-clause-played
 finish-requires-clause-played g c = λ κs lives.
     let start = map g.B.Body.pending c.args.bodies.items in
     let plan = g.P.Policy.plan c.args.policy in
-    let lock = made c.in_ok-lock.lock in
+    let lock = first_book c.in_ok-lock.lock in
     let v = view c.in_ok-lock.seat in
     let crew = here-crew g.B.Body.pending c.args.bodies.items c.args.deal c.args.limit plan lock v c.in_ok-lock.ensures.made c.in_ok-lock.ensures.view c.requires.bodies c.as_mut_slice.result.now (c.as_mut_slice.ensures.value ∙ c.in_ok-runners.ensures) in
     let w = view c.serve_all.new.seat in
@@ -59,7 +59,7 @@ pub returns-clause-played : goal.returns-clause-played
 returns-clause-played g c =
     let start = map g.B.Body.pending c.args.bodies.items in
     let plan = g.P.Policy.plan c.args.policy in
-    let lock = made c.in_ok-lock.lock in
+    let lock = first_book c.in_ok-lock.lock in
     let v = view c.in_ok-lock.seat in
     let crew = here-crew g.B.Body.pending c.args.bodies.items c.args.deal c.args.limit plan lock v c.in_ok-lock.ensures.made c.in_ok-lock.ensures.view c.requires.bodies c.as_mut_slice.result.now (c.as_mut_slice.ensures.value ∙ c.in_ok-runners.ensures) in
     let w = view c.serve_all.new.seat in

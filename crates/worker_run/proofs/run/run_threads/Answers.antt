@@ -1,6 +1,6 @@
 use Rattle.std.proofs.Common.{map, subst}
 use Rattle.policy_pick.specs.Plan.{Plan, SpeaksOf}
-use Rattle.turn_lock.specs.Calls.{made}
+use Rattle.turn_lock.specs.Calls.{first_book}
 use Rattle.turn_lock.specs.Views.{view}
 use Rattle.worker_run.specs.Played.{IsPlayed}
 use Rattle.worker_run.proofs.Follows.{points-run, events-run}
@@ -11,7 +11,7 @@ pub returns-clause-played : goal.returns-clause-played
 returns-clause-played g c =
     let start = map g.B.Body.pending c.args.bodies.items in
     let plan = g.P.Policy.plan c.args.policy in
-    let lock = made c.in_ok-lock.lock in
+    let lock = first_book c.in_ok-lock.lock in
     let v = view c.in_ok-lock.seat in
     here-played g.B.Body.pending c.args.bodies.items c.args.deal c.args.limit plan lock v c.in_ok-lock.ensures.made c.in_ok-lock.ensures.view c.requires.bodies start c.finish.result.events c.finish.result.outcome (c.finish.ensures start c.in_ok-run_on.ensures.played)
 

@@ -2,30 +2,33 @@ use Rattle.std.proofs.Common.{◌≡◌, ℕ, List, Bool, ap, sym, ◌∙◌, ar
 use Rattle.std.specs.List.{flat_map}
 use Rattle.pct_ask.specs.TraceText.{line_text}
 use Rattle.pct_ask.specs.declared.event.Row.{Row}
-use Rattle.script_tree.specs.ScriptSeen.{text}
+use Rattle.script_tree.specs.ScriptSeen.{plain_script}
 use Rattle.campaign.proofs.laws.OneCampaign.{length-rows}
 use Rattle.failure_rank.specs.declared.group.Group.{Group}
-use Rattle.pct_top.specs.Printed.{told}
+use Rattle.pct_top.specs.Printed.{printed_text}
 use Rattle.pct_top.specs.commands.Campaign.{setup_of, all_pass}
-use Rattle.pct_top.specs.commands.Big.{big_lines, script_lines, told_big}
+use Rattle.pct_top.specs.commands.Big.{big_lines, script_lines, printed_counts}
 use Rattle.pct_top.proofs.commands.big.big_of.Goals as goal
 
 -- the counts are those of these lines, rows and groups
 told_as : (written : List ℕ) (done : Bool) (pieces lines k : ℕ) (rows others : List Row)
     (groups more : List Group) → written ≡ flat_map line_text (big_lines lines k others more)
     → done ≡ all_pass others → lines ≡ script_lines pieces → others ≡ rows → more ≡ groups
-    → told written done ≡ told_big pieces k rows groups
+    → printed_text written done ≡ printed_counts pieces k rows groups
 told_as written done pieces lines k rows others groups more are passes counted same alike =
-    ap (λ w. told w done) are ∙ ap (told (flat_map line_text (big_lines lines k others more)))
+    ap (λ w. printed_text w done) are ∙ ap
+    (printed_text (flat_map line_text (big_lines lines k others more)))
     passes
-    ∙ ap (λ n. told (flat_map line_text (big_lines n k others more)) (all_pass others)) counted
-    ∙ ap (λ rs. told (flat_map line_text (big_lines (script_lines pieces) k rs more)) (all_pass rs))
+    ∙ ap (λ n. printed_text (flat_map line_text (big_lines n k others more)) (all_pass others))
+    counted
+    ∙ ap (λ rs. printed_text (flat_map line_text (big_lines (script_lines pieces) k rs more))
+    (all_pass rs))
     same
-    ∙ ap (told_big pieces k rows) alike
+    ∙ ap (printed_counts pieces k rows) alike
 
 pub rank-requires : goal.rank-requires
 rank-requires g c =
-    let script = text c.args.test.now.script in
+    let script = plain_script c.args.test.now.script in
     omega (
       arith,
       length-rows (setup_of script c.args.test.now.deal 3 c.in_ok-steps.steps 10000) 1
@@ -35,7 +38,7 @@ rank-requires g c =
 pub returns : goal.returns
 returns g c =
     let test = c.args.test.now in
-    let script = text test.script in
+    let script = plain_script test.script in
     let rows = c.in_ok-rows.rows in
     let groups = c.in_ok-groups.groups in (
       c.in_ok-steps.steps,

@@ -1,6 +1,6 @@
 use Rattle.std.proofs.Common.{Some, Err, subst}
 use Rattle.pct_ask.specs.NameLists.{NameLists}
-use Rattle.script_tree.specs.ScriptSeen.{text}
+use Rattle.script_tree.specs.ScriptSeen.{plain_script}
 use Rattle.pct_top.specs.Files.{Misses, GivesDirective, HasDirective}
 use Rattle.pct_top.specs.Outcome.{printed_of}
 use Rattle.pct_top.specs.commands.Certify.{PrintsCertificate}
@@ -10,7 +10,7 @@ use Rattle.pct_top.proofs.commands.certify.certify_file.Goals as goal
 pub returns-in-Err : goal.returns-in-Err
 returns-in-Err g c =
     let test = c.args.test.now in
-    let script = text test.script in
+    let script = plain_script test.script in
     let told = g.H.Shelf.files c.args.shelf.now in
     let file = c.args.directive.now in
     let failed = g.H.Shelf.failed c.args.shelf.now in
@@ -24,7 +24,7 @@ returns-in-Err g c =
 pub returns-in_ok-certificate_of-in-Ok : goal.returns-in_ok-certificate_of-in-Ok
 returns-in_ok-certificate_of-in-Ok g c =
     let test = c.args.test.now in
-    let script = text test.script in
+    let script = plain_script test.script in
     let told = g.H.Shelf.files c.args.shelf.now in
     let file = c.args.directive.now in
     let failed = g.H.Shelf.failed c.args.shelf.now in

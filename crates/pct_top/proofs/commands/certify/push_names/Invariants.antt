@@ -1,8 +1,9 @@
 use Rattle.std.proofs.Common.{◌≡◌, ◌++◌, take, map}
 use Rattle.pct_ask.specs.VerdictText.{thread_name}
-use Rattle.trace_text.specs.Spaced.{spaced}
+use Rattle.trace_text.specs.Spaced.{behind_spaces}
 use Rattle.pct_top.proofs.commands.certify.push_names.Given as goal
 
 abbrev pub invariant-loop-thread : goal.invariant-loop-thread
 invariant-loop-thread l =
-    l.out.items ≡ l.fn.out.items ++ spaced (map (thread_name l.names) (take l.thread-index l.order))
+    l.out.items
+    ≡ l.fn.out.items ++ behind_spaces (map (thread_name l.names) (take l.thread-index l.order))

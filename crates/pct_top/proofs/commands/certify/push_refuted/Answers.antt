@@ -1,8 +1,8 @@
 use Rattle.std.proofs.Common.{◌≡◌, ℕ, List, [], ◌∷◌, ◌++◌, map, ap, subst, ◌∙◌}
 use Rattle.std.specs.Prelude.{OnOk, codes}
-use Rattle.pct_ask.specs.VerdictText.{thread_name, named as names_in, verdict_words}
+use Rattle.pct_ask.specs.VerdictText.{thread_name, named_verdict as names_in, verdict_words}
 use Rattle.pct_ask.specs.TraceText.{line_text}
-use Rattle.trace_text.specs.Spaced.{spaced}
+use Rattle.trace_text.specs.Spaced.{behind_spaces}
 use Rattle.pct_top.specs.commands.Certify.{order_words}
 use Rattle.pct_top.proofs.Spaced.{line-of-two, two-words}
 use Rattle.pct_top.proofs.commands.certify.push_refuted.Goals as goal
@@ -14,11 +14,11 @@ returns c =
     let words = order_words c.args.names.now c.args.order.now in
     let more : List (List ℕ) = verdict_words (names_in c.args.names.now c.args.verdict.now) in
     let begun = old ++ codes "refuted" in
-    let listed : c.push_names.new.out.items ≡ begun ++ spaced words =
+    let listed : c.push_names.new.out.items ≡ begun ++ behind_spaces words =
     c.in_ok-push_names.ensures
-    ∙ ap (λ (t : List ℕ). t ++ spaced named) c.in_ok-extend_from_slice.ensures.items
-    ∙ two-words old (codes "refuted") (codes "order") (spaced named) in
-    let whole : c.push.new.self.items ≡ (begun ++ spaced words) ++ 32 ∷ [] =
+    ∙ ap (λ (t : List ℕ). t ++ behind_spaces named) c.in_ok-extend_from_slice.ensures.items
+    ∙ two-words old (codes "refuted") (codes "order") (behind_spaces named) in
+    let whole : c.push.new.self.items ≡ (begun ++ behind_spaces words) ++ 32 ∷ [] =
     c.in_ok-push.ensures.items ∙ ap (λ (t : List ℕ). t ++ 32 ∷ []) listed in
     let P : List ℕ → Type 0 = λ t. OnOk c.push_verdict.result (c.push_verdict.new.out.items ≡ t) in
     subst P

@@ -1,6 +1,6 @@
 use Rattle.std.proofs.Common.{ℕ, List, Some, Err, subst, take}
 use Rattle.pct_ask.specs.NameLists.{NameLists}
-use Rattle.script_tree.specs.ScriptSeen.{text}
+use Rattle.script_tree.specs.ScriptSeen.{plain_script}
 use Rattle.directive.specs.declared.directive.Directive.{Directive}
 use Rattle.pct_top.specs.Ordered.{NamesAll, OrderFits}
 use Rattle.pct_top.specs.Printed.{Files, Printed, directive_bytes, OfDirective}
@@ -13,7 +13,7 @@ use Rattle.pct_top.proofs.commands.expose.expose_file.Goals as goal
 pub returns-in-Err-read_directed : goal.returns-in-Err-read_directed
 returns-in-Err-read_directed g c =
     let test = c.args.test.now in
-    let names = (text test.script).names in
+    let names = (plain_script test.script).names in
     let items = c.args.order.now in
     let order = c.in-Ok.order in
     let told = g.H.Shelf.files c.args.shelf.now in
@@ -24,7 +24,7 @@ returns-in-Err-read_directed g c =
     let I : List (List ℕ) → Type 0 = λ its. NamesAll names its order in
     let gives = subst I c.as_slice.ensures (subst N c.names-names.ensures c.in-Ok.ensures) in
     let Of : List ℕ → Directive → Printed → Type 0 = λ o.
-    PrintsExposed (text test.script) test.deal o c.args.steps c.args.limit in
+    PrintsExposed (plain_script test.script) test.deal o c.args.steps c.args.limit in
     let over : Files → List ℕ → Printed → Type 0 = λ files o.
     OfDirective (take directive_bytes (files file)) names (Of o) in
     let refusal = c.in-Err-read_directed.refusal in
@@ -37,7 +37,7 @@ returns-in-Err-read_directed g c =
 pub returns-in_ok-exposed_by-in-Ok-read_directed : goal.returns-in_ok-exposed_by-in-Ok-read_directed
 returns-in_ok-exposed_by-in-Ok-read_directed g c =
     let test = c.args.test.now in
-    let names = (text test.script).names in
+    let names = (plain_script test.script).names in
     let items = c.args.order.now in
     let order = c.in-Ok.order in
     let told = g.H.Shelf.files c.args.shelf.now in
@@ -48,7 +48,7 @@ returns-in_ok-exposed_by-in-Ok-read_directed g c =
     let I : List (List ℕ) → Type 0 = λ its. NamesAll names its order in
     let gives = subst I c.as_slice.ensures (subst N c.names-names.ensures c.in-Ok.ensures) in
     let Of : List ℕ → Directive → Printed → Type 0 = λ o.
-    PrintsExposed (text test.script) test.deal o c.args.steps c.args.limit in
+    PrintsExposed (plain_script test.script) test.deal o c.args.steps c.args.limit in
     let over : Files → List ℕ → Printed → Type 0 = λ files o.
     OfDirective (take directive_bytes (files file)) names (Of o) in
     let plan = c.in-Ok-read_directed.plan in

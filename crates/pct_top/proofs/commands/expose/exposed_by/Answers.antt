@@ -2,7 +2,7 @@ use Rattle.std.proofs.Common.{ℕ, List, Result, Ok, Err, subst}
 use Rattle.std.specs.Prelude.{IfOk}
 use Rattle.pct_ask.specs.declared.Deal.{Deal}
 use Rattle.script_tree.specs.ScriptText.{ScriptText}
-use Rattle.script_tree.specs.ScriptSeen.{text}
+use Rattle.script_tree.specs.ScriptSeen.{plain_script}
 use Rattle.script_body.specs.Bodies.{bodies_of}
 use Rattle.directive.specs.declared.directive.Directive.{Directive}
 use Rattle.directive_run.specs.Exposing.{Exposes}
@@ -15,7 +15,7 @@ use Rattle.pct_top.proofs.commands.expose.exposed_by.Goals as goal
 pub told_exposed-requires-clause-exposed : goal.told_exposed-requires-clause-exposed
 told_exposed-requires-clause-exposed g c =
     let test = c.args.test.now in
-    let script = text test.script in
+    let script = plain_script test.script in
     let O : List ℕ → Type 0 = λ order. Exposes test.deal (bodies_of script) order
     c.args.directive.now.events c.args.steps c.args.limit c.in_ok-exposed.exposed in
     subst O c.as_slice.ensures (c.in_ok-exposed.ensures script c.requires.ready)
@@ -31,7 +31,7 @@ told script deal order steps limit directive exposed (Err e) is h = tt
 pub returns : goal.returns
 returns g c =
     let test = c.args.test.now in
-    let script = text test.script in
+    let script = plain_script test.script in
     let exposed = c.in_ok-exposed.exposed in
     let O : List ℕ → Type 0 = λ order. Exposes test.deal (bodies_of script) order
     c.args.directive.now.events c.args.steps c.args.limit exposed in

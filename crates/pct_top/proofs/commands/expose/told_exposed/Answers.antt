@@ -2,7 +2,7 @@ use Rattle.std.proofs.Common.{◌≡◌, List, sym, subst, ◌∙◌}
 use Rattle.pct_ask.specs.declared.event.Event.{Event}
 use Rattle.pct_ask.specs.declared.verdict.Outcome.TheVariants.{Verdict as Ends}
 use Rattle.pct_ask.specs.declared.verdict.Verdict.{Verdict}
-use Rattle.script_tree.specs.ScriptSeen.{text}
+use Rattle.script_tree.specs.ScriptSeen.{plain_script}
 use Rattle.script_body.specs.Bodies.{bodies_of}
 use Rattle.directive_run.specs.Exposing.{Exposes}
 use Rattle.directive_run.specs.declared.answers.Exposed.{Exposed}
@@ -14,7 +14,7 @@ pub told_trace-requires-clause-known : goal.told_trace-requires-clause-known
 told_trace-requires-clause-known c =
     let test = c.args.test.now in
     let ready = c.requires.ready in
-    let script = text test.script in
+    let script = plain_script test.script in
     let events = c.args.directive.now.events in
     let X : Exposed → Type 0 = λ exposed.
     Exposes test.deal (bodies_of script) c.args.order events c.args.steps c.args.limit exposed in

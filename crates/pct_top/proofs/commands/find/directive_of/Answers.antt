@@ -2,18 +2,18 @@ use Rattle.std.proofs.Common.{◌≡◌, ◌≤◌, ◌<◌, ℕ, List, length, 
 use Rattle.std.specs.Prelude.{All}
 use Rattle.std.proofs.lemmas.List.Elements.{All-weaker}
 use Rattle.pct_ask.specs.NameLists.{NameLists}
-use Rattle.script_tree.specs.ScriptSeen.{text}
+use Rattle.script_tree.specs.ScriptSeen.{plain_script}
 use Rattle.script_body.specs.Bodies.{bodies_of}
 use Rattle.trace_text.specs.Lawful.{IsStepCount}
 use Rattle.directive_find.specs.Found.{Finds}
-use Rattle.pct_top.specs.Printed.{told}
+use Rattle.pct_top.specs.Printed.{printed_text}
 use Rattle.pct_top.specs.commands.Find.{last_of, found_text, IsWellFormed}
 use Rattle.pct_top.specs.commands.KnownFinding.{IsKnownFinding}
 use Rattle.pct_top.proofs.KnownFindings.{known-finding}
 use Rattle.pct_top.proofs.commands.find.directive_of.Goals as goal
 
 pub find-requires-clause-script : goal.find-requires-clause-script
-find-requires-clause-script g c κs within = (text c.args.test.now.script, c.requires.ready)
+find-requires-clause-script g c κs within = (plain_script c.args.test.now.script, c.requires.ready)
 
 pub find-requires-clause-points : goal.find-requires-clause-points
 find-requires-clause-points g c κs within =
@@ -32,7 +32,7 @@ pub write_found-requires-clause-low : goal.write_found-requires-clause-low
 write_found-requires-clause-low g c =
     let test = c.args.test.now in
     let order = c.args.priorities.order in
-    let names = (text test.script).names in
+    let names = (plain_script test.script).names in
     let whole : length order ≡ test.deal.threads = (c.requires.priorities).whole in
     let some : 1 ≤ test.deal.threads = test.deal.some_thread in
     let threads : test.deal.threads ≡ length names.threads = (c.requires.ready).is_deal.threads in
@@ -47,7 +47,7 @@ pub write_found-requires-clause-known : goal.write_found-requires-clause-known
 write_found-requires-clause-known g c =
     let test = c.args.test.now in
     let ready = c.requires.ready in
-    let script = text test.script in
+    let script = plain_script test.script in
     let O : List ℕ → Type 0 = λ o. Finds test.deal (bodies_of script) o c.as_slice-points.result.now
     c.args.limit c.in_ok-found.found in
     let P : List ℕ → Type 0 = λ p. Finds test.deal (bodies_of script) c.args.priorities.order p
@@ -63,7 +63,7 @@ write_found-requires-clause-known g c =
 pub returns : goal.returns
 returns g c =
     let test = c.args.test.now in
-    let script = text test.script in
+    let script = plain_script test.script in
     let found = c.in_ok-found.found in
     let O : List ℕ → Type 0 = λ o. Finds test.deal (bodies_of script) o c.as_slice-points.result.now
     c.args.limit found in
@@ -80,4 +80,4 @@ returns g c =
     let W : List ℕ → Type 0 = λ order. IsWellFormed script.names order found in
     let form = subst W c.as_slice-order.ensures
     (subst N c.names.ensures c.in_ok-text.ensures.form) in
-    (found, finds, form, λ i. told (written i) (done i))
+    (found, finds, form, λ i. printed_text (written i) (done i))

@@ -1,11 +1,11 @@
 use Rattle.std.proofs.Common.{◌≡◌, ℕ, List, Some, length, ◌≤◌, sym, subst, ap, ◌∙◌, arith}
 use Rattle.pct_ask.specs.NameLists.{NameLists}
 use Rattle.pct_ask.specs.declared.event.Event.{Event}
-use Rattle.script_tree.specs.ScriptSeen.{text}
+use Rattle.script_tree.specs.ScriptSeen.{plain_script}
 use Rattle.worker_run.specs.Run.{Run}
-use Rattle.lock_order.specs.Nestings.{NamesOnly, AreInRange}
+use Rattle.lock_order.specs.Nestings.{EventNamesOnly, AreEventsInRange}
 use Rattle.lock_order.specs.Chosen.{IsChosen}
-use Rattle.pct_top.specs.Printed.{told}
+use Rattle.pct_top.specs.Printed.{printed_text}
 use Rattle.pct_top.specs.Runs.{run_of, trace_version}
 use Rattle.pct_top.specs.commands.Locks.{lock_text}
 use Rattle.pct_top.proofs.InRange.{all_in_range}
@@ -15,11 +15,11 @@ pub lock_order-requires-clause-in_range : goal.lock_order-requires-clause-in_ran
 lock_order-requires-clause-in_range g c =
     let test = c.args.test.now in
     let ready = c.requires.ready in
-    let of = all_in_range (text test.script) test.deal ready.sound ready.is_deal
-    (trace_version (text test.script)) (NamesOnly test.deal)
+    let of = all_in_range (plain_script test.script) test.deal ready.sound ready.is_deal
+    (trace_version (plain_script test.script)) (EventNamesOnly test.deal)
     (λ event at has. record { thread = at; ask = has })
     c.in_ok-run.run'.events c.in_ok-run.ensures.known.steps in
-    subst (AreInRange test.deal) (sym c.as_slice.ensures) of
+    subst (AreEventsInRange test.deal) (sym c.as_slice.ensures) of
 
 pub lock_order-requires-clause-short : goal.lock_order-requires-clause-short
 lock_order-requires-clause-short g c =
@@ -30,7 +30,7 @@ lock_order-requires-clause-short g c =
 pub returns : goal.returns
 returns g c =
     let test = c.args.test.now in
-    let script = text test.script in
+    let script = plain_script test.script in
     let ended : Run = (c.in_ok-run.run'.events, c.in_ok-run.run'.verdict) in
     let O : List ℕ → Type 0 = λ o. run_of script test.deal o c.as_slice-points.result.now
     c.args.limit ≡ Some ended in
@@ -48,6 +48,6 @@ returns g c =
       (
         c.in_ok-report.report,
         subst E c.as_slice.ensures c.in_ok-report.ensures.chosen,
-        λ i. told (written i) (done i),
+        λ i. printed_text (written i) (done i),
       ),
     )

@@ -3,12 +3,12 @@ use Rattle.std.specs.Prelude.{All}
 use Rattle.pct_ask.specs.NameLists.{NameLists}
 use Rattle.pct_ask.specs.declared.event.Event.{Event}
 use Rattle.sync_store.specs.Store.{sizes_of_deal}
-use Rattle.script_tree.specs.ScriptSeen.{text}
+use Rattle.script_tree.specs.ScriptSeen.{plain_script}
 use Rattle.worker_run.specs.Run.{Run}
 use Rattle.hb_race.specs.declared.race.Race.{Race}
 use Rattle.hb_race.specs.Ranges.{IsEventInRange}
 use Rattle.hb_race.specs.Races.{AreRaces}
-use Rattle.pct_top.specs.Printed.{told}
+use Rattle.pct_top.specs.Printed.{printed_text}
 use Rattle.pct_top.specs.Runs.{run_of, trace_version}
 use Rattle.pct_top.specs.commands.Races.{race_text}
 use Rattle.pct_top.proofs.InRange.{all_in_range}
@@ -18,8 +18,8 @@ pub races-requires-clause-in_range : goal.races-requires-clause-in_range
 races-requires-clause-in_range g c =
     let test = c.args.test.now in
     let ready = c.requires.ready in
-    let of = all_in_range (text test.script) test.deal ready.sound ready.is_deal
-    (trace_version (text test.script)) (IsEventInRange (sizes_of_deal test.deal))
+    let of = all_in_range (plain_script test.script) test.deal ready.sound ready.is_deal
+    (trace_version (plain_script test.script)) (IsEventInRange (sizes_of_deal test.deal))
     (λ event at has. (at, has))
     c.in_ok-run.run'.events c.in_ok-run.ensures.known.steps in
     subst (All (IsEventInRange (sizes_of_deal test.deal))) (sym (c.from.ensures).0) of
@@ -33,7 +33,7 @@ races-requires-clause-few g c =
 pub returns : goal.returns
 returns g c =
     let test = c.args.test.now in
-    let script = text test.script in
+    let script = plain_script test.script in
     let ended : Run = (c.in_ok-run.run'.events, c.in_ok-run.run'.verdict) in
     let O : List ℕ → Type 0 = λ o. run_of script test.deal o c.as_slice-points.result.now
     c.args.limit ≡ Some ended in
@@ -51,6 +51,6 @@ returns g c =
       (
         c.in_ok-found.found,
         subst E (c.from.ensures).0 c.in_ok-found.ensures,
-        λ i. told (written i) (done i),
+        λ i. printed_text (written i) (done i),
       ),
     )

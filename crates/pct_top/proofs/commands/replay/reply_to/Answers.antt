@@ -1,7 +1,7 @@
 use Rattle.std.proofs.Common.{sym, ap, subst, ◌∙◌}
 use Rattle.std.specs.Prelude.{ℕ, List}
-use Rattle.script_tree.specs.ScriptSeen.{text}
-use Rattle.pct_top.specs.Printed.{told}
+use Rattle.script_tree.specs.ScriptSeen.{plain_script}
+use Rattle.pct_top.specs.Printed.{printed_text}
 use Rattle.pct_top.specs.commands.KnownReply.{IsKnownReply}
 use Rattle.pct_top.specs.commands.Replay.{reply_text}
 use Rattle.pct_top.proofs.Replies.{known_reply}
@@ -12,17 +12,18 @@ write_reply-requires g c =
     let test = c.args.test.now in
     let ready = c.requires.ready in
     subst (λ names. IsKnownReply names c.in_ok-reply.reply) (sym c.names.ensures)
-    (known_reply (text test.script) test.deal ready.sound ready.is_deal c.requires.trace.0
+    (known_reply (plain_script test.script) test.deal ready.sound ready.is_deal c.requires.trace.0
     c.args.told.now c.requires.trace.1 c.in_ok-reply.reply
-    (c.in_ok-reply.ensures.replay (text test.script) ready))
+    (c.in_ok-reply.ensures.replay (plain_script test.script) ready))
 
 pub returns : goal.returns
 returns g c =
     let test = c.args.test.now in
     let reply = c.in_ok-reply.reply in (
       reply,
-      c.in_ok-reply.ensures.replay (text test.script) c.requires.ready,
-      ap (λ (t : List ℕ). told t c.is_confirmed-done.result)
+      c.in_ok-reply.ensures.replay (plain_script test.script) c.requires.ready,
+      ap (λ (t : List ℕ). printed_text t c.is_confirmed-done.result)
           (c.in_ok-text.ensures ∙ ap (λ names. reply_text names reply) c.names.ensures)
-          ∙ ap (told (reply_text (text test.script).names reply)) c.is_confirmed-done.ensures,
+          ∙ ap (printed_text (reply_text (plain_script test.script).names reply))
+          c.is_confirmed-done.ensures,
     )

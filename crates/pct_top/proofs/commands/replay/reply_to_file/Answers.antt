@@ -1,5 +1,5 @@
 use Rattle.std.proofs.Common.{Some, Err, subst}
-use Rattle.script_tree.specs.ScriptSeen.{text}
+use Rattle.script_tree.specs.ScriptSeen.{plain_script}
 use Rattle.pct_top.specs.Files.{Misses, GivesTrace}
 use Rattle.pct_top.specs.commands.Replay.{PrintsReply}
 use Rattle.pct_top.proofs.Comes.{trace_refused}
@@ -8,7 +8,7 @@ use Rattle.pct_top.proofs.commands.replay.reply_to_file.Goals as goal
 pub returns-in-Err : goal.returns-in-Err
 returns-in-Err g c =
     let test = c.args.test.now in
-    let script = text test.script in
+    let script = plain_script test.script in
     let told = g.H.Shelf.files c.args.shelf.now in
     let missed : Type 0 = Misses (Some c.args.trace.now) (g.H.Shelf.failed c.args.shelf.now)
     (g.H.Shelf.failed c.read_told.new.shelf) in

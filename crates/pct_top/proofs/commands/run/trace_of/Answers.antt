@@ -2,7 +2,7 @@ use Rattle.std.proofs.Common.{◌≡◌, ℕ, List, Some, Result, Ok, Err, subst
 use Rattle.std.specs.Prelude.{Bool, IfOk}
 use Rattle.pct_ask.specs.declared.Deal.{Deal}
 use Rattle.script_tree.specs.ScriptText.{ScriptText}
-use Rattle.script_tree.specs.ScriptSeen.{text}
+use Rattle.script_tree.specs.ScriptSeen.{plain_script}
 use Rattle.worker_run.specs.Run.{Run}
 use Rattle.pct_top.specs.declared.outcome.Outcome.{Outcome}
 use Rattle.pct_top.specs.Runs.{run_of, is_passed, TellsRun}
@@ -20,7 +20,7 @@ is_told script deal order points limit ended (Err e) run h = tt
 pub returns : goal.returns
 returns g c =
     let test = c.args.test.now in
-    let script = text test.script in
+    let script = plain_script test.script in
     let ended : Run = (c.in_ok-run.run'.events, c.in_ok-run.run'.verdict) in
     let O : List ℕ → Type 0 = λ o. run_of script test.deal o c.as_slice-points.result.now
     c.args.limit ≡ Some ended in

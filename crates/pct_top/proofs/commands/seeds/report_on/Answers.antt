@@ -1,16 +1,16 @@
 use Rattle.std.proofs.Common.{◌≡◌, ◌≤◌, ap, ◌∙◌, arith}
-use Rattle.script_tree.specs.ScriptSeen.{text}
+use Rattle.script_tree.specs.ScriptSeen.{plain_script}
 use Rattle.campaign.proofs.laws.OneCampaign.{length-rows}
 use Rattle.failure_rank.proofs.Laws.{groups_have}
 use Rattle.report_text.specs.Report.{IsWritable}
-use Rattle.pct_top.specs.Printed.{told}
+use Rattle.pct_top.specs.Printed.{printed_text}
 use Rattle.pct_top.specs.commands.Campaign.{setup_of, all_pass}
 use Rattle.pct_top.proofs.KnownRows.{rows-known}
 use Rattle.pct_top.proofs.commands.seeds.report_on.Goals as goal
 
 pub rank-requires : goal.rank-requires
 rank-requires g c =
-    let script = text c.args.test.now.script in
+    let script = plain_script c.args.test.now.script in
     let most : c.args.count ≤ 100000 = c.requires.count.1 in
     omega (
       arith,
@@ -22,7 +22,7 @@ rank-requires g c =
 pub write_report-requires-clause-rows : goal.write_report-requires-clause-rows
 write_report-requires-clause-rows g c =
     let test = c.args.test.now in
-    let script = text test.script in
+    let script = plain_script test.script in
     let ready = c.requires.ready in
     rows-known script test.deal ready.sound ready.is_deal c.args.depth c.in_ok-steps.steps
     c.args.limit c.args.first c.args.count c.in_ok-rows.rows (c.in_ok-rows.ensures script ready)
@@ -30,7 +30,7 @@ write_report-requires-clause-rows g c =
 pub write_report-requires-clause-groups : goal.write_report-requires-clause-groups
 write_report-requires-clause-groups g c =
     let test = c.args.test.now in
-    let script = text test.script in
+    let script = plain_script test.script in
     let ready = c.requires.ready in
     groups_have (IsWritable script.names) c.in_ok-rows.rows c.in_ok-groups.groups
     c.in_ok-groups.ensures.ranking
@@ -41,7 +41,7 @@ write_report-requires-clause-groups g c =
 pub returns : goal.returns
 returns g c =
     let test = c.args.test.now in
-    let script = text test.script in
+    let script = plain_script test.script in
     let written = c.in_ok-text.ensures in
     let done : c.all_pass-done.result ≡ all_pass c.in_ok-rows.rows =
     c.all_pass-done.ensures ∙ ap all_pass c.as_slice.ensures in (
@@ -54,6 +54,6 @@ returns g c =
           are = c.in_ok-rows.ensures script c.requires.ready;
           ranked = c.in_ok-groups.ensures.ranking;
         },
-        λ i. told (written i) (done i),
+        λ i. printed_text (written i) (done i),
       ),
     )

@@ -1,5 +1,5 @@
 use Rattle.std.proofs.Common.{◌≡◌, ◌+◌, ◌∷◌, ◌≤◌, sym, rules, arith}
-use Rattle.pct_top.specs.Options.{count}
+use Rattle.pct_top.specs.Options.{option_count}
 use Rattle.pct_outside.specs.Reading.{texts_of}
 use Rattle.pct_top.proofs.OptionLists.{leaves, counted, few_options}
 use Rattle.pct_top.proofs.options.Options.take_next.Goals as goal
@@ -19,9 +19,9 @@ returns-clause-count c =
     c.as_str.result.now c.take_value.new.self (sym c.in-Some.ensures) c.in_ok-take_value.ensures
 
 pub overflow_add-result : goal.overflow_add-result
-overflow_add-result c = let few : count c.args.self.now ≤ 9 = few_options c.args.self.now in
+overflow_add-result c = let few : option_count c.args.self.now ≤ 9 = few_options c.args.self.now in
     omega (arith, c.requires)
 
 pub overflow_add-number : goal.overflow_add-number
-overflow_add-number c = let few : count c.args.self.now ≤ 9 = few_options c.args.self.now in
+overflow_add-number c = let few : option_count c.args.self.now ≤ 9 = few_options c.args.self.now in
     omega (arith, c.requires)

@@ -1,7 +1,7 @@
 use Rattle.std.proofs.Common.{◌≡◌, ℕ, ◌*◌, List, length, ap, ◌∙◌, sym, subst, arith}
 use Rattle.std.proofs.lemmas.Grind.{common_steps}
 use Rattle.std.proofs.lemmas.List.FromFn.{length-range_with_len}
-use Rattle.priority_draw.specs.Words.{SeedWords, after}
+use Rattle.priority_draw.specs.Words.{SeedWords, words_later}
 use Rattle.priority_draw.specs.Orders.{IsOrderOf, declared_order}
 use Rattle.priority_draw.specs.Drawing.{drawn_order, drawn_places}
 use Rattle.priority_draw.proofs.laws.Orders.{only-places, order-of-is}
@@ -39,7 +39,7 @@ returns-clause-order c =
     subst P (sym (value c)) (order-of-is c.args.threads (drawn_places c.args.self.now.seed c.args.self.now.place c.args.threads) (drawn-are c.args.self.now.seed c.args.self.now.place c.args.threads))
 
 pub returns-clause-words : goal.returns-clause-words
-returns-clause-words c = c.take_out.ensures.words ∙ ap (λ (n : ℕ). after c.args.self.now (2 * n)) (long c)
+returns-clause-words c = c.take_out.ensures.words ∙ ap (λ (n : ℕ). words_later c.args.self.now (2 * n)) (long c)
 
 pub returns-clause-of_seed : goal.returns-clause-of_seed
 returns-clause-of_seed c = λ seed steps depth stand. value c ∙ ap (λ (w : SeedWords). drawn_order w.seed w.place c.args.threads) stand

@@ -1,5 +1,5 @@
 use Rattle.std.proofs.Common.{ℕ, ◌+◌, ◌*◌, length, ap, ◌∙◌, arith}
-use Rattle.priority_draw.specs.Words.{SeedWords, after}
+use Rattle.priority_draw.specs.Words.{SeedWords, words_later}
 use Rattle.priority_draw.specs.Drawing.{draw}
 use Rattle.priority_draw.proofs.WordLemmas.{draw-next, after-after}
 use Rattle.priority_draw.proofs.DrawLemmas.{points-are, points-more}
@@ -13,7 +13,7 @@ loop-point-preserved c =
     ∙ draw-next c.args.self.now.seed c.args.self.now.place (2 * c.loop-point.point-index) c.from.result
     ∙ ap (λ (bound : ℕ). draw c.args.self.now.seed (c.args.self.now.place + 2 * c.loop-point.point-index) bound) c.from.ensures in
     record {
-      words = c.below.ensures.words ∙ ap (λ (w : SeedWords). after w 2) so_far ∙ after-after c.args.self.now (2 * c.loop-point.point-index) 2 (2 * (c.loop-point.point-index + 1)) (omega arith);
+      words = c.below.ensures.words ∙ ap (λ (w : SeedWords). words_later w 2) so_far ∙ after-after c.args.self.now (2 * c.loop-point.point-index) 2 (2 * (c.loop-point.point-index + 1)) (omega arith);
       points = points-more c.args.self.now.seed c.args.self.now.place c.args.steps c.loop-point.point-index (1 + c.below.result) c.loop-point.points (omega arith) c.loop-point.invariant.points (ap (λ d. 1 + d) drawn);
     }
 

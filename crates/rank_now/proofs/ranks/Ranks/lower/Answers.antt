@@ -1,6 +1,6 @@
 use Rattle.std.proofs.Common.{◌≡◌, ◌<◌, List, ℕ, length, ap, sym, subst, ◌∙◌, arith, set}
 use Rattle.std.proofs.lemmas.List.{with_items_is}
-use Rattle.rank_now.specs.Ranking.{Ranking, IsKept}
+use Rattle.rank_now.specs.Ranking.{Ranking, IsWalkOfValues}
 use Rattle.rank_now.proofs.laws.PlacesByValue.{place-within}
 use Rattle.rank_now.proofs.Places.{from-is, to-within, kept-after}
 use Rattle.rank_now.proofs.laws.GivenOnce.{ranks-step, ranks_by_events-step}
@@ -31,7 +31,7 @@ invariant_of-self c =
     let free = rw (sym seen) at c.requires.free in
     let moves = rw c.deref_mut.ensures.value at c.shift.ensures in
     let kept = kept-after f.count f.values.items f.walk.items c.deref-2.result.now c.shift.new.walk c.args.thread c.args.value c.greater-from.result c.greater-to.result c.self.invariant within (omega (arith, c.requires.low)) free from c.deref-2.ensures.value c.greater-to.ensures moves in
-    let Q : List ℕ → Type 0 = λ x. IsKept f.count (set f.values.items c.args.thread c.args.value) x in
+    let Q : List ℕ → Type 0 = λ x. IsWalkOfValues f.count (set f.values.items c.args.thread c.args.value) x in
     subst Q (sym (with_items_is f.walk c.shift.new.walk (omega (arith, c.shift.ensures.whole, ap length c.deref_mut.ensures.value, f.walk.ok.0)))) kept
 
 pub returns-clause-by_points : goal.returns-clause-by_points

@@ -1,5 +1,5 @@
 use Rattle.std.proofs.Common.{refl, sym, subst, List, ℕ}
-use Rattle.rank_now.specs.Ranking.{IsKept}
+use Rattle.rank_now.specs.Ranking.{IsWalkOfValues}
 use Rattle.rank_now.proofs.Orders.{is-order, first-kept}
 use Rattle.rank_now.proofs.laws.GivenOnce.{ranks-first, ranks_by_events-first}
 use Rattle.rank_now.proofs.ranks.Ranks.new.Goals as goal
@@ -11,7 +11,8 @@ pub invariant_of-result : goal.invariant_of-result
 invariant_of-result c =
     let order = c.args.order.now in
     let kept = first-kept order c.in_ok-values.values.items c.args.count (is-order order (c.in_default.ensures.none refl)) c.in_ok-values.ensures c.requires.few_threads c.requires.few_points in
-    let P : List ℕ → Type 0 = λ walk. IsKept c.args.count c.in_ok-values.values.items walk in
+    let P : List ℕ → Type 0 =
+    λ walk. IsWalkOfValues c.args.count c.in_ok-values.values.items walk in
     subst P (sym (c.in_ok-walk.ensures.items)) kept
 
 pub returns-clause-distinct : goal.returns-clause-distinct

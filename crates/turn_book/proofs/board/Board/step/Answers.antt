@@ -7,7 +7,7 @@ use Rattle.sync_store.specs.Touched.{KeepsOthers}
 use Rattle.policy_pick.specs.Choice.{chance_of}
 use Rattle.turn_book.specs.Chances.{chance, chances}
 use Rattle.turn_book.specs.Told.{standing_by}
-use Rattle.turn_book.specs.Board.{listed, concerns}
+use Rattle.turn_book.specs.Board.{next_posts_of, concerns}
 use Rattle.turn_book.proofs.Boards.{standings-set, length-known, length-chances, others-kept, board-set, front-taken}
 use Rattle.turn_book.proofs.board.Board.step.Goals as goal
 
@@ -25,7 +25,7 @@ pub look_again-requires-clause-others : goal.look_again-requires-clause-others
 look_again-requires-clause-others c = λ u within none.
     let f = c.self.inside in
     let after = c.take_step-stepped.new.self in
-    let P : List (Option Post) → Type 0 = λ ps. concerns c.args.thread c.touched.result u (listed ps u) ≡ false → chance_of f.chances.items u ≡ chance after (listed ps) u in
+    let P : List (Option Post) → Type 0 = λ ps. concerns c.args.thread c.touched.result u (next_posts_of ps u) ≡ false → chance_of f.chances.items u ≡ chance after (next_posts_of ps) u in
     let K : Touched → Type 0 = λ o. KeepsOthers c.args.thread o f.store after in
     ap (λ cs. chance_of cs u) c.as_mut_slice.ensures.value
     ∙ subst P (sym c.as_slice.ensures.value) (others-kept f.store f.posts.items f.standings.items f.chances.items c.self.invariant after c.args.thread None c.touched.result (ap (λ (s : Sizes). s.threads) c.take_step-stepped.ensures.sizes) (subst K (sym c.touched.ensures) c.take_step-stepped.ensures.others) u within) none
@@ -34,6 +34,6 @@ pub invariant_of-self : goal.invariant_of-self
 invariant_of-self c =
     let f = c.self.inside in
     let after = c.take_step-stepped.new.self in
-    let looked : c.look_again.new.known ≡ chances after.threads after (listed (set f.posts.items c.args.thread None)) = c.look_again.ensures ∙ ap (λ ps. chances after.threads after (listed ps)) c.as_slice.ensures.value in
-    let long : f.chances.len ≡ length c.look_again.new.known = f.chances.ok.0 ∙ length-known f.store f.posts.items f.standings.items f.chances.items c.self.invariant ∙ sym (ap length looked ∙ length-chances after.threads after (listed (set f.posts.items c.args.thread None)) ∙ ap (λ (s : Sizes). s.threads) c.take_step-stepped.ensures.sizes) in
+    let looked : c.look_again.new.known ≡ chances after.threads after (next_posts_of (set f.posts.items c.args.thread None)) = c.look_again.ensures ∙ ap (λ ps. chances after.threads after (next_posts_of ps)) c.as_slice.ensures.value in
+    let long : f.chances.len ≡ length c.look_again.new.known = f.chances.ok.0 ∙ length-known f.store f.posts.items f.standings.items f.chances.items c.self.invariant ∙ sym (ap length looked ∙ length-chances after.threads after (next_posts_of (set f.posts.items c.args.thread None)) ∙ ap (λ (s : Sizes). s.threads) c.take_step-stepped.ensures.sizes) in
     board-set f.store f.posts.items f.standings.items f.chances.items c.self.invariant after c.args.thread None Away _ c.take_step-stepped.ensures.sizes tt refl (front-taken _ _ _ long ∙ looked)

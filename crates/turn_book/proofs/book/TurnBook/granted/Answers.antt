@@ -2,7 +2,7 @@ use Rattle.std.proofs.Common.{◌≡◌, true, Some, None, sym, ap, ◌∙◌}
 use Rattle.std.proofs.Common.{vec_capacity}
 use Rattle.std.proofs.lemmas.Bool.{false≢true}
 use Rattle.std.specs.Prelude.{is_some}
-use Rattle.turn_book.specs.Told.{Told, choice_of}
+use Rattle.turn_book.specs.Told.{BookState, choice_of}
 use Rattle.policy_pick.specs.declared.chance.Pick.TheVariants.{Thread}
 use Rattle.turn_book.proofs.Books.{choice-next}
 use Rattle.turn_book.proofs.Takes.{none-by}
@@ -10,7 +10,7 @@ use Rattle.turn_book.proofs.book.TurnBook.granted.Goals as goal
 
 pub returns-then-is_some : goal.returns-then-is_some
 returns-then-is_some g c = λ u.
-    let says : c.is_some.result ≡ is_some (c.args.self.now).outcome = c.is_some.ensures ∙ ap (λ (b : Told). is_some b.outcome) c.self.view_is in
+    let says : c.is_some.result ≡ is_some (c.args.self.now).outcome = c.is_some.ensures ∙ ap (λ (b : BookState). is_some b.outcome) c.self.view_is in
     ((λ e. absurd cc), (λ w. absurd (false≢true (ap is_some (sym w.0) ∙ sym says ∙ c.if-is_some.true))))
 
 pub returns-in-Thread : goal.returns-in-Thread
@@ -18,7 +18,7 @@ returns-in-Thread g c = λ u.
     let f = c.self.inside in
     let t = c.in-Thread.thread in
     let open_now : f.outcome ≡ None = none-by _ _ c.is_some.ensures c.if-is_some.false in
-    let running : (c.args.self.now).outcome ≡ None = ap (λ (b : Told). b.outcome) (sym c.self.view_is) ∙ open_now in
+    let running : (c.args.self.now).outcome ≡ None = ap (λ (b : BookState). b.outcome) (sym c.self.view_is) ∙ open_now in
     let chosen : choice_of c.args.self.now ≡ Some (Thread t) = ap choice_of (sym c.self.view_is) ∙ choice-next f.deal f.limit (g.P.Policy.plan f.policy) f.board f.trace.items f.next f.outcome (vec_capacity f.trace) c.self.invariant.0 open_now ∙ ap Some c.in-Thread.is in
     ((λ e. (running, chosen ∙ (let same : t ≡ u = cc in ap (λ k. Some (Thread k)) same))), (λ w. let both = sym chosen ∙ w.1 in let same : t ≡ u = cc in ap Some same))
 

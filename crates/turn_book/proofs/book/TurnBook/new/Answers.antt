@@ -3,7 +3,7 @@ use Rattle.std.proofs.Common.{vec_capacity}
 use Rattle.turn_book.proofs.Books.{lawful-told}
 use Rattle.policy_pick.specs.Plan.{SpeaksOf}
 use Rattle.turn_book.specs.Posts.{schedule_of}
-use Rattle.turn_book.specs.Board.{BoardState, listed}
+use Rattle.turn_book.specs.Board.{BoardState, next_posts_of}
 use Rattle.turn_book.specs.Kept.{posts_by}
 use Rattle.turn_book.proofs.Boards.{length-chances}
 use Rattle.turn_book.proofs.PostLists.{posts-none}
@@ -15,7 +15,7 @@ pick-next-requires-clause-threads g c =
     let board = c.in_ok-board.board in
     let Speaks : ℕ → Type 0 = SpeaksOf (g.P.Policy.plan c.args.policy) in
     let threads : (board.store).threads ≡ (c.args.deal).threads = ap (λ (b : BoardState). (b.store).threads) c.in_ok-board.ensures.board in
-    subst Speaks (sym (ap length c.chances.ensures.chances ∙ length-chances (board.store).threads board.store (listed board.posts) ∙ threads)) c.requires.speaks
+    subst Speaks (sym (ap length c.chances.ensures.chances ∙ length-chances (board.store).threads board.store (next_posts_of board.posts) ∙ threads)) c.requires.speaks
 
 pub invariant_of-result : goal.invariant_of-result
 invariant_of-result g c =

@@ -1,7 +1,7 @@
 use Rattle.std.proofs.Common.{◌≡◌, ℕ, eqb, Some, None, List, [], ◌∷◌, ◌++◌, length, refl, sym, ap, subst, ◌∙◌, arith, rules}
 use Rattle.std.proofs.Common.{vec_capacity}
 use Rattle.pct_ask.specs.declared.event.Event.{Event}
-use Rattle.turn_book.specs.Told.{Told, choice_of, IsAnswered}
+use Rattle.turn_book.specs.Told.{BookState, choice_of, IsAnswered}
 use Rattle.turn_book.proofs.Books.{lawful-told}
 use Rattle.std.proofs.Common.{w64, to_z, of_z}
 use Rattle.std.proofs.lemmas.Int.{to_z-of_z}
@@ -10,7 +10,7 @@ use Rattle.policy_pick.specs.Plan.{Plan}
 use Rattle.policy_pick.specs.declared.chance.Pick.TheVariants.{Thread}
 use Rattle.turn_book.specs.Obeys.{outcome_by}
 use Rattle.turn_book.specs.Posts.{schedule_of}
-use Rattle.turn_book.specs.Kept.{posts_by, told, IsKept}
+use Rattle.turn_book.specs.Kept.{posts_by, book_of_parts, IsKept}
 use Rattle.turn_book.proofs.Books.{choice-told, next-told, pick_now, turn-ready, kept-step, posts-same}
 use Rattle.turn_book.proofs.book.TurnBook.step.Goals as goal
 
@@ -18,7 +18,7 @@ pub step-event-requires-clause-thread : goal.step-event-requires-clause-thread
 step-event-requires-clause-thread g c =
     let f = c.self.inside in
     let kept = c.self.invariant.0 in
-    let running : f.outcome ≡ None = ap (λ (b : Told). b.outcome) c.self.view_is ∙ c.requires.running in
+    let running : f.outcome ≡ None = ap (λ (b : BookState). b.outcome) c.self.view_is ∙ c.requires.running in
     let turn : pick_now (g.P.Policy.plan f.policy) f.deal f.board f.trace.items ≡ Thread c.args.thread = let both : Some (pick_now (g.P.Policy.plan f.policy) f.deal f.board f.trace.items) ≡ Some (Thread c.args.thread) = sym (choice-told f.deal f.limit (g.P.Policy.plan f.policy) f.board f.trace.items f.next f.outcome (vec_capacity f.trace) kept) ∙ ap choice_of c.self.view_is ∙ c.requires.turn in cc in
     omega (arith, kept.threads, (turn-ready f.deal f.limit (g.P.Policy.plan f.policy) f.board f.trace.items f.next f.outcome (vec_capacity f.trace) kept running c.args.thread turn).0)
 
@@ -26,7 +26,7 @@ pub step-event-requires-clause-ready : goal.step-event-requires-clause-ready
 step-event-requires-clause-ready g c =
     let f = c.self.inside in
     let kept = c.self.invariant.0 in
-    let running : f.outcome ≡ None = ap (λ (b : Told). b.outcome) c.self.view_is ∙ c.requires.running in
+    let running : f.outcome ≡ None = ap (λ (b : BookState). b.outcome) c.self.view_is ∙ c.requires.running in
     let turn : pick_now (g.P.Policy.plan f.policy) f.deal f.board f.trace.items ≡ Thread c.args.thread = let both : Some (pick_now (g.P.Policy.plan f.policy) f.deal f.board f.trace.items) ≡ Some (Thread c.args.thread) = sym (choice-told f.deal f.limit (g.P.Policy.plan f.policy) f.board f.trace.items f.next f.outcome (vec_capacity f.trace) kept) ∙ ap choice_of c.self.view_is ∙ c.requires.turn in cc in
     (turn-ready f.deal f.limit (g.P.Policy.plan f.policy) f.board f.trace.items f.next f.outcome (vec_capacity f.trace) kept running c.args.thread turn).1
 
@@ -35,7 +35,7 @@ invariant_of-self g c =
     let f = c.self.inside in
     let t = c.args.thread in
     let kept = c.self.invariant.0 in
-    let running : f.outcome ≡ None = ap (λ (b : Told). b.outcome) c.self.view_is ∙ c.requires.running in
+    let running : f.outcome ≡ None = ap (λ (b : BookState). b.outcome) c.self.view_is ∙ c.requires.running in
     let turn : pick_now (g.P.Policy.plan f.policy) f.deal f.board f.trace.items ≡ Thread t = let both : Some (pick_now (g.P.Policy.plan f.policy) f.deal f.board f.trace.items) ≡ Some (Thread c.args.thread) = sym (choice-told f.deal f.limit (g.P.Policy.plan f.policy) f.board f.trace.items f.next f.outcome (vec_capacity f.trace) kept) ∙ ap choice_of c.self.view_is ∙ c.requires.turn in cc in
     let plan = g.P.Policy.plan c.took.new.self in
     let K : Plan → Type 0 = λ p. IsKept f.deal f.limit p f.board f.trace.items f.next f.outcome (vec_capacity f.trace) in
@@ -60,13 +60,13 @@ returns-clause-answered g c =
     let f = c.self.inside in
     let t = c.args.thread in
     let kept = c.self.invariant.0 in
-    let running : f.outcome ≡ None = ap (λ (b : Told). b.outcome) c.self.view_is ∙ c.requires.running in
+    let running : f.outcome ≡ None = ap (λ (b : BookState). b.outcome) c.self.view_is ∙ c.requires.running in
     let turn : pick_now (g.P.Policy.plan f.policy) f.deal f.board f.trace.items ≡ Thread t = let both : Some (pick_now (g.P.Policy.plan f.policy) f.deal f.board f.trace.items) ≡ Some (Thread c.args.thread) = sym (choice-told f.deal f.limit (g.P.Policy.plan f.policy) f.board f.trace.items f.next f.outcome (vec_capacity f.trace) kept) ∙ ap choice_of c.self.view_is ∙ c.requires.turn in cc in
     let event = c.step-event.result in
     let after = c.step-event.new.self in
     let taken = c.step-event.ensures.step.1 in
     let items = c.push_reserved.ensures.items in
-    let P : Told → Type 0 = λ b. IsAnswered b t (to_z w64 (of_z w64 event.answer)) (told f.deal f.limit (g.P.Policy.plan c.took.new.self) after.posts c.push_reserved.new.self.items c.settle-self-inside.new.outcome) in
+    let P : BookState → Type 0 = λ b. IsAnswered b t (to_z w64 (of_z w64 event.answer)) (book_of_parts f.deal f.limit (g.P.Policy.plan c.took.new.self) after.posts c.push_reserved.new.self.items c.settle-self-inside.new.outcome) in
     subst P c.self.view_is (record {
       event = event;
       making = record { deal = refl; limit = refl; plan = c.took.ensures.plan };

@@ -1,5 +1,5 @@
 use Rattle.std.proofs.Common.{sym, ap, ◌∙◌, subst, Some}
-use Rattle.turn_lock.specs.Turns.{Gives}
+use Rattle.turn_lock.specs.Turns.{GivesOnce}
 use Rattle.turn_lock.specs.Briefs.{brief}
 use Rattle.turn_lock.specs.Views.{view}
 use Rattle.turn_lock.specs.declared.turn.Turn.{Turn}
@@ -14,7 +14,7 @@ pub loop-preserved : goal.loop-preserved
 loop-preserved g c =
     let gives = c.try_in_brief.ensures.gives in
     let is = busy-turn gives.turn _ (sym gives.brief ∙ c.in-Busy.is) in
-    (c.try_in_brief.ensures.of, stays-along _ _ _ c.loop.invariant.1 (busy-stays _ _ _ (subst (λ (x : Turn). Gives (view c.loop.seat) c.args.thread (Some c.args.post) x (view c.try_in_brief.new.seat)) is gives.said)))
+    (c.try_in_brief.ensures.of, stays-along _ _ _ c.loop.invariant.1 (busy-stays _ _ _ (subst (λ (x : Turn). GivesOnce (view c.loop.seat) c.args.thread (Some c.args.post) x (view c.try_in_brief.new.seat)) is gives.said)))
 
 pub returns-in_default : goal.returns-in_default
 returns-in_default g c =

@@ -1,5 +1,5 @@
 use Rattle.std.proofs.Common.{◌≡◌, ℕ, Bool, List, Option, ap, sym, ◌∙◌, subst, arith, length-set}
-use Rattle.turn_lock.specs.Plays.{Seated}
+use Rattle.turn_lock.specs.Plays.{SeatWithSlots}
 use Rattle.turn_lock.specs.Turns.{TellsEnd}
 use Rattle.turn_lock.specs.Hands.{IsSwept}
 use Rattle.turn_lock.specs.declared.work.Work.{Work}
@@ -31,9 +31,9 @@ invariant_of-seat-in-Some g c =
     let owes = owes-after old.seat.me c.grab-found.new.seat.me c.sweep-swept.new.seat.me _ got.1 c.sweep-swept.ensures.same.1 got.2 _ _ _ _ serves (inside old _ serves) found.work c.wake.new.seat.me opened in
     record {
       flags = length-set old.owes c.in-Some.thread c.in-Some.work.owes ∙ old.flags;
-      live = ap (λ (x : Seated). x.0.live) opened ∙ k.1.live;
-      idle = ap (λ (x : Seated). x.0.held) opened;
-      none = ap (λ (x : Seated). x.1) opened;
+      live = ap (λ (x : SeatWithSlots). x.0.live) opened ∙ k.1.live;
+      idle = ap (λ (x : SeatWithSlots). x.0.held) opened;
+      none = ap (λ (x : SeatWithSlots). x.1) opened;
       served = old.served ∙ sym t.took.serves;
       threads = threads-after old.serves _ _ t.took.grown old.threads;
       owed = owed-after old.serves old.owes _ _ c.in-Some.thread _ (let few = old.seat.me.0.seen.deal.few_threads in omega (arith, old.flags, few, inside old _ serves)) old.owed (λ u h ne. t.took.others u (from-flag old u h) ne) owes;
@@ -65,7 +65,7 @@ returns-in-Some-clause-round g c =
       said = record {
         serves = serves;
         took = t;
-        tells = subst (λ (l : List Bool). TellsEnd l c.in-Some.thread found.work.turn c.wake.new.seat.me.0.seen) old.served (subst (λ (x : Seated). TellsEnd old.serves c.in-Some.thread found.work.turn x.0.seen) (sym opened) found.tells);
+        tells = subst (λ (l : List Bool). TellsEnd l c.in-Some.thread found.work.turn c.wake.new.seat.me.0.seen) old.served (subst (λ (x : SeatWithSlots). TellsEnd old.serves c.in-Some.thread found.work.turn x.0.seen) (sym opened) found.tells);
       };
     }
 
@@ -75,7 +75,7 @@ returns-in-Some-clause-kept g c = λ thread is.
     let kept = subst (λ (o : Option (ℕ × Work)). IfSome o (λ found. found.1.brief ≡ Over → g.K.Keep.kept k.0.book.outcome c.sweep-swept.new.place)) c.in-Some.is k.3 in
     let opened = c.wake.ensures.view ∙ c.open_gate.ensures.opened k.0 k.1 in
     let over : c.in-Some.work.brief ≡ Over = cc in
-    subst (λ (x : Seated). g.K.Keep.kept x.0.seen.outcome c.sweep-swept.new.place) (sym opened) (kept over)
+    subst (λ (x : SeatWithSlots). g.K.Keep.kept x.0.seen.outcome c.sweep-swept.new.place) (sym opened) (kept over)
 
 pub returns-in-Some-clause-obeys : goal.returns-in-Some-clause-obeys
 returns-in-Some-clause-obeys g c = (returns-in-Some-clause-round g c).said.took.took.turn.lawful.obeys
@@ -90,9 +90,9 @@ invariant_of-seat-in-None g c =
     let s = stays old.seat.me c.grab-found.new.seat.me c.sweep-swept.new.seat.me _ got.1 c.sweep-swept.ensures.same.1 got.2 k.0 passed c.open_gate.new.seat.me opened in
     record {
       flags = old.flags;
-      live = ap (λ (x : Seated). x.0.live) opened ∙ k.1.live;
-      idle = ap (λ (x : Seated). x.0.held) opened;
-      none = ap (λ (x : Seated). x.1) opened;
+      live = ap (λ (x : SeatWithSlots). x.0.live) opened ∙ k.1.live;
+      idle = ap (λ (x : SeatWithSlots). x.0.held) opened;
+      none = ap (λ (x : SeatWithSlots). x.1) opened;
       served = old.served ∙ sym s.serves;
       threads = threads-after old.serves old.seat.me.0.seen c.open_gate.new.seat.me.0.seen s.seen old.threads;
       owed = λ u h. old.owed u h ∙ sym (stays-owes old.seat.me.0 c.open_gate.new.seat.me.0 u (from-flag old u h) s);

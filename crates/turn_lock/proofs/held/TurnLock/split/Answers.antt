@@ -1,6 +1,6 @@
 use Rattle.std.proofs.Common.{◌<◌, ℕ, sym, ap, ◌∙◌, subst}
 use Rattle.turn_lock.specs.Seen.{owes_of}
-use Rattle.turn_lock.specs.Plays.{Seated}
+use Rattle.turn_lock.specs.Plays.{SeatWithSlots}
 use Rattle.turn_lock.proofs.Joining.{threads-alone, owed-alone}
 use Rattle.turn_lock.proofs.laws.SeatedThreads.{inside}
 use Rattle.turn_lock.proofs.Seating.{to-flag}
@@ -14,10 +14,10 @@ invariant_of-result g c =
     let right = c.split_as-other.ensures.right in
     record {
       flags = old.flags;
-      live = ap (λ (x : Seated). x.0.live) right;
-      idle = ap (λ (x : Seated). x.0.held) right;
-      none = ap (λ (x : Seated). x.1) right;
-      served = sym (ap (λ (x : Seated). x.0.serves) right);
-      threads = λ u h. subst (λ (x : Seated). u < x.0.seen.deal.threads) (sym right) (threads-alone v t v.seen.deal.threads (inside old t c.requires.serves) u h);
-      owed = λ u h. owed-alone v t old.owes v.seen (old.owed t (to-flag old t c.requires.serves)) u h ∙ ap (λ (x : Seated). owes_of x.0.seen u) (sym right);
+      live = ap (λ (x : SeatWithSlots). x.0.live) right;
+      idle = ap (λ (x : SeatWithSlots). x.0.held) right;
+      none = ap (λ (x : SeatWithSlots). x.1) right;
+      served = sym (ap (λ (x : SeatWithSlots). x.0.serves) right);
+      threads = λ u h. subst (λ (x : SeatWithSlots). u < x.0.seen.deal.threads) (sym right) (threads-alone v t v.seen.deal.threads (inside old t c.requires.serves) u h);
+      owed = λ u h. owed-alone v t old.owes v.seen (old.owed t (to-flag old t c.requires.serves)) u h ∙ ap (λ (x : SeatWithSlots). owes_of x.0.seen u) (sym right);
     }

@@ -1,5 +1,5 @@
 use Rattle.std.proofs.Common.{ap, sym, refl, ◌∙◌, subst, arith, length-set}
-use Rattle.turn_lock.specs.Plays.{Seated}
+use Rattle.turn_lock.specs.Plays.{SeatWithSlots}
 use Rattle.turn_lock.proofs.laws.SeenBooks.{making-along}
 use Rattle.turn_lock.proofs.Hands.{work-goes, turned, owes-after, gives, busy, threads-after, owed-after}
 use Rattle.turn_lock.proofs.laws.SeatedThreads.{inside}
@@ -23,9 +23,9 @@ invariant_of-seat-2 g c =
     let old = c.args.seat.now in
     record {
       flags = length-set old.owes c.args.thread c.work-work.result.owes ∙ old.flags;
-      live = ap (λ (x : Seated). x.0.live) opened ∙ k.1.live;
-      idle = ap (λ (x : Seated). x.0.held) opened;
-      none = ap (λ (x : Seated). x.1) opened;
+      live = ap (λ (x : SeatWithSlots). x.0.live) opened ∙ k.1.live;
+      idle = ap (λ (x : SeatWithSlots). x.0.held) opened;
+      none = ap (λ (x : SeatWithSlots). x.1) opened;
       served = old.served ∙ sym t.took.serves;
       threads = threads-after old.serves _ _ t.took.grown old.threads;
       owed = owed-after old.serves old.owes _ _ c.args.thread _ (omega (arith, old.flags, inside old _ c.requires.serves)) old.owed (λ u h ne. t.took.others u (from-flag old u h) ne) owes;
@@ -54,7 +54,7 @@ pub returns-clause-kept : goal.returns-clause-kept
 returns-clause-kept g c = λ over.
     let k = c.work-work.ensures.work in
     let opened = c.wake.ensures.view ∙ c.open_gate.ensures.opened k.0 k.1 in
-    subst (λ (x : Seated). g.K.Keep.kept x.0.seen.outcome c.work-work.new.place) (sym opened) (k.3 over)
+    subst (λ (x : SeatWithSlots). g.K.Keep.kept x.0.seen.outcome c.work-work.new.place) (sym opened) (k.3 over)
 
 pub returns-clause-obeys : goal.returns-clause-obeys
 returns-clause-obeys g c =

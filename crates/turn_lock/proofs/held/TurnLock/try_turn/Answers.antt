@@ -1,5 +1,5 @@
 use Rattle.std.proofs.Common.{sym, ◌∙◌, subst}
-use Rattle.turn_lock.specs.Turns.{Gives}
+use Rattle.turn_lock.specs.Turns.{GivesOnce}
 use Rattle.turn_lock.specs.Views.{view}
 use Rattle.turn_lock.specs.declared.turn.Turn.{Turn}
 use Rattle.turn_lock.proofs.Briefly.{with-gives}
@@ -14,4 +14,4 @@ pub returns-clause-gives : goal.returns-clause-gives
 returns-clause-gives g c =
     let e = c.try_in_brief-words.ensures in
     let told = with-gives _ _ _ e.gives.turn _ _ e.gives.said (λ over. e.kept (e.gives.brief ∙ over)) in
-    subst (λ (turn : Turn). Gives (view c.args.seat.now) c.args.thread c.args.post turn (view c.try_in_brief-words.new.seat)) (sym (c.turn_of.ensures e.gives.turn told e.gives.brief)) e.gives.said
+    subst (λ (turn : Turn). GivesOnce (view c.args.seat.now) c.args.thread c.args.post turn (view c.try_in_brief-words.new.seat)) (sym (c.turn_of.ensures e.gives.turn told e.gives.brief)) e.gives.said

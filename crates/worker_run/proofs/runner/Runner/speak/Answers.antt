@@ -5,7 +5,7 @@ use Rattle.sync_store.specs.Store.{sizes_of_deal}
 use Rattle.sync_store.specs.World.{answers_of}
 use Rattle.turn_book.specs.Told.{PostIsInRange}
 use Rattle.turn_lock.specs.Seen.{owes_of}
-use Rattle.turn_lock.specs.Calls.{made}
+use Rattle.turn_lock.specs.Calls.{first_book}
 use Rattle.turn_lock.specs.Turns.{TookTurn}
 use Rattle.turn_lock.specs.Briefs.{brief}
 use Rattle.turn_lock.specs.Views.{view}
@@ -23,7 +23,8 @@ pub post_brief-requires-clause-in_range : goal.post_brief-requires-clause-in_ran
 post_brief-requires-clause-in_range g c = λ κs lives.
     let start = c.requires.runs.0 in
     let r = c.loop.invariant.runs start c.requires.runs.2 in
-    let P : Post → Type 0 = λ p. PostIsInRange (sizes_of_deal (made c.args.lock.now).deal) p.ask in
+    let P : Post → Type 0 =
+    λ p. PostIsInRange (sizes_of_deal (first_book c.args.lock.now).deal) p.ask in
     subst P (sym (c.post-post.ensures ∙ r.next [])) (c.requires.runs.1 (answers_of c.args.thread (view c.loop.seat).seen.trace ++ []))
 
 pub hear-requires-clause-asks : goal.hear-requires-clause-asks
