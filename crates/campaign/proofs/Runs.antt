@@ -1,7 +1,7 @@
 -- The tests of seeds have the seeds' runs, and their rows.
-use Rattle.std.proofs.Common.{◌≡◌, ℕ, zero, suc, ◌+◌, ◌<◌, List, [], ◌∷◌, ◌++◌, Option, Some, Result}
-use Rattle.std.proofs.Common.{Ok, Err, Vec, Global, length, map, get_or, refl, sym, ap, subst, ◌∙◌, arith}
-use Rattle.std.specs.Prelude.{slice_get, IfOk}
+use Rattle.std.proofs.Common.{◌≡◌, ℕ, ◌+◌, ◌<◌, List, [], ◌∷◌, ◌++◌, Option, Some, Result}
+use Rattle.std.proofs.Common.{Ok, Err, Vec, Global, length, map, get_or, sym, ap, subst, ◌∙◌, arith}
+use Rattle.std.specs.Prelude.{IfOk}
 use Rattle.std.specs.Option.{option_map}
 use Rattle.std.proofs.lemmas.Option.{slice_get_within, slice_get-get_or}
 use Rattle.pct_ask.specs.declared.Deal.{Deal}
@@ -21,27 +21,9 @@ use Rattle.worker_run.specs.Batch.{Each}
 use Rattle.worker_run.specs.Tests.{IsTest, AreTests, IsRunOf}
 use Rattle.worker_run.specs.declared.batch.Test.{Test}
 use Rattle.worker_run.specs.declared.played.Played.{Played}
+use Rattle.worker_run.proofs.laws.ItemsByPlace.{places-more, get-within}
 use Rattle.campaign.specs.Rows.{Setup, row_of_run, run_of_seed, row_of_seed, seed_at}
 use Rattle.campaign.specs.Batches.{plan_of_seed, IsSeedTest, AreSeedTests, IsSeedRun, AreSeedRuns}
-
--- ---- what holds at each place of a list
-
-abbrev Places : {X : Type 0} → (ℕ → X → Type 0) → List X → Type 0
-Places {X} P xs = (i : ℕ) (x : X) → slice_get xs i ≡ Some x → P i x
-
-places-more : {X : Type 0} (P : ℕ → X → Type 0) (xs : List X) (new : X) → Places P xs
-    → P (length xs) new → Places P (xs ++ new ∷ [])
-places-more P [] new all here zero x at = subst (P 0) (let same : new ≡ x = cc in same) here
-places-more P [] new all here (suc i) x at = absurd cc
-places-more P (y ∷ xs) new all here zero x at = all zero x at
-places-more P (y ∷ xs) new all here (suc i) x at =
-    places-more (λ k. P (suc k)) xs new (λ k. all (suc k)) here i x at
-
-get-within : {X : Type 0} (xs : List X) (i : ℕ) → i < length xs
-    → (x : X) × (slice_get xs i ≡ Some x)
-get-within [] i within = absurd (omega arith)
-get-within (x ∷ xs) zero within = (x, refl)
-get-within (x ∷ xs) (suc i) within = get-within xs i (omega arith)
 
 -- ---- tests
 

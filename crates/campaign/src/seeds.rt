@@ -1,4 +1,4 @@
-ghost use Rattle.std.specs.Prelude.{◌≡◌, ◌≤◌, ◌*◌, map, Some, IfOk};
+ghost use Rattle.std.specs.Prelude.{◌≡◌, ◌≤◌, map, Some, IfOk};
 ghost use Rattle.script_tree.specs.ScriptText.{ScriptText};
 ghost use Rattle.script_code.specs.Listing.{listing};
 ghost use Rattle.script_body.specs.Bodies.{bodies_of, AreOf};
@@ -12,25 +12,7 @@ use script_code::Code;
 use std::alloc::{AllocError as NoMemory, Global};
 use std::sync::Wait;
 use std::thread::Threads;
-
-/// How many steps the runs of a batch may have by their limits together. Each takes room for all of
-/// them before it begins, some 40 bytes a step as measured, so a batch takes some 25 MiB at most.
-const MOST_STEPS: u32 = 640_000;
-
-/// The most runs of a batch. 2,000 seeds of a bounded buffer took 0.35 seconds of processor time
-/// one by one, 0.14 in batches of 16 runs, 0.12 of 64 or 128, and 0.13 of 256.
-const MOST_RUNS: u32 = 64;
-
-/// How many runs of such a limit a batch has.
-fn batch_size(limit: u32) -> usize
-    requires some { 1 ≤ limit }
-    requires low { limit ≤ 100000 }
-    ensures some { 1 ≤ result }
-    ensures few_runs { result ≤ 64 }
-    ensures few_steps { result * limit ≤ 640000 }
-{
-    (MOST_STEPS / limit).min(MOST_RUNS) as usize
-}
+use worker_run::batch_size;
 
 /// Runs a script's code once for each of `count` seeds from `first` on, in real threads; after the
 /// last seed, 2^64 - 1, comes 0. Threads are started once for a batch of seeds, whose runs may
@@ -77,7 +59,7 @@ pub fn campaign<R: Threads + Wait + Sync, G: Gate>(
         limit,
     };
     let total = count as usize;
-    let size = batch_size(limit);
+    let size = batch_size(limit) as usize;
     let mut rows = Vec::with_capacity(alloc, total)?;
     'batches: while rows.len() < total {
         let end = rows.len() + size.min(total - rows.len());

@@ -35,12 +35,6 @@ kept-is events point later b within is =
     let first : leb point (length (schedule_of events)) ≡ true = grind (arith, nat_tests) in
     ap not is ∙ ap (λ c. c && not (list_any (λ other. eqb other point) later)) (sym first)
 
-pub past-is : (events : List Event) (point : ℕ) (later : List ℕ) → length events < point → false ≡ is_kept (schedule_of events) point later
-past-is events point later past =
-    let steps = length-map events (λ (e : Event). e.thread) in
-    let first : leb point (length (schedule_of events)) ≡ false = grind (arith, nat_tests) in
-    ap (λ c. c && not (list_any (λ other. eqb other point) later)) (sym first)
-
 pub kept-within : (events : List Event) (point : ℕ) (later : List ℕ) → is_kept (schedule_of events) point later ≡ true → point ≤ length events
 kept-within events point later is = by (leb point (length (schedule_of events))) refl is where
   by : (c : Bool) → leb point (length (schedule_of events)) ≡ c → (c && not (list_any (λ other. eqb other point) later)) ≡ true → point ≤ length events

@@ -1,15 +1,10 @@
 //! A short directive for a failing run.
 
-ghost use Rattle.std.specs.Prelude.{◌≡◌, ◌≤◌, List, length, IfOk, All, Some};
-ghost use Rattle.pct_ask.specs.declared.event.Event.{Event};
-ghost use Rattle.pct_ask.specs.declared.verdict.Verdict.{Verdict};
+ghost use Rattle.std.specs.Prelude.{◌≡◌, ◌≤◌, length, IfOk, All};
 ghost use Rattle.rank_now.specs.Order.{IsOrder};
 ghost use Rattle.script_tree.specs.ScriptText.{ScriptText};
 ghost use Rattle.script_code.specs.Listing.{listing};
 ghost use Rattle.script_body.specs.Bodies.{bodies_of, AreOf};
-ghost use Rattle.turn_book.specs.Posts.{schedule_of};
-ghost use Rattle.worker_run.specs.Run.{run, directed_run};
-ghost use Rattle.directive_find.specs.Moments.{events_of};
 ghost use Rattle.directive_find.specs.Found.{Finds};
 
 use crate::moments::events_of;

@@ -1,16 +1,13 @@
 //! Runs of a script by an order of its threads, with change points or with moments in their place.
 
 ghost use Rattle.std.specs.Prelude.{◌≡◌, ◌≤◌, length, IfOk, Some};
-ghost use Rattle.pct_ask.specs.declared.verdict.Outcome.{Outcome};
 ghost use Rattle.rank_now.specs.Order.{IsOrder};
-ghost use Rattle.policy_pick.specs.Plan.{ByPoints};
 ghost use Rattle.script_tree.specs.ScriptText.{ScriptText};
 ghost use Rattle.script_code.specs.Listing.{listing};
 ghost use Rattle.script_body.specs.Bodies.{bodies_of, AreOf};
 ghost use Rattle.worker_run.specs.Run.{run, directed_run};
-ghost use Rattle.worker_run.specs.Played.{IsPlayed};
 
-use pct_ask::{Deal, Outcome};
+use pct_ask::Deal;
 use pct_outside::Gate;
 use policy_pick::Moment;
 use script_body::bodies_of;

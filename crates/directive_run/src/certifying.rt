@@ -17,26 +17,9 @@ use script_code::Code;
 use std::alloc::{AllocError as NoMemory, Global};
 use std::sync::Wait;
 use std::thread::Threads;
+use worker_run::batch_size;
 
 const MOST_THREADS: u32 = 7;
-
-/// How many steps the runs of a batch may have by their limits together. Each takes room for all of
-/// them before it begins, some 40 bytes a step, so a batch takes some 25 MiB at most.
-const MOST_STEPS: u32 = 640_000;
-
-/// The most runs of a batch, as many as a campaign's.
-const MOST_RUNS: u32 = 64;
-
-/// How many runs of such a limit a batch may have.
-fn batch_size(limit: u32) -> u32
-    requires some { 1 ≤ limit }
-    requires low { limit ≤ 100000 }
-    ensures some { 1 ≤ result }
-    ensures few_runs { result ≤ 64 }
-    ensures few_steps { result * limit ≤ 640000 }
-{
-    (MOST_STEPS / limit).min(MOST_RUNS)
-}
 
 /// In how many choices of an order and so many points at least one leads to the verdict.
 fn bound_of(threads: u32, steps: u32, points: usize) -> u128

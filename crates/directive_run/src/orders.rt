@@ -1,6 +1,6 @@
 //! The orders of some threads that place one of them last, each by its place among them.
 
-ghost use Rattle.std.specs.Prelude.{◌≡◌, ◌≤◌, ◌<◌, ◌-◌, Some, IfOk, length, slice_get, remove};
+ghost use Rattle.std.specs.Prelude.{◌≡◌, ◌≤◌, ◌<◌, ◌-◌, Some, IfOk, slice_get, remove};
 ghost use Rattle.directive_run.specs.Orders.{factorial, low_orders, threads_below};
 
 use pct_ask::OrderList;

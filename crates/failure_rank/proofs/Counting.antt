@@ -165,13 +165,6 @@ module _ (rows : List Row) (row : Row) where
       by None e = rw e (IsCounted-new entries failed is e)
       by (Some g) e = rw e (IsCounted-present entries g failed is e)
 
-pub IsCounted-none : AreRowsCounted [] []
-IsCounted-none = record {
-  each = All-nil (IsEntry []);
-  order = λ i j d below inside. absurd (omega arith);
-  all = λ v failed none. refl;
-}
-
 -- no group counts more rows than there are
 pub counts_fit : (rows : List Row) (entries : List (Verdict × Group)) → AreRowsCounted rows entries → length rows ≤ 100000 → All (λ entry. entry.1.count + 1 < 2 ^ 32) entries
 counts_fit rows entries is few =

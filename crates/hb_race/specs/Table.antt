@@ -16,7 +16,9 @@ use Rattle.hb_race.specs.Accesses.{access_of, kind_on}
 abbrev pub time : List ℕ → ℕ → ℕ
 time clock u = slice_index_or clock u 0
 
--- that of a row's clock
+-- The entry for the thread u in the clock of a row (vector clocks: Mattern, Fidge). The row is an
+-- object's place; the entry counts those first steps of u that are before whatever takes what the
+-- object has. Past the table's end, and past a row's, it is 0.
 abbrev pub clock_entry : List (List ℕ) → ℕ → ℕ → ℕ
 clock_entry table row u = time (slice_index_or table row []) u
 

@@ -1,4 +1,4 @@
-ghost use Rattle.std.specs.Prelude.{◌≡◌, ◌<◌, ◌+◌, ℕ, suc, Some};
+ghost use Rattle.std.specs.Prelude.{◌≡◌, ◌<◌, ◌+◌, ℕ, suc};
 ghost use Rattle.hb_race.specs.Order.{Steps};
 ghost use Rattle.hb_race.specs.Lasts.{Accesses, HasLasts, IsHistory, IsCurrent, IsLatest};
 ghost use Rattle.hb_race.specs.Lasts.{IsGreatest, IsFlagged, NumbersRace, later, untold_step};

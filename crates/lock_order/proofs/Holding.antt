@@ -6,7 +6,7 @@ use Rattle.std.proofs.lemmas.List.{length_push, length-set}
 use Rattle.std.proofs.lemmas.Option.{slice_get-get_or}
 use Rattle.std.proofs.lemmas.Nat.Bits.{bit_at-zero}
 use Rattle.pct_ask.specs.declared.ask.Ask.{Ask}
-use Rattle.pct_ask.specs.declared.ask.Ask.TheVariants.{Read, Lock, TryLock, Unlock, Release, Regain}
+use Rattle.pct_ask.specs.declared.ask.Ask.TheVariants.{Read, Lock, TryLock, Regain}
 use Rattle.pct_ask.specs.declared.event.Event.{Event}
 use Rattle.pct_ask.specs.declared.Deal.{Deal}
 use Rattle.sync_store.specs.Store.{Sizes, sizes_of_deal}
@@ -21,11 +21,6 @@ takes-small sizes (Lock m) answer mutex range is = omega arith
 takes-small sizes (TryLock m) answer mutex range is = omega (arith, is.1)
 takes-small sizes (Regain cond m) answer mutex range is = omega (arith, range.1)
 takes-small sizes _ answer mutex range is = absurd is
-
-pub lets-go-small : (sizes : Sizes) (ask : Ask) (mutex : ℕ) → IsInRange sizes ask → LetsGoBy ask mutex → mutex < sizes.mutexes
-lets-go-small sizes (Unlock m) mutex range is = omega arith
-lets-go-small sizes (Release cond m) mutex range is = omega (arith, range.1)
-lets-go-small sizes _ mutex range is = absurd is
 
 -- the event that reads past the end of a list give
 abbrev pub no_event : Event

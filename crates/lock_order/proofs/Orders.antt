@@ -1,5 +1,5 @@
 -- Orders in which mutexes are taken out, and that they are good.
-use Rattle.std.proofs.Common.{◌≡◌, ◌≢◌, ℕ, zero, suc, ◌+◌, ◌<◌, ◌≤◌, List, [], ◌∷◌, ◌++◌, length, get_or, take, Option, Some, None, is_some, Bool, true, false, not, MatchOption, refl, sym, ap, ◌∙◌, subst, ◌⊎◌, inl, inr, ◌↔◌, arith}
+use Rattle.std.proofs.Common.{◌≡◌, ◌≢◌, ℕ, zero, suc, ◌+◌, ◌<◌, ◌≤◌, List, [], ◌∷◌, ◌++◌, length, get_or, take, Option, Some, None, is_some, Bool, true, false, not, MatchOption, refl, sym, ◌∙◌, subst, ◌⊎◌, inl, inr, ◌↔◌, arith}
 use Rattle.std.specs.List.{Contains}
 use Rattle.std.proofs.lemmas.Bool.{cases_eq, cases_lt}
 use Rattle.std.proofs.lemmas.List.{length-take, get_or-take, get_or_default, take_all, take_more, take_at, take-append-le, get_or_append_left, get_or_push, length_push}
@@ -101,13 +101,6 @@ module _ (mutexes : ℕ) (events : List Event) (order : List ℕ) where
     all = λ mutex remains. remains.left (good.each.all mutex remains.below);
   }
 
--- a set that has what remains after an order's first mutexes
-pub remains-first : (mutexes : ℕ) (those : MutexSet) → HasThose those (λ mutex. mutex < mutexes) → HasThose those (Remains mutexes [])
-remains-first mutexes those is mutex = (
-  λ has. record { below = (is mutex).0 has; left = λ (k, within, there). omega arith },
-  λ remains. (is mutex).1 remains.below,
-)
-
 -- and after one more
 pub remains-more : (mutexes : ℕ) (out : List ℕ) (mutex : ℕ) (those fewer : MutexSet) → HasThose those (Remains mutexes out) → HasThose fewer (λ other. (other ≢ mutex) × HasMutex those other) → HasThose fewer (Remains mutexes (out ++ mutex ∷ []))
 remains-more mutexes out mutex those fewer is without other = (
@@ -173,9 +166,6 @@ pub record OrderSoFar (mutexes : ℕ) (events : List Event) (order : List ℕ) (
   pub left_is : HasThose left (Remains mutexes (take steps order))
   pub free : (place : ℕ) → place < steps → IsFree mutexes events (take place order) (get_or order place 0)
 
-pub order-first : (mutexes : ℕ) (events : List Event) (order : List ℕ) (left : MutexSet) → HasThose left (λ mutex. mutex < mutexes) → OrderSoFar mutexes events order 0 left
-order-first mutexes events order left is = record { left_is = remains-first mutexes left is; free = λ place low. omega arith }
-
 module _ (mutexes : ℕ) (events : List Event) (nested : List MutexSet) (sets : AreNestedSets events nested) (order : List ℕ) (place : ℕ) (within : place < length order) (left : MutexSet) (so_far : OrderSoFar mutexes events order place left) where
   abbrev mutex : ℕ
   mutex = get_or order place 0
@@ -217,15 +207,6 @@ module _ (mutexes : ℕ) (events : List Event) (order : List ℕ) (left : MutexS
 pub record TakingOut (mutexes : ℕ) (nested : List MutexSet) (out : List ℕ) (remaining : MutexSet) : Type 0 where
   pub left_is : HasThose remaining (Remains mutexes out)
   pub each : (events : List Event) → AreNestedSets events nested → (place : ℕ) → place < length out → IsLowest (IsFree mutexes events (take place out)) (get_or out place 0)
-
-pub taking-first : (mutexes : ℕ) (nested : List MutexSet) (out : List ℕ) (remaining : MutexSet) → out ≡ [] → HasThose remaining (λ mutex. mutex < mutexes) → TakingOut mutexes nested out remaining
-taking-first mutexes nested out remaining none is =
-    let short : length out ≡ 0 = ap length none in
-    let P : List ℕ → Type 0 = λ xs. HasThose remaining (Remains mutexes xs) in
-    record {
-      left_is = subst P (sym none) (remains-first mutexes remaining is);
-      each = λ events sets place within. absurd (omega arith);
-    }
 
 module _ (mutexes : ℕ) (nested : List MutexSet) (out : List ℕ) (remaining : MutexSet) (so_far : TakingOut mutexes nested out remaining) where
   pub taking-below : (mutex : ℕ) → HasMutex remaining mutex → mutex < mutexes

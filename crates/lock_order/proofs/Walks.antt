@@ -1,18 +1,13 @@
 -- The walk through the mutexes that remain, and the ring that it ends in.
-use Rattle.std.proofs.Common.{◌≡◌, ◌≢◌, ℕ, zero, suc, ◌+◌, ◌-◌, ◌<◌, ◌≤◌, List, [], ◌∷◌, ◌++◌, length, get_or, take, drop, reverse, Option, Some, None, IsSome, MatchOption, refl, sym, ap, ◌∙◌, subst, inl, inr, arith, add-one, cond, eq-eqb, ne_eqb}
+use Rattle.std.proofs.Common.{◌≡◌, ◌≢◌, ℕ, zero, suc, ◌+◌, ◌-◌, ◌<◌, ◌≤◌, List, [], ◌∷◌, ◌++◌, length, get_or, take, drop, reverse, Option, Some, MatchOption, refl, sym, ap, ◌∙◌, subst, inl, inr, arith, add-one, cond, eq-eqb, ne_eqb}
 use Rattle.std.specs.List.{Contains}
 use Rattle.std.proofs.lemmas.Bool.{cases_eq, cases_lt}
 use Rattle.std.proofs.lemmas.List.{length-take, length-drop, length-append, length-reverse, length_push, get_or-take, get_or-drop, get_or_append_left, get_or-append_right, get_or_push, get_or-reverse, get_or_default}
 use Rattle.std.proofs.lemmas.List.Elements.{Contains-push, Contains-push_cases, Contains-append_left}
 use Rattle.lock_order.specs.declared.mutex_set.MutexSet.{MutexSet}
 use Rattle.lock_order.specs.Chosen.{IsLowest, IsWalk, IsRing, next_in_ring}
-use Rattle.lock_order.specs.MutexSets.{HasMutex, HasThose, set_where, IsFreeIn, IsHeldIn}
+use Rattle.lock_order.specs.MutexSets.{HasMutex, HasThose, set_where, IsHeldIn}
 use Rattle.lock_order.proofs.Orders.{contains-or}
-
--- where nothing is free, a mutex that remains has one that is held where it is taken
-pub some-held : (nested : List MutexSet) (remaining : MutexSet) (mutex : ℕ) → HasMutex remaining mutex → ¬ IsFreeIn nested remaining mutex → (low : Option ℕ) → MatchOption low ((held : ℕ) → HasMutex (set_where nested mutex) held → ¬ HasMutex remaining held) (IsLowest (IsHeldIn nested remaining mutex)) → IsSome low
-some-held nested remaining mutex has stuck None none = absurd (stuck (record { remains = has; free = none }))
-some-held nested remaining mutex has stuck (Some held) is = refl
 
 pub held-is : (nested : List MutexSet) (remaining : MutexSet) (mutex : ℕ) (low : Option ℕ) (held : ℕ) → low ≡ Some held → MatchOption low ((held : ℕ) → HasMutex (set_where nested mutex) held → ¬ HasMutex remaining held) (IsLowest (IsHeldIn nested remaining mutex)) → IsLowest (IsHeldIn nested remaining mutex) held
 held-is nested remaining mutex low held e is =
@@ -28,19 +23,6 @@ pub record Walking (nested : List MutexSet) (remaining : MutexSet) (first : ℕ)
   pub arrives : 0 < length walk → IsLowest (IsHeldIn nested remaining (get_or walk (length walk - 1) 0)) mutex
   pub goes : (place : ℕ) → place + 1 < length walk → IsLowest (IsHeldIn nested remaining (get_or walk place 0)) (get_or walk (place + 1) 0)
   pub once : (one other : ℕ) → one < other → other < length walk → get_or walk one 0 ≢ get_or walk other 0
-
-pub walk-first : (nested : List MutexSet) (remaining : MutexSet) (first : ℕ) (walk : List ℕ) → walk ≡ [] → HasMutex remaining first → Walking nested remaining first walk remaining first
-walk-first nested remaining first walk none has =
-    let short : length walk ≡ 0 = ap length none in
-    record {
-      fresh_is = λ other. (λ is. (is, λ (k, within, there). omega arith), λ (is, absent). is);
-      here = has;
-      begins = λ some. omega arith;
-      arrives_first = λ short_too. refl;
-      arrives = λ some. absurd (omega arith);
-      goes = λ place within. absurd (omega arith);
-      once = λ one other lt within. absurd (omega arith);
-    }
 
 module _ (nested : List MutexSet) (remaining : MutexSet) (first : ℕ) (walk : List ℕ) (fresh : MutexSet) (mutex : ℕ) (so_far : Walking nested remaining first walk fresh mutex) where
   abbrev longer : List ℕ

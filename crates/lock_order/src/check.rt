@@ -1,4 +1,4 @@
-ghost use Rattle.std.specs.Prelude.{◌≡◌, ℕ, ◌<◌, ◌≤◌, ◌↔◌, IsTrue, IfOk, length};
+ghost use Rattle.std.specs.Prelude.{◌≤◌, ◌↔◌, IsTrue, IfOk, length};
 ghost use Rattle.lock_order.specs.Nestings.{AreEventsInRange};
 ghost use Rattle.lock_order.specs.Good.{IsGood, IsGoodOrder, IsGoodCycle};
 ghost use Rattle.lock_order.specs.MutexSets.{AreHeldSets};

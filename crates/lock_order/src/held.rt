@@ -1,4 +1,4 @@
-ghost use Rattle.std.specs.Prelude.{◌≡◌, ℕ, ◌<◌, ◌≤◌, ◌↔◌, ◌⊎◌, Some, suc, length, IfOk, IsTrue};
+ghost use Rattle.std.specs.Prelude.{◌≡◌, ℕ, ◌<◌, ◌≤◌, ◌↔◌, ◌⊎◌, Some, length, IfOk, IsTrue};
 ghost use Rattle.lock_order.specs.Nestings.{TakesBy, LetsGoBy, AreOfSomeDeal, IsNesting};
 ghost use Rattle.lock_order.specs.Chosen.{AreNested, IsFirstOfPair};
 ghost use Rattle.lock_order.specs.MutexSets.{HasMutex, HasThose, AreHeldSets};

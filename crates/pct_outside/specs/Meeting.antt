@@ -39,7 +39,8 @@ pub record WordTells (log : List Moment) (guest word : ℕ) : Type 0 where
   pub only_came : HasMoment log (Came guest) → 1 ≤ word
   pub only_saw : HasMoment log (Saw guest) → 2 ≤ word
 
--- what is true between any two steps
+-- What is true of the book and its log between any two steps (this project): there are two words,
+-- both at home, the log says how often the guests look, and each word says how far its guest is.
 pub record IsMeeting (cells : List Cell) (log : List Moment) : Type 0 where
   pub words : length cells ≡ 2
   pub home : (guest : ℕ) → guest < 2 → (cell cells guest).1 ≡ true

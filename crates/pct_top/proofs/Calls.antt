@@ -5,11 +5,10 @@ use Rattle.pct_outside.proofs.laws.Pieces.{Appended-nil, AppendedPart-nil}
 use Rattle.pct_top.specs.declared.refusal.Refusal.{Refusal}
 use Rattle.pct_top.specs.declared.refusal.Refusal.TheVariants.{Usage, Script, Trace, Directive}
 use Rattle.pct_top.specs.declared.refusal.Refusal.TheVariants.{Read, Write, Memory}
-use Rattle.pct_top.specs.declared.settings.Settings.{Settings}
 use Rattle.pct_top.specs.declared.outcome.Outcome.{Outcome}
 use Rattle.pct_top.specs.declared.status.Status.{Status}
 use Rattle.pct_top.specs.declared.status.Status.TheVariants as statuses
-use Rattle.pct_top.specs.Settings.{SettingsOrWord, settings, ReadsWordsAs}
+use Rattle.pct_top.specs.Settings.{SettingsOrWord, settings}
 use Rattle.pct_top.specs.Refusing.{status_of_refusal, refusal_line}
 use Rattle.pct_top.specs.Saying.{SaysLine}
 use Rattle.pct_top.specs.Printed.{Files, Printed, printed_refusal}
@@ -54,26 +53,7 @@ module _ (taken : SettingsOrWord) (shelf shelf' : ShelfTold) where
   answers_put before after outcome (Err Memory) h p =
       inr (λ files e. (printed_of outcome, h files e, (refl, p)))
 
--- the words were read as these settings
-pub answers_taken : (taken : SettingsOrWord) (asked : Settings) (shelf shelf' : ShelfTold)
-    (before after : StreamTold) (r : Result Status Refusal) → ReadsWordsAs (Ok asked) taken
-    → Answers (Ok asked) shelf shelf' before after r → Answers taken shelf shelf' before after r
-answers_taken taken asked shelf shelf' before after r reads h =
-    subst (λ (t : SettingsOrWord). Answers t shelf shelf' before after r) (sym reads) h
-
-pub answers_untaken : (taken : SettingsOrWord) (word : ℕ) (shelf : ShelfTold) (stream : StreamTold)
-    → taken ≡ Err word → Answers taken shelf shelf stream stream (Err (Usage word))
-answers_untaken taken word shelf stream is = (
-  refl,
-  λ files e. subst (λ (t : SettingsOrWord). OfTaken t files (printed_refusal (Usage word)))
-      (sym is) refl,
-)
-
 -- ---- words that aren't taken
-
-pub refused_not : (taken : SettingsOrWord) (asked : Settings) (r : Result Status Refusal)
-    → ReadsWordsAs (Ok asked) taken → RefusedFirst taken r
-refused_not taken asked r reads = subst (λ (t : SettingsOrWord). RefusedFirst t r) (sym reads) tt
 
 refused_ran : (taken : SettingsOrWord) (status : Status) → RefusedFirst taken (Ok status)
     → RefusedWords taken status

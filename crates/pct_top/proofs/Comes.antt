@@ -57,18 +57,6 @@ missed_after name failed middle failed' (inr one) is = (
 
 -- ---- refusals
 
--- what one script gives doesn't look at files
-pub comes_plain : (of : Printed → Type 0) (told : Option Files) (missed : Type 0)
-    (r : Result Outcome Refusal) → GivesPrinted of r → Comes (λ files. of) told missed r
-comes_plain of told missed (Ok outcome) h = λ files e. h
-comes_plain of told missed (Err (Usage word)) h = λ files e. h
-comes_plain of told missed (Err (Script line kind)) h = λ files e. h
-comes_plain of told missed (Err (Trace line kind)) h = λ files e. h
-comes_plain of told missed (Err (BadDirective line kind)) h = λ files e. h
-comes_plain of told missed (Err Read) h = absurd h
-comes_plain of told missed (Err Write) h = absurd h
-comes_plain of told missed (Err Memory) h = tt
-
 -- what a failed read has for a cause has another cause
 pub comes_as : (of : Files → Printed → Type 0) (told : Option Files) (missed other : Type 0)
     → (missed → other) → (r : Result Outcome Refusal) → Comes of told missed r
@@ -94,18 +82,6 @@ gives_comes of told missed (Err (BadDirective line kind)) h = λ files e. h file
 gives_comes of told missed (Err Read) h = absurd (h (λ name. []))
 gives_comes of told missed (Err Write) h = h (λ name. [])
 gives_comes of told missed (Err Memory) h = tt
-
--- an order that isn't given
-pub order_refused : (names : NameLists) (items : List (List ℕ)) (word : ℕ)
-    (of : List ℕ → Printed → Type 0) (refusal : Refusal) → GivesOrder names items word (Err refusal)
-    → GivesPrinted (OfOrder names items word of) (Err refusal)
-order_refused names items word of (Usage n) h = inr (h.1, ap (λ w. printed_refusal (Usage w)) h.0)
-order_refused names items word of (Script line kind) h = absurd h
-order_refused names items word of (Trace line kind) h = absurd h
-order_refused names items word of (BadDirective line kind) h = absurd h
-order_refused names items word of Read h = absurd h
-order_refused names items word of Write h = absurd h
-order_refused names items word of Memory h = tt
 
 module _ (told : Option Files) (file : List ℕ) (names : NameLists)
     (of : TraceFile → Printed → Type 0) (missed : Type 0) where

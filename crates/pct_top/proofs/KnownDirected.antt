@@ -22,7 +22,7 @@ use Rattle.directive_run.specs.Certifying.{Certifies}
 use Rattle.directive_run.specs.declared.answers.Certified.{Certified}
 use Rattle.directive_run.specs.declared.answers.Certified.TheVariants.{Yes, Refuted, TooLong}
 use Rattle.directive_run.specs.declared.answers.Certified.TheVariants.{TooManyThreads}
-use Rattle.pct_top.specs.Known.{AreKnown}
+use Rattle.pct_top.specs.Known.{IsKnownRun}
 use Rattle.pct_top.specs.Priorities.{ArePriorities}
 use Rattle.pct_top.specs.commands.KnownCertificate.{IsKnownCertificate}
 use Rattle.pct_top.proofs.KnownRuns.{known-run}
@@ -49,7 +49,8 @@ module _ (script : ScriptText) (deal : Deal) (sound : IsScript script)
   module _ (order : List ℕ) (events : List Moment) (steps limit : ℕ) (points : List ℕ)
       (played : Played)
       (is : IsExposed deal (bodies_of script) order events steps limit points played) where
-    pub known-exposed : deal.threads ≡ length order → AreKnown script limit played.events is.verdict
+    pub known-exposed : deal.threads ≡ length order
+        → IsKnownRun script limit played.events is.verdict
     known-exposed whole =
         let runs = run-played deal (bodies_of script) order points limit played.events is.verdict
         whole is.is_run in

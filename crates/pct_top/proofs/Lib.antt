@@ -1,5 +1,4 @@
 mod KnownRuns
-mod OptionNumbers
 mod OptionLists
 mod OptionRanges
 mod OptionSettings

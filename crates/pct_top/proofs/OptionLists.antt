@@ -10,7 +10,8 @@ use Rattle.pct_top.specs.declared.options.OptionName.{OptionName}
 use Rattle.pct_top.specs.declared.options.OptionName.TheVariants.{Order, Points, Limit, Seed, Depth}
 use Rattle.pct_top.specs.declared.options.OptionName.TheVariants.{Steps, From, Count, Form}
 use Rattle.pct_top.specs.declared.options.Options.{Options}
-use Rattle.pct_top.specs.Values.{order_in, step_count, points_in, seed_in, depth_in, is_json}
+use Rattle.pct_ask.specs.Numbers.{step_count}
+use Rattle.pct_top.specs.Values.{order_in, points_in, seed_in, depth_in, is_json}
 use Rattle.pct_top.specs.Options.{is_new, with_option_value, next_option, option_named}
 use Rattle.pct_top.specs.Options.{OptionsOrWord, lawful_or}
 use Rattle.pct_top.specs.Options.{with_option, and_then, options_from, one_if, option_count}

@@ -1,14 +1,11 @@
 -- The ranges that the options of a list of words keep to, and so the settings that they make.
-use Rattle.std.proofs.Common.{◌≡◌, ℕ, suc, ◌+◌, ◌≤◌, Bool, true, false, cond, ◌&&◌, List, [], ◌∷◌}
+use Rattle.std.proofs.Common.{◌≡◌, ℕ, suc, ◌+◌, ◌≤◌, Bool, true, false, cond, List, [], ◌∷◌}
 use Rattle.std.proofs.Common.{length, Option, Some, None, Result, Ok, Err, refl, ap, subst, arith}
-use Rattle.std.specs.Prelude.{All, IfSome, IfOk, nat_le, decimal}
+use Rattle.std.specs.Prelude.{All, IfSome, IfOk, nat_le}
 use Rattle.std.specs.Option.{option_map, option_and_then, unwrap_or}
-use Rattle.std.specs.Str.{bytes_eq}
-use Rattle.std.specs.Str.Parse.{digits_value}
-use Rattle.std.proofs.lemmas.Bool.{and_parts}
 use Rattle.std.proofs.lemmas.Bool.Decides.{nat_tests}
 use Rattle.std.proofs.lemmas.List.Elements.{All-cons, All-nil}
-use Rattle.std.proofs.lemmas.Option.{option_and_then_some, cond_some}
+use Rattle.std.proofs.lemmas.Option.{option_and_then_some}
 use Rattle.trace_text.specs.Lawful.{IsStepCount}
 use Rattle.pct_top.specs.declared.command.Command.{Command}
 use Rattle.pct_top.specs.declared.command.Command.TheVariants as commands
@@ -21,8 +18,10 @@ use Rattle.pct_top.specs.declared.settings.Report.{Report}
 use Rattle.pct_top.specs.declared.settings.Settings.{Settings}
 use Rattle.pct_top.specs.declared.settings.Settings.TheVariants.{RunSeed, Big, Replay, Certify}
 use Rattle.pct_top.specs.declared.settings.WordsError.{WordsError}
-use Rattle.pct_top.specs.Values.{items_of, order_in, within, number_in, step_count, step_counts}
-use Rattle.pct_top.specs.Values.{points_in, seed_in, depth_in, is_json, pieces_in}
+use Rattle.pct_ask.specs.Numbers.{number_in, onto_front, step_count, step_counts}
+use Rattle.pct_ask.proofs.laws.Decimals.{number_in-Some}
+use Rattle.pct_top.specs.Values.{items_of, order_in, points_in, seed_in, depth_in, is_json}
+use Rattle.pct_top.specs.Values.{pieces_in}
 use Rattle.pct_top.specs.Options.{no_options, with_option_value, next_option, OptionsOrWord}
 use Rattle.pct_top.specs.Options.{lawful_or, with_option}
 use Rattle.pct_top.specs.Options.{without_value, and_then, options_from}
@@ -36,29 +35,9 @@ use Rattle.pct_top.proofs.OptionLists.{changed}
 
 -- ---- ranges
 
-in_bounds : (low high n m : ℕ) → within low high n ≡ Some m → (low ≤ m) × (m ≤ high)
-in_bounds low high n m is =
-    let parts = cond_some (nat_le low n && nat_le n high) n m is in
-    let both = and_parts (nat_le low n) (nat_le n high) parts.0 in
-    let first = both.0 in
-    let last = both.1 in
-    let same = parts.1 in (
-      let least : low ≤ n = grind (arith, nat_tests) in
-          omega (arith, least, same),
-      let most : n ≤ high = grind (arith, nat_tests) in
-          omega (arith, most, same),
-    )
-
-bounded-by : (low high m : ℕ) (canonical : Bool) (n : ℕ)
-    → cond canonical (within low high n) None ≡ Some m → (low ≤ m) × (m ≤ high)
-bounded-by low high m true n is = in_bounds low high n m is
-bounded-by low high m false n is = absurd cc
-
 bounded : (low high : ℕ) (word : List ℕ) (m : ℕ) → number_in low high word ≡ Some m
     → (low ≤ m) × (m ≤ high)
-unfolding number_in
-bounded low high word m is =
-    bounded-by low high m (bytes_eq (decimal (digits_value 10 word)) word) (digits_value 10 word) is
+bounded low high word m is = let k = number_in-Some low high m word is in (k.0, k.1)
 
 map_parts : {A B : Type 0} (f : A → B) (o : Option A) (y : B) → option_map f o ≡ Some y
     → (x : A) × (o ≡ Some x) × (f x ≡ y)
@@ -74,16 +53,19 @@ are_counts : (items : List (List ℕ)) (counts : List ℕ) → step_counts items
 are_counts [] counts is = let same : [] ≡ counts = cc in
     subst (AreCounts []) same (record { long = refl; fit = All-nil IsStepCount })
 are_counts (item ∷ items) counts is =
-    option_and_then_some (λ n. option_map (λ ns. n ∷ ns) (step_counts items)) (step_count item)
-    counts is (λ n at rest.
-    let parts = map_parts (λ ns. n ∷ ns) (step_counts items) counts rest in
-    let others = are_counts items parts.0 parts.1 in
-    subst (AreCounts (item ∷ items)) parts.2
-    (record {
-      long = ap suc others.long;
-      fit =
-          All-cons IsStepCount n parts.0 (bounded 1 100000 item n at) others.fit;
-    }))
+    by (λ ns each. are_counts items ns each) (step_count item) refl is
+  where
+    by : ((ns : List ℕ) → step_counts items ≡ Some ns → AreCounts items ns)
+        → (o : Option ℕ) → step_count item ≡ o → onto_front o (step_counts items) ≡ Some counts
+        → AreCounts (item ∷ items) counts
+    by further None at e = absurd cc
+    by further (Some n) at e =
+        let parts = map_parts (λ ns. n ∷ ns) (step_counts items) counts e in
+        let others = further parts.0 parts.1 in
+        subst (AreCounts (item ∷ items)) parts.2 (record {
+          long = ap suc others.long;
+          fit = All-cons IsStepCount n parts.0 (bounded 1 100000 item n at) others.fit;
+        })
 
 points_fit : (value : List ℕ) (points : List ℕ) → points_in value ≡ Some points → ArePoints points
 points_fit value points is = by (nat_le (length (items_of value)) 7) refl is

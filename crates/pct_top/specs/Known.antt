@@ -14,8 +14,9 @@ pub record IsKnownVerdict (names : NameLists) (version : ℕ) (verdict : Verdict
   pub whole : IsWholeVerdict verdict
   pub known : (is_of_second verdict ≡ false) ⊎ (version ≡ 2)
 
--- the steps and the verdict of a run of the script
-pub record AreKnown (script : ScriptText) (limit : ℕ) (events : List Event) (verdict : Verdict) :
+-- the steps and the verdict of a run of the script, of at most so many steps, name only what the
+-- script has
+pub record IsKnownRun (script : ScriptText) (limit : ℕ) (events : List Event) (verdict : Verdict) :
     Type 0 where
   pub few : length events ≤ limit
   pub steps : All (NamesKnown script.names (trace_version script)) events

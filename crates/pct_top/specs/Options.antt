@@ -11,7 +11,8 @@ use Rattle.pct_top.specs.declared.options.Options.{Options}
 use Rattle.pct_top.specs.declared.settings.WordsError.{WordsError}
 use Rattle.pct_top.specs.declared.settings.WordsError.TheVariants.{Word, NoMemory}
 use Rattle.pct_top.specs.Table.{takes_option}
-use Rattle.pct_top.specs.Values.{order_in, points_in, step_count, seed_in, depth_in, is_json}
+use Rattle.pct_ask.specs.Numbers.{step_count}
+use Rattle.pct_top.specs.Values.{order_in, points_in, seed_in, depth_in, is_json}
 
 -- the option that a word begins
 abbrev pub option_named : List ℕ → Option OptionName

@@ -38,7 +38,7 @@ impl Command {
     }
 
     /// Whether the command takes an option, beside those that were given.
-    pub fn takes(self, given: &Options, name: OptionName) -> bool
+    pub fn takes_option(self, given: &Options, name: OptionName) -> bool
         ensures { result ≡ table.takes_option self given.now name }
     {
         match self {

@@ -70,7 +70,7 @@ pub struct Options {
 
 impl Options {
     /// Before the first option.
-    fn none() -> Options
+    fn no_options() -> Options
         ensures { result ≡ options.no_options }
     {
         Options {
@@ -107,7 +107,7 @@ impl Options {
     fn next_option(&self, command: Command, word: &str) -> Option<OptionName>
         ensures { result ≡ options.next_option command self.now word.now }
     {
-        option_named(word).filter(|name| self.is_new(*name) && command.takes(self, *name))
+        option_named(word).filter(|name| self.is_new(*name) && command.takes_option(self, *name))
     }
 
     fn take_order(&mut self, alloc: Global, word: u32, value: &str) -> Result<(), WordsError>
@@ -275,7 +275,7 @@ pub fn options_in(
         (options.options_from command options.no_options first (texts_of words.now)) }
     ensures next { IfOk result (λ given. given.1 ≡ length words.now + first) }
 {
-    let mut options = Options::none();
+    let mut options = Options::no_options();
     let mut number = first;
     let mut rest = words;
     while let Some((word, others)) = rest.split_first() {

@@ -6,7 +6,7 @@ ghost use Rattle.script_tree.specs.ScriptSeen.{plain_script};
 ghost use Rattle.trace_text.specs.Lawful.{IsStepCount};
 ghost use Rattle.pct_top.specs.Runs.{run_of};
 ghost use Rattle.pct_top.specs.Ready.{IsReadyTest};
-ghost use Rattle.pct_top.specs.Known.{AreKnown};
+ghost use Rattle.pct_top.specs.Known.{IsKnownRun};
 
 use crate::test::Test;
 use pct_outside::Gate;
@@ -35,7 +35,7 @@ pub fn play<R: Threads + Wait + Sync, G: Gate>(
         run_of (plain_script test.now.script) test.now.deal order.now points.now limit
         ≡ Some (run.events, run.verdict)) }
     ensures known { IfOk result (λ run.
-        AreKnown (plain_script test.now.script) limit run.events run.verdict) }
+        IsKnownRun (plain_script test.now.script) limit run.events run.verdict) }
 {
     let bodies = bodies_of(alloc, &test.code)?;
     let deal = test.deal.copy(alloc)?;

@@ -1,12 +1,13 @@
 //! The values of options.
 
-ghost use Rattle.std.specs.Prelude.{◌≡◌, ◌≤◌, IfOk, IfSome};
+ghost use Rattle.std.specs.Prelude.{◌≡◌, IfOk};
 ghost use Rattle.std.specs.List.{list_all};
+ghost use Rattle.pct_ask.specs.Numbers as numbers;
 ghost use Rattle.pct_ask.specs.Words.{is_name};
 ghost use Rattle.pct_top.specs.Values as values;
 
 use crate::text::{Text, TextList};
-use pct_ask::{PointList, is_lawful_name, read_number};
+use pct_ask::{PointList, is_lawful_name, number_in};
 use std::alloc::{AllocError as NoMemory, Global};
 
 /// The items of a value, which stand between commas.
@@ -37,44 +38,24 @@ pub fn order_in(alloc: Global, value: &str) -> Result<Option<TextList>, NoMemory
     Ok(lawful.then_some(items))
 }
 
-/// The number in a range of which the word is the canonical decimal.
-fn number_in(low: u64, high: u64, word: &str) -> Option<u64>
-    ensures number { result ≡ values.number_in low high word.now }
-    ensures most { IfSome result (λ number. number ≤ high) }
-{
-    let number = read_number(word.as_bytes())?;
-    in_range(low, high, number)
-}
-
-fn in_range(low: u64, high: u64, number: i128) -> Option<u64>
-    ensures number { result ≡ values.in_range low high number }
-    ensures most { IfSome result (λ found. found ≤ high) }
-{
-    if i128::from(low) <= number && number <= i128::from(high) {
-        Some(number as u64)
-    } else {
-        None
-    }
-}
-
 /// A number of steps.
 pub fn step_count(word: &str) -> Option<u32>
-    ensures { result ≡ values.step_count word.now }
+    ensures { result ≡ numbers.step_count word.now }
 {
-    let count = number_in(1, 100_000, word)?;
+    let count = number_in(1, 100_000, word.as_bytes())?;
     Some(count as u32)
 }
 
 pub fn seed_in(word: &str) -> Option<u64>
     ensures { result ≡ values.seed_in word.now }
 {
-    number_in(0, u64::MAX, word)
+    number_in(0, u64::MAX, word.as_bytes())
 }
 
 pub fn depth_in(word: &str) -> Option<u32>
     ensures { result ≡ values.depth_in word.now }
 {
-    let depth = number_in(1, 8, word)?;
+    let depth = number_in(1, 8, word.as_bytes())?;
     Some(depth as u32)
 }
 
@@ -82,7 +63,7 @@ pub fn depth_in(word: &str) -> Option<u32>
 pub fn pieces_in(word: &str) -> Option<u32>
     ensures { result ≡ values.pieces_in word.now }
 {
-    let pieces = number_in(1, 100, word)?;
+    let pieces = number_in(1, 100, word.as_bytes())?;
     Some(pieces as u32)
 }
 
@@ -99,7 +80,7 @@ pub fn is_json(word: &str) -> Option<bool>
 
 /// What each item is, where each is a number of steps.
 fn step_counts(alloc: Global, items: &[Text]) -> Result<Option<PointList>, NoMemory>
-    ensures { IfOk result (λ counts. counts ≡ values.step_counts items.now) }
+    ensures { IfOk result (λ counts. counts ≡ numbers.step_counts items.now) }
 {
     let mut counts = PointList::new(alloc);
     for item in items {

@@ -27,7 +27,9 @@ unfoldable pub drawn_points : ℕ → ℕ → ℕ → ℕ → List ℕ
 drawn_points seed place steps count =
     map (λ i. 1 + draw seed (place + 2 * i) steps) (range_with_len 0 count)
 
--- what a run is drawn
+-- What a seed gives a run, the random choices of PCT: an order of the threads, the highest first,
+-- and change points, each the number of a step from 1. Two points may be equal, and they stand as
+-- they were drawn, in no order of their own.
 pub record SeedDraw : Type 0 where
   pub order : List ℕ
   pub points : List ℕ

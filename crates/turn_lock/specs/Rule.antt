@@ -54,6 +54,11 @@ pub record Holder (s : LockState) (t : ℕ) : Type 0 where
   pub serves : Serves view t
   pub held : view.held ≡ true
 
+-- The rule that the lock's table keeps between any two steps (this project), with the book that the
+-- lock was made with. Nobody holds the gate, or the one seat whose thread the gate word names. No
+-- two seats serve one thread, and a seat that was joined to another serves none. The slot, as it
+-- was when it was last at home, has a lawful book of the same making, and what each live seat has
+-- seen is how that book begins.
 pub record KeepsRule (made : BookState) (s : LockState) : Type 0 where
   -- the slot's value when it was last at home
   pub slot : Slot

@@ -19,3 +19,5 @@ pub mod RunsOver
 pub mod SampleRanges
 -- a test more in a list of tests
 pub mod Batches
+-- items of a list by their places
+pub mod ItemsByPlace

@@ -2,6 +2,7 @@
 #![tactic(auto)]
 
 mod batch;
+mod batch_sizes;
 mod by_order;
 mod crew;
 mod lent;
@@ -15,6 +16,7 @@ mod runner;
 mod teams;
 
 pub use batch::Test;
+pub use batch_sizes::batch_size;
 pub use by_order::{WholeRun, run_by_events, run_by_points};
 pub use lent::run_on;
 pub use many::run_many;

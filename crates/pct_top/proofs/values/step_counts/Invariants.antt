@@ -1,6 +1,6 @@
 use Rattle.std.proofs.Common.{◌≡◌, ◌++◌, drop}
 use Rattle.std.specs.Option.{option_map}
-use Rattle.pct_top.specs.Values.{step_counts}
+use Rattle.pct_ask.specs.Numbers.{step_counts}
 use Rattle.pct_top.proofs.values.step_counts.Given as goal
 
 -- the counts so far and those of the items left are those of all

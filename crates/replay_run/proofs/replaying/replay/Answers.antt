@@ -4,7 +4,6 @@ use Rattle.std.proofs.lemmas.List.Elements.{All-map}
 use Rattle.pct_ask.specs.declared.Deal.{Deal}
 use Rattle.pct_ask.specs.declared.event.Event.{Event}
 use Rattle.sync_store.specs.Store.{sizes_of_deal}
-use Rattle.script_code.specs.Listing.{listing}
 use Rattle.script_body.specs.BodyPosts.{pending_of_body}
 use Rattle.policy_pick.specs.Plan.{Plan, ByList, SpeaksOf}
 use Rattle.policy_pick.specs.Kept.{list_plan}

@@ -6,7 +6,7 @@ use Rattle.script_tree.specs.ScriptSeen.{plain_script}
 use Rattle.script_body.specs.Bodies.{bodies_of}
 use Rattle.directive_run.specs.Exposing.{Exposes}
 use Rattle.directive_run.specs.declared.answers.Exposed.{Exposed}
-use Rattle.pct_top.specs.Known.{AreKnown}
+use Rattle.pct_top.specs.Known.{IsKnownRun}
 use Rattle.pct_top.proofs.KnownDirected.{known-exposed}
 use Rattle.pct_top.proofs.commands.expose.told_exposed.Goals as goal
 
@@ -25,6 +25,6 @@ told_trace-requires-clause-known c =
     let ends : Ends is.verdict ≡ Ends run.verdict =
     sym is.ends ∙ c.into_whole-run.ensures.verdict in
     let verdict : is.verdict ≡ run.verdict = cc in
-    let E : List Event → Type 0 = λ made. AreKnown script c.args.limit made is.verdict in
-    let V : Verdict → Type 0 = λ v. AreKnown script c.args.limit run.events v in
+    let E : List Event → Type 0 = λ made. IsKnownRun script c.args.limit made is.verdict in
+    let V : Verdict → Type 0 = λ v. IsKnownRun script c.args.limit run.events v in
     subst V verdict (subst E (sym c.into_whole-run.ensures.events) known)
