@@ -1,2 +1,3 @@
+pub mod Adding
 pub mod Simple
 pub mod Shortness

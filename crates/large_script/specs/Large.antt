@@ -1,8 +1,10 @@
 -- The large script of so many pieces a thread: eight threads that add one to eight variables, and a
 -- last one that adds the variables up (this project).
 use Rattle.std.specs.Prelude.{ℕ, zero, suc, pos, ◌+◌, ◌*◌, ◌%◌, ◌==◌, if◌then◌else◌, List, [], ◌∷◌}
-use Rattle.std.specs.Prelude.{◌++◌, codes}
-use Rattle.pct_ask.specs.NameLists.{NameLists, no_names}
+use Rattle.std.specs.Prelude.{◌++◌, ◌&&◌, not, nat_lt, Bool, true, length, codes}
+use Rattle.pct_ask.specs.Words.{is_name, is_among}
+use Rattle.pct_ask.specs.NameLists.{NameLists, no_names, list_of, with_name, all_names}
+use Rattle.pct_ask.specs.declared.names.NameKind.{NameKind}
 use Rattle.script_tree.specs.declared.expr.Op.TheVariants as ops
 use Rattle.script_tree.specs.Trees.{Expression, Number, Reg, Two, Statement, closed_at, Read, Write}
 use Rattle.script_tree.specs.Trees.{Lock, Unlock, Join, Yield, Assert, Set}
@@ -33,6 +35,20 @@ large_names = record no_names {
   vars = var_names;
   mutexes = mutex_names;
 }
+
+-- these names of a kind behind those that there are
+abbrev pub with_names : NameKind → List (List ℕ) → NameLists → NameLists
+with_names kind [] lists = lists
+with_names kind (name ∷ names) lists = with_names kind names (with_name kind name lists)
+
+-- each of these names may be added, one after another: it is lawful and new, and has room
+abbrev pub may_add : NameKind → List (List ℕ) → NameLists → Bool
+may_add kind [] lists = true
+may_add kind (name ∷ names) lists =
+    is_name 1 name
+    && not (is_among name (all_names lists))
+    && nat_lt (length (list_of kind lists)) 64
+    && may_add kind names (with_name kind name lists)
 
 -- The script is made to be printed. Its statements have their lines in the print, and until then
 -- this one.

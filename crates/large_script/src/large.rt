@@ -1,17 +1,16 @@
-ghost use Rattle.std.specs.Prelude.{◌≡◌, ◌≤◌, ◌<◌, ◌++◌, ◌∷◌, [], length, map, IfOk, OnOk};
+ghost use Rattle.std.specs.Prelude.{◌≡◌, ◌≤◌, ◌<◌, ◌++◌, ◌∷◌, [], true, length, map, IfOk, OnOk};
 ghost use Rattle.pct_ask.specs.Lines.{lines_of};
-ghost use Rattle.pct_ask.specs.NameLists.{NameLists, no_names};
+ghost use Rattle.pct_ask.specs.NameLists.{no_names};
 ghost use Rattle.script_tree.specs.Trees as trees;
-ghost use Rattle.script_tree.specs.Trees.{closed_at};
-ghost use Rattle.script_tree.specs.Seen.{expression, statement, statements, block};
+ghost use Rattle.script_tree.specs.Seen.{expression, statement, statements};
 ghost use Rattle.script_tree.specs.ScriptParts as parts;
 ghost use Rattle.script_tree.specs.ScriptSeen.{plain_script};
 ghost use Rattle.script_tree.specs.Layout.{layout};
 ghost use Rattle.script_tree.specs.Grammar.{Spells};
 ghost use Rattle.script_tree.specs.Renumbering.{renumbered_script};
-ghost use Rattle.large_script.specs.Large.{var_names, mutex_names, large_names, add_one};
+ghost use Rattle.large_script.specs.Large.{large_names, with_names, may_add, add_one};
 ghost use Rattle.large_script.specs.Large.{open_piece, locked_piece, piece, pieces, joins_of, sums};
-ghost use Rattle.large_script.specs.Large.{last_checks, workers, unset_thread, large_script};
+ghost use Rattle.large_script.specs.Large.{last_checks, unset_thread, large_script};
 
 use pct_ask::{NameKind, Names, NumberList};
 use script_tree::{Block, Expr, Op, Script, Stmt, ThreadText, print_script};
@@ -19,6 +18,12 @@ use std::alloc::{AllocError as NoMemory, Global};
 
 /// The line of a statement that is not printed yet.
 const UNPRINTED: u32 = 1;
+
+const VARS: [&[u8]; 8] = [b"v0", b"v1", b"v2", b"v3", b"v4", b"v5", b"v6", b"v7"];
+
+const MUTEXES: [&[u8]; 8] = [b"m0", b"m1", b"m2", b"m3", b"m4", b"m5", b"m6", b"m7"];
+
+const THREADS: [&[u8]; 9] = [b"T0", b"T1", b"T2", b"T3", b"T4", b"T5", b"T6", b"T7", b"Z"];
 
 fn two(alloc: Global, op: Op, left: Expr, right: Expr) -> Result<Expr, NoMemory>
     ensures { IfOk result (λ e. expression e ≡ trees.Two op (expression left) (expression right)) }
@@ -185,60 +190,37 @@ fn threads(alloc: Global, many: u32) -> Result<Vec<ThreadText>, NoMemory>
     Ok(threads)
 }
 
-fn add_vars(alloc: Global, names: &mut Names) -> Result<(), NoMemory>
-    requires { names.old ≡ no_names }
-    ensures { OnOk result (names.new ≡ record no_names { vars = var_names }) }
-{
-    names.add(alloc, NameKind::Var, b"v0")?;
-    names.add(alloc, NameKind::Var, b"v1")?;
-    names.add(alloc, NameKind::Var, b"v2")?;
-    names.add(alloc, NameKind::Var, b"v3")?;
-    names.add(alloc, NameKind::Var, b"v4")?;
-    names.add(alloc, NameKind::Var, b"v5")?;
-    names.add(alloc, NameKind::Var, b"v6")?;
-    names.add(alloc, NameKind::Var, b"v7")?;
-    Ok(())
-}
-
-fn add_mutexes(alloc: Global, names: &mut Names) -> Result<(), NoMemory>
-    requires { names.old ≡ record no_names { vars = var_names } }
+/// Adds names of a kind, one after another.
+fn add_all(
+    alloc: Global,
+    kind: NameKind,
+    words: &[&[u8]],
+    names: &mut Names,
+) -> Result<(), NoMemory>
+    requires { may_add kind (map (λ word. word.now) words.now) names.old ≡ true }
     ensures { OnOk result
-        (names.new ≡ record no_names { vars = var_names; mutexes = mutex_names }) }
+        (names.new ≡ with_names kind (map (λ word. word.now) words.now) names.old) }
 {
-    names.add(alloc, NameKind::Mutex, b"m0")?;
-    names.add(alloc, NameKind::Mutex, b"m1")?;
-    names.add(alloc, NameKind::Mutex, b"m2")?;
-    names.add(alloc, NameKind::Mutex, b"m3")?;
-    names.add(alloc, NameKind::Mutex, b"m4")?;
-    names.add(alloc, NameKind::Mutex, b"m5")?;
-    names.add(alloc, NameKind::Mutex, b"m6")?;
-    names.add(alloc, NameKind::Mutex, b"m7")?;
+    for word in words {
+        names.add(alloc, kind, word)?;
+    }
     Ok(())
 }
 
-fn add_threads(alloc: Global, names: &mut Names) -> Result<(), NoMemory>
-    requires { names.old ≡ record no_names { vars = var_names; mutexes = mutex_names } }
+fn add_names(alloc: Global, names: &mut Names) -> Result<(), NoMemory>
+    requires { names.old ≡ no_names }
     ensures { OnOk result (names.new ≡ large_names) }
 {
-    names.add(alloc, NameKind::Thread, b"T0")?;
-    names.add(alloc, NameKind::Thread, b"T1")?;
-    names.add(alloc, NameKind::Thread, b"T2")?;
-    names.add(alloc, NameKind::Thread, b"T3")?;
-    names.add(alloc, NameKind::Thread, b"T4")?;
-    names.add(alloc, NameKind::Thread, b"T5")?;
-    names.add(alloc, NameKind::Thread, b"T6")?;
-    names.add(alloc, NameKind::Thread, b"T7")?;
-    names.add(alloc, NameKind::Thread, b"Z")?;
-    Ok(())
+    add_all(alloc, NameKind::Var, &VARS, names)?;
+    add_all(alloc, NameKind::Mutex, &MUTEXES, names)?;
+    add_all(alloc, NameKind::Thread, &THREADS, names)
 }
 
 fn names(alloc: Global) -> Result<Names, NoMemory>
     ensures { IfOk result (λ names. names ≡ large_names) }
 {
     let mut names = Names::new(alloc);
-    add_vars(alloc, &mut names)?;
-    add_mutexes(alloc, &mut names)?;
-    add_threads(alloc, &mut names)?;
+    add_names(alloc, &mut names)?;
     Ok(names)
 }
 
@@ -247,13 +229,15 @@ pub fn large_script(alloc: Global, many: u32) -> Result<Script, NoMemory>
     requires { many ≤ 100 }
     ensures { IfOk result (λ script. plain_script script ≡ large_script many) }
 {
+    let threads = threads(alloc, many)?;
+    let vars = vec![in alloc; 0; 8]?;
     Ok(Script {
         version: 1,
         names: names(alloc)?,
-        vars: NumberList::from_vec(vec![in alloc; 0; 8]?),
+        vars: NumberList::from_vec(vars),
         sems: NumberList::new(alloc),
         barriers: NumberList::new(alloc),
-        threads: threads(alloc, many)?,
+        threads,
     })
 }
 

@@ -28,11 +28,11 @@ pub(crate) fn value_of(expr: &Expr, registers: &Registers) -> Result<i64, FaultK
         }
         Expr::Two(op, a, b) => {
             let x = value_of(a, registers)?;
-            match decided(*op, x) {
+            match decided_by_left(*op, x) {
                 Some(n) => Ok(n),
                 None => {
                     let y = value_of(b, registers)?;
-                    combined(*op, x, y)
+                    combined_value(*op, x, y)
                 }
             }
         }
@@ -40,7 +40,7 @@ pub(crate) fn value_of(expr: &Expr, registers: &Registers) -> Result<i64, FaultK
 }
 
 /// What the left number decides without the right one.
-pub(crate) fn decided(op: Op, x: i64) -> Option<i64>
+pub(crate) fn decided_by_left(op: Op, x: i64) -> Option<i64>
     ensures { result ≡ decided_by_left op x }
 {
     match op {
@@ -51,7 +51,7 @@ pub(crate) fn decided(op: Op, x: i64) -> Option<i64>
 }
 
 /// What both numbers make, where the left one alone decides nothing.
-pub(crate) fn combined(op: Op, x: i64, y: i64) -> Result<i64, FaultKind>
+pub(crate) fn combined_value(op: Op, x: i64, y: i64) -> Result<i64, FaultKind>
     ensures { result ≡ combined_value op x y }
 {
     match op {

@@ -1,12 +1,11 @@
 -- The operations that are appended are those of the statements.
-use Rattle.std.proofs.Common.{◌≡◌, ℕ, ◌+◌, List, [], ◌∷◌, ◌++◌, length, true, false, Result, Ok}
-use Rattle.std.proofs.Common.{Err, OnOk, refl, sym, ap, ap₂, ◌∙◌, append_assoc, length-append}
+use Rattle.std.proofs.Common.{◌≡◌, ℕ, ◌+◌, List, [], ◌∷◌, ◌++◌, length, Result, Ok}
+use Rattle.std.proofs.Common.{Err, OnOk, sym, ap, ap₂, ◌∙◌, append_assoc, length-append}
 use Rattle.std.proofs.lemmas.List.{length-map, map-append}
 use Rattle.script_tree.specs.Trees.{Expression, Statement, Statements, Then, If, IfElse, While}
 use Rattle.script_tree.specs.Fitting.{count_of, counts_of}
 use Rattle.script_code.specs.declared.flat.Flat.{Flat}
-use Rattle.script_code.specs.Operations.{Operation, Do, Test, operation, operations}
-use Rattle.script_code.specs.Placed.{has_no_block}
+use Rattle.script_code.specs.Operations.{Operation, Test, operation, operations}
 use Rattle.script_code.specs.Layout.{entry, code_of, codes_of}
 use Rattle.script_code.proofs.Laid.{length-code_of, length-codes_of}
 
@@ -33,12 +32,6 @@ pub then_more : (old mid new : List Flat) (flat : Flat) (op : Operation) (ops : 
 then_more old mid new flat op ops e o m =
     m ∙ ap (λ l. l ++ ops) (one_more old mid flat op e o)
     ∙ append_assoc (operations old) (op ∷ []) ops
-
-pub emit_lone : (old new : List Flat) (flat : Flat) (op : Operation) (s : Statement) (next : ℕ)
-    → new ≡ old ++ flat ∷ [] → operation flat ≡ op → code_of (length old) next s ≡ op ∷ []
-    → operations new ≡ operations old ++ code_of (length old) next s
-emit_lone old new flat op s next e o one =
-    one_more old new flat op e o ∙ ap (λ l. operations old ++ l) (sym one)
 
 pub emit_if : (old mid new : List Flat) (flat : Flat) (line next a : ℕ) (test : Expression)
     (first : Statements) (s : Statement) →
@@ -131,13 +124,6 @@ emit_next next old new s rest whole after is begins e =
     ∙ ap (λ (a : ℕ). operations old ++ (code_of (length old) a s
     ++ codes_of (length old + count_of s) next rest)) begins
     ∙ ap (λ x. operations old ++ codes_of (length old) next x) (sym is)
-
-pub code_of_lone : (s : Statement) (at next : ℕ) → has_no_block s ≡ true
-    → code_of at next s ≡ Do s next ∷ []
-code_of_lone (If line test first) at next h = absurd (let e : false ≡ true = h in cc)
-code_of_lone (IfElse line test first otherwise) at next h = absurd (let e : false ≡ true = h in cc)
-code_of_lone (While line test body) at next h = absurd (let e : false ≡ true = h in cc)
-code_of_lone s at next h = refl
 
 pub on_ok : {E P Q : Type 0} (r : Result (Unit {0}) E) → (P → Q) → OnOk r P → OnOk r Q
 on_ok (Ok x) f h = f h

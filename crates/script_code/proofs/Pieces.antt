@@ -34,7 +34,3 @@ from_more b i at next below =
         → entry at next (closed_at b.end_line (statements rest)) ≡ at
     more [] some = absurd (omega arith)
     more (s ∷ rest) some = refl
-
-pub from_none : (b : Block) (i at next : ℕ) → length b.stmts.items ≤ i
-    → entry at next (from b i) ≡ next
-from_none b i at next past = ap (entry at next) (from_end b i past)

@@ -1,9 +1,9 @@
 -- The threads of a script from one of them on.
-use Rattle.std.proofs.Common.{◌≡◌, ℕ, ◌+◌, ◌<◌, ◌≤◌, ◌||◌, ◌&&◌, cond, zero, suc, Bool, true, false}
+use Rattle.std.proofs.Common.{◌≡◌, ℕ, ◌+◌, ◌<◌, ◌≤◌, ◌&&◌, cond, zero, suc, Bool, true, false}
 use Rattle.std.proofs.Common.{List, [], ◌∷◌, ◌++◌, length, map, get_or, drop, refl, sym, ap, ap₂}
 use Rattle.std.proofs.Common.{◌∙◌, subst, arith, append_assoc, append-nil}
 use Rattle.std.specs.List.{list_all, list_any}
-use Rattle.std.proofs.lemmas.List.{drop_all, drop_more, length-map, map-append}
+use Rattle.std.proofs.lemmas.List.{drop_all, length-map, map-append}
 use Rattle.std.proofs.lemmas.Bool.Decides.{nat_tests}
 use Rattle.std.specs.Prelude.{nat_le}
 use Rattle.script_tree.specs.Fitting.{counts_of, line_fits, statements_fit, thread_fits, IsScript}
@@ -11,9 +11,9 @@ use Rattle.script_tree.specs.Seen.{block}
 use Rattle.script_tree.specs.ScriptText.{Thread}
 use Rattle.script_tree.specs.ScriptParts.{thread_text}
 use Rattle.script_tree.specs.ScriptSeen.{plain_script}
-use Rattle.script_tree.specs.Posts.{any_starts, is_held}
+use Rattle.script_tree.specs.Posts.{any_starts}
 use Rattle.script_tree.proofs.laws.SeenParts.{end_line-block}
-use Rattle.script_code.proofs.Placing.{left_true, right_true}
+use Rattle.script_tree.proofs.laws.Conjunctions.{left_true, right_true}
 use Rattle.script_tree.specs.declared.script.Script.{Script}
 use Rattle.script_tree.specs.declared.stmt.ThreadText.{ThreadText}
 use Rattle.script_code.specs.declared.flat.Flat.{Flat}
@@ -25,13 +25,6 @@ use Rattle.script_code.specs.Layout.{script_code}
 abbrev pub threads_from : Script → ℕ → List Thread
 threads_from script i = map thread_text (drop i script.threads.items)
 
-pub threads_next : (script : Script) (i : ℕ) (t : ThreadText) → i < length script.threads.items
-    → t ≡ get_or script.threads.items i t
-    → threads_from script i ≡ thread_text t ∷ threads_from script (i + 1)
-threads_next script i t below e =
-    ap (λ l. map thread_text l) (drop_more script.threads.items i t below
-    ∙ ap (λ x. x ∷ drop (i + 1) script.threads.items) (sym e))
-
 pub threads_end : (script : Script) (i : ℕ) → length script.threads.items ≤ i
     → threads_from script i ≡ []
 threads_end script i past = ap (λ l. map thread_text l) (drop_all i script.threads.items past)
@@ -40,60 +33,12 @@ threads_end script i past = ap (λ l. map thread_text l) (drop_all i script.thre
 abbrev pub starts_from : Script → ℕ → ℕ → Bool
 starts_from script i t = list_any (λ (th : Thread). any_starts t th.body) (threads_from script i)
 
-or_assoc : (a b c : Bool) → ((a || b) || c) ≡ (a || (b || c))
-or_assoc true b c = refl
-or_assoc false b c = refl
-
-or_false : (a : Bool) → (a || false) ≡ a
-or_false true = refl
-or_false false = refl
-
-pub starts_next : (script : Script) (i t : ℕ) (th : ThreadText) (old new whole : Bool)
-    → i < length script.threads.items → th ≡ get_or script.threads.items i th →
-    (old || starts_from script i t) ≡ whole → new ≡ (old || any_starts t (block th.body))
-    → (new || starts_from script (i + 1) t) ≡ whole
-starts_next script i t th old new whole below e h n =
-    let next = ap (λ l. list_any (λ (x : Thread). any_starts t x.body) l)
-    (threads_next script i th below e) in
-    ap (λ b. b || starts_from script (i + 1) t) n
-    ∙ or_assoc old (any_starts t (block th.body)) (starts_from script (i + 1) t)
-    ∙ ap (λ b. old || b) (sym next) ∙ h
-
-pub starts_all : (script : Script) (i t : ℕ) (marked whole : Bool) → length script.threads.items ≤ i
-    → (marked || starts_from script i t) ≡ whole → marked ≡ whole
-starts_all script i t marked whole past h =
-    let none = ap (λ l. list_any (λ (x : Thread). any_starts t x.body) l)
-    (threads_end script i past) in
-    sym (or_false marked) ∙ ap (λ b. marked || b) (sym none) ∙ h
-
 -- the code of a thread, as it is made
 pub thread_code_is : (held : Bool) (t : Thread)
     → thread_code held t ≡ begin_operations held t.line
     ++ body_code (length (begin_operations held t.line)) t.body
 thread_code_is false t = refl
 thread_code_is true t = refl
-
--- one more list
-pub listings_next : (script : Script) (old new : List (List Flat)) (list : List Flat) (i : ℕ)
-    (th : ThreadText) (held : Bool) →
-    i < length script.threads.items → th ≡ get_or script.threads.items i th → new ≡ old ++ list ∷ []
-    → held ≡ is_held (plain_script script) i →
-    operations list ≡ thread_code held (thread_text th)
-    → listings old ++ code_from (plain_script script) i (threads_from script i)
-    ≡ script_code (plain_script script) →
-    listings new ++ code_from (plain_script script) (i + 1) (threads_from script (i + 1))
-    ≡ script_code (plain_script script)
-listings_next script old new list i th held below e n h made so_far =
-    let rest = code_from (plain_script script) (i + 1) (threads_from script (i + 1)) in
-    let next = ap (λ l. code_from (plain_script script) i l) (threads_next script i th below e) in
-    let here : operations list ≡ thread_code (is_held (plain_script script) i) (thread_text th) =
-    made ∙ ap (λ b. thread_code b (thread_text th)) h in
-    ap (λ l. listings l ++ rest) n
-    ∙ ap (λ l. l ++ rest) (map-append operations old (list ∷ []))
-    ∙ append_assoc (listings old) (operations list ∷ []) rest
-    ∙ ap (λ x. listings old ++ (x ∷ rest)) here
-    ∙ ap (λ l. listings old ++ l) (sym next)
-    ∙ so_far
 
 pub listings_all : (script : Script) (threads : List (List Flat)) (i : ℕ)
     → length script.threads.items ≤ i →

@@ -4,6 +4,7 @@ use Rattle.std.proofs.Common.{false, List, [], ◌∷◌, ◌++◌, length, repl
 use Rattle.std.proofs.Common.{◌∙◌, subst, arith, append-nil}
 use Rattle.std.specs.Prelude.{nat_lt, nat_le, slice_get, slice_index_or}
 use Rattle.std.specs.List.{list_all}
+use Rattle.std.proofs.lemmas.Bool.{and_from}
 use Rattle.std.proofs.lemmas.Bool.Decides.{nat_tests}
 use Rattle.pct_ask.specs.NameLists.{NameLists}
 use Rattle.script_tree.specs.Trees.{Statements, Closed, Then, statement_list, end_line}
@@ -21,7 +22,8 @@ use Rattle.script_code.specs.Layout.{entry, codes_of, body_code, thread_code, co
 use Rattle.script_code.specs.Layout.{script_code}
 use Rattle.script_code.proofs.Laid.{Follows, follows_all, has_all, has_front, laid_all}
 use Rattle.script_code.proofs.Alike.{alike_before, pending_alike}
-use Rattle.script_code.proofs.Placing.{left_true, right_true, both_true, all_append, placed_codes}
+use Rattle.script_tree.proofs.laws.Conjunctions.{left_true, right_true, all-append}
+use Rattle.script_code.proofs.Placing.{placed_codes}
 use Rattle.script_code.proofs.Placing.{body_goes_on, length-body_code, end_at, last_is_end, lt}
 
 entry_is : (at : ℕ) (body : Statements) → entry at (at + counts_of body) body ≡ at
@@ -74,9 +76,9 @@ listed : (code : List Operation) (end : ℕ) → list_all (is_placed (length cod
     → slice_get code (last_place code) ≡ Some (End end) → length code < 2 ^ 32
     → is_listing code ≡ true
 listed code end placed last short =
-    both_true (list_all (is_placed (length code)) code && is_end (slice_get code (last_place code)))
+    and_from (list_all (is_placed (length code)) code && is_end (slice_get code (last_place code)))
     (nat_lt (length code) (2 ^ 32))
-    (both_true (list_all (is_placed (length code)) code) (is_end (slice_get code (last_place code)))
+    (and_from (list_all (is_placed (length code)) code) (is_end (slice_get code (last_place code)))
     placed (ap is_end last))
     (lt (length code) (2 ^ 32) short)
 
@@ -84,7 +86,7 @@ module _ (version : ℕ) (names : NameLists) where
   body_placed : (n at : ℕ) (body : Statements) → statements_fit version names 32 body ≡ true
       → at + counts_of body < n → list_all (is_placed n) (body_code at body) ≡ true
   body_placed n at body fits below =
-      all_append (is_placed n) (codes_of at (at + counts_of body) body) (End (end_line body) ∷ [])
+      all-append (is_placed n) (codes_of at (at + counts_of body) body) (End (end_line body) ∷ [])
       (placed_codes version names n body 32 at (at + counts_of body) fits (omega arith) below)
       refl
 
@@ -114,7 +116,7 @@ module _ (version : ℕ) (names : NameLists) where
           let l = length-body_code 1 t.body in
           let code = Begin t.line 1 ∷ body_code 1 t.body in
           listed code (end_line t.body)
-          (both_true (is_placed (length code) (Begin t.line 1))
+          (and_from (is_placed (length code) (Begin t.line 1))
           (list_all (is_placed (length code)) (body_code 1 t.body))
           (lt 1 (length code) (omega arith))
           (body_placed (length code) 1 t.body body_fits (omega arith)))
@@ -126,7 +128,7 @@ module _ (version : ℕ) (names : NameLists) where
       → list_all is_listing (code_from script k threads) ≡ true
   code_listed script k [] fits = refl
   code_listed script k (t ∷ threads) fits =
-      both_true (is_listing (thread_code (is_held script k) t))
+      and_from (is_listing (thread_code (is_held script k) t))
       (list_all is_listing (code_from script (k + 1) threads))
       (thread_listed (is_held script k) t
       (left_true (thread_fits version names t) (list_all (thread_fits version names) threads)

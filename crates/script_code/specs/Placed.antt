@@ -7,14 +7,7 @@ use Rattle.script_tree.specs.Trees.{Assert, Set, If, IfElse, While, TryRdLock, T
 use Rattle.script_tree.specs.Fitting.{reg_fits, expression_fits}
 use Rattle.script_code.specs.Operations.{Operation, Do, Test, End, Begin}
 
--- a statement that holds no others
-abbrev pub has_no_block : Statement → Bool
-has_no_block (If line test first) = false
-has_no_block (IfElse line test first otherwise) = false
-has_no_block (While line test body) = false
-has_no_block s = true
-
--- nor an expression
+-- a statement that holds neither others nor an expression
 abbrev pub has_no_expression : Statement → Bool
 has_no_expression (Write line var value) = false
 has_no_expression (Add line reg var value) = false

@@ -1,6 +1,7 @@
 ghost use Rattle.std.specs.Prelude.{◌≡◌, true, IfOk};
+ghost use Rattle.script_tree.specs.Trees.{has_no_block};
 ghost use Rattle.script_tree.specs.Seen.{expression, statement};
-ghost use Rattle.script_code.specs.Placed.{has_no_block, has_no_expression};
+ghost use Rattle.script_code.specs.Placed.{has_no_expression};
 
 use script_tree::{Expr, Stmt};
 use std::alloc::{AllocError as NoMemory, Global};

@@ -13,7 +13,7 @@ use Rattle.pct_ask.specs.Words.{is_among}
 use Rattle.pct_ask.specs.NameLists.{NameLists, list_of, place_of}
 use Rattle.pct_ask.specs.declared.names.NameKind.{NameKind}
 use Rattle.pct_ask.specs.declared.names.NameKind.TheVariants as kinds
-use Rattle.std.proofs.lemmas.Bool.{le-leb, lt-ltb}
+use Rattle.std.proofs.lemmas.Bool.{le-leb, lt-ltb, not-false}
 use Rattle.script_tree.specs.Forms.{TokenForm, MeantForm, Thread, Yield, Assert, Set, If, While}
 use Rattle.script_tree.specs.Forms.{value_in}
 use Rattle.script_tree.specs.Forms.{tokens_of_form, IsFormOf, Means}
@@ -24,14 +24,14 @@ use Rattle.script_tree.specs.Faults.{Place, SoFar, tokens_before, is_declared}
 use Rattle.script_parse.specs.Part.{Open, Part}
 use Rattle.script_parse.specs.Part as parts
 use Rattle.script_parse.specs.Reading as reading
-use Rattle.script_parse.specs.Reading.{Finder, is_empty, is_if, is_in_if, so_far_in, is_known_name}
+use Rattle.script_parse.specs.Reading.{Finder, is_empty, is_in_if, so_far_in, is_known_name}
 use Rattle.script_parse.specs.Reading.{with_form}
 use Rattle.script_parse.proofs.Meanings.{by_meaning}
 use Rattle.script_parse.proofs.Standing.{Lines, Stands, depth_is, is_if_at, quiet_at, on_quiet}
 use Rattle.script_parse.proofs.Standing.{into_quiet, said_stands, plain_stands, valued_stands}
 use Rattle.script_parse.proofs.Standing.{opens_stands, quiet_names, declared_names, end_stands_at}
 use Rattle.script_parse.proofs.Standing.{else_stands_at, count_push, names_push}
-use Rattle.script_parse.proofs.Choices.{unflip, same_bytes, clash}
+use Rattle.script_parse.proofs.Choices.{same_bytes, clash}
 
 open_opening : parts.Opening → Open
 open_opening opening = record { opening = opening; done = [] }
@@ -47,68 +47,135 @@ some_if : (b : Bool) (n : ℕ) → is_some (cond b (Some n) None) ≡ b
 some_if true n = refl
 some_if false n = refl
 
-found_first : (b : Bool) (p l : ℕ) (a : Bool) → nat_lt p l ≡ a → nat_lt (cond (not b) (1 + p) 0) (suc l) ≡ (b || a)
+found_first : (b : Bool) (p l : ℕ) (a : Bool) → nat_lt p l ≡ a
+    → nat_lt (cond (not b) (1 + p) 0) (suc l) ≡ (b || a)
 found_first true p l a h = lt-ltb 0 (suc l) (omega arith)
 found_first false p l a h = more_tests p l ∙ h
 
 some_within : (n m : ℕ) → is_some (cond (nat_lt n m) (Some n) None) ≡ nat_lt n m
 some_within n m = some_if (nat_lt n m) n
 
-found_among : (name : List ℕ) (names : List (List ℕ)) → nat_lt (prefix_len (λ n. not (bytes_eq name n)) names) (length names) ≡ is_among name names
+found_among : (name : List ℕ) (names : List (List ℕ))
+    → nat_lt (prefix_len (λ n. not (bytes_eq name n)) names) (length names) ≡ is_among name names
 found_among name [] = refl
-found_among name (n ∷ ns) = found_first (bytes_eq name n) (prefix_len (λ n. not (bytes_eq name n)) ns) (length ns) (is_among name ns) (found_among name ns)
+found_among name (n ∷ ns) =
+    found_first (bytes_eq name n) (prefix_len (λ n. not (bytes_eq name n)) ns) (length ns)
+    (is_among name ns) (found_among name ns)
 
-is_some-place : (name : List ℕ) (names : List (List ℕ)) → is_some (place_of name names) ≡ is_among name names
-is_some-place name names = some_within (prefix_len (λ n. not (bytes_eq name n)) names) (length names) ∙ found_among name names
+is_some-place : (name : List ℕ) (names : List (List ℕ))
+    → is_some (place_of name names) ≡ is_among name names
+is_some-place name names =
+    some_within (prefix_len (λ n. not (bytes_eq name n)) names) (length names)
+    ∙ found_among name names
 
 some_left : (names : List (List ℕ)) (name : List ℕ) → is_empty (names ++ name ∷ []) ≡ false
-some_left names name = let some : 0 < length (names ++ name ∷ []) = omega (arith, length_push names name) in grind (arith, nat_tests)
+some_left names name =
+    let some : 0 < length (names ++ name ∷ []) = omega (arith, length_push names name) in
+    grind (arith, nat_tests)
 
 -- what is read with a line that has no fault stands for it too
-pub taken_stands : (version : ℕ) (part : Part) (find : Finder) (n : ℕ) (lines : Lines) → Stands part lines → (cut : TokenForm) (meant : MeantForm) → Means cut meant → IsFormOf version cut → faults.closes_nothing (so_far_in part) meant ≡ false → Stands (with_form part find n meant) (lines ++ tokens_of_form cut ∷ [])
+pub taken_stands : (version : ℕ) (part : Part) (find : Finder) (n : ℕ) (lines : Lines)
+    → Stands part lines → (cut : TokenForm) (meant : MeantForm) → Means cut meant
+    → IsFormOf version cut → faults.closes_nothing (so_far_in part) meant ≡ false
+    → Stands (with_form part find n meant) (lines ++ tokens_of_form cut ∷ [])
 unfolding open_opening
 taken_stands version part find n lines s =
-    by_meaning (λ cut meant. IsFormOf version cut → faults.closes_nothing (so_far_in part) meant ≡ false → Stands (with_form part find n meant) (lines ++ tokens_of_form cut ∷ [])) (record {
+    by_meaning (λ cut meant. IsFormOf version cut
+    → faults.closes_nothing (so_far_in part) meant ≡ false
+    → Stands (with_form part find n meant) (lines ++ tokens_of_form cut ∷ [])) (record {
       plain = λ kind name of c. plain_stands part lines kind name of.0 s;
-      valued = λ kind name value of c. valued_stands part lines kind name (unwrap_or (value_in kind value) (pos 0)) (Symbol (codes "=") ∷ value) of.0 s;
-      thread = λ name of c. opens_stands part (with_form part find n (Thread name)) lines (Word (codes "thread") ∷ Word name ∷ []) (open_opening (parts.Thread n)) refl refl refl refl (λ kind. declared_names part lines kinds.Thread kind name [] s) refl s;
+      valued =
+          λ kind name value of c. valued_stands part lines kind name
+          (unwrap_or (value_in kind value) (pos 0)) (Symbol (codes "=") ∷ value) of.0 s;
+      thread =
+          λ name of c. opens_stands part (with_form part find n (Thread name)) lines
+          (Word (codes "thread") ∷ Word name ∷ []) (open_opening (parts.Thread n)) refl refl refl
+          refl (λ kind. declared_names part lines kinds.Thread kind name [] s) refl s;
       on = λ verb object of c. said_stands part _ lines _ (on_quiet verb (Word object ∷ [])) s;
       into = λ verb reg object of c. said_stands part _ lines _ (into_quiet verb _) s;
-      write = λ var value tree of c. said_stands part _ lines _ (quiet_at (codes "write") _ refl refl refl refl) s;
-      add = λ reg var value tree of c. said_stands part _ lines _ (quiet_at (codes "add") _ refl refl refl refl) s;
-      cas = λ reg var old new a b of c. said_stands part _ lines _ (quiet_at (codes "cas") _ refl refl refl refl) s;
-      wait = λ waiting mutex of c. said_stands part _ lines _ (quiet_at (codes "wait") _ refl refl refl refl) s;
-      yield = λ of c. said_stands part (reading.statement_on part.names find n Yield) lines _ (quiet_at (codes "yield") _ refl refl refl refl) s;
-      assert = λ test tree of c. said_stands part (reading.statement_on part.names find n (Assert tree)) lines _ (quiet_at (codes "assert") _ refl refl refl refl) s;
-      set = λ reg value tree of c. said_stands part (reading.statement_on part.names find n (Set reg tree)) lines _ (quiet_at (codes "set") _ refl refl refl refl) s;
-      when = λ test tree of c. opens_stands part (with_form part find n (If tree)) lines (Word (codes "if") ∷ test) (open_opening (parts.If n tree)) refl refl refl refl (quiet_names (codes "if") test part lines refl s) refl s;
-      while = λ test tree of c. opens_stands part (with_form part find n (While tree)) lines (Word (codes "while") ∷ test) (open_opening (parts.While n tree)) refl refl refl refl (quiet_names (codes "while") test part lines refl s) refl s;
+      write =
+          λ var value tree of c. said_stands part _ lines _
+          (quiet_at (codes "write") _ refl refl refl refl) s;
+      add =
+          λ reg var value tree of c. said_stands part _ lines _
+          (quiet_at (codes "add") _ refl refl refl refl) s;
+      cas =
+          λ reg var old new a b of c. said_stands part _ lines _
+          (quiet_at (codes "cas") _ refl refl refl refl) s;
+      wait =
+          λ waiting mutex of c. said_stands part _ lines _
+          (quiet_at (codes "wait") _ refl refl refl refl) s;
+      yield =
+          λ of c. said_stands part (reading.statement_on part.names find n Yield) lines _
+          (quiet_at (codes "yield") _ refl refl refl refl) s;
+      assert =
+          λ test tree of c. said_stands part (reading.statement_on part.names find n (Assert tree))
+          lines _ (quiet_at (codes "assert") _ refl refl refl refl) s;
+      set =
+          λ reg value tree of c. said_stands part
+          (reading.statement_on part.names find n (Set reg tree)) lines _
+          (quiet_at (codes "set") _ refl refl refl refl) s;
+      when =
+          λ test tree of c. opens_stands part (with_form part find n (If tree)) lines
+          (Word (codes "if") ∷ test) (open_opening (parts.If n tree)) refl refl refl refl
+          (quiet_names (codes "if") test part lines refl s) refl s;
+      while =
+          λ test tree of c. opens_stands part (with_form part find n (While tree)) lines
+          (Word (codes "while") ∷ test) (open_opening (parts.While n tree)) refl refl refl refl
+          (quiet_names (codes "while") test part lines refl s) refl s;
       end = λ of c. end_stands_at part part.open_blocks lines n refl c s;
-      otherwise = λ of c. else_stands_at part part.open_blocks lines n refl (unflip (is_in_if part.open_blocks) c) s;
+      otherwise =
+          λ of c. else_stands_at part part.open_blocks lines n refl
+          (not-false (is_in_if part.open_blocks) c) s;
     })
 
 -- ---- what was read stands for what the lines have declared and begun
 
 same_here : (v w d e : ℕ) (ns ms : NameLists) (i j : Bool) → v ≡ w → ns ≡ ms → d ≡ e → i ≡ j
-    → ◌≡◌ {A = SoFar} (record { version = v; names = ns; depth = d; in_if = i }) (record { version = w; names = ms; depth = e; in_if = j })
+    → ◌≡◌ {A = SoFar} (record { version = v; names = ns; depth = d; in_if = i })
+    (record { version = w; names = ms; depth = e; in_if = j })
 same_here v w d e ns ms i j p q r s = rw (p, q, r, s) refl
 
-same_names : (names : NameLists) (lists : NameKind → List (List ℕ)) → ((kind : NameKind) → lists kind ≡ list_of kind names)
-    → ◌≡◌ {A = NameLists} (record { threads = lists kinds.Thread; vars = lists kinds.Var; mutexes = lists kinds.Mutex; conds = lists kinds.Cond; sems = lists kinds.Sem; barriers = lists kinds.Barrier; rwlocks = lists kinds.RwLock }) names
-same_names names lists h = rw (h kinds.Thread, h kinds.Var, h kinds.Mutex, h kinds.Cond, h kinds.Sem, h kinds.Barrier, h kinds.RwLock) refl
+same_names : (names : NameLists) (lists : NameKind → List (List ℕ))
+    → ((kind : NameKind) → lists kind ≡ list_of kind names)
+    → ◌≡◌ {A = NameLists} (record {
+      threads = lists kinds.Thread;
+      vars = lists kinds.Var;
+      mutexes = lists kinds.Mutex;
+      conds = lists kinds.Cond;
+      sems = lists kinds.Sem;
+      barriers = lists kinds.Barrier;
+      rwlocks = lists kinds.RwLock;
+    }) names
+same_names names lists h =
+    rw (
+      h kinds.Thread,
+      h kinds.Var,
+      h kinds.Mutex,
+      h kinds.Cond,
+      h kinds.Sem,
+      h kinds.Barrier,
+      h kinds.RwLock,
+    ) refl
 
-pub same_so_far : (part : Part) (lines : Lines) → Stands part lines → faults.so_far lines ≡ so_far_in part
+pub same_so_far : (part : Part) (lines : Lines) → Stands part lines
+    → faults.so_far lines ≡ so_far_in part
 same_so_far part lines s =
-    let version : version_of lines ≡ part.version = ap version_of (sym (append-nil lines)) ∙ s.version [] in
-    same_here (version_of lines) part.version (depth lines) (length part.open_blocks) (faults.names_declared lines) part.names _ _
-    version (same_names part.names (λ kind. names_of kind lines) s.names) (depth_is part lines s) (s.innermost 0 ∙ at_zero part.open_blocks)
+    let version : version_of lines ≡ part.version =
+    ap version_of (sym (append-nil lines)) ∙ s.version [] in
+    same_here (version_of lines) part.version (depth lines) (length part.open_blocks)
+    (faults.names_declared lines) part.names _ _
+    version (same_names part.names (λ kind. names_of kind lines) s.names) (depth_is part lines s)
+    (s.innermost 0 ∙ at_zero part.open_blocks)
 
 module _ (part : Part) (place : Place) (s : Stands part (tokens_before place)) where
   abbrev pub found : Finder
   found name = place_of name (threads_begun (place.before ++ place.line ∷ place.after))
 
-  known_at : (kind : NameKind) (name : List ℕ) → is_declared place kind name ≡ is_known_name part.names found kind name
-  known_at kinds.Thread name = sym (is_some-place name (threads_begun (place.before ++ place.line ∷ place.after)))
+  known_at : (kind : NameKind) (name : List ℕ)
+      → is_declared place kind name ≡ is_known_name part.names found kind name
+  known_at kinds.Thread name =
+      sym (is_some-place name (threads_begun (place.before ++ place.line ∷ place.after)))
   known_at kind name = rw (s.names kind) (sym (is_some-place name (list_of kind part.names)))
 
   pub known_same : is_declared place ≡ is_known_name part.names found

@@ -11,20 +11,23 @@ use Rattle.script_tree.specs.Forms.{kind_word}
 use Rattle.script_tree.specs.Lines.{declared_value, values_of, just_thread}
 use Rattle.script_parse.specs.Part.{Part}
 
-pub valueless_at : (word : List ℕ) (rest : List Token) (kind : NameKind) → bytes_eq word (kind_word kind) ≡ false → declared_value kind (Word word ∷ rest) ≡ None
+pub valueless_at : (word : List ℕ) (rest : List Token) (kind : NameKind)
+    → bytes_eq word (kind_word kind) ≡ false → declared_value kind (Word word ∷ rest) ≡ None
 valueless_at word [] kind h = refl
 valueless_at word (Word name ∷ []) kind h = refl
 valueless_at word (Word name ∷ Symbol signs ∷ rest) kind h = rw h refl
 valueless_at word (Word name ∷ Word other ∷ rest) kind h = refl
 valueless_at word rest kind h = refl
 
-pub threadless_at : (word : List ℕ) (rest : List Token) → bytes_eq word (codes "thread") ≡ false → just_thread (Word word ∷ rest) ≡ None
+pub threadless_at : (word : List ℕ) (rest : List Token) → bytes_eq word (codes "thread") ≡ false
+    → just_thread (Word word ∷ rest) ≡ None
 threadless_at word [] h = refl
 threadless_at word (Word name ∷ []) h = rw h refl
 threadless_at word (Word name ∷ Word other ∷ rest) h = refl
 threadless_at word rest h = refl
 
-pub values_push : (kind : NameKind) (lines : List (List Token)) (line : List Token) → values_of kind (lines ++ line ∷ []) ≡ values_of kind lines ++ values_of kind (line ∷ [])
+pub values_push : (kind : NameKind) (lines : List (List Token)) (line : List Token)
+    → values_of kind (lines ++ line ∷ []) ≡ values_of kind lines ++ values_of kind (line ∷ [])
 values_push kind lines line = filter_map-append (declared_value kind) lines (line ∷ [])
 
 -- the values of the declarations of lines
@@ -34,12 +37,22 @@ pub record AreValues (part : Part) (lines : List (List Token)) : Type 0 where
   pub barriers : values_of kinds.Barrier lines ≡ part.barriers
 
 -- a line without a first value
-pub no_value_more : (part next : Part) (lines : List (List Token)) (line : List Token) → ((kind : NameKind) → declared_value kind line ≡ None) → next.vars ≡ part.vars → next.sems ≡ part.sems → next.barriers ≡ part.barriers → AreValues part lines → AreValues next (lines ++ line ∷ [])
+pub no_value_more : (part next : Part) (lines : List (List Token)) (line : List Token)
+    → ((kind : NameKind) → declared_value kind line ≡ None) → next.vars ≡ part.vars
+    → next.sems ≡ part.sems → next.barriers ≡ part.barriers → AreValues part lines
+    → AreValues next (lines ++ line ∷ [])
 no_value_more part next lines line none v s b h = record {
-  vars = values_push kinds.Var lines line ∙ rw (none kinds.Var) (append-nil (values_of kinds.Var lines) ∙ h.vars ∙ sym v);
-  sems = values_push kinds.Sem lines line ∙ rw (none kinds.Sem) (append-nil (values_of kinds.Sem lines) ∙ h.sems ∙ sym s);
-  barriers = values_push kinds.Barrier lines line ∙ rw (none kinds.Barrier) (append-nil (values_of kinds.Barrier lines) ∙ h.barriers ∙ sym b);
+  vars =
+      values_push kinds.Var lines line
+      ∙ rw (none kinds.Var) (append-nil (values_of kinds.Var lines) ∙ h.vars ∙ sym v);
+  sems =
+      values_push kinds.Sem lines line
+      ∙ rw (none kinds.Sem) (append-nil (values_of kinds.Sem lines) ∙ h.sems ∙ sym s);
+  barriers =
+      values_push kinds.Barrier lines line
+      ∙ rw (none kinds.Barrier) (append-nil (values_of kinds.Barrier lines) ∙ h.barriers ∙ sym b);
 }
 
-pub blank_values : (part : Part) (lines : List (List Token)) → AreValues part lines → AreValues part (lines ++ [] ∷ [])
+pub blank_values : (part : Part) (lines : List (List Token)) → AreValues part lines
+    → AreValues part (lines ++ [] ∷ [])
 blank_values part lines h = no_value_more part part lines [] (λ kind. refl) refl refl refl h

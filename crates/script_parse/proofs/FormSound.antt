@@ -1,5 +1,7 @@
 -- What tokens are read as is a form of theirs.
-use Rattle.std.proofs.Common.{◌≡◌, ℕ, suc, ◌+◌, inl, inr, true, cond, get_or, List, [], ◌∷◌, ◌++◌, Option, Some, None, refl, sym, ap, ◌∙◌, take, drop, drop-cons, add-one, subst}
+use Rattle.std.proofs.Common.{◌≡◌, ℕ, suc, ◌+◌, inl, inr, true, cond, get_or, List, [], ◌∷◌, ◌++◌}
+use Rattle.std.proofs.Common.{Option, Some, None, refl, sym, ap, ◌∙◌, take, drop, drop-cons}
+use Rattle.std.proofs.Common.{add-one, subst}
 use Rattle.std.specs.Prelude.{nat_le, ◌&&◌, codes}
 use Rattle.std.specs.List.{position}
 use Rattle.std.specs.Option.{option_map, option_and_then}
@@ -13,12 +15,22 @@ use Rattle.pct_ask.specs.declared.names.NameKind.{NameKind}
 use Rattle.pct_ask.specs.declared.names.NameKind.TheVariants as kinds
 use Rattle.script_tree.specs.Trees.{Expression}
 use Rattle.script_tree.specs.Expressions.{register_word}
-use Rattle.script_tree.specs.Forms.{OnVerb, Lock, Unlock, Signal, Broadcast, Down, Up, Join, Start, RdLock, WrLock, RwUnlock, IntoVerb, Read, TryLock, TryDown, Arrive, TryRdLock, TryWrLock, TokenForm, MeantForm, Plain, Valued, Thread, On, Into, Write, Add, Cas, Wait, Yield, Assert, Set, If, While, End, Else, on_word, into_word, kind_word, on_since, into_since, is_plain, has_value, kind_since, IsForm}
+use Rattle.script_tree.specs.Forms.{OnVerb, Lock, Unlock, Signal, Broadcast, Down, Up, Join, Start}
+use Rattle.script_tree.specs.Forms.{RdLock, WrLock, RwUnlock, IntoVerb, Read, TryLock, TryDown}
+use Rattle.script_tree.specs.Forms.{Arrive, TryRdLock, TryWrLock, TokenForm, MeantForm, Plain}
+use Rattle.script_tree.specs.Forms.{Valued, Thread, On, Into, Write, Add, Cas, Wait, Yield, Assert}
+use Rattle.script_tree.specs.Forms.{Set, If, While, End, Else, on_word, into_word, kind_word}
+use Rattle.script_tree.specs.Forms.{on_since, into_since, is_plain, has_value, kind_since, IsForm}
 use Rattle.script_parse.specs.Registers.{register_in}
 use Rattle.script_parse.specs.Words.{on_verb_in, into_verb_in, kind_in}
 use Rattle.script_parse.specs.Machine.{expression_in}
-use Rattle.script_parse.specs.Saying.{lone_word, is_comma, parts_at, plain_form, lone_form, value_parts, valued_form, declared_form, on_form, into_object, into_form, wait_mutex, wait_form, bare_form, quiet_form, write_form, add_form, cas_pair, cas_parts, cas_form, set_form, other_form, by_on, by_into, by_kind, form_in}
-use Rattle.script_parse.proofs.Choices.{some, some_is, chosen, passed, mapped_some, bind_some, same_bytes, one_choice}
+use Rattle.script_parse.specs.Saying.{lone_word, is_comma, parts_at, plain_form, lone_form}
+use Rattle.script_parse.specs.Saying.{value_parts, valued_form, declared_form, on_form, into_object}
+use Rattle.script_parse.specs.Saying.{into_form, wait_mutex, wait_form, bare_form, quiet_form}
+use Rattle.script_parse.specs.Saying.{write_form, add_form, cas_pair, cas_parts, cas_form, set_form}
+use Rattle.script_parse.specs.Saying.{other_form, by_on, by_into, by_kind, form_in}
+use Rattle.script_parse.proofs.Choices.{some, some_is, chosen, passed, mapped_some, bind_some}
+use Rattle.script_parse.proofs.Choices.{same_bytes, one_choice}
 use Rattle.script_parse.proofs.FirstValues.{value_says}
 use Rattle.script_parse.proofs.ExpressionWhole.{exact}
 use Rattle.script_parse.proofs.ExpressionSound.{expression_is_spelled, register_says}
@@ -41,7 +53,8 @@ on_word_says word verb e =
     one_choice on_word word WrLock _ verb e (λ e.
     one_choice on_word word RwUnlock _ verb e (λ e. absurd cc)))))))))))
 
-into_word_says : (word : List ℕ) (verb : IntoVerb) → into_verb_in word ≡ Some verb → word ≡ into_word verb
+into_word_says : (word : List ℕ) (verb : IntoVerb) → into_verb_in word ≡ Some verb
+    → word ≡ into_word verb
 into_word_says word verb e =
     one_choice into_word word Read _ verb e (λ e.
     one_choice into_word word TryLock _ verb e (λ e.
@@ -50,7 +63,8 @@ into_word_says word verb e =
     one_choice into_word word TryRdLock _ verb e (λ e.
     one_choice into_word word TryWrLock _ verb e (λ e. absurd cc))))))
 
-kind_word_says : (word : List ℕ) (kind : NameKind) → kind_in word ≡ Some kind → word ≡ kind_word kind
+kind_word_says : (word : List ℕ) (kind : NameKind) → kind_in word ≡ Some kind
+    → word ≡ kind_word kind
 kind_word_says word kind e =
     one_choice kind_word word kinds.Thread _ kind e (λ e.
     one_choice kind_word word kinds.Var _ kind e (λ e.
@@ -60,86 +74,151 @@ kind_word_says word kind e =
     one_choice kind_word word kinds.Barrier _ kind e (λ e.
     one_choice kind_word word kinds.RwLock _ kind e (λ e. absurd cc)))))))
 
-starts : (word text : List ℕ) (tokens : List Token) → word ≡ text → ◌≡◌ {A = List Token} (Word word ∷ tokens) (Word text ∷ tokens)
+starts : (word text : List ℕ) (tokens : List Token) → word ≡ text
+    → ◌≡◌ {A = List Token} (Word word ∷ tokens) (Word text ∷ tokens)
 starts word text tokens e = ap (λ (w : List ℕ). Word w ∷ tokens) e
 
 -- ---- the forms, one by one
 
-on_says : (version : ℕ) (word : List ℕ) (verb : OnVerb) (tokens : List Token) (meant : MeantForm) → word ≡ on_word verb → on_form version verb tokens ≡ Some meant → HasCut version (Word word ∷ tokens) meant
+on_says : (version : ℕ) (word : List ℕ) (verb : OnVerb) (tokens : List Token) (meant : MeantForm)
+    → word ≡ on_word verb → on_form version verb tokens ≡ Some meant
+    → HasCut version (Word word ∷ tokens) meant
 on_says version word verb (Word object ∷ []) meant w e =
-    let p = passed (nat_le (on_since verb) version && is_name version object) (some (On verb object)) meant e in
-    let b = and_parts (nat_le (on_since verb) version) (is_name version object) p.0 in
-    (On verb object, record { spelled = starts word (on_word verb) _ w; of = (leb-true (on_since verb) version b.0, b.1); means = sym (some_is (On verb object) meant p.1) })
+    let p = passed (nat_le (on_since verb) version && is_name version object)
+    (some (On verb object)) meant e in
+    let b = and_parts (nat_le (on_since verb) version) (is_name version object) p.0 in (
+      On verb object,
+      record {
+        spelled = starts word (on_word verb) _ w;
+        of = (leb-true (on_since verb) version b.0, b.1);
+        means = sym (some_is (On verb object) meant p.1);
+      },
+    )
 on_says version word verb tokens meant w e = absurd cc
 
-lone_says_word : (tokens : List Token) (word : List ℕ) → lone_word tokens ≡ Some word → tokens ≡ Word word ∷ []
+lone_says_word : (tokens : List Token) (word : List ℕ) → lone_word tokens ≡ Some word
+    → tokens ≡ Word word ∷ []
 lone_says_word (Word other ∷ []) word e = ap (λ (w : List ℕ). Word w ∷ []) (some_is other word e)
 lone_says_word tokens word e = absurd cc
 
-into_object_says : (version : ℕ) (word : List ℕ) (verb : IntoVerb) (reg_word object : List ℕ) (meant : MeantForm) → word ≡ into_word verb → into_object version verb reg_word object ≡ Some meant → HasCut version (Word word ∷ Word reg_word ∷ Word object ∷ []) meant
+into_object_says : (version : ℕ) (word : List ℕ) (verb : IntoVerb) (reg_word object : List ℕ)
+    (meant : MeantForm) → word ≡ into_word verb
+    → into_object version verb reg_word object ≡ Some meant
+    → HasCut version (Word word ∷ Word reg_word ∷ Word object ∷ []) meant
 into_object_says version word verb reg_word object meant w e =
-    let p = passed (nat_le (into_since verb) version && is_name version object) (option_map (λ r. Into verb r object) (register_in reg_word)) meant e in
+    let p = passed (nat_le (into_since verb) version && is_name version object)
+    (option_map (λ r. Into verb r object) (register_in reg_word)) meant e in
     let b = and_parts (nat_le (into_since verb) version) (is_name version object) p.0 in
     let m = mapped_some (λ (r : ℕ). Into verb r object) (register_in reg_word) meant p.1 in
     let r = register_says reg_word m.0 m.1 in (
       Into verb m.0 object,
       record {
-        spelled = starts word (into_word verb) _ w ∙ ap (λ (v : List ℕ). Word (into_word verb) ∷ Word v ∷ Word object ∷ []) (sym r.1);
+        spelled =
+            starts word (into_word verb) _ w
+            ∙ ap (λ (v : List ℕ). Word (into_word verb) ∷ Word v ∷ Word object ∷ []) (sym r.1);
         of = (leb-true (into_since verb) version b.0, r.0, b.1);
         means = sym m.2;
       },
     )
 
-into_says : (version : ℕ) (word : List ℕ) (verb : IntoVerb) (tokens : List Token) (meant : MeantForm) → word ≡ into_word verb → into_form version verb tokens ≡ Some meant → HasCut version (Word word ∷ tokens) meant
+into_says : (version : ℕ) (word : List ℕ) (verb : IntoVerb) (tokens : List Token)
+    (meant : MeantForm) → word ≡ into_word verb → into_form version verb tokens ≡ Some meant
+    → HasCut version (Word word ∷ tokens) meant
 into_says version word verb (Word reg_word ∷ tokens) meant w e =
     let b = bind_some (into_object version verb reg_word) (lone_word tokens) meant e in
-    subst (λ (ts : List Token). HasCut version (Word word ∷ Word reg_word ∷ ts) meant) (sym (lone_says_word tokens b.0 b.1)) (into_object_says version word verb reg_word b.0 meant w b.2)
+    subst (λ (ts : List Token). HasCut version (Word word ∷ Word reg_word ∷ ts) meant)
+    (sym (lone_says_word tokens b.0 b.1))
+    (into_object_says version word verb reg_word b.0 meant w b.2)
 into_says version word verb tokens meant w e = absurd cc
 
-plain_says : (version : ℕ) (word : List ℕ) (kind : NameKind) (name : List ℕ) (meant : MeantForm) → word ≡ kind_word kind → plain_form version kind name ≡ Some meant → HasCut version (Word word ∷ Word name ∷ []) meant
+plain_says : (version : ℕ) (word : List ℕ) (kind : NameKind) (name : List ℕ) (meant : MeantForm)
+    → word ≡ kind_word kind → plain_form version kind name ≡ Some meant
+    → HasCut version (Word word ∷ Word name ∷ []) meant
 plain_says version word kind name meant w e =
-    let p = passed (is_plain kind && nat_le (kind_since kind) version && is_name version name) (some (Plain kind name)) meant e in
-    let b = and_parts (is_plain kind && nat_le (kind_since kind) version) (is_name version name) p.0 in
-    let c = and_parts (is_plain kind) (nat_le (kind_since kind) version) b.0 in
-    (Plain kind name, record { spelled = starts word (kind_word kind) _ w; of = (c.0, leb-true (kind_since kind) version c.1, b.1); means = sym (some_is (Plain kind name) meant p.1) })
+    let p = passed (is_plain kind && nat_le (kind_since kind) version && is_name version name)
+    (some (Plain kind name)) meant e in
+    let b = and_parts (is_plain kind && nat_le (kind_since kind) version) (is_name version name)
+    p.0 in
+    let c = and_parts (is_plain kind) (nat_le (kind_since kind) version) b.0 in (
+      Plain kind name,
+      record {
+        spelled = starts word (kind_word kind) _ w;
+        of = (c.0, leb-true (kind_since kind) version c.1, b.1);
+        means = sym (some_is (Plain kind name) meant p.1);
+      },
+    )
 
-lone_says : (version : ℕ) (word : List ℕ) (kind : NameKind) (name : List ℕ) (meant : MeantForm) → word ≡ kind_word kind → lone_form version kind name ≡ Some meant → HasCut version (Word word ∷ Word name ∷ []) meant
+lone_says : (version : ℕ) (word : List ℕ) (kind : NameKind) (name : List ℕ) (meant : MeantForm)
+    → word ≡ kind_word kind → lone_form version kind name ≡ Some meant
+    → HasCut version (Word word ∷ Word name ∷ []) meant
 lone_says version word kinds.Thread name meant w e =
-    let p = passed (is_name version name) (some (Thread name)) meant e in
-    (Thread name, record { spelled = starts word (codes "thread") _ w; of = p.0; means = sym (some_is (Thread name) meant p.1) })
+    let p = passed (is_name version name) (some (Thread name)) meant e in (
+      Thread name,
+      record {
+        spelled = starts word (codes "thread") _ w;
+        of = p.0;
+        means = sym (some_is (Thread name) meant p.1);
+      },
+    )
 lone_says version word kind name meant w e = plain_says version word kind name meant w e
 
-valued_says : (version : ℕ) (word : List ℕ) (kind : NameKind) (name signs : List ℕ) (value : List Token) (meant : MeantForm) → word ≡ kind_word kind → valued_form version kind name signs value ≡ Some meant → HasCut version (Word word ∷ Word name ∷ Symbol signs ∷ value) meant
+valued_says : (version : ℕ) (word : List ℕ) (kind : NameKind) (name signs : List ℕ)
+    (value : List Token) (meant : MeantForm) → word ≡ kind_word kind
+    → valued_form version kind name signs value ≡ Some meant
+    → HasCut version (Word word ∷ Word name ∷ Symbol signs ∷ value) meant
 valued_says version word kind name signs value meant w e =
-    let p = passed (has_value kind && bytes_eq signs (codes "=") && is_name version name) (option_map (Valued kind name) (value_parts kind value)) meant e in
+    let p = passed (has_value kind && bytes_eq signs (codes "=") && is_name version name)
+    (option_map (Valued kind name) (value_parts kind value)) meant e in
     let b = and_parts (has_value kind && bytes_eq signs (codes "=")) (is_name version name) p.0 in
     let c = and_parts (has_value kind) (bytes_eq signs (codes "=")) b.0 in
     let m = mapped_some (Valued kind name) (value_parts kind value) meant p.1 in
     let v = value_says kind value m.0 m.1 in (
       Valued kind name value,
       record {
-        spelled = starts word (kind_word kind) _ w ∙ ap (λ (s : List ℕ). Word (kind_word kind) ∷ Word name ∷ Symbol s ∷ value) (same_bytes signs (codes "=") c.1);
+        spelled =
+            starts word (kind_word kind) _ w
+            ∙ ap (λ (s : List ℕ). Word (kind_word kind) ∷ Word name ∷ Symbol s ∷ value)
+            (same_bytes signs (codes "=") c.1);
         of = (c.0, b.1, v.0);
         means = sym (ap (Valued kind name) v.1 ∙ m.2);
       },
     )
 
-declared_says : (version : ℕ) (word : List ℕ) (kind : NameKind) (tokens : List Token) (meant : MeantForm) → word ≡ kind_word kind → declared_form version kind tokens ≡ Some meant → HasCut version (Word word ∷ tokens) meant
-declared_says version word kind (Word name ∷ []) meant w e = lone_says version word kind name meant w e
-declared_says version word kind (Word name ∷ Symbol signs ∷ value) meant w e = valued_says version word kind name signs value meant w e
+declared_says : (version : ℕ) (word : List ℕ) (kind : NameKind) (tokens : List Token)
+    (meant : MeantForm) → word ≡ kind_word kind → declared_form version kind tokens ≡ Some meant
+    → HasCut version (Word word ∷ tokens) meant
+declared_says version word kind (Word name ∷ []) meant w e =
+    lone_says version word kind name meant w e
+declared_says version word kind (Word name ∷ Symbol signs ∷ value) meant w e =
+    valued_says version word kind name signs value meant w e
 declared_says version word kind tokens meant w e = absurd cc
 
-write_says : (version : ℕ) (tokens : List Token) (meant : MeantForm) → write_form exact version tokens ≡ Some meant → HasCut version (Word (codes "write") ∷ tokens) meant
+write_says : (version : ℕ) (tokens : List Token) (meant : MeantForm)
+    → write_form exact version tokens ≡ Some meant
+    → HasCut version (Word (codes "write") ∷ tokens) meant
 write_says version (Word var ∷ value) meant e =
-    let p = passed (is_name version var) (option_map (Write var) (expression_in exact value)) meant e in
-    let m = mapped_some (Write var) (expression_in exact value) meant p.1 in
-    (Write var value, record { spelled = refl; of = p.0; means = (m.0, expression_is_spelled exact (λ d. refl) value m.0 m.1, sym m.2) })
+    let p = passed (is_name version var) (option_map (Write var) (expression_in exact value)) meant
+    e in
+    let m = mapped_some (Write var) (expression_in exact value) meant p.1 in (
+      Write var value,
+      record {
+        spelled = refl;
+        of = p.0;
+        means =
+            (m.0, expression_is_spelled exact (λ d. refl) value m.0 m.1, sym m.2);
+      },
+    )
 write_says version tokens meant e = absurd cc
 
-add_says : (version : ℕ) (tokens : List Token) (meant : MeantForm) → add_form exact version tokens ≡ Some meant → HasCut version (Word (codes "add") ∷ tokens) meant
+add_says : (version : ℕ) (tokens : List Token) (meant : MeantForm)
+    → add_form exact version tokens ≡ Some meant
+    → HasCut version (Word (codes "add") ∷ tokens) meant
 add_says version (Word reg_word ∷ Word var ∷ value) meant e =
-    let p = passed (is_name version var) (option_and_then (λ r. option_map (Add r var) (expression_in exact value)) (register_in reg_word)) meant e in
-    let b = bind_some (λ (r : ℕ). option_map (Add r var) (expression_in exact value)) (register_in reg_word) meant p.1 in
+    let p = passed (is_name version var)
+    (option_and_then (λ r. option_map (Add r var) (expression_in exact value))
+    (register_in reg_word)) meant e in
+    let b = bind_some (λ (r : ℕ). option_map (Add r var) (expression_in exact value))
+    (register_in reg_word) meant p.1 in
     let m = mapped_some (Add b.0 var) (expression_in exact value) meant b.2 in
     let r = register_says reg_word b.0 b.1 in (
       Add b.0 var value,
@@ -156,41 +235,69 @@ comma_says (Symbol signs) h = ap Symbol (same_bytes signs (codes ",") h)
 comma_says (Word word) h = absurd cc
 comma_says (Number digits) h = absurd cc
 
-comma_splits : (values : List Token) (place : ℕ) → position is_comma values ≡ Some place → values ≡ take place values ++ Symbol (codes ",") ∷ drop (place + 1) values
+comma_splits : (values : List Token) (place : ℕ) → position is_comma values ≡ Some place
+    → values ≡ take place values ++ Symbol (codes ",") ∷ drop (place + 1) values
 comma_splits values place e =
     let found = position-Some is_comma values place (Symbol []) e in
-    let here : drop place values ≡ get_or values place (Symbol []) ∷ drop (suc place) values = drop-cons values place (Symbol []) found.0 in
-    let behind : drop place values ≡ Symbol (codes ",") ∷ drop (place + 1) values = here ∙ rw (add-one, comma_says (get_or values place (Symbol [])) found.1) refl in
+    let here : drop place values ≡ get_or values place (Symbol []) ∷ drop (suc place) values =
+    drop-cons values place (Symbol []) found.0 in
+    let behind : drop place values ≡ Symbol (codes ",") ∷ drop (place + 1) values =
+    here ∙ rw (add-one, comma_says (get_or values place (Symbol [])) found.1) refl in
     sym (take-append-drop place values) ∙ ap (λ (ts : List Token). take place values ++ ts) behind
 
-cas_pair_says : (version : ℕ) (reg_word var : List ℕ) (reg : ℕ) (old new values : List Token) (meant : MeantForm) → register_in reg_word ≡ Some reg → is_name version var ≡ true → values ≡ old ++ Symbol (codes ",") ∷ new → cas_pair exact reg var old new ≡ Some meant → HasCut version (Word (codes "cas") ∷ Word reg_word ∷ Word var ∷ values) meant
+cas_pair_says : (version : ℕ) (reg_word var : List ℕ) (reg : ℕ) (old new values : List Token)
+    (meant : MeantForm) → register_in reg_word ≡ Some reg → is_name version var ≡ true
+    → values ≡ old ++ Symbol (codes ",") ∷ new → cas_pair exact reg var old new ≡ Some meant
+    → HasCut version (Word (codes "cas") ∷ Word reg_word ∷ Word var ∷ values) meant
 cas_pair_says version reg_word var reg old new values meant f named split e =
-    let b = bind_some (λ (a : Expression). option_map (Cas reg var a) (expression_in exact new)) (expression_in exact old) meant e in
+    let b = bind_some (λ (a : Expression). option_map (Cas reg var a) (expression_in exact new))
+    (expression_in exact old) meant e in
     let m = mapped_some (Cas reg var b.0) (expression_in exact new) meant b.2 in
     let r = register_says reg_word reg f in (
       Cas reg var old new,
       record {
-        spelled = ap (λ (v : List ℕ). Word (codes "cas") ∷ Word v ∷ Word var ∷ values) (sym r.1) ∙ ap (λ (ts : List Token). Word (codes "cas") ∷ Word (register_word reg) ∷ Word var ∷ ts) split;
+        spelled =
+            ap (λ (v : List ℕ). Word (codes "cas") ∷ Word v ∷ Word var ∷ values) (sym r.1)
+            ∙ ap (λ (ts : List Token). Word (codes "cas") ∷ Word (register_word reg) ∷ Word var
+            ∷ ts) split;
         of = (r.0, named);
-        means = (b.0, m.0, expression_is_spelled exact (λ d. refl) old b.0 b.1, expression_is_spelled exact (λ d. refl) new m.0 m.1, sym m.2);
+        means = (
+          b.0,
+          m.0,
+          expression_is_spelled exact (λ d. refl) old b.0 b.1,
+          expression_is_spelled exact (λ d. refl) new m.0 m.1,
+          sym m.2,
+        );
       },
     )
 
-cas_parts_says : (version : ℕ) (reg_word var : List ℕ) (reg : ℕ) (found : Option ℕ) (values : List Token) (meant : MeantForm) → register_in reg_word ≡ Some reg → is_name version var ≡ true → position is_comma values ≡ found → cas_parts exact reg var (parts_at found values) ≡ Some meant → HasCut version (Word (codes "cas") ∷ Word reg_word ∷ Word var ∷ values) meant
+cas_parts_says : (version : ℕ) (reg_word var : List ℕ) (reg : ℕ) (found : Option ℕ)
+    (values : List Token) (meant : MeantForm) → register_in reg_word ≡ Some reg
+    → is_name version var ≡ true → position is_comma values ≡ found
+    → cas_parts exact reg var (parts_at found values) ≡ Some meant
+    → HasCut version (Word (codes "cas") ∷ Word reg_word ∷ Word var ∷ values) meant
 cas_parts_says version reg_word var reg None values meant f named p e = absurd cc
 cas_parts_says version reg_word var reg (Some place) values meant f named p e =
-    cas_pair_says version reg_word var reg (take place values) (drop (place + 1) values) values meant f named (comma_splits values place p) e
+    cas_pair_says version reg_word var reg (take place values) (drop (place + 1) values) values
+    meant f named (comma_splits values place p) e
 
-cas_says : (version : ℕ) (tokens : List Token) (meant : MeantForm) → cas_form exact version tokens ≡ Some meant → HasCut version (Word (codes "cas") ∷ tokens) meant
+cas_says : (version : ℕ) (tokens : List Token) (meant : MeantForm)
+    → cas_form exact version tokens ≡ Some meant
+    → HasCut version (Word (codes "cas") ∷ tokens) meant
 cas_says version (Word reg_word ∷ Word var ∷ values) meant e =
-    let p = passed (is_name version var) (option_and_then (λ r. cas_parts exact r var (parts_at (position is_comma values) values)) (register_in reg_word)) meant e in
-    let b = bind_some (λ (r : ℕ). cas_parts exact r var (parts_at (position is_comma values) values)) (register_in reg_word) meant p.1 in
+    let p = passed (is_name version var)
+    (option_and_then (λ r. cas_parts exact r var (parts_at (position is_comma values) values))
+    (register_in reg_word)) meant e in
+    let b = bind_some (λ (r : ℕ). cas_parts exact r var
+    (parts_at (position is_comma values) values)) (register_in reg_word) meant p.1 in
     cas_parts_says version reg_word var b.0 (position is_comma values) values meant b.1 p.0 refl b.2
 cas_says version tokens meant e = absurd cc
 
-set_says : (version : ℕ) (tokens : List Token) (meant : MeantForm) → set_form exact tokens ≡ Some meant → HasCut version (Word (codes "set") ∷ tokens) meant
+set_says : (version : ℕ) (tokens : List Token) (meant : MeantForm)
+    → set_form exact tokens ≡ Some meant → HasCut version (Word (codes "set") ∷ tokens) meant
 set_says version (Word reg_word ∷ value) meant e =
-    let b = bind_some (λ (r : ℕ). option_map (Set r) (expression_in exact value)) (register_in reg_word) meant e in
+    let b = bind_some (λ (r : ℕ). option_map (Set r) (expression_in exact value))
+    (register_in reg_word) meant e in
     let m = mapped_some (Set b.0) (expression_in exact value) meant b.2 in
     let r = register_says reg_word b.0 b.1 in (
       Set b.0 value,
@@ -202,87 +309,157 @@ set_says version (Word reg_word ∷ value) meant e =
     )
 set_says version tokens meant e = absurd cc
 
-assert_says : (version : ℕ) (tokens : List Token) (meant : MeantForm) → option_map Assert (expression_in exact tokens) ≡ Some meant → HasCut version (Word (codes "assert") ∷ tokens) meant
+assert_says : (version : ℕ) (tokens : List Token) (meant : MeantForm)
+    → option_map Assert (expression_in exact tokens) ≡ Some meant
+    → HasCut version (Word (codes "assert") ∷ tokens) meant
 assert_says version tokens meant e =
-    let m = mapped_some Assert (expression_in exact tokens) meant e in
-    (Assert tokens, record { spelled = refl; of = tt; means = (m.0, expression_is_spelled exact (λ d. refl) tokens m.0 m.1, sym m.2) })
+    let m = mapped_some Assert (expression_in exact tokens) meant e in (
+      Assert tokens,
+      record {
+        spelled = refl;
+        of = tt;
+        means =
+            (m.0, expression_is_spelled exact (λ d. refl) tokens m.0 m.1, sym m.2);
+      },
+    )
 
-if_says : (version : ℕ) (tokens : List Token) (meant : MeantForm) → option_map If (expression_in exact tokens) ≡ Some meant → HasCut version (Word (codes "if") ∷ tokens) meant
+if_says : (version : ℕ) (tokens : List Token) (meant : MeantForm)
+    → option_map If (expression_in exact tokens) ≡ Some meant
+    → HasCut version (Word (codes "if") ∷ tokens) meant
 if_says version tokens meant e =
-    let m = mapped_some If (expression_in exact tokens) meant e in
-    (If tokens, record { spelled = refl; of = tt; means = (m.0, expression_is_spelled exact (λ d. refl) tokens m.0 m.1, sym m.2) })
+    let m = mapped_some If (expression_in exact tokens) meant e in (
+      If tokens,
+      record {
+        spelled = refl;
+        of = tt;
+        means =
+            (m.0, expression_is_spelled exact (λ d. refl) tokens m.0 m.1, sym m.2);
+      },
+    )
 
-while_says : (version : ℕ) (tokens : List Token) (meant : MeantForm) → option_map While (expression_in exact tokens) ≡ Some meant → HasCut version (Word (codes "while") ∷ tokens) meant
+while_says : (version : ℕ) (tokens : List Token) (meant : MeantForm)
+    → option_map While (expression_in exact tokens) ≡ Some meant
+    → HasCut version (Word (codes "while") ∷ tokens) meant
 while_says version tokens meant e =
-    let m = mapped_some While (expression_in exact tokens) meant e in
-    (While tokens, record { spelled = refl; of = tt; means = (m.0, expression_is_spelled exact (λ d. refl) tokens m.0 m.1, sym m.2) })
+    let m = mapped_some While (expression_in exact tokens) meant e in (
+      While tokens,
+      record {
+        spelled = refl;
+        of = tt;
+        means =
+            (m.0, expression_is_spelled exact (λ d. refl) tokens m.0 m.1, sym m.2);
+      },
+    )
 
-wait_mutex_says : (version : ℕ) (waiting mutex : List ℕ) (meant : MeantForm) → wait_mutex version waiting mutex ≡ Some meant → HasCut version (Word (codes "wait") ∷ Word waiting ∷ Word mutex ∷ []) meant
+wait_mutex_says : (version : ℕ) (waiting mutex : List ℕ) (meant : MeantForm)
+    → wait_mutex version waiting mutex ≡ Some meant
+    → HasCut version (Word (codes "wait") ∷ Word waiting ∷ Word mutex ∷ []) meant
 wait_mutex_says version waiting mutex meant e =
-    let p = passed (is_name version waiting && is_name version mutex) (some (Wait waiting mutex)) meant e in
-    (Wait waiting mutex, record { spelled = refl; of = and_parts (is_name version waiting) (is_name version mutex) p.0; means = sym (some_is (Wait waiting mutex) meant p.1) })
+    let p = passed (is_name version waiting && is_name version mutex) (some (Wait waiting mutex))
+    meant e in (
+      Wait waiting mutex,
+      record {
+        spelled = refl;
+        of = and_parts (is_name version waiting) (is_name version mutex) p.0;
+        means = sym (some_is (Wait waiting mutex) meant p.1);
+      },
+    )
 
-wait_says : (version : ℕ) (tokens : List Token) (meant : MeantForm) → wait_form version tokens ≡ Some meant → HasCut version (Word (codes "wait") ∷ tokens) meant
+wait_says : (version : ℕ) (tokens : List Token) (meant : MeantForm)
+    → wait_form version tokens ≡ Some meant → HasCut version (Word (codes "wait") ∷ tokens) meant
 wait_says version (Word waiting ∷ tokens) meant e =
     let b = bind_some (wait_mutex version waiting) (lone_word tokens) meant e in
-    subst (λ (ts : List Token). HasCut version (Word (codes "wait") ∷ Word waiting ∷ ts) meant) (sym (lone_says_word tokens b.0 b.1)) (wait_mutex_says version waiting b.0 meant b.2)
+    subst (λ (ts : List Token). HasCut version (Word (codes "wait") ∷ Word waiting ∷ ts) meant)
+    (sym (lone_says_word tokens b.0 b.1)) (wait_mutex_says version waiting b.0 meant b.2)
 wait_says version tokens meant e = absurd cc
 
-yield_says : (version : ℕ) (tokens : List Token) (meant : MeantForm) → bare_form Yield tokens ≡ Some meant → HasCut version (Word (codes "yield") ∷ tokens) meant
-yield_says version [] meant e = (Yield, record { spelled = refl; of = tt; means = sym (some_is Yield meant e) })
+yield_says : (version : ℕ) (tokens : List Token) (meant : MeantForm)
+    → bare_form Yield tokens ≡ Some meant → HasCut version (Word (codes "yield") ∷ tokens) meant
+yield_says version [] meant e =
+    (Yield, record { spelled = refl; of = tt; means = sym (some_is Yield meant e) })
 yield_says version (token ∷ tokens) meant e = absurd cc
 
-end_says : (version : ℕ) (tokens : List Token) (meant : MeantForm) → bare_form End tokens ≡ Some meant → HasCut version (Word (codes "end") ∷ tokens) meant
-end_says version [] meant e = (End, record { spelled = refl; of = tt; means = sym (some_is End meant e) })
+end_says : (version : ℕ) (tokens : List Token) (meant : MeantForm)
+    → bare_form End tokens ≡ Some meant → HasCut version (Word (codes "end") ∷ tokens) meant
+end_says version [] meant e =
+    (End, record { spelled = refl; of = tt; means = sym (some_is End meant e) })
 end_says version (token ∷ tokens) meant e = absurd cc
 
-else_says : (version : ℕ) (tokens : List Token) (meant : MeantForm) → bare_form Else tokens ≡ Some meant → HasCut version (Word (codes "else") ∷ tokens) meant
-else_says version [] meant e = (Else, record { spelled = refl; of = tt; means = sym (some_is Else meant e) })
+else_says : (version : ℕ) (tokens : List Token) (meant : MeantForm)
+    → bare_form Else tokens ≡ Some meant → HasCut version (Word (codes "else") ∷ tokens) meant
+else_says version [] meant e =
+    (Else, record { spelled = refl; of = tt; means = sym (some_is Else meant e) })
 else_says version (token ∷ tokens) meant e = absurd cc
 
 -- ---- the word that a line begins with
 
-one_form : (version : ℕ) (word text : List ℕ) (tokens : List Token) (meant : MeantForm) (this others : Option MeantForm) → cond (bytes_eq word text) this others ≡ Some meant
-    → (this ≡ Some meant → HasCut version (Word text ∷ tokens) meant) → (others ≡ Some meant → HasCut version (Word word ∷ tokens) meant) → HasCut version (Word word ∷ tokens) meant
+one_form : (version : ℕ) (word text : List ℕ) (tokens : List Token) (meant : MeantForm)
+    (this others : Option MeantForm) → cond (bytes_eq word text) this others ≡ Some meant
+    → (this ≡ Some meant → HasCut version (Word text ∷ tokens) meant)
+    → (others ≡ Some meant → HasCut version (Word word ∷ tokens) meant)
+    → HasCut version (Word word ∷ tokens) meant
 one_form version word text tokens meant this others e here there =
     elim (chosen (bytes_eq word text) this others (Some meant) e) [
-      | inl h ↦ subst (λ (w : List ℕ). HasCut version (Word w ∷ tokens) meant) (sym (same_bytes word text h.0)) (here h.1)
+      | inl h ↦ subst (λ (w : List ℕ). HasCut version (Word w ∷ tokens) meant)
+          (sym (same_bytes word text h.0)) (here h.1)
       | inr h ↦ there h.1
     ]
 
-quiet_says : (version : ℕ) (word : List ℕ) (tokens : List Token) (meant : MeantForm) → quiet_form version word tokens ≡ Some meant → HasCut version (Word word ∷ tokens) meant
+quiet_says : (version : ℕ) (word : List ℕ) (tokens : List Token) (meant : MeantForm)
+    → quiet_form version word tokens ≡ Some meant → HasCut version (Word word ∷ tokens) meant
 quiet_says version word tokens meant e =
     one_form version word (codes "wait") tokens meant _ _ e (wait_says version tokens meant) (λ e.
     one_form version word (codes "yield") tokens meant _ _ e (yield_says version tokens meant) (λ e.
     one_form version word (codes "end") tokens meant _ _ e (end_says version tokens meant) (λ e.
-    one_form version word (codes "else") tokens meant _ _ e (else_says version tokens meant) (λ e. absurd cc))))
+    one_form version word (codes "else") tokens meant _ _ e (else_says version tokens meant)
+    (λ e. absurd cc))))
 
-other_says : (version : ℕ) (word : List ℕ) (tokens : List Token) (meant : MeantForm) → other_form exact version word tokens ≡ Some meant → HasCut version (Word word ∷ tokens) meant
+other_says : (version : ℕ) (word : List ℕ) (tokens : List Token) (meant : MeantForm)
+    → other_form exact version word tokens ≡ Some meant → HasCut version (Word word ∷ tokens) meant
 other_says version word tokens meant e =
     one_form version word (codes "write") tokens meant _ _ e (write_says version tokens meant) (λ e.
     one_form version word (codes "add") tokens meant _ _ e (add_says version tokens meant) (λ e.
     one_form version word (codes "cas") tokens meant _ _ e (cas_says version tokens meant) (λ e.
     one_form version word (codes "set") tokens meant _ _ e (set_says version tokens meant) (λ e.
-    one_form version word (codes "assert") tokens meant _ _ e (assert_says version tokens meant) (λ e.
+    one_form version word (codes "assert") tokens meant _ _ e (assert_says version tokens meant)
+    (λ e.
     one_form version word (codes "if") tokens meant _ _ e (if_says version tokens meant) (λ e.
-    one_form version word (codes "while") tokens meant _ _ e (while_says version tokens meant) (λ e. quiet_says version word tokens meant e)))))))
+    one_form version word (codes "while") tokens meant _ _ e (while_says version tokens meant)
+    (λ e. quiet_says version word tokens meant e)))))))
 
-by_on_says : (found : Option OnVerb) (version : ℕ) (word : List ℕ) (tokens : List Token) (meant : MeantForm) (others : Option MeantForm) → on_verb_in word ≡ found → by_on found version tokens others ≡ Some meant → (others ≡ Some meant → HasCut version (Word word ∷ tokens) meant) → HasCut version (Word word ∷ tokens) meant
+by_on_says : (found : Option OnVerb) (version : ℕ) (word : List ℕ) (tokens : List Token)
+    (meant : MeantForm) (others : Option MeantForm) → on_verb_in word ≡ found
+    → by_on found version tokens others ≡ Some meant
+    → (others ≡ Some meant → HasCut version (Word word ∷ tokens) meant)
+    → HasCut version (Word word ∷ tokens) meant
 by_on_says None version word tokens meant others f e there = there e
-by_on_says (Some verb) version word tokens meant others f e there = on_says version word verb tokens meant (on_word_says word verb f) e
+by_on_says (Some verb) version word tokens meant others f e there =
+    on_says version word verb tokens meant (on_word_says word verb f) e
 
-by_into_says : (found : Option IntoVerb) (version : ℕ) (word : List ℕ) (tokens : List Token) (meant : MeantForm) (others : Option MeantForm) → into_verb_in word ≡ found → by_into found version tokens others ≡ Some meant → (others ≡ Some meant → HasCut version (Word word ∷ tokens) meant) → HasCut version (Word word ∷ tokens) meant
+by_into_says : (found : Option IntoVerb) (version : ℕ) (word : List ℕ) (tokens : List Token)
+    (meant : MeantForm) (others : Option MeantForm) → into_verb_in word ≡ found
+    → by_into found version tokens others ≡ Some meant
+    → (others ≡ Some meant → HasCut version (Word word ∷ tokens) meant)
+    → HasCut version (Word word ∷ tokens) meant
 by_into_says None version word tokens meant others f e there = there e
-by_into_says (Some verb) version word tokens meant others f e there = into_says version word verb tokens meant (into_word_says word verb f) e
+by_into_says (Some verb) version word tokens meant others f e there =
+    into_says version word verb tokens meant (into_word_says word verb f) e
 
-by_kind_says : (found : Option NameKind) (version : ℕ) (word : List ℕ) (tokens : List Token) (meant : MeantForm) (others : Option MeantForm) → kind_in word ≡ found → by_kind found version tokens others ≡ Some meant → (others ≡ Some meant → HasCut version (Word word ∷ tokens) meant) → HasCut version (Word word ∷ tokens) meant
+by_kind_says : (found : Option NameKind) (version : ℕ) (word : List ℕ) (tokens : List Token)
+    (meant : MeantForm) (others : Option MeantForm) → kind_in word ≡ found
+    → by_kind found version tokens others ≡ Some meant
+    → (others ≡ Some meant → HasCut version (Word word ∷ tokens) meant)
+    → HasCut version (Word word ∷ tokens) meant
 by_kind_says None version word tokens meant others f e there = there e
-by_kind_says (Some kind) version word tokens meant others f e there = declared_says version word kind tokens meant (kind_word_says word kind f) e
+by_kind_says (Some kind) version word tokens meant others f e there =
+    declared_says version word kind tokens meant (kind_word_says word kind f) e
 
 -- what tokens are read as is a form of theirs
-pub form_says : (version : ℕ) (tokens : List Token) (meant : MeantForm) → form_in exact version tokens ≡ Some meant → HasCut version tokens meant
+pub form_says : (version : ℕ) (tokens : List Token) (meant : MeantForm)
+    → form_in exact version tokens ≡ Some meant → HasCut version tokens meant
 form_says version (Word word ∷ tokens) meant e =
     by_on_says (on_verb_in word) version word tokens meant _ refl e (λ e.
     by_into_says (into_verb_in word) version word tokens meant _ refl e (λ e.
-    by_kind_says (kind_in word) version word tokens meant _ refl e (λ e. other_says version word tokens meant e)))
+    by_kind_says (kind_in word) version word tokens meant _ refl e
+    (λ e. other_says version word tokens meant e)))
 form_says version tokens meant e = absurd cc

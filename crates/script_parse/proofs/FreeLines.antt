@@ -35,7 +35,10 @@ last_none : (last found : Bool) → (last ≡ true → found ≡ false) → (las
 last_none true found f = f refl
 last_none false found f = refl
 
-module _ (version : ℕ) (part : Part) (find : Finder) (n : ℕ) (last : Bool) (lines : List (List Token)) (s : Stands part lines) (cut : TokenForm) (meant : MeantForm) (means : Means cut meant) (of : IsFormOf version cut) (free : IsFree part find meant) (whole : WholeAfter last (with_form part find n meant)) where
+module _ (version : ℕ) (part : Part) (find : Finder) (n : ℕ) (last : Bool)
+    (lines : List (List Token)) (s : Stands part lines) (cut : TokenForm) (meant : MeantForm)
+    (means : Means cut meant) (of : IsFormOf version cut) (free : IsFree part find meant)
+    (whole : WholeAfter last (with_form part find n meant)) where
   next_stands : Stands (with_form part find n meant) (lines ++ tokens_of_form cut ∷ [])
   next_stands = taken_stands version part find n lines s cut meant means of free.closes
 
@@ -73,24 +76,34 @@ module _ (version : ℕ) (part : Part) (find : Finder) (n : ℕ) (last : Bool) (
       subst (λ (ts : List Token). ranges.is_out_of_range ts meant ≡ false) spelled range in
       ap (λ (ts : List Token). form_fault part find last ts meant) spelled ∙ no_fault in_range
 
-module _ (part : Part) (find : Finder) (n : ℕ) (last : Bool) (lines : List (List Token)) (s : Stands part lines) (text : List ℕ) (meant : MeantForm) (says : Says part.version text meant) (free : IsFree part find meant) (whole : WholeAfter last (with_form part find n meant)) where
+module _ (part : Part) (find : Finder) (n : ℕ) (last : Bool) (lines : List (List Token))
+    (s : Stands part lines) (text : List ℕ) (meant : MeantForm)
+    (says : Says part.version text meant) (free : IsFree part find meant)
+    (whole : WholeAfter last (with_form part find n meant)) where
   formed : (tokens : List Token) → tokens_in text ≡ tokens → IsForm part.version tokens says.0 meant
   formed tokens e = subst (λ (ts : List Token). IsForm part.version ts says.0 meant) e says.1
 
-  read_form : (tokens : List Token) → tokens_in text ≡ tokens → form_in exact part.version tokens ≡ Some meant
+  read_form : (tokens : List Token) → tokens_in text ≡ tokens
+      → form_in exact part.version tokens ≡ Some meant
   read_form tokens e = form_read part.version tokens says.0 meant (formed tokens e)
 
   none_some : (m : MeantForm) → None ≡ Some m → ⊥
   none_some m e = absurd cc
 
-  in_range : (tokens : List Token) → tokens_in text ≡ tokens → ranges.is_out_of_range tokens meant ≡ false
-  in_range tokens here = subst (λ (ts : List Token). ranges.is_out_of_range ts meant ≡ false) here says.2
+  in_range : (tokens : List Token) → tokens_in text ≡ tokens
+      → ranges.is_out_of_range tokens meant ≡ false
+  in_range tokens here =
+      subst (λ (ts : List Token). ranges.is_out_of_range ts meant ≡ false) here says.2
 
-  pub said_taken : (tokens : Option (List Token)) → tokens_of text ≡ tokens → tokens_taken exact part find n last tokens ≡ Ok (with_form part find n meant)
-  said_taken None e = absurd (none_some meant (read_form [] (ap (λ (ts : Option (List Token)). unwrap_or ts []) e)))
-  said_taken (Some []) e = absurd (none_some meant (read_form [] (ap (λ (ts : Option (List Token)). unwrap_or ts []) e)))
+  pub said_taken : (tokens : Option (List Token)) → tokens_of text ≡ tokens
+      → tokens_taken exact part find n last tokens ≡ Ok (with_form part find n meant)
+  said_taken None e =
+      absurd (none_some meant (read_form [] (ap (λ (ts : Option (List Token)). unwrap_or ts []) e)))
+  said_taken (Some []) e =
+      absurd (none_some meant (read_form [] (ap (λ (ts : Option (List Token)). unwrap_or ts []) e)))
   said_taken (Some (token ∷ tokens)) e =
-      let here : tokens_in text ≡ token ∷ tokens = ap (λ (ts : Option (List Token)). unwrap_or ts []) e in
+      let here : tokens_in text ≡ token ∷ tokens =
+      ap (λ (ts : Option (List Token)). unwrap_or ts []) e in
       let form = formed (token ∷ tokens) here in
       rw (
         read_form (token ∷ tokens) here,

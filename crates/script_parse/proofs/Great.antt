@@ -11,12 +11,15 @@ use Rattle.script_parse.specs.Seen.{seen, all_seen}
 use Rattle.script_parse.specs.SeenForms.{seen_form}
 use Rattle.script_tree.specs.Ranges.{is_great, has_great, is_out_of_range}
 
-pub great_seen : (tokens : List Token) → list_any (λ token. is_great (seen token)) tokens ≡ has_great (all_seen tokens)
+pub great_seen : (tokens : List Token)
+    → list_any (λ token. is_great (seen token)) tokens ≡ has_great (all_seen tokens)
 great_seen [] = refl
 great_seen (token ∷ tokens) = ap (λ (b : Bool). is_great (seen token) || b) (great_seen tokens)
 
 -- a line of another form than a declaration with a value
-pub great_other : (tokens : List language.Token) (form : Form) → ((kind : NameKind) (name : Bor (List ℕ)) (minus : Bool) (digits : Bor (List ℕ)) → form ≡ forms.Valued kind name minus digits → ⊥)
+pub great_other : (tokens : List language.Token) (form : Form)
+    → ((kind : NameKind) (name : Bor (List ℕ)) (minus : Bool) (digits : Bor (List ℕ))
+    → form ≡ forms.Valued kind name minus digits → ⊥)
     → has_great tokens ≡ is_out_of_range tokens (seen_form form)
 great_other tokens (forms.Valued kind name minus digits) h = absurd (h kind name minus digits refl)
 great_other tokens form h = refl

@@ -16,6 +16,7 @@ pub mod LineFaults
 pub mod LineSteps
 pub mod Headers
 pub mod TextFaults
+pub mod FirstFaults
 pub mod FaultLaws
 pub mod StatementFits
 pub mod OpenBlocks

@@ -3,17 +3,19 @@ use Rattle.std.proofs.Common.{◌≡◌, ℕ, suc, Bool, true, false, length, Li
 use Rattle.std.proofs.Common.{◌∙◌, arith, subst}
 use Rattle.std.specs.Prelude.{not, ◌&&◌, ◌==◌}
 use Rattle.std.proofs.lemmas.Bool.Decides.{nat_tests}
-use Rattle.std.proofs.lemmas.Bool.{and_parts}
+use Rattle.std.proofs.lemmas.Bool.{and_parts, not-false, not-true}
 use Rattle.pct_ask.specs.Tokens.{Token}
 use Rattle.pct_ask.specs.declared.names.NameKind.{NameKind}
 use Rattle.script_tree.specs.Forms.{TokenForm, MeantForm, IsForm}
 use Rattle.script_tree.specs.Ranges as ranges
 use Rattle.script_tree.specs.Lines.{tokens_in, version_of}
 use Rattle.script_tree.specs.Faults as faults
-use Rattle.script_tree.specs.Faults.{Place, SoFar, tokens_before, is_declared, are_blank, IsBelowHeader, HasForm, HasFormWith, IsFaulty, kind_rank, IsFirstKind}
+use Rattle.script_tree.specs.Faults.{Place, SoFar, tokens_before, is_declared}
+use Rattle.script_tree.specs.Faults.{IsBelowHeader}
+use Rattle.script_tree.specs.Faults.{HasForm, HasFormWith}
 use Rattle.script_parse.specs.Part.{Part}
 use Rattle.script_parse.specs.Reading.{is_empty, so_far_in, is_known_name}
-use Rattle.script_parse.proofs.Choices.{some_is, clash, unflip, flipped}
+use Rattle.script_parse.proofs.Choices.{some_is, clash}
 use Rattle.script_parse.proofs.FormWhole.{form_read}
 use Rattle.script_parse.proofs.FirstKinds.{Tells}
 use Rattle.script_parse.proofs.Standing.{Stands}
@@ -21,7 +23,8 @@ use Rattle.script_parse.proofs.Agreeing.{same_so_far, found, known_same}
 
 pub empty_is : {A : Type 0} (xs : List A) → is_empty xs ≡ true → xs ≡ []
 empty_is [] e = refl
-empty_is (x ∷ xs) e = let some : (suc (length xs) == 0) ≡ false = grind (arith, nat_tests) in clash (sym e ∙ some)
+empty_is (x ∷ xs) e = let some : (suc (length xs) == 0) ≡ false = grind (arith, nat_tests) in
+    clash (sym e ∙ some)
 
 pub is_empty_of : {A : Type 0} (xs : List A) → xs ≡ [] → is_empty xs ≡ true
 is_empty_of [] e = refl
@@ -80,7 +83,9 @@ module _ (part : Part) (place : Place) (s : Stands part (tokens_before place)) (
 
 -- ---- a line below the header, of some form
 
-module _ (part : Part) (place : Place) (s : Stands part (tokens_before place)) (below : IsBelowHeader place) (cut : TokenForm) (meant : MeantForm) (is_form : IsForm part.version (tokens_in place.line) cut meant) where
+module _ (part : Part) (place : Place) (s : Stands part (tokens_before place))
+    (below : IsBelowHeader place) (cut : TokenForm) (meant : MeantForm)
+    (is_form : IsForm part.version (tokens_in place.line) cut meant) where
   here : faults.so_far_at place ≡ so_far_in part
   here = same_so_far part (tokens_before place) s
 
@@ -88,51 +93,85 @@ module _ (part : Part) (place : Place) (s : Stands part (tokens_before place)) (
   spoken_version = ap (λ (lines : SoFar). lines.version) here
 
   has_form : faults.may_stand (faults.so_far_at place) meant ≡ true → HasForm place cut meant
-  has_form h = record { is_below = below; form = subst (λ (v : ℕ). IsForm v (tokens_in place.line) cut meant) (sym spoken_version) is_form; stands = h }
+  has_form h = record {
+    is_below = below;
+    form = subst (λ (v : ℕ). IsForm v (tokens_in place.line) cut meant)
+        (sym spoken_version) is_form;
+    stands = h;
+  }
 
   -- the line has no other form
   pub one_meaning : (other : TokenForm) (sense : MeantForm) → HasForm place other sense
       → meant ≡ sense
   one_meaning other sense h =
-      let again : IsForm part.version (tokens_in place.line) other sense = subst (λ (v : ℕ). IsForm v (tokens_in place.line) other sense) spoken_version h.form in
-      some_is meant sense (sym (form_read part.version (tokens_in place.line) cut meant is_form) ∙ form_read part.version (tokens_in place.line) other sense again)
+      let again : IsForm part.version (tokens_in place.line) other sense =
+      subst (λ (v : ℕ). IsForm v (tokens_in place.line) other sense) spoken_version h.form in
+      some_is meant sense (sym (form_read part.version (tokens_in place.line) cut meant is_form)
+      ∙ form_read part.version (tokens_in place.line) other sense again)
 
-  stands_here : (other : TokenForm) (sense : MeantForm) → HasForm place other sense → faults.may_stand (faults.so_far_at place) meant ≡ true
-  stands_here other sense h = ap (faults.may_stand (faults.so_far_at place)) (one_meaning other sense h) ∙ h.stands
+  stands_here : (other : TokenForm) (sense : MeantForm) → HasForm place other sense
+      → faults.may_stand (faults.so_far_at place) meant ≡ true
+  stands_here other sense h =
+      ap (faults.may_stand (faults.so_far_at place)) (one_meaning other sense h) ∙ h.stands
 
   -- a test tells whether the line has a form of which it holds
-  tells : (test : MeantForm → Bool) → Tells (faults.may_stand (faults.so_far_at place) meant && test meant) (HasFormWith test place)
+  tells : (test : MeantForm → Bool) → Tells
+      (faults.may_stand (faults.so_far_at place) meant && test meant) (HasFormWith test place)
   tells test = (
-    λ e. let p = and_parts (faults.may_stand (faults.so_far_at place) meant) (test meant) e in (cut, meant, has_form p.0, p.1),
-    λ e w. both_hold (faults.may_stand (faults.so_far_at place) meant) (test meant) e (stands_here w.0 w.1 w.2) (ap test (one_meaning w.0 w.1 w.2) ∙ w.3),
+    λ e. let p = and_parts (faults.may_stand (faults.so_far_at place) meant) (test meant) e in
+        (cut, meant, has_form p.0, p.1),
+    λ e w. both_hold (faults.may_stand (faults.so_far_at place) meant) (test meant) e
+        (stands_here w.0 w.1 w.2) (ap test (one_meaning w.0 w.1 w.2) ∙ w.3),
   )
 
   -- so does a test of what was read
-  tells_here : (test : SoFar → MeantForm → Bool) → Tells (faults.may_stand (so_far_in part) meant && test (so_far_in part) meant) (HasFormWith (test (faults.so_far_at place)) place)
-  tells_here test = subst (λ (lines : SoFar). Tells (faults.may_stand lines meant && test lines meant) (HasFormWith (test (faults.so_far_at place)) place)) here (tells (test (faults.so_far_at place)))
+  tells_here : (test : SoFar → MeantForm → Bool)
+      → Tells (faults.may_stand (so_far_in part) meant && test (so_far_in part) meant)
+      (HasFormWith (test (faults.so_far_at place)) place)
+  tells_here test =
+      subst (λ (lines : SoFar). Tells (faults.may_stand lines meant && test lines meant)
+      (HasFormWith (test (faults.so_far_at place)) place)) here
+      (tells (test (faults.so_far_at place)))
 
-  no_statement : Tells (not (faults.may_stand (faults.so_far_at place) meant)) (faults.BadStatement place)
+  no_statement : Tells (not (faults.may_stand (faults.so_far_at place) meant))
+      (faults.BadStatement place)
   no_statement = (
-    λ e. (below, λ other sense h. clash (sym (stands_here other sense h) ∙ flipped (faults.may_stand (faults.so_far_at place) meant) e)),
-    λ e w. w.1 cut meant (has_form (unflip (faults.may_stand (faults.so_far_at place) meant) e)),
+    λ e. (
+      below,
+      λ other sense h. clash
+          (sym (stands_here other sense h)
+          ∙ not-true (faults.may_stand (faults.so_far_at place) meant) e),
+    ),
+    λ e w. w.1 cut meant (has_form (not-false (faults.may_stand (faults.so_far_at place) meant) e)),
   )
 
-  pub tells_statement : Tells (not (faults.may_stand (so_far_in part) meant)) (faults.BadStatement place)
-  tells_statement = subst (λ (lines : SoFar). Tells (not (faults.may_stand lines meant)) (faults.BadStatement place)) here no_statement
+  pub tells_statement : Tells (not (faults.may_stand (so_far_in part) meant))
+      (faults.BadStatement place)
+  tells_statement =
+      subst (λ (lines : SoFar). Tells (not (faults.may_stand lines meant))
+      (faults.BadStatement place)) here no_statement
 
-  pub tells_unknown : Tells (faults.may_stand (so_far_in part) meant && faults.uses_unknown (is_known_name part.names (found part place s)) meant) (faults.UnknownName place)
+  pub tells_unknown : Tells (faults.may_stand (so_far_in part) meant
+      && faults.uses_unknown (is_known_name part.names (found part place s)) meant)
+      (faults.UnknownName place)
   tells_unknown =
-      subst (λ (known : NameKind → List ℕ → Bool). Tells (faults.may_stand (so_far_in part) meant && faults.uses_unknown known meant) (faults.UnknownName place)) (known_same part place s)
+      subst (λ (known : NameKind → List ℕ → Bool).
+      Tells (faults.may_stand (so_far_in part) meant && faults.uses_unknown known meant)
+      (faults.UnknownName place)) (known_same part place s)
       (tells_here (λ lines. faults.uses_unknown (is_declared place)))
 
-  pub tells_twice : Tells (faults.may_stand (so_far_in part) meant && faults.declares_again (so_far_in part) meant) (faults.TwiceNamed place)
+  pub tells_twice : Tells (faults.may_stand (so_far_in part) meant
+      && faults.declares_again (so_far_in part) meant) (faults.TwiceNamed place)
   tells_twice = tells_here faults.declares_again
 
-  pub tells_range : Tells (faults.may_stand (so_far_in part) meant && ranges.is_out_of_range (tokens_in place.line) meant) (faults.NumberRange place)
+  pub tells_range : Tells (faults.may_stand (so_far_in part) meant
+      && ranges.is_out_of_range (tokens_in place.line) meant) (faults.NumberRange place)
   tells_range = tells_here (λ lines. ranges.is_out_of_range (tokens_in place.line))
 
-  pub tells_stray : Tells (faults.may_stand (so_far_in part) meant && faults.closes_nothing (so_far_in part) meant) (faults.StrayEnd place)
+  pub tells_stray : Tells (faults.may_stand (so_far_in part) meant
+      && faults.closes_nothing (so_far_in part) meant) (faults.StrayEnd place)
   tells_stray = tells_here faults.closes_nothing
 
-  pub tells_many : Tells (faults.may_stand (so_far_in part) meant && faults.is_too_many (so_far_in part) meant) (faults.TooMany place)
+  pub tells_many : Tells (faults.may_stand (so_far_in part) meant
+      && faults.is_too_many (so_far_in part) meant) (faults.TooMany place)
   tells_many = tells_here faults.is_too_many

@@ -1,5 +1,6 @@
 -- Each line's step finds its first fault, or stands for the line.
-use Rattle.std.proofs.Common.{◌≡◌, ℕ, ◌+◌, inl, inr, Bool, true, false, cond, length, List, [], ◌∷◌, Option, Some, None, Result, Ok, Err, refl, sym, ap, ◌∙◌, arith, subst}
+use Rattle.std.proofs.Common.{◌≡◌, ℕ, ◌+◌, inl, inr, Bool, true, false, cond, length, List, [], ◌∷◌}
+use Rattle.std.proofs.Common.{Option, Some, None, Result, Ok, Err, refl, sym, ap, ◌∙◌, arith, subst}
 use Rattle.std.specs.Prelude.{nat_le, nat_lt, not, ◌&&◌}
 use Rattle.std.specs.Str.{is_utf8}
 use Rattle.std.proofs.lemmas.List.{append-nil}
@@ -12,10 +13,13 @@ use Rattle.script_tree.specs.Forms.{TokenForm, MeantForm, IsForm}
 use Rattle.script_tree.specs.Lines.{tokens_in, is_blank_line, version_of}
 use Rattle.script_tree.specs.Faults as faults
 use Rattle.script_tree.specs.Ranges as ranges
-use Rattle.script_tree.specs.Faults.{Place, tokens_before, are_blank, IsBelowHeader, HasForm, HasFormWith, IsFaulty, IsFirstKind}
+use Rattle.script_tree.specs.Faults.{Place, tokens_before, are_blank, IsBelowHeader, HasForm}
+use Rattle.script_tree.specs.Faults.{HasFormWith}
+use Rattle.script_tree.specs.Faults.{IsFaulty}
 use Rattle.script_parse.specs.Part.{Part}
 use Rattle.script_parse.specs.Saying.{form_in}
-use Rattle.script_parse.specs.Reading.{is_empty, so_far_in, bytes_fault, unless, some_part, after_fault, line_taken}
+use Rattle.script_parse.specs.Reading.{is_empty, so_far_in, bytes_fault, unless, some_part}
+use Rattle.script_parse.specs.Reading.{after_fault, line_taken}
 use Rattle.script_parse.proofs.Choices.{some, clash}
 use Rattle.script_parse.proofs.ExpressionWhole.{exact}
 use Rattle.script_parse.proofs.FormWhole.{form_read}
@@ -23,7 +27,9 @@ use Rattle.script_parse.proofs.FormSound.{form_says}
 use Rattle.script_parse.proofs.FirstKinds.{Tells, first_in, in_order, IsFirst, is_first}
 use Rattle.script_parse.proofs.Standing.{Stands}
 use Rattle.script_parse.proofs.Agreeing.{found}
-use Rattle.script_parse.proofs.LineFaults.{tells_statement, tells_unknown, tells_twice, tells_range, tells_stray, tells_many, tells_end, tells_thread, tells_end_any, tells_thread_any}
+use Rattle.script_parse.proofs.LineFaults.{tells_statement, tells_unknown, tells_twice, tells_range}
+use Rattle.script_parse.proofs.LineFaults.{tells_stray, tells_many, tells_end, tells_thread}
+use Rattle.script_parse.proofs.LineFaults.{tells_end_any, tells_thread_any}
 
 abbrev pub Step : Type 0
 Step = Result (Option Part) ScriptFault
@@ -33,7 +39,8 @@ fault_of (Ok next) = None
 fault_of (Err kind) = Some kind
 
 -- a test for each kind
-abbrev pub tests : Bool → Bool → Bool → Bool → Bool → Bool → Bool → Bool → Bool → Bool → Bool → Bool → Bool → ScriptFault → Bool
+abbrev pub tests : Bool → Bool → Bool → Bool → Bool → Bool → Bool → Bool → Bool → Bool → Bool → Bool
+    → Bool → ScriptFault → Bool
 tests u l t h k s un tw ra ne st nt tm fault.NotUtf8 = u
 tests u l t h k s un tw ra ne st nt tm fault.LineTooLong = l
 tests u l t h k s un tw ra ne st nt tm fault.TooManyLines = t
@@ -64,7 +71,9 @@ pub record AllTell (place : Place) (u l t h k s un tw ra ne st nt tm : Bool) : T
   pub no_thread : Tells nt (faults.NoThread place)
   pub many : Tells tm (faults.TooMany place)
 
-told : (place : Place) (u l t h k s un tw ra ne st nt tm : Bool) → AllTell place u l t h k s un tw ra ne st nt tm → (kind : ScriptFault) → Tells (tests u l t h k s un tw ra ne st nt tm kind) (IsFaulty kind place)
+told : (place : Place) (u l t h k s un tw ra ne st nt tm : Bool)
+    → AllTell place u l t h k s un tw ra ne st nt tm → (kind : ScriptFault)
+    → Tells (tests u l t h k s un tw ra ne st nt tm kind) (IsFaulty kind place)
 told place u l t h k s un tw ra ne st nt tm a fault.NotUtf8 = a.utf
 told place u l t h k s un tw ra ne st nt tm a fault.LineTooLong = a.long
 told place u l t h k s un tw ra ne st nt tm a fault.TooManyLines = a.lines
@@ -79,9 +88,13 @@ told place u l t h k s un tw ra ne st nt tm a fault.StrayEnd = a.stray
 told place u l t h k s un tw ra ne st nt tm a fault.NoThread = a.no_thread
 told place u l t h k s un tw ra ne st nt tm a fault.TooMany = a.many
 
-pub first_told : (place : Place) (u l t h k s un tw ra ne st nt tm : Bool) → AllTell place u l t h k s un tw ra ne st nt tm → (o : Option ScriptFault) → o ≡ first_in (tests u l t h k s un tw ra ne st nt tm) in_order → IsFirst o place
+pub first_told : (place : Place) (u l t h k s un tw ra ne st nt tm : Bool)
+    → AllTell place u l t h k s un tw ra ne st nt tm → (o : Option ScriptFault)
+    → o ≡ first_in (tests u l t h k s un tw ra ne st nt tm) in_order → IsFirst o place
 first_told place u l t h k s un tw ra ne st nt tm a o e =
-    subst (λ (x : Option ScriptFault). IsFirst x place) (sym e) (is_first place (tests u l t h k s un tw ra ne st nt tm) (told place u l t h k s un tw ra ne st nt tm a))
+    subst (λ (x : Option ScriptFault). IsFirst x place) (sym e)
+    (is_first place (tests u l t h k s un tw ra ne st nt tm)
+    (told place u l t h k s un tw ra ne st nt tm a))
 
 -- ---- bytes
 
@@ -99,15 +112,25 @@ tells_utf place = at (is_utf8 place.line)
     at false = (λ e. refl, λ e f. absurd cc)
 
 pub tells_long : (place : Place) → Tells (nat_lt 256 (length place.line)) (faults.LineTooLong place)
-tells_long place = (λ e. ltb-true 256 (length place.line) e, λ e h. clash (sym (lt-ltb 256 (length place.line) h) ∙ e))
+tells_long place = (
+  λ e. ltb-true 256 (length place.line) e,
+  λ e h. clash (sym (lt-ltb 256 (length place.line) h) ∙ e),
+)
 
-pub tells_lines : (place : Place) → Tells (nat_le 4096 (length place.before)) (faults.TooManyLines place)
-tells_lines place = (λ e. leb-true 4096 (length place.before) e, λ e h. clash (sym (le-leb 4096 (length place.before) h) ∙ e))
+pub tells_lines : (place : Place) → Tells (nat_le 4096 (length place.before))
+    (faults.TooManyLines place)
+tells_lines place = (
+  λ e. leb-true 4096 (length place.before) e,
+  λ e h. clash (sym (le-leb 4096 (length place.before) h) ∙ e),
+)
 
 line_number : (n : ℕ) → nat_lt 4096 (n + 1) ≡ nat_le 4096 n
 line_number n = grind (arith, nat_tests)
 
-pub bytes_at : (place : Place) → bytes_fault (length place.before + 1) place.line ≡ cond (not (is_utf8 place.line)) (Some fault.NotUtf8) (cond (nat_lt 256 (length place.line)) (Some fault.LineTooLong) (cond (nat_le 4096 (length place.before)) (Some fault.TooManyLines) None))
+pub bytes_at : (place : Place) → bytes_fault (length place.before + 1) place.line
+    ≡ cond (not (is_utf8 place.line)) (Some fault.NotUtf8)
+    (cond (nat_lt 256 (length place.line)) (Some fault.LineTooLong)
+    (cond (nat_le 4096 (length place.before)) (Some fault.TooManyLines) None))
 bytes_at place = rw (line_number (length place.before)) refl
 
 -- ---- a line below the header
@@ -122,35 +145,58 @@ wrapped_fault None next = refl
 wrapped_fault (Some kind) next = refl
 
 form_chain : (u l t m un tw ra ne st nt tm : Bool) (next : Part)
-    → fault_of (unless (cond u (Some fault.NotUtf8) (cond l (Some fault.LineTooLong) (cond t (Some fault.TooManyLines) None)))
-    (some_part (after_fault (cond (not m) (Some fault.BadStatement) (cond un (Some fault.UnknownName) (cond tw (Some fault.TwiceNamed) (cond ra (Some fault.NumberRange) (cond ne (Some fault.NoEnd) (cond st (Some fault.StrayEnd) (cond nt (Some fault.NoThread) (cond tm (Some fault.TooMany) None)))))))) next)))
-    ≡ first_in (tests u l t false false (not m) (m && un) (m && tw) (m && ra) ne (m && st) nt (m && tm)) in_order
+    → fault_of (unless (cond u (Some fault.NotUtf8)
+    (cond l (Some fault.LineTooLong) (cond t (Some fault.TooManyLines) None)))
+    (some_part (after_fault (cond (not m) (Some fault.BadStatement)
+    (cond un (Some fault.UnknownName)
+    (cond tw (Some fault.TwiceNamed)
+    (cond ra (Some fault.NumberRange)
+    (cond ne (Some fault.NoEnd) (cond st (Some fault.StrayEnd)
+    (cond nt (Some fault.NoThread) (cond tm (Some fault.TooMany) None)))))))) next)))
+    ≡ first_in (tests u l t false false (not m) (m && un) (m && tw) (m && ra) ne (m && st) nt
+    (m && tm)) in_order
 form_chain true l t m un tw ra ne st nt tm next = refl
 form_chain false true t m un tw ra ne st nt tm next = refl
 form_chain false false true m un tw ra ne st nt tm next = refl
 form_chain false false false false un tw ra ne st nt tm next = refl
 form_chain false false false true un tw ra ne st nt tm next = wrapped_fault _ next
 
-pub bad_chain : (u l t : Bool) (kind : ScriptFault) (rest : Option ScriptFault) → rest ≡ Some kind → fault_of (unless (cond u (Some fault.NotUtf8) (cond l (Some fault.LineTooLong) (cond t (Some fault.TooManyLines) None))) (Err kind)) ≡ cond u (Some fault.NotUtf8) (cond l (Some fault.LineTooLong) (cond t (Some fault.TooManyLines) rest))
+pub bad_chain : (u l t : Bool) (kind : ScriptFault) (rest : Option ScriptFault) → rest ≡ Some kind
+    → fault_of (unless (cond u (Some fault.NotUtf8)
+    (cond l (Some fault.LineTooLong) (cond t (Some fault.TooManyLines) None))) (Err kind))
+    ≡ cond u (Some fault.NotUtf8) (cond l (Some fault.LineTooLong)
+    (cond t (Some fault.TooManyLines) rest))
 bad_chain true l t kind rest e = refl
 bad_chain false true t kind rest e = refl
 bad_chain false false true kind rest e = refl
 bad_chain false false false kind rest e = sym e
 
-blank_chain : (u l t ne nt : Bool) (next : Part) → fault_of (unless (cond u (Some fault.NotUtf8) (cond l (Some fault.LineTooLong) (cond t (Some fault.TooManyLines) None))) (some_part (after_fault (cond ne (Some fault.NoEnd) (cond nt (Some fault.NoThread) None)) next)))
+blank_chain : (u l t ne nt : Bool) (next : Part)
+    → fault_of (unless (cond u (Some fault.NotUtf8)
+    (cond l (Some fault.LineTooLong) (cond t (Some fault.TooManyLines) None)))
+    (some_part (after_fault (cond ne (Some fault.NoEnd) (cond nt (Some fault.NoThread) None))
+    next)))
     ≡ first_in (tests u l t false false false false false false ne false nt false) in_order
 blank_chain true l t ne nt next = refl
 blank_chain false true t ne nt next = refl
 blank_chain false false true ne nt next = refl
 blank_chain false false false ne nt next = wrapped_fault _ next
 
-never_formed : (place : Place) (test : MeantForm → Bool) → ((cut : TokenForm) (meant : MeantForm) → ¬ HasForm place cut meant) → Tells false (HasFormWith test place)
+never_formed : (place : Place) (test : MeantForm → Bool)
+    → ((cut : TokenForm) (meant : MeantForm) → ¬ HasForm place cut meant)
+    → Tells false (HasFormWith test place)
 never_formed place test h = never (λ w. h w.0 w.1 w.2)
 
 -- where a line has no form, five tests beside those of its bytes tell its first fault
-pub first_formless : (place : Place) (h k s ne nt : Bool) → ((cut : TokenForm) (meant : MeantForm) → ¬ HasForm place cut meant)
-    → Tells h (faults.BadHeader place) → Tells k (faults.BadToken place) → Tells s (faults.BadStatement place) → Tells ne (faults.NoEnd place) → Tells nt (faults.NoThread place)
-    → (o : Option ScriptFault) → o ≡ first_in (tests (not (is_utf8 place.line)) (nat_lt 256 (length place.line)) (nat_le 4096 (length place.before)) h k s false false false ne false nt false) in_order → IsFirst o place
+pub first_formless : (place : Place) (h k s ne nt : Bool)
+    → ((cut : TokenForm) (meant : MeantForm) → ¬ HasForm place cut meant)
+    → Tells h (faults.BadHeader place) → Tells k (faults.BadToken place)
+    → Tells s (faults.BadStatement place) → Tells ne (faults.NoEnd place)
+    → Tells nt (faults.NoThread place)
+    → (o : Option ScriptFault) → o ≡ first_in
+    (tests (not (is_utf8 place.line)) (nat_lt 256 (length place.line))
+    (nat_le 4096 (length place.before)) h k s false false false ne false nt false) in_order
+    → IsFirst o place
 first_formless place h k s ne nt none header token statement no_end no_thread =
     first_told place _ _ _ h k s false false false ne false nt false (record {
       utf = tells_utf place;
@@ -171,23 +217,34 @@ first_formless place h k s ne nt none header token statement no_end no_thread =
 pub some_none : {A : Type 0} {x : A} {P : Type 0} → None ≡ some x → P
 some_none e = absurd cc
 
-pub cut_tokens : (line : List ℕ) (tokens : List Token) → tokens_of line ≡ Some tokens → tokens_in line ≡ tokens
+pub cut_tokens : (line : List ℕ) (tokens : List Token) → tokens_of line ≡ Some tokens
+    → tokens_in line ≡ tokens
 cut_tokens line tokens e = rw e refl
 
-pub says_something : (line : List ℕ) (token : Token) (tokens : List Token) → tokens_of line ≡ Some (token ∷ tokens) → is_blank_line line ≡ false
+pub says_something : (line : List ℕ) (token : Token) (tokens : List Token)
+    → tokens_of line ≡ Some (token ∷ tokens) → is_blank_line line ≡ false
 says_something line token tokens e = rw e refl
 
 -- a line of some form
-module _ (part : Part) (place : Place) (s : Stands part (tokens_before place)) (below : are_blank place.before ≡ false) where
+module _ (part : Part) (place : Place) (s : Stands part (tokens_before place))
+    (below : are_blank place.before ≡ false) where
   abbrev pub step : Step
-  step = line_taken exact (Some part) (found part place s) (length place.before + 1) (is_empty place.after) place.line
+  step =
+      line_taken exact (Some part) (found part place s) (length place.before + 1)
+      (is_empty place.after) place.line
 
-  form_step : (token : Token) (tokens : List Token) (meant : MeantForm) → tokens_of place.line ≡ Some (token ∷ tokens) → form_in exact part.version (token ∷ tokens) ≡ Some meant → IsFirst (fault_of step) place
+  form_step : (token : Token) (tokens : List Token) (meant : MeantForm)
+      → tokens_of place.line ≡ Some (token ∷ tokens)
+      → form_in exact part.version (token ∷ tokens) ≡ Some meant → IsFirst (fault_of step) place
   form_step token tokens meant e f =
       let here : tokens_in place.line ≡ token ∷ tokens = cut_tokens place.line (token ∷ tokens) e in
       let has = form_says part.version (token ∷ tokens) meant f in
-      let is_form : IsForm part.version (tokens_in place.line) has.0 meant = subst (λ (ts : List Token). IsForm part.version ts has.0 meant) (sym here) has.1 in
-      let is_below : IsBelowHeader place = record { below = below; says = says_something place.line token tokens e } in
+      let is_form : IsForm part.version (tokens_in place.line) has.0 meant =
+      subst (λ (ts : List Token). IsForm part.version ts has.0 meant) (sym here) has.1 in
+      let is_below : IsBelowHeader place = record {
+        below = below;
+        says = says_something place.line token tokens e;
+      } in
       let may : Bool = faults.may_stand (so_far_in part) meant in
       first_told place _ _ _ false false (not may) _ _ _ _ _ _ _ (record {
         utf = tells_utf place;
@@ -199,7 +256,8 @@ module _ (part : Part) (place : Place) (s : Stands part (tokens_before place)) (
         unknown = tells_unknown part place s is_below has.0 meant is_form;
         twice = tells_twice part place s is_below has.0 meant is_form;
         range = subst (λ (ts : List Token). Tells (may && ranges.is_out_of_range ts meant)
-            (faults.NumberRange place)) here (tells_range part place s is_below has.0 meant is_form);
+            (faults.NumberRange place)) here
+            (tells_range part place s is_below has.0 meant is_form);
         no_end = tells_end part place s (token ∷ tokens) here;
         stray = tells_stray part place s is_below has.0 meant is_form;
         no_thread = tells_thread part place s (token ∷ tokens) here;
@@ -207,33 +265,47 @@ module _ (part : Part) (place : Place) (s : Stands part (tokens_before place)) (
       }) (fault_of step) (rw (bytes_at place, e, f) (form_chain _ _ _ may _ _ _ _ _ _ _ _))
 
   -- a line of no form
-  bad_step : (token : Token) (tokens : List Token) → tokens_of place.line ≡ Some (token ∷ tokens) → form_in exact part.version (token ∷ tokens) ≡ None → IsFirst (fault_of step) place
+  bad_step : (token : Token) (tokens : List Token) → tokens_of place.line ≡ Some (token ∷ tokens)
+      → form_in exact part.version (token ∷ tokens) ≡ None → IsFirst (fault_of step) place
   bad_step token tokens e f =
       let here : tokens_in place.line ≡ token ∷ tokens = cut_tokens place.line (token ∷ tokens) e in
       let none : (cut : TokenForm) (meant : MeantForm) → ¬ HasForm place cut meant = λ cut meant h.
-      let version_is : IsForm part.version (tokens_in place.line) cut meant = subst (λ (v : ℕ). IsForm v (tokens_in place.line) cut meant) (ap version_of (sym (append-nil (tokens_before place))) ∙ s.version []) h.form in
-      some_none (sym f ∙ ap (form_in exact part.version) (sym here) ∙ form_read part.version (tokens_in place.line) cut meant version_is) in
-      let is_below : IsBelowHeader place = record { below = below; says = says_something place.line token tokens e } in
-      first_formless place false false true _ _ none (never (no_header place below)) (never (λ n. some_none (sym n ∙ e))) (always (is_below, none))
-      (tells_end_any place) (tells_thread_any place) (fault_of step) (rw (bytes_at place, e, f) (bad_chain _ _ _ fault.BadStatement _ refl))
+      let version_is : IsForm part.version (tokens_in place.line) cut meant =
+      subst (λ (v : ℕ). IsForm v (tokens_in place.line) cut meant)
+      (ap version_of (sym (append-nil (tokens_before place))) ∙ s.version []) h.form in
+      some_none (sym f ∙ ap (form_in exact part.version) (sym here)
+      ∙ form_read part.version (tokens_in place.line) cut meant version_is) in
+      let is_below : IsBelowHeader place = record {
+        below = below;
+        says = says_something place.line token tokens e;
+      } in
+      first_formless place false false true _ _ none (never (no_header place below))
+      (never (λ n. some_none (sym n ∙ e))) (always (is_below, none))
+      (tells_end_any place) (tells_thread_any place) (fault_of step)
+      (rw (bytes_at place, e, f) (bad_chain _ _ _ fault.BadStatement _ refl))
 
   -- a line that can't be cut into tokens
   uncut_step : tokens_of place.line ≡ None → IsFirst (fault_of step) place
   uncut_step e =
       let here : tokens_in place.line ≡ [] = rw e refl in
       let none : (cut : TokenForm) (meant : MeantForm) → ¬ HasForm place cut meant = λ cut meant h.
-      let bare : IsForm (version_of (tokens_before place)) [] cut meant = subst (λ (ts : List Token). IsForm (version_of (tokens_before place)) ts cut meant) here h.form in
+      let bare : IsForm (version_of (tokens_before place)) [] cut meant =
+      subst (λ (ts : List Token). IsForm (version_of (tokens_before place)) ts cut meant) here
+      h.form in
       some_none (form_read (version_of (tokens_before place)) [] cut meant bare) in
       let is_below : IsBelowHeader place = record { below = below; says = rw e refl } in
-      first_formless place false true true _ _ none (never (no_header place below)) (always e) (always (is_below, none))
-      (tells_end_any place) (tells_thread_any place) (fault_of step) (rw (bytes_at place, e) (bad_chain _ _ _ fault.BadToken _ refl))
+      first_formless place false true true _ _ none (never (no_header place below)) (always e)
+      (always (is_below, none))
+      (tells_end_any place) (tells_thread_any place) (fault_of step)
+      (rw (bytes_at place, e) (bad_chain _ _ _ fault.BadToken _ refl))
 
   -- a blank line
   blank_step : tokens_of place.line ≡ Some [] → IsFirst (fault_of step) place
   blank_step e =
       let here : tokens_in place.line ≡ [] = rw e refl in
       let is_blank : is_blank_line place.line ≡ true = rw e refl in
-      let none : (cut : TokenForm) (meant : MeantForm) → ¬ HasForm place cut meant = λ cut meant h. clash (sym is_blank ∙ h.is_below.says) in
+      let none : (cut : TokenForm) (meant : MeantForm) → ¬ HasForm place cut meant =
+      λ cut meant h. clash (sym is_blank ∙ h.is_below.says) in
       first_formless place false false false _ _ none (never (no_header place below))
       (never (λ n. some_none (sym n ∙ e))) (never (λ h. clash (sym is_blank ∙ h.0.says)))
       (tells_end part place s [] here) (tells_thread part place s [] here) (fault_of step)
@@ -243,11 +315,15 @@ module _ (part : Part) (place : Place) (s : Stands part (tokens_before place)) (
   pub below_step : IsFirst (fault_of step) place
   below_step = by_tokens (tokens_of place.line) refl
     where
-      by_form : (token : Token) (tokens : List Token) (found_form : Option MeantForm) → tokens_of place.line ≡ Some (token ∷ tokens) → form_in exact part.version (token ∷ tokens) ≡ found_form → IsFirst (fault_of step) place
+      by_form : (token : Token) (tokens : List Token) (found_form : Option MeantForm)
+          → tokens_of place.line ≡ Some (token ∷ tokens)
+          → form_in exact part.version (token ∷ tokens) ≡ found_form → IsFirst (fault_of step) place
       by_form token tokens None e f = bad_step token tokens e f
       by_form token tokens (Some meant) e f = form_step token tokens meant e f
 
-      by_tokens : (found_tokens : Option (List Token)) → tokens_of place.line ≡ found_tokens → IsFirst (fault_of step) place
+      by_tokens : (found_tokens : Option (List Token)) → tokens_of place.line ≡ found_tokens
+          → IsFirst (fault_of step) place
       by_tokens None e = uncut_step e
       by_tokens (Some []) e = blank_step e
-      by_tokens (Some (token ∷ tokens)) e = by_form token tokens (form_in exact part.version (token ∷ tokens)) e refl
+      by_tokens (Some (token ∷ tokens)) e =
+          by_form token tokens (form_in exact part.version (token ∷ tokens)) e refl

@@ -13,15 +13,20 @@ use Rattle.script_parse.specs.declared.fault.ScriptError.TheVariants as errors
 use Rattle.script_parse.proofs.TextFaults.{ok_is}
 use Rattle.script_parse.proofs.ReadAnswers.{read_spells, spelled_read, read_fails}
 
-pub found_is : (bytes : List ℕ) (r : Result Script ScriptError) → Gives r (read_as_script saturated_number bytes) → IfOk r (λ script. Spells bytes (plain_script script))
+pub found_is : (bytes : List ℕ) (r : Result Script ScriptError)
+    → Gives r (read_as_script saturated_number bytes)
+    → IfOk r (λ script. Spells bytes (plain_script script))
 found_is bytes (Ok script) g = read_spells bytes (plain_script script) g
 found_is bytes (Err error) g = tt
 
-pub only_is : (bytes : List ℕ) (r : Result Script ScriptError) → Gives r (read_as_script saturated_number bytes) → (script : ScriptText) → Spells bytes script → IfOk r (λ s. plain_script s ≡ script)
+pub only_is : (bytes : List ℕ) (r : Result Script ScriptError)
+    → Gives r (read_as_script saturated_number bytes) → (script : ScriptText) → Spells bytes script
+    → IfOk r (λ s. plain_script s ≡ script)
 only_is bytes (Ok s) g script spells = ok_is (sym g ∙ spelled_read bytes script spells)
 only_is bytes (Err error) g script spells = tt
 
-pub fault_is : (bytes : List ℕ) (r : Result Script ScriptError) → Gives r (read_as_script saturated_number bytes) → IfErr r (λ error. TellsFault error bytes)
+pub fault_is : (bytes : List ℕ) (r : Result Script ScriptError)
+    → Gives r (read_as_script saturated_number bytes) → IfErr r (λ error. TellsFault error bytes)
 fault_is bytes (Ok script) g = tt
 fault_is bytes (Err (errors.Bad line kind)) g = read_fails bytes line kind g
 fault_is bytes (Err errors.NoMemory) g = tt

@@ -250,6 +250,11 @@ line_said value None find number last tokens = header_taken last tokens
 line_said value (Some part) find number last tokens =
     some_part (tokens_taken value part find number last tokens)
 
+-- the fault of a line that can't be cut into tokens, by what was read
+abbrev pub uncut_fault : Option Part → ScriptFault
+uncut_fault None = BadHeader
+uncut_fault (Some part) = BadToken
+
 abbrev pub unless : Option ScriptFault → Result (Option Part) ScriptFault
     → Result (Option Part) ScriptFault
 unless None next = next

@@ -12,7 +12,7 @@ ghost use Rattle.script_parse.specs.Machine.{operator_in, expression_in, open_ex
 ghost use Rattle.script_parse.specs.Machine as machine;
 ghost use Rattle.script_parse.specs.Frames.{seen_frame, seen_frames, seen_pending};
 
-use crate::number::saturated;
+use crate::number::saturated_number;
 use crate::token::Token;
 use script_tree::{Expr, Op};
 use std::alloc::{AllocError as NoMemory, Global};
@@ -32,8 +32,8 @@ pub enum Frame {
     Two(Op, Expr),
 }
 
-/// What was read of an expression: what waits, the innermost last, and the value that was read last,
-/// if one was.
+/// What was read of an expression: what waits, the innermost last, and the value that was read
+/// last, if one was.
 #[derive(Drop)]
 pub struct Pending {
     frames: Vec<Frame>,
@@ -119,7 +119,7 @@ fn left_level(op: Op) -> u32
 }
 
 /// Whether what waits takes a part of this level.
-fn takes(frame: &Frame, level: u32) -> bool
+fn takes_part(frame: &Frame, level: u32) -> bool
     ensures { result ≡ machine.takes_part level (seen_frame frame.now) }
 {
     match frame {
@@ -150,7 +150,7 @@ fn is_taken(frames: &[Frame], level: u32) -> bool
 {
     match frames.last() {
         None => false,
-        Some(frame) => takes(frame, level),
+        Some(frame) => takes_part(frame, level),
     }
 }
 
@@ -193,7 +193,7 @@ fn waiting(mut frames: Vec<Frame>, frame: Frame) -> Result<Pending, NoMemory>
 }
 
 /// A token where a value may begin.
-fn begun(frames: Vec<Frame>, token: &Token<'_>) -> Result<Option<Pending>, NoMemory>
+fn with_value_token(frames: Vec<Frame>, token: &Token<'_>) -> Result<Option<Pending>, NoMemory>
     ensures { IfOk result (λ next.
         option_map seen_pending next
         ≡ machine.with_value_token saturated_number (seen_frames frames.items) (seen token.now)) }
@@ -201,7 +201,7 @@ fn begun(frames: Vec<Frame>, token: &Token<'_>) -> Result<Option<Pending>, NoMem
     match token {
         Token::Number(digits) => Ok(Some(Pending {
             frames,
-            value: Some(Expr::Number(saturated(digits))),
+            value: Some(Expr::Number(saturated_number(digits))),
         })),
         Token::Word(word) => match register_of(word) {
             None => Ok(None),
@@ -289,7 +289,7 @@ impl Pending {
     {
         let Pending { frames, value } = self;
         match value {
-            None => begun(frames, token),
+            None => with_value_token(frames, token),
             Some(value) => behind(alloc, frames, value, token),
         }
     }

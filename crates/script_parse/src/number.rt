@@ -29,7 +29,7 @@ pub fn number_of(digits: &[u8]) -> u128
 }
 
 /// The number that digits stand for, and the greatest i64 where it is greater.
-pub fn saturated(digits: &[u8]) -> i64
+pub fn saturated_number(digits: &[u8]) -> i64
     ensures { result ≡ saturated_number digits.now }
 {
     let number = number_of(digits);
@@ -46,7 +46,7 @@ pub fn first_value(kind: NameKind, minus: bool, digits: &[u8]) -> i64
     ensures { language.value_in kind (seen_value_tokens minus digits.now) ≡ Some result }
 {
     if !minus {
-        return saturated(digits);
+        return saturated_number(digits);
     }
     let number = number_of(digits);
     if number < 1 << 63 {

@@ -1,6 +1,6 @@
 //! A text as a script.
 
-ghost use Rattle.std.specs.Prelude.{◌≡◌, ◌≤◌, ◌==◌, false, length, Some, IfOk, IfErr};
+ghost use Rattle.std.specs.Prelude.{◌≡◌, ◌≤◌, ◌==◌, false, length, Some, Err, IfOk, IfErr};
 ghost use Rattle.pct_ask.specs.Lines.{lines_of};
 ghost use Rattle.script_tree.specs.Lines.{version_in};
 ghost use Rattle.script_tree.specs.Faults.{are_blank};
@@ -10,7 +10,9 @@ ghost use Rattle.script_tree.specs.ScriptText.{ScriptText};
 ghost use Rattle.script_parse.specs.Answers.{EachHasOneAnswer, PrintIsRead};
 ghost use Rattle.script_parse.specs.Seen.{all_seen};
 ghost use Rattle.script_parse.specs.Ahead.{HasSeen, place_ahead};
+ghost use Rattle.script_parse.specs.SeenForms.{seen_form};
 ghost use Rattle.script_parse.specs.SeenParts.{seen_reader};
+ghost use Rattle.script_parse.specs.Saying.{form_in};
 ghost use Rattle.script_parse.specs.Numbers.{saturated_number};
 ghost use Rattle.script_parse.specs.States.{seen_state, seen_step, Gives, TellsFault};
 ghost use Rattle.script_parse.specs.Reading as reading;
@@ -18,7 +20,7 @@ ghost use Rattle.script_parse.specs.Reading as reading;
 use crate::ahead::{Ahead, is_text, look_ahead};
 use crate::expression::says;
 use crate::fault::ScriptError;
-use crate::form::form_of;
+use crate::form::{Form, form_of};
 use crate::reader::Reader;
 use crate::token::{Token, tokens};
 use pct_ask::split_lines;
@@ -38,6 +40,13 @@ enum State {
 enum Step {
     Next(State),
     Bad(ScriptFault),
+}
+
+/// What a line with a fault leads to: what was read before it is given up.
+fn bad(_state: State, kind: ScriptFault) -> Step
+    ensures { seen_step result ≡ Err kind }
+{
+    Step::Bad(kind)
 }
 
 /// What may be wrong with a line by its bytes and its number alone.
@@ -83,6 +92,43 @@ fn read_header(alloc: Global, last: bool, tokens: &[Token<'_>]) -> Step
     }
 }
 
+/// A blank line below the header.
+fn read_blank(reader: Reader, last: bool) -> Step
+    ensures { seen_step result
+        ≡ reading.some_part
+        (reading.after_fault (reading.blank_fault (seen_reader reader) last) (seen_reader reader)) }
+{
+    match reader.blank_fault(last) {
+        Some(kind) => bad(State::Below(reader), kind),
+        None => Step::Next(State::Below(reader)),
+    }
+}
+
+/// A line below the header that has a form.
+fn read_form(
+    alloc: Global,
+    reader: Reader,
+    ahead: &Ahead<'_>,
+    number: u32,
+    last: bool,
+    tokens: &[Token<'_>],
+    form: Form<'_>,
+) -> Result<Step, NoMemory>
+    requires { form_in saturated_number reader.version (all_seen tokens.now)
+        ≡ Some (seen_form form) }
+    ensures { IfOk result (λ step.
+        seen_step step
+        ≡ reading.some_part
+        (reading.tokens_taken saturated_number (seen_reader reader)
+        (place_ahead ahead.now) number last
+        (Some (all_seen tokens.now)))) }
+{
+    match reader.fault_of(ahead, last, tokens, &form) {
+        Some(kind) => Ok(bad(State::Below(reader), kind)),
+        None => Ok(Step::Next(State::Below(reader.take(alloc, ahead, number, form)?))),
+    }
+}
+
 /// A line below the header.
 fn read_below(
     alloc: Global,
@@ -100,17 +146,42 @@ fn read_below(
         (Some (all_seen tokens.now)))) }
 {
     if tokens.is_empty() {
-        return match reader.blank_fault(last) {
-            Some(kind) => Ok(Step::Bad(kind)),
-            None => Ok(Step::Next(State::Below(reader))),
-        };
+        return Ok(read_blank(reader, last));
     }
-    let Some(form) = form_of(alloc, reader.version(), tokens)? else {
-        return Ok(Step::Bad(ScriptFault::BadStatement));
-    };
-    match reader.fault_of(ahead, last, tokens, &form) {
-        Some(kind) => Ok(Step::Bad(kind)),
-        None => Ok(Step::Next(State::Below(reader.take(alloc, ahead, number, form)?))),
+    match form_of(alloc, reader.version(), tokens)? {
+        None => Ok(bad(State::Below(reader), ScriptFault::BadStatement)),
+        Some(form) => read_form(alloc, reader, ahead, number, last, tokens, form),
+    }
+}
+
+/// The fault of a line that can't be cut into tokens.
+fn uncut_fault(state: &State) -> ScriptFault
+    ensures { result ≡ reading.uncut_fault (seen_state state.now) }
+{
+    match state {
+        State::Above => ScriptFault::BadHeader,
+        State::Below(_) => ScriptFault::BadToken,
+    }
+}
+
+/// Takes the next line by its tokens.
+fn read_tokens(
+    alloc: Global,
+    state: State,
+    ahead: &Ahead<'_>,
+    number: u32,
+    tokens: &[Token<'_>],
+) -> Result<Step, NoMemory>
+    ensures { IfOk result (λ step.
+        seen_step step
+        ≡ reading.line_said saturated_number (seen_state state) (place_ahead ahead.now) number
+        (number == ahead.now.lines)
+        (Some (all_seen tokens.now))) }
+{
+    let last = number == ahead.lines();
+    match state {
+        State::Above => Ok(read_header(alloc, last, tokens)),
+        State::Below(reader) => read_below(alloc, reader, ahead, number, last, tokens),
     }
 }
 
@@ -128,17 +199,14 @@ fn read_line(
         (number == ahead.now.lines) line.now) }
 {
     if let Some(kind) = bytes_fault(number, line) {
-        return Ok(Step::Bad(kind));
+        return Ok(bad(state, kind));
     }
-    let last = number == ahead.lines();
-    let tokens = tokens(alloc, line)?;
-    match (state, tokens) {
-        (State::Above, None) => Ok(Step::Bad(ScriptFault::BadHeader)),
-        (State::Below(_), None) => Ok(Step::Bad(ScriptFault::BadToken)),
-        (State::Above, Some(tokens)) => Ok(read_header(alloc, last, &tokens)),
-        (State::Below(reader), Some(tokens)) => {
-            read_below(alloc, reader, ahead, number, last, &tokens)
+    match tokens(alloc, line)? {
+        None => {
+            let kind = uncut_fault(&state);
+            Ok(bad(state, kind))
         }
+        Some(tokens) => read_tokens(alloc, state, ahead, number, &tokens),
     }
 }
 
@@ -205,8 +273,8 @@ pub fn parse(alloc: Global, bytes: &[u8]) -> Result<Script, ScriptError>
     read_text(alloc, bytes)
 }
 
-/// A law of the language, and no work: each text spells one script or has one first fault, and never
-/// both.
+/// A law of the language, and no work: each text spells one script or has one first fault, and
+/// never both.
 pub fn one_answer()
     ensures { EachHasOneAnswer }
 {}

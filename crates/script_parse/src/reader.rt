@@ -78,7 +78,7 @@ impl Reader {
         }
     }
 
-    fn is_known(&self, ahead: &Ahead<'_>, kind: NameKind, name: &[u8]) -> bool
+    fn is_known_name(&self, ahead: &Ahead<'_>, kind: NameKind, name: &[u8]) -> bool
         ensures { result
             ≡ reading.is_known_name self.now.names (place_ahead ahead.now) kind name.now }
     {
@@ -91,14 +91,14 @@ impl Reader {
             (seen_form form.now) }
     {
         match form {
-            Form::On { verb, object } => !self.is_known(ahead, on_kind(*verb), object),
-            Form::Into { verb, object, .. } => !self.is_known(ahead, into_kind(*verb), object),
+            Form::On { verb, object } => !self.is_known_name(ahead, on_kind(*verb), object),
+            Form::Into { verb, object, .. } => !self.is_known_name(ahead, into_kind(*verb), object),
             Form::Write { var, .. } | Form::Add { var, .. } | Form::Cas { var, .. } => {
-                !self.is_known(ahead, NameKind::Var, var)
+                !self.is_known_name(ahead, NameKind::Var, var)
             }
             Form::Wait { cond, mutex } => {
-                !(self.is_known(ahead, NameKind::Cond, cond)
-                    && self.is_known(ahead, NameKind::Mutex, mutex))
+                !(self.is_known_name(ahead, NameKind::Cond, cond)
+                    && self.is_known_name(ahead, NameKind::Mutex, mutex))
             }
             _ => false,
         }
@@ -244,15 +244,16 @@ impl Reader {
                 digits,
             } => {
                 let value = first_value(kind, minus, digits);
-                self.with_name(alloc, kind, name)?.with_value(kind, value)
+                self.with_name(alloc, kind, name)?
+                    .with_first_value(kind, value)
             }
             Form::Thread { name } => self
                 .with_name(alloc, NameKind::Thread, name)?
-                .opened(alloc, Opening::Thread { line }),
-            Form::If { test } => self.opened(alloc, Opening::If { line, test }),
-            Form::While { test } => self.opened(alloc, Opening::While { line, test }),
-            Form::End => self.ended(line),
-            Form::Else => self.turned(alloc, line),
+                .with_block(alloc, Opening::Thread { line }),
+            Form::If { test } => self.with_block(alloc, Opening::If { line, test }),
+            Form::While { test } => self.with_block(alloc, Opening::While { line, test }),
+            Form::End => self.with_end(line),
+            Form::Else => self.with_else(alloc, line),
             form => self.with_statement(ahead, line, form),
         }
     }
@@ -268,7 +269,7 @@ impl Reader {
         Ok(self)
     }
 
-    fn with_value(mut self, kind: NameKind, value: i64) -> Result<Reader, NoMemory>
+    fn with_first_value(mut self, kind: NameKind, value: i64) -> Result<Reader, NoMemory>
         ensures { IfOk result (λ r.
             seen_reader r ≡ reading.with_first_value kind value (seen_reader self)) }
     {
@@ -281,7 +282,7 @@ impl Reader {
         Ok(self)
     }
 
-    fn opened(mut self, alloc: Global, opening: Opening) -> Result<Reader, NoMemory>
+    fn with_block(mut self, alloc: Global, opening: Opening) -> Result<Reader, NoMemory>
         ensures { IfOk result (λ r.
             seen_reader r ≡ reading.with_block (seen_reader self) (seen_opening opening)) }
     {
@@ -291,7 +292,7 @@ impl Reader {
 
     /// Closes the innermost block.
     #[tactic(auto, using(script_tree::proofs::laws::SeenParts::seen_laws))]
-    fn ended(mut self, line: u32) -> Result<Reader, NoMemory>
+    fn with_end(mut self, line: u32) -> Result<Reader, NoMemory>
         ensures { IfOk result (λ r.
             seen_reader r
             ≡ reading.with_end (seen_reader self) (seen_reader self).open_blocks line) }
@@ -300,7 +301,7 @@ impl Reader {
             return Ok(self);
         };
         let OpenBlock { opening, stmts } = block;
-        self.ended_by(
+        self.closed_block(
             opening,
             Block {
                 stmts,
@@ -310,7 +311,7 @@ impl Reader {
     }
 
     #[tactic(auto, using(script_tree::proofs::laws::SeenParts::seen_laws))]
-    fn ended_by(mut self, opening: Opening, block: Block) -> Result<Reader, NoMemory>
+    fn closed_block(mut self, opening: Opening, block: Block) -> Result<Reader, NoMemory>
         ensures { IfOk result (λ r.
             seen_reader r
             ≡ reading.closed_block (seen_reader self) (seen_opening opening)
@@ -321,19 +322,19 @@ impl Reader {
                 self.threads.push(ThreadText { line, body: block })?;
                 Ok(self)
             }
-            Opening::If { line, test } => self.said(Stmt::If {
+            Opening::If { line, test } => self.part_with_statement(Stmt::If {
                 line,
                 test,
                 then: block,
                 otherwise: None,
             }),
-            Opening::Else { line, test, first } => self.said(Stmt::If {
+            Opening::Else { line, test, first } => self.part_with_statement(Stmt::If {
                 line,
                 test,
                 then: first,
                 otherwise: Some(block),
             }),
-            Opening::While { line, test } => self.said(Stmt::While {
+            Opening::While { line, test } => self.part_with_statement(Stmt::While {
                 line,
                 test,
                 body: block,
@@ -355,11 +356,11 @@ impl Reader {
     {
         match statement_on(&self.names, ahead, line, form) {
             None => Ok(self),
-            Some(stmt) => self.said(stmt),
+            Some(stmt) => self.part_with_statement(stmt),
         }
     }
 
-    fn said(mut self, stmt: Stmt) -> Result<Reader, NoMemory>
+    fn part_with_statement(mut self, stmt: Stmt) -> Result<Reader, NoMemory>
         ensures { IfOk result (λ r.
             seen_reader r
             ≡ reading.part_with_statement (seen_reader self) (Some (statement stmt))) }
@@ -370,7 +371,7 @@ impl Reader {
 
     /// Closes the first block of an `if`, and begins its `else`.
     #[tactic(auto, using(script_tree::proofs::laws::SeenParts::seen_laws))]
-    fn turned(mut self, alloc: Global, line: u32) -> Result<Reader, NoMemory>
+    fn with_else(mut self, alloc: Global, line: u32) -> Result<Reader, NoMemory>
         ensures { IfOk result (λ r.
             seen_reader r
             ≡ reading.with_else (seen_reader self) (seen_reader self).open_blocks line) }
@@ -388,7 +389,7 @@ impl Reader {
                     stmts,
                     end_line: line,
                 };
-                self.opened(
+                self.with_block(
                     alloc,
                     Opening::Else {
                         line: first_line,

@@ -1,4 +1,3 @@
-pub mod Conjunctions
 pub mod PrintLemmas
 pub mod DeclarationLemmas
 pub mod Cuts

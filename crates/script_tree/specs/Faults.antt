@@ -5,6 +5,7 @@ use Rattle.std.specs.Prelude.{false, not, if◌then◌else◌, List, [], ◌∷�
 use Rattle.std.specs.Prelude.{is_some, codes, reverse}
 use Rattle.std.specs.List.{list_all}
 use Rattle.std.specs.Str.{is_utf8}
+use Rattle.pct_ask.specs.FirstFaults as texts
 use Rattle.pct_ask.specs.Lines.{lines_of}
 use Rattle.pct_ask.specs.Tokens.{Token, tokens_of}
 use Rattle.pct_ask.specs.Words.{is_among}
@@ -262,31 +263,23 @@ kind_rank faults.StrayEnd = 10
 kind_rank faults.NoThread = 11
 kind_rank faults.TooMany = 12
 
--- the line's own first fault is of this kind
-pub record IsFirstKind (place : Place) (kind : ScriptFault) : Type 0 where
-  pub faulty : IsFaulty kind place
-  pub first : (other : ScriptFault) → kind_rank other < kind_rank kind → ¬ IsFaulty other place
-
--- no line before it is faulty
-abbrev pub HasNoFaultBefore : Place → Type 0
-HasNoFaultBefore place =
-    (front back : List (List ℕ)) (line : List ℕ) (kind : ScriptFault)
-    → place.before ≡ front ++ line ∷ back
-    → ¬ IsFaulty kind
-    (record { before = front; line = line; after = back ++ place.line ∷ place.after })
-
 -- the lines of a text, where a text without any is judged as one blank line
 abbrev pub judged_lines : List ℕ → List (List ℕ)
 judged_lines [] = [] ∷ []
 judged_lines (b ∷ bs) = lines_of (b ∷ bs)
 
+-- line k of these lines, from 1, has a fault of this kind
+abbrev pub IsFaultyLine : List (List ℕ) → ℕ → ScriptFault → Type 0
+IsFaultyLine lines k kind =
+    (place : Place)
+    × (lines ≡ place.before ++ place.line ∷ place.after)
+    × (k ≡ length place.before + 1)
+    × IsFaulty kind place
+
 -- the first faulty line of the text has this number, and its first fault is of this kind
-pub record IsFirstFault (bytes : List ℕ) (number : ℕ) (kind : ScriptFault) : Type 0 where
-  pub place : Place
-  pub of : judged_lines bytes ≡ place.before ++ place.line ∷ place.after
-  pub number_is : number ≡ length place.before + 1
-  pub first_line : HasNoFaultBefore place
-  pub first_kind : IsFirstKind place kind
+abbrev pub IsFirstFault : List ℕ → ℕ → ScriptFault → Type 0
+IsFirstFault bytes number kind =
+    texts.IsFirstFault kind_rank (IsFaultyLine (judged_lines bytes)) number kind
 
 -- The fault of a text: one of more bytes than a script may have is refused at line 1, before any
 -- line is looked at.

@@ -14,7 +14,7 @@ use Rattle.script_tree.specs.ScriptText.{ScriptText, Thread}
 use Rattle.script_tree.specs.Fitting.{IsScript}
 use Rattle.script_tree.specs.Ranges.{is_out_of_range}
 use Rattle.script_tree.specs.Forms as forms
-use Rattle.script_tree.specs.Forms.{Form, TokenForm, MeantForm, On, Into, IsForm}
+use Rattle.script_tree.specs.Forms.{TokenForm, MeantForm, On, Into, IsForm}
 use Rattle.script_tree.specs.Lines.{tokens_in, is_blank_line, version_in, names_of, values_of}
 
 -- a line that says something: its number, and what it means

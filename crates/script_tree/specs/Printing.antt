@@ -34,13 +34,6 @@ is_ranged_form form = true
 abbrev pub are_ranged : List Line → Bool
 are_ranged lines = list_all is_ranged_form (meanings lines)
 
--- The statement is a single line: it has no blocks.
-abbrev pub is_single : Statement → Bool
-is_single (trees.If line test then) = false
-is_single (trees.IfElse line test then otherwise) = false
-is_single (trees.While line test body) = false
-is_single statement = true
-
 -- The statement names one object or thread, and a register at most beside it.
 abbrev pub names_one : Statement → Bool
 names_one (trees.Write line var value) = false

@@ -1,6 +1,6 @@
 -- The statements and expressions of a script as trees, without where they lie in memory (this
 -- project).
-use Rattle.std.specs.Prelude.{ℕ, ℤ, List, [], ◌∷◌}
+use Rattle.std.specs.Prelude.{ℕ, ℤ, Bool, true, false, List, [], ◌∷◌}
 use Rattle.script_tree.specs.declared.expr.Op.{Op}
 
 -- a number, a register by its place, or an operator with its one part or its two
@@ -76,6 +76,13 @@ line_of (WrLock line rwlock) = line
 line_of (TryRdLock line reg rwlock) = line
 line_of (TryWrLock line reg rwlock) = line
 line_of (RwUnlock line rwlock) = line
+
+-- a statement that holds no others
+abbrev pub has_no_block : Statement → Bool
+has_no_block (If line test first) = false
+has_no_block (IfElse line test first otherwise) = false
+has_no_block (While line test body) = false
+has_no_block s = true
 
 -- the statements without the line that closes them
 abbrev pub statement_list : Statements → List Statement

@@ -3,14 +3,13 @@
 ghost use Rattle.std.specs.Prelude.{◌≡◌, ◌++◌, [], ◌∷◌, ◌&&◌, true, codes, OnOk};
 ghost use Rattle.std.specs.List.{flat_map};
 ghost use Rattle.pct_ask.specs.NameLists.{list_of};
-ghost use Rattle.script_tree.specs.Trees.{statement_list};
+ghost use Rattle.script_tree.specs.Trees.{has_no_block, statement_list};
 ghost use Rattle.script_tree.specs.Seen.{expression, statement, block};
 ghost use Rattle.script_tree.specs.Expressions.{register_word};
 ghost use Rattle.pct_ask.specs.TraceText.{name_at};
 ghost use Rattle.script_tree.specs.Grammar.{statement_lines};
 ghost use Rattle.script_tree.specs.Layout.{spaced_words, expression_text};
-ghost use Rattle.script_tree.specs.Printing.{printed_lines, are_ranged, is_ranged, is_single};
-ghost use Rattle.script_tree.specs.Printing.{names_one};
+ghost use Rattle.script_tree.specs.Printing.{printed_lines, are_ranged, is_ranged, names_one};
 
 use crate::expr::Expr;
 use crate::printing_words::{name_at, push_expression, push_last, push_spaced, register_word};
@@ -72,7 +71,7 @@ fn push_statement(stmt: &Stmt, names: &Names, out: &mut Vec<u8>) -> Result<(), N
 
 // A statement of one line: it has no blocks.
 fn push_single(stmt: &Stmt, names: &Names, out: &mut Vec<u8>) -> Result<(), NoMemory>
-    requires { is_single (statement stmt.now) ≡ true }
+    requires { has_no_block (statement stmt.now) ≡ true }
     ensures written { OnOk result
         (out.new.items
         ≡ out.old.items ++ printed_lines (statement_lines names.now (statement stmt.now))) }

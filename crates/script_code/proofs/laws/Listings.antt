@@ -8,7 +8,7 @@ use Rattle.std.proofs.lemmas.List.{length-map}
 use Rattle.script_code.specs.declared.flat.Flat.{Flat}
 use Rattle.script_code.specs.Operations.{Operation, operation, operations, listings}
 use Rattle.script_code.specs.Placed.{is_placed, is_end, last_place, is_listing, listing_of}
-use Rattle.script_code.proofs.Placing.{left_true, right_true}
+use Rattle.script_tree.proofs.laws.Conjunctions.{left_true, right_true}
 
 pub all_at : {X : Type 0} (p : X → Bool) (xs : List X) (i : ℕ) (d : X) → list_all p xs ≡ true
     → i < length xs → p (slice_index_or xs i d) ≡ true

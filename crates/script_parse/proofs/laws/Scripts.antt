@@ -14,21 +14,41 @@ use Rattle.script_parse.proofs.Spelled.{read_is_spelled}
 use Rattle.script_parse.proofs.WholeText.{spelled_is_read}
 
 -- a text spells one script
-pub one_script : (bytes : List ℕ) (script other : ScriptText) → Spells bytes script → Spells bytes other → script ≡ other
-one_script bytes script other s o = ok_is (sym (spelled_is_read bytes script s) ∙ spelled_is_read bytes other o)
+pub one_script : (bytes : List ℕ) (script other : ScriptText) → Spells bytes script
+    → Spells bytes other → script ≡ other
+one_script bytes script other s o =
+    ok_is (sym (spelled_is_read bytes script s) ∙ spelled_is_read bytes other o)
 
 -- a text that spells a script has no fault
-pub spelled_no_fault : (bytes : List ℕ) (script : ScriptText) (n : ℕ) (kind : ScriptFault) → Spells bytes script → ¬ IsFault bytes n kind
-spelled_no_fault bytes script n kind s = no_fault bytes script (spelled_is_read bytes script s) n kind
+pub spelled_no_fault : (bytes : List ℕ) (script : ScriptText) (n : ℕ) (kind : ScriptFault)
+    → Spells bytes script → ¬ IsFault bytes n kind
+spelled_no_fault bytes script n kind s =
+    no_fault bytes script (spelled_is_read bytes script s) n kind
 
 -- each text does the one or has the other
 pub script_or_fault : EachHasOneAnswer
 script_or_fault bytes = by_read (read_as_script exact bytes) refl
   where
-    by_read : (found : Result ScriptText (ℕ × ScriptFault)) → read_as_script exact bytes ≡ found → SpellsOne bytes ⊎ FailsOnce bytes
+    by_read : (found : Result ScriptText (ℕ × ScriptFault)) → read_as_script exact bytes ≡ found
+        → SpellsOne bytes ⊎ FailsOnce bytes
     by_read (Ok script) e =
         let spells = read_is_spelled bytes script e in
-        inl (script, record { spells = spells; only = λ other o. one_script bytes script other spells o; faultless = no_fault bytes script e })
+        inl (
+          script,
+          record {
+            spells = spells;
+            only = λ other o. one_script bytes script other spells o;
+            faultless = no_fault bytes script e;
+          },
+        )
     by_read (Err found) e =
         let fault = fault_found bytes found.0 found.1 e in
-        inr (found.0, found.1, record { fault = fault; only = λ m other f. one_fault bytes found.0 m found.1 other fault f; no_script = λ script s. spelled_no_fault bytes script found.0 found.1 s fault })
+        inr (
+          found.0,
+          found.1,
+          record {
+            fault = fault;
+            only = λ m other f. one_fault bytes found.0 m found.1 other fault f;
+            no_script = λ script s. spelled_no_fault bytes script found.0 found.1 s fault;
+          },
+        )

@@ -5,4 +5,6 @@ use Rattle.script_parse.proofs.ahead.look_ahead.Given as goal
 
 -- what is known is what the lines so far tell
 abbrev pub invariant-loop-line : goal.invariant-loop-line
-invariant-loop-line l = (texts : List (List ℕ)) × (texts ++ lines_of l.line-iterator ≡ lines_of l.bytes) × HasSeen l.ahead texts
+invariant-loop-line l =
+    (texts : List (List ℕ)) × (texts ++ lines_of l.line-iterator ≡ lines_of l.bytes)
+    × HasSeen l.ahead texts

@@ -7,4 +7,6 @@ use Rattle.script_parse.proofs.expression.expression_of.Given as goal
 
 -- what the tokens left make of what was read is what all tokens make
 abbrev pub invariant-loop-token : goal.invariant-loop-token
-invariant-loop-token l = expression_from saturated_number (seen_pending l.pending) (all_seen (drop l.token-index l.tokens)) ≡ expression_in saturated_number (all_seen l.tokens)
+invariant-loop-token l =
+    expression_from saturated_number (seen_pending l.pending)
+    (all_seen (drop l.token-index l.tokens)) ≡ expression_in saturated_number (all_seen l.tokens)

@@ -8,8 +8,10 @@ pub loop-byte-preserved : goal.loop-byte-preserved
 loop-byte-preserved c =
     let digits = c.args.digits.now in
     let i = c.loop-byte.byte-index in
-    let next : c.min-value.result ≡ min (c.loop-byte.value * 10 + digit_value (get_or digits i 0)) (2 ^ 64) = search rules in
-    rw (next, digits_value_more 10 digits i c.loop-byte-test.true, c.loop-byte.invariant) (kept_digit _ _)
+    let next : c.min-value.result ≡ min (c.loop-byte.value * 10 + digit_value (get_or digits i 0))
+    (2 ^ 64) = search rules in
+    rw (next, digits_value_more 10 digits i c.loop-byte-test.true, c.loop-byte.invariant)
+    (kept_digit _ _)
 
 pub returns : goal.returns
 returns c =

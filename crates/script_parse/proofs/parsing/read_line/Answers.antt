@@ -1,19 +1,38 @@
-use Rattle.std.proofs.Common.{◌≡◌, ℕ, Some, sym, ap, ◌∙◌, subst}
+use Rattle.std.proofs.Common.{◌≡◌, Some, None, Option, Result, Err, sym, ap, ◌∙◌, subst}
 use Rattle.std.specs.Prelude.{◌==◌, IfOk}
+use Rattle.pct_ask.specs.Tokens.{tokens_of}
+use Rattle.script_tree.specs.declared.fault.ScriptFault.{ScriptFault}
+use Rattle.script_parse.specs.Part.{Part}
 use Rattle.script_parse.specs.Ahead.{place_ahead}
 use Rattle.script_parse.specs.Seen.{all_seen}
-use Rattle.script_parse.specs.SeenParts.{seen_reader}
 use Rattle.script_parse.specs.States.{seen_state, seen_step}
-use Rattle.script_parse.specs.Numbers.{saturated_number}
-use Rattle.script_parse.specs.Reading.{some_part, tokens_taken}
-use Rattle.script_parse.proofs.BelowSteps.{below_line}
+use Rattle.script_parse.specs.Reading.{bytes_fault}
+use Rattle.script_parse.proofs.BelowSteps.{line_taken-said, line_said-uncut}
 use Rattle.script_parse.proofs.parsing.read_line.Goals as goal
 
-pub returns-in-Below-Some : goal.returns-in-Below-Some
-returns-in-Below-Some c =
-    let cut = rw c.in-Below-Some.is-1 at c.in_ok-tokens.ensures in
-    let seen = sym cut ∙ ap (λ ts. Some (all_seen ts)) (sym c.deref-in-Below-Some.ensures.value) in
-    let same = below_line (seen_state c.args.state) (seen_reader c.in-Below-Some.reader) (place_ahead c.args.ahead.now) c.args.number (c.args.number == c.args.ahead.now.lines) c.args.line.now (all_seen c.deref-in-Below-Some.result.now)
-    (sym c.bytes_fault.ensures ∙ c.in_default.is) (ap seen_state c.in-Below-Some.is-0) seen in
-    let told = subst (λ (total : ℕ). IfOk c.read_below.result (λ step. seen_step step ≡ some_part (tokens_taken saturated_number (seen_reader c.in-Below-Some.reader) (place_ahead c.args.ahead.now) c.args.number (c.args.number == total) (Some (all_seen c.deref-in-Below-Some.result.now))))) c.lines.ensures c.read_below.ensures in
-    subst (λ read. IfOk c.read_below.result (λ step. seen_step step ≡ read)) (sym same) told
+pub returns-in-None : goal.returns-in-None
+returns-in-None c =
+    let sound : bytes_fault c.args.number c.args.line.now ≡ None =
+    sym c.bytes_fault.ensures ∙ c.in_default.is in
+    let cut : tokens_of c.args.line.now ≡ None = sym (rw c.in-None.is at c.in_ok-tokens.ensures) in
+    c.bad-in-None.ensures
+    ∙ ap (err_of (Option Part)) c.uncut_fault-kind.ensures
+    ∙ sym (line_said-uncut (seen_state c.args.state) (place_ahead c.args.ahead.now) c.args.number
+    (c.args.number == c.args.ahead.now.lines))
+    ∙ sym (line_taken-said (seen_state c.args.state) (place_ahead c.args.ahead.now) c.args.number
+    (c.args.number == c.args.ahead.now.lines) c.args.line.now None sound cut)
+  where
+    err_of : (A : Type 0) → ScriptFault → Result A ScriptFault
+    err_of A kind = Err kind
+
+pub returns-in-Some-2 : goal.returns-in-Some-2
+returns-in-Some-2 c =
+    let sound : bytes_fault c.args.number c.args.line.now ≡ None =
+    sym c.bytes_fault.ensures ∙ c.in_default.is in
+    let cut = rw c.in-Some-2.is at c.in_ok-tokens.ensures in
+    let seen = sym cut ∙ ap (λ ts. Some (all_seen ts)) (sym c.deref.ensures.value) in
+    let same = line_taken-said (seen_state c.args.state) (place_ahead c.args.ahead.now)
+    c.args.number (c.args.number == c.args.ahead.now.lines) c.args.line.now
+    (Some (all_seen c.deref.result.now)) sound seen in
+    subst (λ read. IfOk c.read_tokens.result (λ step. seen_step step ≡ read)) (sym same)
+    c.read_tokens.ensures

@@ -10,5 +10,7 @@ use Rattle.script_parse.proofs.parsing.read_lines.Given as goal
 abbrev pub invariant-loop-line : goal.invariant-loop-line
 invariant-loop-line l = record {
   number : l.number + length (lines_of l.line-iterator) ≡ l.ahead.lines + 1;
-  rest : script_from saturated_number (place_ahead l.ahead) (seen_state l.state) l.number (lines_of l.line-iterator) ≡ script_from saturated_number (place_ahead l.ahead) None 1 (lines_of l.bytes);
+  rest : script_from saturated_number (place_ahead l.ahead) (seen_state l.state) l.number
+      (lines_of l.line-iterator) ≡ script_from saturated_number (place_ahead l.ahead) None 1
+      (lines_of l.bytes);
 }

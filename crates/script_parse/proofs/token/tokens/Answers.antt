@@ -9,5 +9,7 @@ pub loop-tokens-preserved : goal.loop-tokens-preserved
 loop-tokens-preserved c =
     let token = c.in-Token.token in
     let front = all_seen c.loop-tokens.tokens.items in
-    let longer : all_seen c.push.new.self.items ≡ front ++ seen token ∷ [] = rw c.in_ok-push-in-Token.ensures.items (map_push seen c.loop-tokens.tokens.items token) in
-    rw longer (sym (with_front-push front (seen token) (tokens_of c.in-Token.others.now)) ∙ sym (ap (with_front front) c.in-Token.ensures.0) ∙ c.loop-tokens.invariant)
+    let longer : all_seen c.push.new.self.items ≡ front ++ seen token ∷ [] =
+    rw c.in_ok-push-in-Token.ensures.items (map_push seen c.loop-tokens.tokens.items token) in
+    rw longer (sym (with_front-push front (seen token) (tokens_of c.in-Token.others.now))
+    ∙ sym (ap (with_front front) c.in-Token.ensures.0) ∙ c.loop-tokens.invariant)

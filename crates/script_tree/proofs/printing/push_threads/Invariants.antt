@@ -7,9 +7,12 @@ use Rattle.script_tree.proofs.printing.push_threads.Given as goal
 
 abbrev pub invariant-loop-place : goal.invariant-loop-place
 invariant-loop-place l = record {
-  written : l.out.items ++ printed_lines (all_thread_lines l.names (drop l.place l.names.threads) (map thread_text (drop l.place l.threads)))
+  written : l.out.items ++ printed_lines
+      (all_thread_lines l.names (drop l.place l.names.threads)
+      (map thread_text (drop l.place l.threads)))
       ≡ l.fn.out.items
       ++ printed_lines (all_thread_lines l.names l.names.threads (map thread_text l.threads));
-  ranged : are_ranged (all_thread_lines l.names (drop l.place l.names.threads) (map thread_text (drop l.place l.threads))) ≡ true
+  ranged : are_ranged (all_thread_lines l.names (drop l.place l.names.threads)
+      (map thread_text (drop l.place l.threads))) ≡ true
       → are_ranged (all_thread_lines l.names l.names.threads (map thread_text l.threads)) ≡ true;
 }

@@ -8,7 +8,10 @@ use Rattle.script_tree.proofs.printing.push_valued.Given as goal
 
 abbrev pub invariant-loop-place : goal.invariant-loop-place
 invariant-loop-place l = record {
-  written : l.out.items ++ text_of_lines (map form_text (valued_forms l.kind (drop l.place (list_of l.kind l.names)) (drop l.place l.values)))
-      ≡ l.fn.out.items ++ text_of_lines (map form_text (valued_forms l.kind (list_of l.kind l.names) l.values));
+  written : l.out.items ++ text_of_lines
+      (map form_text (valued_forms l.kind (drop l.place (list_of l.kind l.names))
+      (drop l.place l.values)))
+      ≡ l.fn.out.items ++ text_of_lines
+      (map form_text (valued_forms l.kind (list_of l.kind l.names) l.values));
   ranged : All (FitsSigned w64) (take l.place l.values);
 }

@@ -4,7 +4,6 @@ use Rattle.std.specs.Prelude.{codes}
 use Rattle.std.proofs.lemmas.Bool.{and_from}
 use Rattle.std.proofs.lemmas.Result.{on_ok_weaker}
 use Rattle.script_tree.specs.Trees as trees
-use Rattle.script_tree.specs.Trees.{Statement}
 use Rattle.script_tree.specs.Forms as forms
 use Rattle.script_tree.specs.Seen.{statement, expression, block}
 use Rattle.script_tree.specs.Grammar.{statement_lines, block_lines}
@@ -12,18 +11,25 @@ use Rattle.script_tree.specs.Layout.{spaced_words, expression_text}
 use Rattle.script_tree.specs.Printing.{printed_lines, are_ranged, is_ranged}
 use Rattle.script_tree.specs.declared.stmt.Stmt.TheVariants as stmts
 use Rattle.script_tree.proofs.laws.SeenParts.{statement-While, statement-If, statement-IfElse}
-use Rattle.script_tree.proofs.PrintLemmas.{one-printed, two-printed, ranged-block, are_ranged-append, lines_in, more-written, more-ranged, all-written, all-ranged}
+use Rattle.script_tree.proofs.PrintLemmas.{one-printed, two-printed, ranged-block}
+use Rattle.script_tree.proofs.PrintLemmas.{are_ranged-append, lines_in, more-written, more-ranged}
+use Rattle.script_tree.proofs.PrintLemmas.{all-written, all-ranged}
 use Rattle.script_tree.proofs.printing_statements.+printing.Goals as goal
-use Rattle.script_tree.proofs.printing_statements.+printing.Goals.{push_statement-in-Some+in_ok-push_last-in-If+in_ok-push_statements-in-If-2, push_statement-in_default-otherwise}
+use Rattle.script_tree.proofs.printing_statements.+printing.Goals.{push_statement-in-Some+in_ok-push_last-in-If+in_ok-push_statements-in-If-2}
+use Rattle.script_tree.proofs.printing_statements.+printing.Goals.{push_statement-in_default-otherwise}
 
 pub push_statement-returns-in_ok-push_statements-in-While-clause-written : goal.push_statement-returns-in_ok-push_statements-in-While-clause-written
 push_statement-returns-in_ok-push_statements-in-While-clause-written t c =
     let names = c.args.names.now in
     let test = expression c.in-While.test in
     let body = block c.in-While.body in
-    let seen : statement c.args.stmt.now ≡ trees.While c.in-While.line test body = ap statement c.in-While.is ∙ statement-While c.in-While.line c.in-While.test c.in-While.body in
+    let seen : statement c.args.stmt.now ≡ trees.While c.in-While.line test body =
+    ap statement c.in-While.is ∙ statement-While c.in-While.line c.in-While.test
+    c.in-While.body in
     on_ok_weaker c.push_last-in-While.result
-    (λ e. one-printed names body (spaced_words (codes "while" ∷ expression_text test ∷ [])) _ _ _ _ c.in_ok-push_test-in-While.ensures.written c.in_ok-push_statements-in-While.ensures.written e ∙ ap (λ s. c.args.out.now.items ++ printed_lines (statement_lines names s)) (sym seen))
+    (λ e. one-printed names body (spaced_words (codes "while" ∷ expression_text test ∷ [])) _ _ _ _
+    c.in_ok-push_test-in-While.ensures.written c.in_ok-push_statements-in-While.ensures.written
+    e ∙ ap (λ s. c.args.out.now.items ++ printed_lines (statement_lines names s)) (sym seen))
     c.push_last-in-While.ensures
 
 pub push_statement-returns-in_ok-push_statements-in-While-clause-ranged : goal.push_statement-returns-in_ok-push_statements-in-While-clause-ranged
@@ -31,9 +37,14 @@ push_statement-returns-in_ok-push_statements-in-While-clause-ranged t c =
     let names = c.args.names.now in
     let test = expression c.in-While.test in
     let body = block c.in-While.body in
-    let seen : statement c.args.stmt.now ≡ trees.While c.in-While.line test body = ap statement c.in-While.is ∙ statement-While c.in-While.line c.in-While.test c.in-While.body in
+    let seen : statement c.args.stmt.now ≡ trees.While c.in-While.line test body =
+    ap statement c.in-While.is ∙ statement-While c.in-While.line c.in-While.test
+    c.in-While.body in
     on_ok_weaker c.push_last-in-While.result
-    (λ _. ap (λ s. are_ranged (statement_lines names s)) seen ∙ and_from (is_ranged test) (are_ranged (block_lines names forms.End body)) c.in_ok-push_test-in-While.ensures.ranged (ranged-block names forms.End body refl c.in_ok-push_statements-in-While.ensures.ranged))
+    (λ _. ap (λ s. are_ranged (statement_lines names s)) seen
+    ∙ and_from (is_ranged test) (are_ranged (block_lines names forms.End body))
+    c.in_ok-push_test-in-While.ensures.ranged
+    (ranged-block names forms.End body refl c.in_ok-push_statements-in-While.ensures.ranged))
     c.push_last-in-While.ensures
 
 pub push_statement-returns-after-otherwise-clause-written : goal.push_statement-returns-after-otherwise-clause-written
@@ -47,13 +58,19 @@ push_statement-returns-after-otherwise-clause-written t c =
       | push_statement-in-Some+in_ok-push_last-in-If+in_ok-push_statements-in-If-2 w ↦
           let other = block w.in-Some.otherwise in
           let seen : statement c.args.stmt.now ≡ trees.IfElse c.in-If.line test first other =
-          ap statement (c.in-If.is ∙ ap (stmts.If c.in-If.line c.in-If.test c.in-If.then) w.in-Some.is) ∙ statement-IfElse c.in-If.line c.in-If.test c.in-If.then w.in-Some.otherwise in
-          two-printed names first other text _ _ _ _ _ _ c.in_ok-push_test-in-If.ensures.written c.in_ok-push_statements-in-If.ensures.written w.in_ok-push_last-in-If.ensures w.in_ok-push_statements-in-If-2.ensures.written (rw w.out-is at e)
+          ap statement (c.in-If.is ∙ ap (stmts.If c.in-If.line c.in-If.test c.in-If.then)
+          w.in-Some.is) ∙ statement-IfElse c.in-If.line c.in-If.test c.in-If.then
+          w.in-Some.otherwise in
+          two-printed names first other text _ _ _ _ _ _ c.in_ok-push_test-in-If.ensures.written
+          c.in_ok-push_statements-in-If.ensures.written w.in_ok-push_last-in-If.ensures
+          w.in_ok-push_statements-in-If-2.ensures.written (rw w.out-is at e)
           ∙ ap (λ s. c.args.out.now.items ++ printed_lines (statement_lines names s)) (sym seen)
       | push_statement-in_default-otherwise w ↦
           let seen : statement c.args.stmt.now ≡ trees.If c.in-If.line test first =
-          ap statement (c.in-If.is ∙ ap (stmts.If c.in-If.line c.in-If.test c.in-If.then) w.in_default-otherwise.is) ∙ statement-If c.in-If.line c.in-If.test c.in-If.then in
-          one-printed names first text _ _ _ _ c.in_ok-push_test-in-If.ensures.written c.in_ok-push_statements-in-If.ensures.written (rw w.out-is at e)
+          ap statement (c.in-If.is ∙ ap (stmts.If c.in-If.line c.in-If.test c.in-If.then)
+          w.in_default-otherwise.is) ∙ statement-If c.in-If.line c.in-If.test c.in-If.then in
+          one-printed names first text _ _ _ _ c.in_ok-push_test-in-If.ensures.written
+          c.in_ok-push_statements-in-If.ensures.written (rw w.out-is at e)
           ∙ ap (λ s. c.args.out.now.items ++ printed_lines (statement_lines names s)) (sym seen)
     ])
     c.push_last-in-If.ensures
@@ -70,15 +87,23 @@ push_statement-returns-after-otherwise-clause-ranged t c =
       | push_statement-in-Some+in_ok-push_last-in-If+in_ok-push_statements-in-If-2 w ↦
           let other = block w.in-Some.otherwise in
           let seen : statement c.args.stmt.now ≡ trees.IfElse c.in-If.line test first other =
-          ap statement (c.in-If.is ∙ ap (stmts.If c.in-If.line c.in-If.test c.in-If.then) w.in-Some.is) ∙ statement-IfElse c.in-If.line c.in-If.test c.in-If.then w.in-Some.otherwise in
+          ap statement (c.in-If.is ∙ ap (stmts.If c.in-If.line c.in-If.test c.in-If.then)
+          w.in-Some.is) ∙ statement-IfElse c.in-If.line c.in-If.test c.in-If.then
+          w.in-Some.otherwise in
           ap (λ s. are_ranged (statement_lines names s)) seen
-          ∙ and_from (is_ranged test) (are_ranged (block_lines names forms.Else first ++ block_lines names forms.End other)) tested
-          (are_ranged-append (block_lines names forms.Else first) (block_lines names forms.End other) (ranged-block names forms.Else first refl inner) (ranged-block names forms.End other refl w.in_ok-push_statements-in-If-2.ensures.ranged))
+          ∙ and_from (is_ranged test) (are_ranged
+          (block_lines names forms.Else first ++ block_lines names forms.End other)) tested
+          (are_ranged-append (block_lines names forms.Else first)
+          (block_lines names forms.End other) (ranged-block names forms.Else first refl inner)
+          (ranged-block names forms.End other refl
+          w.in_ok-push_statements-in-If-2.ensures.ranged))
       | push_statement-in_default-otherwise w ↦
           let seen : statement c.args.stmt.now ≡ trees.If c.in-If.line test first =
-          ap statement (c.in-If.is ∙ ap (stmts.If c.in-If.line c.in-If.test c.in-If.then) w.in_default-otherwise.is) ∙ statement-If c.in-If.line c.in-If.test c.in-If.then in
+          ap statement (c.in-If.is ∙ ap (stmts.If c.in-If.line c.in-If.test c.in-If.then)
+          w.in_default-otherwise.is) ∙ statement-If c.in-If.line c.in-If.test c.in-If.then in
           ap (λ s. are_ranged (statement_lines names s)) seen
-          ∙ and_from (is_ranged test) (are_ranged (block_lines names forms.End first)) tested (ranged-block names forms.End first refl inner)
+          ∙ and_from (is_ranged test) (are_ranged (block_lines names forms.End first)) tested
+          (ranged-block names forms.End first refl inner)
     ])
     c.push_last-in-If.ensures
 
@@ -88,14 +113,21 @@ push_statements-loop-stmt-preserved t c =
     let items = c.deref-stmt-items.result.now in
     let i = c.loop-stmt.stmt-index in
     record {
-      written = more-written names items i c.stmt-item.result _ _ _ (omega arith) c.stmt-item.is c.loop-stmt.invariant.written c.in_ok-push_statement.ensures.written;
-      ranged = more-ranged names items i c.stmt-item.result (lines_in names items) (omega arith) c.stmt-item.is c.loop-stmt.invariant.ranged c.in_ok-push_statement.ensures.ranged;
+      written =
+          more-written names items i c.stmt-item.result _ _ _ (omega arith) c.stmt-item.is
+          c.loop-stmt.invariant.written c.in_ok-push_statement.ensures.written;
+      ranged =
+          more-ranged names items i c.stmt-item.result (lines_in names items) (omega arith)
+          c.stmt-item.is c.loop-stmt.invariant.ranged c.in_ok-push_statement.ensures.ranged;
     }
 
 pub push_statements-returns-clause-written : goal.push_statements-returns-clause-written
 push_statements-returns-clause-written t c =
-    all-written c.args.names.now c.deref-stmt-items.result.now c.loop-stmt.stmt-index c.args.body.now _ _ (omega arith) c.deref-stmt-items.ensures.value c.loop-stmt.invariant.written
+    all-written c.args.names.now c.deref-stmt-items.result.now c.loop-stmt.stmt-index
+    c.args.body.now _ _ (omega arith) c.deref-stmt-items.ensures.value
+    c.loop-stmt.invariant.written
 
 pub push_statements-returns-clause-ranged : goal.push_statements-returns-clause-ranged
 push_statements-returns-clause-ranged t c =
-    all-ranged c.args.names.now c.deref-stmt-items.result.now c.loop-stmt.stmt-index c.args.body.now (omega arith) c.deref-stmt-items.ensures.value c.loop-stmt.invariant.ranged
+    all-ranged c.args.names.now c.deref-stmt-items.result.now c.loop-stmt.stmt-index c.args.body.now
+    (omega arith) c.deref-stmt-items.ensures.value c.loop-stmt.invariant.ranged

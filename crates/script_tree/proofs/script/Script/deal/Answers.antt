@@ -14,7 +14,8 @@ invariant_of-result c =
       few_mutexes = omega (arith, c.count-2.ensures.count, few kinds.Mutex);
       few_conds = omega (arith, c.count-3.ensures.count, few kinds.Cond);
       few_sems = omega (arith, ap length c.in_ok-copy-2.ensures, sound.same_sems, few kinds.Sem);
-      few_barriers = omega (arith, ap length c.in_ok-copy-3.ensures, sound.same_barriers, few kinds.Barrier);
+      few_barriers =
+          omega (arith, ap length c.in_ok-copy-3.ensures, sound.same_barriers, few kinds.Barrier);
       few_rwlocks = omega (arith, c.count-4.ensures.count, few kinds.RwLock);
       sem_values = subst (All IsSemValue) (sym c.in_ok-copy-2.ensures) sound.sem_values;
       barrier_counts = subst (All IsBarrierCount) (sym c.in_ok-copy-3.ensures) sound.barrier_counts;

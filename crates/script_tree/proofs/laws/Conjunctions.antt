@@ -1,5 +1,8 @@
 -- Parts of conjunctions of tests that hold together.
-use Rattle.std.proofs.Common.{◌≡◌, ◌&&◌, Bool, true, false, refl}
+use Rattle.std.proofs.Common.{◌≡◌, ◌&&◌, Bool, true, false, List, ◌++◌, refl, ◌∙◌}
+use Rattle.std.specs.List.{list_all}
+use Rattle.std.proofs.lemmas.Bool.{and_from}
+use Rattle.std.proofs.lemmas.List.Folds.{list_all-append}
 
 pub left_true : (a b : Bool) → (a && b) ≡ true → a ≡ true
 left_true true b h = refl
@@ -27,3 +30,9 @@ third_of_4 a b c d h = right_true (a && b) c (left_true (a && b && c) d h)
 
 pub third_of_5 : (a b c d e : Bool) → (a && b && c && d && e) ≡ true → c ≡ true
 third_of_5 a b c d e h = third_of_4 a b c d (left_true (a && b && c && d) e h)
+
+-- what holds of all items of two lists holds of all items of both
+pub all-append : {A : Type 0} (test : A → Bool) (xs ys : List A) → list_all test xs ≡ true
+    → list_all test ys ≡ true → list_all test (xs ++ ys) ≡ true
+all-append test xs ys in_xs in_ys =
+    list_all-append test xs ys ∙ and_from (list_all test xs) (list_all test ys) in_xs in_ys
