@@ -1,5 +1,5 @@
 //! Directives that are certified, and exposed.
-ghost use Rattle.std.specs.Prelude.{◌≤◌, length};
+ghost use Rattle.std.specs.Prelude.{◌≤◌};
 ghost use Rattle.rank_now.specs.Order.{IsOrder};
 
 use crate::scripts::{ADDERS, EIGHT, FAILED, FIRST_OF_A, LAST_FAILS, ONE, SEVEN, code_and_deal};
@@ -8,7 +8,7 @@ use directive_run::{Certified, CertifyRow, Exposed, certify, expose};
 use pct_ask::{Outcome, Verdict};
 use pct_outside::OpenGate;
 use policy_pick::{Moment, MomentList};
-use std::alloc::{AllocError as NoMemory, Global};
+use std::alloc::Global;
 use std::process::Abort;
 use std::sync::Wait;
 use std::test::Fail;
@@ -19,19 +19,22 @@ const NINTH_OF_A: Moment = Moment {
     number: 9,
 };
 
-/// A directive that makes the thread the lowest at first, and others at their moments.
-fn directive(
-    alloc: Global,
+/// A directive of a script, which makes the thread the lowest at first, and others at their
+/// moments.
+#[derive(Clone, Copy)]
+struct Told {
+    script: &'static [u8],
     low: u32,
-    events: &[Moment],
+    events: &'static [Moment],
     verdict: Verdict,
-) -> Result<Directive, NoMemory>
-    requires { length events.now ≤ 7 }
-{
+}
+
+fn directive_of(rt: &impl Abort, alloc: Global, told: &Told) -> Result<Directive, Fail> {
+    assert!(rt; told.events.len() <= 7);
     Ok(Directive {
-        low,
-        events: MomentList::from_vec(Vec::from_slice(alloc, events)?),
-        verdict,
+        low: told.low,
+        events: MomentList::from_vec(Vec::from_slice(alloc, told.events)?),
+        verdict: told.verdict,
     })
 }
 
@@ -39,8 +42,7 @@ fn directive(
 fn certified<R: Threads + Wait + Abort + Sync>(
     rt: &R,
     alloc: Global,
-    script: &[u8],
-    directive: &Directive,
+    told: &Told,
     steps: u32,
     limit: u32,
 ) -> Result<Certified, Fail>
@@ -49,10 +51,26 @@ fn certified<R: Threads + Wait + Abort + Sync>(
     requires some_limit { 1 ≤ limit }
     requires small_limit { limit ≤ 100000 }
 {
-    let (code, deal) = code_and_deal(alloc, script)?;
+    let (code, deal) = code_and_deal(alloc, told.script)?;
+    let directive = directive_of(rt, alloc, told)?;
     assert!(rt; directive.low < deal.threads);
     let gate = OpenGate::new();
-    Ok(certify(rt, alloc, &code, &deal, directive, steps, limit, &gate)?)
+    Ok(certify(rt, alloc, &code, &deal, &directive, steps, limit, &gate)?)
+}
+
+/// An order and its points.
+type Row = (&'static [u32], &'static [u32]);
+
+/// What is told of a directive.
+#[derive(Clone, Copy)]
+enum Want {
+    /// It is certified with this bound and so many rows, of which these are the first.
+    Yes(u128, usize, &'static [Row]),
+    /// This order leads to so many steps.
+    TooLong(&'static [u32], u32),
+    /// This order leads to another verdict.
+    Refuted(&'static [u32], Verdict),
+    TooManyThreads(u32),
 }
 
 /// Whether a row is of this order and these points.
@@ -60,106 +78,162 @@ fn is_row(row: &CertifyRow, order: &[u32], points: &[u32]) -> bool {
     row.order.as_slice() == order && row.points.as_slice() == points
 }
 
-#[test]
-fn certifies_the_lost_update(rt: HostRuntime) -> Result<(), Fail> {
-    let alloc = rt.alloc();
-    let told = directive(alloc, 1, &[FIRST_OF_A], FAILED)?;
-    match certified(&rt, alloc, ADDERS, &told, 8, 10_000)? {
+fn are_first(rows: &[CertifyRow], first: &[Row]) -> bool {
+    for (row, (order, points)) in rows.iter().zip(first) {
+        if !is_row(row, order, points) {
+            return false;
+        }
+    }
+    first.len() <= rows.len()
+}
+
+fn is_certified(found: &Certified, least: u128, count: usize, first: &[Row]) -> bool {
+    match found {
         Certified::Yes { bound, rows } => {
-            assert_eq!(rt; bound, 24);
-            assert_eq!(rt; rows.len(), 2);
-            assert!(rt; is_row(&rows.as_slice()[0], &[0, 2, 1], &[1]));
-            assert!(rt; is_row(&rows.as_slice()[1], &[2, 0, 1], &[1]));
+            *bound == least && rows.len() == count && are_first(rows.as_slice(), first)
         }
-        _ => assert!(rt; false),
+        _ => false,
     }
-    match certified(&rt, alloc, ADDERS, &told, 7, 10_000)? {
-        Certified::TooLong { order, steps } => {
-            assert!(rt; order.as_slice() == [0, 2, 1].as_slice());
-            assert_eq!(rt; steps, 8);
-        }
-        _ => assert!(rt; false),
+}
+
+fn is_too_long(found: &Certified, by: &[u32], count: u32) -> bool {
+    match found {
+        Certified::TooLong { order, steps } => order.as_slice() == by && *steps == count,
+        _ => false,
     }
+}
+
+fn is_refuted(found: &Certified, by: &[u32], other: Verdict) -> bool {
+    match found {
+        Certified::Refuted { order, verdict } => order.as_slice() == by && *verdict == other,
+        _ => false,
+    }
+}
+
+fn has_too_many(found: &Certified, many: u32) -> bool {
+    match found {
+        Certified::TooManyThreads { threads } => *threads == many,
+        _ => false,
+    }
+}
+
+/// This is told of the directive.
+fn expect<R: Threads + Wait + Abort + Sync>(
+    rt: &R,
+    alloc: Global,
+    told: &Told,
+    steps: u32,
+    limit: u32,
+    want: &Want,
+) -> Result<(), Fail>
+    requires some_steps { 1 ≤ steps }
+    requires few_steps { steps ≤ 100000 }
+    requires some_limit { 1 ≤ limit }
+    requires small_limit { limit ≤ 100000 }
+{
+    let found = certified(rt, alloc, told, steps, limit)?;
+    let is_wanted = match *want {
+        Want::Yes(bound, count, first) => is_certified(&found, bound, count, first),
+        Want::TooLong(order, steps) => is_too_long(&found, order, steps),
+        Want::Refuted(order, verdict) => is_refuted(&found, order, verdict),
+        Want::TooManyThreads(threads) => has_too_many(&found, threads),
+    };
+    assert!(rt; is_wanted, "{steps} {limit}");
     Ok(())
 }
 
+/// By which the second adder's update is lost.
+const LOST: Told = Told {
+    script: ADDERS,
+    low: 1,
+    events: &[FIRST_OF_A],
+    verdict: FAILED,
+};
+
+const LOST_ROWS: [Row; 2] = [(&[0, 2, 1], &[1]), (&[2, 0, 1], &[1])];
+
+#[test]
+fn certifies_the_lost_update(rt: HostRuntime) -> Result<(), Fail> {
+    let yes = Want::Yes(24, 2, &LOST_ROWS);
+    expect(&rt, rt.alloc(), &LOST, 8, 10_000, &yes)?;
+    let long = Want::TooLong(&[0, 2, 1], 8);
+    expect(&rt, rt.alloc(), &LOST, 7, 10_000, &long)
+}
+
+/// The same of another thread.
+const OTHER_LOST: Told = Told { low: 2, ..LOST };
+
 #[test]
 fn refutes_another_thread(rt: HostRuntime) -> Result<(), Fail> {
-    let alloc = rt.alloc();
-    let told = directive(alloc, 2, &[FIRST_OF_A], FAILED)?;
-    match certified(&rt, alloc, ADDERS, &told, 8, 10_000)? {
-        Certified::Refuted { order, verdict } => {
-            assert!(rt; order.as_slice() == [1, 0, 2].as_slice());
-            assert_eq!(rt; verdict, Verdict::Passed);
-        }
-        _ => assert!(rt; false),
-    }
-    Ok(())
+    let passed = Want::Refuted(&[1, 0, 2], Verdict::Passed);
+    expect(&rt, rt.alloc(), &OTHER_LOST, 8, 10_000, &passed)
 }
+
+const LAST_PASSES: Told = Told {
+    script: LAST_FAILS,
+    low: 3,
+    events: &[],
+    verdict: Verdict::Passed,
+};
 
 // The fifth order decides, which is neither the first nor the last of its batch.
 #[test]
 fn refutes_within_a_batch(rt: HostRuntime) -> Result<(), Fail> {
-    let alloc = rt.alloc();
-    let told = directive(alloc, 3, &[], Verdict::Passed)?;
-    match certified(&rt, alloc, LAST_FAILS, &told, 8, 10_000)? {
-        Certified::Refuted { order, verdict } => {
-            assert!(rt; order.as_slice() == [1, 2, 0, 3].as_slice());
-            assert_eq!(rt; verdict, Verdict::Failed { thread: 0, line: 5 });
-        }
-        _ => assert!(rt; false),
-    }
-    Ok(())
+    let failed = Want::Refuted(&[1, 2, 0, 3], Verdict::Failed { thread: 0, line: 5 });
+    expect(&rt, rt.alloc(), &LAST_PASSES, 8, 10_000, &failed)
 }
+
+const CUT: Told = Told {
+    script: ADDERS,
+    low: 0,
+    events: &[],
+    verdict: Verdict::Cut,
+};
 
 // Where the limit is below the steps, a run that is cut may be what is certified.
 #[test]
 fn certifies_cut_runs(rt: HostRuntime) -> Result<(), Fail> {
-    let alloc = rt.alloc();
-    let told = directive(alloc, 0, &[], Verdict::Cut)?;
-    match certified(&rt, alloc, ADDERS, &told, 8, 3)? {
-        Certified::Yes { bound, rows } => {
-            assert_eq!(rt; bound, 3);
-            assert_eq!(rt; rows.len(), 2);
-        }
-        _ => assert!(rt; false),
-    }
-    Ok(())
+    expect(&rt, rt.alloc(), &CUT, 8, 3, &Want::Yes(3, 2, &[]))
 }
+
+/// Threads that do nothing.
+const ONE_PASSES: Told = Told {
+    script: ONE,
+    low: 0,
+    events: &[],
+    verdict: Verdict::Passed,
+};
+
+const SEVEN_PASS: Told = Told {
+    script: SEVEN,
+    ..ONE_PASSES
+};
+
+const EIGHT_PASS: Told = Told {
+    script: EIGHT,
+    ..ONE_PASSES
+};
+
+const ONE_ROW: [Row; 1] = [(&[0], &[])];
+
+const FIRST_OF_SEVEN: [Row; 1] = [(&[1, 2, 3, 4, 5, 6, 0], &[])];
 
 #[test]
 fn counts_threads(rt: HostRuntime) -> Result<(), Fail> {
-    let alloc = rt.alloc();
-    let told = directive(alloc, 0, &[], Verdict::Passed)?;
-    match certified(&rt, alloc, ONE, &told, 1, 10_000)? {
-        Certified::Yes { bound, rows } => {
-            assert_eq!(rt; bound, 1);
-            assert_eq!(rt; rows.len(), 1);
-            assert!(rt; is_row(&rows.as_slice()[0], &[0], &[]));
-        }
-        _ => assert!(rt; false),
-    }
-    match certified(&rt, alloc, SEVEN, &told, 1, 10_000)? {
-        Certified::Yes { bound, rows } => {
-            assert_eq!(rt; bound, 7);
-            assert_eq!(rt; rows.len(), 720);
-            assert!(rt; is_row(&rows.as_slice()[0], &[1, 2, 3, 4, 5, 6, 0], &[]));
-        }
-        _ => assert!(rt; false),
-    }
-    match certified(&rt, alloc, EIGHT, &told, 1, 10_000)? {
-        Certified::TooManyThreads { threads } => assert_eq!(rt; threads, 8),
-        _ => assert!(rt; false),
-    }
-    Ok(())
+    let one = Want::Yes(1, 1, &ONE_ROW);
+    expect(&rt, rt.alloc(), &ONE_PASSES, 1, 10_000, &one)?;
+    let seven = Want::Yes(7, 720, &FIRST_OF_SEVEN);
+    expect(&rt, rt.alloc(), &SEVEN_PASS, 1, 10_000, &seven)?;
+    let eight = Want::TooManyThreads(8);
+    expect(&rt, rt.alloc(), &EIGHT_PASS, 1, 10_000, &eight)
 }
 
-/// The points of a directive under an order of the three threads, with the verdict.
+/// The points of a directive of the adders under an order of their threads, with the verdict.
 fn exposed<R: Threads + Wait + Abort + Sync>(
     rt: &R,
     alloc: Global,
     order: [u32; 3],
-    directive: &Directive,
+    told: &Told,
     steps: u32,
 ) -> Result<Exposed, Fail>
     requires order { IsOrder order }
@@ -168,9 +242,10 @@ fn exposed<R: Threads + Wait + Abort + Sync>(
 {
     let (code, deal) = code_and_deal(alloc, ADDERS)?;
     assert!(rt; deal.threads == 3);
+    let directive = directive_of(rt, alloc, told)?;
     let gate = OpenGate::new();
     Ok(expose(
-        rt, alloc, &code, &deal, &order, directive, steps, 10_000, &gate,
+        rt, alloc, &code, &deal, &order, &directive, steps, 10_000, &gate,
     )?)
 }
 
@@ -189,22 +264,54 @@ fn has_points(exposed: &Exposed, points: &[u32], verdict: Verdict) -> bool {
     }
 }
 
+/// A run of eight steps is exposed, with these points and this verdict.
+fn expect_points<R: Threads + Wait + Abort + Sync>(
+    rt: &R,
+    alloc: Global,
+    order: [u32; 3],
+    told: &Told,
+    points: &[u32],
+    verdict: Verdict,
+) -> Result<(), Fail>
+    requires order { IsOrder order }
+{
+    let found = exposed(rt, alloc, order, told, 8)?;
+    assert!(rt; has_points(&found, points, verdict));
+    Ok(())
+}
+
+/// The run has eight steps where there may be seven.
+fn expect_too_long<R: Threads + Wait + Abort + Sync>(
+    rt: &R,
+    alloc: Global,
+    order: [u32; 3],
+    told: &Told,
+) -> Result<(), Fail>
+    requires order { IsOrder order }
+{
+    let found = exposed(rt, alloc, order, told, 7)?;
+    assert!(rt; matches!(found, Exposed::TooLong { steps: 8 }));
+    Ok(())
+}
+
+/// A moment that doesn't occur.
+const NEVER: Told = Told {
+    events: &[NINTH_OF_A],
+    ..LOST
+};
+
+/// One that is told twice.
+const TWICE: Told = Told {
+    low: 2,
+    events: &[FIRST_OF_A, FIRST_OF_A],
+    ..LOST
+};
+
 #[test]
 fn exposes_the_lost_update(rt: HostRuntime) -> Result<(), Fail> {
     let alloc = rt.alloc();
-    let told = directive(alloc, 1, &[FIRST_OF_A], FAILED)?;
-    let found = exposed(&rt, alloc, [0, 2, 1], &told, 8)?;
-    assert!(rt; has_points(&found, &[1], FAILED));
-    match exposed(&rt, alloc, [0, 2, 1], &told, 7)? {
-        Exposed::TooLong { steps } => assert_eq!(rt; steps, 8),
-        _ => assert!(rt; false),
-    }
-    // A moment that doesn't occur, and one that is told twice.
-    let told = directive(alloc, 1, &[NINTH_OF_A], FAILED)?;
-    let found = exposed(&rt, alloc, [0, 1, 2], &told, 8)?;
-    assert!(rt; has_points(&found, &[8], Verdict::Passed));
-    let told = directive(alloc, 2, &[FIRST_OF_A, FIRST_OF_A], FAILED)?;
-    let found = exposed(&rt, alloc, [0, 1, 2], &told, 8)?;
-    assert!(rt; has_points(&found, &[1, 1], FAILED));
-    Ok(())
+    expect_points(&rt, alloc, [0, 2, 1], &LOST, &[1], FAILED)?;
+    expect_too_long(&rt, alloc, [0, 2, 1], &LOST)?;
+    expect_points(&rt, alloc, [0, 1, 2], &NEVER, &[8], Verdict::Passed)?;
+    expect_points(&rt, alloc, [0, 1, 2], &TWICE, &[1, 1], FAILED)
 }

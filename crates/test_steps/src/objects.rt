@@ -50,7 +50,10 @@ fn see(rt: &impl Abort, deal: &Deal, store: &mut Store, thread: u32, ask: Ask) -
     }
 }
 
-fn expect(rt: &impl Abort, deal: &Deal, store: &mut Store, steps: &[(u32, Ask, Seen)])
+/// A thread, its ask, and what becomes of it.
+type Step = (u32, Ask, Seen);
+
+fn expect_each(rt: &impl Abort, deal: &Deal, store: &mut Store, steps: &[Step])
     requires { sizes_of store.old ≡ sizes_of_deal deal.now }
     ensures { sizes_of store.new ≡ sizes_of_deal deal.now }
 {
@@ -60,293 +63,323 @@ fn expect(rt: &impl Abort, deal: &Deal, store: &mut Store, steps: &[(u32, Ask, S
     }
 }
 
-fn misuse(thread: u32, kind: MisuseKind) -> Seen {
-    Seen::Ends(Verdict::Misuse {
-        thread,
-        line: LINE,
-        kind,
-    })
+/// What becomes of asks, one after another, from the beginning on.
+fn expect(rt: &impl Abort, alloc: Global, steps: &[Step]) -> Result<(), Fail> {
+    let deal = small_deal(alloc)?;
+    let mut store = Store::new(alloc, &deal)?;
+    expect_each(rt, &deal, &mut store, steps);
+    Ok(())
 }
 
-fn fault(thread: u32, kind: FaultKind) -> Seen {
-    Seen::Ends(Verdict::Fault {
-        thread,
-        line: LINE,
-        kind,
-    })
+macro_rules! misuse {
+    ($thread:literal, $kind:expr) => {
+        Seen::Ends(Verdict::Misuse {
+            thread: $thread,
+            line: LINE,
+            kind: $kind,
+        })
+    };
+}
+
+macro_rules! fault {
+    ($thread:literal, $kind:expr) => {
+        Seen::Ends(Verdict::Fault {
+            thread: $thread,
+            line: LINE,
+            kind: $kind,
+        })
+    };
 }
 
 /// An addition to the variable.
-fn add(value: i64) -> Ask {
-    Ask::Add { var: 0, value }
+macro_rules! add {
+    ($value:expr) => {
+        Ask::Add {
+            var: 0,
+            value: $value,
+        }
+    };
 }
 
 /// A compare-and-swap of the variable.
-fn exchange(old: i64, new: i64) -> Ask {
-    Ask::Cas { var: 0, old, new }
+macro_rules! exchange {
+    ($old:expr, $new:expr) => {
+        Ask::Cas {
+            var: 0,
+            old: $old,
+            new: $new,
+        }
+    };
 }
+
+const VARIABLES: [Step; 8] = [
+    (0, Ask::Read { var: 0 }, Seen::Told(5)),
+    (1, Ask::Write { var: 0, value: 7 }, Seen::Told(0)),
+    (0, add!(3), Seen::Told(7)),
+    (1, add!(i64::MAX), fault!(1, FaultKind::Overflow)),
+    (0, exchange!(10, i64::MIN), Seen::Told(1)),
+    (0, exchange!(10, 1), Seen::Told(0)),
+    (1, add!(-1), fault!(1, FaultKind::Overflow)),
+    (2, Ask::Read { var: 0 }, Seen::Told(i64::MIN)),
+];
 
 #[test]
 fn variables(rt: HostRuntime) -> Result<(), Fail> {
-    let deal = small_deal(rt.alloc())?;
-    let mut store = Store::new(rt.alloc(), &deal)?;
-    let steps = [
-        (0, Ask::Read { var: 0 }, Seen::Told(5)),
-        (1, Ask::Write { var: 0, value: 7 }, Seen::Told(0)),
-        (0, add(3), Seen::Told(7)),
-        (1, add(i64::MAX), fault(1, FaultKind::Overflow)),
-        (0, exchange(10, i64::MIN), Seen::Told(1)),
-        (0, exchange(10, 1), Seen::Told(0)),
-        (1, add(-1), fault(1, FaultKind::Overflow)),
-        (2, Ask::Read { var: 0 }, Seen::Told(i64::MIN)),
-    ];
-    expect(&rt, &deal, &mut store, &steps);
-    Ok(())
+    expect(&rt, rt.alloc(), &VARIABLES)
 }
+
+const MUTEXES: [Step; 10] = [
+    (
+        0,
+        Ask::Unlock { mutex: 0 },
+        misuse!(0, MisuseKind::NotOwner),
+    ),
+    (0, Ask::Lock { mutex: 0 }, Seen::Told(0)),
+    (0, Ask::Lock { mutex: 0 }, Seen::Waits),
+    (1, Ask::Lock { mutex: 0 }, Seen::Waits),
+    (1, Ask::TryLock { mutex: 0 }, Seen::Told(0)),
+    (
+        1,
+        Ask::Unlock { mutex: 0 },
+        misuse!(1, MisuseKind::NotOwner),
+    ),
+    (1, Ask::Lock { mutex: 1 }, Seen::Told(0)),
+    (0, Ask::Unlock { mutex: 0 }, Seen::Told(0)),
+    (1, Ask::TryLock { mutex: 0 }, Seen::Told(1)),
+    (1, Ask::Unlock { mutex: 0 }, Seen::Told(0)),
+];
 
 #[test]
 fn mutexes(rt: HostRuntime) -> Result<(), Fail> {
-    let deal = small_deal(rt.alloc())?;
-    let mut store = Store::new(rt.alloc(), &deal)?;
-    let steps = [
-        (0, Ask::Unlock { mutex: 0 }, misuse(0, MisuseKind::NotOwner)),
-        (0, Ask::Lock { mutex: 0 }, Seen::Told(0)),
-        (0, Ask::Lock { mutex: 0 }, Seen::Waits),
-        (1, Ask::Lock { mutex: 0 }, Seen::Waits),
-        (1, Ask::TryLock { mutex: 0 }, Seen::Told(0)),
-        (1, Ask::Unlock { mutex: 0 }, misuse(1, MisuseKind::NotOwner)),
-        (1, Ask::Lock { mutex: 1 }, Seen::Told(0)),
-        (0, Ask::Unlock { mutex: 0 }, Seen::Told(0)),
-        (1, Ask::TryLock { mutex: 0 }, Seen::Told(1)),
-        (1, Ask::Unlock { mutex: 0 }, Seen::Told(0)),
-    ];
-    expect(&rt, &deal, &mut store, &steps);
-    Ok(())
+    expect(&rt, rt.alloc(), &MUTEXES)
 }
 
 // A signal is lost where nobody waits. Three threads wait with two mutexes and are woken together.
+const CONDITIONS: [Step; 17] = [
+    (
+        0,
+        Ask::Release { cond: 0, mutex: 0 },
+        misuse!(0, MisuseKind::NotOwner),
+    ),
+    (0, Ask::Signal { cond: 0 }, Seen::Told(0)),
+    (0, Ask::Lock { mutex: 0 }, Seen::Told(0)),
+    (0, Ask::Release { cond: 0, mutex: 0 }, Seen::Told(0)),
+    (1, Ask::Lock { mutex: 1 }, Seen::Told(0)),
+    (1, Ask::Release { cond: 0, mutex: 1 }, Seen::Told(0)),
+    (2, Ask::Lock { mutex: 0 }, Seen::Told(0)),
+    (2, Ask::Release { cond: 0, mutex: 0 }, Seen::Told(0)),
+    (0, Ask::Regain { cond: 0, mutex: 0 }, Seen::Waits),
+    (0, Ask::Broadcast { cond: 0 }, Seen::Told(3)),
+    (0, Ask::Broadcast { cond: 0 }, Seen::Told(0)),
+    (2, Ask::Regain { cond: 0, mutex: 0 }, Seen::Told(0)),
+    (0, Ask::Regain { cond: 0, mutex: 0 }, Seen::Waits),
+    (1, Ask::Regain { cond: 0, mutex: 1 }, Seen::Told(0)),
+    (2, Ask::Unlock { mutex: 0 }, Seen::Told(0)),
+    (2, Ask::Regain { cond: 0, mutex: 0 }, Seen::Waits),
+    (0, Ask::Regain { cond: 0, mutex: 0 }, Seen::Told(0)),
+];
+
 #[test]
 fn conditions(rt: HostRuntime) -> Result<(), Fail> {
-    let deal = small_deal(rt.alloc())?;
-    let mut store = Store::new(rt.alloc(), &deal)?;
-    let steps = [
-        (
-            0,
-            Ask::Release { cond: 0, mutex: 0 },
-            misuse(0, MisuseKind::NotOwner),
-        ),
-        (0, Ask::Signal { cond: 0 }, Seen::Told(0)),
-        (0, Ask::Lock { mutex: 0 }, Seen::Told(0)),
-        (0, Ask::Release { cond: 0, mutex: 0 }, Seen::Told(0)),
-        (1, Ask::Lock { mutex: 1 }, Seen::Told(0)),
-        (1, Ask::Release { cond: 0, mutex: 1 }, Seen::Told(0)),
-        (2, Ask::Lock { mutex: 0 }, Seen::Told(0)),
-        (2, Ask::Release { cond: 0, mutex: 0 }, Seen::Told(0)),
-        (0, Ask::Regain { cond: 0, mutex: 0 }, Seen::Waits),
-        (0, Ask::Broadcast { cond: 0 }, Seen::Told(3)),
-        (0, Ask::Broadcast { cond: 0 }, Seen::Told(0)),
-        (2, Ask::Regain { cond: 0, mutex: 0 }, Seen::Told(0)),
-        (0, Ask::Regain { cond: 0, mutex: 0 }, Seen::Waits),
-        (1, Ask::Regain { cond: 0, mutex: 1 }, Seen::Told(0)),
-        (2, Ask::Unlock { mutex: 0 }, Seen::Told(0)),
-        (2, Ask::Regain { cond: 0, mutex: 0 }, Seen::Waits),
-        (0, Ask::Regain { cond: 0, mutex: 0 }, Seen::Told(0)),
-    ];
-    expect(&rt, &deal, &mut store, &steps);
-    Ok(())
+    expect(&rt, rt.alloc(), &CONDITIONS)
 }
 
 // A thread that waits twice stands on the list once, and signals wake the longest waiter first.
+const WAITS_TWICE: [Step; 17] = [
+    (0, Ask::Lock { mutex: 0 }, Seen::Told(0)),
+    (0, Ask::Release { cond: 0, mutex: 0 }, Seen::Told(0)),
+    (1, Ask::Lock { mutex: 1 }, Seen::Told(0)),
+    (1, Ask::Release { cond: 0, mutex: 1 }, Seen::Told(0)),
+    (0, Ask::Lock { mutex: 0 }, Seen::Told(0)),
+    (0, Ask::Release { cond: 0, mutex: 0 }, Seen::Told(0)),
+    (2, Ask::Signal { cond: 0 }, Seen::Told(1)),
+    (1, Ask::Regain { cond: 0, mutex: 1 }, Seen::Waits),
+    (0, Ask::Lock { mutex: 0 }, Seen::Told(0)),
+    (0, Ask::Release { cond: 0, mutex: 0 }, Seen::Told(0)),
+    (2, Ask::Signal { cond: 0 }, Seen::Told(1)),
+    (1, Ask::Regain { cond: 0, mutex: 1 }, Seen::Told(0)),
+    (2, Ask::Signal { cond: 0 }, Seen::Told(1)),
+    (2, Ask::Signal { cond: 0 }, Seen::Told(0)),
+    (0, Ask::Regain { cond: 0, mutex: 0 }, Seen::Told(0)),
+    (0, Ask::Unlock { mutex: 0 }, Seen::Told(0)),
+    (0, Ask::Regain { cond: 0, mutex: 0 }, Seen::Waits),
+];
+
 #[test]
 fn waits_twice(rt: HostRuntime) -> Result<(), Fail> {
-    let deal = small_deal(rt.alloc())?;
-    let mut store = Store::new(rt.alloc(), &deal)?;
-    let steps = [
-        (0, Ask::Lock { mutex: 0 }, Seen::Told(0)),
-        (0, Ask::Release { cond: 0, mutex: 0 }, Seen::Told(0)),
-        (1, Ask::Lock { mutex: 1 }, Seen::Told(0)),
-        (1, Ask::Release { cond: 0, mutex: 1 }, Seen::Told(0)),
-        (0, Ask::Lock { mutex: 0 }, Seen::Told(0)),
-        (0, Ask::Release { cond: 0, mutex: 0 }, Seen::Told(0)),
-        (2, Ask::Signal { cond: 0 }, Seen::Told(1)),
-        (1, Ask::Regain { cond: 0, mutex: 1 }, Seen::Waits),
-        (0, Ask::Lock { mutex: 0 }, Seen::Told(0)),
-        (0, Ask::Release { cond: 0, mutex: 0 }, Seen::Told(0)),
-        (2, Ask::Signal { cond: 0 }, Seen::Told(1)),
-        (1, Ask::Regain { cond: 0, mutex: 1 }, Seen::Told(0)),
-        (2, Ask::Signal { cond: 0 }, Seen::Told(1)),
-        (2, Ask::Signal { cond: 0 }, Seen::Told(0)),
-        (0, Ask::Regain { cond: 0, mutex: 0 }, Seen::Told(0)),
-        (0, Ask::Unlock { mutex: 0 }, Seen::Told(0)),
-        (0, Ask::Regain { cond: 0, mutex: 0 }, Seen::Waits),
-    ];
-    expect(&rt, &deal, &mut store, &steps);
-    Ok(())
+    expect(&rt, rt.alloc(), &WAITS_TWICE)
 }
+
+const SEMAPHORES: [Step; 10] = [
+    (0, Ask::Down { sem: 0 }, Seen::Told(0)),
+    (0, Ask::Down { sem: 0 }, Seen::Waits),
+    (1, Ask::TryDown { sem: 0 }, Seen::Told(0)),
+    (1, Ask::Up { sem: 0 }, Seen::Told(0)),
+    (0, Ask::TryDown { sem: 0 }, Seen::Told(1)),
+    (0, Ask::TryDown { sem: 0 }, Seen::Told(0)),
+    (2, Ask::Up { sem: 1 }, misuse!(2, MisuseKind::SemFull)),
+    (2, Ask::Down { sem: 1 }, Seen::Told(0)),
+    (2, Ask::Up { sem: 1 }, Seen::Told(0)),
+    (2, Ask::Up { sem: 1 }, misuse!(2, MisuseKind::SemFull)),
+];
 
 #[test]
 fn semaphores(rt: HostRuntime) -> Result<(), Fail> {
-    let deal = small_deal(rt.alloc())?;
-    let mut store = Store::new(rt.alloc(), &deal)?;
-    let steps = [
-        (0, Ask::Down { sem: 0 }, Seen::Told(0)),
-        (0, Ask::Down { sem: 0 }, Seen::Waits),
-        (1, Ask::TryDown { sem: 0 }, Seen::Told(0)),
-        (1, Ask::Up { sem: 0 }, Seen::Told(0)),
-        (0, Ask::TryDown { sem: 0 }, Seen::Told(1)),
-        (0, Ask::TryDown { sem: 0 }, Seen::Told(0)),
-        (2, Ask::Up { sem: 1 }, misuse(2, MisuseKind::SemFull)),
-        (2, Ask::Down { sem: 1 }, Seen::Told(0)),
-        (2, Ask::Up { sem: 1 }, Seen::Told(0)),
-        (2, Ask::Up { sem: 1 }, misuse(2, MisuseKind::SemFull)),
-    ];
-    expect(&rt, &deal, &mut store, &steps);
-    Ok(())
+    expect(&rt, rt.alloc(), &SEMAPHORES)
 }
 
 // A barrier of one, and one of three at which the threads meet twice. A thread that arrives again
 // before it has left keeps its old entry.
+const BARRIERS: [Step; 18] = [
+    (0, Ask::Leave { barrier: 0 }, Seen::Waits),
+    (0, Ask::Arrive { barrier: 0 }, Seen::Told(0)),
+    (0, Ask::Leave { barrier: 0 }, Seen::Told(1)),
+    (0, Ask::Leave { barrier: 0 }, Seen::Waits),
+    (0, Ask::Arrive { barrier: 1 }, Seen::Told(0)),
+    (0, Ask::Arrive { barrier: 1 }, Seen::Told(0)),
+    (1, Ask::Arrive { barrier: 1 }, Seen::Told(0)),
+    (0, Ask::Leave { barrier: 1 }, Seen::Waits),
+    (2, Ask::Arrive { barrier: 1 }, Seen::Told(0)),
+    (0, Ask::Leave { barrier: 1 }, Seen::Told(0)),
+    (1, Ask::Leave { barrier: 1 }, Seen::Told(0)),
+    (2, Ask::Arrive { barrier: 1 }, Seen::Told(0)),
+    (1, Ask::Arrive { barrier: 1 }, Seen::Told(0)),
+    (0, Ask::Arrive { barrier: 1 }, Seen::Told(0)),
+    (2, Ask::Leave { barrier: 1 }, Seen::Told(1)),
+    (2, Ask::Leave { barrier: 1 }, Seen::Waits),
+    (1, Ask::Leave { barrier: 1 }, Seen::Told(0)),
+    (0, Ask::Leave { barrier: 1 }, Seen::Told(1)),
+];
+
 #[test]
 fn barriers(rt: HostRuntime) -> Result<(), Fail> {
-    let deal = small_deal(rt.alloc())?;
-    let mut store = Store::new(rt.alloc(), &deal)?;
-    let steps = [
-        (0, Ask::Leave { barrier: 0 }, Seen::Waits),
-        (0, Ask::Arrive { barrier: 0 }, Seen::Told(0)),
-        (0, Ask::Leave { barrier: 0 }, Seen::Told(1)),
-        (0, Ask::Leave { barrier: 0 }, Seen::Waits),
-        (0, Ask::Arrive { barrier: 1 }, Seen::Told(0)),
-        (0, Ask::Arrive { barrier: 1 }, Seen::Told(0)),
-        (1, Ask::Arrive { barrier: 1 }, Seen::Told(0)),
-        (0, Ask::Leave { barrier: 1 }, Seen::Waits),
-        (2, Ask::Arrive { barrier: 1 }, Seen::Told(0)),
-        (0, Ask::Leave { barrier: 1 }, Seen::Told(0)),
-        (1, Ask::Leave { barrier: 1 }, Seen::Told(0)),
-        (2, Ask::Arrive { barrier: 1 }, Seen::Told(0)),
-        (1, Ask::Arrive { barrier: 1 }, Seen::Told(0)),
-        (0, Ask::Arrive { barrier: 1 }, Seen::Told(0)),
-        (2, Ask::Leave { barrier: 1 }, Seen::Told(1)),
-        (2, Ask::Leave { barrier: 1 }, Seen::Waits),
-        (1, Ask::Leave { barrier: 1 }, Seen::Told(0)),
-        (0, Ask::Leave { barrier: 1 }, Seen::Told(1)),
-    ];
-    expect(&rt, &deal, &mut store, &steps);
-    Ok(())
+    expect(&rt, rt.alloc(), &BARRIERS)
 }
+
+const FAILED: Verdict = Verdict::Failed {
+    thread: 1,
+    line: LINE,
+};
+
+const THREADS: [Step; 10] = [
+    (0, Ask::Join { thread: 1 }, Seen::Told(0)),
+    (0, Ask::Join { thread: 0 }, Seen::Waits),
+    (0, Ask::Yield, Seen::Told(0)),
+    (0, Ask::Check { holds: true }, Seen::Told(0)),
+    (1, Ask::Check { holds: false }, Seen::Ends(FAILED)),
+    (
+        2,
+        Ask::Fault {
+            kind: FaultKind::Spin,
+        },
+        fault!(2, FaultKind::Spin),
+    ),
+    (1, Ask::Begin, Seen::Waits),
+    (0, Ask::Start { thread: 1 }, Seen::Told(0)),
+    (1, Ask::Begin, Seen::Told(0)),
+    (
+        2,
+        Ask::Start { thread: 1 },
+        misuse!(2, MisuseKind::AlreadyStarted),
+    ),
+];
 
 #[test]
 fn threads(rt: HostRuntime) -> Result<(), Fail> {
-    let deal = small_deal(rt.alloc())?;
-    let mut store = Store::new(rt.alloc(), &deal)?;
-    assert!(rt; deal.threads == 3);
-    let failed = Verdict::Failed {
-        thread: 1,
-        line: LINE,
-    };
-    let steps = [
-        (0, Ask::Join { thread: 1 }, Seen::Told(0)),
-        (0, Ask::Join { thread: 0 }, Seen::Waits),
-        (0, Ask::Yield, Seen::Told(0)),
-        (0, Ask::Check { holds: true }, Seen::Told(0)),
-        (1, Ask::Check { holds: false }, Seen::Ends(failed)),
-        (
-            2,
-            Ask::Fault {
-                kind: FaultKind::Spin,
-            },
-            fault(2, FaultKind::Spin),
-        ),
-        (1, Ask::Begin, Seen::Waits),
-        (0, Ask::Start { thread: 1 }, Seen::Told(0)),
-        (1, Ask::Begin, Seen::Told(0)),
-        (
-            2,
-            Ask::Start { thread: 1 },
-            misuse(2, MisuseKind::AlreadyStarted),
-        ),
-    ];
-    expect(&rt, &deal, &mut store, &steps);
-    Ok(())
+    expect(&rt, rt.alloc(), &THREADS)
 }
+
+const READ_WRITE_LOCKS: [Step; 17] = [
+    (
+        2,
+        Ask::RwUnlock { rwlock: 0 },
+        misuse!(2, MisuseKind::NotOwner),
+    ),
+    (0, Ask::RdLock { rwlock: 0 }, Seen::Told(0)),
+    (1, Ask::TryRdLock { rwlock: 0 }, Seen::Told(1)),
+    (2, Ask::WrLock { rwlock: 0 }, Seen::Waits),
+    (2, Ask::TryWrLock { rwlock: 0 }, Seen::Told(0)),
+    (
+        2,
+        Ask::RwUnlock { rwlock: 0 },
+        misuse!(2, MisuseKind::NotOwner),
+    ),
+    (0, Ask::RwUnlock { rwlock: 0 }, Seen::Told(0)),
+    (1, Ask::RwUnlock { rwlock: 0 }, Seen::Told(0)),
+    (2, Ask::WrLock { rwlock: 0 }, Seen::Told(0)),
+    (2, Ask::WrLock { rwlock: 0 }, Seen::Waits),
+    (0, Ask::RdLock { rwlock: 0 }, Seen::Waits),
+    (0, Ask::TryRdLock { rwlock: 0 }, Seen::Told(0)),
+    (0, Ask::TryWrLock { rwlock: 0 }, Seen::Told(0)),
+    (
+        0,
+        Ask::RwUnlock { rwlock: 0 },
+        misuse!(0, MisuseKind::NotOwner),
+    ),
+    (2, Ask::RwUnlock { rwlock: 0 }, Seen::Told(0)),
+    (0, Ask::TryWrLock { rwlock: 0 }, Seen::Told(1)),
+    (0, Ask::RwUnlock { rwlock: 0 }, Seen::Told(0)),
+];
 
 #[test]
 fn read_write_locks(rt: HostRuntime) -> Result<(), Fail> {
-    let deal = small_deal(rt.alloc())?;
-    let mut store = Store::new(rt.alloc(), &deal)?;
-    let steps = [
-        (
-            2,
-            Ask::RwUnlock { rwlock: 0 },
-            misuse(2, MisuseKind::NotOwner),
-        ),
-        (0, Ask::RdLock { rwlock: 0 }, Seen::Told(0)),
-        (1, Ask::TryRdLock { rwlock: 0 }, Seen::Told(1)),
-        (2, Ask::WrLock { rwlock: 0 }, Seen::Waits),
-        (2, Ask::TryWrLock { rwlock: 0 }, Seen::Told(0)),
-        (
-            2,
-            Ask::RwUnlock { rwlock: 0 },
-            misuse(2, MisuseKind::NotOwner),
-        ),
-        (0, Ask::RwUnlock { rwlock: 0 }, Seen::Told(0)),
-        (1, Ask::RwUnlock { rwlock: 0 }, Seen::Told(0)),
-        (2, Ask::WrLock { rwlock: 0 }, Seen::Told(0)),
-        (2, Ask::WrLock { rwlock: 0 }, Seen::Waits),
-        (0, Ask::RdLock { rwlock: 0 }, Seen::Waits),
-        (0, Ask::TryRdLock { rwlock: 0 }, Seen::Told(0)),
-        (0, Ask::TryWrLock { rwlock: 0 }, Seen::Told(0)),
-        (
-            0,
-            Ask::RwUnlock { rwlock: 0 },
-            misuse(0, MisuseKind::NotOwner),
-        ),
-        (2, Ask::RwUnlock { rwlock: 0 }, Seen::Told(0)),
-        (0, Ask::TryWrLock { rwlock: 0 }, Seen::Told(1)),
-        (0, Ask::RwUnlock { rwlock: 0 }, Seen::Told(0)),
-    ];
-    expect(&rt, &deal, &mut store, &steps);
-    Ok(())
+    expect(&rt, rt.alloc(), &READ_WRITE_LOCKS)
 }
+
+const READ: Ask = Ask::RdLock { rwlock: 0 };
+
+/// A read lock after a thousand of them.
+const READS_MORE: [Step; 5] = [
+    (0, READ, misuse!(0, MisuseKind::TooManyReads)),
+    (0, Ask::TryRdLock { rwlock: 0 }, Seen::Told(0)),
+    (1, READ, Seen::Told(0)),
+    (0, Ask::RwUnlock { rwlock: 0 }, Seen::Told(0)),
+    (0, READ, Seen::Told(0)),
+];
 
 #[test]
 fn read_holds(rt: HostRuntime) -> Result<(), Fail> {
-    let deal = small_deal(rt.alloc())?;
-    let mut store = Store::new(rt.alloc(), &deal)?;
-    let read = Ask::RdLock { rwlock: 0 };
-    for _ in 0..1000 {
-        assert_eq!(rt; see(&rt, &deal, &mut store, 0, read), Seen::Told(0));
+    let mut steps = vec![in rt.alloc(); (0, READ, Seen::Told(0)); 1000]?;
+    steps.extend_from_slice(&READS_MORE)?;
+    expect(&rt, rt.alloc(), &steps)
+}
+
+const STANDINGS: [Standing; 3] = [Standing::Asks, Standing::Away, Standing::Ended];
+
+/// Whether the first thread may do what it asks, where the second is away and the third has ended.
+fn ready_to(rt: &impl Abort, deal: &Deal, store: &Store, ask: Ask) -> Ready
+    requires { sizes_of store.now ≡ sizes_of_deal deal.now }
+{
+    let standings: &[Standing] = &STANDINGS;
+    assert!(rt; standings.len() == 3 && deal.threads == 3);
+    assert!(rt; fits(deal, &ask));
+    store.ready(standings, 0, &ask)
+}
+
+/// Each ask is so ready, and no thread is started.
+fn expect_ready(rt: &impl Abort, alloc: Global, asks: &[(Ask, Ready)]) -> Result<(), Fail> {
+    let deal = small_deal(alloc)?;
+    let store = Store::new(alloc, &deal)?;
+    for (ask, wanted) in asks {
+        assert_eq!(rt; ready_to(rt, &deal, &store, *ask), *wanted, "{ask:?}");
     }
-    let steps = [
-        (0, read, misuse(0, MisuseKind::TooManyReads)),
-        (0, Ask::TryRdLock { rwlock: 0 }, Seen::Told(0)),
-        (1, read, Seen::Told(0)),
-        (0, Ask::RwUnlock { rwlock: 0 }, Seen::Told(0)),
-        (0, read, Seen::Told(0)),
-    ];
-    expect(&rt, &deal, &mut store, &steps);
+    assert_eq!(rt; deal.threads, 3);
+    assert!(rt; !store.is_started(1));
     Ok(())
 }
 
 // The answer to a join goes with its target, and no other ask looks at the other threads.
+const JOINS: [(Ask, Ready); 5] = [
+    (Ask::Join { thread: 0 }, Ready::No),
+    (Ask::Join { thread: 1 }, Ready::Unknown { target: 1 }),
+    (Ask::Join { thread: 2 }, Ready::Yes),
+    (Ask::Lock { mutex: 1 }, Ready::Yes),
+    (Ask::Begin, Ready::No),
+];
+
 #[test]
 fn joins(rt: HostRuntime) -> Result<(), Fail> {
-    let deal = small_deal(rt.alloc())?;
-    let store = Store::new(rt.alloc(), &deal)?;
-    let standings = [Standing::Asks, Standing::Away, Standing::Ended];
-    let join = |thread| Ask::Join { thread };
-    for (ask, wanted) in [
-        (join(0), Ready::No),
-        (join(1), Ready::Unknown { target: 1 }),
-        (join(2), Ready::Yes),
-        (Ask::Lock { mutex: 1 }, Ready::Yes),
-        (Ask::Begin, Ready::No),
-    ] {
-        assert_eq!(rt; deal.threads, 3);
-        assert!(rt; fits(&deal, &ask));
-        assert_eq!(rt; store.ready(&standings, 0, &ask), wanted, "{ask:?}");
-        assert!(rt; !store.is_started(1));
-    }
-    Ok(())
+    expect_ready(&rt, rt.alloc(), &JOINS)
 }
 
 #[test]

@@ -4,7 +4,7 @@ ghost use Rattle.policy_pick.specs.Choice.{choice, TargetsAreAway, IsSoundPick};
 
 use crate::samples::ORDERS;
 use crate::slow::{slow_by_events, slow_by_list, slow_by_points, slow_choice};
-use policy_pick::{Chance, DirectedPolicy, Listed, Moment, MomentList, Pct, Pick, Policy};
+use policy_pick::{Chance, DirectedPolicy, Listed, Moment, Pct, Pick, Policy};
 use std::alloc::Global;
 use std::process::Abort;
 use std::test::Fail;
@@ -159,135 +159,148 @@ fn wanted_by_events(
     Ok(wanted)
 }
 
+/// The chances of three threads, and what is picked.
+type Case = (&'static [Chance], Pick);
+
+const AWAY: Chance = Chance::Away;
+
+const READY: Chance = Chance::Ready;
+
+const BLOCKED: Chance = Chance::Blocked;
+
+const ENDED: Chance = Chance::Ended;
+
+const UNKNOWN_0: Chance = Chance::Unknown { target: 0 };
+
+const UNKNOWN_1: Chance = Chance::Unknown { target: 1 };
+
+const UNKNOWN_2: Chance = Chance::Unknown { target: 2 };
+
+const ORDER: [u32; 3] = [0, 1, 2];
+
 /// A lost update: the first thread reads and is lowered, the second one reads and writes, and a
 /// third one joins both.
+const LOST_UPDATE: [Case; 9] = [
+    (&[READY, READY, BLOCKED], Pick::Thread(0)),
+    (&[READY, READY, BLOCKED], Pick::Thread(1)),
+    (&[READY, READY, BLOCKED], Pick::Thread(1)),
+    (&[READY, ENDED, BLOCKED], Pick::Thread(0)),
+    (&[ENDED, ENDED, READY], Pick::Thread(2)),
+    (&[ENDED, ENDED, READY], Pick::Thread(2)),
+    (&[ENDED, ENDED, READY], Pick::Thread(2)),
+    (&[ENDED, ENDED, READY], Pick::Thread(2)),
+    (&[ENDED, ENDED, ENDED], Pick::Nobody),
+];
+
 #[test]
 fn lost_update_by_hand(rt: HostRuntime) -> Result<(), Fail> {
-    let (ready, blocked, ended) = (Chance::Ready, Chance::Blocked, Chance::Ended);
-    let lost_update: [(&[Chance], Pick); 9] = [
-        (&[ready, ready, blocked], Pick::Thread(0)),
-        (&[ready, ready, blocked], Pick::Thread(1)),
-        (&[ready, ready, blocked], Pick::Thread(1)),
-        (&[ready, ended, blocked], Pick::Thread(0)),
-        (&[ended, ended, ready], Pick::Thread(2)),
-        (&[ended, ended, ready], Pick::Thread(2)),
-        (&[ended, ended, ready], Pick::Thread(2)),
-        (&[ended, ended, ready], Pick::Thread(2)),
-        (&[ended, ended, ended], Pick::Nobody),
-    ];
-    expect_picks(&rt, Pct::new(rt.alloc(), &[0, 1, 2], &[1])?, &lost_update);
+    expect_picks(&rt, Pct::new(rt.alloc(), &ORDER, &[1])?, &LOST_UPDATE);
     Ok(())
 }
 
 /// What is not known is waited for, where no higher thread may go.
+const WAITS: [Case; 6] = [
+    (&[AWAY, READY, READY], Pick::Waits(0)),
+    (&[BLOCKED, AWAY, READY], Pick::Waits(1)),
+    (&[ENDED, UNKNOWN_2, AWAY], Pick::Waits(2)),
+    (&[AWAY, AWAY, UNKNOWN_0], Pick::Waits(0)),
+    (&[BLOCKED, ENDED, BLOCKED], Pick::Nobody),
+    (&[READY, AWAY, UNKNOWN_1], Pick::Thread(0)),
+];
+
 #[test]
 fn waits_by_hand(rt: HostRuntime) -> Result<(), Fail> {
-    let (away, ready, blocked, ended) = (
-        Chance::Away,
-        Chance::Ready,
-        Chance::Blocked,
-        Chance::Ended,
-    );
-    let unknown = |target: u32| Chance::Unknown { target };
-    let waits: [(&[Chance], Pick); 6] = [
-        (&[away, ready, ready], Pick::Waits(0)),
-        (&[blocked, away, ready], Pick::Waits(1)),
-        (&[ended, unknown(2), away], Pick::Waits(2)),
-        (&[away, away, unknown(0)], Pick::Waits(0)),
-        (&[blocked, ended, blocked], Pick::Nobody),
-        (&[ready, away, unknown(1)], Pick::Thread(0)),
-    ];
-    expect_picks(&rt, Pct::new(rt.alloc(), &[0, 1, 2], &[])?, &waits);
+    expect_picks(&rt, Pct::new(rt.alloc(), &ORDER, &[])?, &WAITS);
     Ok(())
 }
 
-/// Points that are equal, and one past the run.
+/// Of equal points the greatest index stands: the first thread gets 3, and the second one 2.
+const EQUAL_POINTS: [Case; 4] = [
+    (&[READY, BLOCKED, BLOCKED], Pick::Thread(0)),
+    (&[BLOCKED, READY, BLOCKED], Pick::Thread(1)),
+    (&[READY, READY, BLOCKED], Pick::Thread(0)),
+    (&[READY, READY, READY], Pick::Thread(2)),
+];
+
+/// A point past the run changes nothing.
+const LATE_POINT: [Case; 3] = [
+    (&[READY, READY, READY], Pick::Thread(0)),
+    (&[READY, READY, READY], Pick::Thread(0)),
+    (&[READY, READY, READY], Pick::Thread(0)),
+];
+
 #[test]
 fn points_by_hand(rt: HostRuntime) -> Result<(), Fail> {
-    let (ready, blocked) = (Chance::Ready, Chance::Blocked);
-    let order = [0, 1, 2];
-    // Of equal points the greatest index stands: the first thread gets 3, and the second one 2.
-    let equal: [(&[Chance], Pick); 4] = [
-        (&[ready, blocked, blocked], Pick::Thread(0)),
-        (&[blocked, ready, blocked], Pick::Thread(1)),
-        (&[ready, ready, blocked], Pick::Thread(0)),
-        (&[ready, ready, ready], Pick::Thread(2)),
-    ];
-    expect_picks(&rt, Pct::new(rt.alloc(), &order, &[1, 2, 1])?, &equal);
-    // A point past the run changes nothing.
-    let late: [(&[Chance], Pick); 3] = [
-        (&[ready, ready, ready], Pick::Thread(0)),
-        (&[ready, ready, ready], Pick::Thread(0)),
-        (&[ready, ready, ready], Pick::Thread(0)),
-    ];
-    expect_picks(&rt, Pct::new(rt.alloc(), &order, &[9])?, &late);
+    expect_picks(
+        &rt,
+        Pct::new(rt.alloc(), &ORDER, &[1, 2, 1])?,
+        &EQUAL_POINTS,
+    );
+    expect_picks(&rt, Pct::new(rt.alloc(), &ORDER, &[9])?, &LATE_POINT);
     Ok(())
 }
+
+const SECOND_OF_A: [Moment; 1] = [Moment {
+    thread: 0,
+    number: 2,
+}];
+
+/// The first thread's second own step is the third step.
+const SECOND_STEP: [Case; 4] = [
+    (&[READY, READY, READY], Pick::Thread(0)),
+    (&[BLOCKED, READY, READY], Pick::Thread(1)),
+    (&[READY, READY, READY], Pick::Thread(0)),
+    (&[READY, READY, READY], Pick::Thread(1)),
+];
+
+const FIRST_OF_A: Moment = Moment {
+    thread: 0,
+    number: 1,
+};
+
+const FIRST_OF_B: Moment = Moment {
+    thread: 1,
+    number: 1,
+};
+
+/// Of equal moments the greatest index stands.
+const EQUAL_MOMENTS: [Case; 4] = [
+    (&[READY, BLOCKED, BLOCKED], Pick::Thread(0)),
+    (&[BLOCKED, READY, BLOCKED], Pick::Thread(1)),
+    (&[READY, READY, BLOCKED], Pick::Thread(0)),
+    (&[READY, READY, READY], Pick::Thread(2)),
+];
 
 #[test]
 fn moments_by_hand(rt: HostRuntime) -> Result<(), Fail> {
-    let (ready, blocked) = (Chance::Ready, Chance::Blocked);
-    let order = [0, 1, 2];
-    // The first thread's second own step is the third step.
-    let mut second_step = MomentList::new(rt.alloc());
-    second_step.try_push(Moment {
-        thread: 0,
-        number: 2,
-    })?;
-    let cases: [(&[Chance], Pick); 4] = [
-        (&[ready, ready, ready], Pick::Thread(0)),
-        (&[blocked, ready, ready], Pick::Thread(1)),
-        (&[ready, ready, ready], Pick::Thread(0)),
-        (&[ready, ready, ready], Pick::Thread(1)),
-    ];
-    assert!(rt; second_step.as_slice().len() <= 7);
-    expect_picks(
-        &rt,
-        DirectedPolicy::new(rt.alloc(), &order, second_step.as_slice())?,
-        &cases,
-    );
-    // Of equal moments the greatest index stands.
-    let equal = [(0, 1), (1, 1), (0, 1)].map(|(thread, number)| Moment { thread, number });
-    let cases: [(&[Chance], Pick); 4] = [
-        (&[ready, blocked, blocked], Pick::Thread(0)),
-        (&[blocked, ready, blocked], Pick::Thread(1)),
-        (&[ready, ready, blocked], Pick::Thread(0)),
-        (&[ready, ready, ready], Pick::Thread(2)),
-    ];
-    expect_picks(
-        &rt,
-        DirectedPolicy::new(rt.alloc(), &order, &equal)?,
-        &cases,
-    );
+    let second = DirectedPolicy::new(rt.alloc(), &ORDER, &SECOND_OF_A)?;
+    expect_picks(&rt, second, &SECOND_STEP);
+    let moments = [FIRST_OF_A, FIRST_OF_B, FIRST_OF_A];
+    let equal = DirectedPolicy::new(rt.alloc(), &ORDER, &moments)?;
+    expect_picks(&rt, equal, &EQUAL_MOMENTS);
     Ok(())
 }
 
+const LISTED: [Case; 13] = [
+    (&[READY, READY, READY], Pick::Thread(0)),
+    (&[READY, AWAY, READY], Pick::Waits(1)),
+    (&[READY, UNKNOWN_2, AWAY], Pick::Waits(2)),
+    (&[READY, BLOCKED, READY], Pick::Departs(1)),
+    (&[READY, ENDED, READY], Pick::Departs(1)),
+    (&[AWAY, READY, AWAY], Pick::Thread(1)),
+    (&[AWAY, AWAY, READY], Pick::Thread(2)),
+    // The list is over.
+    (&[READY, READY, READY], Pick::Departs(0)),
+    (&[BLOCKED, AWAY, READY], Pick::Waits(1)),
+    (&[ENDED, UNKNOWN_2, AWAY], Pick::Waits(2)),
+    (&[ENDED, BLOCKED, READY], Pick::Departs(2)),
+    (&[ENDED, ENDED, ENDED], Pick::Nobody),
+    (&[BLOCKED, ENDED, BLOCKED], Pick::Nobody),
+];
+
 #[test]
 fn list_by_hand(rt: HostRuntime) -> Result<(), Fail> {
-    let (away, ready, blocked, ended) = (
-        Chance::Away,
-        Chance::Ready,
-        Chance::Blocked,
-        Chance::Ended,
-    );
-    let unknown = |target: u32| Chance::Unknown { target };
-    let cases: [(&[Chance], Pick); 13] = [
-        (&[ready, ready, ready], Pick::Thread(0)),
-        (&[ready, away, ready], Pick::Waits(1)),
-        (&[ready, unknown(2), away], Pick::Waits(2)),
-        (&[ready, blocked, ready], Pick::Departs(1)),
-        (&[ready, ended, ready], Pick::Departs(1)),
-        (&[away, ready, away], Pick::Thread(1)),
-        (&[away, away, ready], Pick::Thread(2)),
-        // The list is over.
-        (&[ready, ready, ready], Pick::Departs(0)),
-        (&[blocked, away, ready], Pick::Waits(1)),
-        (&[ended, unknown(2), away], Pick::Waits(2)),
-        (&[ended, blocked, ready], Pick::Departs(2)),
-        (&[ended, ended, ended], Pick::Nobody),
-        (&[blocked, ended, blocked], Pick::Nobody),
-    ];
-    expect_picks(&rt, Listed::new(rt.alloc(), &[0, 1, 2])?, &cases);
+    expect_picks(&rt, Listed::new(rt.alloc(), &ORDER)?, &LISTED);
     Ok(())
 }
 

@@ -68,10 +68,6 @@ fn take<P: Policy>(rt: &impl Abort, book: &mut TurnBook<P>, thread: u32) -> Take
     book.take(thread)
 }
 
-fn not_yet(at: u32, because: Because) -> Taken {
-    Taken::NotYet { at, because }
-}
-
 /// The order names every thread once.
 fn book_of(alloc: Global, order: &[u32], points: &[u32], limit: u32) -> Result<TurnBook<Pct>, Fail>
     requires some { 1 ≤ length order.now }
@@ -93,41 +89,89 @@ const JOIN_A: Ask = Ask::Join { thread: 0 };
 
 const JOIN_B: Ask = Ask::Join { thread: 1 };
 
+/// What is done with a book, and what it answers.
+#[derive(Clone, Copy)]
+enum Move {
+    /// A thread asks, on a line of its test.
+    Asks(u32, u32, Ask),
+    /// A thread asks for its turn.
+    Takes(u32, Taken),
+    /// Whose turn it is, where that is known.
+    Granted(Option<u32>),
+}
+
+macro_rules! not_yet {
+    ($at:literal, $because:expr) => {
+        Taken::NotYet {
+            at: $at,
+            because: $because,
+        }
+    };
+}
+
+fn expect_move(rt: &impl Abort, book: &mut TurnBook<Pct>, made: &Move) {
+    match *made {
+        Move::Asks(thread, line, asked) => ask(rt, book, thread, line, asked),
+        Move::Takes(thread, want) => assert_eq!(rt; take(rt, book, thread), want, "{thread}"),
+        Move::Granted(want) => assert_eq!(rt; book.granted(), want),
+    }
+}
+
+/// What a book of three threads answers.
+fn expect_moves(
+    rt: &impl Abort,
+    alloc: Global,
+    order: &[u32; 3],
+    moves: &[Move],
+) -> Result<(), Fail> {
+    let mut book = book_of(alloc, order, &[], 10_000)?;
+    for made in moves {
+        expect_move(rt, &mut book, made);
+    }
+    Ok(())
+}
+
+const ANSWERS: [Move; 7] = [
+    Move::Asks(2, 12, JOIN_A),
+    Move::Takes(2, not_yet!(0, Because::Away(0))),
+    Move::Asks(0, 4, READ),
+    Move::Takes(0, Taken::Answer(0)),
+    Move::Takes(2, not_yet!(1, Because::Away(0))),
+    Move::Asks(0, 5, WRITE),
+    Move::Takes(2, not_yet!(1, Because::Turn(0))),
+];
+
+/// Whether a join may be done depends on what its thread posts.
+const ANSWERS_BY_A_JOIN: [Move; 3] = [
+    Move::Asks(2, 12, JOIN_A),
+    Move::Asks(1, 8, READ),
+    Move::Takes(1, not_yet!(0, Because::Away(0))),
+];
+
 /// A thread is told whose turn it is, or who has to post first.
 #[test]
 fn answers_of_a_book(rt: HostRuntime) -> Result<(), Fail> {
-    let mut book = book_of(rt.alloc(), &[0, 1, 2], &[], 10_000)?;
-    ask(&rt, &mut book, 2, 12, JOIN_A);
-    assert_eq!(rt; take(&rt, &mut book, 2), not_yet(0, Because::Away(0)));
-    ask(&rt, &mut book, 0, 4, READ);
-    assert_eq!(rt; take(&rt, &mut book, 0), Taken::Answer(0));
-    assert_eq!(rt; take(&rt, &mut book, 2), not_yet(1, Because::Away(0)));
-    ask(&rt, &mut book, 0, 5, WRITE);
-    assert_eq!(rt; take(&rt, &mut book, 2), not_yet(1, Because::Turn(0)));
-
-    // Whether a join may be done depends on what its thread posts.
-    let mut book = book_of(rt.alloc(), &[2, 1, 0], &[], 10_000)?;
-    ask(&rt, &mut book, 2, 12, JOIN_A);
-    ask(&rt, &mut book, 1, 8, READ);
-    assert_eq!(rt; take(&rt, &mut book, 1), not_yet(0, Because::Away(0)));
-    Ok(())
+    expect_moves(&rt, rt.alloc(), &[0, 1, 2], &ANSWERS)?;
+    expect_moves(&rt, rt.alloc(), &[2, 1, 0], &ANSWERS_BY_A_JOIN)
 }
+
+const GRANTS: [Move; 10] = [
+    Move::Asks(2, 12, JOIN_A),
+    Move::Asks(0, 4, READ),
+    Move::Asks(1, 8, READ),
+    Move::Takes(2, not_yet!(0, Because::Turn(0))),
+    Move::Takes(0, Taken::Answer(0)),
+    Move::Granted(None),
+    Move::Takes(2, not_yet!(1, Because::Away(0))),
+    Move::Asks(0, 5, WRITE),
+    Move::Granted(Some(0)),
+    Move::Takes(2, not_yet!(1, Because::Turn(0))),
+];
 
 /// Whose turn it is, where that is known.
 #[test]
 fn grants_of_a_book(rt: HostRuntime) -> Result<(), Fail> {
-    let mut book = book_of(rt.alloc(), &[0, 1, 2], &[], 10_000)?;
-    ask(&rt, &mut book, 2, 12, JOIN_A);
-    ask(&rt, &mut book, 0, 4, READ);
-    ask(&rt, &mut book, 1, 8, READ);
-    assert_eq!(rt; take(&rt, &mut book, 2), not_yet(0, Because::Turn(0)));
-    assert_eq!(rt; take(&rt, &mut book, 0), Taken::Answer(0));
-    assert_eq!(rt; book.granted(), None);
-    assert_eq!(rt; take(&rt, &mut book, 2), not_yet(1, Because::Away(0)));
-    ask(&rt, &mut book, 0, 5, WRITE);
-    assert_eq!(rt; book.granted(), Some(0));
-    assert_eq!(rt; take(&rt, &mut book, 2), not_yet(1, Because::Turn(0)));
-    Ok(())
+    expect_moves(&rt, rt.alloc(), &[0, 1, 2], &GRANTS)
 }
 
 /// How many steps the thread took.

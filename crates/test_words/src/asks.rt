@@ -136,25 +136,39 @@ fn lines(rt: HostRuntime) -> Result<(), Fail> {
     Ok(())
 }
 
+/// The threads 2 and 63 are blocked, each at a line.
+fn blocked_at(first: u32, second: u32) -> Blocked {
+    let mut blocked = Blocked::new();
+    blocked.push(2, first);
+    blocked.push(63, second);
+    blocked
+}
+
+/// Threads, and the line at which each of them is blocked, if it is.
+const BLOCKED: [(u32, Option<u32>); 5] = [
+    (2, Some(7)),
+    (63, Some(4096)),
+    (3, None),
+    (64, None),
+    (u32::MAX, None),
+];
+
 #[test]
 fn blocked(rt: HostRuntime) {
-    let mut one = Blocked::new();
-    one.push(2, 7);
-    one.push(63, 4096);
-    let mut other = Blocked::new();
-    other.push(2, 8);
-    assert!(rt; one != other);
-    other = Blocked::new();
-    other.push(2, 7);
-    other.push(63, 4096);
-    assert_eq!(rt; one, other);
-    assert_eq!(rt; (one.get(2), one.get(63)), (Some(7), Some(4096)));
-    assert_eq!(rt;
-        (one.get(3), one.get(64), one.get(u32::MAX)),
-        (None, None, None)
-    );
+    let one = blocked_at(7, 4096);
+    for (thread, line) in &BLOCKED {
+        assert_eq!(rt; one.get(*thread), *line, "{thread}");
+    }
+}
+
+#[test]
+fn blocked_are_compared(rt: HostRuntime) {
+    let one = blocked_at(7, 4096);
+    let other = blocked_at(8, 4096);
+    let again = blocked_at(7, 4096);
+    assert!(rt; one != other && one == again);
     let stuck = Verdict::Stuck { blocked: one };
-    assert!(rt; stuck.is(&Verdict::Stuck { blocked: other }));
+    assert!(rt; stuck.is(&Verdict::Stuck { blocked: again }));
     assert!(rt; !Outcome::Verdict(stuck).is(&Outcome::Departed { thread: 2 }));
 }
 
@@ -328,29 +342,37 @@ fn all_blocked(rt: HostRuntime) -> Result<(), Fail> {
     Ok(())
 }
 
+const NUMBERS_OF_A_LIST: [i64; 3] = [i64::MIN, 0, 7];
+
 #[test]
-fn lists_and_deals(rt: HostRuntime) -> Result<(), Fail> {
+fn lists(rt: HostRuntime) -> Result<(), Fail> {
     let mut vars = NumberList::new(rt.alloc());
-    for value in [i64::MIN, 0, 7] {
-        vars.try_push(value)?;
+    for value in &NUMBERS_OF_A_LIST {
+        vars.try_push(*value)?;
     }
     assert_eq!(rt; (vars.len(), vars.get(2), vars.get(3)), (3, Some(7), None));
-    assert_eq!(rt;
-        vars.copy(rt.alloc())?.as_slice(),
-        [i64::MIN, 0, 7].as_slice()
-    );
-    let deal = Deal {
+    let copy = vars.copy(rt.alloc())?;
+    assert_eq!(rt; copy.as_slice(), NUMBERS_OF_A_LIST.as_slice());
+    Ok(())
+}
+
+fn small_deal(alloc: Global) -> Result<Deal, Fail> {
+    Ok(Deal {
         threads: 2,
-        vars: Sequence::from_vec(Vec::from_slice(rt.alloc(), &[5])?),
+        vars: Sequence::from_vec(Vec::from_slice(alloc, &[5])?),
         mutexes: 1,
         conds: 0,
-        sems: Sequence::from_vec(Vec::from_slice(rt.alloc(), &[2147483647])?),
-        barriers: Sequence::from_vec(Vec::from_slice(rt.alloc(), &[2])?),
+        sems: Sequence::from_vec(Vec::from_slice(alloc, &[2147483647])?),
+        barriers: Sequence::from_vec(Vec::from_slice(alloc, &[2])?),
         rwlocks: 64,
-    };
-    let copy = deal.copy(rt.alloc())?;
+    })
+}
+
+#[test]
+fn deals(rt: HostRuntime) -> Result<(), Fail> {
+    let copy = small_deal(rt.alloc())?.copy(rt.alloc())?;
     assert_eq!(rt; (copy.threads, copy.rwlocks), (2, 64));
-    assert_eq!(rt; copy.vars.as_slice(), deal.vars.as_slice());
+    assert_eq!(rt; copy.vars.as_slice(), [5].as_slice());
     assert_eq!(rt; copy.barriers.as_slice(), [2].as_slice());
     Ok(())
 }

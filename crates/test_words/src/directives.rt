@@ -5,6 +5,7 @@ use directive::{
 use pct_ask::{NameKind, Names, Verdict};
 use policy_pick::{Moment, MomentList};
 use std::alloc::Global;
+use std::process::Abort;
 use std::test::Fail;
 
 /// The threads A, B and C and a variable.
@@ -142,16 +143,21 @@ fn faults(rt: HostRuntime) -> Result<(), Fail> {
     Ok(())
 }
 
+/// The fault of so many bytes that are no directive.
+fn expect_large(
+    rt: &impl Abort,
+    alloc: Global,
+    size: usize,
+    kind: DirectiveFault,
+) -> Result<(), Fail> {
+    let names = names_of(rt, alloc, &NAMES)?;
+    let text = vec![in alloc; b'x'; size]?;
+    assert!(rt; fault_of(alloc, text.as_slice(), &names) == Some((1, kind)));
+    Ok(())
+}
+
 #[test]
 fn sizes(rt: HostRuntime) -> Result<(), Fail> {
-    let names = names_of(&rt, rt.alloc(), &NAMES)?;
-    let text = vec![in rt.alloc(); b'x'; 65537]?;
-    assert!(rt;
-        fault_of(rt.alloc(), text.as_slice(), &names) == Some((1, DirectiveFault::TooLong))
-    );
-    let text = vec![in rt.alloc(); b'x'; 65536]?;
-    assert!(rt;
-        fault_of(rt.alloc(), text.as_slice(), &names) == Some((1, DirectiveFault::BadHeader))
-    );
-    Ok(())
+    expect_large(&rt, rt.alloc(), 65537, DirectiveFault::TooLong)?;
+    expect_large(&rt, rt.alloc(), 65536, DirectiveFault::BadHeader)
 }

@@ -10,14 +10,14 @@ second_last = same-order 3 (0 ∷ 2 ∷ 1 ∷ []) refl (λ x. omega arith)
 as_declared : IsOrder (0 ∷ 1 ∷ 2 ∷ [])
 as_declared = same-order 3 (0 ∷ 1 ∷ 2 ∷ []) refl (λ x. refl)
 
-pub exposed-requires-clause-order : goal.exposed-requires-clause-order
-exposed-requires-clause-order g c = λ κs. second_last
+pub expect_points-requires-clause-order : goal.expect_points-requires-clause-order
+expect_points-requires-clause-order g c = λ κs. second_last
 
-pub exposed-requires-2-clause-order : goal.exposed-requires-2-clause-order
-exposed-requires-2-clause-order g c = λ κs. second_last
+pub expect_too_long-requires-clause-order : goal.expect_too_long-requires-clause-order
+expect_too_long-requires-clause-order g c = λ κs. second_last
 
-pub exposed-requires-3-clause-order : goal.exposed-requires-3-clause-order
-exposed-requires-3-clause-order g c = λ κs. as_declared
+pub expect_points-requires-2-clause-order : goal.expect_points-requires-2-clause-order
+expect_points-requires-2-clause-order g c = λ κs. as_declared
 
-pub exposed-requires-4-clause-order : goal.exposed-requires-4-clause-order
-exposed-requires-4-clause-order g c = λ κs. as_declared
+pub expect_points-requires-3-clause-order : goal.expect_points-requires-3-clause-order
+expect_points-requires-3-clause-order g c = λ κs. as_declared

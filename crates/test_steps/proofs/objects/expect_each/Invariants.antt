@@ -1,6 +1,6 @@
 use Rattle.std.proofs.Common.{◌≡◌}
 use Rattle.sync_store.specs.Store.{sizes_of, sizes_of_deal}
-use Rattle.test_steps.proofs.objects.expect.Given as goal
+use Rattle.test_steps.proofs.objects.expect_each.Given as goal
 
 abbrev pub invariant-loop-thread : goal.invariant-loop-thread
 invariant-loop-thread g l = sizes_of l.store ≡ sizes_of_deal l.deal
