@@ -28,18 +28,6 @@ pub greatest-passes : (test : ℕ → Bool) (n : ℕ) → 0 < greatest_where tes
 greatest-passes test zero some = absurd (omega arith)
 greatest-passes test (suc n) some = greatest-passes-by test n (test (suc n)) refl (λ p. greatest-passes test n p) some
 
--- a number that passes, with none greater up to n, is the greatest
-pub greatest-is : (test : ℕ → Bool) (n k : ℕ) → 0 < k → k ≤ n → test k ≡ true → ((j : ℕ) → k < j → j ≤ n → test j ≡ false) → greatest_where test n ≡ k
-greatest-is test zero k some low passes above = absurd (omega arith)
-greatest-is test (suc n) k some low passes above = elim (cases_eq k (suc n)) [
-  | inl e ↦ ap (λ b. cond b (suc n) (greatest_where test n)) (sym (ap test e) ∙ passes) ∙ sym e
-  | inr ne ↦ ap (λ b. cond b (suc n) (greatest_where test n)) (above (suc n) (omega arith) (omega arith)) ∙ greatest-is test n k some (omega arith) passes (λ j p q. above j p (omega arith))
-]
-
-pub greatest-none : (test : ℕ → Bool) (n : ℕ) → ((j : ℕ) → 0 < j → j ≤ n → test j ≡ false) → greatest_where test n ≡ 0
-greatest-none test zero none = refl
-greatest-none test (suc n) none = ap (λ b. cond b (suc n) (greatest_where test n)) (none (suc n) (omega arith) (omega arith)) ∙ greatest-none test n (λ j p q. none j p (omega arith))
-
 slice_get-append : {X : Type 0} (xs ys : List X) (k : ℕ) → k < length xs → slice_get (xs ++ ys) k ≡ slice_get xs k
 slice_get-append [] ys k within = absurd (omega arith)
 slice_get-append (x ∷ xs) ys zero within = refl

@@ -1,5 +1,5 @@
 use Rattle.std.proofs.Common.{◌≡◌, ◌+◌, ◌<◌, length, eqb, sym, ap, subst, ◌∙◌, arith}
-use Rattle.std.proofs.lemmas.List.{length_push, get_or_read}
+use Rattle.std.proofs.lemmas.List.{get_or_read}
 use Rattle.std.proofs.lemmas.List.Sums.{count_by-le-length}
 use Rattle.rank_now.proofs.laws.GivenOnce.{ranks_by_events-same, ranks_by_events-free}
 use Rattle.policy_pick.specs.Kept.{EventsKept, EventsStand}
