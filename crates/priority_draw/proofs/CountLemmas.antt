@@ -39,9 +39,6 @@ count-some p xs k within passes =
     let here : one_if (p (get_or xs k 0)) ≡ 1 = ap (λ b. one_if b) passes in
     omega (arith, here, get_or-le-sum_by (λ y. one_if (p y)) xs k 0 within)
 
-one-if-same : (x : ℕ) → one_if (eqb x x) ≡ 1
-one-if-same x = ap (λ b. one_if b) (eq-eqb x x refl)
-
 one-if-other : (x y : ℕ) → x ≢ y → one_if (eqb x y) ≡ 0
 one-if-other x y ne = ap (λ b. one_if b) (ne_eqb x y ne)
 

@@ -4,7 +4,7 @@ use Rattle.std.specs.List.{All, remove}
 use Rattle.std.proofs.lemmas.List.{drop_more, drop_all, drop_at, take_at, take_rest}
 use borrow.Rule.Slice.PartMut.{put_mid}
 use Rattle.std.proofs.lemmas.List.Edits.{length-remove}
-use Rattle.std.proofs.lemmas.List.FromFn.{length-range_with_len, length-map-range_with_len, get_or-map-range_with_len, fill_by_all}
+use Rattle.std.proofs.lemmas.List.FromFn.{length-map-range_with_len, get_or-map-range_with_len, fill_by_all}
 use Rattle.priority_draw.specs.Words.{SeedWords, first_words, place_after, words_later}
 use Rattle.priority_draw.specs.Orders.{declared_order, taken_from, order_of}
 use Rattle.priority_draw.specs.Drawing.{draw, drawn_places, drawn_order, drawn_points}
@@ -63,17 +63,6 @@ pub record IsDrawnSoFar (seed place threads drawn : ℕ) (order : List ℕ) : Ty
   pub long : length done ≡ drawn
   pub whole : length order ≡ threads
   pub rest : taken_from (declared_order threads) (drawn_places seed place threads) ≡ done ++ taken_from remaining (drop drawn (drawn_places seed place threads))
-
--- before the first draw
-pub drawn-first : (seed place threads : ℕ) (order : List ℕ) → order ≡ declared_order threads → IsDrawnSoFar seed place threads 0 order
-drawn-first seed place threads order is = record {
-  done = [];
-  remaining = order;
-  is = refl;
-  long = refl;
-  whole = ap length is ∙ length-range_with_len 0 threads;
-  rest = ap (λ xs. taken_from xs (drawn_places seed place threads)) (sym is);
-}
 
 -- after the last one
 pub drawn-last : (seed place threads drawn : ℕ) (order : List ℕ) → threads ≤ drawn → IsDrawnSoFar seed place threads drawn order → order ≡ drawn_order seed place threads

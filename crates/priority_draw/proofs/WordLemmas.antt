@@ -16,8 +16,8 @@ pub word-lt : (seed place : ℕ) → word seed place < 2 ^ 32
 unfolding word
 word-lt seed place = block_word-lt 4 (key_of (key_bytes seed)) (place % 2 ^ 68 / 16) 0 (place % 2 ^ 68 % 16)
 
-pub number-lt : (seed place : ℕ) → number_at seed place < 2 ^ 64
-number-lt seed place = omega (arith, word-lt seed place, word-lt seed (place + 1))
+pub number_at-lt : (seed place : ℕ) → number_at seed place < 2 ^ 64
+number_at-lt seed place = omega (arith, word-lt seed place, word-lt seed (place + 1))
 
 -- a place within the stream is the place itself
 pub word-within : (seed place : ℕ) → place < 2 ^ 68 → word_at 4 (key_of (key_bytes seed)) 0 place ≡ word seed place
@@ -45,8 +45,8 @@ word-after seed place (suc count) more =
     let moved : word seed (place + count + (1 + more)) ≡ word seed (place + suc count + more) = ap (λ p. word seed p) (omega arith) in
     again ∙ shifted ∙ word-after seed place count (1 + more) ∙ moved
 
-number-after : (seed place count more : ℕ) → number_at seed (place_after place count + more) ≡ number_at seed (place + count + more)
-number-after seed place count more =
+number_at-after : (seed place count more : ℕ) → number_at seed (place_after place count + more) ≡ number_at seed (place + count + more)
+number_at-after seed place count more =
     let low = word-after seed place count more in
     let high = word-after seed place count (more + 1) in
     let left : word seed (place_after place count + (more + 1)) ≡ word seed (place_after place count + more + 1) = ap (λ p. word seed p) (omega arith) in
@@ -54,7 +54,7 @@ number-after seed place count more =
     omega arith
 
 pub draw-after : (seed place count more bound : ℕ) → draw seed (place_after place count + more) bound ≡ draw seed (place + count + more) bound
-draw-after seed place count more bound = ap (λ n. scale n bound) (number-after seed place count more)
+draw-after seed place count more bound = ap (λ n. scale n bound) (number_at-after seed place count more)
 
 -- the draw that comes next after some words
 pub draw-next : (seed place count bound : ℕ) → draw seed (place_after place count) bound ≡ draw seed (place + count) bound
@@ -80,7 +80,7 @@ pub scale-lt : (word bound : ℕ) → word < 2 ^ 64 → 1 ≤ bound → scale wo
 scale-lt word bound small some = grind arith
 
 pub draw-lt : (seed place bound : ℕ) → 1 ≤ bound → draw seed place bound < bound
-draw-lt seed place bound some = scale-lt (number_at seed place) bound (number-lt seed place) some
+draw-lt seed place bound some = scale-lt (number_at seed place) bound (number_at-lt seed place) some
 
 pub seed_of_key-key : (seed : ℕ) → seed < 2 ^ 64 → seed_of_key (key_of (key_bytes seed)) ≡ seed
 unfolding u32_at
