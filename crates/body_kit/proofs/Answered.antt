@@ -242,12 +242,6 @@ pub then-tells : (v u w : View) (t : ℕ) → Serves u t → (ask : Ask) (line :
 then-tells v u w t mine ask line h (tells.Answer answer) last = (then-answer v u w t mine ask line h answer last, on-along v u w t mine ask line h (goes-on u w t mine None (Answer answer) last.took))
 then-tells v u w t mine ask line h (tells.Over outcome) last = (then-over v u w t mine ask line h outcome last, on-along v u w t mine ask line h (goes-on u w t mine None (Over outcome) last.took))
 
--- no thread of a seat that waits for an ask has ended
-pub waits-on : (v w : View) (t : ℕ) → Serves v t → (ask : Ask) (line : ℕ) → next_post v.seen t ≡ Some (ask_post ask line) → TookTurn v t None Ended w → ⊥
-waits-on v w t mine ask line next took =
-    let same : next_post (took.turn).asked t ≡ next_post v.seen t = ap (λ (b : BookState). next_post b t) (took.turn).posted ∙ next-same t v.seen took.book (took.own t mine) in
-    not-ended (took.turn).asked t ask line (same ∙ next) (took.turn).row.1
-
 -- the thread owes its next post once it is answered
 pub answered-owes : (v w : View) (t : ℕ) (ask : Ask) (line : ℕ) (answer : ℤ) → owes_of v.seen t ≡ true → IsAnsweredAsk v t ask line answer w → owes_of w.seen t ≡ true
 answered-owes v w t ask line answer owes is =

@@ -1,4 +1,4 @@
-ghost use Rattle.std.specs.Prelude.{◌≡◌, ◌<◌, ℕ, true, false, Some, None};
+ghost use Rattle.std.specs.Prelude.{◌≡◌, ℕ, Some, None};
 ghost use Rattle.pct_ask.specs.declared.verdict.Outcome.{Outcome};
 ghost use Rattle.sync_store.specs.Store.{sizes_of_deal};
 ghost use Rattle.sync_store.specs.Enabled.{IsInRange};

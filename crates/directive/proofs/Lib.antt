@@ -1,9 +1,7 @@
-pub mod Cuts
 pub mod Bodies
 pub mod Rows
 pub mod Places
 pub mod Faultless
 pub mod Readings
-pub mod VerdictBytes
 pub mod Texts
 pub mod Laws

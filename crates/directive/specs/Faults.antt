@@ -5,7 +5,8 @@ use Rattle.pct_ask.specs.FirstFaults as texts
 use Rattle.pct_ask.specs.NameLists.{NameLists}
 use Rattle.directive.specs.Forms.{IsLow, IsAfterText, IsVerdictText, HasUnknownLow, HasUnknownAfter}
 use Rattle.directive.specs.Forms.{HasUnknownVerdict}
-use Rattle.directive.specs.Lines.{pieces_of, LineBytes, line_at, HasByte}
+use Rattle.pct_ask.specs.Pieces.{pieces_of}
+use Rattle.directive.specs.Lines.{LineBytes, line_at, HasByte}
 use Rattle.directive.specs.declared.fault.DirectiveFault.{DirectiveFault}
 use Rattle.directive.specs.declared.fault.DirectiveFault.TheVariants.{TooLong, BadHeader, BadLine}
 use Rattle.directive.specs.declared.fault.DirectiveFault.TheVariants.{UnknownName, NoVerdict}

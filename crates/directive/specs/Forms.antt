@@ -1,8 +1,9 @@
 -- The forms of a directive's lines, by their texts without their LFs (this project).
-use Rattle.std.specs.Prelude.{◌≡◌, ℕ, ◌≤◌, true, List, None}
+use Rattle.std.specs.Prelude.{◌≡◌, ℕ, ◌≤◌, true, List}
 use Rattle.pct_ask.specs.Words.{is_name}
-use Rattle.pct_ask.specs.NameLists.{NameLists, place_of}
-use Rattle.pct_ask.specs.VerdictText.{NamedVerdict, named_text, IsVerdictForm, HasUnknownThread}
+use Rattle.pct_ask.specs.NameLists.{NameLists}
+use Rattle.pct_ask.specs.VerdictText.{NamedVerdict, named_text, IsVerdictForm, IsNobody}
+use Rattle.pct_ask.specs.VerdictText.{HasUnknownThread}
 use Rattle.directive.specs.DirectiveText.{low_line, after_line, verdict_line}
 
 -- the number of a thread's own step
@@ -34,10 +35,6 @@ abbrev pub IsVerdictText : NameLists → List ℕ → Type 0
 IsVerdictText names text = (verdict : NamedVerdict) × IsVerdict names text verdict
 
 -- ---- a name of it is no thread's
-
--- no thread of the test has the name
-abbrev pub IsNobody : NameLists → List ℕ → Type 0
-IsNobody names name = place_of name names.threads ≡ None
 
 -- a `low` line by form, and no thread has its name
 abbrev pub HasUnknownLow : NameLists → List ℕ → Type 0

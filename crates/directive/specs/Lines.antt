@@ -1,12 +1,6 @@
 -- A text as lines (this project).
-use Rattle.std.specs.Prelude.{◌≡◌, ℕ, ◌-◌, ◌<◌, ◌⊎◌, Bool, true, false, ◌==◌, List, [], ◌∷◌, length}
+use Rattle.std.specs.Prelude.{◌≡◌, ℕ, ◌-◌, ◌<◌, ◌⊎◌, Bool, true, false, List, [], ◌∷◌, length}
 use Rattle.std.specs.Prelude.{drop}
-use Rattle.std.specs.List.{slice_split}
-
--- What stands between the LFs of a text: each piece but the last is a line with its LF, and the
--- last one is what stands after the last LF.
-abbrev pub pieces_of : List ℕ → List (List ℕ)
-pieces_of bytes = slice_split (λ b. b == 10) bytes
 
 -- a line's bytes without its LF, and whether it has one
 pub record LineBytes : Type 0 where

@@ -12,7 +12,7 @@ use Rattle.pct_ask.specs.declared.verdict_text.VerdictRead.TheVariants.{Is, NoFo
 use Rattle.pct_ask.specs.declared.verdict_text.VerdictRead.TheVariants.{UnknownName as Unknown}
 use Rattle.rank_now.specs.declared.moment.Moment.{Moment}
 use Rattle.directive.specs.DirectiveText.{DirectiveText}
-use Rattle.directive.specs.Lines.{pieces_of}
+use Rattle.pct_ask.specs.Pieces.{pieces_of}
 use Rattle.directive.specs.declared.row.Row.{Row}
 use Rattle.directive.specs.declared.row.Row.TheVariants.{After, End}
 use Rattle.directive.specs.declared.row.Sound.{Sound}

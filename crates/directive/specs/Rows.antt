@@ -5,7 +5,8 @@ use Rattle.pct_ask.specs.NameLists.{NameLists}
 use Rattle.pct_ask.specs.declared.verdict.Verdict.TheVariants.{Failed}
 use Rattle.directive.specs.DirectiveText.{directive_text, after_line}
 use Rattle.directive.specs.Forms.{IsLow}
-use Rattle.directive.specs.Lines.{pieces_of, line_at}
+use Rattle.pct_ask.specs.Pieces.{pieces_of}
+use Rattle.directive.specs.Lines.{line_at}
 
 -- three threads
 abbrev pub some_names : NameLists

@@ -4,7 +4,6 @@
 
 mod directive;
 mod fault;
-mod line;
 mod reading;
 mod row;
 mod writing;

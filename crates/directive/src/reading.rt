@@ -6,16 +6,15 @@ ghost use Rattle.directive.specs.Answers.{AnswersDirective, EachHasOneAnswer, pl
 ghost use Rattle.directive.specs.Directive.{IsDirective};
 ghost use Rattle.directive.specs.DirectiveText.{DirectiveText};
 ghost use Rattle.directive.specs.Faults.{IsDirectiveFault};
-ghost use Rattle.directive.specs.Lines.{pieces_of};
+ghost use Rattle.pct_ask.specs.Pieces.{pieces_of};
 ghost use Rattle.directive.specs.Reading as reading;
 ghost use Rattle.directive.specs.Seen.{Fails, Gives};
 ghost use Rattle.directive.specs.declared.fault.DirectiveFault.{DirectiveFault};
 
 use crate::directive::Directive;
 use crate::fault::{DirectiveError, DirectiveFault};
-use crate::line::cut_line;
-use crate::row::{Sound, judged, low_in, read_row, unended_fault};
-use pct_ask::{NameKind, Names, Verdict};
+use crate::row::{Sound, line_or_fault, low_in, read_row, unended_fault};
+use pct_ask::{NameKind, Names, Verdict, cut_line};
 use policy_pick::MomentList;
 use std::alloc::Global;
 
@@ -84,7 +83,7 @@ fn read_body(alloc: Global, names: &Names, text: &[u8]) -> Result<Body, Directiv
         let Some(after) = after else {
             return Err(bad(line, unended_fault(line, row, text)));
         };
-        match judged(line, row) {
+        match line_or_fault(line, row) {
             Err(kind) => return Err(bad(line, kind)),
             Ok(Sound::Event(moment)) => events.try_push(moment)?,
             Ok(Sound::Last(verdict)) => {

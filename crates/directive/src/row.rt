@@ -5,11 +5,12 @@ ghost use Rattle.std.specs.Option.{option_copied};
 ghost use Rattle.pct_ask.specs.Numbers as numbers;
 ghost use Rattle.pct_ask.specs.VerdictWords.{words_of, verdict_of_words};
 ghost use Rattle.directive.specs.Reading as reading;
-ghost use Rattle.directive.specs.Seen.{seen};
+ghost use Rattle.pct_ask.specs.Pieces.{seen};
 
 use crate::fault::DirectiveFault;
-use crate::line::first_words;
-use pct_ask::{NameKind, Names, Verdict, VerdictRead, is_lawful_name, number_in, read_verdict};
+use pct_ask::{
+    NameKind, Names, Verdict, VerdictRead, first_words, is_lawful_name, number_in, read_verdict,
+};
 use policy_pick::Moment;
 use std::alloc::{AllocError as NoMemory, Global};
 
@@ -127,7 +128,7 @@ pub fn unended_fault(line: u32, row: Option<Row>, text: &[u8]) -> DirectiveFault
 
 /// What a line with its LF says, or its fault. The lines 3 to 9 are the seven that a moment may
 /// have.
-pub fn judged(line: u32, row: Option<Row>) -> Result<Sound, DirectiveFault>
+pub fn line_or_fault(line: u32, row: Option<Row>) -> Result<Sound, DirectiveFault>
     ensures { result ≡ reading.line_or_fault line row }
 {
     match row {

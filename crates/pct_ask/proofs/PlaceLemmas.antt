@@ -21,75 +21,104 @@ use Rattle.pct_ask.specs.Places.{AreRising, line_of_thread, places_from, lines_f
 use Rattle.pct_ask.specs.Places.{known_lines, line_bits, line_numbers, AreKnown}
 use Rattle.pct_ask.specs.PlaceLaws.{length-known, bits-back, numbers-back, same_places-Decides}
 
-line_of-earlier : (thread first : ℕ) (lines : List (Option ℕ)) → thread < first → line_of_thread thread (places_from first lines) ≡ None
-line_of-earlier thread first [] h = refl
-line_of-earlier thread first (None ∷ lines) h = line_of-earlier thread (first + 1) lines (omega arith)
-line_of-earlier thread first (Some line ∷ lines) h =
+line_of_thread-earlier : (thread first : ℕ) (lines : List (Option ℕ)) → thread < first
+    → line_of_thread thread (places_from first lines) ≡ None
+line_of_thread-earlier thread first [] h = refl
+line_of_thread-earlier thread first (None ∷ lines) h =
+    line_of_thread-earlier thread (first + 1) lines (omega arith)
+line_of_thread-earlier thread first (Some line ∷ lines) h =
     let apart : (first == thread) ≡ false = grind (arith, eqb_tells) in
-    rw apart (line_of-earlier thread (first + 1) lines (omega arith))
+    rw apart (line_of_thread-earlier thread (first + 1) lines (omega arith))
 
 -- a thread's line stands at its place
-pub line_of-places : (thread first k : ℕ) (lines : List (Option ℕ)) → thread ≡ first + k → get_or lines k None ≡ line_of_thread thread (places_from first lines)
-line_of-places thread first k [] e = refl
-line_of-places thread first zero (None ∷ lines) e = sym (line_of-earlier thread (first + 1) lines (omega arith))
-line_of-places thread first (suc k) (None ∷ lines) e = line_of-places thread (first + 1) k lines (omega arith)
-line_of-places thread first zero (Some line ∷ lines) e =
+pub line_of_thread-places : (thread first k : ℕ) (lines : List (Option ℕ)) → thread ≡ first + k
+    → get_or lines k None ≡ line_of_thread thread (places_from first lines)
+line_of_thread-places thread first k [] e = refl
+line_of_thread-places thread first zero (None ∷ lines) e =
+    sym (line_of_thread-earlier thread (first + 1) lines (omega arith))
+line_of_thread-places thread first (suc k) (None ∷ lines) e =
+    line_of_thread-places thread (first + 1) k lines (omega arith)
+line_of_thread-places thread first zero (Some line ∷ lines) e =
     let same : (first == thread) ≡ true = grind (arith, eqb_tells) in rw same
-line_of-places thread first (suc k) (Some line ∷ lines) e =
+line_of_thread-places thread first (suc k) (Some line ∷ lines) e =
     let apart : (first == thread) ≡ false = grind (arith, eqb_tells) in
-    rw apart (line_of-places thread (first + 1) k lines (omega arith))
+    rw apart (line_of_thread-places thread (first + 1) k lines (omega arith))
 
 -- one more number before rising ones
-pub increasing-cons : (x : ℕ) (xs : List ℕ) → (0 < length xs → x < get_or xs 0 0) → IsStrictlyIncreasing xs → IsStrictlyIncreasing (x ∷ xs)
+pub increasing-cons : (x : ℕ) (xs : List ℕ) → (0 < length xs → x < get_or xs 0 0)
+    → IsStrictlyIncreasing xs → IsStrictlyIncreasing (x ∷ xs)
 increasing-cons x xs first rising zero h = first (omega arith)
 increasing-cons x xs first rising (suc k) h =
     let later = rw add-one at (rising k (omega arith)) in rw add-one later
 
-above-first : (thread first : ℕ) (lines : List (Option ℕ)) → thread < first → 0 < length (map (λ (place : ℕ × ℕ). place.0) (places_from first lines)) → thread < get_or (map (λ (place : ℕ × ℕ). place.0) (places_from first lines)) 0 0
+above-first : (thread first : ℕ) (lines : List (Option ℕ)) → thread < first
+    → 0 < length (map (λ (place : ℕ × ℕ). place.0) (places_from first lines))
+    → thread < get_or (map (λ (place : ℕ × ℕ). place.0) (places_from first lines)) 0 0
 above-first thread first [] h some = absurd (omega arith)
-above-first thread first (None ∷ lines) h some = above-first thread (first + 1) lines (omega arith) some
+above-first thread first (None ∷ lines) h some =
+    above-first thread (first + 1) lines (omega arith) some
 above-first thread first (Some line ∷ lines) h some = h
 
-places-rising : (first : ℕ) (lines : List (Option ℕ)) → IsStrictlyIncreasing (map (λ (place : ℕ × ℕ). place.0) (places_from first lines))
+places-rising : (first : ℕ) (lines : List (Option ℕ))
+    → IsStrictlyIncreasing (map (λ (place : ℕ × ℕ). place.0) (places_from first lines))
 places-rising first [] = λ k h. absurd (omega arith)
 places-rising first (None ∷ lines) = places-rising (first + 1) lines
 places-rising first (Some line ∷ lines) =
-    increasing-cons first (map (λ (place : ℕ × ℕ). place.0) (places_from (first + 1) lines)) (above-first first (first + 1) lines (omega arith)) (places-rising (first + 1) lines)
+    increasing-cons first (map (λ (place : ℕ × ℕ). place.0) (places_from (first + 1) lines))
+    (above-first first (first + 1) lines (omega arith)) (places-rising (first + 1) lines)
 
-places-below : (first last : ℕ) (lines : List (Option ℕ)) → first + length lines ≤ last → All (λ (place : ℕ × ℕ). place.0 < last) (places_from first lines)
+places-below : (first last : ℕ) (lines : List (Option ℕ)) → first + length lines ≤ last
+    → All (λ (place : ℕ × ℕ). place.0 < last) (places_from first lines)
 places-below first last [] h = All-nil (λ (place : ℕ × ℕ). place.0 < last)
 places-below first last (None ∷ lines) h = places-below (first + 1) last lines (omega arith)
 places-below first last (Some line ∷ lines) h =
-    All-cons (λ (place : ℕ × ℕ). place.0 < last) (first, line) (places_from (first + 1) lines) (omega arith) (places-below (first + 1) last lines (omega arith))
+    All-cons (λ (place : ℕ × ℕ). place.0 < last) (first, line) (places_from (first + 1) lines)
+    (omega arith) (places-below (first + 1) last lines (omega arith))
 
-pub AreRising-places : (lines : List (Option ℕ)) (places : List (ℕ × ℕ)) → length lines ≡ 64 → places_from 0 lines ≡ places → AreRising places
+pub AreRising-places : (lines : List (Option ℕ)) (places : List (ℕ × ℕ)) → length lines ≡ 64
+    → places_from 0 lines ≡ places → AreRising places
 AreRising-places lines places long view =
-    rw (← view) (record { rising = places-rising 0 lines; few = places-below 0 64 lines (omega arith) })
+    rw (← view) (record {
+      rising = places-rising 0 lines;
+      few = places-below 0 64 lines (omega arith);
+    })
 
 -- where all places are below the first that there can be, there are none
-none-below : (thread first : ℕ) (lines : List (Option ℕ)) → thread ≤ first → All (λ (place : ℕ × ℕ). place.0 < thread) (places_from first lines) → places_from first lines ≡ []
+none-below : (thread first : ℕ) (lines : List (Option ℕ)) → thread ≤ first
+    → All (λ (place : ℕ × ℕ). place.0 < thread) (places_from first lines)
+    → places_from first lines ≡ []
 none-below thread first [] h below = refl
-none-below thread first (None ∷ lines) h below = none-below thread (first + 1) lines (omega arith) below
+none-below thread first (None ∷ lines) h below =
+    none-below thread (first + 1) lines (omega arith) below
 none-below thread first (Some line ∷ lines) h below =
-    let low = All-head (λ (place : ℕ × ℕ). place.0 < thread) (first, line) (places_from (first + 1) lines) below in
+    let low = All-head (λ (place : ℕ × ℕ). place.0 < thread) (first, line)
+    (places_from (first + 1) lines) below in
     absurd (omega arith)
 
-places_from-set : (thread first k line : ℕ) (lines : List (Option ℕ)) → thread ≡ first + k → k < length lines → All (λ (place : ℕ × ℕ). place.0 < thread) (places_from first lines) → places_from first (set lines k (Some line)) ≡ places_from first lines ++ (thread, line) ∷ []
+places_from-set : (thread first k line : ℕ) (lines : List (Option ℕ)) → thread ≡ first + k
+    → k < length lines → All (λ (place : ℕ × ℕ). place.0 < thread) (places_from first lines)
+    → places_from first (set lines k (Some line)) ≡ places_from first lines ++ (thread, line) ∷ []
 places_from-set thread first k line [] e h below = absurd (omega arith)
 places_from-set thread first zero line (None ∷ lines) e h below =
     let same : first ≡ thread = omega arith in
     rw (none-below thread (first + 1) lines (omega arith) below, same)
 places_from-set thread first zero line (Some other ∷ lines) e h below =
-    let low = All-head (λ (place : ℕ × ℕ). place.0 < thread) (first, other) (places_from (first + 1) lines) below in
+    let low = All-head (λ (place : ℕ × ℕ). place.0 < thread) (first, other)
+    (places_from (first + 1) lines) below in
     absurd (omega arith)
 places_from-set thread first (suc k) line (None ∷ lines) e h below =
     places_from-set thread (first + 1) k line lines (omega arith) (omega arith) below
 places_from-set thread first (suc k) line (Some other ∷ lines) e h below =
-    let others = All-tail (λ (place : ℕ × ℕ). place.0 < thread) (first, other) (places_from (first + 1) lines) below in
-    ap (λ places. (first, other) ∷ places) (places_from-set thread (first + 1) k line lines (omega arith) (omega arith) others)
+    let others = All-tail (λ (place : ℕ × ℕ). place.0 < thread) (first, other)
+    (places_from (first + 1) lines) below in
+    ap (λ places. (first, other) ∷ places)
+    (places_from-set thread (first + 1) k line lines (omega arith) (omega arith) others)
 
 -- what `push` leaves
-pub places-push : (thread line : ℕ) (lines : List (Option ℕ)) (places : List (ℕ × ℕ)) → thread < 64 → length lines ≡ 64 → places_from 0 lines ≡ places → All (λ (place : ℕ × ℕ). place.0 < thread) places → places_from 0 (set lines thread (Some line)) ≡ places ++ (thread, line) ∷ []
+pub places-push : (thread line : ℕ) (lines : List (Option ℕ)) (places : List (ℕ × ℕ)) → thread < 64
+    → length lines ≡ 64 → places_from 0 lines ≡ places
+    → All (λ (place : ℕ × ℕ). place.0 < thread) places
+    → places_from 0 (set lines thread (Some line)) ≡ places ++ (thread, line) ∷ []
 places-push thread line lines places few long view below =
     let here : All (λ (place : ℕ × ℕ). place.0 < thread) (places_from 0 lines) = rw view below in
     rw (← view) (places_from-set thread 0 thread line lines (omega arith) (omega arith) here)
@@ -176,17 +205,17 @@ module _ (bits thread : ℕ) (numbers : List ℕ) (places : List (ℕ × ℕ))
       ≡ line_of_thread thread places
   by_bit =
       rw (← view) (sym (get_or-known bits thread numbers few)
-      ∙ line_of-places thread 0 thread (known_lines bits numbers) (omega arith))
+      ∙ line_of_thread-places thread 0 thread (known_lines bits numbers) (omega arith))
 
-  pub line_of-set : bit_and (bits / 2 ^ thread) 1 ≡ 1
+  pub line_of_thread-set : bit_and (bits / 2 ^ thread) 1 ≡ 1
       → Some (get_or numbers thread 0) ≡ line_of_thread thread places
-  line_of-set one =
+  line_of_thread-set one =
       let is : (bit_at bits thread == 1) ≡ true =
       (unsigned_Decides (bit_at bits thread) 1).1 (sym (shr_and_one bits thread) ∙ one) in
       rw is at by_bit
 
-  pub line_of-clear : bit_and (bits / 2 ^ thread) 1 ≢ 1 → None ≡ line_of_thread thread places
-  line_of-clear other =
+  pub line_of_thread-clear : bit_and (bits / 2 ^ thread) 1 ≢ 1 → None ≡ line_of_thread thread places
+  line_of_thread-clear other =
       elim (eqb_tells (bit_at bits thread) 1) [
         | inl h ↦ absurd (other (shr_and_one bits thread ∙ h.1))
         | inr h ↦ let not : (bit_at bits thread == 1) ≡ false = h.0 in rw not at by_bit

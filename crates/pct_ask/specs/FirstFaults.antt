@@ -1,7 +1,8 @@
 -- The first fault of a text, whatever faults its lines may have (this project).
 use Rattle.std.specs.Prelude.{ℕ, ◌<◌}
 
--- The line is faulty by the kind and by none before it in the kinds' order, and no line before it is
+-- The line is faulty by the kind and by none before it in the kinds' order, and no line before it
+-- is
 -- faulty.
 pub record IsFirstFault {Kind : Type 0} (rank : Kind → ℕ) (IsFaulty : ℕ → Kind → Type 0) (line : ℕ)
     (kind : Kind) : Type 0 where

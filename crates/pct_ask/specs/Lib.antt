@@ -1,5 +1,6 @@
 pub mod Ranges
 pub mod Lines
+pub mod Pieces
 pub mod Characters
 pub mod Tokens
 pub mod Words

@@ -107,9 +107,13 @@ names_in (NamedMisuse name line kind) = name ∷ []
 names_in (NamedFault name line kind) = name ∷ []
 names_in NamedCut = []
 
+-- no thread of the test has the name
+abbrev pub IsNobody : NameLists → List ℕ → Type 0
+IsNobody names name = place_of name names.threads ≡ None
+
 -- some name in it is no thread's
 abbrev pub HasUnknownThread : NameLists → NamedVerdict → Type 0
-HasUnknownThread names verdict = Any (λ name. place_of name names.threads ≡ None) (names_in verdict)
+HasUnknownThread names verdict = Any (IsNobody names) (names_in verdict)
 
 -- the threads in a verdict, in its order
 abbrev pub threads_in : Verdict → List ℕ

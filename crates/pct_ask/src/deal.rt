@@ -1,4 +1,4 @@
-ghost use Rattle.std.specs.Prelude.{◌≡◌, ◌≤◌, length, All, IfOk, pos};
+ghost use Rattle.std.specs.Prelude.{◌≡◌, ◌≤◌, length, All, IfOk};
 ghost use Rattle.pct_ask.specs.Ranges.{IsSemValue, IsBarrierCount};
 
 use crate::sequence::NumberList;

@@ -1,7 +1,8 @@
-ghost use Rattle.std.specs.Prelude.{◌≡◌, ◌∷◌, ◌==◌, ◌<◌, length, position};
+ghost use Rattle.std.specs.Prelude.{◌≡◌, ◌∷◌, ◌<◌, length};
 ghost use Rattle.std.specs.Iterator.{YieldsFirstBy, item_count};
 ghost use Rattle.pct_ask.specs.Lines.{lines_of};
 
+use crate::pieces::first_end;
 use std::marker::Model;
 
 /// The lines of a text, one at a time, without their LFs. Contracts see the bytes that are left.
@@ -36,14 +37,14 @@ impl<'a> Iterator for Lines<'a> {
         if self.rest.is_empty() {
             return None;
         }
-        let (line, rest) = cut_line(self.rest);
+        let (line, rest) = first_line(self.rest);
         self.rest = rest;
         Some(line)
     }
 }
 
 // The first line of a text, and what comes after it.
-fn cut_line(text: &[u8]) -> (&[u8], &[u8])
+fn first_line(text: &[u8]) -> (&[u8], &[u8])
     requires { 0 < length text.now }
     ensures { lines_of text.now ≡ result.0.now ∷ lines_of result.1.now }
 {
@@ -51,11 +52,4 @@ fn cut_line(text: &[u8]) -> (&[u8], &[u8])
         Some(end) => (&text[..end], &text[end + 1..]),
         None => (text, &[]),
     }
-}
-
-// Where the first LF stands.
-fn first_end(text: &[u8]) -> Option<usize>
-    ensures { result ≡ position (λ b. b == 10) text.now }
-{
-    text.iter().position(|b| *b == b'\n')
 }

@@ -1,5 +1,4 @@
 ghost use Rattle.std.specs.Prelude.{◌≡◌, [], ◌∷◌, ◌++◌, length, slice_get, IfOk, OnOk, OnErr};
-ghost use Rattle.std.specs.Prelude.{option_copied, is_some};
 
 use std::alloc::{AllocError as NoMemory, Global};
 use std::marker::Model;

@@ -1,8 +1,7 @@
-ghost use Rattle.std.specs.Prelude.{◌≡◌, ◌≤◌, ◌<◌, length, map};
+ghost use Rattle.std.specs.Prelude.{◌≡◌, map};
 ghost use Rattle.std.specs.List.{list_all, list_any};
 ghost use Rattle.std.specs.Str.{bytes_eq};
-ghost use Rattle.pct_ask.specs.Words.{is_word, is_among, first_keywords, keywords, registers};
-ghost use Rattle.pct_ask.specs.Words.{is_name};
+ghost use Rattle.pct_ask.specs.Words.{is_word, is_among, is_name, keywords};
 ghost use Rattle.pct_ask.specs.Characters.{is_letter, is_word_byte};
 
 const FIRST_KEYWORDS: [&[u8]; 29] = [

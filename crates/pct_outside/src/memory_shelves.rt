@@ -20,7 +20,7 @@ struct FileMap {
 }
 
 impl Model for FileMap {
-    ghost use Rattle.std.specs.Prelude.{ℕ, List, map};
+    ghost use Rattle.std.specs.Prelude.{map};
     ghost use Rattle.std.specs.FinMap.{from_entries};
     ghost use Rattle.pct_outside.specs.Files.{Files, coded_files, name_and_bytes};
 

@@ -1,7 +1,7 @@
 -- What a call does to the streams, from what comes of its words.
 use Rattle.std.proofs.Common.{◌≡◌, ℕ, List, [], inl, inr, Some, Result, Ok, Err, refl, sym, subst}
 use Rattle.pct_outside.specs.Piece.{IsAppended, IsPartAppended}
-use Rattle.pct_outside.proofs.laws.Pieces.{Appended-nil, AppendedPart-nil}
+use Rattle.pct_outside.proofs.laws.Pieces.{IsAppended-nil, IsPartAppended-nil}
 use Rattle.pct_top.specs.declared.refusal.Refusal.{Refusal}
 use Rattle.pct_top.specs.declared.refusal.Refusal.TheVariants.{Usage, Script, Trace, Directive}
 use Rattle.pct_top.specs.declared.refusal.Refusal.TheVariants.{Read, Write, Memory}
@@ -86,7 +86,7 @@ module _ (words : List (List ℕ)) (found left : Outside) where
       let P : StreamTold → Type 0 = λ s. SaysLine line found.errors s in
       subst P (sym same)
       (inl (subst (λ l. IsAppended l (found.errors).written (found.errors).written)
-      (sym none) (Appended-nil (found.errors).written)))
+      (sym none) (IsAppended-nil (found.errors).written)))
 
   whole : (status : Status) → left.errors ≡ found.errors
       → PrintsOne taken (found.shelf).files (PutsAll found.output left.output status)
@@ -111,7 +111,7 @@ module _ (words : List (List ℕ)) (found left : Outside) where
       → IsAppended [] (found.output).written (left.output).written
   put_nothing same =
       subst (λ (s : StreamTold). IsAppended [] (found.output).written s.written) (sym same)
-      (Appended-nil (found.output).written)
+      (IsAppended-nil (found.output).written)
 
   refuses : (refusal : Refusal) → left.output ≡ found.output
       → ShowsFiles (OfTaken taken) (found.shelf).files (printed_refusal refusal)
@@ -158,7 +158,7 @@ module _ (words : List (List ℕ)) (found left : Outside) where
   exact statuses.NoMemory h = λ files is printed may. elim h.0 [
     | inl same ↦ subst (λ (s : StreamTold).
         IsPartAppended printed.out (found.output).written s.written) (sym same)
-        (AppendedPart-nil printed.out (found.output).written)
+        (IsPartAppended-nil printed.out (found.output).written)
     | inr some ↦ (part _ some files is printed may).1
   ]
 

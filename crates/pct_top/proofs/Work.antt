@@ -16,7 +16,7 @@ use Rattle.trace_text.specs.Trace.{IsTrace}
 use Rattle.trace_text.specs.Faults.{IsTraceFault}
 use Rattle.trace_text.proofs.laws.Faults.{one-fault}
 use Rattle.trace_text.proofs.laws.Answers.{written-answer}
-use Rattle.trace_text.specs.Lines.{pieces_of}
+use Rattle.pct_ask.specs.Pieces.{pieces_of}
 use Rattle.directive.specs.declared.directive.Directive.{Directive}
 use Rattle.directive.specs.declared.fault.DirectiveFault.{DirectiveFault}
 use Rattle.directive.specs.DirectiveText.{DirectiveText}

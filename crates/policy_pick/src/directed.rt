@@ -1,5 +1,5 @@
-ghost use Rattle.std.specs.Prelude.{◌≡◌, ℕ, ◌≤◌, ◌==◌, ◌&&◌, [], List, length, IfOk, ◌↔◌};
-ghost use Rattle.rank_now.specs.Order.{IsOrder, IsFirstWrong};
+ghost use Rattle.std.specs.Prelude.{◌≡◌, ℕ, ◌≤◌, ◌==◌, ◌&&◌, [], length, IfOk, ◌↔◌};
+ghost use Rattle.rank_now.specs.Order.{IsFirstWrong};
 ghost use Rattle.rank_now.specs.Positions.{last_position};
 ghost use Rattle.policy_pick.specs.Plan.{ByEvents};
 ghost use Rattle.policy_pick.specs.Kept.{events_plan, EventsStand};

@@ -1,5 +1,5 @@
-ghost use Rattle.std.specs.Prelude.{◌≡◌, ℕ, ◌≤◌, [], List, length, IfOk, ◌↔◌};
-ghost use Rattle.rank_now.specs.Order.{IsOrder, IsFirstWrong};
+ghost use Rattle.std.specs.Prelude.{◌≡◌, ℕ, ◌≤◌, [], length, IfOk, ◌↔◌};
+ghost use Rattle.rank_now.specs.Order.{IsFirstWrong};
 ghost use Rattle.rank_now.specs.Rank.{index_of_point};
 ghost use Rattle.policy_pick.specs.Plan.{ByPoints};
 ghost use Rattle.policy_pick.specs.Kept.{points_plan, PointsStand};

@@ -1,4 +1,4 @@
-ghost use Rattle.std.specs.Prelude.{◌≡◌, ℕ, ◌+◌, ◌*◌, ◌<◌, ◌≤◌, [], ◌∷◌, List, All, length};
+ghost use Rattle.std.specs.Prelude.{◌≡◌, ℕ, ◌+◌, ◌*◌, ◌<◌, ◌≤◌, ◌∷◌, List, All, length};
 ghost use Rattle.std.specs.Prelude.{slice_index, remove, IfOk, OnOk, OnErr};
 ghost use Rattle.priority_draw.specs.Words.{words_later, first_words};
 ghost use Rattle.priority_draw.specs.Orders.{declared_order, order_of, places_of, IsOrderOf};

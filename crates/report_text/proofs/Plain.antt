@@ -3,24 +3,30 @@ use Rattle.std.specs.Prelude.{codes, decimal, ◌==◌, ◌&&◌, ◌||◌, not,
 use Rattle.std.specs.List.{All, list_all, join_with_byte, flat_map}
 use Rattle.std.specs.Str.{IsAscii}
 use Rattle.std.specs.Str.Parse.{AllDigits}
-use Rattle.std.proofs.Common.{◌≡◌, ◌≢◌, ◌⊎◌, ⊎_elim, ℕ, ◌<◌, ◌≤◌, Bool, true, false, List, [], ◌∷◌, ◌++◌, length, map, refl, ap, subst, inl, inr, arith, length-append}
-use Rattle.std.proofs.lemmas.Bool.{cases_lt, ne_eqb, le-ltb}
+use Rattle.std.proofs.Common.{◌≡◌, ◌≢◌, ⊎_elim, ℕ, ◌<◌, ◌≤◌, Bool, true, List, [], ◌∷◌, ◌++◌}
+use Rattle.std.proofs.Common.{length, map, refl, ap, subst, inl, inr, arith, length-append}
+use Rattle.std.proofs.lemmas.Bool.{cases_lt, ne_eqb, le-ltb, and_parts, or_cases}
 use Rattle.std.proofs.lemmas.Bool.Decides.{nat_tests}
 use Rattle.std.proofs.lemmas.Fmt.{decimal_is_IsNumeral}
 use Rattle.std.proofs.lemmas.List.{get_or_append_left, get_or_past}
-use Rattle.std.proofs.lemmas.List.Elements.{All-nil, All-cons, All-head, All-tail, All-append, All-get_or}
+use Rattle.std.proofs.lemmas.List.Elements.{All-nil, All-cons, All-head, All-tail, All-append}
+use Rattle.std.proofs.lemmas.List.Elements.{All-get_or}
 use Rattle.std.proofs.lemmas.Str.Parse.{digit_from_value}
 use Rattle.json.specs.Print.{escape_byte, escape, quoted}
 use Rattle.pct_ask.specs.Characters.{is_letter, is_digit, is_word_byte}
-use Rattle.pct_ask.specs.Words.{is_name, is_among, keywords, registers}
+use Rattle.pct_ask.specs.Words.{is_name}
 use Rattle.pct_ask.specs.NameLists.{NameLists, AreNames}
-use Rattle.pct_ask.specs.VerdictText.{verdict_text, verdict_words, named_verdict, thread_name, place_words, misuse_word, fault_word, IsLine}
+use Rattle.pct_ask.specs.VerdictText.{verdict_text, verdict_words, named_verdict, thread_name}
+use Rattle.pct_ask.specs.VerdictText.{place_words, misuse_word, fault_word, IsLine}
 use Rattle.pct_ask.specs.declared.ask.FaultKind.{FaultKind}
 use Rattle.pct_ask.specs.declared.ask.FaultKind.TheVariants.{Overflow, ZeroDivisor, Spin}
 use Rattle.pct_ask.specs.declared.verdict.MisuseKind.{MisuseKind}
-use Rattle.pct_ask.specs.declared.verdict.MisuseKind.TheVariants.{NotOwner, SemFull, AlreadyStarted, TooManyReads}
+use Rattle.pct_ask.specs.declared.verdict.MisuseKind.TheVariants.{NotOwner, SemFull, AlreadyStarted}
+use Rattle.pct_ask.specs.declared.verdict.MisuseKind.TheVariants.{TooManyReads}
 use Rattle.pct_ask.specs.declared.verdict.Verdict.{Verdict}
-use Rattle.pct_ask.specs.declared.verdict.Verdict.TheVariants.{Passed, Failed, Stuck, Misuse, Fault, Cut}
+use Rattle.pct_ask.specs.declared.verdict.Verdict.TheVariants.{Passed, Failed, Stuck, Misuse, Fault}
+use Rattle.pct_ask.specs.declared.verdict.Verdict.TheVariants.{Cut}
+use Rattle.pct_ask.proofs.laws.NameParts.{name-parts}
 use Rattle.report_text.specs.Report.{IsWritable}
 use Rattle.report_text.specs.Json.{string_text}
 
@@ -37,87 +43,111 @@ abbrev pub ArePlain : List (List ℕ) → Type 0
 ArePlain [] = Unit {0}
 ArePlain (word ∷ words) = All IsPlain word × ArePlain words
 
-and-left : (a b : Bool) → (a && b) ≡ true → a ≡ true
-and-left true b h = refl
-and-left false b h = h
-
-and-right : (a b : Bool) → (a && b) ≡ true → b ≡ true
-and-right true b h = h
-and-right false b h = cc
-
-or-cases : (a b : Bool) → (a || b) ≡ true → (a ≡ true) ⊎ (b ≡ true)
-or-cases true b h = inl refl
-or-cases false b h = inr h
-
 plain-test : (b : ℕ) → is_plain b ≡ true → IsPlain b
 plain-test b h =
-    let l = and-left (nat_le 32 b) (nat_le b 127 && (not (b == 34) && not (b == 92))) h in
-    let r = and-right (nat_le 32 b) (nat_le b 127 && (not (b == 34) && not (b == 92))) h in
-    let u = and-left (nat_le b 127) (not (b == 34) && not (b == 92)) r in
-    let n = and-right (nat_le b 127) (not (b == 34) && not (b == 92)) r in
-    let q = and-left (not (b == 34)) (not (b == 92)) n in
-    let s = and-right (not (b == 34)) (not (b == 92)) n in
-    record { low = grind (arith, nat_tests); high = grind (arith, nat_tests); no_quote = λ e. grind (arith, nat_tests); no_backslash = λ e. grind (arith, nat_tests) }
+    let l = (and_parts (nat_le 32 b) (nat_le b 127 && (not (b == 34) && not (b == 92))) h).0 in
+    let r = (and_parts (nat_le 32 b) (nat_le b 127 && (not (b == 34) && not (b == 92))) h).1 in
+    let u = (and_parts (nat_le b 127) (not (b == 34) && not (b == 92)) r).0 in
+    let n = (and_parts (nat_le b 127) (not (b == 34) && not (b == 92)) r).1 in
+    let q = (and_parts (not (b == 34)) (not (b == 92)) n).0 in
+    let s = (and_parts (not (b == 34)) (not (b == 92)) n).1 in
+    record {
+      low = grind (arith, nat_tests);
+      high = grind (arith, nat_tests);
+      no_quote = λ e. grind (arith, nat_tests);
+      no_backslash = λ e. grind (arith, nat_tests);
+    }
 
 -- a word of known bytes
 pub plain-by : (word : List ℕ) → list_all is_plain word ≡ true → All IsPlain word
 plain-by [] h = All-nil IsPlain
 plain-by (b ∷ bs) h =
-    All-cons IsPlain b bs (plain-test b (and-left (is_plain b) (list_all is_plain bs) h)) (plain-by bs (and-right (is_plain b) (list_all is_plain bs) h))
+    All-cons IsPlain b bs (plain-test b (and_parts (is_plain b) (list_all is_plain bs) h).0)
+    (plain-by bs (and_parts (is_plain b) (list_all is_plain bs) h).1)
 
 range : (low high b : ℕ) → (nat_le low b && nat_le b high) ≡ true → (low ≤ b) × (b ≤ high)
 range low high b h =
-    let l = and-left (nat_le low b) (nat_le b high) h in
-    let r = and-right (nat_le low b) (nat_le b high) h in
+    let l = (and_parts (nat_le low b) (nat_le b high) h).0 in
+    let r = (and_parts (nat_le low b) (nat_le b high) h).1 in
     (grind (arith, nat_tests), grind (arith, nat_tests))
 
 letter-plain : (b : ℕ) → is_letter b ≡ true → IsPlain b
 letter-plain b h =
-    elim (or-cases (nat_le 97 b && nat_le b 122 || nat_le 65 b && nat_le b 90) (b == 95) h) [
-      | inl p ↦ elim (or-cases (nat_le 97 b && nat_le b 122) (nat_le 65 b && nat_le b 90) p) [
-        | inl q ↦ let r = range 97 122 b q in record { low = omega arith; high = omega arith; no_quote = λ e. omega arith; no_backslash = λ e. omega arith }
-        | inr q ↦ let r = range 65 90 b q in record { low = omega arith; high = omega arith; no_quote = λ e. omega arith; no_backslash = λ e. omega arith }
+    elim (or_cases (nat_le 97 b && nat_le b 122 || nat_le 65 b && nat_le b 90) (b == 95) h) [
+      | inl p ↦ elim (or_cases (nat_le 97 b && nat_le b 122) (nat_le 65 b && nat_le b 90) p) [
+        | inl q ↦ let r = range 97 122 b q in
+            record {
+              low = omega arith;
+              high = omega arith;
+              no_quote = λ e. omega arith;
+              no_backslash = λ e. omega arith;
+            }
+        | inr q ↦ let r = range 65 90 b q in
+            record {
+              low = omega arith;
+              high = omega arith;
+              no_quote = λ e. omega arith;
+              no_backslash = λ e. omega arith;
+            }
       ]
-      | inr p ↦ let r : b ≡ 95 = grind (arith, nat_tests) in record { low = omega arith; high = omega arith; no_quote = λ e. omega arith; no_backslash = λ e. omega arith }
+      | inr p ↦ let r : b ≡ 95 = grind (arith, nat_tests) in
+          record {
+            low = omega arith;
+            high = omega arith;
+            no_quote = λ e. omega arith;
+            no_backslash = λ e. omega arith;
+          }
     ]
 
 word_byte-plain : (b : ℕ) → is_word_byte b ≡ true → IsPlain b
 word_byte-plain b h =
-    elim (or-cases (is_letter b) (is_digit b) h) [
+    elim (or_cases (is_letter b) (is_digit b) h) [
       | inl p ↦ letter-plain b p
-      | inr p ↦ let r = range 48 57 b p in record { low = omega arith; high = omega arith; no_quote = λ e. omega arith; no_backslash = λ e. omega arith }
+      | inr p ↦ let r = range 48 57 b p in
+          record {
+            low = omega arith;
+            high = omega arith;
+            no_quote = λ e. omega arith;
+            no_backslash = λ e. omega arith;
+          }
     ]
 
 word_bytes-plain : (word : List ℕ) → list_all is_word_byte word ≡ true → All IsPlain word
 word_bytes-plain [] h = All-nil IsPlain
 word_bytes-plain (b ∷ bs) h =
-    All-cons IsPlain b bs (word_byte-plain b (and-left (is_word_byte b) (list_all is_word_byte bs) h)) (word_bytes-plain bs (and-right (is_word_byte b) (list_all is_word_byte bs) h))
-
-first-two : (x y z u v : Bool) → (x && y && z && u && v) ≡ true → (x ≡ true) × (y ≡ true)
-first-two true true z u v h = (refl, refl)
-first-two true false z u v h = cc
-first-two false y z u v h = cc
+    All-cons IsPlain b bs (word_byte-plain b
+    (and_parts (is_word_byte b) (list_all is_word_byte bs) h).0)
+    (word_bytes-plain bs (and_parts (is_word_byte b) (list_all is_word_byte bs) h).1)
 
 name-plain : (name : List ℕ) → is_name 1 name ≡ true → All IsPlain name
 name-plain [] h = All-nil IsPlain
 name-plain (b ∷ bs) h =
-    let front = first-two (is_letter b) (list_all is_word_byte bs) (nat_le (length bs) 31) (not (is_among (b ∷ bs) (keywords 1))) (not (is_among (b ∷ bs) registers)) h in
-    All-cons IsPlain b bs (letter-plain b front.0) (word_bytes-plain bs front.1)
+    let parts = name-parts b bs h in
+    All-cons IsPlain b bs (letter-plain b parts.letter) (word_bytes-plain bs parts.others)
 
 digits-plain : (ds : List ℕ) → AllDigits 10 ds → All IsPlain ds
 digits-plain [] h = All-nil IsPlain
 digits-plain (d ∷ ds) h =
     let r = digit_from_value d h.0 in
-    All-cons IsPlain d ds (record { low = omega arith; high = omega arith; no_quote = λ e. omega arith; no_backslash = λ e. omega arith }) (digits-plain ds h.1)
+    All-cons IsPlain d ds (record {
+      low = omega arith;
+      high = omega arith;
+      no_quote = λ e. omega arith;
+      no_backslash = λ e. omega arith;
+    }) (digits-plain ds h.1)
 
 line-plain : (line : ℕ) → IsLine line → All IsPlain (decimal line)
 line-plain line is = digits-plain (decimal line) (decimal_is_IsNumeral line (omega arith)).0.1
 
-thread-plain : (names : NameLists) (thread : ℕ) → AreNames names → thread < length names.threads → All IsPlain (thread_name names thread)
+thread-plain : (names : NameLists) (thread : ℕ) → AreNames names → thread < length names.threads
+    → All IsPlain (thread_name names thread)
 thread-plain names thread sound known =
-    let rest = names.vars ++ (names.mutexes ++ (names.conds ++ (names.sems ++ (names.barriers ++ names.rwlocks)))) in
+    let rest = names.vars ++ (names.mutexes
+    ++ (names.conds ++ (names.sems ++ (names.barriers ++ names.rwlocks)))) in
     let here = get_or_append_left names.threads rest [] thread known in
-    name-plain (thread_name names thread) (subst (λ name. is_name 1 name ≡ true) here (sound.lawful thread [] (omega (arith, length-append names.threads rest))))
+    name-plain (thread_name names thread)
+    (subst (λ name. is_name 1 name ≡ true) here
+    (sound.lawful thread [] (omega (arith, length-append names.threads rest))))
 
 misuse-plain : (kind : MisuseKind) → All IsPlain (misuse_word kind)
 misuse-plain NotOwner = plain-by (codes "notowner") refl
@@ -131,39 +161,68 @@ fault-plain ZeroDivisor = plain-by (codes "zerodivisor") refl
 fault-plain Spin = plain-by (codes "spin") refl
 
 module _ (names : NameLists) (sound : AreNames names) where
-  places-plain : (places : List (ℕ × ℕ)) → All (λ thread. thread < length names.threads) (map (λ place. place.0) places) → All (λ place. IsLine place.1) places → ArePlain (flat_map place_words (map (λ place. (thread_name names place.0, place.1)) places))
+  places-plain : (places : List (ℕ × ℕ))
+      → All (λ thread. thread < length names.threads) (map (λ place. place.0) places)
+      → All (λ place. IsLine place.1) places
+      → ArePlain (flat_map place_words (map (λ place. (thread_name names place.0, place.1)) places))
   places-plain [] known lines = tt
   places-plain (place ∷ places) known lines = (
-    thread-plain names place.0 sound (All-head (λ thread. thread < length names.threads) place.0 (map (λ (p : ℕ × ℕ). p.0) places) known),
+    thread-plain names place.0 sound (All-head (λ thread. thread < length names.threads) place.0
+        (map (λ (p : ℕ × ℕ). p.0) places) known),
     (
       line-plain place.1 (All-head (λ (p : ℕ × ℕ). IsLine p.1) place places lines),
-      places-plain places (All-tail (λ thread. thread < length names.threads) place.0 (map (λ (p : ℕ × ℕ). p.0) places) known) (All-tail (λ (p : ℕ × ℕ). IsLine p.1) place places lines),
+      places-plain places (All-tail (λ thread. thread < length names.threads) place.0
+          (map (λ (p : ℕ × ℕ). p.0) places) known)
+          (All-tail (λ (p : ℕ × ℕ). IsLine p.1) place places lines),
     ),
   )
 
-  first-known : (thread : ℕ) → All (λ thread. thread < length names.threads) (thread ∷ []) → All IsPlain (thread_name names thread)
-  first-known thread known = thread-plain names thread sound (All-head (λ thread. thread < length names.threads) thread [] known)
+  first-known : (thread : ℕ) → All (λ thread. thread < length names.threads) (thread ∷ [])
+      → All IsPlain (thread_name names thread)
+  first-known thread known =
+      thread-plain names thread sound (All-head (λ thread. thread < length names.threads) thread []
+      known)
 
-  words-plain : (verdict : Verdict) → IsWritable names verdict → ArePlain (verdict_words (named_verdict names verdict))
+  words-plain : (verdict : Verdict) → IsWritable names verdict
+      → ArePlain (verdict_words (named_verdict names verdict))
   words-plain Passed is = (plain-by (codes "passed") refl, tt)
-  words-plain (Failed thread line) is = (plain-by (codes "failed") refl, (first-known thread is.named, (line-plain line is.whole, tt)))
-  words-plain (Stuck places) is = (plain-by (codes "stuck") refl, places-plain places is.named is.whole.1)
-  words-plain (Misuse thread line kind) is = (plain-by (codes "misuse") refl, (first-known thread is.named, (line-plain line is.whole, (misuse-plain kind, tt))))
-  words-plain (Fault thread line kind) is = (plain-by (codes "fault") refl, (first-known thread is.named, (line-plain line is.whole, (fault-plain kind, tt))))
+  words-plain (Failed thread line) is = (
+    plain-by (codes "failed") refl,
+    (first-known thread is.named, (line-plain line is.whole, tt)),
+  )
+  words-plain (Stuck places) is =
+      (plain-by (codes "stuck") refl, places-plain places is.named is.whole.1)
+  words-plain (Misuse thread line kind) is = (
+    plain-by (codes "misuse") refl,
+    (first-known thread is.named, (line-plain line is.whole, (misuse-plain kind, tt))),
+  )
+  words-plain (Fault thread line kind) is = (
+    plain-by (codes "fault") refl,
+    (
+      first-known thread is.named,
+      (line-plain line is.whole, (fault-plain kind, tt)),
+    ),
+  )
   words-plain Cut is = (plain-by (codes "cut") refl, tt)
 
 join-plain : (words : List (List ℕ)) → ArePlain words → All IsPlain (join_with_byte 32 words)
 join-plain [] h = All-nil IsPlain
 join-plain (word ∷ []) h = h.0
 join-plain (word ∷ next ∷ words) h =
-    All-append IsPlain word (32 ∷ join_with_byte 32 (next ∷ words)) h.0 (All-cons IsPlain 32 (join_with_byte 32 (next ∷ words)) (plain-test 32 refl) (join-plain (next ∷ words) h.1))
+    All-append IsPlain word (32 ∷ join_with_byte 32 (next ∷ words)) h.0
+    (All-cons IsPlain 32 (join_with_byte 32 (next ∷ words)) (plain-test 32 refl)
+    (join-plain (next ∷ words) h.1))
 
-pub verdict-plain : (names : NameLists) (verdict : Verdict) → AreNames names → IsWritable names verdict → All IsPlain (verdict_text names verdict)
-verdict-plain names verdict sound is = join-plain (verdict_words (named_verdict names verdict)) (words-plain names sound verdict is)
+pub verdict-plain : (names : NameLists) (verdict : Verdict) → AreNames names
+    → IsWritable names verdict → All IsPlain (verdict_text names verdict)
+verdict-plain names verdict sound is =
+    join-plain (verdict_words (named_verdict names verdict)) (words-plain names sound verdict is)
 
 pub plain-ascii : (text : List ℕ) → All IsPlain text → IsAscii text
 plain-ascii text plain i =
-    ⊎_elim (λ (inside : i < length text). (All-get_or IsPlain text i 0 inside plain).high) (λ (past : length text ≤ i). let none = get_or_past text i 0 past in omega (arith, none)) (cases_lt i (length text))
+    ⊎_elim (λ (inside : i < length text). (All-get_or IsPlain text i 0 inside plain).high)
+    (λ (past : length text ≤ i). let none = get_or_past text i 0 past in omega (arith, none))
+    (cases_lt i (length text))
 
 plain-byte : (b : ℕ) → IsPlain b → escape_byte b ≡ b ∷ []
 unfolding escape_byte

@@ -2,4 +2,3 @@ pub mod ThreadLists
 pub mod ReleaseLists
 pub mod Agreement
 pub mod AfterStep
-pub mod Targets

@@ -27,11 +27,11 @@ is_serial-by serial t (x ∷ xs) =
 abbrev others : ℕ → List Release → List Release
 others t releases = filter (λ release. not (nat_eq t release.thread)) releases
 
-pub without-by : (serial : List Bool) (t : ℕ) (xs : List ℕ)
+pub list_without-by : (serial : List Bool) (t : ℕ) (xs : List ℕ)
     → releases_by serial (list_without t xs) ≡ others t (releases_by serial xs)
-without-by serial t [] = refl
-without-by serial t (x ∷ xs) =
-    let rest = without-by serial t xs in
+list_without-by serial t [] = refl
+list_without-by serial t (x ∷ xs) =
+    let rest = list_without-by serial t xs in
     let test = not (nat_eq t x) in
     let kept = release_by serial x ∷ others t (releases_by serial xs) in
     let gone = others t (releases_by serial xs) in

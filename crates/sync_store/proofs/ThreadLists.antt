@@ -140,9 +140,3 @@ without_off t (x ∷ xs) e =
     let rest = without_off t xs parts.1 in
     let here = parts.0 in
     grind arith
-
-pub without_first : (t : ℕ) (xs : List ℕ) → IsOnce (t ∷ xs) → list_without t (t ∷ xs) ≡ xs
-without_first t xs h =
-    let here = eq-eqb t t refl in
-    let rest = without_off t xs h.0 in
-    grind arith

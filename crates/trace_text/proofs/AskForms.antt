@@ -1,8 +1,8 @@
 -- An ask is read of the words of its form, and of nothing else.
 use Rattle.std.specs.Prelude.{codes, map, if◌then◌else◌}
 use Rattle.std.specs.Str.{bytes_eq}
-use Rattle.std.proofs.Common.{◌≡◌, ◌⊎◌, ℕ, ◌≤◌, Bool, true, false, ◌||◌, List, [], ◌∷◌, ℤ, Option, Some, None, refl, ap, ◌∙◌, inl, inr, arith}
-use Rattle.std.proofs.lemmas.Slice.Eq.{bytes_eq-Decides}
+use Rattle.std.proofs.Common.{◌≡◌, ◌⊎◌, ℕ, ◌≤◌, Bool, true, false, ◌||◌, List, [], ◌∷◌, ℤ, Option}
+use Rattle.std.proofs.Common.{Some, None, refl, ap, ◌∙◌, inl, inr, arith}
 use Rattle.pct_ask.specs.Words.{is_name, is_among}
 use Rattle.pct_ask.specs.NameLists.{NameLists, list_of, place_of}
 use Rattle.pct_ask.specs.Numbers.{number_text}
@@ -14,10 +14,13 @@ use Rattle.pct_ask.specs.declared.names.NameKind.TheVariants as kinds
 use Rattle.pct_ask.specs.declared.ask.FaultKind.{FaultKind}
 use Rattle.pct_ask.specs.declared.ask.Ask.{Ask}
 use Rattle.pct_ask.specs.declared.ask.Ask.TheVariants as asks
+use Rattle.pct_ask.proofs.laws.SameWords.{same-word}
+use Rattle.pct_ask.proofs.laws.VerdictForms.{fault_word-read}
 use Rattle.trace_text.specs.reader.Numbers.{i64_in}
 use Rattle.trace_text.specs.reader.Asks.{has_form, object_at, object, kind_of, ask_of, bare_ask}
 use Rattle.trace_text.specs.reader.Asks.{holds_of, with_operand, plain_ask, on_object, ask_on_kind}
-use Rattle.trace_text.specs.reader.Asks.{ask_on_one, ask_with_value, on_both_objects, ask_on_two}
+use Rattle.trace_text.specs.reader.Asks.{ask_on_one, ask_with_value, both_objects, on_both}
+use Rattle.trace_text.specs.reader.Asks.{ask_on_two}
 use Rattle.trace_text.specs.reader.Asks.{exchange}
 use Rattle.trace_text.specs.reader.Asks.{ask_on_three}
 use Rattle.trace_text.specs.declared.asks.WordsRead.{WordsRead}
@@ -25,12 +28,10 @@ use Rattle.trace_text.specs.declared.asks.WordsRead.TheVariants.{Is, NoForm, Unk
 use Rattle.trace_text.specs.Forms.{Verb, AskForm, verb_word, verb_kind, verb_since, words_of_ask}
 use Rattle.trace_text.specs.Forms.{IsName, IsAskOf, AsksUnknown}
 use Rattle.trace_text.specs.Forms as forms
-use Rattle.trace_text.proofs.Values.{value_of-Some, Some-value_of}
-use Rattle.trace_text.proofs.AskWords.{Among, kind-among, holds-by, fault-by, second, check-known}
-use Rattle.trace_text.proofs.AskWords.{fault-known, ask_in, HasFewWords}
-
-same-word : (word other : List ℕ) → bytes_eq word other ≡ true → word ≡ other
-same-word word other e = (bytes_eq-Decides word other).0 e
+use Rattle.trace_text.proofs.Values.{Some-i64_in}
+use Rattle.trace_text.proofs.AskWords.{Among, kind-among, holds-by}
+use Rattle.trace_text.proofs.KnownAsks.{second}
+use Rattle.trace_text.proofs.KnownAsks.{ask_in}
 
 -- words with no form, and words whose names are known
 no-form : {A : Type 0} (read : WordsRead A) → NoForm ≡ read → has_form read ≡ true → ⊥
@@ -86,32 +87,56 @@ abbrev HasAll : (Verb → Type 0) → List Verb → Type 0
 HasAll P [] = Unit {0}
 HasAll P (verb ∷ verbs) = P verb × HasAll P verbs
 
-among-by : (word : List ℕ) (P : Verb → Type 0) (verb : Verb) (verbs : List Verb) (b : Bool) → P verb → bytes_eq word (verb_word verb) ≡ b → (b || is_among word (map verb_word verbs)) ≡ true → (is_among word (map verb_word verbs) ≡ true → (v : Verb) × (word ≡ verb_word v) × P v) → (v : Verb) × (word ≡ verb_word v) × P v
+among-by : (word : List ℕ) (P : Verb → Type 0) (verb : Verb) (verbs : List Verb) (b : Bool) → P verb
+    → bytes_eq word (verb_word verb) ≡ b → (b || is_among word (map verb_word verbs)) ≡ true
+    → (is_among word (map verb_word verbs) ≡ true → (v : Verb) × (word ≡ verb_word v) × P v)
+    → (v : Verb) × (word ≡ verb_word v) × P v
 among-by word P verb verbs true p e h others = (verb, same-word word (verb_word verb) e, p)
 among-by word P verb verbs false p e h others = others h
 
-verb-among : (word : List ℕ) (P : Verb → Type 0) (verbs : List Verb) → HasAll P verbs → is_among word (map verb_word verbs) ≡ true → (v : Verb) × (word ≡ verb_word v) × P v
+verb-among : (word : List ℕ) (P : Verb → Type 0) (verbs : List Verb) → HasAll P verbs
+    → is_among word (map verb_word verbs) ≡ true → (v : Verb) × (word ≡ verb_word v) × P v
 verb-among word P [] all h = absurd cc
-verb-among word P (verb ∷ verbs) all h = among-by word P verb verbs (bytes_eq word (verb_word verb)) all.0 refl h (λ later. verb-among word P verbs all.1 later)
+verb-among word P (verb ∷ verbs) all h =
+    among-by word P verb verbs (bytes_eq word (verb_word verb)) all.0 refl h
+    (λ later. verb-among word P verbs all.1 later)
 
 abbrev IsVerb : ℕ → NameKind → Verb → Type 0
 IsVerb version kind verb = (verb_kind verb ≡ kind) × (verb_since verb ≤ version)
 
-verb-of : (version : ℕ) (word : List ℕ) (kind : NameKind) → 1 ≤ version → Among version word kind → (v : Verb) × (word ≡ verb_word v) × IsVerb version kind v
-verb-of version word kinds.Thread some h = verb-among word (IsVerb version kinds.Thread) (forms.Join ∷ forms.Start ∷ []) ((refl, some), ((refl, some), tt)) h.0
-verb-of version word kinds.Var some h = verb-among word (IsVerb version kinds.Var) (forms.Read ∷ []) ((refl, some), tt) h.0
-verb-of version word kinds.Mutex some h = verb-among word (IsVerb version kinds.Mutex) (forms.Lock ∷ forms.TryLock ∷ forms.Unlock ∷ []) ((refl, some), ((refl, some), ((refl, some), tt))) h.0
-verb-of version word kinds.Cond some h = verb-among word (IsVerb version kinds.Cond) (forms.Signal ∷ forms.Broadcast ∷ []) ((refl, some), ((refl, some), tt)) h.0
-verb-of version word kinds.Sem some h = verb-among word (IsVerb version kinds.Sem) (forms.Down ∷ forms.TryDown ∷ forms.Up ∷ []) ((refl, some), ((refl, some), ((refl, some), tt))) h.0
-verb-of version word kinds.Barrier some h = verb-among word (IsVerb version kinds.Barrier) (forms.Arrive ∷ forms.Leave ∷ []) ((refl, some), ((refl, some), tt)) h.0
+verb-of : (version : ℕ) (word : List ℕ) (kind : NameKind) → 1 ≤ version → Among version word kind
+    → (v : Verb) × (word ≡ verb_word v) × IsVerb version kind v
+verb-of version word kinds.Thread some h =
+    verb-among word (IsVerb version kinds.Thread) (forms.Join ∷ forms.Start ∷ [])
+    ((refl, some), ((refl, some), tt)) h.0
+verb-of version word kinds.Var some h =
+    verb-among word (IsVerb version kinds.Var) (forms.Read ∷ []) ((refl, some), tt) h.0
+verb-of version word kinds.Mutex some h =
+    verb-among word (IsVerb version kinds.Mutex) (forms.Lock ∷ forms.TryLock ∷ forms.Unlock ∷ [])
+    ((refl, some), ((refl, some), ((refl, some), tt))) h.0
+verb-of version word kinds.Cond some h =
+    verb-among word (IsVerb version kinds.Cond) (forms.Signal ∷ forms.Broadcast ∷ [])
+    ((refl, some), ((refl, some), tt)) h.0
+verb-of version word kinds.Sem some h =
+    verb-among word (IsVerb version kinds.Sem) (forms.Down ∷ forms.TryDown ∷ forms.Up ∷ [])
+    ((refl, some), ((refl, some), ((refl, some), tt))) h.0
+verb-of version word kinds.Barrier some h =
+    verb-among word (IsVerb version kinds.Barrier) (forms.Arrive ∷ forms.Leave ∷ [])
+    ((refl, some), ((refl, some), tt)) h.0
 verb-of version word kinds.RwLock some h =
     let two : 2 ≤ version = let v = h.1 in omega arith in
-    verb-among word (IsVerb version kinds.RwLock) (forms.RdLock ∷ forms.WrLock ∷ forms.TryRdLock ∷ forms.TryWrLock ∷ forms.RwUnlock ∷ []) ((refl, two), ((refl, two), ((refl, two), ((refl, two), ((refl, two), tt))))) h.0
+    verb-among word (IsVerb version kinds.RwLock)
+    (forms.RdLock ∷ forms.WrLock ∷ forms.TryRdLock ∷ forms.TryWrLock ∷ forms.RwUnlock ∷ [])
+    ((refl, two), ((refl, two), ((refl, two), ((refl, two), ((refl, two), tt))))) h.0
 
-kind-second : (version : ℕ) (verb : Verb) → (version ≡ 1) ⊎ (version ≡ 2) → 2 ≤ version → kind_of 2 (verb_word verb) ≡ Some (verb_kind verb) → kind_of version (verb_word verb) ≡ Some (verb_kind verb)
-kind-second version verb which h k = second version (verb_word verb) (Some (verb_kind verb)) (not-first version which h) k
+kind-second : (version : ℕ) (verb : Verb) → (version ≡ 1) ⊎ (version ≡ 2) → 2 ≤ version
+    → kind_of 2 (verb_word verb) ≡ Some (verb_kind verb)
+    → kind_of version (verb_word verb) ≡ Some (verb_kind verb)
+kind-second version verb which h k =
+    second version (verb_word verb) (Some (verb_kind verb)) (not-first version which h) k
 
-kind-verb : (version : ℕ) (verb : Verb) → (version ≡ 1) ⊎ (version ≡ 2) → verb_since verb ≤ version → kind_of version (verb_word verb) ≡ Some (verb_kind verb)
+pub kind-verb : (version : ℕ) (verb : Verb) → (version ≡ 1) ⊎ (version ≡ 2) → verb_since verb ≤ version
+    → kind_of version (verb_word verb) ≡ Some (verb_kind verb)
 kind-verb version forms.Read which h = refl
 kind-verb version forms.Lock which h = refl
 kind-verb version forms.TryLock which h = refl
@@ -147,7 +172,8 @@ pair a b x y p q = rw (p, q)
 triple : (a b c x y z : List ℕ) → a ≡ x → b ≡ y → c ≡ z → a ∷ b ∷ c ∷ [] ≡ x ∷ y ∷ z ∷ []
 triple a b c x y z p q r = rw (p, q, r)
 
-four : (a b c d x y z w : List ℕ) → a ≡ x → b ≡ y → c ≡ z → d ≡ w → a ∷ b ∷ c ∷ d ∷ [] ≡ x ∷ y ∷ z ∷ w ∷ []
+four : (a b c d x y z w : List ℕ) → a ≡ x → b ≡ y → c ≡ z → d ≡ w
+    → a ∷ b ∷ c ∷ d ∷ [] ≡ x ∷ y ∷ z ∷ w ∷ []
 four a b c d x y z w p q r s = rw (p, q, r, s)
 
 bare-form : (names : NameLists) (version : ℕ) (word : List ℕ) (read : WordsRead Ask)
@@ -194,7 +220,8 @@ plain-form names version word operand read h form =
         → IsAskWords names version (word ∷ operand ∷ []) read
     by true b ea eb k =
         let m = operand-inv (λ (holds : Bool). asks.Check holds) (holds_of operand) read k form in
-        let spelled = holds-by operand m.0 (bytes_eq operand (codes "1")) (bytes_eq operand (codes "0")) refl refl m.1 in
+        let spelled = holds-by operand m.0 (bytes_eq operand (codes "1"))
+        (bytes_eq operand (codes "0")) refl refl m.1 in
         record {
           ask = forms.Check m.0;
           words_are =
@@ -207,7 +234,7 @@ plain-form names version word operand read h form =
     by false true ea eb k =
         let m = operand-inv (λ (kind : FaultKind). asks.Fault kind) (fault_kind operand) read k
         form in
-        let spelled = fault-by operand m.0 (bytes_eq operand (codes "overflow")) (bytes_eq operand (codes "zerodivisor")) (bytes_eq operand (codes "spin")) refl refl refl m.1 in
+        let spelled = fault_word-read operand m.0 m.1 in
         record {
           ask = forms.Fault m.0;
           words_are =
@@ -263,22 +290,22 @@ value-inv ask place None read h form = absurd (no-form read h form)
 value-inv ask place (Some v) read h form = let m =
     place-inv (λ x. ask x v) place read h form in (v, refl, m.0, m.1)
 
-both-inv : (ask : ℕ → ℕ → Ask) (c m : WordsRead ℕ) (read : WordsRead Ask)
-    → on_both_objects ask c m ≡ read
+on_both-inv : (ask : ℕ → ℕ → Ask) (c m : WordsRead ℕ) (read : WordsRead Ask)
+    → on_both ask (both_objects c m) ≡ read
     → has_form read ≡ true → (has_form c ≡ true) × (has_form m ≡ true) × (read ≡ UnknownName
     → (c ≡ UnknownName) ⊎ (m ≡ UnknownName))
-both-inv ask NoForm m read h form = absurd (no-form read h form)
-both-inv ask UnknownName (Is y) read h form = (refl, refl, λ unknown. inl refl)
-both-inv ask UnknownName NoForm read h form = absurd (no-form read h form)
-both-inv ask UnknownName UnknownName read h form = (refl, refl, λ unknown. inl refl)
-both-inv ask (Is x) (Is y) read h form = (
+on_both-inv ask NoForm m read h form = absurd (no-form read h form)
+on_both-inv ask UnknownName (Is y) read h form = (refl, refl, λ unknown. inl refl)
+on_both-inv ask UnknownName NoForm read h form = absurd (no-form read h form)
+on_both-inv ask UnknownName UnknownName read h form = (refl, refl, λ unknown. inl refl)
+on_both-inv ask (Is x) (Is y) read h form = (
   refl,
   refl,
   λ unknown. absurd
       (not-unknown (ask x y) read h unknown),
 )
-both-inv ask (Is x) NoForm read h form = absurd (no-form read h form)
-both-inv ask (Is x) UnknownName read h form = (refl, refl, λ unknown. inr refl)
+on_both-inv ask (Is x) NoForm read h form = absurd (no-form read h form)
+on_both-inv ask (Is x) UnknownName read h form = (refl, refl, λ unknown. inr refl)
 
 two-by : (names : NameLists) (version : ℕ) (word a b : List ℕ) (read : WordsRead Ask)
     (w p r g : Bool) → has_form read ≡ true → bytes_eq word (codes "write") ≡ w
@@ -286,18 +313,20 @@ two-by : (names : NameLists) (version : ℕ) (word a b : List ℕ) (read : Words
     → bytes_eq word (codes "regain") ≡ g
     → (if w then ask_with_value asks.Write (object names kinds.Var a) (i64_in b) else
     (if p then ask_with_value asks.Add (object names kinds.Var a) (i64_in b) else
-    (if r then on_both_objects asks.Release (object names kinds.Cond a) (object names kinds.Mutex b)
+    (if r then on_both asks.Release (both_objects (object names kinds.Cond a)
+    (object names kinds.Mutex b))
     else (if g
-    then on_both_objects asks.Regain (object names kinds.Cond a) (object names kinds.Mutex b)
+    then on_both asks.Regain (both_objects (object names kinds.Cond a) (object names kinds.Mutex b))
     else NoForm)))) ≡ read → IsAskWords names version (word ∷ a ∷ b ∷ []) read
 two-by names version word a b read true p r g form ew ep er eg h =
     let i = value-inv asks.Write (object names kinds.Var a) (i64_in b) read h form in
     let o = object-inv names kinds.Var a i.2 in
-    let v = Some-value_of b i.0 i.1 in
+    let v = Some-i64_in b i.0 i.1 in
     record {
       ask = forms.Write a i.0;
       words_are =
-          triple word a b (codes "write") a (number_text i.0) (same-word word (codes "write") ew) refl
+          triple word a b (codes "write") a (number_text i.0) (same-word word (codes "write") ew)
+          refl
           v.0;
       of = (o.0, v.1);
       unknown = λ unknown. o.1 (i.3 unknown);
@@ -305,7 +334,7 @@ two-by names version word a b read true p r g form ew ep er eg h =
 two-by names version word a b read false true r g form ew ep er eg h =
     let i = value-inv asks.Add (object names kinds.Var a) (i64_in b) read h form in
     let o = object-inv names kinds.Var a i.2 in
-    let v = Some-value_of b i.0 i.1 in
+    let v = Some-i64_in b i.0 i.1 in
     record {
       ask = forms.Add a i.0;
       words_are =
@@ -315,7 +344,7 @@ two-by names version word a b read false true r g form ew ep er eg h =
       unknown = λ unknown. o.1 (i.3 unknown);
     }
 two-by names version word a b read false false true g form ew ep er eg h =
-    let i = both-inv asks.Release (object names kinds.Cond a) (object names kinds.Mutex b) read h
+    let i = on_both-inv asks.Release (object names kinds.Cond a) (object names kinds.Mutex b) read h
     form in
     let c = object-inv names kinds.Cond a i.0 in
     let m = object-inv names kinds.Mutex b i.1 in
@@ -328,7 +357,7 @@ two-by names version word a b read false false true g form ew ep er eg h =
           λ unknown. either c.1 m.1 (i.2 unknown);
     }
 two-by names version word a b read false false false true form ew ep er eg h =
-    let i = both-inv asks.Regain (object names kinds.Cond a) (object names kinds.Mutex b) read h
+    let i = on_both-inv asks.Regain (object names kinds.Cond a) (object names kinds.Mutex b) read h
     form in
     let c = object-inv names kinds.Cond a i.0 in
     let m = object-inv names kinds.Mutex b i.1 in
@@ -368,8 +397,8 @@ three-by : (names : NameLists) (version : ℕ) (word a b c : List ℕ) (read : W
 three-by names version word a b c read true form ew h =
     let i = exchange-inv (object names kinds.Var a) (i64_in b) (i64_in c) read h form in
     let o = object-inv names kinds.Var a i.4 in
-    let u = Some-value_of b i.0 i.2 in
-    let v = Some-value_of c i.1 i.3 in
+    let u = Some-i64_in b i.0 i.2 in
+    let v = Some-i64_in c i.1 i.3 in
     record {
       ask = forms.Cas a i.0 i.1;
       words_are =
@@ -398,133 +427,3 @@ ask-form names version (a ∷ b ∷ c ∷ []) read some h form = two-form names 
 ask-form names version (a ∷ b ∷ c ∷ d ∷ []) read some h form =
     three-form names version a b c d read h form
 ask-form names version (a ∷ b ∷ c ∷ d ∷ e ∷ words) read some h form = absurd (no-form read h form)
-
--- ---- an ask by form is read
-
--- what is read of the words of an ask by form: an unknown name where it has one
-pub record IsAskRead (names : NameLists) (version : ℕ) (ask : AskForm) : Type 0 where
-  pub read : WordsRead Ask
-  pub is : ask_in names version (words_of_ask ask) ≡ read
-  pub form : has_form read ≡ true
-  pub unknown : AsksUnknown names ask → read ≡ UnknownName
-
-placed-ask : (ask : ℕ → Ask) (place : Option ℕ) → has_form (on_object ask (object_at place)) ≡ true
-placed-ask ask None = refl
-placed-ask ask (Some id) = refl
-
-on-read : (names : NameLists) (version : ℕ) (verb : Verb) (object : List ℕ) → (version ≡ 1) ⊎ (version ≡ 2) → IsAskOf version (forms.On verb object) → IsAskRead names version (forms.On verb object)
-unfolding ask_on_one
-on-read names version verb object which of =
-    let kind = verb_kind verb in
-    let place = place_of object (list_of kind names) in
-    record {
-      read = on_object (ask_of kind (verb_word verb)) (object_at place);
-      is = ap (λ kd. ask_on_kind names kd (verb_word verb) object)
-          (kind-verb version verb which of.0)
-          ∙ ap (on_object (ask_of kind (verb_word verb))) (object-lawful names kind object of.1);
-      form = placed-ask (ask_of kind (verb_word verb)) place;
-      unknown = λ none. ap (λ (p : Option ℕ). on_object (ask_of kind (verb_word verb))
-          (object_at p)) none;
-    }
-
-write-read : (names : NameLists) (version : ℕ) (var : List ℕ) (value : ℤ) → IsAskOf version (forms.Write var value) → IsAskRead names version (forms.Write var value)
-unfolding ask_on_two
-write-read names version var value of = record {
-  read = on_object (λ y. asks.Write y value) (object_at (place_of var names.vars));
-  is = rw (object-lawful names kinds.Var var of.0, value_of-Some value of.1);
-  form = placed-ask (λ y. asks.Write y value) (place_of var names.vars);
-  unknown = λ none. ap (λ (p : Option ℕ). on_object (λ y. asks.Write y value) (object_at p)) none;
-}
-
-add-read : (names : NameLists) (version : ℕ) (var : List ℕ) (value : ℤ) → IsAskOf version (forms.Add var value) → IsAskRead names version (forms.Add var value)
-unfolding ask_on_two
-add-read names version var value of = record {
-  read = on_object (λ y. asks.Add y value) (object_at (place_of var names.vars));
-  is = rw (object-lawful names kinds.Var var of.0, value_of-Some value of.1);
-  form = placed-ask (λ y. asks.Add y value) (place_of var names.vars);
-  unknown = λ none. ap (λ (p : Option ℕ). on_object (λ y. asks.Add y value) (object_at p)) none;
-}
-
-cas-read : (names : NameLists) (version : ℕ) (var : List ℕ) (old new : ℤ) → IsAskOf version (forms.Cas var old new) → IsAskRead names version (forms.Cas var old new)
-unfolding ask_on_three
-cas-read names version var old new of = record {
-  read = on_object (λ y. asks.Cas y old new) (object_at (place_of var names.vars));
-  is = rw (object-lawful names kinds.Var var of.0, value_of-Some old of.1, value_of-Some new of.2);
-  form = placed-ask (λ y. asks.Cas y old new) (place_of var names.vars);
-  unknown = λ none. ap (λ (p : Option ℕ). on_object (λ y. asks.Cas y old new) (object_at p)) none;
-}
-
-both-form : (ask : ℕ → ℕ → Ask) (x y : Option ℕ)
-    → has_form (on_both_objects ask (object_at x) (object_at y)) ≡ true
-both-form ask None None = refl
-both-form ask None (Some y) = refl
-both-form ask (Some x) None = refl
-both-form ask (Some x) (Some y) = refl
-
-none-both : (ask : ℕ → ℕ → Ask) (x y : Option ℕ) → (x ≡ None) ⊎ (y ≡ None)
-    → on_both_objects ask (object_at x) (object_at y) ≡ UnknownName
-none-both ask None None none = refl
-none-both ask None (Some y) none = refl
-none-both ask (Some x) None none = refl
-none-both ask (Some x) (Some y) (inl none) = absurd cc
-none-both ask (Some x) (Some y) (inr none) = absurd cc
-
-release-read : (names : NameLists) (version : ℕ) (cond mutex : List ℕ) → IsAskOf version (forms.Release cond mutex) → IsAskRead names version (forms.Release cond mutex)
-unfolding ask_on_two
-release-read names version cond mutex of = record {
-  read = on_both_objects asks.Release (object_at (place_of cond names.conds))
-      (object_at (place_of mutex names.mutexes));
-  is = rw (object-lawful names kinds.Cond cond of.0, object-lawful names kinds.Mutex mutex of.1);
-  form = both-form asks.Release (place_of cond names.conds) (place_of mutex names.mutexes);
-  unknown = λ none. none-both asks.Release (place_of cond names.conds) (place_of mutex names.mutexes) none;
-}
-
-regain-read : (names : NameLists) (version : ℕ) (cond mutex : List ℕ) → IsAskOf version (forms.Regain cond mutex) → IsAskRead names version (forms.Regain cond mutex)
-unfolding ask_on_two
-regain-read names version cond mutex of = record {
-  read = on_both_objects asks.Regain (object_at (place_of cond names.conds))
-      (object_at (place_of mutex names.mutexes));
-  is = rw (object-lawful names kinds.Cond cond of.0, object-lawful names kinds.Mutex mutex of.1);
-  form = both-form asks.Regain (place_of cond names.conds) (place_of mutex names.mutexes);
-  unknown = λ none. none-both asks.Regain (place_of cond names.conds) (place_of mutex names.mutexes) none;
-}
-
-pub ask-read : (names : NameLists) (version : ℕ) (ask : AskForm) → (version ≡ 1) ⊎ (version ≡ 2) → IsAskOf version ask → IsAskRead names version ask
-ask-read names version (forms.On verb object) which of = on-read names version verb object which of
-ask-read names version (forms.Write var value) which of = write-read names version var value of
-ask-read names version (forms.Add var value) which of = add-read names version var value of
-ask-read names version (forms.Cas var old new) which of = cas-read names version var old new of
-ask-read names version (forms.Release cond mutex) which of = release-read names version cond mutex of
-ask-read names version (forms.Regain cond mutex) which of = regain-read names version cond mutex of
-ask-read names version forms.Yield which of = record
-    { read = Is asks.Yield; is = refl; form = refl; unknown = λ none. absurd none }
-ask-read names version forms.Begin which of = record
-    { read = Is asks.Begin; is = refl; form = refl; unknown = λ none. absurd none }
-ask-read names version (forms.Check holds) which of =
-    record {
-      read = Is (asks.Check holds);
-      is = check-known names version holds;
-      form =
-          refl;
-      unknown = λ none. absurd none;
-    }
-ask-read names version (forms.Fault kind) which of =
-    record {
-      read = Is (asks.Fault kind);
-      is = fault-known names version kind;
-      form =
-          refl;
-      unknown = λ none. absurd none;
-    }
-
-pub few-ask_words : (ask : AskForm) → HasFewWords (words_of_ask ask)
-few-ask_words (forms.On verb object) = tt
-few-ask_words (forms.Write var value) = tt
-few-ask_words (forms.Add var value) = tt
-few-ask_words (forms.Cas var old new) = tt
-few-ask_words (forms.Release cond mutex) = tt
-few-ask_words (forms.Regain cond mutex) = tt
-few-ask_words forms.Yield = tt
-few-ask_words forms.Begin = tt
-few-ask_words (forms.Check holds) = tt
-few-ask_words (forms.Fault kind) = tt

@@ -1,38 +1,44 @@
 -- An ask is read of its words, and of nothing else.
 use Rattle.std.specs.Prelude.{codes, ◌==◌, ◌&&◌, if◌then◌else◌}
 use Rattle.std.specs.Str.{bytes_eq}
-use Rattle.std.proofs.Common.{◌≡◌, ℕ, ◌<◌, Bool, true, false, ◌||◌, List, [], ◌∷◌, length, get_or, ℤ, Option, Some, None, refl, sym, ap, ◌∙◌, arith}
+use Rattle.std.proofs.Common.{◌≡◌, ℕ, ◌<◌, Bool, true, false, ◌||◌, List, [], ◌∷◌, length, get_or}
+use Rattle.std.proofs.Common.{ℤ, Option, Some, None, refl, sym, ap, ◌∙◌, arith}
 use Rattle.std.proofs.lemmas.Bool.Decides.{nat_tests}
-use Rattle.std.proofs.lemmas.Slice.Eq.{bytes_eq-Decides}
+use Rattle.std.proofs.lemmas.Option.{same_Some}
 use Rattle.pct_ask.specs.Words.{is_among}
-use Rattle.pct_ask.specs.NameLists.{NameLists, list_of, AreNames}
+use Rattle.pct_ask.specs.NameLists.{NameLists, list_of}
 use Rattle.pct_ask.specs.Numbers.{number_text}
 use Rattle.pct_ask.specs.VerdictText.{fault_word}
 use Rattle.pct_ask.specs.VerdictWords.{fault_kind}
 use Rattle.pct_ask.specs.TraceText.{ask_words, check_word}
 use Rattle.pct_ask.specs.declared.names.NameKind.{NameKind}
-use Rattle.pct_ask.specs.declared.names.NameKind.TheVariants.{Thread, Var, Mutex, Cond, Sem, Barrier, RwLock}
+use Rattle.pct_ask.specs.declared.names.NameKind.TheVariants.{Thread, Var, Mutex, Cond, Sem}
+use Rattle.pct_ask.specs.declared.names.NameKind.TheVariants.{Barrier, RwLock}
 use Rattle.pct_ask.specs.declared.ask.FaultKind.{FaultKind}
-use Rattle.pct_ask.specs.declared.ask.FaultKind.TheVariants.{Overflow, ZeroDivisor, Spin}
 use Rattle.pct_ask.specs.declared.ask.Ask.{Ask}
-use Rattle.pct_ask.specs.declared.ask.Ask.TheVariants.{Read, Write, Add, Cas, Lock, TryLock, Unlock, Release, Regain, Signal, Broadcast, Down, TryDown, Up, Arrive, Leave, Join, Yield, Check, Fault, Start, Begin, RdLock, WrLock, TryRdLock, TryWrLock, RwUnlock}
-use Rattle.trace_text.specs.Lawful.{IsAsk, IsValue}
+use Rattle.pct_ask.specs.declared.ask.Ask.TheVariants.{Read, Write, Add, Cas, Lock, TryLock, Unlock}
+use Rattle.pct_ask.specs.declared.ask.Ask.TheVariants.{Release, Regain, Signal, Broadcast, Down}
+use Rattle.pct_ask.specs.declared.ask.Ask.TheVariants.{TryDown, Up, Arrive, Leave, Join, Yield}
+use Rattle.pct_ask.specs.declared.ask.Ask.TheVariants.{Check, Fault, Start, Begin, RdLock, WrLock}
+use Rattle.pct_ask.specs.declared.ask.Ask.TheVariants.{TryRdLock, TryWrLock, RwUnlock}
+use Rattle.pct_ask.proofs.laws.SameWords.{same-word}
+use Rattle.pct_ask.proofs.laws.VerdictForms.{fault_word-read}
+use Rattle.trace_text.specs.Lawful.{IsAsk}
 use Rattle.trace_text.specs.reader.Numbers.{i64_in}
 use Rattle.trace_text.specs.reader.Asks.{object, object_words, kind_of, ask_of, bare_ask, holds_of}
-use Rattle.trace_text.specs.reader.Asks.{with_operand, plain_ask, on_object, ask_on_kind}
+use Rattle.trace_text.specs.reader.Asks.{with_operand, on_object, ask_on_kind}
 use Rattle.trace_text.specs.reader.Asks.{ask_on_one}
-use Rattle.trace_text.specs.reader.Asks.{ask_with_value, on_both_objects, ask_on_two, exchange}
+use Rattle.trace_text.specs.reader.Asks.{ask_with_value, both_objects, on_both, ask_on_two}
+use Rattle.trace_text.specs.reader.Asks.{exchange}
 use Rattle.trace_text.specs.reader.Asks.{ask_on_three}
 use Rattle.trace_text.specs.declared.asks.WordsRead.{WordsRead}
 use Rattle.trace_text.specs.declared.asks.WordsRead.TheVariants.{Is, NoForm, UnknownName}
-use Rattle.trace_text.proofs.Names.{object-known, known-object}
-use Rattle.trace_text.proofs.Values.{value_of-Some, Some-value_of}
-
-same-word : (word other : List ℕ) → bytes_eq word other ≡ true → word ≡ other
-same-word word other e = (bytes_eq-Decides word other).0 e
+use Rattle.trace_text.proofs.Names.{known-object}
+use Rattle.trace_text.proofs.Values.{Some-i64_in}
 
 -- the words are the ask's, and the ask is one of the test
-pub record IsTold (names : NameLists) (version : ℕ) (words : List (List ℕ)) (ask : Ask) : Type 0 where
+pub record IsTold (names : NameLists) (version : ℕ) (words : List (List ℕ)) (ask : Ask) : Type
+    0 where
   pub words_are : words ≡ ask_words names ask
   pub lawful : IsAsk names version ask
 
@@ -50,60 +56,127 @@ Knows version RwLock = version ≡ 2
 abbrev pub Among : ℕ → List ℕ → NameKind → Type 0
 Among version word kind = (is_among word (object_words kind) ≡ true) × Knows version kind
 
-some_is : {A : Type 0} (x y : A) → Some x ≡ Some y → x ≡ y
-some_is x y e = cc
-
-kind-by : (version : ℕ) (word : List ℕ) (kind : NameKind) (t v m c s b two l : Bool) → is_among word (object_words Thread) ≡ t → is_among word (object_words Var) ≡ v → is_among word (object_words Mutex) ≡ m → is_among word (object_words Cond) ≡ c → is_among word (object_words Sem) ≡ s → is_among word (object_words Barrier) ≡ b → (version == 2) ≡ two → is_among word (object_words RwLock) ≡ l
-    → (if t then Some Thread else (if v then Some Var else (if m then Some Mutex else (if c then Some Cond else (if s then Some Sem else (if b then Some Barrier else (if two && l then Some RwLock else None))))))) ≡ Some kind → Among version word kind
-kind-by version word kind true v m c s b two l et ev em ec es eb e2 el h = rw (← some_is Thread kind h) (et, tt)
-kind-by version word kind false true m c s b two l et ev em ec es eb e2 el h = rw (← some_is Var kind h) (ev, tt)
-kind-by version word kind false false true c s b two l et ev em ec es eb e2 el h = rw (← some_is Mutex kind h) (em, tt)
-kind-by version word kind false false false true s b two l et ev em ec es eb e2 el h = rw (← some_is Cond kind h) (ec, tt)
-kind-by version word kind false false false false true b two l et ev em ec es eb e2 el h = rw (← some_is Sem kind h) (es, tt)
-kind-by version word kind false false false false false true two l et ev em ec es eb e2 el h = rw (← some_is Barrier kind h) (eb, tt)
+kind-by : (version : ℕ) (word : List ℕ) (kind : NameKind) (t v m c s b two l : Bool)
+    → is_among word (object_words Thread) ≡ t → is_among word (object_words Var) ≡ v
+    → is_among word (object_words Mutex) ≡ m → is_among word (object_words Cond) ≡ c
+    → is_among word (object_words Sem) ≡ s → is_among word (object_words Barrier) ≡ b
+    → (version == 2) ≡ two → is_among word (object_words RwLock) ≡ l
+    → (if t then Some Thread else (if v then Some Var else
+    (if m then Some Mutex else (if c then Some Cond else
+    (if s then Some Sem else (if b then Some Barrier else
+    (if two && l then Some RwLock else None))))))) ≡ Some kind → Among version word kind
+kind-by version word kind true v m c s b two l et ev em ec es eb e2 el h =
+    rw (← same_Some Thread kind h) (et, tt)
+kind-by version word kind false true m c s b two l et ev em ec es eb e2 el h =
+    rw (← same_Some Var kind h) (ev, tt)
+kind-by version word kind false false true c s b two l et ev em ec es eb e2 el h =
+    rw (← same_Some Mutex kind h) (em, tt)
+kind-by version word kind false false false true s b two l et ev em ec es eb e2 el h =
+    rw (← same_Some Cond kind h) (ec, tt)
+kind-by version word kind false false false false true b two l et ev em ec es eb e2 el h =
+    rw (← same_Some Sem kind h) (es, tt)
+kind-by version word kind false false false false false true two l et ev em ec es eb e2 el h =
+    rw (← same_Some Barrier kind h) (eb, tt)
 kind-by version word kind false false false false false false true true et ev em ec es eb e2 el h =
-    let second : version ≡ 2 = grind (arith, nat_tests) in rw (← some_is RwLock kind h) (el, second)
-kind-by version word kind false false false false false false true false et ev em ec es eb e2 el h = absurd cc
-kind-by version word kind false false false false false false false l et ev em ec es eb e2 el h = absurd cc
+    let second : version ≡ 2 = grind (arith, nat_tests) in
+    rw (← same_Some RwLock kind h) (el, second)
+kind-by version word kind false false false false false false true false et ev em ec es eb e2 el h =
+    absurd cc
+kind-by version word kind false false false false false false false l et ev em ec es eb e2 el h =
+    absurd cc
 
-pub kind-among : (version : ℕ) (word : List ℕ) (kind : NameKind) → kind_of version word ≡ Some kind → Among version word kind
+pub kind-among : (version : ℕ) (word : List ℕ) (kind : NameKind) → kind_of version word ≡ Some kind
+    → Among version word kind
 kind-among version word kind h =
-    kind-by version word kind (is_among word (object_words Thread)) (is_among word (object_words Var)) (is_among word (object_words Mutex)) (is_among word (object_words Cond)) (is_among word (object_words Sem)) (is_among word (object_words Barrier)) (version == 2) (is_among word (object_words RwLock)) refl refl refl refl refl refl refl refl h
+    kind-by version word kind (is_among word (object_words Thread))
+    (is_among word (object_words Var)) (is_among word (object_words Mutex))
+    (is_among word (object_words Cond)) (is_among word (object_words Sem))
+    (is_among word (object_words Barrier)) (version == 2) (is_among word (object_words RwLock))
+    refl refl refl refl refl refl refl refl h
 
 -- ---- asks of one object
 
-one-of-two : (names : NameLists) (version : ℕ) (word name x y : List ℕ) (p q : Ask) (a b : Bool) → bytes_eq word x ≡ a → bytes_eq word y ≡ b → (a || (b || false)) ≡ true → IsTold names version (x ∷ name ∷ []) p → IsTold names version (y ∷ name ∷ []) q → IsTold names version (word ∷ name ∷ []) (if a then p else q)
+one-of-two : (names : NameLists) (version : ℕ) (word name x y : List ℕ) (p q : Ask) (a b : Bool)
+    → bytes_eq word x ≡ a → bytes_eq word y ≡ b → (a || (b || false)) ≡ true
+    → IsTold names version (x ∷ name ∷ []) p → IsTold names version (y ∷ name ∷ []) q
+    → IsTold names version (word ∷ name ∷ []) (if a then p else q)
 one-of-two names version word name x y p q true b ea eb h tp tq = rw (same-word word x ea) tp
 one-of-two names version word name x y p q false true ea eb h tp tq = rw (same-word word y eb) tq
 one-of-two names version word name x y p q false false ea eb h tp tq = absurd cc
 
-one-of-three : (names : NameLists) (version : ℕ) (word name x y z : List ℕ) (p q r : Ask) (a b c : Bool) → bytes_eq word x ≡ a → bytes_eq word y ≡ b → bytes_eq word z ≡ c → (a || (b || (c || false))) ≡ true → IsTold names version (x ∷ name ∷ []) p → IsTold names version (y ∷ name ∷ []) q → IsTold names version (z ∷ name ∷ []) r → IsTold names version (word ∷ name ∷ []) (if a then p else (if b then q else r))
-one-of-three names version word name x y z p q r true b c ea eb ec h tp tq tr = rw (same-word word x ea) tp
-one-of-three names version word name x y z p q r false b c ea eb ec h tp tq tr = one-of-two names version word name y z q r b c eb ec h tq tr
+one-of-three : (names : NameLists) (version : ℕ) (word name x y z : List ℕ) (p q r : Ask)
+    (a b c : Bool) → bytes_eq word x ≡ a → bytes_eq word y ≡ b → bytes_eq word z ≡ c
+    → (a || (b || (c || false))) ≡ true → IsTold names version (x ∷ name ∷ []) p
+    → IsTold names version (y ∷ name ∷ []) q → IsTold names version (z ∷ name ∷ []) r
+    → IsTold names version (word ∷ name ∷ []) (if a then p else (if b then q else r))
+one-of-three names version word name x y z p q r true b c ea eb ec h tp tq tr =
+    rw (same-word word x ea) tp
+one-of-three names version word name x y z p q r false b c ea eb ec h tp tq tr =
+    one-of-two names version word name y z q r b c eb ec h tq tr
 
-one-of-five : (names : NameLists) (version : ℕ) (word name x y z u v : List ℕ) (p q r s t : Ask) (a b c d e : Bool) → bytes_eq word x ≡ a → bytes_eq word y ≡ b → bytes_eq word z ≡ c → bytes_eq word u ≡ d → bytes_eq word v ≡ e → (a || (b || (c || (d || (e || false))))) ≡ true → IsTold names version (x ∷ name ∷ []) p → IsTold names version (y ∷ name ∷ []) q → IsTold names version (z ∷ name ∷ []) r → IsTold names version (u ∷ name ∷ []) s → IsTold names version (v ∷ name ∷ []) t → IsTold names version (word ∷ name ∷ []) (if a then p else (if b then q else (if c then r else (if d then s else t))))
-one-of-five names version word name x y z u v p q r s t true b c d e ea eb ec ed ee h tp tq tr ts tt' = rw (same-word word x ea) tp
-one-of-five names version word name x y z u v p q r s t false true c d e ea eb ec ed ee h tp tq tr ts tt' = rw (same-word word y eb) tq
-one-of-five names version word name x y z u v p q r s t false false c d e ea eb ec ed ee h tp tq tr ts tt' = one-of-three names version word name z u v r s t c d e ec ed ee h tr ts tt'
+one-of-five : (names : NameLists) (version : ℕ) (word name x y z u v : List ℕ) (p q r s t : Ask)
+    (a b c d e : Bool) → bytes_eq word x ≡ a → bytes_eq word y ≡ b → bytes_eq word z ≡ c
+    → bytes_eq word u ≡ d → bytes_eq word v ≡ e → (a || (b || (c || (d || (e || false))))) ≡ true
+    → IsTold names version (x ∷ name ∷ []) p → IsTold names version (y ∷ name ∷ []) q
+    → IsTold names version (z ∷ name ∷ []) r → IsTold names version (u ∷ name ∷ []) s
+    → IsTold names version (v ∷ name ∷ []) t
+    → IsTold names version (word ∷ name ∷ [])
+    (if a then p else (if b then q else (if c then r else (if d then s else t))))
+one-of-five names version word name x y z u v p q r s t true b c d e ea eb ec ed ee h tp tq tr ts
+    tt' = rw (same-word word x ea) tp
+one-of-five names version word name x y z u v p q r s t false true c d e ea eb ec ed ee h tp tq tr
+    ts tt' = rw (same-word word y eb) tq
+one-of-five names version word name x y z u v p q r s t false false c d e ea eb ec ed ee h tp tq tr
+    ts tt' = one-of-three names version word name z u v r s t c d e ec ed ee h tr ts tt'
 
-told-on : (names : NameLists) (version : ℕ) (kind : NameKind) (word : List ℕ) (id : ℕ) → Among version word kind → id < length (list_of kind names) → IsTold names version (word ∷ get_or (list_of kind names) id [] ∷ []) (ask_of kind word id)
+told-on : (names : NameLists) (version : ℕ) (kind : NameKind) (word : List ℕ) (id : ℕ)
+    → Among version word kind → id < length (list_of kind names)
+    → IsTold names version (word ∷ get_or (list_of kind names) id [] ∷ []) (ask_of kind word id)
 told-on names version Thread word id k h =
-    one-of-two names version word (get_or names.threads id []) (codes "join") (codes "start") (Join id) (Start id) (bytes_eq word (codes "join")) (bytes_eq word (codes "start")) refl refl k.0 (record { words_are = refl; lawful = h }) (record { words_are = refl; lawful = h })
+    one-of-two names version word (get_or names.threads id []) (codes "join") (codes "start")
+    (Join id) (Start id) (bytes_eq word (codes "join")) (bytes_eq word (codes "start")) refl
+    refl k.0 (record { words_are = refl; lawful = h }) (record { words_are = refl; lawful = h })
 told-on names version Var word id k h = by (bytes_eq word (codes "read")) refl k.0
   where
-    by : (a : Bool) → bytes_eq word (codes "read") ≡ a → (a || false) ≡ true → IsTold names version (word ∷ get_or names.vars id [] ∷ []) (Read id)
-    by true e t = record { words_are = ap (λ w. w ∷ get_or names.vars id [] ∷ []) (same-word word (codes "read") e); lawful = h }
+    by : (a : Bool) → bytes_eq word (codes "read") ≡ a → (a || false) ≡ true
+        → IsTold names version (word ∷ get_or names.vars id [] ∷ []) (Read id)
+    by true e t = record {
+      words_are = ap (λ w. w ∷ get_or names.vars id [] ∷ []) (same-word word (codes "read") e);
+      lawful = h;
+    }
     by false e t = absurd cc
 told-on names version Mutex word id k h =
-    one-of-three names version word (get_or names.mutexes id []) (codes "lock") (codes "trylock") (codes "unlock") (Lock id) (TryLock id) (Unlock id) (bytes_eq word (codes "lock")) (bytes_eq word (codes "trylock")) (bytes_eq word (codes "unlock")) refl refl refl k.0 (record { words_are = refl; lawful = h }) (record { words_are = refl; lawful = h }) (record { words_are = refl; lawful = h })
+    one-of-three names version word (get_or names.mutexes id []) (codes "lock") (codes "trylock")
+    (codes "unlock") (Lock id) (TryLock id) (Unlock id) (bytes_eq word (codes "lock"))
+    (bytes_eq word (codes "trylock")) (bytes_eq word (codes "unlock")) refl refl refl k.0
+    (record { words_are = refl; lawful = h }) (record { words_are = refl; lawful = h })
+    (record { words_are = refl; lawful = h })
 told-on names version Cond word id k h =
-    one-of-two names version word (get_or names.conds id []) (codes "signal") (codes "broadcast") (Signal id) (Broadcast id) (bytes_eq word (codes "signal")) (bytes_eq word (codes "broadcast")) refl refl k.0 (record { words_are = refl; lawful = h }) (record { words_are = refl; lawful = h })
+    one-of-two names version word (get_or names.conds id []) (codes "signal") (codes "broadcast")
+    (Signal id) (Broadcast id) (bytes_eq word (codes "signal"))
+    (bytes_eq word (codes "broadcast")) refl refl k.0 (record { words_are = refl; lawful = h })
+    (record { words_are = refl; lawful = h })
 told-on names version Sem word id k h =
-    one-of-three names version word (get_or names.sems id []) (codes "down") (codes "trydown") (codes "up") (Down id) (TryDown id) (Up id) (bytes_eq word (codes "down")) (bytes_eq word (codes "trydown")) (bytes_eq word (codes "up")) refl refl refl k.0 (record { words_are = refl; lawful = h }) (record { words_are = refl; lawful = h }) (record { words_are = refl; lawful = h })
+    one-of-three names version word (get_or names.sems id []) (codes "down") (codes "trydown")
+    (codes "up") (Down id) (TryDown id) (Up id) (bytes_eq word (codes "down"))
+    (bytes_eq word (codes "trydown")) (bytes_eq word (codes "up")) refl refl refl k.0
+    (record { words_are = refl; lawful = h }) (record { words_are = refl; lawful = h })
+    (record { words_are = refl; lawful = h })
 told-on names version Barrier word id k h =
-    one-of-two names version word (get_or names.barriers id []) (codes "arrive") (codes "leave") (Arrive id) (Leave id) (bytes_eq word (codes "arrive")) (bytes_eq word (codes "leave")) refl refl k.0 (record { words_are = refl; lawful = h }) (record { words_are = refl; lawful = h })
+    one-of-two names version word (get_or names.barriers id []) (codes "arrive") (codes "leave")
+    (Arrive id) (Leave id) (bytes_eq word (codes "arrive")) (bytes_eq word (codes "leave")) refl
+    refl k.0 (record { words_are = refl; lawful = h }) (record { words_are = refl; lawful = h })
 told-on names version RwLock word id k h =
-    one-of-five names version word (get_or names.rwlocks id []) (codes "rdlock") (codes "wrlock") (codes "tryrdlock") (codes "trywrlock") (codes "rwunlock") (RdLock id) (WrLock id) (TryRdLock id) (TryWrLock id) (RwUnlock id) (bytes_eq word (codes "rdlock")) (bytes_eq word (codes "wrlock")) (bytes_eq word (codes "tryrdlock")) (bytes_eq word (codes "trywrlock")) (bytes_eq word (codes "rwunlock")) refl refl refl refl refl k.0 (record { words_are = refl; lawful = (h, k.1) }) (record { words_are = refl; lawful = (h, k.1) }) (record { words_are = refl; lawful = (h, k.1) }) (record { words_are = refl; lawful = (h, k.1) }) (record { words_are = refl; lawful = (h, k.1) })
+    one-of-five names version word (get_or names.rwlocks id []) (codes "rdlock") (codes "wrlock")
+    (codes "tryrdlock") (codes "trywrlock") (codes "rwunlock") (RdLock id) (WrLock id)
+    (TryRdLock id) (TryWrLock id) (RwUnlock id) (bytes_eq word (codes "rdlock"))
+    (bytes_eq word (codes "wrlock")) (bytes_eq word (codes "tryrdlock"))
+    (bytes_eq word (codes "trywrlock")) (bytes_eq word (codes "rwunlock")) refl refl refl refl
+    refl k.0 (record { words_are = refl; lawful = (h, k.1) })
+    (record { words_are = refl; lawful = (h, k.1) })
+    (record { words_are = refl; lawful = (h, k.1) })
+    (record { words_are = refl; lawful = (h, k.1) })
+    (record { words_are = refl; lawful = (h, k.1) })
 
 -- ---- asks that are read
 
@@ -121,7 +194,9 @@ object-told ask (Is x) told h = (x, refl, is_is (ask x) told h)
 object-told ask NoForm told h = absurd cc
 object-told ask UnknownName told h = absurd cc
 
-same-told : (names : NameLists) (version : ℕ) (words others : List (List ℕ)) (ask other : Ask) → others ≡ words → other ≡ ask → IsTold names version others other → IsTold names version words ask
+same-told : (names : NameLists) (version : ℕ) (words others : List (List ℕ)) (ask other : Ask)
+    → others ≡ words → other ≡ ask → IsTold names version others other
+    → IsTold names version words ask
 same-told names version words others ask other p q told = rw (← p, ← q) told
 
 pair : (a b x y : List ℕ) → x ≡ a → y ≡ b → x ∷ y ∷ [] ≡ a ∷ b ∷ []
@@ -130,7 +205,8 @@ pair a b x y p q = rw (p, q)
 triple : (a b c x y z : List ℕ) → x ≡ a → y ≡ b → z ≡ c → x ∷ y ∷ z ∷ [] ≡ a ∷ b ∷ c ∷ []
 triple a b c x y z p q r = rw (p, q, r)
 
-four : (a b c d x y z w : List ℕ) → x ≡ a → y ≡ b → z ≡ c → w ≡ d → x ∷ y ∷ z ∷ w ∷ [] ≡ a ∷ b ∷ c ∷ d ∷ []
+four : (a b c d x y z w : List ℕ) → x ≡ a → y ≡ b → z ≡ c → w ≡ d
+    → x ∷ y ∷ z ∷ w ∷ [] ≡ a ∷ b ∷ c ∷ d ∷ []
 four a b c d x y z w p q r s = rw (p, q, r, s)
 
 bare-by : (names : NameLists) (version : ℕ) (word : List ℕ) (ask : Ask) (a b : Bool)
@@ -138,25 +214,27 @@ bare-by : (names : NameLists) (version : ℕ) (word : List ℕ) (ask : Ask) (a b
     → (if◌then◌else◌ {A = WordsRead Ask} a (Is Yield) (if b then Is Begin else NoForm)) ≡ Is ask
     → IsTold names version (word ∷ []) ask
 bare-by names version word ask true b ea eb h =
-    let is : Yield ≡ ask = cc in rw (← is) (record { words_are = ap (λ w. w ∷ []) (same-word word (codes "yield") ea); lawful = tt })
+    let is : Yield ≡ ask = cc in rw (← is)
+    (record { words_are = ap (λ w. w ∷ []) (same-word word (codes "yield") ea); lawful = tt })
 bare-by names version word ask false true ea eb h =
-    let is : Begin ≡ ask = cc in rw (← is) (record { words_are = ap (λ w. w ∷ []) (same-word word (codes "begin") eb); lawful = tt })
+    let is : Begin ≡ ask = cc in rw (← is)
+    (record { words_are = ap (λ w. w ∷ []) (same-word word (codes "begin") eb); lawful = tt })
 bare-by names version word ask false false ea eb h = absurd cc
 
 pub bare-told : (names : NameLists) (version : ℕ) (word : List ℕ) (ask : Ask)
     → bare_ask word ≡ Is ask → IsTold names version (word ∷ []) ask
-bare-told names version word ask h = bare-by names version word ask (bytes_eq word (codes "yield")) (bytes_eq word (codes "begin")) refl refl h
+bare-told names version word ask h =
+    bare-by names version word ask (bytes_eq word (codes "yield")) (bytes_eq word (codes "begin"))
+    refl refl h
 
-pub holds-by : (word : List ℕ) (holds : Bool) (a b : Bool) → bytes_eq word (codes "1") ≡ a → bytes_eq word (codes "0") ≡ b → (if a then Some true else (if b then Some false else None)) ≡ Some holds → word ≡ check_word holds
-holds-by word holds true b ea eb h = let is : true ≡ holds = cc in same-word word (codes "1") ea ∙ ap check_word is
-holds-by word holds false true ea eb h = let is : false ≡ holds = cc in same-word word (codes "0") eb ∙ ap check_word is
+pub holds-by : (word : List ℕ) (holds : Bool) (a b : Bool) → bytes_eq word (codes "1") ≡ a
+    → bytes_eq word (codes "0") ≡ b → (if a then Some true else (if b then Some false else None))
+    ≡ Some holds → word ≡ check_word holds
+holds-by word holds true b ea eb h = let is : true ≡ holds = cc in
+    same-word word (codes "1") ea ∙ ap check_word is
+holds-by word holds false true ea eb h = let is : false ≡ holds = cc in
+    same-word word (codes "0") eb ∙ ap check_word is
 holds-by word holds false false ea eb h = absurd cc
-
-pub fault-by : (word : List ℕ) (kind : FaultKind) (a b c : Bool) → bytes_eq word (codes "overflow") ≡ a → bytes_eq word (codes "zerodivisor") ≡ b → bytes_eq word (codes "spin") ≡ c → (if a then Some Overflow else (if b then Some ZeroDivisor else (if c then Some Spin else None))) ≡ Some kind → word ≡ fault_word kind
-fault-by word kind true b c p q r h = let same : Overflow ≡ kind = cc in same-word word (codes "overflow") p ∙ ap fault_word same
-fault-by word kind false true c p q r h = let same : ZeroDivisor ≡ kind = cc in same-word word (codes "zerodivisor") q ∙ ap fault_word same
-fault-by word kind false false true p q r h = let same : Spin ≡ kind = cc in same-word word (codes "spin") r ∙ ap fault_word same
-fault-by word kind false false false p q r h = absurd cc
 
 plain-by : (names : NameLists) (version : ℕ) (word operand : List ℕ) (ask : Ask) (a b : Bool)
     → bytes_eq word (codes "check") ≡ a → bytes_eq word (codes "fault") ≡ b
@@ -165,14 +243,15 @@ plain-by : (names : NameLists) (version : ℕ) (word operand : List ℕ) (ask : 
     → IsTold names version (word ∷ operand ∷ []) ask
 plain-by names version word operand ask true b ea eb h =
     let m = operand-told (λ (holds : Bool). Check holds) (holds_of operand) ask h in
-    let spelled = holds-by operand m.0 (bytes_eq operand (codes "1")) (bytes_eq operand (codes "0")) refl refl m.1 in
+    let spelled = holds-by operand m.0 (bytes_eq operand (codes "1")) (bytes_eq operand (codes "0"))
+    refl refl m.1 in
     same-told names version (word ∷ operand ∷ []) (codes "check" ∷ check_word m.0 ∷ []) ask
     (Check m.0) (pair word operand (codes "check") (check_word m.0)
     (sym (same-word word (codes "check") ea)) (sym spelled)) m.2
     (record { words_are = refl; lawful = tt })
 plain-by names version word operand ask false true ea eb h =
     let m = operand-told (λ (kind : FaultKind). Fault kind) (fault_kind operand) ask h in
-    let spelled = fault-by operand m.0 (bytes_eq operand (codes "overflow")) (bytes_eq operand (codes "zerodivisor")) (bytes_eq operand (codes "spin")) refl refl refl m.1 in
+    let spelled = fault_word-read operand m.0 m.1 in
     same-told names version (word ∷ operand ∷ []) (codes "fault" ∷ fault_word m.0 ∷ []) ask
     (Fault m.0) (pair word operand (codes "fault") (fault_word m.0)
     (sym (same-word word (codes "fault") eb)) (sym spelled)) m.2
@@ -182,18 +261,23 @@ plain-by names version word operand ask false false ea eb h = absurd cc
 one-by : (names : NameLists) (version : ℕ) (kind : Option NameKind) (word operand : List ℕ)
     (ask : Ask) → kind_of version word ≡ kind → ask_on_kind names kind word operand ≡ Is ask
     → IsTold names version (word ∷ operand ∷ []) ask
-one-by names version None word operand ask k h = plain-by names version word operand ask (bytes_eq word (codes "check")) (bytes_eq word (codes "fault")) refl refl h
+one-by names version None word operand ask k h =
+    plain-by names version word operand ask (bytes_eq word (codes "check"))
+    (bytes_eq word (codes "fault")) refl refl h
 one-by names version (Some kind) word operand ask k h =
     let i = object-told (ask_of kind word) (object names kind operand) ask h in
     let at = known-object names kind operand i.0 i.1 in
     let told = told-on names version kind word i.0 (kind-among version word kind k) at.0 in
-    same-told names version (word ∷ operand ∷ []) (word ∷ get_or (list_of kind names) i.0 [] ∷ []) ask (ask_of kind word i.0) (pair word operand word (get_or (list_of kind names) i.0 []) refl at.1) i.2 told
+    same-told names version (word ∷ operand ∷ []) (word ∷ get_or (list_of kind names) i.0 [] ∷ [])
+    ask (ask_of kind word i.0) (pair word operand word (get_or (list_of kind names) i.0 []) refl
+    at.1) i.2 told
 
 pub one-told : (names : NameLists) (version : ℕ) (word operand : List ℕ) (ask : Ask)
     → ask_on_one names version word operand ≡ Is ask
     → IsTold names version (word ∷ operand ∷ []) ask
 unfolding ask_on_one
-one-told names version word operand ask h = one-by names version (kind_of version word) word operand ask refl h
+one-told names version word operand ask h =
+    one-by names version (kind_of version word) word operand ask refl h
 
 value-told : (ask : ℕ → ℤ → Ask) (place : WordsRead ℕ) (value : Option ℤ) (told : Ask)
     → ask_with_value ask place value ≡ Is told → (x : ℕ) × (v : ℤ) × (place ≡ Is x) × (value ≡ Some
@@ -202,50 +286,71 @@ value-told ask place None told h = absurd cc
 value-told ask place (Some v) told h = let i =
     object-told (λ x. ask x v) place told h in (i.0, v, i.1, refl, i.2)
 
-both-told : (ask : ℕ → ℕ → Ask) (c m : WordsRead ℕ) (told : Ask) → on_both_objects ask c m ≡ Is told
+on_both-told : (ask : ℕ → ℕ → Ask) (c m : WordsRead ℕ) (told : Ask)
+    → on_both ask (both_objects c m) ≡ Is told
     → (x : ℕ) × (y : ℕ) × (c ≡ Is x) × (m ≡ Is y) × (ask x y ≡ told)
-both-told ask NoForm m told h = absurd cc
-both-told ask UnknownName (Is y) told h = absurd cc
-both-told ask UnknownName NoForm told h = absurd cc
-both-told ask UnknownName UnknownName told h = absurd cc
-both-told ask (Is x) NoForm told h = absurd cc
-both-told ask (Is x) UnknownName told h = absurd cc
-both-told ask (Is x) (Is y) told h = (x, y, refl, refl, is_is (ask x y) told h)
+on_both-told ask NoForm m told h = absurd cc
+on_both-told ask UnknownName (Is y) told h = absurd cc
+on_both-told ask UnknownName NoForm told h = absurd cc
+on_both-told ask UnknownName UnknownName told h = absurd cc
+on_both-told ask (Is x) NoForm told h = absurd cc
+on_both-told ask (Is x) UnknownName told h = absurd cc
+on_both-told ask (Is x) (Is y) told h = (x, y, refl, refl, is_is (ask x y) told h)
 
-two-by : (names : NameLists) (version : ℕ) (word a b : List ℕ) (ask : Ask) (w p r g : Bool) → bytes_eq word (codes "write") ≡ w → bytes_eq word (codes "add") ≡ p → bytes_eq word (codes "release") ≡ r → bytes_eq word (codes "regain") ≡ g
+two-by : (names : NameLists) (version : ℕ) (word a b : List ℕ) (ask : Ask) (w p r g : Bool)
+    → bytes_eq word (codes "write") ≡ w → bytes_eq word (codes "add") ≡ p
+    → bytes_eq word (codes "release") ≡ r → bytes_eq word (codes "regain") ≡ g
     → (if w then ask_with_value Write (object names Var a) (i64_in b) else
     (if p then ask_with_value Add (object names Var a) (i64_in b) else
-    (if r then on_both_objects Release (object names Cond a) (object names Mutex b) else
-    (if g then on_both_objects Regain (object names Cond a) (object names Mutex b) else NoForm))))
+    (if r then on_both Release (both_objects (object names Cond a) (object names Mutex b)) else
+    (if g then on_both Regain (both_objects (object names Cond a) (object names Mutex b)) else
+    NoForm))))
     ≡ Is
     ask → IsTold names version (word ∷ a ∷ b ∷ []) ask
 two-by names version word a b ask true p r g ew ep er eg h =
     let i = value-told Write (object names Var a) (i64_in b) ask h in
     let at = known-object names Var a i.0 i.2 in
-    let v = Some-value_of b i.1 i.3 in
-    same-told names version (word ∷ a ∷ b ∷ []) (codes "write" ∷ get_or names.vars i.0 [] ∷ number_text i.1 ∷ []) ask (Write i.0 i.1) (triple word a b (codes "write") (get_or names.vars i.0 []) (number_text i.1) (sym (same-word word (codes "write") ew)) at.1 (sym v.0)) i.4 (record { words_are = refl; lawful = (at.0, v.1) })
+    let v = Some-i64_in b i.1 i.3 in
+    same-told names version (word ∷ a ∷ b ∷ [])
+    (codes "write" ∷ get_or names.vars i.0 [] ∷ number_text i.1 ∷ []) ask (Write i.0 i.1)
+    (triple word a b (codes "write") (get_or names.vars i.0 []) (number_text i.1)
+    (sym (same-word word (codes "write") ew)) at.1 (sym v.0)) i.4
+    (record { words_are = refl; lawful = (at.0, v.1) })
 two-by names version word a b ask false true r g ew ep er eg h =
     let i = value-told Add (object names Var a) (i64_in b) ask h in
     let at = known-object names Var a i.0 i.2 in
-    let v = Some-value_of b i.1 i.3 in
-    same-told names version (word ∷ a ∷ b ∷ []) (codes "add" ∷ get_or names.vars i.0 [] ∷ number_text i.1 ∷ []) ask (Add i.0 i.1) (triple word a b (codes "add") (get_or names.vars i.0 []) (number_text i.1) (sym (same-word word (codes "add") ep)) at.1 (sym v.0)) i.4 (record { words_are = refl; lawful = (at.0, v.1) })
+    let v = Some-i64_in b i.1 i.3 in
+    same-told names version (word ∷ a ∷ b ∷ [])
+    (codes "add" ∷ get_or names.vars i.0 [] ∷ number_text i.1 ∷ []) ask (Add i.0 i.1)
+    (triple word a b (codes "add") (get_or names.vars i.0 []) (number_text i.1)
+    (sym (same-word word (codes "add") ep)) at.1 (sym v.0)) i.4
+    (record { words_are = refl; lawful = (at.0, v.1) })
 two-by names version word a b ask false false true g ew ep er eg h =
-    let i = both-told Release (object names Cond a) (object names Mutex b) ask h in
+    let i = on_both-told Release (object names Cond a) (object names Mutex b) ask h in
     let c = known-object names Cond a i.0 i.2 in
     let m = known-object names Mutex b i.1 i.3 in
-    same-told names version (word ∷ a ∷ b ∷ []) (codes "release" ∷ get_or names.conds i.0 [] ∷ get_or names.mutexes i.1 [] ∷ []) ask (Release i.0 i.1) (triple word a b (codes "release") (get_or names.conds i.0 []) (get_or names.mutexes i.1 []) (sym (same-word word (codes "release") er)) c.1 m.1) i.4 (record { words_are = refl; lawful = (c.0, m.0) })
+    same-told names version (word ∷ a ∷ b ∷ [])
+    (codes "release" ∷ get_or names.conds i.0 [] ∷ get_or names.mutexes i.1 [] ∷ []) ask
+    (Release i.0 i.1) (triple word a b (codes "release") (get_or names.conds i.0 [])
+    (get_or names.mutexes i.1 []) (sym (same-word word (codes "release") er)) c.1 m.1) i.4
+    (record { words_are = refl; lawful = (c.0, m.0) })
 two-by names version word a b ask false false false true ew ep er eg h =
-    let i = both-told Regain (object names Cond a) (object names Mutex b) ask h in
+    let i = on_both-told Regain (object names Cond a) (object names Mutex b) ask h in
     let c = known-object names Cond a i.0 i.2 in
     let m = known-object names Mutex b i.1 i.3 in
-    same-told names version (word ∷ a ∷ b ∷ []) (codes "regain" ∷ get_or names.conds i.0 [] ∷ get_or names.mutexes i.1 [] ∷ []) ask (Regain i.0 i.1) (triple word a b (codes "regain") (get_or names.conds i.0 []) (get_or names.mutexes i.1 []) (sym (same-word word (codes "regain") eg)) c.1 m.1) i.4 (record { words_are = refl; lawful = (c.0, m.0) })
+    same-told names version (word ∷ a ∷ b ∷ [])
+    (codes "regain" ∷ get_or names.conds i.0 [] ∷ get_or names.mutexes i.1 [] ∷ []) ask
+    (Regain i.0 i.1) (triple word a b (codes "regain") (get_or names.conds i.0 [])
+    (get_or names.mutexes i.1 []) (sym (same-word word (codes "regain") eg)) c.1 m.1) i.4
+    (record { words_are = refl; lawful = (c.0, m.0) })
 two-by names version word a b ask false false false false ew ep er eg h = absurd cc
 
 pub two-told : (names : NameLists) (version : ℕ) (word a b : List ℕ) (ask : Ask)
     → ask_on_two names word a b ≡ Is ask → IsTold names version (word ∷ a ∷ b ∷ []) ask
 unfolding ask_on_two
 two-told names version word a b ask h =
-    two-by names version word a b ask (bytes_eq word (codes "write")) (bytes_eq word (codes "add")) (bytes_eq word (codes "release")) (bytes_eq word (codes "regain")) refl refl refl refl h
+    two-by names version word a b ask (bytes_eq word (codes "write")) (bytes_eq word (codes "add"))
+    (bytes_eq word (codes "release")) (bytes_eq word (codes "regain")) refl refl refl refl h
 
 exchange-told : (place : WordsRead ℕ) (old new : Option ℤ) (told : Ask)
     → exchange place old new ≡ Is told → (x : ℕ) × (u : ℤ) × (v : ℤ) × (place ≡ Is x) × (old ≡ Some
@@ -261,170 +366,17 @@ three-by : (names : NameLists) (version : ℕ) (word a b c : List ℕ) (ask : As
 three-by names version word a b c ask true ew h =
     let i = exchange-told (object names Var a) (i64_in b) (i64_in c) ask h in
     let at = known-object names Var a i.0 i.3 in
-    let u = Some-value_of b i.1 i.4 in
-    let v = Some-value_of c i.2 i.5 in
-    same-told names version (word ∷ a ∷ b ∷ c ∷ []) (codes "cas" ∷ get_or names.vars i.0 [] ∷ number_text i.1 ∷ number_text i.2 ∷ []) ask (Cas i.0 i.1 i.2) (four word a b c (codes "cas") (get_or names.vars i.0 []) (number_text i.1) (number_text i.2) (sym (same-word word (codes "cas") ew)) at.1 (sym u.0) (sym v.0)) i.6 (record { words_are = refl; lawful = (at.0, u.1, v.1) })
+    let u = Some-i64_in b i.1 i.4 in
+    let v = Some-i64_in c i.2 i.5 in
+    same-told names version (word ∷ a ∷ b ∷ c ∷ [])
+    (codes "cas" ∷ get_or names.vars i.0 [] ∷ number_text i.1 ∷ number_text i.2 ∷ []) ask
+    (Cas i.0 i.1 i.2) (four word a b c (codes "cas") (get_or names.vars i.0 [])
+    (number_text i.1) (number_text i.2) (sym (same-word word (codes "cas") ew)) at.1 (sym u.0)
+    (sym v.0)) i.6 (record { words_are = refl; lawful = (at.0, u.1, v.1) })
 three-by names version word a b c ask false ew h = absurd cc
 
 pub three-told : (names : NameLists) (version : ℕ) (word a b c : List ℕ) (ask : Ask)
     → ask_on_three names word a b c ≡ Is ask → IsTold names version (word ∷ a ∷ b ∷ c ∷ []) ask
 unfolding ask_on_three
-three-told names version word a b c ask h = three-by names version word a b c ask (bytes_eq word (codes "cas")) refl h
-
--- ---- an ask of the test is read of its words
-
-test-word : (word other : List ℕ) → word ≡ other → bytes_eq word other ≡ true
-test-word word other e = (bytes_eq-Decides word other).1 e
-
-one-known : (names : NameLists) (version : ℕ) (kind : NameKind) (word : List ℕ) (id : ℕ)
-    → AreNames names → kind_of version word ≡ Some kind → id < length (list_of kind names)
-    → ask_on_one names version word (get_or (list_of kind names) id []) ≡ Is (ask_of kind word id)
-unfolding ask_on_one
-one-known names version kind word id sound k h =
-    let at = object-known names kind id sound h in
-    ap (λ kd. ask_on_kind names kd word (get_or (list_of kind names) id [])) k ∙ rw at
-
-pub second : (version : ℕ) (word : List ℕ) (kind : Option NameKind) → version ≡ 2 → kind_of 2 word ≡ kind → kind_of version word ≡ kind
-second version word kind two k = ap (λ v. kind_of v word) two ∙ k
-
--- what is read of an ask's words, by how many there are
-abbrev pub ask_in : NameLists → ℕ → List (List ℕ) → WordsRead Ask
-ask_in names version (word ∷ []) = bare_ask word
-ask_in names version (word ∷ a ∷ []) = ask_on_one names version word a
-ask_in names version (word ∷ a ∷ b ∷ []) = ask_on_two names word a b
-ask_in names version (word ∷ a ∷ b ∷ c ∷ []) = ask_on_three names word a b c
-ask_in names version words = NoForm
-
-changed : (names : NameLists) (x : ℕ) (value : ℤ) → AreNames names → x < length names.vars
-    → IsValue value → (object names Var (get_or names.vars x []) ≡ Is x) × (i64_in
-    (number_text value) ≡ Some value)
-changed names x value sound h v = (object-known names Var x sound h, value_of-Some value v)
-
-write-known : (names : NameLists) (x : ℕ) (value : ℤ) → AreNames names → x < length names.vars
-    → IsValue value → ask_on_two names (codes "write") (get_or names.vars x [])
-    (number_text value) ≡ Is (Write x value)
-unfolding ask_on_two
-write-known names x value sound h v = let k = changed names x value sound h v in rw (k.0, k.1)
-
-add-known : (names : NameLists) (x : ℕ) (value : ℤ) → AreNames names → x < length names.vars
-    → IsValue value → ask_on_two names (codes "add") (get_or names.vars x [])
-    (number_text value) ≡ Is (Add x value)
-unfolding ask_on_two
-add-known names x value sound h v = let k = changed names x value sound h v in rw (k.0, k.1)
-
-release-known : (names : NameLists) (c m : ℕ) → AreNames names → c < length names.conds
-    → m < length names.mutexes → ask_on_two names (codes "release") (get_or names.conds c [])
-    (get_or names.mutexes m []) ≡ Is (Release c m)
-unfolding ask_on_two
-release-known names c m sound h k = rw (object-known names Cond c sound h, object-known names Mutex m sound k)
-
-regain-known : (names : NameLists) (c m : ℕ) → AreNames names → c < length names.conds
-    → m < length names.mutexes → ask_on_two names (codes "regain") (get_or names.conds c [])
-    (get_or names.mutexes m []) ≡ Is (Regain c m)
-unfolding ask_on_two
-regain-known names c m sound h k = rw (object-known names Cond c sound h, object-known names Mutex m sound k)
-
-cas-known : (names : NameLists) (x : ℕ) (old new : ℤ) → AreNames names → x < length names.vars
-    → IsValue old → IsValue new → ask_on_three names (codes "cas") (get_or names.vars x [])
-    (number_text old) (number_text new) ≡ Is (Cas x old new)
-unfolding ask_on_three
-cas-known names x old new sound h u v = rw (object-known names Var x sound h, value_of-Some old u, value_of-Some new v)
-
-plain-known : (names : NameLists) (version : ℕ) (word operand : List ℕ) (ask : Ask)
-    → kind_of version word ≡ None → plain_ask word operand ≡ Is ask
-    → ask_on_one names version word operand ≡ Is ask
-unfolding ask_on_one
-plain-known names version word operand ask k h = ap (λ kd. ask_on_kind names kd word operand) k ∙ h
-
-pub no-kind : (b : Bool) → (if◌then◌else◌ {A = Option NameKind} (b && false) (Some RwLock) None) ≡ None
-no-kind true = refl
-no-kind false = refl
-
-pub check-known : (names : NameLists) (version : ℕ) (holds : Bool)
-    → ask_on_one names version (codes "check") (check_word holds) ≡ Is (Check holds)
-check-known names version true = plain-known names version (codes "check") (codes "1") (Check true) (no-kind (version == 2)) refl
-check-known names version false = plain-known names version (codes "check") (codes "0") (Check false) (no-kind (version == 2)) refl
-
-pub fault-known : (names : NameLists) (version : ℕ) (kind : FaultKind)
-    → ask_on_one names version (codes "fault") (fault_word kind) ≡ Is (Fault kind)
-fault-known names version Overflow = plain-known names version (codes "fault") (codes "overflow") (Fault Overflow) (no-kind (version == 2)) refl
-fault-known names version ZeroDivisor = plain-known names version (codes "fault") (codes "zerodivisor") (Fault ZeroDivisor) (no-kind (version == 2)) refl
-fault-known names version Spin = plain-known names version (codes "fault") (codes "spin") (Fault Spin) (no-kind (version == 2)) refl
-
-pub ask-known : (names : NameLists) (version : ℕ) (ask : Ask) → AreNames names
-    → IsAsk names version ask → ask_in names version (ask_words names ask) ≡ Is ask
-ask-known names version (Read x) sound h = one-known names version Var (codes "read") x sound refl h
-ask-known names version (Write x value) sound h = write-known names x value sound h.0 h.1
-ask-known names version (Add x value) sound h = add-known names x value sound h.0 h.1
-ask-known names version (Cas x old new) sound h = cas-known names x old new sound h.0 h.1 h.2
-ask-known names version (Lock m) sound h = one-known names version Mutex (codes "lock") m sound refl h
-ask-known names version (TryLock m) sound h = one-known names version Mutex (codes "trylock") m sound refl h
-ask-known names version (Unlock m) sound h = one-known names version Mutex (codes "unlock") m sound refl h
-ask-known names version (Release c m) sound h = release-known names c m sound h.0 h.1
-ask-known names version (Regain c m) sound h = regain-known names c m sound h.0 h.1
-ask-known names version (Signal c) sound h = one-known names version Cond (codes "signal") c sound refl h
-ask-known names version (Broadcast c) sound h = one-known names version Cond (codes "broadcast") c sound refl h
-ask-known names version (Down s) sound h = one-known names version Sem (codes "down") s sound refl h
-ask-known names version (TryDown s) sound h = one-known names version Sem (codes "trydown") s sound refl h
-ask-known names version (Up s) sound h = one-known names version Sem (codes "up") s sound refl h
-ask-known names version (Arrive b) sound h = one-known names version Barrier (codes "arrive") b sound refl h
-ask-known names version (Leave b) sound h = one-known names version Barrier (codes "leave") b sound refl h
-ask-known names version (Join t) sound h = one-known names version Thread (codes "join") t sound refl h
-ask-known names version Yield sound h = refl
-ask-known names version (Check holds) sound h = check-known names version holds
-ask-known names version (Fault kind) sound h = fault-known names version kind
-ask-known names version (Start t) sound h = one-known names version Thread (codes "start") t sound refl h
-ask-known names version Begin sound h = refl
-ask-known names version (RdLock l) sound h = one-known names version RwLock (codes "rdlock") l sound (second version (codes "rdlock") (Some RwLock) h.1 refl) h.0
-ask-known names version (WrLock l) sound h = one-known names version RwLock (codes "wrlock") l sound (second version (codes "wrlock") (Some RwLock) h.1 refl) h.0
-ask-known names version (TryRdLock l) sound h = one-known names version RwLock (codes "tryrdlock") l sound (second version (codes "tryrdlock") (Some RwLock) h.1 refl) h.0
-ask-known names version (TryWrLock l) sound h = one-known names version RwLock (codes "trywrlock") l sound (second version (codes "trywrlock") (Some RwLock) h.1 refl) h.0
-ask-known names version (RwUnlock l) sound h = one-known names version RwLock (codes "rwunlock") l sound (second version (codes "rwunlock") (Some RwLock) h.1 refl) h.0
-
--- an ask has one word to four
-abbrev pub HasFewWords : List (List ℕ) → Type 0
-HasFewWords [] = ⊥
-HasFewWords (a ∷ []) = Unit {0}
-HasFewWords (a ∷ b ∷ []) = Unit {0}
-HasFewWords (a ∷ b ∷ c ∷ []) = Unit {0}
-HasFewWords (a ∷ b ∷ c ∷ d ∷ []) = Unit {0}
-HasFewWords (a ∷ b ∷ c ∷ d ∷ e ∷ words) = ⊥
-
-pub few-words : (names : NameLists) (ask : Ask) → HasFewWords (ask_words names ask)
-few-words names (Read x) = tt
-few-words names (Write x value) = tt
-few-words names (Add x value) = tt
-few-words names (Cas x old new) = tt
-few-words names (Lock m) = tt
-few-words names (TryLock m) = tt
-few-words names (Unlock m) = tt
-few-words names (Release c m) = tt
-few-words names (Regain c m) = tt
-few-words names (Signal c) = tt
-few-words names (Broadcast c) = tt
-few-words names (Down s) = tt
-few-words names (TryDown s) = tt
-few-words names (Up s) = tt
-few-words names (Arrive b) = tt
-few-words names (Leave b) = tt
-few-words names (Join t) = tt
-few-words names Yield = tt
-few-words names (Check holds) = tt
-few-words names (Fault kind) = tt
-few-words names (Start t) = tt
-few-words names Begin = tt
-few-words names (RdLock l) = tt
-few-words names (WrLock l) = tt
-few-words names (TryRdLock l) = tt
-few-words names (TryWrLock l) = tt
-few-words names (RwUnlock l) = tt
-
--- and what is read of few words is the ask of which they are
-pub ask-told : (names : NameLists) (version : ℕ) (words : List (List ℕ)) (ask : Ask)
-    → ask_in names version words ≡ Is ask → IsTold names version words ask
-ask-told names version [] ask h = absurd cc
-ask-told names version (a ∷ []) ask h = bare-told names version a ask h
-ask-told names version (a ∷ b ∷ []) ask h = one-told names version a b ask h
-ask-told names version (a ∷ b ∷ c ∷ []) ask h = two-told names version a b c ask h
-ask-told names version (a ∷ b ∷ c ∷ d ∷ []) ask h = three-told names version a b c d ask h
-ask-told names version (a ∷ b ∷ c ∷ d ∷ e ∷ words) ask h = absurd cc
+three-told names version word a b c ask h =
+    three-by names version word a b c ask (bytes_eq word (codes "cas")) refl h

@@ -1,16 +1,17 @@
 -- A line is found faulty exactly where it is, by the forms of lines: as far as no line before it is.
-use Rattle.std.specs.Prelude.{codes, ◌==◌, ◌&&◌, ◌||◌, not, nat_le, nat_lt, is_some, is_none, if◌then◌else◌}
+use Rattle.std.specs.Prelude.{codes, ◌==◌, ◌&&◌, not, nat_le, nat_lt, is_some, is_none, if◌then◌else◌}
 use Rattle.std.specs.Option.{unwrap_or}
 use Rattle.std.specs.Str.{bytes_eq}
 use Rattle.std.proofs.Common.{◌≡◌, ◌≢◌, ◌⊎◌, ℕ, ℤ, ◌+◌, ◌-◌, ◌<◌, ◌≤◌, Bool, true, false, List, zero, suc, Option, Some, None, Result, Ok, Err, refl, sym, ap, ◌∙◌, inl, inr, arith}
 use Rattle.std.proofs.lemmas.Bool.Decides.{nat_tests}
+use Rattle.std.proofs.lemmas.Bool.{and_parts, and_from, or_left, or_right, or_cases, or_parts, not-true, not-false}
 use Rattle.pct_ask.specs.NameLists.{NameLists, AreNames}
 use Rattle.pct_ask.specs.VerdictText.{NamedVerdict}
 use Rattle.pct_ask.specs.declared.event.Event.{Event}
 use Rattle.pct_ask.specs.declared.verdict.Verdict.{Verdict}
 use Rattle.trace_text.specs.Lines.{line_at, text_in, is_whole}
 use Rattle.trace_text.specs.reader.Heads.{order_on_line, points_on_line, limit_on_line}
-use Rattle.trace_text.specs.Forms.{AskForm, Form, words_of_form, IsLineOf, HasUnknown}
+use Rattle.trace_text.specs.Forms.{AskForm, Form, HasUnknown}
 use Rattle.trace_text.specs.Forms as forms
 use Rattle.trace_text.specs.Faults.{text_at, has_byte, version_of, HasForm, IsStepLine}
 use Rattle.trace_text.specs.Faults.{IsVerdictLine, IsOpen, IsInBody, IsNextNumber, IsFaulty}
@@ -24,49 +25,15 @@ use Rattle.trace_text.specs.declared.fault.TraceFault.TheVariants.{TooLong, BadH
 use Rattle.trace_text.proofs.AskForms.{first-or-second}
 use Rattle.trace_text.proofs.StepForms.{step-form, step-read}
 use Rattle.trace_text.proofs.EndForms.{never, end-form, end-read}
-use Rattle.trace_text.proofs.HeadForms.{version-form, version-read, same-version, one-or-two, order-form, order-read, unknown-told, unknown-read, points-form, points-read, limit-form, limit-read}
+use Rattle.trace_text.proofs.HeadForms.{three, version-form, version-read, same-version, one-or-two, order-form, order-read, unknown-told, unknown-read, points-form, points-read, limit-form, limit-read}
 use Rattle.trace_text.proofs.FaultTests as tests
 use Rattle.trace_text.proofs.FaultTests.{limit_of, row_at, is_verdict, has_verdict, is_in_body}
 use Rattle.trace_text.proofs.FaultTests.{number_in, number_before, is_past, has_unknown}
 use Rattle.trace_text.proofs.FaultTests.{is_other_number, is_head_line, has_unknown_thread}
 use Rattle.trace_text.proofs.FaultTests.{is_faulty, IsFirstFound}
-use Rattle.trace_text.proofs.FaultBodies.{IsTold}
+use Rattle.trace_text.proofs.FaultBodies.{IsTold, all-three}
 
 -- ---- tests
-
-and-left : (a b : Bool) → (a && b) ≡ true → a ≡ true
-and-left true b h = refl
-and-left false b h = h
-
-and-right : (a b : Bool) → (a && b) ≡ true → b ≡ true
-and-right true b h = h
-and-right false b h = cc
-
-and-both : (a b : Bool) → a ≡ true → b ≡ true → (a && b) ≡ true
-and-both a b p q = rw (p, q)
-
-or-left : (a b : Bool) → a ≡ true → (a || b) ≡ true
-or-left a b h = rw h
-
-or-right : (a b : Bool) → b ≡ true → (a || b) ≡ true
-or-right true b h = refl
-or-right false b h = h
-
-or-cases : (a b : Bool) → (a || b) ≡ true → (a ≡ true) ⊎ (b ≡ true)
-or-cases true b h = inl refl
-or-cases false b h = inr h
-
-or-neither : (a b : Bool) → (a || b) ≡ false → (a ≡ false) × (b ≡ false)
-or-neither true b h = absurd cc
-or-neither false b h = (refl, h)
-
-not-true : (a : Bool) → not a ≡ true → a ≡ false
-not-true true h = cc
-not-true false h = refl
-
-not-false : (a : Bool) → not a ≡ false → a ≡ true
-not-false true h = refl
-not-false false h = cc
 
 unequal : (a : Bool) → a ≡ true → a ≡ false → ⊥
 unequal true p q = cc
@@ -76,14 +43,6 @@ guarded-not : (a b : Bool) → (a && not b) ≡ false → a ≡ true → b ≡ t
 guarded-not a true h p = refl
 guarded-not true false h p = absurd cc
 guarded-not false false h p = absurd cc
-
-three : (a b c : Bool) → (a && b && c) ≡ true → (a ≡ true) × (b ≡ true) × (c ≡ true)
-three true true c h = (refl, refl, h)
-three true false c h = absurd cc
-three false b c h = absurd cc
-
-three-both : (a b c : Bool) → a ≡ true → b ≡ true → c ≡ true → (a && b && c) ≡ true
-three-both a b c p q r = rw (p, q, r)
 
 some-of : {A : Type 0} (o : Option A) → is_some o ≡ true → (x : A) × (o ≡ Some x)
 some-of None h = absurd cc
@@ -156,15 +115,15 @@ module _ (names : NameLists) (sound : AreNames names) (size : ℕ) (pieces : Lis
 
   no-verdicts : (n i : ℕ) → has_verdict names pieces n ≡ false → i < n → is_verdict (row_at names pieces (i + 5)) ≡ false
   no-verdicts zero i h low = absurd (omega arith)
-  no-verdicts (suc n) i h low = by (nat_lt i n) refl (λ less. no-verdicts n i (or-neither (has_verdict names pieces n) (is_verdict (row_at names pieces (n + 5))) h).0 less)
+  no-verdicts (suc n) i h low = by (nat_lt i n) refl (λ less. no-verdicts n i (or_parts (has_verdict names pieces n) (is_verdict (row_at names pieces (n + 5))) h).0 less)
     where
       by : (b : Bool) → nat_lt i n ≡ b → (i < n → is_verdict (row_at names pieces (i + 5)) ≡ false) → is_verdict (row_at names pieces (i + 5)) ≡ false
       by true e before = before (grind (arith, nat_tests))
-      by false e before = let same : i ≡ n = grind (arith, nat_tests) in ap (λ j. is_verdict (row_at names pieces (j + 5))) same ∙ (or-neither (has_verdict names pieces n) (is_verdict (row_at names pieces (n + 5))) h).1
+      by false e before = let same : i ≡ n = grind (arith, nat_tests) in ap (λ j. is_verdict (row_at names pieces (j + 5))) same ∙ (or_parts (has_verdict names pieces n) (is_verdict (row_at names pieces (n + 5))) h).1
 
   some-verdict : (n : ℕ) → has_verdict names pieces n ≡ true → (i : ℕ) × (i < n) × (is_verdict (row_at names pieces (i + 5)) ≡ true)
   some-verdict zero h = absurd cc
-  some-verdict (suc n) h = by (or-cases (has_verdict names pieces n) (is_verdict (row_at names pieces (n + 5))) h) (λ e. some-verdict n e)
+  some-verdict (suc n) h = by (or_cases (has_verdict names pieces n) (is_verdict (row_at names pieces (n + 5))) h) (λ e. some-verdict n e)
     where
       by : (has_verdict names pieces n ≡ true) ⊎ (is_verdict (row_at names pieces (n + 5)) ≡ true) → (has_verdict names pieces n ≡ true → (i : ℕ) × (i < n) × (is_verdict (row_at names pieces (i + 5)) ≡ true)) → (i : ℕ) × (i < suc n) × (is_verdict (row_at names pieces (i + 5)) ≡ true)
       by (inl e) before = let b = before e in (b.0, let low = b.1 in omega arith, b.2)
@@ -172,8 +131,8 @@ module _ (names : NameLists) (sound : AreNames names) (size : ℕ) (pieces : Lis
 
   body-found : (k : ℕ) → is_in_body names pieces k ≡ true → IsInBody names pieces k
   body-found k h =
-      let low : 5 ≤ k = let t = and-left (nat_le 5 k) (not (has_verdict names pieces (k - 5))) h in grind (arith, nat_tests) in
-      let none = not-true (has_verdict names pieces (k - 5)) (and-right (nat_le 5 k) (not (has_verdict names pieces (k - 5))) h) in
+      let low : 5 ≤ k = let t = (and_parts (nat_le 5 k) (not (has_verdict names pieces (k - 5))) h).0 in grind (arith, nat_tests) in
+      let none = not-true (has_verdict names pieces (k - 5)) (and_parts (nat_le 5 k) (not (has_verdict names pieces (k - 5))) h).1 in
       (low, λ j before line. no-line j before none line line.1.stands)
     where
       no-line : (j : ℕ) → j < k → has_verdict names pieces (k - 5) ≡ false → IsVerdictLine names pieces j → 5 ≤ j → ⊥
@@ -186,7 +145,7 @@ module _ (names : NameLists) (sound : AreNames names) (size : ℕ) (pieces : Lis
   body-test k body =
       let low : nat_le 5 k ≡ true = let l = body.0 in grind (arith, nat_tests) in
       let free = never (has_verdict names pieces (k - 5)) (λ h. let some = some-verdict (k - 5) h in body.1 (some.0 + 5) (let l = some.1 in let b = body.0 in omega arith) (verdict-found (some.0 + 5) (omega arith) some.2)) in
-      and-both (nat_le 5 k) (not (has_verdict names pieces (k - 5))) low (ap not free)
+      and_from (nat_le 5 k) (not (has_verdict names pieces (k - 5))) low (ap not free)
 
   -- ---- the head
 
@@ -240,35 +199,35 @@ module _ (names : NameLists) (sound : AreNames names) (size : ℕ) (pieces : Lis
   too_long-test k (inl large) =
       let one : (k == 1) ≡ true = let e = large.0 in grind (arith, nat_tests) in
       let big : nat_lt 16777216 size ≡ true = let e = large.1 in grind (arith, nat_tests) in
-      or-left ((k == 1) && nat_lt 16777216 size) (is_in_body names pieces k && is_past (limit_of pieces) (row_at names pieces k)) (and-both (k == 1) (nat_lt 16777216 size) one big)
+      or_left ((k == 1) && nat_lt 16777216 size) (is_in_body names pieces k && is_past (limit_of pieces) (row_at names pieces k)) (and_from (k == 1) (nat_lt 16777216 size) one big)
   too_long-test k (inr far) =
       let step = far.4 in
       let read = step-row k far.2 step.0 step.1 step.2 step.3 step.4 in
       let past : nat_lt far.1 far.2 ≡ true = let e = far.5 in grind (arith, nat_tests) in
-      or-right ((k == 1) && nat_lt 16777216 size) (is_in_body names pieces k && is_past (limit_of pieces) (row_at names pieces k))
-      (and-both (is_in_body names pieces k) (is_past (limit_of pieces) (row_at names pieces k)) (body-test k far.0) (ap (λ l. is_past l (row_at names pieces k)) (limit-test far.1 far.3) ∙ ap (is_past far.1) read.1 ∙ past))
+      or_right ((k == 1) && nat_lt 16777216 size) (is_in_body names pieces k && is_past (limit_of pieces) (row_at names pieces k))
+      (and_from (is_in_body names pieces k) (is_past (limit_of pieces) (row_at names pieces k)) (body-test k far.0) (ap (λ l. is_past l (row_at names pieces k)) (limit-test far.1 far.3) ∙ ap (is_past far.1) read.1 ∙ past))
 
   bad_header-test : (k : ℕ) → IsFaulty size names pieces k BadHeader → is_faulty size names pieces k BadHeader ≡ true
   bad_header-test k bad =
       let low : nat_le 1 k ≡ true = let e = bad.0 in grind (arith, nat_tests) in
       let high : nat_le k 4 ≡ true = let e = bad.1 in grind (arith, nat_tests) in
-      let lost = never (is_whole (line_at pieces k) && is_head_line names pieces k) (λ h. let f = head-found k bad.0 bad.1 (and-right (is_whole (line_at pieces k)) (is_head_line names pieces k) h) in bad.2 (and-left (is_whole (line_at pieces k)) (is_head_line names pieces k) h, f.0, f.1)) in
-      three-both (nat_le 1 k) (nat_le k 4) (not (is_whole (line_at pieces k) && is_head_line names pieces k)) low high (ap not lost)
+      let lost = never (is_whole (line_at pieces k) && is_head_line names pieces k) (λ h. let f = head-found k bad.0 bad.1 (and_parts (is_whole (line_at pieces k)) (is_head_line names pieces k) h).1 in bad.2 ((and_parts (is_whole (line_at pieces k)) (is_head_line names pieces k) h).0, f.0, f.1)) in
+      all-three (nat_le 1 k) (nat_le k 4) (not (is_whole (line_at pieces k) && is_head_line names pieces k)) low high (ap not lost)
 
   bad_line-test : (k : ℕ) → IsFaulty size names pieces k BadLine → is_faulty size names pieces k BadLine ≡ true
   bad_line-test k bad =
-      let lost = never (is_whole (line_at pieces k) && is_some (row_at names pieces k)) (λ h. let f = row-found k bad.0.0 (and-right (is_whole (line_at pieces k)) (is_some (row_at names pieces k)) h) in bad.2 (and-left (is_whole (line_at pieces k)) (is_some (row_at names pieces k)) h, f.0, f.1)) in
-      three-both (is_in_body names pieces k) (has_byte pieces k) (not (is_whole (line_at pieces k) && is_some (row_at names pieces k))) (body-test k bad.0) bad.1 (ap not lost)
+      let lost = never (is_whole (line_at pieces k) && is_some (row_at names pieces k)) (λ h. let f = row-found k bad.0.0 (and_parts (is_whole (line_at pieces k)) (is_some (row_at names pieces k)) h).1 in bad.2 ((and_parts (is_whole (line_at pieces k)) (is_some (row_at names pieces k)) h).0, f.0, f.1)) in
+      all-three (is_in_body names pieces k) (has_byte pieces k) (not (is_whole (line_at pieces k) && is_some (row_at names pieces k))) (body-test k bad.0) bad.1 (ap not lost)
 
   late-unknown : (k : ℕ) → 5 ≤ k → IsOpen names pieces k → has_unknown (row_at names pieces k) ≡ true → is_faulty size names pieces k UnknownName ≡ true
   late-unknown k low free h =
-      or-right ((k == 2) && has_unknown_thread names (order_on_line names (text_in (line_at pieces k)))) (is_in_body names pieces k && has_unknown (row_at names pieces k)) (and-both (is_in_body names pieces k) (has_unknown (row_at names pieces k)) (body-test k (low, free)) h)
+      or_right ((k == 2) && has_unknown_thread names (order_on_line names (text_in (line_at pieces k)))) (is_in_body names pieces k && has_unknown (row_at names pieces k)) (and_from (is_in_body names pieces k) (has_unknown (row_at names pieces k)) (body-test k (low, free)) h)
 
   order-unknown : (k : ℕ) (threads : List (List ℕ)) → HasForm names pieces k (forms.Order threads) → HasUnknown names (forms.Order threads) → is_faulty size names pieces k UnknownName ≡ true
   order-unknown k threads form unknown =
       let two : (k == 2) ≡ true = let e = form.stands in grind (arith, nat_tests) in
       let lost : has_unknown_thread names (order_on_line names (text_in (line_at pieces k))) ≡ true = ap (has_unknown_thread names) (order-read names (version_of pieces) (text_at pieces k) threads form.spelled form.of) ∙ unknown-read names threads unknown in
-      or-left ((k == 2) && has_unknown_thread names (order_on_line names (text_in (line_at pieces k)))) (is_in_body names pieces k && has_unknown (row_at names pieces k)) (and-both (k == 2) (has_unknown_thread names (order_on_line names (text_in (line_at pieces k)))) two lost)
+      or_left ((k == 2) && has_unknown_thread names (order_on_line names (text_in (line_at pieces k)))) (is_in_body names pieces k && has_unknown (row_at names pieces k)) (and_from (k == 2) (has_unknown_thread names (order_on_line names (text_in (line_at pieces k)))) two lost)
 
   unknown-test : (k : ℕ) (form : Form) → IsOpen names pieces k → HasForm names pieces k form → HasUnknown names form → is_faulty size names pieces k UnknownName ≡ true
   unknown-test k (forms.Version v) at form unknown = absurd unknown
@@ -299,7 +258,7 @@ module _ (names : NameLists) (sound : AreNames names) (size : ℕ) (pieces : Lis
       let step = bad.3 in
       let read = step-row k bad.1 step.0 step.1 step.2 step.3 step.4 in
       let other : (bad.1 == bad.2) ≡ false = let e = bad.5 in grind (arith, nat_tests) in
-      and-both (is_in_body names pieces k) (is_other_number (number_before names pieces k + 1) (row_at names pieces k)) (body-test k bad.0)
+      and_from (is_in_body names pieces k) (is_other_number (number_before names pieces k + 1) (row_at names pieces k)) (body-test k bad.0)
       (ap (λ n. is_other_number n (row_at names pieces k)) (next-test k bad.2 bad.4) ∙ ap (is_other_number bad.2) read.1 ∙ ap not other)
 
   fault-test : (k : ℕ) (kind : TraceFault) → IsFaulty size names pieces k kind → is_faulty size names pieces k kind ≡ true
@@ -308,10 +267,10 @@ module _ (names : NameLists) (sound : AreNames names) (size : ℕ) (pieces : Lis
   fault-test k BadLine bad = bad_line-test k bad
   fault-test k UnknownName bad = unknown-test k bad.1 bad.0 bad.2 bad.3
   fault-test k OutOfOrder bad = order-test k bad
-  fault-test k NoVerdict bad = and-both (is_in_body names pieces k) (not (has_byte pieces k)) (body-test k bad.0) (ap not bad.1)
+  fault-test k NoVerdict bad = and_from (is_in_body names pieces k) (not (has_byte pieces k)) (body-test k bad.0) (ap not bad.1)
   fault-test k MoreAfterVerdict bad =
       let high : nat_le 6 k ≡ true = let low = bad.0.1.stands in grind (arith, nat_tests) in
-      three-both (nat_le 6 k) (is_verdict (row_at names pieces (k - 1))) (has_byte pieces k) high (verdict-row (k - 1) bad.0) bad.1
+      all-three (nat_le 6 k) (is_verdict (row_at names pieces (k - 1))) (has_byte pieces k) high (verdict-row (k - 1) bad.0) bad.1
 
   -- ---- a line that is found faulty is so, where none before it is
 
@@ -325,23 +284,23 @@ module _ (names : NameLists) (sound : AreNames names) (size : ℕ) (pieces : Lis
 
   limit-clean : is_faulty size names pieces 4 BadHeader ≡ false → HasForm names pieces 4 (forms.Limit (limit_of pieces))
   limit-clean clean =
-      let told = and-right (is_whole (line_at pieces 4)) (is_some (limit_on_line (text_at pieces 4))) (not-false (is_whole (line_at pieces 4) && is_some (limit_on_line (text_at pieces 4))) clean) in
+      let told = (and_parts (is_whole (line_at pieces 4)) (is_some (limit_on_line (text_at pieces 4))) (not-false (is_whole (line_at pieces 4) && is_some (limit_on_line (text_at pieces 4))) clean)).1 in
       let limit = some-of (limit_on_line (text_at pieces 4)) told in
       let form = limit-form names (version_of pieces) (text_at pieces 4) limit.0 limit.1 in
       let same : limit.0 ≡ limit_of pieces = sym (ap (λ o. unwrap_or o 0) limit.1) in
       rw (← same) (record { stands = refl; spelled = form.0; of = form.1 })
 
   too_long-found : (k : ℕ) → IsClean k → is_faulty size names pieces k TooLong ≡ true → IsFaulty size names pieces k TooLong
-  too_long-found k clean h = by (or-cases ((k == 1) && nat_lt 16777216 size) (is_in_body names pieces k && is_past (limit_of pieces) (row_at names pieces k)) h)
+  too_long-found k clean h = by (or_cases ((k == 1) && nat_lt 16777216 size) (is_in_body names pieces k && is_past (limit_of pieces) (row_at names pieces k)) h)
     where
       by : (((k == 1) && nat_lt 16777216 size) ≡ true) ⊎ ((is_in_body names pieces k && is_past (limit_of pieces) (row_at names pieces k)) ≡ true) → IsFaulty size names pieces k TooLong
       by (inl e) =
-          let one = and-left (k == 1) (nat_lt 16777216 size) e in
-          let large = and-right (k == 1) (nat_lt 16777216 size) e in
+          let one = (and_parts (k == 1) (nat_lt 16777216 size) e).0 in
+          let large = (and_parts (k == 1) (nat_lt 16777216 size) e).1 in
           inl (grind (arith, nat_tests), grind (arith, nat_tests))
       by (inr e) =
-          let body = body-found k (and-left (is_in_body names pieces k) (is_past (limit_of pieces) (row_at names pieces k)) e) in
-          let past = step-past k (limit_of pieces) (row_at names pieces k) refl (and-right (is_in_body names pieces k) (is_past (limit_of pieces) (row_at names pieces k)) e) in
+          let body = body-found k (and_parts (is_in_body names pieces k) (is_past (limit_of pieces) (row_at names pieces k)) e).0 in
+          let past = step-past k (limit_of pieces) (row_at names pieces k) refl (and_parts (is_in_body names pieces k) (is_past (limit_of pieces) (row_at names pieces k)) e).1 in
           let low : 4 < k = let b = body.0 in omega arith in
           inr (body, limit_of pieces, past.0, limit-clean (clean 4 BadHeader low), step-line k past.0 past.1 (step-found k past.0 past.1 body.0 past.2), past.3)
 
@@ -351,14 +310,14 @@ module _ (names : NameLists) (sound : AreNames names) (size : ℕ) (pieces : Lis
       let lost = not-true (is_whole (line_at pieces k) && is_head_line names pieces k) parts.2 in
       let low : 1 ≤ k = let t = parts.0 in grind (arith, nat_tests) in
       let high : k ≤ 4 = let t = parts.1 in grind (arith, nat_tests) in
-      (low, high, λ line. unequal (is_whole (line_at pieces k) && is_head_line names pieces k) (and-both (is_whole (line_at pieces k)) (is_head_line names pieces k) line.0 (head-test k line.1 high line.2)) lost)
+      (low, high, λ line. unequal (is_whole (line_at pieces k) && is_head_line names pieces k) (and_from (is_whole (line_at pieces k)) (is_head_line names pieces k) line.0 (head-test k line.1 high line.2)) lost)
 
   bad_line-found : (k : ℕ) → is_faulty size names pieces k BadLine ≡ true → IsFaulty size names pieces k BadLine
   bad_line-found k h =
       let parts = three (is_in_body names pieces k) (has_byte pieces k) (not (is_whole (line_at pieces k) && is_some (row_at names pieces k))) h in
       let lost = not-true (is_whole (line_at pieces k) && is_some (row_at names pieces k)) parts.2 in
       let body = body-found k parts.0 in
-      (body, parts.1, λ line. unequal (is_whole (line_at pieces k) && is_some (row_at names pieces k)) (and-both (is_whole (line_at pieces k)) (is_some (row_at names pieces k)) line.0 (body-row k line.1 body.0 line.2)) lost)
+      (body, parts.1, λ line. unequal (is_whole (line_at pieces k) && is_some (row_at names pieces k)) (and_from (is_whole (line_at pieces k)) (is_some (row_at names pieces k)) line.0 (body-row k line.1 body.0 line.2)) lost)
 
   order-found : (k : ℕ) (order : Option (List (List ℕ))) → k ≡ 2 → order_on_line names (text_at pieces 2) ≡ order → has_unknown_thread names order ≡ true → IsFaulty size names pieces k UnknownName
   order-found k None two e h = absurd cc
@@ -376,14 +335,14 @@ module _ (names : NameLists) (sound : AreNames names) (size : ℕ) (pieces : Lis
       (body.1, forms.End f.0, f.1, f.2 (none-of read h))
 
   unknown-found : (k : ℕ) → is_faulty size names pieces k UnknownName ≡ true → IsFaulty size names pieces k UnknownName
-  unknown-found k h = by (or-cases ((k == 2) && has_unknown_thread names (order_on_line names (text_in (line_at pieces k)))) (is_in_body names pieces k && has_unknown (row_at names pieces k)) h)
+  unknown-found k h = by (or_cases ((k == 2) && has_unknown_thread names (order_on_line names (text_in (line_at pieces k)))) (is_in_body names pieces k && has_unknown (row_at names pieces k)) h)
     where
       by : (((k == 2) && has_unknown_thread names (order_on_line names (text_in (line_at pieces k)))) ≡ true) ⊎ ((is_in_body names pieces k && has_unknown (row_at names pieces k)) ≡ true) → IsFaulty size names pieces k UnknownName
       by (inl e) =
-          let two : k ≡ 2 = let t = and-left (k == 2) (has_unknown_thread names (order_on_line names (text_in (line_at pieces k)))) e in grind (arith, nat_tests) in
-          order-found k (order_on_line names (text_at pieces 2)) two refl (ap (λ j. has_unknown_thread names (order_on_line names (text_at pieces j))) (sym two) ∙ and-right (k == 2) (has_unknown_thread names (order_on_line names (text_in (line_at pieces k)))) e)
+          let two : k ≡ 2 = let t = (and_parts (k == 2) (has_unknown_thread names (order_on_line names (text_in (line_at pieces k)))) e).0 in grind (arith, nat_tests) in
+          order-found k (order_on_line names (text_at pieces 2)) two refl (ap (λ j. has_unknown_thread names (order_on_line names (text_at pieces j))) (sym two) ∙ (and_parts (k == 2) (has_unknown_thread names (order_on_line names (text_in (line_at pieces k)))) e).1)
       by (inr e) =
-          row-unknown k (row_at names pieces k) (body-found k (and-left (is_in_body names pieces k) (has_unknown (row_at names pieces k)) e)) refl (and-right (is_in_body names pieces k) (has_unknown (row_at names pieces k)) e)
+          row-unknown k (row_at names pieces k) (body-found k (and_parts (is_in_body names pieces k) (has_unknown (row_at names pieces k)) e).0) refl (and_parts (is_in_body names pieces k) (has_unknown (row_at names pieces k)) e).1
 
   earlier : (k : ℕ) → IsInBody names pieces k → 6 ≤ k → IsInBody names pieces (k - 1)
   earlier k body low = (omega arith, λ j before line. body.1 j (omega arith) line)
@@ -395,7 +354,7 @@ module _ (names : NameLists) (sound : AreNames names) (size : ℕ) (pieces : Lis
       let test = body-test (k - 1) before in
       let there = guarded-not (is_in_body names pieces (k - 1)) (has_byte pieces (k - 1)) (clean (k - 1) NoVerdict (omega arith)) test in
       let line = whole (is_in_body names pieces (k - 1)) (has_byte pieces (k - 1)) (is_whole (line_at pieces (k - 1)) && is_some (row_at names pieces (k - 1))) (clean (k - 1) BadLine (omega arith)) test there in
-      by (row_at names pieces (k - 1)) refl (and-right (is_whole (line_at pieces (k - 1))) (is_some (row_at names pieces (k - 1))) line) before.0
+      by (row_at names pieces (k - 1)) refl (and_parts (is_whole (line_at pieces (k - 1))) (is_some (row_at names pieces (k - 1))) line).1 before.0
     where
       whole : (a b c : Bool) → (a && b && not c) ≡ false → a ≡ true → b ≡ true → c ≡ true
       whole a b true h p q = refl
@@ -427,8 +386,8 @@ module _ (names : NameLists) (sound : AreNames names) (size : ℕ) (pieces : Lis
   out_of_order-found : (k : ℕ) → IsClean k → is_faulty size names pieces k OutOfOrder ≡ true → IsFaulty size names pieces k OutOfOrder
   out_of_order-found k clean h =
       let next = number_before names pieces k + 1 in
-      let body = body-found k (and-left (is_in_body names pieces k) (is_other_number next (row_at names pieces k)) h) in
-      let other = step-other k next (row_at names pieces k) refl (and-right (is_in_body names pieces k) (is_other_number next (row_at names pieces k)) h) in
+      let body = body-found k (and_parts (is_in_body names pieces k) (is_other_number next (row_at names pieces k)) h).0 in
+      let other = step-other k next (row_at names pieces k) refl (and_parts (is_in_body names pieces k) (is_other_number next (row_at names pieces k)) h).1 in
       (body, other.0, next, step-line k other.0 other.1 (step-found k other.0 other.1 body.0 other.2), next-found k clean body, other.3)
 
   fault-found : (k : ℕ) (kind : TraceFault) → IsClean k → is_faulty size names pieces k kind ≡ true → IsFaulty size names pieces k kind
@@ -438,7 +397,7 @@ module _ (names : NameLists) (sound : AreNames names) (size : ℕ) (pieces : Lis
   fault-found k UnknownName clean h = unknown-found k h
   fault-found k OutOfOrder clean h = out_of_order-found k clean h
   fault-found k NoVerdict clean h =
-      (body-found k (and-left (is_in_body names pieces k) (not (has_byte pieces k)) h), not-true (has_byte pieces k) (and-right (is_in_body names pieces k) (not (has_byte pieces k)) h))
+      (body-found k (and_parts (is_in_body names pieces k) (not (has_byte pieces k)) h).0, not-true (has_byte pieces k) (and_parts (is_in_body names pieces k) (not (has_byte pieces k)) h).1)
   fault-found k MoreAfterVerdict clean h =
       let parts = three (nat_le 6 k) (is_verdict (row_at names pieces (k - 1))) (has_byte pieces k) h in
       let low : 5 ≤ k - 1 = let t = parts.0 in grind (arith, nat_tests) in

@@ -1,5 +1,8 @@
--- Faults as the reader tests for them, line by line. FaultForms has that they are the faults by form.
-use Rattle.std.specs.Prelude.{◌≡◌, ℕ, ◌+◌, ◌-◌, ◌<◌, zero, suc, ◌==◌, ◌&&◌, ◌||◌, Bool, true, false, not, nat_le, nat_lt, if◌then◌else◌, List, Option, Some, None, is_some, is_none}
+-- Faults as the reader tests for them, line by line. FaultForms has that they are the faults by
+-- form.
+use Rattle.std.specs.Prelude.{◌≡◌, ℕ, ◌+◌, ◌-◌, ◌<◌, zero, suc, ◌==◌, ◌&&◌, ◌||◌, Bool, true, false}
+use Rattle.std.specs.Prelude.{not, nat_le, nat_lt, if◌then◌else◌, List, Option, Some, None, is_some}
+use Rattle.std.specs.Prelude.{is_none}
 use Rattle.std.specs.Option.{unwrap_or}
 use Rattle.pct_ask.specs.NameLists.{NameLists}
 use Rattle.trace_text.specs.Lines.{line_at, text_in, is_whole}
@@ -10,7 +13,9 @@ use Rattle.trace_text.specs.Faults.{has_byte, kind_rank}
 use Rattle.trace_text.specs.declared.row.Row.{Row}
 use Rattle.trace_text.specs.declared.row.Row.TheVariants.{Step, End}
 use Rattle.trace_text.specs.declared.fault.TraceFault.{TraceFault}
-use Rattle.trace_text.specs.declared.fault.TraceFault.TheVariants.{TooLong, BadHeader, BadLine, UnknownName, OutOfOrder, NoVerdict, MoreAfterVerdict}
+use Rattle.trace_text.specs.declared.fault.TraceFault.TheVariants.{TooLong, BadHeader, BadLine}
+use Rattle.trace_text.specs.declared.fault.TraceFault.TheVariants.{UnknownName, OutOfOrder}
+use Rattle.trace_text.specs.declared.fault.TraceFault.TheVariants.{NoVerdict, MoreAfterVerdict}
 
 -- ---- what the lines say
 
@@ -131,7 +136,10 @@ is_faulty size names pieces k MoreAfterVerdict = is_more_after_verdict names pie
 -- ---- the first of them
 
 -- the line is faulty by the kind and by none before it, and no line before is faulty
-pub record IsFirstFound (size : ℕ) (names : NameLists) (pieces : List (List ℕ)) (line : ℕ) (kind : TraceFault) : Type 0 where
+pub record IsFirstFound (size : ℕ) (names : NameLists) (pieces : List (List ℕ)) (line : ℕ)
+    (kind : TraceFault) : Type 0 where
   pub faulty : is_faulty size names pieces line kind ≡ true
-  pub first_kind : (other : TraceFault) → kind_rank other < kind_rank kind → is_faulty size names pieces line other ≡ false
-  pub first_line : (before : ℕ) (other : TraceFault) → before < line → is_faulty size names pieces before other ≡ false
+  pub first_kind : (other : TraceFault) → kind_rank other < kind_rank kind
+      → is_faulty size names pieces line other ≡ false
+  pub first_line : (before : ℕ) (other : TraceFault) → before < line
+      → is_faulty size names pieces before other ≡ false

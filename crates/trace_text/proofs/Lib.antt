@@ -1,12 +1,13 @@
 pub mod Values
-pub mod Cuts
 pub mod HeadWords
 pub mod Ends
 pub mod Bodies
 pub mod Names
 pub mod AskWords
+pub mod KnownAsks
 pub mod StepWords
 pub mod AskForms
+pub mod AskReadings
 pub mod Bytes
 pub mod Written
 pub mod Rows

@@ -1,38 +1,20 @@
 -- Facts on the names of a test, of whatever kind.
 use Rattle.std.specs.Prelude.{if◌then◌else◌}
-use Rattle.std.specs.List.{All, position_from}
+use Rattle.std.specs.List.{All}
 use Rattle.std.specs.Str.{bytes_eq}
-use Rattle.std.proofs.Common.{◌≡◌, ℕ, ◌+◌, ◌<◌, Bool, true, false, ◌||◌, List, [], ◌∷◌, ◌++◌, length, get_or, zero, suc, Option, Some, None, refl, sym, ap, ◌∙◌, add-zero, arith}
-use Rattle.std.proofs.lemmas.Bool.Decides.{same_from_decides, Decides-like}
+use Rattle.std.proofs.Common.{◌≡◌, ℕ, ◌+◌, ◌<◌, Bool, true, false, List, [], ◌∷◌, ◌++◌, length}
+use Rattle.std.proofs.Common.{get_or, Option, Some, None, refl, ap, ◌∙◌, arith}
 use Rattle.std.proofs.lemmas.Iterator.Adapters.{position_from-zero}
 use Rattle.std.proofs.lemmas.List.Elements.{All-nil, All-cons, All-head, All-tail}
-use Rattle.std.proofs.lemmas.List.Folds.{list_any-append}
-use Rattle.std.proofs.lemmas.Slice.Eq.{bytes_eq-Decides}
-use Rattle.pct_ask.specs.Words.{is_name, is_among}
+use Rattle.pct_ask.specs.Words.{is_name}
 use Rattle.pct_ask.specs.NameLists.{NameLists, list_of, all_names, place_of, AreDistinct, AreNames}
 use Rattle.pct_ask.specs.declared.names.NameKind.{NameKind}
-use Rattle.pct_ask.specs.declared.names.NameKind.TheVariants.{Thread, Var, Mutex, Cond, Sem, Barrier, RwLock}
-use Rattle.pct_ask.proofs.laws.Names.{place_of-Some}
+use Rattle.pct_ask.specs.declared.names.NameKind.TheVariants.{Thread, Var, Mutex, Cond, Sem}
+use Rattle.pct_ask.specs.declared.names.NameKind.TheVariants.{Barrier, RwLock}
+use Rattle.pct_ask.proofs.laws.Names.{place_of-Some, AreDistinct-left, found-at}
 use Rattle.trace_text.specs.reader.Asks.{object_at, object}
 use Rattle.trace_text.specs.declared.asks.WordsRead.{WordsRead}
 use Rattle.trace_text.specs.declared.asks.WordsRead.TheVariants.{Is, NoForm}
-
-or-left : (a b : Bool) → (a || b) ≡ false → a ≡ false
-or-left true b h = h
-or-left false b h = refl
-
-or-right : (a b : Bool) → (a || b) ≡ false → b ≡ false
-or-right true b h = cc
-or-right false b h = h
-
-bytes_eq-sym : (a b : List ℕ) → bytes_eq a b ≡ bytes_eq b a
-bytes_eq-sym a b =
-    same_from_decides (bytes_eq a b) (bytes_eq b a) (bytes_eq-Decides a b) (Decides-like (bytes_eq b a) (λ e. sym e) (λ e. sym e) (bytes_eq-Decides b a))
-
-distinct-left : (front back : List (List ℕ)) → AreDistinct (front ++ back) → AreDistinct front
-distinct-left [] back distinct = tt
-distinct-left (name ∷ names) back distinct =
-    (or-left _ _ (sym (list_any-append (bytes_eq name) names back) ∙ distinct.0), distinct-left names back distinct.1)
 
 distinct-right : (front back : List (List ℕ)) → AreDistinct (front ++ back) → AreDistinct back
 distinct-right [] back distinct = distinct
@@ -44,11 +26,13 @@ Lawful name = is_name 1 name ≡ true
 lawful-left : (front back : List (List ℕ)) → All Lawful (front ++ back) → All Lawful front
 lawful-left [] back all = All-nil Lawful
 lawful-left (name ∷ names) back all =
-    All-cons Lawful name names (All-head Lawful name (names ++ back) all) (lawful-left names back (All-tail Lawful name (names ++ back) all))
+    All-cons Lawful name names (All-head Lawful name (names ++ back) all)
+    (lawful-left names back (All-tail Lawful name (names ++ back) all))
 
 lawful-right : (front back : List (List ℕ)) → All Lawful (front ++ back) → All Lawful back
 lawful-right [] back all = all
-lawful-right (name ∷ names) back all = lawful-right names back (All-tail Lawful name (names ++ back) all)
+lawful-right (name ∷ names) back all =
+    lawful-right names back (All-tail Lawful name (names ++ back) all)
 
 abbrev after_threads : NameLists → List (List ℕ)
 after_threads n = n.vars ++ (n.mutexes ++ (n.conds ++ (n.sems ++ (n.barriers ++ n.rwlocks))))
@@ -62,40 +46,68 @@ after_mutexes n = n.conds ++ (n.sems ++ (n.barriers ++ n.rwlocks))
 abbrev after_conds : NameLists → List (List ℕ)
 after_conds n = n.sems ++ (n.barriers ++ n.rwlocks)
 
-kind-distinct : (kind : NameKind) (n : NameLists) → AreDistinct (all_names n) → AreDistinct (list_of kind n)
-kind-distinct Thread n d = distinct-left n.threads (after_threads n) d
-kind-distinct Var n d = distinct-left n.vars (after_vars n) (distinct-right n.threads (after_threads n) d)
-kind-distinct Mutex n d = distinct-left n.mutexes (after_mutexes n) (distinct-right n.vars (after_vars n) (distinct-right n.threads (after_threads n) d))
-kind-distinct Cond n d = distinct-left n.conds (after_conds n) (distinct-right n.mutexes (after_mutexes n) (distinct-right n.vars (after_vars n) (distinct-right n.threads (after_threads n) d)))
-kind-distinct Sem n d = distinct-left n.sems (n.barriers ++ n.rwlocks) (distinct-right n.conds (after_conds n) (distinct-right n.mutexes (after_mutexes n) (distinct-right n.vars (after_vars n) (distinct-right n.threads (after_threads n) d))))
-kind-distinct Barrier n d = distinct-left n.barriers n.rwlocks (distinct-right n.sems (n.barriers ++ n.rwlocks) (distinct-right n.conds (after_conds n) (distinct-right n.mutexes (after_mutexes n) (distinct-right n.vars (after_vars n) (distinct-right n.threads (after_threads n) d)))))
-kind-distinct RwLock n d = distinct-right n.barriers n.rwlocks (distinct-right n.sems (n.barriers ++ n.rwlocks) (distinct-right n.conds (after_conds n) (distinct-right n.mutexes (after_mutexes n) (distinct-right n.vars (after_vars n) (distinct-right n.threads (after_threads n) d)))))
+kind-distinct : (kind : NameKind) (n : NameLists) → AreDistinct (all_names n)
+    → AreDistinct (list_of kind n)
+kind-distinct Thread n d = AreDistinct-left n.threads (after_threads n) d
+kind-distinct Var n d =
+    AreDistinct-left n.vars (after_vars n) (distinct-right n.threads (after_threads n) d)
+kind-distinct Mutex n d =
+    AreDistinct-left n.mutexes (after_mutexes n)
+    (distinct-right n.vars (after_vars n) (distinct-right n.threads (after_threads n) d))
+kind-distinct Cond n d =
+    AreDistinct-left n.conds (after_conds n)
+    (distinct-right n.mutexes (after_mutexes n)
+    (distinct-right n.vars (after_vars n) (distinct-right n.threads (after_threads n) d)))
+kind-distinct Sem n d =
+    AreDistinct-left n.sems (n.barriers ++ n.rwlocks)
+    (distinct-right n.conds (after_conds n)
+    (distinct-right n.mutexes (after_mutexes n)
+    (distinct-right n.vars (after_vars n) (distinct-right n.threads (after_threads n) d))))
+kind-distinct Barrier n d =
+    AreDistinct-left n.barriers n.rwlocks
+    (distinct-right n.sems (n.barriers ++ n.rwlocks)
+    (distinct-right n.conds (after_conds n)
+    (distinct-right n.mutexes (after_mutexes n)
+    (distinct-right n.vars (after_vars n) (distinct-right n.threads (after_threads n) d)))))
+kind-distinct RwLock n d =
+    distinct-right n.barriers n.rwlocks
+    (distinct-right n.sems (n.barriers ++ n.rwlocks)
+    (distinct-right n.conds (after_conds n)
+    (distinct-right n.mutexes (after_mutexes n)
+    (distinct-right n.vars (after_vars n) (distinct-right n.threads (after_threads n) d)))))
 
-kind-lawful : (kind : NameKind) (n : NameLists) → All Lawful (all_names n) → All Lawful (list_of kind n)
+kind-lawful : (kind : NameKind) (n : NameLists) → All Lawful (all_names n)
+    → All Lawful (list_of kind n)
 kind-lawful Thread n d = lawful-left n.threads (after_threads n) d
 kind-lawful Var n d = lawful-left n.vars (after_vars n) (lawful-right n.threads (after_threads n) d)
-kind-lawful Mutex n d = lawful-left n.mutexes (after_mutexes n) (lawful-right n.vars (after_vars n) (lawful-right n.threads (after_threads n) d))
-kind-lawful Cond n d = lawful-left n.conds (after_conds n) (lawful-right n.mutexes (after_mutexes n) (lawful-right n.vars (after_vars n) (lawful-right n.threads (after_threads n) d)))
-kind-lawful Sem n d = lawful-left n.sems (n.barriers ++ n.rwlocks) (lawful-right n.conds (after_conds n) (lawful-right n.mutexes (after_mutexes n) (lawful-right n.vars (after_vars n) (lawful-right n.threads (after_threads n) d))))
-kind-lawful Barrier n d = lawful-left n.barriers n.rwlocks (lawful-right n.sems (n.barriers ++ n.rwlocks) (lawful-right n.conds (after_conds n) (lawful-right n.mutexes (after_mutexes n) (lawful-right n.vars (after_vars n) (lawful-right n.threads (after_threads n) d)))))
-kind-lawful RwLock n d = lawful-right n.barriers n.rwlocks (lawful-right n.sems (n.barriers ++ n.rwlocks) (lawful-right n.conds (after_conds n) (lawful-right n.mutexes (after_mutexes n) (lawful-right n.vars (after_vars n) (lawful-right n.threads (after_threads n) d)))))
-
-not-at : (name : List ℕ) (names : List (List ℕ)) (k : ℕ) → is_among name names ≡ false → k < length names → bytes_eq name (get_or names k []) ≡ false
-not-at name [] k fresh h = absurd (omega arith)
-not-at name (other ∷ others) zero fresh h = or-left _ _ fresh
-not-at name (other ∷ others) (suc k) fresh h = not-at name others k (or-right (bytes_eq name other) _ fresh) (omega arith)
-
-found-at : (names : List (List ℕ)) (k i : ℕ) → k < length names → AreDistinct names → position_from (bytes_eq (get_or names k [])) i names ≡ Some (i + k)
-found-at [] k i h distinct = absurd (omega arith)
-found-at (name ∷ names) zero i h distinct =
-    let same : bytes_eq name name ≡ true = (bytes_eq-Decides name name).1 refl in rw (same, add-zero)
-found-at (name ∷ names) (suc k) i h distinct =
-    let other : bytes_eq (get_or names k []) name ≡ false = bytes_eq-sym (get_or names k []) name ∙ not-at name names k distinct.0 (omega arith) in
-    let later : i + 1 + k ≡ i + suc k = omega arith in
-    rw other (found-at names k (i + 1) (omega arith) distinct.1 ∙ ap (λ n. Some n) later)
+kind-lawful Mutex n d =
+    lawful-left n.mutexes (after_mutexes n)
+    (lawful-right n.vars (after_vars n) (lawful-right n.threads (after_threads n) d))
+kind-lawful Cond n d =
+    lawful-left n.conds (after_conds n)
+    (lawful-right n.mutexes (after_mutexes n)
+    (lawful-right n.vars (after_vars n) (lawful-right n.threads (after_threads n) d)))
+kind-lawful Sem n d =
+    lawful-left n.sems (n.barriers ++ n.rwlocks)
+    (lawful-right n.conds (after_conds n)
+    (lawful-right n.mutexes (after_mutexes n)
+    (lawful-right n.vars (after_vars n) (lawful-right n.threads (after_threads n) d))))
+kind-lawful Barrier n d =
+    lawful-left n.barriers n.rwlocks (lawful-right n.sems (n.barriers ++ n.rwlocks)
+    (lawful-right n.conds (after_conds n)
+    (lawful-right n.mutexes (after_mutexes n)
+    (lawful-right n.vars (after_vars n) (lawful-right n.threads (after_threads n) d)))))
+kind-lawful RwLock n d =
+    lawful-right n.barriers n.rwlocks
+    (lawful-right n.sems (n.barriers ++ n.rwlocks)
+    (lawful-right n.conds (after_conds n)
+    (lawful-right n.mutexes (after_mutexes n)
+    (lawful-right n.vars (after_vars n) (lawful-right n.threads (after_threads n) d)))))
 
 -- the name at a place is found there
-pub place_of-kind : (names : NameLists) (kind : NameKind) (id : ℕ) → AreNames names → id < length (list_of kind names) → place_of (get_or (list_of kind names) id []) (list_of kind names) ≡ Some id
+pub place_of-kind : (names : NameLists) (kind : NameKind) (id : ℕ) → AreNames names
+    → id < length (list_of kind names)
+    → place_of (get_or (list_of kind names) id []) (list_of kind names) ≡ Some id
 place_of-kind names kind id sound h =
     let zero_more : 0 + id ≡ id = omega arith in
     position_from-zero (bytes_eq (get_or (list_of kind names) id [])) (list_of kind names)
@@ -103,7 +115,8 @@ place_of-kind names kind id sound h =
     ∙ ap (λ n. Some n) zero_more
 
 -- and is lawful
-pub name-lawful : (names : NameLists) (kind : NameKind) (id : ℕ) → AreNames names → id < length (list_of kind names) → is_name 1 (get_or (list_of kind names) id []) ≡ true
+pub name-lawful : (names : NameLists) (kind : NameKind) (id : ℕ) → AreNames names
+    → id < length (list_of kind names) → is_name 1 (get_or (list_of kind names) id []) ≡ true
 name-lawful names kind id sound h = kind-lawful kind names sound.lawful id [] h
 
 -- so it is an object

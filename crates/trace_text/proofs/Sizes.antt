@@ -1,195 +1,185 @@
 -- How many bytes a trace has.
-use Rattle.std.specs.Prelude.{codes, decimal, nat_le, not, ◌&&◌, map}
+use Rattle.std.specs.Prelude.{codes, decimal, map}
 use Rattle.std.specs.Fmt.{signed_decimal}
-use Rattle.std.specs.List.{All, flat_map, list_all, join_with_byte}
-use Rattle.std.proofs.Common.{◌≡◌, ◌⊎◌, ℕ, ◌+◌, ◌*◌, ◌<◌, ◌≤◌, Bool, true, false, List, [], ◌∷◌, ◌++◌, length, get_or, ℤ, pos, negsuc, refl, inl, inr, arith, length-append}
-use Rattle.std.proofs.lemmas.Bool.Decides.{nat_tests}
+use Rattle.std.specs.List.{All, flat_map, join_with_byte}
+use Rattle.std.proofs.Common.{◌≡◌, ◌⊎◌, ℕ, ◌+◌, ◌*◌, ◌<◌, ◌≤◌, Bool, true, false, List, [], ◌∷◌}
+use Rattle.std.proofs.Common.{◌++◌, length, get_or, ℤ, pos, negsuc, inl, inr, arith, length-append}
 use Rattle.std.proofs.lemmas.Fmt.{length-decimal-le, length_signed_le}
-use Rattle.std.proofs.lemmas.List.{length-map}
 use Rattle.std.proofs.lemmas.List.Elements.{All-head, All-tail}
-use Rattle.pct_ask.specs.Characters.{is_letter, is_word_byte}
-use Rattle.pct_ask.specs.Words.{is_name, is_among, keywords, registers}
 use Rattle.pct_ask.specs.NameLists.{NameLists, list_of, AreNames}
 use Rattle.pct_ask.specs.Numbers.{number_text}
-use Rattle.pct_ask.specs.VerdictText.{thread_name, fault_word, misuse_word, place_words, verdict_words, named_verdict, known_threads, IsLine, IsVerdictForm, IsPlace, HasNames}
-use Rattle.pct_ask.specs.VerdictPieces.{HasName}
-use Rattle.pct_ask.specs.TraceText.{ask_words, check_word, event_words, step_lines, verdict_line_words, line_text, trace_text}
+use Rattle.pct_ask.specs.VerdictText.{thread_name, fault_word, verdict_words, named_verdict}
+use Rattle.pct_ask.specs.TraceText.{ask_words, check_word, event_words, step_lines}
+use Rattle.pct_ask.specs.TraceText.{verdict_line_words, line_text, trace_text}
 use Rattle.pct_ask.specs.declared.names.NameKind.{NameKind}
-use Rattle.pct_ask.specs.declared.names.NameKind.TheVariants.{Thread, Var, Mutex, Cond, Sem, Barrier, RwLock}
-use Rattle.pct_ask.specs.declared.ask.FaultKind.{FaultKind}
-use Rattle.pct_ask.specs.declared.ask.FaultKind.TheVariants.{Overflow, ZeroDivisor, Spin}
-use Rattle.pct_ask.specs.declared.verdict.MisuseKind.{MisuseKind}
-use Rattle.pct_ask.specs.declared.verdict.MisuseKind.TheVariants.{NotOwner, SemFull, AlreadyStarted, TooManyReads}
+use Rattle.pct_ask.specs.declared.names.NameKind.TheVariants.{Thread, Var, Mutex, Cond, Sem}
+use Rattle.pct_ask.specs.declared.names.NameKind.TheVariants.{Barrier, RwLock}
 use Rattle.pct_ask.specs.declared.ask.Ask.{Ask}
-use Rattle.pct_ask.specs.declared.ask.Ask.TheVariants.{Read, Write, Add, Cas, Lock, TryLock, Unlock, Release, Regain, Signal, Broadcast, Down, TryDown, Up, Arrive, Leave, Join, Yield, Check, Fault, Start, Begin, RdLock, WrLock, TryRdLock, TryWrLock, RwUnlock}
+use Rattle.pct_ask.specs.declared.ask.Ask.TheVariants.{Read, Write, Add, Cas, Lock, TryLock, Unlock}
+use Rattle.pct_ask.specs.declared.ask.Ask.TheVariants.{Release, Regain, Signal, Broadcast, Down}
+use Rattle.pct_ask.specs.declared.ask.Ask.TheVariants.{TryDown, Up, Arrive, Leave, Join, Yield}
+use Rattle.pct_ask.specs.declared.ask.Ask.TheVariants.{Check, Fault, Start, Begin, RdLock, WrLock}
+use Rattle.pct_ask.specs.declared.ask.Ask.TheVariants.{TryRdLock, TryWrLock, RwUnlock}
 use Rattle.pct_ask.specs.declared.event.Event.{Event}
-use Rattle.pct_ask.specs.declared.verdict.Verdict.{Verdict}
-use Rattle.pct_ask.specs.declared.verdict.Verdict.TheVariants.{Passed, Failed, Stuck, Misuse, Fault as VerdictFault, Cut}
-use Rattle.pct_ask.proofs.laws.Names.{place_of-thread}
-use Rattle.pct_ask.proofs.laws.RisingPlaces.{named_place, RiseFrom, RiseFrom-increasing}
+use Rattle.pct_ask.proofs.laws.NameParts.{name-short}
+use Rattle.pct_ask.proofs.laws.TextSizes.{size, size-append, length-join, line-short, fault-short}
+use Rattle.pct_ask.proofs.laws.TextSizes.{verdict-size}
 use Rattle.trace_text.specs.Lawful.{IsAsk, IsStep, IsStepCount, IsValue}
 use Rattle.trace_text.specs.Trace.{head_of, IsWritableFile}
 use Rattle.trace_text.specs.declared.file.TraceFile.{TraceFile}
 use Rattle.trace_text.proofs.Names.{name-lawful}
 
--- the bytes of words, each with one byte after it
-abbrev size : List (List ℕ) → ℕ
-size [] = 0
-size (word ∷ words) = length word + 1 + size words
+length-line : (word : List ℕ) (words : List (List ℕ))
+    → length (line_text (word ∷ words)) ≡ size (word ∷ words)
+length-line word words =
+    omega (
+      arith,
+      length-join word words,
+      length-append (join_with_byte 32 (word ∷ words)) (10 ∷ []),
+    )
 
-size-append : (a b : List (List ℕ)) → size (a ++ b) ≡ size a + size b
-size-append [] b = omega arith
-size-append (word ∷ a) b = omega (arith, size-append a b)
-
-length-join : (word : List ℕ) (words : List (List ℕ)) → length (join_with_byte 32 (word ∷ words)) + 1 ≡ size (word ∷ words)
-length-join word [] = omega arith
-length-join word (next ∷ words) =
-    omega (arith, length-join next words, length-append word (32 ∷ join_with_byte 32 (next ∷ words)))
-
-length-line : (word : List ℕ) (words : List (List ℕ)) → length (line_text (word ∷ words)) ≡ size (word ∷ words)
-length-line word words = omega (arith, length-join word words, length-append (join_with_byte 32 (word ∷ words)) (10 ∷ []))
-
-three-parts : (x y z u v : Bool) → (x && y && z && u && v) ≡ true → z ≡ true
-three-parts true true true u v h = refl
-three-parts true true false u v h = absurd cc
-three-parts true false z u v h = absurd cc
-three-parts false y z u v h = absurd cc
-
-name-short : (name : List ℕ) → is_name 1 name ≡ true → length name ≤ 32
-name-short [] h = omega arith
-name-short (b ∷ bs) h =
-    let few = three-parts (is_letter b) (list_all is_word_byte bs) (nat_le (length bs) 31) (not (is_among (b ∷ bs) (keywords 1))) (not (is_among (b ∷ bs) registers)) h in
-    let short : length bs ≤ 31 = grind (arith, nat_tests) in
-    omega arith
-
-kind-short : (names : NameLists) (kind : NameKind) (id : ℕ) → AreNames names → id < length (list_of kind names) → length (get_or (list_of kind names) id []) ≤ 32
-kind-short names kind id sound h = name-short (get_or (list_of kind names) id []) (name-lawful names kind id sound h)
+kind-short : (names : NameLists) (kind : NameKind) (id : ℕ) → AreNames names
+    → id < length (list_of kind names) → length (get_or (list_of kind names) id []) ≤ 32
+kind-short names kind id sound h =
+    name-short (get_or (list_of kind names) id []) (name-lawful names kind id sound h)
 
 value-short : (z : ℤ) → IsValue z → length (number_text z) ≤ 20
-value-short (pos n) fits = length_signed_le 19 (pos n) (omega (arith, fits.sfits)) (omega (arith, fits.sfits))
-value-short (negsuc n) fits = length_signed_le 19 (negsuc n) (omega (arith, fits.sfits)) (omega (arith, fits.sfits))
+value-short (pos n) fits =
+    length_signed_le 19 (pos n) (omega (arith, fits.sfits)) (omega (arith, fits.sfits))
+value-short (negsuc n) fits =
+    length_signed_le 19 (negsuc n) (omega (arith, fits.sfits)) (omega (arith, fits.sfits))
 
-one-size : (names : NameLists) (kind : NameKind) (word : List ℕ) (id : ℕ) → AreNames names → length word ≤ 12 → id < length (list_of kind names) → size (word ∷ get_or (list_of kind names) id [] ∷ []) ≤ 79
+one-size : (names : NameLists) (kind : NameKind) (word : List ℕ) (id : ℕ) → AreNames names
+    → length word ≤ 12 → id < length (list_of kind names)
+    → size (word ∷ get_or (list_of kind names) id [] ∷ []) ≤ 79
 one-size names kind word id sound w h = let n = kind-short names kind id sound h in omega arith
 
-two-size : (word a b : List ℕ) → length word ≤ 12 → length a ≤ 32 → length b ≤ 32 → size (word ∷ a ∷ b ∷ []) ≤ 79
+two-size : (word a b : List ℕ) → length word ≤ 12 → length a ≤ 32 → length b ≤ 32
+    → size (word ∷ a ∷ b ∷ []) ≤ 79
 two-size word a b p q r = omega arith
 
-three-size : (word a b c : List ℕ) → length word ≤ 3 → length a ≤ 32 → length b ≤ 20 → length c ≤ 20 → size (word ∷ a ∷ b ∷ c ∷ []) ≤ 79
+three-size : (word a b c : List ℕ) → length word ≤ 3 → length a ≤ 32 → length b ≤ 20 → length c ≤ 20
+    → size (word ∷ a ∷ b ∷ c ∷ []) ≤ 79
 three-size word a b c p q r s = omega arith
 
-plain-size : (word operand : List ℕ) → length word ≤ 12 → length operand ≤ 12 → size (word ∷ operand ∷ []) ≤ 79
+plain-size : (word operand : List ℕ) → length word ≤ 12 → length operand ≤ 12
+    → size (word ∷ operand ∷ []) ≤ 79
 plain-size word operand p q = omega arith
 
 check-short : (holds : Bool) → length (check_word holds) ≤ 12
 check-short true = omega arith
 check-short false = omega arith
 
-fault-short : (kind : FaultKind) → length (fault_word kind) ≤ 12
-fault-short Overflow = omega arith
-fault-short ZeroDivisor = omega arith
-fault-short Spin = omega arith
-
-ask-size : (names : NameLists) (version : ℕ) (ask : Ask) → AreNames names → IsAsk names version ask → size (ask_words names ask) ≤ 79
+ask-size : (names : NameLists) (version : ℕ) (ask : Ask) → AreNames names → IsAsk names version ask
+    → size (ask_words names ask) ≤ 79
 ask-size names version (Read x) sound h = one-size names Var (codes "read") x sound (omega arith) h
-ask-size names version (Write x value) sound h = two-size (codes "write") (get_or names.vars x []) (number_text value) (omega arith) (kind-short names Var x sound h.0) (let v = value-short value h.1 in omega arith)
-ask-size names version (Add x value) sound h = two-size (codes "add") (get_or names.vars x []) (number_text value) (omega arith) (kind-short names Var x sound h.0) (let v = value-short value h.1 in omega arith)
-ask-size names version (Cas x old new) sound h = three-size (codes "cas") (get_or names.vars x []) (number_text old) (number_text new) (omega arith) (kind-short names Var x sound h.0) (value-short old h.1) (value-short new h.2)
-ask-size names version (Lock m) sound h = one-size names Mutex (codes "lock") m sound (omega arith) h
-ask-size names version (TryLock m) sound h = one-size names Mutex (codes "trylock") m sound (omega arith) h
-ask-size names version (Unlock m) sound h = one-size names Mutex (codes "unlock") m sound (omega arith) h
-ask-size names version (Release c m) sound h = two-size (codes "release") (get_or names.conds c []) (get_or names.mutexes m []) (omega arith) (kind-short names Cond c sound h.0) (kind-short names Mutex m sound h.1)
-ask-size names version (Regain c m) sound h = two-size (codes "regain") (get_or names.conds c []) (get_or names.mutexes m []) (omega arith) (kind-short names Cond c sound h.0) (kind-short names Mutex m sound h.1)
-ask-size names version (Signal c) sound h = one-size names Cond (codes "signal") c sound (omega arith) h
-ask-size names version (Broadcast c) sound h = one-size names Cond (codes "broadcast") c sound (omega arith) h
+ask-size names version (Write x value) sound h =
+    two-size (codes "write") (get_or names.vars x []) (number_text value) (omega arith)
+    (kind-short names Var x sound h.0) (let v = value-short value h.1 in omega arith)
+ask-size names version (Add x value) sound h =
+    two-size (codes "add") (get_or names.vars x []) (number_text value) (omega arith)
+    (kind-short names Var x sound h.0) (let v = value-short value h.1 in omega arith)
+ask-size names version (Cas x old new) sound h =
+    three-size (codes "cas") (get_or names.vars x []) (number_text old) (number_text new)
+    (omega arith) (kind-short names Var x sound h.0) (value-short old h.1) (value-short new h.2)
+ask-size names version (Lock m) sound h =
+    one-size names Mutex (codes "lock") m sound (omega arith) h
+ask-size names version (TryLock m) sound h =
+    one-size names Mutex (codes "trylock") m sound (omega arith) h
+ask-size names version (Unlock m) sound h =
+    one-size names Mutex (codes "unlock") m sound (omega arith) h
+ask-size names version (Release c m) sound h =
+    two-size (codes "release") (get_or names.conds c []) (get_or names.mutexes m []) (omega arith)
+    (kind-short names Cond c sound h.0) (kind-short names Mutex m sound h.1)
+ask-size names version (Regain c m) sound h =
+    two-size (codes "regain") (get_or names.conds c []) (get_or names.mutexes m []) (omega arith)
+    (kind-short names Cond c sound h.0) (kind-short names Mutex m sound h.1)
+ask-size names version (Signal c) sound h =
+    one-size names Cond (codes "signal") c sound (omega arith) h
+ask-size names version (Broadcast c) sound h =
+    one-size names Cond (codes "broadcast") c sound (omega arith) h
 ask-size names version (Down s) sound h = one-size names Sem (codes "down") s sound (omega arith) h
-ask-size names version (TryDown s) sound h = one-size names Sem (codes "trydown") s sound (omega arith) h
+ask-size names version (TryDown s) sound h =
+    one-size names Sem (codes "trydown") s sound (omega arith) h
 ask-size names version (Up s) sound h = one-size names Sem (codes "up") s sound (omega arith) h
-ask-size names version (Arrive b) sound h = one-size names Barrier (codes "arrive") b sound (omega arith) h
-ask-size names version (Leave b) sound h = one-size names Barrier (codes "leave") b sound (omega arith) h
-ask-size names version (Join t) sound h = one-size names Thread (codes "join") t sound (omega arith) h
+ask-size names version (Arrive b) sound h =
+    one-size names Barrier (codes "arrive") b sound (omega arith) h
+ask-size names version (Leave b) sound h =
+    one-size names Barrier (codes "leave") b sound (omega arith) h
+ask-size names version (Join t) sound h =
+    one-size names Thread (codes "join") t sound (omega arith) h
 ask-size names version Yield sound h = omega arith
-ask-size names version (Check holds) sound h = plain-size (codes "check") (check_word holds) (omega arith) (check-short holds)
-ask-size names version (Fault kind) sound h = plain-size (codes "fault") (fault_word kind) (omega arith) (fault-short kind)
-ask-size names version (Start t) sound h = one-size names Thread (codes "start") t sound (omega arith) h
+ask-size names version (Check holds) sound h =
+    plain-size (codes "check") (check_word holds) (omega arith) (check-short holds)
+ask-size names version (Fault kind) sound h =
+    plain-size (codes "fault") (fault_word kind) (omega arith) (fault-short kind)
+ask-size names version (Start t) sound h =
+    one-size names Thread (codes "start") t sound (omega arith) h
 ask-size names version Begin sound h = omega arith
-ask-size names version (RdLock l) sound h = one-size names RwLock (codes "rdlock") l sound (omega arith) h.0
-ask-size names version (WrLock l) sound h = one-size names RwLock (codes "wrlock") l sound (omega arith) h.0
-ask-size names version (TryRdLock l) sound h = one-size names RwLock (codes "tryrdlock") l sound (omega arith) h.0
-ask-size names version (TryWrLock l) sound h = one-size names RwLock (codes "trywrlock") l sound (omega arith) h.0
-ask-size names version (RwUnlock l) sound h = one-size names RwLock (codes "rwunlock") l sound (omega arith) h.0
+ask-size names version (RdLock l) sound h =
+    one-size names RwLock (codes "rdlock") l sound (omega arith) h.0
+ask-size names version (WrLock l) sound h =
+    one-size names RwLock (codes "wrlock") l sound (omega arith) h.0
+ask-size names version (TryRdLock l) sound h =
+    one-size names RwLock (codes "tryrdlock") l sound (omega arith) h.0
+ask-size names version (TryWrLock l) sound h =
+    one-size names RwLock (codes "trywrlock") l sound (omega arith) h.0
+ask-size names version (RwUnlock l) sound h =
+    one-size names RwLock (codes "rwunlock") l sound (omega arith) h.0
 
-line-short : (line : ℕ) → IsLine line → length (decimal line) ≤ 4
-line-short line h = length-decimal-le 4 line (omega arith) (omega (arith, h.0, h.1)) (omega (arith, h.0, h.1))
+step-sum : (number name line : List ℕ) (ask : List (List ℕ)) (answer : List ℕ) → length number ≤ 6
+    → length name ≤ 32 → length line ≤ 4 → size ask ≤ 79 → length answer ≤ 20
+    → size (number ∷ name ∷ line ∷ (ask ++ codes "=" ∷ answer ∷ [])) ≤ 147
+step-sum number name line ask answer a b c d e =
+    omega (arith, size-append ask (codes "=" ∷ answer ∷ []))
 
-step-sum : (number name line : List ℕ) (ask : List (List ℕ)) (answer : List ℕ) → length number ≤ 6 → length name ≤ 32 → length line ≤ 4 → size ask ≤ 79 → length answer ≤ 20 → size (number ∷ name ∷ line ∷ (ask ++ codes "=" ∷ answer ∷ [])) ≤ 147
-step-sum number name line ask answer a b c d e = omega (arith, size-append ask (codes "=" ∷ answer ∷ []))
-
-step-size : (names : NameLists) (version n : ℕ) (event : Event) → AreNames names → IsStep names version event → n ≤ 100000 → length (line_text (event_words names n event)) ≤ 147
+step-size : (names : NameLists) (version n : ℕ) (event : Event) → AreNames names
+    → IsStep names version event → n ≤ 100000 → length (line_text (event_words names n event)) ≤ 147
 step-size names version n event sound step small =
-    let sum = step-sum (decimal n) (thread_name names event.thread) (decimal event.line) (ask_words names event.ask) (number_text event.answer) (length-decimal-le 6 n (omega arith) (omega arith) (omega arith)) (kind-short names Thread event.thread sound step.thread) (line-short event.line step.line) (ask-size names version event.ask sound step.ask) (value-short event.answer step.answer) in
-    omega (arith, sum, length-line (decimal n) (thread_name names event.thread ∷ decimal event.line ∷ (ask_words names event.ask ++ codes "=" ∷ signed_decimal event.answer ∷ [])))
+    let sum = step-sum (decimal n) (thread_name names event.thread) (decimal event.line)
+    (ask_words names event.ask) (number_text event.answer)
+    (length-decimal-le 6 n (omega arith) (omega arith) (omega arith))
+    (kind-short names Thread event.thread sound step.thread) (line-short event.line step.line)
+    (ask-size names version event.ask sound step.ask) (value-short event.answer step.answer) in
+    omega (
+      arith,
+      sum,
+      length-line (decimal n)
+          (thread_name names event.thread ∷ decimal event.line
+          ∷ (ask_words names event.ask ++ codes "=" ∷ signed_decimal event.answer ∷ [])),
+    )
 
 -- the bytes of lines
 abbrev sizes : List (List (List ℕ)) → ℕ
 sizes lines = length (flat_map line_text lines)
 
-sizes-cons : (line : List (List ℕ)) (lines : List (List (List ℕ))) → sizes (line ∷ lines) ≡ length (line_text line) + sizes lines
+sizes-cons : (line : List (List ℕ)) (lines : List (List (List ℕ)))
+    → sizes (line ∷ lines) ≡ length (line_text line) + sizes lines
 sizes-cons line lines = length-append (line_text line) (flat_map line_text lines)
 
-steps-size : (names : NameLists) (version next : ℕ) (events : List Event) (last : List (List ℕ)) → AreNames names → All (IsStep names version) events → next + length events ≤ 100001 → sizes (step_lines names next events ++ last ∷ []) ≤ 147 * length events + length (line_text last)
+steps-size : (names : NameLists) (version next : ℕ) (events : List Event) (last : List (List ℕ))
+    → AreNames names → All (IsStep names version) events → next + length events ≤ 100001
+    → sizes (step_lines names next events ++ last ∷ []) ≤ 147 * length events
+    + length (line_text last)
 steps-size names version next [] last sound steps few = omega (arith, sizes-cons last [])
 steps-size names version next (event ∷ events) last sound steps few =
-    let here = step-size names version next event sound (All-head (IsStep names version) event events steps) (omega arith) in
-    let others = steps-size names version (next + 1) events last sound (All-tail (IsStep names version) event events steps) (omega arith) in
-    omega (arith, here, others, sizes-cons (event_words names next event) (step_lines names (next + 1) events ++ last ∷ []))
-
--- ---- the verdict
-
-places-size : (places : List (List ℕ × ℕ)) → All IsPlace places → size (flat_map place_words places) ≤ 38 * length places
-places-size [] all = omega arith
-places-size (p ∷ ps) all =
-    let here = All-head IsPlace p ps all in
-    let name = name-short p.0 here.0 in
-    let line = line-short p.1 here.1 in
-    let others = places-size ps (All-tail IsPlace p ps all) in
-    omega arith
-
-places-few : (names : NameLists) (least : ℕ) (places : List (ℕ × ℕ)) → AreNames names → All (HasName names) (map (λ place. place.0) places) → RiseFrom least (known_threads names (map (named_place names) places)) → least ≤ length names.threads → least + length places ≤ length names.threads
-places-few names least [] sound all rise low = omega arith
-places-few names least (p ∷ ps) sound all rise low =
-    let here = All-head (HasName names) p.0 (map (λ (q : ℕ × ℕ). q.0) ps) all in
-    let at = place_of-thread names p.0 sound here in
-    let risen : RiseFrom least (p.0 ∷ known_threads names (map (named_place names) ps)) = rw at at rise in
-    let others = places-few names (p.0 + 1) ps sound (All-tail (HasName names) p.0 (map (λ (q : ℕ × ℕ). q.0) ps) all) risen.1 (omega (arith, here)) in
-    omega (arith, others, risen.0)
-
-misuse-short : (kind : MisuseKind) → length (misuse_word kind) ≤ 14
-misuse-short NotOwner = omega arith
-misuse-short SemFull = omega arith
-misuse-short AlreadyStarted = omega arith
-misuse-short TooManyReads = omega arith
-
-placed-size : (head name : List ℕ) (line : ℕ) (words : List (List ℕ)) → length head ≤ 12 → length name ≤ 32 → IsLine line → size words ≤ 15 → size (head ∷ name ∷ decimal line ∷ words) ≤ 2438
-placed-size head name line words a b c d = let l = line-short line c in omega arith
-
-verdict-size : (names : NameLists) (verdict : Verdict) → AreNames names → HasNames names verdict → IsVerdictForm names (named_verdict names verdict) → size (verdict_words (named_verdict names verdict)) ≤ 2438
-verdict-size names Passed sound has form = omega arith
-verdict-size names (Failed thread line) sound has form = placed-size (codes "failed") (thread_name names thread) line [] (omega arith) (name-short (thread_name names thread) form.0) form.1 (omega arith)
-verdict-size names (Stuck places) sound has form =
-    let each = places-size (map (named_place names) places) form.1 in
-    let rise = RiseFrom-increasing (known_threads names (map (named_place names) places)) form.2 in
-    let few = places-few names 0 places sound has rise (omega arith) in
-    let threads = sound.few Thread in
-    let long : length (map (named_place names) places) ≡ length places = length-map places (named_place names) in
-    omega (arith, each, few, threads, long)
-verdict-size names (Misuse thread line kind) sound has form = let k = misuse-short kind in placed-size (codes "misuse") (thread_name names thread) line (misuse_word kind ∷ []) (omega arith) (name-short (thread_name names thread) form.0) form.1 (omega arith)
-verdict-size names (VerdictFault thread line kind) sound has form = let k = fault-short kind in placed-size (codes "fault") (thread_name names thread) line (fault_word kind ∷ []) (omega arith) (name-short (thread_name names thread) form.0) form.1 (omega arith)
-verdict-size names Cut sound has form = omega arith
+    let here = step-size names version next event sound
+    (All-head (IsStep names version) event events steps) (omega arith) in
+    let others = steps-size names version (next + 1) events last sound
+    (All-tail (IsStep names version) event events steps) (omega arith) in
+    omega (
+      arith,
+      here,
+      others,
+      sizes-cons (event_words names next event)
+          (step_lines names (next + 1) events ++ last ∷ []),
+    )
 
 -- ---- the head
 
-order-size : (names : NameLists) (order : List ℕ) → AreNames names → All (λ t. t < length names.threads) order → size (map (thread_name names) order) ≤ 33 * length order
+order-size : (names : NameLists) (order : List ℕ) → AreNames names
+    → All (λ t. t < length names.threads) order
+    → size (map (thread_name names) order) ≤ 33 * length order
 order-size names [] sound all = omega arith
 order-size names (t ∷ ts) sound all =
     let P = λ (u : ℕ). u < length names.threads in
@@ -197,23 +187,29 @@ order-size names (t ∷ ts) sound all =
     let others = order-size names ts sound (All-tail P t ts all) in
     omega arith
 
-points-size : (points : List ℕ) → All IsStepCount points → size (map decimal points) ≤ 7 * length points
+points-size : (points : List ℕ) → All IsStepCount points
+    → size (map decimal points) ≤ 7 * length points
 points-size [] all = omega arith
 points-size (p ∷ ps) all =
     let here = All-head IsStepCount p ps all in
-    let short = length-decimal-le 6 p (omega arith) (omega (arith, here.0, here.1)) (omega (arith, here.0, here.1)) in
+    let short = length-decimal-le 6 p (omega arith) (omega (arith, here.0, here.1))
+    (omega (arith, here.0, here.1)) in
     let others = points-size ps (All-tail IsStepCount p ps all) in
     omega arith
 
 version-size : (version : ℕ) → (version ≡ 1) ⊎ (version ≡ 2) → length (decimal version) ≤ 1
-version-size version (inl one) = length-decimal-le 1 version (omega arith) (omega arith) (omega arith)
-version-size version (inr two) = length-decimal-le 1 version (omega arith) (omega arith) (omega arith)
+version-size version (inl one) =
+    length-decimal-le 1 version (omega arith) (omega arith) (omega arith)
+version-size version (inr two) =
+    length-decimal-le 1 version (omega arith) (omega arith) (omega arith)
 
-sum-four : (a b c d e v o p l s : ℕ) → a ≤ 8 → b ≤ 2118 → c ≤ 56 → d ≤ 13 → e ≤ 14702446 → v ≡ a + o → o ≡ b + p → p ≡ c + l → l ≡ d + s → s ≤ e → v ≤ 16777216
+sum-four : (a b c d e v o p l s : ℕ) → a ≤ 8 → b ≤ 2118 → c ≤ 56 → d ≤ 13 → e ≤ 14702446 → v ≡ a + o
+    → o ≡ b + p → p ≡ c + l → l ≡ d + s → s ≤ e → v ≤ 16777216
 sum-four a b c d e v o p l s ha hb hc hd he hv ho hp hl hs = omega arith
 
 -- a trace has at most 16,777,216 bytes
-pub trace-size : (names : NameLists) (file : TraceFile) → AreNames names → IsWritableFile names file → length (trace_text (head_of file.header) names file.events file.verdict) ≤ 16777216
+pub trace-size : (names : NameLists) (file : TraceFile) → AreNames names → IsWritableFile names file
+    → length (trace_text (head_of file.header) names file.events file.verdict) ≤ 16777216
 trace-size names file sound run =
     let head = run.head in
     let last = verdict_line_words names file.verdict in
@@ -222,10 +218,38 @@ trace-size names file sound run =
     let l2 = codes "order" ∷ map (thread_name names) file.header.order in
     let l3 = codes "points" ∷ map decimal file.header.points in
     let l4 = codes "limit" ∷ decimal file.header.limit ∷ [] in
-    let a : length (line_text l1) ≤ 8 = let v = version-size file.header.version head.version in omega (arith, v, length-line (codes "trace") (decimal file.header.version ∷ [])) in
-    let b : length (line_text l2) ≤ 2118 = let o = order-size names file.header.order sound head.threads in let f = sound.few Thread in let e = head.every in omega (arith, o, f, e, length-line (codes "order") (map (thread_name names) file.header.order)) in
-    let c : length (line_text l3) ≤ 56 = let p = points-size file.header.points head.points in let f = head.few_points in omega (arith, p, f, length-line (codes "points") (map decimal file.header.points)) in
-    let d : length (line_text l4) ≤ 13 = let l = length-decimal-le 6 file.header.limit (omega arith) (omega (arith, head.limit.0, head.limit.1)) (omega (arith, head.limit.0, head.limit.1)) in omega (arith, l, length-line (codes "limit") (decimal file.header.limit ∷ [])) in
-    let v : length (line_text last) ≤ 2446 = let w = verdict-size names file.verdict sound run.end.threads run.end.form in omega (arith, w, length-line (codes "verdict") (verdict_words (named_verdict names file.verdict))) in
-    let e : sizes steps ≤ 14702446 = let s = steps-size names file.header.version 1 file.events last sound run.steps (let f = run.few in omega (arith, f, head.limit.1)) in let f = run.few in omega (arith, s, f, v, head.limit.1) in
-    sum-four (length (line_text l1)) (length (line_text l2)) (length (line_text l3)) (length (line_text l4)) 14702446 (sizes (l1 ∷ l2 ∷ l3 ∷ l4 ∷ steps)) (sizes (l2 ∷ l3 ∷ l4 ∷ steps)) (sizes (l3 ∷ l4 ∷ steps)) (sizes (l4 ∷ steps)) (sizes steps) a b c d (omega arith) (sizes-cons l1 (l2 ∷ l3 ∷ l4 ∷ steps)) (sizes-cons l2 (l3 ∷ l4 ∷ steps)) (sizes-cons l3 (l4 ∷ steps)) (sizes-cons l4 steps) e
+    let a : length (line_text l1) ≤ 8 = let v = version-size file.header.version head.version in
+    omega (arith, v, length-line (codes "trace") (decimal file.header.version ∷ [])) in
+    let b : length (line_text l2) ≤ 2118 =
+    let o = order-size names file.header.order sound head.threads in let f = sound.few Thread in
+    let e = head.every in omega (
+      arith,
+      o,
+      f,
+      e,
+      length-line (codes "order") (map (thread_name names) file.header.order),
+    ) in
+    let c : length (line_text l3) ≤ 56 = let p = points-size file.header.points head.points in
+    let f = head.few_points in omega
+    (arith, p, f, length-line (codes "points") (map decimal file.header.points)) in
+    let d : length (line_text l4) ≤ 13 =
+    let l = length-decimal-le 6 file.header.limit (omega arith)
+    (omega (arith, head.limit.0, head.limit.1)) (omega (arith, head.limit.0, head.limit.1)) in
+    omega (arith, l, length-line (codes "limit") (decimal file.header.limit ∷ [])) in
+    let v : length (line_text last) ≤ 2446 =
+    let w = verdict-size names file.verdict sound run.end.threads run.end.form in
+    omega (
+      arith,
+      w,
+      length-line (codes "verdict")
+          (verdict_words (named_verdict names file.verdict)),
+    ) in
+    let e : sizes steps ≤ 14702446 = let s =
+    steps-size names file.header.version 1 file.events last sound run.steps
+    (let f = run.few in omega (arith, f, head.limit.1)) in let f = run.few in
+    omega (arith, s, f, v, head.limit.1) in
+    sum-four (length (line_text l1)) (length (line_text l2)) (length (line_text l3))
+    (length (line_text l4)) 14702446 (sizes (l1 ∷ l2 ∷ l3 ∷ l4 ∷ steps))
+    (sizes (l2 ∷ l3 ∷ l4 ∷ steps)) (sizes (l3 ∷ l4 ∷ steps)) (sizes (l4 ∷ steps)) (sizes steps)
+    a b c d (omega arith) (sizes-cons l1 (l2 ∷ l3 ∷ l4 ∷ steps))
+    (sizes-cons l2 (l3 ∷ l4 ∷ steps)) (sizes-cons l3 (l4 ∷ steps)) (sizes-cons l4 steps) e

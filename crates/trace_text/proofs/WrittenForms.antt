@@ -3,13 +3,16 @@ use Rattle.std.specs.Prelude.{codes, decimal, map}
 use Rattle.std.proofs.Common.{◌≡◌, ℕ, List, [], ◌∷◌, ◌++◌, refl, ap}
 use Rattle.pct_ask.specs.NameLists.{NameLists}
 use Rattle.pct_ask.specs.Numbers.{number_text}
-use Rattle.pct_ask.specs.TraceText.{TraceHead, name_at, ask_words, event_words, head_lines, verdict_line_words}
+use Rattle.pct_ask.specs.TraceText.{TraceHead, name_at, ask_words, event_words, head_lines}
+use Rattle.pct_ask.specs.TraceText.{verdict_line_words}
 use Rattle.pct_ask.specs.VerdictText.{thread_name, named_verdict}
 use Rattle.pct_ask.specs.declared.ask.Ask.{Ask}
 use Rattle.pct_ask.specs.declared.ask.Ask.TheVariants as asks
 use Rattle.pct_ask.specs.declared.event.Event.{Event}
 use Rattle.pct_ask.specs.declared.verdict.Verdict.{Verdict}
-use Rattle.trace_text.specs.Forms.{AskForm, On, Write, Add, Cas, Release, Regain, Yield, Begin, Check, Fault, Version, Order, Points, Limit, Step, End, words_of_ask, words_of_form}
+use Rattle.trace_text.specs.Forms.{AskForm, On, Write, Add, Cas, Release, Regain, Yield, Begin}
+use Rattle.trace_text.specs.Forms.{Check, Fault, Version, Order, Points, Limit, Step, End}
+use Rattle.trace_text.specs.Forms.{words_of_ask, words_of_form}
 use Rattle.trace_text.specs.Forms as forms
 
 -- an ask with its objects by their names
@@ -42,7 +45,8 @@ named_ask names (asks.TryRdLock l) = On forms.TryRdLock (name_at names.rwlocks l
 named_ask names (asks.TryWrLock l) = On forms.TryWrLock (name_at names.rwlocks l)
 named_ask names (asks.RwUnlock l) = On forms.RwUnlock (name_at names.rwlocks l)
 
-pub asks-agree : (names : NameLists) (ask : Ask) → words_of_ask (named_ask names ask) ≡ ask_words names ask
+pub asks-agree : (names : NameLists) (ask : Ask)
+    → words_of_ask (named_ask names ask) ≡ ask_words names ask
 asks-agree names (asks.Read x) = refl
 asks-agree names (asks.Write x value) = refl
 asks-agree names (asks.Add x value) = refl
@@ -72,14 +76,21 @@ asks-agree names (asks.TryWrLock l) = refl
 asks-agree names (asks.RwUnlock l) = refl
 
 -- the line of a step
-pub steps-agree : (names : NameLists) (number : ℕ) (event : Event) → words_of_form (Step number (thread_name names event.thread) event.line (named_ask names event.ask) event.answer) ≡ event_words names number event
+pub steps-agree : (names : NameLists) (number : ℕ) (event : Event)
+    → words_of_form (Step number (thread_name names event.thread) event.line
+    (named_ask names event.ask) event.answer) ≡ event_words names number event
 steps-agree names number event =
-    ap (λ (words : List (List ℕ)). decimal number ∷ thread_name names event.thread ∷ decimal event.line ∷ (words ++ codes "=" ∷ number_text event.answer ∷ [])) (asks-agree names event.ask)
+    ap (λ (words : List (List ℕ)). decimal number ∷ thread_name names event.thread
+    ∷ decimal event.line ∷ (words ++ codes "=" ∷ number_text event.answer ∷ []))
+    (asks-agree names event.ask)
 
 -- the lines of a head
-pub heads-agree : (names : NameLists) (head : TraceHead) → map words_of_form (Version head.version ∷ Order (map (thread_name names) head.order) ∷ Points head.points ∷ Limit head.limit ∷ []) ≡ head_lines names head
+pub heads-agree : (names : NameLists) (head : TraceHead)
+    → map words_of_form (Version head.version ∷ Order (map (thread_name names) head.order)
+    ∷ Points head.points ∷ Limit head.limit ∷ []) ≡ head_lines names head
 heads-agree names head = refl
 
 -- the verdict's line
-pub verdicts-agree : (names : NameLists) (verdict : Verdict) → words_of_form (End (named_verdict names verdict)) ≡ verdict_line_words names verdict
+pub verdicts-agree : (names : NameLists) (verdict : Verdict)
+    → words_of_form (End (named_verdict names verdict)) ≡ verdict_line_words names verdict
 verdicts-agree names verdict = refl

@@ -7,7 +7,8 @@ use Rattle.pct_ask.specs.FirstFaults as texts
 use Rattle.pct_ask.specs.NameLists.{NameLists}
 use Rattle.pct_ask.specs.VerdictText.{NamedVerdict}
 use Rattle.pct_ask.specs.VerdictWords.{words_of}
-use Rattle.trace_text.specs.Lines.{pieces_of, is_empty, line_at, text_in, is_whole}
+use Rattle.pct_ask.specs.Pieces.{pieces_of}
+use Rattle.trace_text.specs.Lines.{is_empty, line_at, text_in, is_whole}
 use Rattle.trace_text.specs.Forms.{AskForm, Form, Limit, Step, End, words_of_form, StandsAt}
 use Rattle.trace_text.specs.Forms.{IsLineOf}
 use Rattle.trace_text.specs.Forms.{HasUnknown}

@@ -1,12 +1,6 @@
 -- A text as lines, and a line as words (this project).
-use Rattle.std.specs.Prelude.{ℕ, ◌-◌, Bool, true, false, ◌==◌, List, [], ◌∷◌, zero, suc, Option}
+use Rattle.std.specs.Prelude.{ℕ, ◌-◌, Bool, true, false, List, [], ◌∷◌, zero, suc, Option}
 use Rattle.std.specs.Prelude.{Some, None, not}
-use Rattle.std.specs.List.{slice_split}
-
--- What stands between the LFs of a text: each piece but the last is a line with its LF, and the
--- last one is what stands after the last LF.
-abbrev pub pieces_of : List ℕ → List (List ℕ)
-pieces_of bytes = slice_split (λ b. b == 10) bytes
 
 -- the list has nothing
 abbrev pub is_empty : {X : Type 0} → List X → Bool

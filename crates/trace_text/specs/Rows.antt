@@ -14,7 +14,7 @@ use Rattle.trace_text.specs.reader.Asks.{ask_on_one}
 use Rattle.trace_text.specs.Faults.{version_of}
 use Rattle.trace_text.specs.Forms as forms
 use Rattle.trace_text.specs.Forms.{Order, Points, Limit, End, On, Cas, Release, words_of_form}
-use Rattle.trace_text.specs.Lines.{pieces_of}
+use Rattle.pct_ask.specs.Pieces.{pieces_of}
 use Rattle.trace_text.specs.declared.row.Row.TheVariants.{Step}
 
 -- two threads, a variable and a read-write lock

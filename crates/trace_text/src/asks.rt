@@ -3,7 +3,7 @@
 ghost use Rattle.std.specs.Prelude.{◌≡◌};
 ghost use Rattle.trace_text.specs.reader.Asks as asks;
 
-use crate::number::value_of;
+use crate::number::i64_in;
 use pct_ask::{Ask, NameKind, Names, fault_kind, is_among, is_lawful_name};
 
 pub const READ: &[u8] = b"read";
@@ -87,7 +87,7 @@ impl<T: Copy> WordsRead<T> {
     }
 
     /// What they are, where all their names are known.
-    pub fn known(self) -> Option<T>
+    pub fn known_words(self) -> Option<T>
         ensures { result ≡ asks.known_words self }
     {
         match self {
@@ -268,17 +268,18 @@ fn add(var: WordsRead<u32>, value: Option<i64>) -> WordsRead<Ask>
     }
 }
 
-fn release(cond: WordsRead<u32>, mutex: WordsRead<u32>) -> WordsRead<Ask>
-    ensures { result ≡ asks.on_both_objects Ask.Release cond mutex }
+/// Two objects, where each has a form and the names of both are known.
+fn both(first: WordsRead<u32>, second: WordsRead<u32>) -> WordsRead<(u32, u32)>
+    ensures { result ≡ asks.both_objects first second }
 {
-    match cond {
-        WordsRead::Is(cond) => match mutex {
-            WordsRead::Is(mutex) => WordsRead::Is(Ask::Release { cond, mutex }),
+    match first {
+        WordsRead::Is(first) => match second {
+            WordsRead::Is(second) => WordsRead::Is((first, second)),
             WordsRead::NoForm => WordsRead::NoForm,
             WordsRead::UnknownName => WordsRead::UnknownName,
         },
         WordsRead::NoForm => WordsRead::NoForm,
-        WordsRead::UnknownName => match mutex {
+        WordsRead::UnknownName => match second {
             WordsRead::NoForm => WordsRead::NoForm,
             WordsRead::Is(_) => WordsRead::UnknownName,
             WordsRead::UnknownName => WordsRead::UnknownName,
@@ -286,21 +287,23 @@ fn release(cond: WordsRead<u32>, mutex: WordsRead<u32>) -> WordsRead<Ask>
     }
 }
 
-fn regain(cond: WordsRead<u32>, mutex: WordsRead<u32>) -> WordsRead<Ask>
-    ensures { result ≡ asks.on_both_objects Ask.Regain cond mutex }
+fn release(objects: WordsRead<(u32, u32)>) -> WordsRead<Ask>
+    ensures { result ≡ asks.on_both Ask.Release objects }
 {
-    match cond {
-        WordsRead::Is(cond) => match mutex {
-            WordsRead::Is(mutex) => WordsRead::Is(Ask::Regain { cond, mutex }),
-            WordsRead::NoForm => WordsRead::NoForm,
-            WordsRead::UnknownName => WordsRead::UnknownName,
-        },
+    match objects {
+        WordsRead::Is((cond, mutex)) => WordsRead::Is(Ask::Release { cond, mutex }),
         WordsRead::NoForm => WordsRead::NoForm,
-        WordsRead::UnknownName => match mutex {
-            WordsRead::NoForm => WordsRead::NoForm,
-            WordsRead::Is(_) => WordsRead::UnknownName,
-            WordsRead::UnknownName => WordsRead::UnknownName,
-        },
+        WordsRead::UnknownName => WordsRead::UnknownName,
+    }
+}
+
+fn regain(objects: WordsRead<(u32, u32)>) -> WordsRead<Ask>
+    ensures { result ≡ asks.on_both Ask.Regain objects }
+{
+    match objects {
+        WordsRead::Is((cond, mutex)) => WordsRead::Is(Ask::Regain { cond, mutex }),
+        WordsRead::NoForm => WordsRead::NoForm,
+        WordsRead::UnknownName => WordsRead::UnknownName,
     }
 }
 
@@ -310,15 +313,15 @@ pub fn ask_on_two(names: &Names, word: &[u8], first: &[u8], second: &[u8]) -> Wo
     ensures { result ≡ asks.ask_on_two names.now word.now first.now second.now }
 {
     if word == WRITE {
-        write(object(names, NameKind::Var, first), value_of(second))
+        write(object(names, NameKind::Var, first), i64_in(second))
     } else if word == ADD {
-        add(object(names, NameKind::Var, first), value_of(second))
+        add(object(names, NameKind::Var, first), i64_in(second))
     } else if word == RELEASE {
         let cond = object(names, NameKind::Cond, first);
-        release(cond, object(names, NameKind::Mutex, second))
+        release(both(cond, object(names, NameKind::Mutex, second)))
     } else if word == REGAIN {
         let cond = object(names, NameKind::Cond, first);
-        regain(cond, object(names, NameKind::Mutex, second))
+        regain(both(cond, object(names, NameKind::Mutex, second)))
     } else {
         WordsRead::NoForm
     }
@@ -352,11 +355,7 @@ pub fn ask_on_three(
     ensures { result ≡ asks.ask_on_three names.now word.now var.now old.now new.now }
 {
     if word == CAS {
-        exchange(
-            object(names, NameKind::Var, var),
-            value_of(old),
-            value_of(new),
-        )
+        exchange(object(names, NameKind::Var, var), i64_in(old), i64_in(new))
     } else {
         WordsRead::NoForm
     }

@@ -5,16 +5,16 @@ ghost use Rattle.std.specs.List.{list_all};
 ghost use Rattle.std.specs.Option.{option_map};
 ghost use Rattle.pct_ask.specs.Numbers.{step_counts};
 ghost use Rattle.pct_ask.specs.Words as lexis;
-ghost use Rattle.pct_ask.specs.VerdictWords.{words_of};
 ghost use Rattle.trace_text.specs.reader.Heads as heads;
-ghost use Rattle.trace_text.specs.Lines.{pieces_of};
+ghost use Rattle.pct_ask.specs.Pieces.{pieces_of, seen};
 ghost use Rattle.trace_text.specs.reader.Reading as reading;
-ghost use Rattle.trace_text.specs.reader.Seen.{seen, cut_value, Gives};
+ghost use Rattle.trace_text.specs.reader.Seen.{cut_value, Gives};
 
 use crate::fault::{TraceError, TraceFault};
-use crate::line::{cut_line, first_words};
 use crate::number::count_of;
-use pct_ask::{NameKind, Names, OrderList, PointList, is_among, is_lawful_name};
+use pct_ask::{
+    NameKind, Names, OrderList, PointList, cut_line, first_words, is_among, is_lawful_name,
+};
 use std::alloc::{AllocError as NoMemory, Global};
 
 const FIRST: &[u8] = b"trace 1";
@@ -53,7 +53,7 @@ fn head_value<T: Drop>(
     }
 }
 
-fn version_in(text: &[u8]) -> Option<u32>
+fn version_on_line(text: &[u8]) -> Option<u32>
     ensures { result ≡ heads.version_on_line text.now }
 {
     if text == FIRST {
@@ -71,7 +71,7 @@ pub fn read_version(text: &[u8]) -> Result<(u32, &[u8]), TraceError>
         (reading.head_line 1 heads.version_on_line (pieces_of text.now)) }
 {
     let (line, after) = cut_line(text);
-    head_value(1, version_in(line), after)
+    head_value(1, version_on_line(line), after)
 }
 
 fn are_different(words: &[&[u8]]) -> bool
@@ -109,7 +109,11 @@ fn order_names<'a, 'b>(names: &Names, words: &'b [&'a [u8]]) -> Option<&'b [&'a 
 }
 
 /// The threads of these names, where each is one's.
-fn threads_of(alloc: Global, names: &Names, words: &[&[u8]]) -> Result<Option<OrderList>, NoMemory>
+fn threads_of_names(
+    alloc: Global,
+    names: &Names,
+    words: &[&[u8]],
+) -> Result<Option<OrderList>, NoMemory>
     ensures { IfOk result (λ order. order ≡ heads.threads_of_names names.now (seen words.now)) }
 {
     let mut order = OrderList::new(alloc);
@@ -137,7 +141,7 @@ pub fn read_order<'a>(
     let most = names.count(NameKind::Thread) as usize + 2;
     let words = first_words(alloc, line, most)?;
     let (threads, after) = head_value(2, order_names(names, words.as_slice()), after)?;
-    match threads_of(alloc, names, threads)? {
+    match threads_of_names(alloc, names, threads)? {
         Some(order) => Ok((order, after)),
         None => Err(TraceError::Bad {
             line: 2,
@@ -184,7 +188,7 @@ pub fn read_points(alloc: Global, text: &[u8]) -> Result<(PointList, &[u8]), Tra
     head_value(3, points_in(alloc, words.as_slice())?, after)
 }
 
-fn limit_in(words: &[&[u8]]) -> Option<u32>
+fn limit_on_line(words: &[&[u8]]) -> Option<u32>
     ensures { result ≡ heads.limit_words (seen words.now) }
 {
     match words {
@@ -200,5 +204,5 @@ pub fn read_limit(alloc: Global, text: &[u8]) -> Result<(u32, &[u8]), TraceError
 {
     let (line, after) = cut_line(text);
     let words = first_words(alloc, line, 3)?;
-    head_value(4, limit_in(words.as_slice()), after)
+    head_value(4, limit_on_line(words.as_slice()), after)
 }

@@ -5,7 +5,6 @@ mod asks;
 mod fault;
 mod file;
 mod head;
-mod line;
 mod number;
 mod reading;
 mod row;

@@ -7,7 +7,7 @@ ghost use Rattle.trace_text.specs.reader.Numbers as numbers;
 use pct_ask::{number_in, read_number};
 
 /// The i64 that a canonical decimal spells.
-pub fn value_of(word: &[u8]) -> Option<i64>
+pub fn i64_in(word: &[u8]) -> Option<i64>
     ensures { result ≡ numbers.i64_in word.now }
 {
     let number = read_number(word)?;
@@ -28,7 +28,7 @@ fn as_value(number: i128) -> Option<i64>
 pub fn natural_of(word: &[u8]) -> Option<u64>
     ensures { result ≡ numbers.natural_of word.now }
 {
-    as_natural(value_of(word)?)
+    as_natural(i64_in(word)?)
 }
 
 fn as_natural(value: i64) -> Option<u64>

@@ -4,7 +4,7 @@ ghost use Rattle.std.specs.Prelude.{◌≡◌, ◌⊎◌, ℕ, ◌+◌, ◌≤�
 ghost use Rattle.pct_ask.specs.NameLists.{AreNames};
 ghost use Rattle.trace_text.specs.Answers.{AnswersTrace, EachHasOneAnswer};
 ghost use Rattle.trace_text.specs.Faults.{IsTraceFault};
-ghost use Rattle.trace_text.specs.Lines.{pieces_of};
+ghost use Rattle.pct_ask.specs.Pieces.{pieces_of};
 ghost use Rattle.trace_text.specs.reader.Reading as reading;
 ghost use Rattle.trace_text.specs.reader.Seen.{Gives};
 ghost use Rattle.trace_text.specs.Trace.{IsTrace};
@@ -14,9 +14,8 @@ ghost use Rattle.trace_text.specs.declared.file.TraceFile.{TraceFile};
 use crate::fault::{TraceError, TraceFault};
 use crate::file::{Header, TraceFile};
 use crate::head::{read_limit, read_order, read_points, read_version};
-use crate::line::cut_line;
-use crate::row::{Sound, judged, read_row, unended_fault};
-use pct_ask::{EventList, NameKind, Names, Verdict};
+use crate::row::{Sound, line_or_fault, read_row, unended_fault};
+use pct_ask::{EventList, NameKind, Names, Verdict, cut_line};
 use std::alloc::Global;
 
 const MOST_BYTES: usize = 16_777_216;
@@ -58,7 +57,7 @@ fn read_body(
             let kind = unended_fault(limit, row, text);
             return Err(TraceError::Bad { line, kind });
         };
-        match judged(limit, next, row) {
+        match line_or_fault(limit, next, row) {
             Err(kind) => return Err(TraceError::Bad { line, kind }),
             Ok(Sound::Step(event)) => events.try_push(event)?,
             Ok(Sound::Last(verdict)) => {

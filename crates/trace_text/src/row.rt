@@ -9,13 +9,14 @@ ghost use Rattle.trace_text.specs.reader.Numbers as numbers;
 ghost use Rattle.trace_text.specs.Lawful as lawful;
 ghost use Rattle.trace_text.specs.reader.StepLines as lines;
 ghost use Rattle.trace_text.specs.reader.Reading as reading;
-ghost use Rattle.trace_text.specs.reader.Seen.{seen};
+ghost use Rattle.pct_ask.specs.Pieces.{seen};
 
 use crate::asks::{WordsRead, ask_on_one, ask_on_three, ask_on_two, bare_ask, object};
 use crate::fault::TraceFault;
-use crate::line::first_words;
-use crate::number::{count_of, natural_of, value_of};
-use pct_ask::{Ask, Event, MisuseKind, NameKind, Names, Verdict, VerdictRead, read_verdict};
+use crate::number::{count_of, i64_in, natural_of};
+use pct_ask::{
+    Ask, Event, MisuseKind, NameKind, Names, Verdict, VerdictRead, first_words, read_verdict,
+};
 use std::alloc::{AllocError as NoMemory, Global};
 
 const VERDICT: &[u8] = b"verdict ";
@@ -82,7 +83,7 @@ fn numbered_step(
     if thread.has_form() && ask.has_form() {
         Some(Row::Step {
             number,
-            event: event_of(thread.known(), line, ask.known(), answer),
+            event: event_of(thread.known_words(), line, ask.known_words(), answer),
         })
     } else {
         None
@@ -90,7 +91,7 @@ fn numbered_step(
 }
 
 #[tactic(auto, unfolding(crate::specs::reader::StepLines::step_in_words))]
-fn step_of(names: &Names, around: &Around<'_>, ask: WordsRead<Ask>) -> Option<Row>
+fn step_in_words(names: &Names, around: &Around<'_>, ask: WordsRead<Ask>) -> Option<Row>
     ensures { result
         ≡ lines.step_in_words names.now around.now.number.now around.now.thread.now
         around.now.line.now
@@ -101,7 +102,7 @@ fn step_of(names: &Names, around: &Around<'_>, ask: WordsRead<Ask>) -> Option<Ro
     if !is_sign(around.sign) {
         return None;
     }
-    let answer = value_of(around.answer)?;
+    let answer = i64_in(around.answer)?;
     let thread = object(names, NameKind::Thread, around.thread);
     numbered_step(number, thread, line, ask, answer)
 }
@@ -120,7 +121,7 @@ fn bare_step(names: &Names, words: &[&[u8]]) -> Option<Row>
         sign,
         answer,
     };
-    step_of(names, &around, bare_ask(word))
+    step_in_words(names, &around, bare_ask(word))
 }
 
 fn step_on_one(names: &Names, version: u32, words: &[&[u8]]) -> Option<Row>
@@ -137,7 +138,7 @@ fn step_on_one(names: &Names, version: u32, words: &[&[u8]]) -> Option<Row>
         sign,
         answer,
     };
-    step_of(names, &around, ask_on_one(names, version, word, a))
+    step_in_words(names, &around, ask_on_one(names, version, word, a))
 }
 
 fn step_on_two(names: &Names, words: &[&[u8]]) -> Option<Row>
@@ -154,7 +155,7 @@ fn step_on_two(names: &Names, words: &[&[u8]]) -> Option<Row>
         sign,
         answer,
     };
-    step_of(names, &around, ask_on_two(names, word, a, b))
+    step_in_words(names, &around, ask_on_two(names, word, a, b))
 }
 
 fn step_on_three(names: &Names, words: &[&[u8]]) -> Option<Row>
@@ -171,7 +172,7 @@ fn step_on_three(names: &Names, words: &[&[u8]]) -> Option<Row>
         sign,
         answer,
     };
-    step_of(names, &around, ask_on_three(names, word, a, b, c))
+    step_in_words(names, &around, ask_on_three(names, word, a, b, c))
 }
 
 /// The step that the words of a line tell. The words of its ask are one to four.
@@ -266,7 +267,7 @@ pub fn unended_fault(limit: u32, row: Option<Row>, text: &[u8]) -> TraceFault
 }
 
 /// What a line with its LF says, where the next step has this number, or its fault.
-pub fn judged(limit: u32, next: u32, row: Option<Row>) -> Result<Sound, TraceFault>
+pub fn line_or_fault(limit: u32, next: u32, row: Option<Row>) -> Result<Sound, TraceFault>
     ensures { result ≡ reading.line_or_fault limit next row }
 {
     match row {

@@ -13,14 +13,19 @@ rise-tail : (x : ℕ) (xs : List ℕ) → IsStrictlyIncreasing (x ∷ xs) → Is
 rise-tail x xs rising k h =
     let later = rw add-one at (rising (suc k) (omega arith)) in rw add-one later
 
-rise-first : (x : ℕ) (xs : List ℕ) → IsStrictlyIncreasing (x ∷ xs) → 0 < length xs → x < get_or xs 0 0
+rise-first : (x : ℕ) (xs : List ℕ) → IsStrictlyIncreasing (x ∷ xs) → 0 < length xs
+    → x < get_or xs 0 0
 rise-first x xs rising h = rising 0 (omega arith)
 
-rise-from : (least : ℕ) (xs : List ℕ) → (0 < length xs → least ≤ get_or xs 0 0) → IsStrictlyIncreasing xs → RiseFrom least xs
+rise-from : (least : ℕ) (xs : List ℕ) → (0 < length xs → least ≤ get_or xs 0 0)
+    → IsStrictlyIncreasing xs → RiseFrom least xs
 rise-from least [] low rising = tt
 rise-from least (x ∷ xs) low rising =
-    let first = rise-first x xs rising in
-    (low (omega arith), rise-from (x + 1) xs (λ h. let above = first h in omega arith) (rise-tail x xs rising))
+    let first = rise-first x xs rising in (
+      low (omega arith),
+      rise-from (x + 1) xs (λ h. let above = first h in omega arith)
+          (rise-tail x xs rising),
+    )
 
 pub RiseFrom-increasing : (xs : List ℕ) → IsStrictlyIncreasing xs → RiseFrom 0 xs
 RiseFrom-increasing xs rising = rise-from 0 xs (λ h. omega arith) rising

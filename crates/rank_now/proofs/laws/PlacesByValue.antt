@@ -11,14 +11,20 @@ abbrev pub counted : ℕ → ℕ → ℕ
 counted value other = cond (nat_lt value other) 1 0
 
 -- a lower value has no fewer values above it
-above-le : (low high : ℕ) (values : List ℕ) → low ≤ high → count_by (nat_lt high) values ≤ count_by (nat_lt low) values
-above-le low high values le = sum_by-le-sum_by (counted high) (counted low) values (λ x. grind (arith, nat_tests))
+above-le : (low high : ℕ) (values : List ℕ) → low ≤ high
+    → count_by (nat_lt high) values ≤ count_by (nat_lt low) values
+above-le low high values le =
+    sum_by-le-sum_by (counted high) (counted low) values (λ x. grind (arith, nat_tests))
 
 -- the value of a thread is not above itself, and is above each lower one
-pub above-lt : (low : ℕ) (values : List ℕ) (thread : ℕ) → thread < length values → low < get_or values thread 0 → count_by (nat_lt (get_or values thread 0)) values < count_by (nat_lt low) values
+pub above-lt : (low : ℕ) (values : List ℕ) (thread : ℕ) → thread < length values
+    → low < get_or values thread 0 → count_by (nat_lt (get_or values thread 0)) values
+    < count_by (nat_lt low) values
 above-lt low values thread within lower =
     let high = get_or values thread 0 in
-    let others : count_by (nat_lt high) (remove values thread) ≤ count_by (nat_lt low) (remove values thread) = above-le low high (remove values thread) (omega arith) in
+    let others : count_by (nat_lt high) (remove values thread)
+    ≤ count_by (nat_lt low) (remove values thread) =
+    above-le low high (remove values thread) (omega arith) in
     let by_high = sum_by-remove (counted high) values thread 0 within in
     let by_low = sum_by-remove (counted low) values thread 0 within in
     let none : counted high high ≡ 0 = grind (arith, nat_tests) in
@@ -26,11 +32,15 @@ above-lt low values thread within lower =
     omega arith
 
 -- a thread of a greater value stands before one of a lower value
-pub place-lt : (values : List ℕ) (first second : ℕ) → first < length values → get_or values second 0 < get_or values first 0 → place_by_value values first < place_by_value values second
-place-lt values first second within lower = above-lt (get_or values second 0) values first within lower
+pub place-lt : (values : List ℕ) (first second : ℕ) → first < length values
+    → get_or values second 0 < get_or values first 0
+    → place_by_value values first < place_by_value values second
+place-lt values first second within lower =
+    above-lt (get_or values second 0) values first within lower
 
 -- each thread has a place
-pub place-within : (values : List ℕ) (thread : ℕ) → thread < length values → place_by_value values thread < length values
+pub place-within : (values : List ℕ) (thread : ℕ) → thread < length values
+    → place_by_value values thread < length values
 place-within values thread within =
     let value = get_or values thread 0 in
     let all = sum_by-remove (counted value) values thread 0 within in

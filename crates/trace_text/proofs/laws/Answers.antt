@@ -10,9 +10,15 @@ use Rattle.trace_text.specs.declared.fault.TraceError.TheVariants.{Bad, NoMemory
 use Rattle.trace_text.proofs.Traces.{ok_is, read-found, trace-read, fault-read}
 
 -- whatever is answered of a text that is the trace of a file is that file
-pub written-answer : (names : NameLists) (bytes : List ℕ) (file : TraceFile) (answer : Result TraceFile TraceError) → AreNames names → IsTrace bytes names file → AnswersTrace bytes names answer → (answer ≡ Ok file) ⊎ (answer ≡ Err NoMemory)
+pub written-answer : (names : NameLists) (bytes : List ℕ) (file : TraceFile)
+    (answer : Result TraceFile TraceError) → AreNames names → IsTrace bytes names file
+    → AnswersTrace bytes names answer → (answer ≡ Ok file) ⊎ (answer ≡ Err NoMemory)
 written-answer names bytes file (Ok other) sound trace told =
-    let same = ok_is other file (sym (trace-read names bytes other sound told) ∙ trace-read names bytes file sound trace) in inl (ap (λ x. Ok x) same)
+    let same = ok_is other file (sym (trace-read names bytes other sound told)
+    ∙ trace-read names bytes file sound trace) in inl (ap (λ x. Ok x) same)
 written-answer names bytes file (Err (Bad line kind)) sound trace told =
-    let two : ◌≡◌ {A = Result TraceFile Fault} (Ok file) (Err (line, kind)) = sym (trace-read names bytes file sound trace) ∙ fault-read names bytes (read_as_trace names bytes) line kind (read-found names bytes sound) told in absurd cc
+    let two : ◌≡◌ {A = Result TraceFile Fault} (Ok file) (Err (line, kind)) =
+    sym (trace-read names bytes file sound trace)
+    ∙ fault-read names bytes (read_as_trace names bytes) line kind
+    (read-found names bytes sound) told in absurd cc
 written-answer names bytes file (Err NoMemory) sound trace told = inr refl

@@ -2,11 +2,16 @@
 use Rattle.std.proofs.Common.{ℕ}
 use Rattle.pct_ask.specs.NameLists.{NameLists}
 use Rattle.pct_ask.specs.declared.ask.Ask.{Ask}
-use Rattle.pct_ask.specs.declared.ask.Ask.TheVariants.{Read, Write, Add, Cas, Lock, TryLock, Unlock, Release, Regain, Signal, Broadcast, Down, TryDown, Up, Arrive, Leave, Join, Yield, Check, Fault, Start, Begin, RdLock, WrLock, TryRdLock, TryWrLock, RwUnlock}
+use Rattle.pct_ask.specs.declared.ask.Ask.TheVariants.{Read, Write, Add, Cas, Lock, TryLock, Unlock}
+use Rattle.pct_ask.specs.declared.ask.Ask.TheVariants.{Release, Regain, Signal, Broadcast, Down}
+use Rattle.pct_ask.specs.declared.ask.Ask.TheVariants.{TryDown, Up, Arrive, Leave, Join, Yield}
+use Rattle.pct_ask.specs.declared.ask.Ask.TheVariants.{Check, Fault, Start, Begin, RdLock, WrLock}
+use Rattle.pct_ask.specs.declared.ask.Ask.TheVariants.{TryRdLock, TryWrLock, RwUnlock}
 use Rattle.trace_text.specs.Lawful.{HasObjects, IsAsk}
 
 -- an ask of a trace has its objects
-pub has_objects : (names : NameLists) (version : ℕ) (ask : Ask) → IsAsk names version ask → HasObjects names version ask
+pub has_objects : (names : NameLists) (version : ℕ) (ask : Ask) → IsAsk names version ask
+    → HasObjects names version ask
 has_objects names version (Read x) h = h
 has_objects names version (Write x value) h = h.0
 has_objects names version (Add x value) h = h.0

@@ -126,13 +126,19 @@ abbrev pub ask_with_value : (ℕ → ℤ → Ask) → WordsRead ℕ → Option �
 ask_with_value ask place None = NoForm
 ask_with_value ask place (Some value) = on_object (λ id. ask id value) place
 
--- an ask of two objects: each has a form, and the names of both are known
-abbrev pub on_both_objects : (ℕ → ℕ → Ask) → WordsRead ℕ → WordsRead ℕ → WordsRead Ask
-on_both_objects ask NoForm second = NoForm
-on_both_objects ask first NoForm = NoForm
-on_both_objects ask UnknownName second = UnknownName
-on_both_objects ask first UnknownName = UnknownName
-on_both_objects ask (Is first) (Is second) = Is (ask first second)
+-- two objects, where each has a form and the names of both are known
+abbrev pub both_objects : WordsRead ℕ → WordsRead ℕ → WordsRead (ℕ × ℕ)
+both_objects NoForm second = NoForm
+both_objects first NoForm = NoForm
+both_objects UnknownName second = UnknownName
+both_objects first UnknownName = UnknownName
+both_objects (Is first) (Is second) = Is (first, second)
+
+-- an ask of two objects
+abbrev pub on_both : (ℕ → ℕ → Ask) → WordsRead (ℕ × ℕ) → WordsRead Ask
+on_both ask (Is objects) = Is (ask objects.0 objects.1)
+on_both ask NoForm = NoForm
+on_both ask UnknownName = UnknownName
 
 -- an ask of three words: write X V, add X V, release C M, regain C M
 unfoldable pub ask_on_two : NameLists → List ℕ → List ℕ → List ℕ → WordsRead Ask
@@ -140,9 +146,9 @@ ask_on_two names word a b =
     if bytes_eq word (codes "write") then ask_with_value Write (object names Var a) (i64_in b)
     else (if bytes_eq word (codes "add") then ask_with_value Add (object names Var a) (i64_in b)
     else (if bytes_eq word (codes "release")
-    then on_both_objects Release (object names Cond a) (object names Mutex b)
+    then on_both Release (both_objects (object names Cond a) (object names Mutex b))
     else (if bytes_eq word (codes "regain")
-    then on_both_objects Regain (object names Cond a) (object names Mutex b)
+    then on_both Regain (both_objects (object names Cond a) (object names Mutex b))
     else NoForm)))
 
 -- an exchange, where its two numbers are read

@@ -4,7 +4,8 @@ use Rattle.std.specs.Prelude.{Some, None, Result, Ok, Err}
 use Rattle.pct_ask.specs.NameLists.{NameLists}
 use Rattle.pct_ask.specs.declared.event.Event.{Event}
 use Rattle.pct_ask.specs.declared.verdict.Verdict.{Verdict}
-use Rattle.trace_text.specs.Lines.{pieces_of, is_empty}
+use Rattle.pct_ask.specs.Pieces.{pieces_of}
+use Rattle.trace_text.specs.Lines.{is_empty}
 use Rattle.trace_text.specs.reader.Heads.{version_on_line, order_on_line, threads_of_names}
 use Rattle.trace_text.specs.reader.Heads.{points_on_line, limit_on_line}
 use Rattle.trace_text.specs.reader.StepLines.{row_of}

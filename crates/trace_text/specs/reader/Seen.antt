@@ -1,26 +1,11 @@
 -- How the code's values stand for those of the definitions (this project).
-use Rattle.std.specs.Prelude.{◌≡◌, ℕ, ◌+◌, List, [], map, Option, Some, None, Result, Ok, Err}
-use Rattle.std.specs.Prelude.{length}
+use Rattle.std.specs.Prelude.{◌≡◌, ℕ, List, Option, Some, None, Result, Ok, Err}
 use Rattle.std.proofs.Common.{Bor}
-use Rattle.trace_text.specs.Lines.{pieces_of}
+use Rattle.pct_ask.specs.Pieces.{pieces_of}
 use Rattle.trace_text.specs.reader.Reading.{Fault}
 use Rattle.trace_text.specs.declared.fault.TraceFault.TheVariants.{BadHeader}
 use Rattle.trace_text.specs.declared.fault.TraceError.{TraceError}
 use Rattle.trace_text.specs.declared.fault.TraceError.TheVariants.{Bad, NoMemory}
-
--- words without where they lie in memory
-abbrev pub seen : List (Bor (List ℕ)) → List (List ℕ)
-seen words = map (λ word. word.now) words
-
--- the pieces after an LF, where there was one
-abbrev pub pieces_after : Option (Bor (List ℕ)) → List (List ℕ)
-pieces_after None = []
-pieces_after (Some rest) = pieces_of rest.now
-
--- how many bytes come after a line, with its LF
-abbrev pub length_after : Option (Bor (List ℕ)) → ℕ
-length_after None = 0
-length_after (Some rest) = length rest.now + 1
 
 -- the fault that a call answered is what reading gives, want of memory aside
 abbrev pub Fails : {Y : Type 0} → TraceError → Result Y Fault → Type 0

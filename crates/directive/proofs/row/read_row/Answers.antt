@@ -2,7 +2,7 @@
 use Rattle.std.proofs.Common.{sym, ◌∙◌, ap}
 use Rattle.pct_ask.specs.VerdictWords.{words_of}
 use Rattle.directive.specs.Reading.{after_words}
-use Rattle.directive.specs.Seen.{seen}
+use Rattle.pct_ask.specs.Pieces.{seen}
 use Rattle.directive.proofs.Bodies.{row-after, after_words-take}
 use Rattle.directive.proofs.row.read_row.Goals as goal
 

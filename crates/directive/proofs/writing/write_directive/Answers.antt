@@ -9,7 +9,9 @@ pub returns-clause-directive : goal.returns-clause-directive
 returns-clause-directive c =
     let names = c.args.names.now in
     let text = plain_directive c.args.directive.now in
-    let is = whole-text names text _ _ _ _ _ _ c.in_ok-extend_from_slice.ensures.items c.new-text.ensures.items c.in_ok-push_low.ensures c.in_ok-push_moments.ensures c.as_slice.ensures c.in_ok-push_verdict.ensures.text in
+    let is = whole-text names text _ _ _ _ _ _ c.in_ok-extend_from_slice.ensures.items
+    c.new-text.ensures.items c.in_ok-push_low.ensures c.in_ok-push_moments.ensures
+    c.as_slice.ensures c.in_ok-push_verdict.ensures.text in
     let sound : IsSound names text = record {
       low = c.requires.low;
       few = c.args.directive.now.few;
@@ -18,4 +20,9 @@ returns-clause-directive c =
       form = c.in_ok-push_verdict.ensures.form;
     } in
     let P : List ℕ → Type 0 = λ t. length t ≤ 65536 in
-    record { sound = sound; small = subst P (sym is) (directive-size names text c.count.ensures.lawful sound); text = is }
+    record {
+      sound = sound;
+      small = subst P (sym is)
+          (directive-size names text c.count.ensures.lawful sound);
+      text = is;
+    }

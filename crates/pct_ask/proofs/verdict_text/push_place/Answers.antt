@@ -6,4 +6,9 @@ use Rattle.pct_ask.proofs.verdict_text.push_place.Goals as goal
 
 pub returns-clause-written : goal.returns-clause-written
 returns-clause-written c =
-    place-written c.args.names.now c.args.thread c.args.line c.args.out.now.items c.push_word.new.out.items c.push_word-2.new.out.items c.unwrap.result.now c.as_bytes.result.now c.push_word-2.result (ap option_copied (sym c.unwrap.ensures) ∙ c.name.ensures.name) c.in_ok-push_word.ensures.written (c.as_bytes.ensures.value ∙ c.format.ensures.text) c.push_word-2.ensures.written
+    place-written c.args.names.now c.args.thread c.args.line c.args.out.now.items
+    c.push_word.new.out.items c.push_word-2.new.out.items c.unwrap.result.now
+    c.as_bytes.result.now c.push_word-2.result
+    (ap option_copied (sym c.unwrap.ensures) ∙ c.name.ensures.name)
+    c.in_ok-push_word.ensures.written (c.as_bytes.ensures.value ∙ c.format.ensures.text)
+    c.push_word-2.ensures.written

@@ -9,6 +9,7 @@ use Rattle.pct_ask.proofs.verdict_text.push_stuck.Given as goal
 
 abbrev pub invariant-loop-thread : goal.invariant-loop-thread
 invariant-loop-thread l = record {
-  written : l.out.items ≡ l.fn.out.items ++ codes "stuck" ++ flat_map (place_piece l.names) (places_below l.thread l.blocked);
+  written : l.out.items ≡ l.fn.out.items ++ codes "stuck"
+      ++ flat_map (place_piece l.names) (places_below l.thread l.blocked);
   rising : 0 < l.thread → AreRising l.blocked;
 }

@@ -4,4 +4,5 @@ use Rattle.pct_ask.proofs.verdict_words.read_place.Goals as goal
 
 pub returns-clause-few : goal.returns-clause-few
 returns-clause-few c =
-    few_threads c.args.names.now c.cut_word.result.0.now c.find-thread.result c.find-thread.ensures.lawful c.find-thread.ensures.place
+    few_threads c.args.names.now c.cut_word.result.0.now c.find-thread.result
+    c.find-thread.ensures.lawful c.find-thread.ensures.place

@@ -6,7 +6,8 @@ use Rattle.pct_ask.proofs.verdict_words.read_stuck.Given as goal
 
 abbrev pub invariant-places : goal.invariant-places
 invariant-places l = record {
-  same : stuck_words l.names l.least l.blocked l.unknown (words_after l.rest) ≡ stuck_words l.names 0 [] false (words_of l.fn.text);
+  same : stuck_words l.names l.least l.blocked l.unknown (words_after l.rest)
+      ≡ stuck_words l.names 0 [] false (words_of l.fn.text);
   below : All (λ (place : ℕ × ℕ). place.0 < l.least) l.blocked;
   few : l.least ≤ 64;
 }

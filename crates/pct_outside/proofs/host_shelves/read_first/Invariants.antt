@@ -5,4 +5,5 @@ use Rattle.pct_outside.proofs.host_shelves.read_first.Given as goal
 
 abbrev pub invariant-loop : goal.invariant-loop
 invariant-loop g l =
-    (vec_len l.bytes ≤ l.most) × Consumes (g.F.Read.remaining l.initial.file) (g.F.Read.remaining l.file) l.bytes.items
+    (vec_len l.bytes ≤ l.most) × Consumes (g.F.Read.remaining l.initial.file)
+    (g.F.Read.remaining l.file) l.bytes.items

@@ -1,13 +1,17 @@
 -- What a write took goes over from the rest to what was appended.
-use Rattle.std.proofs.Common.{◌≡◌, ℕ, ◌-◌, List, ◌++◌, length, take, drop, sym, ap, ◌∙◌, append_assoc, take-append-drop}
+use Rattle.std.proofs.Common.{◌≡◌, ℕ, ◌-◌, List, ◌++◌, length, take, drop, sym, ap, ◌∙◌}
+use Rattle.std.proofs.Common.{append_assoc, take-append-drop}
 use Rattle.std.proofs.lemmas.List.{take_rest}
 use Rattle.std.proofs.KnownBytes.{Appends-trans, Appends-kept}
 use Rattle.pct_outside.proofs.host_sinks.write_whole.Goals as goal
 use Rattle.pct_outside.proofs.host_sinks.write_whole.Goals.{in-Ok, in-Err}
 
-moves_front : (all done rest : List ℕ) (n : ℕ) → all ≡ done ++ rest → all ≡ (done ++ take n rest) ++ take (length rest - n) (drop n rest)
+moves_front : (all done rest : List ℕ) (n : ℕ) → all ≡ done ++ rest
+    → all ≡ (done ++ take n rest) ++ take (length rest - n) (drop n rest)
 moves_front all done rest n e =
-    e ∙ ap (λ l. done ++ l) (sym (take-append-drop n rest)) ∙ sym (append_assoc done (take n rest) (drop n rest)) ∙ ap (λ l. (done ++ take n rest) ++ l) (sym (take_rest rest n))
+    e ∙ ap (λ l. done ++ l) (sym (take-append-drop n rest))
+    ∙ sym (append_assoc done (take n rest) (drop n rest))
+    ∙ ap (λ l. (done ++ take n rest) ++ l) (sym (take_rest rest n))
 
 pub loop-preserved : goal.loop-preserved
 loop-preserved g c =
@@ -15,8 +19,15 @@ loop-preserved g c =
     let rest = c.loop.rest.now in
     elim c.match-write.branch [
       | in-Ok w ↦
-          let n = w.in-Ok.count in
-          (done ++ take n rest, moves_front _ done rest n split ∙ ap (λ r. (done ++ take n rest) ++ r.now) (sym w.rest-is), Appends-trans _ _ _ _ _ appended w.in-Ok.ensures.bytes)
-      | in-Err w ↦
-          (done, split ∙ ap (λ r. done ++ r.now) (sym w.rest-is), Appends-kept _ _ _ _ appended w.in-Err.ensures.bytes)
+          let n = w.in-Ok.count in (
+            done ++ take n rest,
+            moves_front _ done rest n split
+                ∙ ap (λ r. (done ++ take n rest) ++ r.now) (sym w.rest-is),
+            Appends-trans _ _ _ _ _ appended w.in-Ok.ensures.bytes,
+          )
+      | in-Err w ↦ (
+        done,
+        split ∙ ap (λ r. done ++ r.now) (sym w.rest-is),
+        Appends-kept _ _ _ _ appended w.in-Err.ensures.bytes,
+      )
     ]

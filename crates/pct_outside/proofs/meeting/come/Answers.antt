@@ -13,5 +13,8 @@ compare_exchange-requires c =
       here,
       pen.0 ∙ here,
       offer.0,
-      rw (pen.1, offer.3) (comes c.again-known.result.log c.args.mine.now.key c.plain-offer.result.ask c.requires.0.guest (subst (λ (l : List Moment). 0 < length l) (sym (ap (λ s. s.log) c.again-known.ensures)) c.requires.1)),
+      rw (pen.1, offer.3) (comes c.again-known.result.log c.args.mine.now.key
+          c.plain-offer.result.ask c.requires.0.guest
+          (subst (λ (l : List Moment). 0 < length l) (sym (ap (λ s. s.log) c.again-known.ensures))
+          c.requires.1)),
     )

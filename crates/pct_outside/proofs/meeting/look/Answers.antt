@@ -8,4 +8,6 @@ use Rattle.pct_outside.proofs.meeting.look.Goals as goal
 pub returns-then-found-ge-CAME-clause-came : goal.returns-then-found-ge-CAME-clause-came
 returns-then-found-ge-CAME-clause-came c =
     let came = Came (1 - c.args.theirs.now.key) in
-    has_later c.again-seen.result.log c.load-found.new.seen.log came c.load-found.ensures.5 (subst (λ (l : List Moment). HasMoment l came) (sym (ap (λ s. s.log) c.again-seen.ensures)) c.requires.came)
+    has_later c.again-seen.result.log c.load-found.new.seen.log came c.load-found.ensures.5
+    (subst (λ (l : List Moment). HasMoment l came) (sym (ap (λ s. s.log) c.again-seen.ensures))
+    c.requires.came)

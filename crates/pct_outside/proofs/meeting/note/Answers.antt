@@ -11,5 +11,6 @@ compare_exchange-requires c =
       here,
       pen.0 ∙ here,
       offer.0,
-      rw (pen.1, offer.3) (notes c.args.seen.log c.args.mine.now.key c.plain-offer.result.ask c.requires.place.guest c.requires.may),
+      rw (pen.1, offer.3) (notes c.args.seen.log c.args.mine.now.key c.plain-offer.result.ask
+          c.requires.place.guest c.requires.may),
     )

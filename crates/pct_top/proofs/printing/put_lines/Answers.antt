@@ -2,7 +2,7 @@ use Rattle.std.proofs.Common.{◌≡◌, List, ℕ, ◌++◌, take, drop, ap, sy
 use Rattle.std.proofs.Common.{arith}
 use Rattle.std.proofs.lemmas.List.{take-append-drop}
 use Rattle.pct_outside.specs.Piece.{IsPartAppended}
-use Rattle.pct_outside.proofs.laws.Pieces.{Appended-then, AppendedPart-then, AppendedPart-longer}
+use Rattle.pct_outside.proofs.laws.Pieces.{IsAppended-then, IsPartAppended-then, IsPartAppended-longer}
 use Rattle.pct_top.proofs.printing.put_lines.Goals as goal
 
 -- what is left is the line and what follows it
@@ -20,7 +20,7 @@ loop-rest-preserved g c =
     c.split_at.ensures.back in (
       done ++ line,
       split ∙ ap (λ (x : List ℕ). done ++ x) next ∙ sym (append_assoc done line others),
-      Appended-then done line (written c.args.out.now) (written c.loop-rest.out)
+      IsAppended-then done line (written c.args.out.now) (written c.loop-rest.out)
           (written c.put.new.self) appended c.in-Ok.ensures.whole,
       omega arith,
       omega arith,
@@ -36,7 +36,7 @@ returns-in-Err-clause-part g c =
     c.split_at.ensures.back in
     subst (λ (x : List ℕ). IsPartAppended x (written c.args.out.now) (written c.put.new.self))
     (sym (split ∙ ap (λ (x : List ℕ). done ++ x) next))
-    (AppendedPart-then done (line ++ others) (written c.args.out.now) (written c.loop-rest.out)
+    (IsPartAppended-then done (line ++ others) (written c.args.out.now) (written c.loop-rest.out)
     (written c.put.new.self) appended
-    (AppendedPart-longer line others (written c.loop-rest.out) (written c.put.new.self)
+    (IsPartAppended-longer line others (written c.loop-rest.out) (written c.put.new.self)
     c.in-Err.ensures.part))

@@ -3,4 +3,6 @@ use Rattle.std.proofs.lemmas.Iterator.{items_from_collect, YieldsList-from_range
 use Rattle.priority_draw.proofs.words.declared_order.Goals as goal
 
 pub returns : goal.returns
-returns c = items_from_collect c.collect.result c.collect.ensures.ran (YieldsList-from_range 0 c.args.threads c.args.threads refl (omega arith))
+returns c =
+    items_from_collect c.collect.result c.collect.ensures.ran
+    (YieldsList-from_range 0 c.args.threads c.args.threads refl (omega arith))

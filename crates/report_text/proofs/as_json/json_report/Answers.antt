@@ -12,6 +12,11 @@ returns c =
     let rows = c.args.rows.now in
     let groups = c.args.groups.now in
     let names = c.args.names.now in
-    let value : view c.in_ok-report.report ≡ report_data frame rows groups names = rw (c.as_slice.ensures, c.as_slice-2.ensures) at c.in_ok-report.ensures in
-    let integers : has_float (view c.in_ok-report.report) ≡ false = ap has_float value ∙ no_float frame rows groups names in
-    c.in_ok-push.ensures.items ∙ ap (λ (x : List ℕ). x ++ 10 ∷ []) (c.in_ok-text.ensures.text integers ∙ ap compact_text value ∙ report-text names c.count.ensures.lawful frame rows groups c.requires.rows c.requires.groups)
+    let value : view c.in_ok-report.report ≡ report_data frame rows groups names =
+    rw (c.as_slice.ensures, c.as_slice-2.ensures) at c.in_ok-report.ensures in
+    let integers : has_float (view c.in_ok-report.report) ≡ false =
+    ap has_float value ∙ no_float frame rows groups names in
+    c.in_ok-push.ensures.items ∙ ap (λ (x : List ℕ). x ++ 10 ∷ [])
+    (c.in_ok-text.ensures.text integers ∙ ap compact_text value
+    ∙ report-text names c.count.ensures.lawful frame rows groups c.requires.rows
+    c.requires.groups)

@@ -5,4 +5,6 @@ use Rattle.report_text.specs.Text.{group_words}
 use Rattle.report_text.proofs.as_text.push_groups.Given as goal
 
 abbrev pub invariant-loop-group : goal.invariant-loop-group
-invariant-loop-group l = l.out.items ≡ l.fn.out.items ++ flat_map line_text (map (group_words l.names) (take l.group-index l.groups))
+invariant-loop-group l =
+    l.out.items ≡ l.fn.out.items ++ flat_map line_text
+    (map (group_words l.names) (take l.group-index l.groups))

@@ -2,12 +2,15 @@
 use Rattle.std.proofs.Common.{ap, ◌∙◌}
 use Rattle.trace_text.specs.reader.Heads.{limit_on_line, limit_words}
 use Rattle.pct_ask.specs.VerdictWords.{words_of}
-use Rattle.trace_text.specs.reader.Seen.{seen}
+use Rattle.pct_ask.specs.Pieces.{seen}
 use Rattle.trace_text.proofs.HeadWords.{head_line-cut, limit_words-take}
 use Rattle.trace_text.proofs.head.read_limit.Goals as goal
 
 pub returns : goal.returns
 returns c =
-    let cut = head_line-cut 4 limit_on_line _ c.cut_line.result.0.now c.cut_line.result.1 c.cut_line.ensures.pieces in
-    let says = c.limit_in.ensures ∙ ap (λ ws. limit_words (seen ws)) c.as_slice.ensures.value ∙ ap limit_words c.in_ok-words.ensures ∙ limit_words-take (words_of c.cut_line.result.0.now) in
+    let cut = head_line-cut 4 limit_on_line _ c.cut_line.result.0.now c.cut_line.result.1
+    c.cut_line.ensures.pieces in
+    let says = c.limit_on_line.ensures ∙ ap (λ ws. limit_words (seen ws)) c.as_slice.ensures.value
+    ∙ ap limit_words c.in_ok-words.ensures
+    ∙ limit_words-take (words_of c.cut_line.result.0.now) in
     rw (cut, ← says) c.head_value.ensures

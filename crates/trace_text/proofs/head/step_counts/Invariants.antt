@@ -1,6 +1,6 @@
 use Rattle.std.proofs.Common.{◌≡◌, length}
 use Rattle.pct_ask.specs.Numbers.{step_counts}
-use Rattle.trace_text.specs.reader.Seen.{seen}
+use Rattle.pct_ask.specs.Pieces.{seen}
 use Rattle.trace_text.proofs.HeadWords.{fronted}
 use Rattle.trace_text.proofs.head.step_counts.Given as goal
 

@@ -1,6 +1,6 @@
 -- The limit that the head tells is a number of steps.
 use Rattle.std.proofs.Common.{◌≡◌, ℕ, ◌≤◌, List, [], ◌∷◌, Option, Some, None, Ok, refl, ap, arith}
-use Rattle.trace_text.specs.Lines.{pieces_of}
+use Rattle.pct_ask.specs.Pieces.{pieces_of}
 use Rattle.trace_text.specs.reader.Heads.{limit_on_line}
 use Rattle.trace_text.specs.reader.Reading.{head_value, head_line}
 use Rattle.trace_text.proofs.Heads.{limit-told}

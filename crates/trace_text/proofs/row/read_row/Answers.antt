@@ -2,7 +2,7 @@
 use Rattle.std.proofs.Common.{sym, ◌∙◌, ap}
 use Rattle.pct_ask.specs.VerdictWords.{words_of}
 use Rattle.trace_text.specs.reader.StepLines.{step_of_words}
-use Rattle.trace_text.specs.reader.Seen.{seen}
+use Rattle.pct_ask.specs.Pieces.{seen}
 use Rattle.trace_text.proofs.Ends.{row-step, step_of_words-take}
 use Rattle.trace_text.proofs.row.read_row.Goals as goal
 

@@ -5,4 +5,6 @@ use Rattle.trace_text.specs.Spaced.{behind_spaces}
 use Rattle.trace_text.proofs.writing.push_order.Given as goal
 
 abbrev pub invariant-loop-thread : goal.invariant-loop-thread
-invariant-loop-thread l = l.out.items ≡ l.fn.out.items ++ (codes "order" ++ behind_spaces (map (thread_name l.names) (take l.thread-index l.order)))
+invariant-loop-thread l =
+    l.out.items ≡ l.fn.out.items ++ (codes "order"
+    ++ behind_spaces (map (thread_name l.names) (take l.thread-index l.order)))

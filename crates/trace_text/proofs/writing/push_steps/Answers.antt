@@ -17,8 +17,12 @@ loop-index-preserved c =
     let none : Event = record { thread = 0; line = 0; ask = Read 0; answer = pos 0 } in
     let longer = take_more events i none c.loop-index-test.true in
     record {
-      lawful = All-more (IsStep c.args.names.now c.args.version) events i none c.loop-index-test.true c.loop-index.invariant.lawful c.in_ok-push_event.ensures.lawful;
+      lawful =
+          All-more (IsStep c.args.names.now c.args.version) events i none c.loop-index-test.true
+          c.loop-index.invariant.lawful c.in_ok-push_event.ensures.lawful;
       text =
           rw (c.in_ok-push_event.ensures.text, c.loop-index.invariant.text, longer)
-          (with_step c.args.names.now c.args.out.now.items (take i events) (slice_index_or events i none) (i + 1) (omega (arith, length-take-le i events (omega arith))));
+          (with_step c.args.names.now c.args.out.now.items (take i events)
+          (slice_index_or events i none) (i + 1)
+          (omega (arith, length-take-le i events (omega arith))));
     }

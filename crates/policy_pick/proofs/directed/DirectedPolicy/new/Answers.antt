@@ -7,7 +7,10 @@ use Rattle.policy_pick.proofs.Orders.{values-threads, refusal-same}
 use Rattle.policy_pick.proofs.directed.DirectedPolicy.new.Goals as goal
 
 pub returns-in_err-ranks-clause-not_an_order : goal.returns-in_err-ranks-clause-not_an_order
-returns-in_err-ranks-clause-not_an_order c = let p = err_from_is_err_and c.from_residual.result c.from_residual.ensures.1 in rw (p.1, p.2) (refusal-same c.args.order.now c.in_err-ranks.field-0.0 c.in_err-ranks.ensures.not_an_order)
+returns-in_err-ranks-clause-not_an_order c =
+    let p = err_from_is_err_and c.from_residual.result c.from_residual.ensures.1 in
+    rw (p.1, p.2) (refusal-same c.args.order.now c.in_err-ranks.field-0.0
+    c.in_err-ranks.ensures.not_an_order)
 
 pub invariant_of-result : goal.invariant_of-result
 invariant_of-result c =
@@ -17,7 +20,9 @@ invariant_of-result c =
       few_threads = omega (arith, ap length same, c.requires.few_threads);
       few_changes = omega (arith, ap length c.in_ok-events.ensures.items, c.requires.few_events);
       as_many = c.in_ok-ranks.ensures.count ∙ sym (ap length c.in_ok-events.ensures.items);
-      threads = values-threads c.args.order.now (length c.args.events.now) c.in_ok-ranks.ranks.values c.in_ok-ranks.ensures.values ∙ sym (ap length same);
+      threads =
+          values-threads c.args.order.now (length c.args.events.now) c.in_ok-ranks.ranks.values
+          c.in_ok-ranks.ensures.values ∙ sym (ap length same);
     }
 
 pub returns-clause-stands : goal.returns-clause-stands
@@ -25,6 +30,12 @@ returns-clause-stands c =
     let order = c.in_ok-order.ensures.items in
     let events = c.in_ok-events.ensures.items in
     record {
-      values = c.in_ok-ranks.ensures.by_events c.args.events.now refl ∙ ap (λ x. ranks_by_events x c.args.events.now []) (sym order) ∙ ap (λ x. ranks_by_events c.in_ok-order.order.items x []) (sym events);
-      own = own_counts-first c.in_ok-order.order.items c.in_ok-own.own.items (c.in_ok-own.ensures.items_if_clones_equal (λ y e. e) ∙ ap (λ n. replicate n 0) (sym (ap length order)));
+      values =
+          c.in_ok-ranks.ensures.by_events c.args.events.now refl
+          ∙ ap (λ x. ranks_by_events x c.args.events.now []) (sym order)
+          ∙ ap (λ x. ranks_by_events c.in_ok-order.order.items x []) (sym events);
+      own =
+          own_counts-first c.in_ok-order.order.items c.in_ok-own.own.items
+          (c.in_ok-own.ensures.items_if_clones_equal (λ y e. e)
+          ∙ ap (λ n. replicate n 0) (sym (ap length order)));
     }

@@ -6,4 +6,7 @@ use Rattle.policy_pick.specs.Laws.Walks.{number-sound}
 use Rattle.policy_pick.proofs.listed.ListedPolicy.pick.Goals as goal
 
 pub returns-in-None-clause-sound : goal.returns-in-None-clause-sound
-returns-in-None-clause-sound c = let P : Pick → Type 0 = IsSoundPick (list_plan c.args.self.now) c.args.chances.now in subst P (sym c.pick_by_number.ensures) (number-sound (list_plan c.args.self.now) c.args.chances.now tt c.requires.targets)
+returns-in-None-clause-sound c =
+    let P : Pick → Type 0 = IsSoundPick (list_plan c.args.self.now) c.args.chances.now in
+    subst P (sym c.pick_by_number.ensures)
+    (number-sound (list_plan c.args.self.now) c.args.chances.now tt c.requires.targets)

@@ -6,4 +6,8 @@ use Rattle.policy_pick.specs.Laws.Walks.{rank-sound}
 use Rattle.policy_pick.proofs.pct.PctPolicy.pick.Goals as goal
 
 pub returns-clause-sound : goal.returns-clause-sound
-returns-clause-sound c = let P : Pick → Type 0 = IsSoundPick (points_plan c.args.self.now) c.args.chances.now in subst P (sym c.pick_by_rank.ensures) (rank-sound (points_plan c.args.self.now) c.self.inside.ranks.values c.args.chances.now c.requires.targets)
+returns-clause-sound c =
+    let P : Pick → Type 0 = IsSoundPick (points_plan c.args.self.now) c.args.chances.now in
+    subst P (sym c.pick_by_rank.ensures)
+    (rank-sound (points_plan c.args.self.now) c.self.inside.ranks.values c.args.chances.now
+    c.requires.targets)

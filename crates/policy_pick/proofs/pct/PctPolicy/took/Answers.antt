@@ -8,7 +8,16 @@ use Rattle.policy_pick.specs.Kept.{PointsKept, PointsStand}
 use Rattle.policy_pick.proofs.pct.PctPolicy.took.Goals as goal
 
 pub lower-requires-clause-low : goal.lower-requires-clause-low
-lower-requires-clause-low c = omega (arith, c.index_of_point-index.ensures, c.self.invariant.as_many, ap length c.deref.ensures.value, greatest-le (passes_at (λ point. eqb point (c.self.inside.taken + 1)) c.deref.result.now) (length c.deref.result.now))
+lower-requires-clause-low c =
+    omega (
+      arith,
+      c.index_of_point-index.ensures,
+      c.self.invariant.as_many,
+      ap length c.deref.ensures.value,
+      greatest-le
+          (passes_at (λ point. eqb point (c.self.inside.taken + 1)) c.deref.result.now)
+          (length c.deref.result.now),
+    )
 
 pub lower-requires-clause-free : goal.lower-requires-clause-free
 lower-requires-clause-free c =
@@ -16,15 +25,24 @@ lower-requires-clause-free c =
     let schedule = c.requires.short.0 in
     let P : PointsKept → Type 0 = λ kept. PointsStand kept schedule in
     let stands = subst P (sym c.self.view_is) c.requires.short.1 in
-    let index : c.index_of_point-index.result ≡ index_of_point f.points.items (length schedule + 1) = c.index_of_point-index.ensures ∙ ap (λ points. index_of_point points (f.taken + 1)) c.deref.ensures.value ∙ ap (λ taken. index_of_point f.points.items (taken + 1)) stands.taken in
-    ranks-free f.order.items f.points.items schedule c.args.thread c.self.invariant.is_order f.ranks.values c.index_of_point-index.result c.if-index-gt0.true index stands.values
+    let index : c.index_of_point-index.result
+    ≡ index_of_point f.points.items (length schedule + 1) =
+    c.index_of_point-index.ensures ∙ ap (λ points. index_of_point points (f.taken + 1))
+    c.deref.ensures.value ∙ ap (λ taken. index_of_point f.points.items (taken + 1))
+    stands.taken in
+    ranks-free f.order.items f.points.items schedule c.args.thread c.self.invariant.is_order
+    f.ranks.values c.index_of_point-index.result c.if-index-gt0.true index stands.values
 
 pub returns-then-index-gt0-clause-stands : goal.returns-then-index-gt0-clause-stands
 returns-then-index-gt0-clause-stands c = λ schedule stood.
     let f = c.self.inside in
     let P : PointsKept → Type 0 = λ kept. PointsStand kept schedule in
     let stands = subst P (sym c.self.view_is) stood in
-    let index : c.index_of_point-index.result ≡ index_of_point f.points.items (length schedule + 1) = c.index_of_point-index.ensures ∙ ap (λ points. index_of_point points (f.taken + 1)) c.deref.ensures.value ∙ ap (λ taken. index_of_point f.points.items (taken + 1)) stands.taken in
+    let index : c.index_of_point-index.result
+    ≡ index_of_point f.points.items (length schedule + 1) =
+    c.index_of_point-index.ensures ∙ ap (λ points. index_of_point points (f.taken + 1))
+    c.deref.ensures.value ∙ ap (λ taken. index_of_point f.points.items (taken + 1))
+    stands.taken in
     record {
       taken = omega (arith, stands.taken, length_push schedule c.args.thread);
       values = c.lower.ensures.by_points f.order.items f.points.items schedule stands.values index;
@@ -35,8 +53,14 @@ returns-else-index-gt0-clause-stands c = λ schedule stood.
     let f = c.self.inside in
     let P : PointsKept → Type 0 = λ kept. PointsStand kept schedule in
     let stands = subst P (sym c.self.view_is) stood in
-    let index : c.index_of_point-index.result ≡ index_of_point f.points.items (length schedule + 1) = c.index_of_point-index.ensures ∙ ap (λ points. index_of_point points (f.taken + 1)) c.deref.ensures.value ∙ ap (λ taken. index_of_point f.points.items (taken + 1)) stands.taken in
+    let index : c.index_of_point-index.result
+    ≡ index_of_point f.points.items (length schedule + 1) =
+    c.index_of_point-index.ensures ∙ ap (λ points. index_of_point points (f.taken + 1))
+    c.deref.ensures.value ∙ ap (λ taken. index_of_point f.points.items (taken + 1))
+    stands.taken in
     record {
       taken = omega (arith, stands.taken, length_push schedule c.args.thread);
-      values = stands.values ∙ ranks-same f.order.items f.points.items schedule c.args.thread (omega (arith, c.if-index-gt0.false, index));
+      values =
+          stands.values ∙ ranks-same f.order.items f.points.items schedule c.args.thread
+          (omega (arith, c.if-index-gt0.false, index));
     }

@@ -10,7 +10,9 @@ first_values-requires-clause-order c = is-order c.args.order.now (c.in_default.e
 pub invariant_of-result : goal.invariant_of-result
 invariant_of-result c =
     let order = c.args.order.now in
-    let kept = first-kept order c.in_ok-values.values.items c.args.count (is-order order (c.in_default.ensures.none refl)) c.in_ok-values.ensures c.requires.few_threads c.requires.few_points in
+    let kept = first-kept order c.in_ok-values.values.items c.args.count
+    (is-order order (c.in_default.ensures.none refl)) c.in_ok-values.ensures
+    c.requires.few_threads c.requires.few_points in
     let P : List ℕ → Type 0 =
     λ walk. IsWalkOfValues c.args.count c.in_ok-values.values.items walk in
     subst P (sym (c.in_ok-walk.ensures.items)) kept
@@ -18,14 +20,20 @@ invariant_of-result c =
 pub returns-clause-distinct : goal.returns-clause-distinct
 returns-clause-distinct c =
     let order = c.args.order.now in
-    let kept = first-kept order c.in_ok-values.values.items c.args.count (is-order order (c.in_default.ensures.none refl)) c.in_ok-values.ensures c.requires.few_threads c.requires.few_points in
+    let kept = first-kept order c.in_ok-values.values.items c.args.count
+    (is-order order (c.in_default.ensures.none refl)) c.in_ok-values.ensures
+    c.requires.few_threads c.requires.few_points in
     kept.distinct
 
 pub returns-clause-order : goal.returns-clause-order
 returns-clause-order c = is-order c.args.order.now (c.in_default.ensures.none refl)
 
 pub returns-clause-by_points : goal.returns-clause-by_points
-returns-clause-by_points c = λ points same. ranks-first c.args.order.now points c.in_ok-values.values.items c.args.count same c.in_ok-values.ensures
+returns-clause-by_points c =
+    λ points same. ranks-first c.args.order.now points c.in_ok-values.values.items c.args.count same
+    c.in_ok-values.ensures
 
 pub returns-clause-by_events : goal.returns-clause-by_events
-returns-clause-by_events c = λ events same. ranks_by_events-first c.args.order.now events c.in_ok-values.values.items c.args.count same c.in_ok-values.ensures
+returns-clause-by_events c =
+    λ events same. ranks_by_events-first c.args.order.now events c.in_ok-values.values.items
+    c.args.count same c.in_ok-values.ensures

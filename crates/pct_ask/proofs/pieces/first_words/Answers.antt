@@ -4,11 +4,14 @@ use Rattle.std.proofs.Common.{rules, tests, ap, ◌∙◌}
 use Rattle.std.proofs.lemmas.Iterator.{YieldsList-from_take}
 use Rattle.std.proofs.lemmas.Iterator.Consumers.{YieldsList-end}
 use Rattle.std.proofs.lemmas.Iterator.Splits.{YieldsList-from_slice_split}
-use Rattle.trace_text.specs.reader.Seen.{seen}
-use Rattle.trace_text.proofs.line.first_words.Goals as goal
+use Rattle.pct_ask.specs.Pieces.{seen}
+use Rattle.pct_ask.proofs.pieces.first_words.Goals as goal
 
 pub returns : goal.returns
 returns c =
     let s = rw (← c.into_iter-word-iterator.ensures.into_iter_gives) at c.take-word-items.ensures in
-    let t = YieldsList-end (YieldsList-from_take c.args.most (YieldsList-from_slice_split _ (λ b. b == 32) c.args.line.now (search rules) (search rules) (search rules) (λ x b q k. search (rules, tests))) (search rules)) c.loop-word.yielded _ c.loop-word.yielded_by _ _ c.in-None.is c.next.ensures.steps in
+    let t = YieldsList-end (YieldsList-from_take c.args.most
+    (YieldsList-from_slice_split _ (λ b. b == 32) c.args.line.now (search rules) (search rules)
+    (search rules) (λ x b q k. search (rules, tests))) (search rules)) c.loop-word.yielded _
+    c.loop-word.yielded_by _ _ c.in-None.is c.next.ensures.steps in
     ap seen c.loop-word.invariant ∙ t.0

@@ -2,8 +2,7 @@
 
 ghost use Rattle.std.specs.Prelude.{◌≡◌, ◌≤◌, ◌==◌, ◌∷◌, IfOk, length, position, take};
 ghost use Rattle.pct_ask.specs.VerdictWords.{words_of};
-ghost use Rattle.directive.specs.Lines.{pieces_of};
-ghost use Rattle.directive.specs.Seen.{seen, pieces_after, length_after};
+ghost use Rattle.pct_ask.specs.Pieces.{pieces_of, seen, pieces_after, length_after};
 
 use std::alloc::{AllocError as NoMemory, Global};
 
@@ -18,7 +17,8 @@ pub fn cut_line(text: &[u8]) -> (&[u8], Option<&[u8]>)
     }
 }
 
-fn first_end(text: &[u8]) -> Option<usize>
+/// Where the first LF stands.
+pub(crate) fn first_end(text: &[u8]) -> Option<usize>
     ensures { result ≡ position (λ b. b == 10) text.now }
 {
     text.iter().position(|b| *b == b'\n')

@@ -3,8 +3,8 @@ use Rattle.std.proofs.Common.{sym, ◌∙◌}
 use Rattle.std.specs.Int.{w64}
 use Rattle.std.proofs.lemmas.Int.{to_z-of_z}
 use Rattle.trace_text.proofs.Ends.{step-unanswered, step-whole}
-use Rattle.trace_text.proofs.Values.{Some-value_of}
-use Rattle.trace_text.proofs.row.step_of.Goals as goal
+use Rattle.trace_text.proofs.Values.{Some-i64_in}
+use Rattle.trace_text.proofs.row.step_in_words.Goals as goal
 
 pub returns-in_err-answer : goal.returns-in_err-answer
 returns-in_err-answer c =
@@ -14,13 +14,13 @@ returns-in_err-answer c =
     c.args.ask around.sign.now around.answer.now c.in_ok-number.number c.in_ok-line.line
     (sym c.natural_of.ensures ∙ c.in_ok-number.was) (sym c.count_of.ensures ∙ c.in_ok-line.was)
     (sym c.is_sign.ensures ∙ c.if-not-is_sign.false)
-    (sym c.value_of.ensures ∙ c.in_err-answer.was))
+    (sym c.i64_in.ensures ∙ c.in_err-answer.was))
 
 pub returns : goal.returns
 returns c =
     let around = c.args.around.now in
-    let value = sym c.value_of.ensures ∙ c.in_ok-answer.was in
-    let fits = (Some-value_of around.answer.now c.in_ok-answer.answer value).1 in
+    let value = sym c.i64_in.ensures ∙ c.in_ok-answer.was in
+    let fits = (Some-i64_in around.answer.now c.in_ok-answer.answer value).1 in
     let number = c.in_ok-number.number in
     let line = c.in_ok-line.line in
     c.numbered_step.ensures
