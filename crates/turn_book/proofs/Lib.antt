@@ -1,4 +1,5 @@
 pub mod Boards
+pub mod Joined
 pub mod PostLists
 pub mod Books
 pub mod Takes

@@ -1,37 +1,19 @@
 -- Sights of one book: the later ones begin with the earlier ones.
-use Rattle.std.proofs.Common.{◌≡◌, ◌≢◌, ℕ, ℤ, ◌<◌, List, [], ◌∷◌, ◌++◌, length, refl, sym, ap, subst, ◌∙◌}
-use Rattle.std.proofs.lemmas.List.{append-nil, append_assoc, get_or-set_other, get_or-set_same}
+use Rattle.std.proofs.Common.{◌≡◌, ◌≢◌, ℕ, ℤ, ◌<◌, List, [], ◌∷◌, ◌++◌, length, sym, ap, subst, ◌∙◌}
+use Rattle.std.proofs.lemmas.List.{append-nil, get_or-set_other, get_or-set_same}
 use Rattle.pct_ask.specs.declared.ask.Post.{Post}
-use Rattle.turn_book.specs.Posts.{own_events, posts_of, source_of, HasMore}
-use Rattle.turn_book.specs.Obeys.{Obeys}
-use Rattle.turn_book.specs.Told.{BookState, SameMaking, IsPosted, IsAnswered, IsLawful, Within}
-use Rattle.turn_book.proofs.laws.MorePosts.{obeys-more}
-use Rattle.turn_book.proofs.laws.OwnSteps.{more-keeps, events-own, events-other}
+use Rattle.turn_book.specs.Posts.{own_events, posts_of, HasMore}
+use Rattle.turn_book.specs.Told.{BookState, IsPosted, IsAnswered, Within}
+use Rattle.turn_book.proofs.laws.OwnSteps.{events-own, events-other}
 use Rattle.turn_book.proofs.PostLists.{set-more}
 
-pub same-making : (book : BookState) → SameMaking book book
-same-making book = record { deal = refl; limit = refl; plan = refl }
-
 pub more-same : (earlier later : List (List Post)) → later ≡ earlier → HasMore earlier later
-more-same earlier later e t = ([], ap (λ posts. posts_of posts t) e ∙ sym (append-nil (posts_of earlier t)))
-
-pub more-trans : (first second third : List (List Post)) → HasMore first second → HasMore second third → HasMore first third
-more-trans first second third one two t =
-    ((one t).0 ++ (two t).0, (two t).1 ∙ ap (λ l. l ++ (two t).0) (one t).1 ∙ append_assoc (posts_of first t) (one t).0 (two t).0)
-
-pub within-refl : (book : BookState) → Within book book
-within-refl book = record { making = same-making book; rest = []; trace = sym (append-nil book.trace); posts = more-same book.posts book.posts refl }
-
-pub within-trans : (first second third : BookState) → Within first second → Within second third → Within first third
-within-trans first second third one two = record {
-  making = record { deal = (two.making).deal ∙ (one.making).deal; limit = (two.making).limit ∙ (one.making).limit; plan = (two.making).plan ∙ (one.making).plan };
-  rest = one.rest ++ two.rest;
-  trace = two.trace ∙ ap (λ l. l ++ two.rest) one.trace ∙ append_assoc first.trace one.rest two.rest;
-  posts = more-trans first.posts second.posts third.posts one.posts two.posts;
-}
+more-same earlier later e t =
+    ([], ap (λ posts. posts_of posts t) e ∙ sym (append-nil (posts_of earlier t)))
 
 -- ---- a post
-module _ (old new : BookState) (t : ℕ) (post : Post) (within : t < length old.posts) (posted : IsPosted old t post new) where
+module _ (old new : BookState) (t : ℕ) (post : Post) (within : t < length old.posts)
+    (posted : IsPosted old t post new) where
   pub within-posted : Within old new
   within-posted =
       let P : List (List Post) → Type 0 = HasMore old.posts in
@@ -43,10 +25,14 @@ module _ (old new : BookState) (t : ℕ) (post : Post) (within : t < length old.
       }
 
   pub posted-own : posts_of new.posts t ≡ posts_of old.posts t ++ post ∷ []
-  posted-own = let none : List Post = [] in ap (λ posts. posts_of posts t) posted.posts ∙ get_or-set_same old.posts t (posts_of old.posts t ++ post ∷ []) none within
+  posted-own = let none : List Post = [] in
+      ap (λ posts. posts_of posts t) posted.posts
+      ∙ get_or-set_same old.posts t (posts_of old.posts t ++ post ∷ []) none within
 
   pub posted-other : (u : ℕ) → u ≢ t → posts_of new.posts u ≡ posts_of old.posts u
-  posted-other u apart = let none : List Post = [] in ap (λ posts. posts_of posts u) posted.posts ∙ get_or-set_other old.posts t u (posts_of old.posts t ++ post ∷ []) none apart
+  posted-other u apart = let none : List Post = [] in
+      ap (λ posts. posts_of posts u) posted.posts
+      ∙ get_or-set_other old.posts t u (posts_of old.posts t ++ post ∷ []) none apart
 
 -- ---- a step
 module _ (old new : BookState) (t : ℕ) (answer : ℤ) (answered : IsAnswered old t answer new) where
@@ -59,11 +45,10 @@ module _ (old new : BookState) (t : ℕ) (answer : ℤ) (answered : IsAnswered o
   }
 
   pub answered-own : own_events t new.trace ≡ own_events t old.trace ++ answered.event ∷ []
-  answered-own = ap (own_events t) answered.trace ∙ events-own t old.trace answered.event answered.thread
+  answered-own =
+      ap (own_events t) answered.trace ∙ events-own t old.trace answered.event answered.thread
 
   pub answered-other : (u : ℕ) → u ≢ t → own_events u new.trace ≡ own_events u old.trace
-  answered-other u apart = ap (own_events u) answered.trace ∙ events-other u old.trace answered.event (λ same. apart (sym same ∙ answered.thread))
-
--- ---- the steps of an earlier sight obey the plan over the posts of a later one
-pub within-obeys : (earlier later : BookState) → Within earlier later → IsLawful earlier → Obeys earlier.plan earlier.deal (source_of later.posts) earlier.limit earlier.trace
-within-obeys earlier later within lawful = obeys-more earlier.plan earlier.deal (source_of earlier.posts) (source_of later.posts) earlier.limit earlier.trace (more-keeps earlier.trace earlier.posts later.posts within.posts) lawful.obeys
+  answered-other u apart =
+      ap (own_events u) answered.trace
+      ∙ events-other u old.trace answered.event (λ same. apart (sym same ∙ answered.thread))

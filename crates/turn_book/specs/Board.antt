@@ -1,7 +1,7 @@
 -- The board of a book: the store, and each thread's next post. Nothing here is needed to read a
 -- public contract.
-use Rattle.std.specs.Prelude.{◌≡◌, ◌≤◌, ℕ, ℤ, pos, Bool, false, ◌==◌, ◌||◌, List, length, map}
-use Rattle.std.specs.Prelude.{Option, Some, None, slice_index_or, slice_set}
+use Rattle.std.specs.Prelude.{◌≡◌, ◌≤◌, ℕ, ℤ, pos, Bool, true, false, ◌==◌, ◌||◌, List, length}
+use Rattle.std.specs.Prelude.{map, Option, Some, None, slice_index_or, slice_set}
 use Rattle.pct_ask.specs.declared.ask.Ask.{Ask}
 use Rattle.pct_ask.specs.declared.ask.Ask.TheVariants.{Join}
 use Rattle.pct_ask.specs.declared.ask.Post.{Post}
@@ -78,6 +78,23 @@ is_object (RwLock l) object = is_rwlock l object
 abbrev pub joins : ℕ → Ask → Bool
 joins t (Join u) = u == t
 joins t ask = false
+
+-- the same of an ask, where there is one
+abbrev pub joins_ask : ℕ → Option Ask → Bool
+joins_ask t None = false
+joins_ask t (Some ask) = joins t ask
+
+-- each thread that a next post joins is noted
+abbrev pub AreNoted : List (Option Post) → List Bool → Type 0
+AreNoted posts joined =
+    (t u : ℕ) → joins_ask t (ask_of_post (next_posts_of posts u)) ≡ true
+    → slice_index_or joined t false ≡ true
+
+-- a board that keeps these beside the store and the posts
+pub record IsNotedBoard (store : StoreState) (posts : List (Option Post)) (stands : List Standing)
+    (known : List Chance) (joined : List Bool) : Type 0 where
+  pub board : IsBoard store posts stands known
+  pub noted : AreNoted posts joined
 
 abbrev pub concerns_ask : ℕ → Touched → ℕ → Option Ask → Bool
 concerns_ask t object u None = false

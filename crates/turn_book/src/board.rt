@@ -1,4 +1,4 @@
-ghost use Rattle.std.specs.Prelude.{◌≡◌, ◌<◌, ◌≤◌, length, replicate, Option, Some, None};
+ghost use Rattle.std.specs.Prelude.{◌≡◌, ◌<◌, length, replicate, Option, Some, None};
 ghost use Rattle.std.specs.Prelude.{slice_set, IfOk};
 ghost use Rattle.pct_ask.specs.declared.verdict.Verdict.{Verdict};
 ghost use Rattle.sync_store.specs.Store.{first_store, sizes_of, sizes_of_deal};
@@ -9,7 +9,7 @@ ghost use Rattle.turn_book.specs.Obeys.{outcome_by};
 ghost use Rattle.turn_book.specs.Told.{PostIsInRange, standing_by};
 ghost use Rattle.turn_book.specs.Board.{TakesStep, next_posts_of};
 
-use crate::known::{asked, blocked_line, look_again, standing_of, step_of};
+use crate::known::{asked, blocked_line, look_again, note_joined, standing_of, step_of};
 use pct_ask::{Blocked, Deal, Event, Outcome, Post, Standing, Verdict};
 use policy_pick::Chance;
 use std::alloc::{AllocError as NoMemory, Global};
@@ -23,16 +23,19 @@ pub struct Board {
     posts: Vec<Option<Post>>,
     standings: Vec<Standing>,
     chances: Vec<Chance>,
+    /// Of each thread, whether another one has ever asked for its end.
+    joined: [bool; 64],
 }
 
 impl Model for Board {
-    ghost use Rattle.turn_book.specs.Board.{BoardState, IsBoard};
+    ghost use Rattle.turn_book.specs.Board.{BoardState, IsNotedBoard};
 
     ghost Value = { BoardState };
 
     ghost view = { λ b. record { store = b.store; posts = b.posts.items } };
 
-    ghost invariant = { λ b. IsBoard b.store b.posts.items b.standings.items b.chances.items };
+    ghost invariant = { λ b.
+        IsNotedBoard b.store b.posts.items b.standings.items b.chances.items b.joined };
 }
 
 impl Board {
@@ -50,6 +53,7 @@ impl Board {
             posts: several(alloc, None, deal.threads)?,
             standings: several(alloc, Standing::Away, deal.threads)?,
             chances: several(alloc, Chance::Away, deal.threads)?,
+            joined: [false; 64],
         })
     }
 
@@ -78,12 +82,14 @@ impl Board {
         let place = thread as usize;
         self.posts[place] = Some(post);
         self.standings[place] = standing_of(Some(post));
+        note_joined(&mut self.joined, post.ask);
         look_again(
             &self.store,
             self.posts.as_slice(),
             self.standings.as_slice(),
             thread,
             Touched::Nothing,
+            self.joined[place],
             self.chances.as_mut_slice(),
         );
     }
@@ -110,6 +116,7 @@ impl Board {
                     self.standings.as_slice(),
                     thread,
                     Store::touched(&ask),
+                    self.joined[place],
                     self.chances.as_mut_slice(),
                 );
                 step_of(thread, line, ask, stepped, outcome)

@@ -1,4 +1,5 @@
-ghost use Rattle.std.specs.Prelude.{◌≡◌, ◌<◌, ◌≤◌, ℕ, false, List, length, map, Some, None};
+ghost use Rattle.std.specs.Prelude.{◌≡◌, ◌<◌, ◌≤◌, ℕ, true, false, length, map, Some, None};
+ghost use Rattle.std.specs.Prelude.{slice_set, slice_index_or};
 ghost use Rattle.std.specs.Prelude.{MatchOption};
 ghost use Rattle.std.specs.Option.{option_map};
 ghost use Rattle.pct_ask.specs.declared.ask.Post.{Post};
@@ -7,13 +8,13 @@ ghost use Rattle.sync_store.specs.Effect.{Effect, applied_of};
 ghost use Rattle.sync_store.specs.Stepped.{applied_by};
 ghost use Rattle.sync_store.specs.Ready.{away_by, ended_by};
 ghost use Rattle.policy_pick.specs.Choice.{chance_of};
-ghost use Rattle.turn_book.specs.Chances.{chance, chance_by, chance_of_post, chances, is_ended};
-ghost use Rattle.turn_book.specs.Chances.{is_unknown, blocked_by_post};
+ghost use Rattle.turn_book.specs.Chances.{chance, chance_by, chance_of_post, chances};
+ghost use Rattle.turn_book.specs.Chances.{blocked_by_post};
 ghost use Rattle.turn_book.specs.Obeys.{outcome_by};
 ghost use Rattle.turn_book.specs.Told.{PostIsInRange, standing_by};
 ghost use Rattle.turn_book.specs.Board.{ArePostsInRange, ask_of_post, answer_of, verdict_of};
 ghost use Rattle.turn_book.specs.Board.{concerns};
-ghost use Rattle.turn_book.specs.Board.{next_posts_of};
+ghost use Rattle.turn_book.specs.Board.{next_posts_of, joins_ask};
 
 use crate::objects::{is_named, joins};
 use pct_ask::{Ask, Event, Outcome, Post, Standing};
@@ -143,8 +144,73 @@ fn concerns(thread: u32, touched: Touched, other: u32, post: Option<Post>) -> bo
     }
 }
 
-/// Looks again at the threads that the post or the step of a thread concerns.
+/// Notes which thread an ask joins.
+pub fn note_joined(joined: &mut [bool; 64], ask: Option<Ask>)
+    ensures noted { (t : ℕ) → t < 64 → joins_ask t ask ≡ true
+        → slice_index_or joined.new t false ≡ true }
+    ensures kept { (t : ℕ) → slice_index_or joined.old t false ≡ true
+        → slice_index_or joined.new t false ≡ true }
+{
+    if let Some(Ask::Join { thread }) = ask {
+        if thread < 64 {
+            joined[thread as usize] = true;
+        }
+    }
+}
+
+/// Looks again at one thread.
+fn look_at(
+    store: &Store,
+    posts: &[Option<Post>],
+    standings: &[Standing],
+    thread: u32,
+    known: &mut [Chance],
+)
+    requires thread { thread < store.now.threads }
+    requires threads { length posts.now ≡ store.now.threads }
+    requires few { store.now.threads ≤ 64 }
+    requires in_range { ArePostsInRange store.now posts.now }
+    requires standings { standings.now ≡ map standing_by posts.now }
+    requires as_many { length known.old ≡ store.now.threads }
+    ensures { known.new
+        ≡ slice_set known.old thread (chance store.now (next_posts_of posts.now) thread) }
+{
+    let post = posts[thread as usize];
+    known[thread as usize] = chance_of(store, standings, thread, post);
+}
+
+/// Looks again at the threads that the post or the step of a thread concerns. Where it touches no
+/// object and nobody joins the thread, that is the thread alone.
 pub fn look_again(
+    store: &Store,
+    posts: &[Option<Post>],
+    standings: &[Standing],
+    thread: u32,
+    touched: Touched,
+    joined: bool,
+    known: &mut [Chance],
+)
+    requires thread { thread < store.now.threads }
+    requires threads { length posts.now ≡ store.now.threads }
+    requires few { store.now.threads ≤ 64 }
+    requires in_range { ArePostsInRange store.now posts.now }
+    requires standings { standings.now ≡ map standing_by posts.now }
+    requires as_many { length known.old ≡ store.now.threads }
+    requires joined { joined ≡ false
+        → (u : ℕ) → joins_ask thread (ask_of_post (next_posts_of posts.now u)) ≡ false }
+    requires others { (u : ℕ) → u < store.now.threads
+        → concerns thread touched u (next_posts_of posts.now u) ≡ false
+        → chance_of known.old u ≡ chance store.now (next_posts_of posts.now) u }
+    ensures { known.new ≡ chances store.now.threads store.now (next_posts_of posts.now) }
+{
+    match touched {
+        Touched::Nothing if !joined => look_at(store, posts, standings, thread, known),
+        _ => look_at_all(store, posts, standings, thread, touched, known),
+    }
+}
+
+/// Looks again at each thread that the post or the step of a thread concerns.
+fn look_at_all(
     store: &Store,
     posts: &[Option<Post>],
     standings: &[Standing],

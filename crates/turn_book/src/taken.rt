@@ -1,4 +1,4 @@
-ghost use Rattle.std.specs.Prelude.{◌≡◌, None};
+ghost use Rattle.std.specs.Prelude.{◌≡◌};
 ghost use Rattle.turn_book.specs.Answers.{MayWait, because_of};
 
 use pct_ask::Outcome;

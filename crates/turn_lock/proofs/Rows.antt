@@ -1,5 +1,6 @@
 -- The rows of the answers, from what the book's calls say.
-use Rattle.std.proofs.Common.{◌≡◌, ◌≢◌, ◌↔◌, ℕ, ℤ, zero, suc, ◌<◌, Bool, true, false, List, length, Option, Some, None, set, replicate, get_or-set_other, sym, refl, ◌∙◌, subst}
+use Rattle.std.proofs.Common.{◌≡◌, ℕ, ℤ, zero, suc, ◌<◌, Bool, true, false, List, length, Option}
+use Rattle.std.proofs.Common.{Some, None, set, replicate, get_or-set_other, sym, refl, ◌∙◌, subst}
 use Rattle.std.proofs.lemmas.Bool.{false≢true}
 use Rattle.std.specs.Prelude.{IsSome}
 use mathlib.Core.Logic.{dite}
@@ -19,25 +20,40 @@ use Rattle.turn_lock.specs.declared.turn.Turn.TheVariants as turns
 use Rattle.turn_lock.specs.Rule.{HasFlag}
 use Rattle.turn_lock.specs.Wakes.{AreBelow}
 
-over-row : (b : BookState) (t : ℕ) (c : BookState) (last : Option Outcome) → b.outcome ≡ last → IsSome last → c ≡ b → InBrief (λ turn. Row b t turn c) briefs.Over
+over-row : (b : BookState) (t : ℕ) (c : BookState) (last : Option Outcome) → b.outcome ≡ last
+    → IsSome last → c ≡ b → InBrief (λ turn. Row b t turn c) briefs.Over
 over-row b t c None is some same = absurd (false≢true some)
-over-row b t c (Some outcome) is some same = record { turn = turns.Over outcome; brief = refl; said = (is, same) }
+over-row b t c (Some outcome) is some same = record {
+  turn = turns.Over outcome;
+  brief = refl;
+  said = (is, same);
+}
 
-module _ (b : BookState) (t : ℕ) (c : BookState) (asks : b.outcome ≡ None → standing_of b t ≡ standings.Asks) where
+module _ (b : BookState) (t : ℕ) (c : BookState)
+    (asks : b.outcome ≡ None → standing_of b t ≡ standings.Asks) where
   pub row-of : (reply : Reply)
       → (reply ≡ Over → IsSome b.outcome × (c ≡ b))
-      → ((answer : ℤ) → reply ≡ Answer answer → (b.outcome ≡ None) × (choice_of b ≡ Some (picks.Thread t)) × IsAnswered b t answer c)
-      → ((at : ℕ) (because : Because) → reply ≡ NotYet at because → (b.outcome ≡ None) × (at ≡ length b.trace) × IsBecause b t because × (c ≡ b))
+      → ((answer : ℤ) → reply ≡ Answer answer
+      → (b.outcome ≡ None) × (choice_of b ≡ Some (picks.Thread t)) × IsAnswered b t answer c)
+      → ((at : ℕ) (because : Because) → reply ≡ NotYet at because
+      → (b.outcome ≡ None) × (at ≡ length b.trace) × IsBecause b t because × (c ≡ b))
       → InBrief (λ turn. Row b t turn c) (as_brief reply)
-  row-of (Answer answer) over answers not_yet = record { turn = turns.Answer answer; brief = refl; said = answers answer refl }
+  row-of (Answer answer) over answers not_yet = record {
+    turn = turns.Answer answer;
+    brief = refl;
+    said = answers answer refl;
+  }
   row-of (NotYet at because) over answers not_yet =
       let k = not_yet at because refl in
       record { turn = turns.NotYet at because; brief = refl; said = (k.0, asks k.0, k.1, k.2, k.3) }
   row-of Over over answers not_yet = let k = over refl in over-row b t c b.outcome refl k.0 k.1
 
 -- one more word of a thread
-pub below-set : (threads word : ℕ) (words : List Bool) → word < threads → AreBelow threads words → AreBelow threads (set words word true)
-below-set threads word words below all w h = dite (ℕ_discrete w word) (λ e. subst (λ (n : ℕ). n < threads) (sym e) below) (λ ne. all w (sym (get_or-set_other words word w true false ne) ∙ h))
+pub below-set : (threads word : ℕ) (words : List Bool) → word < threads → AreBelow threads words
+    → AreBelow threads (set words word true)
+below-set threads word words below all w h =
+    dite (ℕ_discrete w word) (λ e. subst (λ (n : ℕ). n < threads) (sym e) below)
+    (λ ne. all w (sym (get_or-set_other words word w true false ne) ∙ h))
 
 none-has : (n w : ℕ) → HasFlag (replicate n false) w → ⊥
 none-has zero w h = false≢true h

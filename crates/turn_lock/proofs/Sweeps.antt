@@ -29,9 +29,11 @@ pub owes-told : (book : BookState) (t : ℕ) (told : Bool) → IsLawful book →
 owes-told book t true lawful iff = sym (away-owes book t lawful (iff.0 refl))
 owes-told book t false lawful iff = elim (owes_of book t) as (λ b. (b ≡ true → standing_of book t ≡ standings.Away) → false ≡ b) [ true ↦ λ f. absurd (false≢true (iff.1 (f refl))) | false ↦ λ f. refl ] (away book t)
 
-pub is-work : (slot : Slot) (t : ℕ) (post : Option Post) (done : Work) (after : Slot) → t < slot.book.deal.threads → IsLawful slot.book → NotesBelow slot.book.deal.threads slot.board → after.board ≡ slot.board
+pub is-work : (slot : Slot) (t : ℕ) (post : Option Post) (done : Work) (after : Slot)
+    → t < slot.book.deal.threads → IsLawful slot.book
+    → NotesBelow after.book.deal.threads after.board
     → InBrief (λ turn. TurnsTo slot.book t post turn after.book) done.brief → ((done.owes ≡ true) ↔ (standing_of after.book t ≡ standings.Away)) → WakesBelow after.book.deal.threads done.wakes → IsWork slot t post done after
-is-work slot t post done after inside lawful notes board turn owes wakes =
+is-work slot t post done after inside lawful notes turn owes wakes =
     let long = lawful.threads in
     let grew = grew-turn t slot.book post turn.turn after.book (subst (λ (n : ℕ). t < n) (sym long) inside) turn.said in
     record {
@@ -40,7 +42,8 @@ is-work slot t post done after inside lawful notes board turn owes wakes =
       tells = turn.said;
       owes = owes-told after.book t done.owes turn.said.lawful owes;
       wakes = subst (λ (d : Deal). WakesBelow d.threads done.wakes) grew.within.making.deal wakes;
-      notes = subst (NotesBelow slot.book.deal.threads) (sym board) notes;
+      notes =
+          subst (λ (d : Deal). NotesBelow d.threads after.board) grew.within.making.deal notes;
     }
 
 -- a turn that isn't answered changes nothing, and no outcome stands

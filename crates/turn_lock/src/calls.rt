@@ -18,7 +18,7 @@ use crate::rule::Both;
 use crate::seat::Seat;
 use crate::slot::Slot;
 use crate::turn::Turn;
-use crate::turning::turn_of;
+use crate::turning::{turn_of, waits};
 use atomic_table::{Refused, Table};
 use pct_ask::Post;
 use policy_pick::Policy;
@@ -65,6 +65,8 @@ impl<P: Policy> TurnLock<P> {
             seat: other,
             serves,
             owes: seat.owes,
+            alone: true,
+            noted: None,
         }
     }
 
@@ -85,6 +87,8 @@ impl<P: Policy> TurnLock<P> {
             seat: their_seat,
             serves,
             owes,
+            alone: _,
+            noted: _,
         } = other;
         let both = either(&seat.serves, &serves);
         let owing = chosen(&serves, &owes, &seat.owes);
@@ -94,6 +98,8 @@ impl<P: Policy> TurnLock<P> {
         self.look(&mut seat.seat);
         seat.serves = both;
         seat.owes = owing;
+        seat.alone = false;
+        seat.noted = None;
     }
 
     /// Gives the book back. A seat that serves every thread has the lock for itself.
@@ -110,6 +116,8 @@ impl<P: Policy> TurnLock<P> {
             seat: table_seat,
             serves: _,
             owes: _,
+            alone: _,
+            noted: _,
         } = seat;
         let mut closed = table.close_with(table_seat);
         let slot = closed.take(0);
@@ -133,7 +141,9 @@ impl<P: Policy> TurnLock<P> {
         turn_of(words, outcome)
     }
 
-    /// As `try_turn`, in brief. The outcome is kept where the run is over.
+    /// As `try_turn`, in brief. The outcome is kept where the run is over. Where the seat serves
+    /// the thread alone and it isn't its turn, its turn word is noted for it in the same round, so
+    /// a call that waits doesn't take the gate again for that.
     pub(crate) fn try_in_brief<K: Keep>(
         &self,
         seat: &mut Seat<P>,
@@ -157,10 +167,12 @@ impl<P: Policy> TurnLock<P> {
                 holder: (found - 1) as u32,
             };
         }
-        let work = self.work(&mut seat.seat, thread, post, place);
+        let work = self.work(&mut seat.seat, thread, post, seat.alone, place);
+        let noted = self.word_if(seat.alone && waits(&work.brief), thread);
         self.open_gate(&mut seat.seat);
         self.wake(&mut seat.seat, &work.wakes);
         seat.owes[thread as usize] = work.owes;
+        seat.noted = noted;
         work.brief
     }
 }

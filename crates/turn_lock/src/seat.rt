@@ -10,6 +10,11 @@ pub struct Seat<P: Policy> {
     pub(crate) seat: TableSeat<P>,
     pub(crate) serves: [bool; 64],
     pub(crate) owes: [bool; 64],
+    /// It serves one thread at most. Where this is false it may, too.
+    pub(crate) alone: bool,
+    /// Where the seat's last call noted a turn word for all its threads and none of them had its
+    /// turn: that word, as it was then.
+    pub(crate) noted: Option<u32>,
     ghost flags: { length owes ≡ 64 },
     ghost live: { seat.me.0.live ≡ true },
     ghost idle: { seat.me.0.held ≡ false },

@@ -1,5 +1,5 @@
 // What a caller asks of its seat.
-ghost use Rattle.std.specs.Prelude.{◌≡◌, ◌<◌, ◌≤◌, ◌↔◌, ℕ, true, []};
+ghost use Rattle.std.specs.Prelude.{◌≡◌, ◌<◌, ◌↔◌, ℕ, true, []};
 ghost use Rattle.turn_lock.specs.Seen.{owes_of};
 ghost use Rattle.turn_lock.specs.Rule.{Serves, first_view};
 ghost use Rattle.turn_lock.specs.Views.{view};
@@ -22,6 +22,8 @@ impl<P: Policy> Seat<P> {
             seat,
             serves: all,
             owes: all,
+            alone: threads == 1,
+            noted: None,
         }
     }
 

@@ -1,4 +1,4 @@
-ghost use Rattle.std.specs.Prelude.{◌≡◌, ◌<◌, ◌≤◌, ◌↔◌, ℕ, true, false, Some, None, IfSome};
+ghost use Rattle.std.specs.Prelude.{◌≡◌, ◌<◌, ◌≤◌, ℕ, true, false, Some, None, IfSome};
 ghost use Rattle.turn_book.specs.Told.{IsLawful, standing_of};
 ghost use Rattle.turn_lock.specs.Seen.{owes_of};
 ghost use Rattle.turn_lock.specs.Slots.{NotesBelow, new_slot, word_noted};
@@ -12,7 +12,7 @@ ghost use Rattle.pct_ask.specs.declared.event.Standing.TheVariants as standings;
 use crate::board::WaitBoard;
 use crate::brief::Brief;
 use crate::keep::Keep;
-use crate::turning::{answer, ask, is_away, settles};
+use crate::turning::{answer, ask, is_away, settles, waits};
 use crate::work::{Wakes, Work};
 use pct_ask::{Post, Standing};
 use policy_pick::Policy;
@@ -136,8 +136,27 @@ impl<P: Policy> Slot<P> {
         }
     }
 
-    /// A turn, with what is told of it.
-    pub fn work<K: Keep>(&mut self, thread: u32, post: Option<Post>, place: &mut K) -> Work
+    /// Notes a thread's own word for it where that is wanted.
+    fn note_own(&mut self, thread: u32, wanted: bool)
+        requires thread { thread < self.old.book.deal.threads }
+        requires notes { NotesBelow self.old.book.deal.threads self.old.board }
+        ensures book { self.new.book ≡ self.old.book }
+        ensures notes { NotesBelow self.old.book.deal.threads self.new.board }
+    {
+        if wanted {
+            self.board.note(thread, thread);
+        }
+    }
+
+    /// A turn, with what is told of it. Where the thread is alone in its seat and has to wait, its
+    /// own word is noted for it.
+    pub fn work<K: Keep>(
+        &mut self,
+        thread: u32,
+        post: Option<Post>,
+        alone: bool,
+        place: &mut K,
+    ) -> Work
         requires thread { thread < self.old.book.deal.threads }
         requires lawful { IsLawful self.old.book }
         requires notes { NotesBelow self.old.book.deal.threads self.old.board }
@@ -148,6 +167,7 @@ impl<P: Policy> Slot<P> {
         ensures kept { result.brief ≡ Brief.Over → K.kept self.new.book.outcome place.new }
     {
         let brief = self.turn(thread, post);
+        self.note_own(thread, alone && waits(&brief));
         self.keep(brief, place);
         Work {
             brief,
@@ -214,7 +234,7 @@ impl<P: Policy> Slot<P> {
             found.1.brief ≡ Brief.Over → K.kept self.new.book.outcome place.new) }
     {
         let thread = self.candidate(serves, lowest);
-        let work = self.work(thread, None, place);
+        let work = self.work(thread, None, false, place);
         if settles(&work.brief) {
             return Some((thread, work));
         }

@@ -1,5 +1,5 @@
 // The single steps on the table, each with what it tells.
-ghost use Rattle.std.specs.Prelude.{◌≡◌, ◌<◌, ◌+◌, [], ◌∷◌, IfSome};
+ghost use Rattle.std.specs.Prelude.{◌≡◌, ◌<◌, ◌+◌, [], IfSome};
 ghost use Rattle.atomic_table.specs.Table.{step};
 ghost use Rattle.turn_lock.specs.Slots.{Slot};
 ghost use Rattle.turn_lock.specs.Rule.{Serves};
@@ -18,6 +18,11 @@ use crate::rule::{Grab, Look, Mark, Open, Part, TableSeat, Which};
 use crate::work::{Wakes, Work};
 use pct_ask::Post;
 use policy_pick::Policy;
+use std::sync::Wait;
+
+/// What one sleeper adds to the place of its turn word: one to the high half, which `park` doesn't
+/// compare.
+const SLEEPER: u64 = 4_294_967_296;
 
 impl<P: Policy> TurnLock<P> {
     /// Takes the slot to the seat, or answers the number of the thread that holds the gate.
@@ -40,6 +45,7 @@ impl<P: Policy> TurnLock<P> {
         seat: &mut TableSeat<P>,
         thread: u32,
         post: Option<Post>,
+        alone: bool,
         place: &mut K,
     ) -> Work
         requires of { seat.old.table_id ≡ self.now.table.shared.table_id }
@@ -50,7 +56,7 @@ impl<P: Policy> TurnLock<P> {
             × (result.brief ≡ Brief.Over → K.kept after.book.outcome place.new) }
     {
         let slot = seat.slot_mut(&self.table.shared, 0);
-        slot.work(thread, post, place)
+        slot.work(thread, post, alone, place)
     }
 
     /// The turn of one of these threads, on the book in the seat's hand.
@@ -85,16 +91,53 @@ impl<P: Policy> TurnLock<P> {
         self.table.shared.store::<Open>(seat, 0, 0);
     }
 
-    /// Adds one to a turn word, and wakes its waiter.
+    /// A thread's turn word as it is now: the low half of its place, on which the thread sleeps.
+    pub(crate) fn turn_word(&self, thread: u32) -> u32
+        requires { thread < (first_book self.now).deal.threads }
+    {
+        (self.table.shared.peek(thread as usize + 1) % SLEEPER) as u32
+    }
+
+    /// A thread's turn word where that is wanted.
+    pub(crate) fn word_if(&self, wanted: bool, thread: u32) -> Option<u32>
+        requires { thread < (first_book self.now).deal.threads }
+    {
+        if wanted {
+            Some(self.turn_word(thread))
+        } else {
+            None
+        }
+    }
+
+    /// Sleeps on a thread's turn word if that is still as it was. The high half of its place tells
+    /// meanwhile that somebody sleeps, and whoever marks the word wakes only then. No wake-up is
+    /// lost: all steps on the place have one order. A mark after the addition here finds the
+    /// sleeper and wakes it, and by a mark before it the word isn't as it was, so `park` returns
+    /// at once.
+    pub(crate) fn sleep<R: Wait>(&self, rt: &R, seat: &mut TableSeat<P>, thread: u32, word: u32)
+        requires of { seat.old.table_id ≡ self.now.table.shared.table_id }
+        requires thread { thread < (first_book self.now).deal.threads }
+        ensures same { SameSeat seat.old seat.new }
+        ensures view { seat.new.me ≡ seat.old.me }
+    {
+        let place = thread as usize + 1;
+        self.table.shared.fetch_add::<Mark>(seat, place, SLEEPER);
+        self.table.shared.park(rt, place, word);
+        self.table.shared.fetch_sub::<Mark>(seat, place, SLEEPER);
+    }
+
+    /// Adds one to a turn word, and wakes its waiter if it sleeps.
     fn mark(&self, seat: &mut TableSeat<P>, word: u32)
         requires of { seat.old.table_id ≡ self.now.table.shared.table_id }
         requires word { word < (first_book self.now).deal.threads }
         ensures same { SameSeat seat.old seat.new }
         ensures view { seat.new.me ≡ seat.old.me }
     {
-        let word = word as usize + 1;
-        self.table.shared.fetch_add::<Mark>(seat, word, 1);
-        self.table.shared.wake_one(word);
+        let place = word as usize + 1;
+        let before = self.table.shared.fetch_add::<Mark>(seat, place, 1);
+        if before >= SLEEPER {
+            self.table.shared.wake_one(place);
+        }
     }
 
     /// Marks each of these turn words.

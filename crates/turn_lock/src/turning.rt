@@ -46,6 +46,11 @@ pub fn settles(words: &Brief) -> bool
     matches!(words, Brief::Answer(_) | Brief::Over)
 }
 
+/// Whether a thread that asked for its turn has to wait for it.
+pub fn waits(words: &Brief) -> bool {
+    matches!(words, Brief::NotYet { .. })
+}
+
 /// The post, where one is given.
 pub fn ask<P: Policy>(book: &mut TurnBook<P>, thread: u32, post: Option<Post>)
     requires thread { thread < book.old.deal.threads }

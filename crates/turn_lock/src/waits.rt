@@ -126,25 +126,43 @@ impl<P: Policy> TurnLock<P> {
         }
     }
 
-    /// A thread's turn word as it is now: the low half of its place, on which the thread sleeps.
-    fn turn_word(&self, thread: u32) -> u32
-        requires { thread < (first_book self.now).deal.threads }
-    {
-        (self.table.shared.peek(thread as usize + 1) % 4294967296) as u32
-    }
-
-    /// Looks a number of times whether a thread's turn word has changed from what it was, and then
-    /// sleeps on it.
-    fn look_or_park<R: Wait>(&self, rt: &R, thread: u32, word: u32)
+    /// Looks a number of times whether a thread's turn word has changed from what it was, and
+    /// yields after each look.
+    fn has_changed(&self, thread: u32, word: u32) -> bool
         requires { thread < (first_book self.now).deal.threads }
     {
         for _ in 0..LOOKS {
             if self.turn_word(thread) != word {
-                return;
+                return true;
             }
             yield_now();
         }
-        self.table.shared.park(rt, thread as usize + 1, word);
+        false
+    }
+
+    /// Looks a number of times whether a thread's turn word has changed from what it was, and then
+    /// sleeps on it.
+    fn look_or_sleep<R: Wait>(&self, rt: &R, seat: &mut Seat<P>, thread: u32, word: u32)
+        requires of { HasSeat self.now seat.old }
+        requires thread { thread < (first_book self.now).deal.threads }
+        ensures of { HasSeat self.now seat.new }
+        ensures view { view seat.new ≡ view seat.old }
+    {
+        if !self.has_changed(thread, word) {
+            self.sleep(rt, &mut seat.seat, thread, word);
+        }
+    }
+
+    /// Waits first where the seat's last call noted the word already.
+    fn wait_noted<R: Wait>(&self, rt: &R, seat: &mut Seat<P>, thread: u32)
+        requires of { HasSeat self.now seat.old }
+        requires thread { thread < (first_book self.now).deal.threads }
+        ensures of { HasSeat self.now seat.new }
+        ensures view { view seat.new ≡ view seat.old }
+    {
+        if let Some(word) = seat.noted.take() {
+            self.look_or_sleep(rt, seat, thread, word);
+        }
     }
 
     /// Waits until a thread of the seat has its turn, or the run is over, or all its threads have
@@ -198,11 +216,12 @@ impl<P: Policy> TurnLock<P> {
         ensures kept { result.1 ≡ Brief.Over → K.kept (view seat.new).seen.outcome place.new }
     {
         let lowest = lowest(&seat.serves);
+        self.wait_noted(rt, seat, lowest);
         for _ in rt.forever() {
             match self.round(seat, lowest, place) {
                 Round::Busy => yield_now(),
                 Round::Found { thread, brief } => return (thread, brief),
-                Round::Wait { word } => self.look_or_park(rt, lowest, word),
+                Round::Wait { word } => self.look_or_sleep(rt, seat, lowest, word),
             }
         }
         unreachable!()

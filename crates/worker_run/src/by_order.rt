@@ -1,4 +1,5 @@
-// Whole runs: by an order of the threads, with change points or with moments in their place. A verdict ends each of them.
+// Whole runs: by an order of the threads, with change points or with moments in their place. A
+// verdict ends each of them.
 ghost use Rattle.std.specs.Prelude.{◌≡◌, ◌≤◌, [], length, map, IfOk, Some};
 ghost use Rattle.pct_ask.specs.declared.verdict.Outcome.{Outcome};
 ghost use Rattle.pct_ask.specs.declared.verdict.Verdict.{Verdict};
@@ -99,8 +100,9 @@ pub fn events_policy(
     }
 }
 
-/// The run of bodies under an order of their threads, the highest first, and change points, which are numbers of steps
-/// from 1. It has at most `limit` steps. Each body is in a thread of its own. The gate is passed before each post.
+/// The run of bodies under an order of their threads, the highest first, and change points, which
+/// are numbers of steps from 1. It has at most `limit` steps. Each body is in a thread of its own.
+/// The gate is passed before each post.
 pub fn run_by_points<R: Threads + Wait + Sync, B: Body, G: Gate>(
     rt: &R,
     alloc: Global,
@@ -130,7 +132,8 @@ pub fn run_by_points<R: Threads + Wait + Sync, B: Body, G: Gate>(
     Ok(played.into_whole())
 }
 
-/// The same with moments in the place of change points: a thread is lowered after its own step of a number, from 1.
+/// The same with moments in the place of change points: a thread is lowered after its own step of a
+/// number, from 1.
 pub fn run_by_events<R: Threads + Wait + Sync, B: Body, G: Gate>(
     rt: &R,
     alloc: Global,

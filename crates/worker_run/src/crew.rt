@@ -5,8 +5,9 @@ ghost use Rattle.turn_book.specs.Told.{IsLawful};
 ghost use Rattle.turn_lock.specs.Rule.{Serves};
 ghost use Rattle.turn_lock.specs.Calls.{first_book};
 ghost use Rattle.turn_lock.specs.Views.{view, HasSeat};
-ghost use Rattle.worker_run.specs.Bodies.{Pending, IsInRangeBody};
-ghost use Rattle.worker_run.specs.Served.{IsCrew, HasCrew, AllOwe, NoneOwes, GoesOn, IsOver, IsServed, runner_at};
+ghost use Rattle.worker_run.specs.Bodies.{Pending};
+ghost use Rattle.worker_run.specs.Served.{IsCrew, HasCrew, AllOwe, NoneOwes, GoesOn, IsOver};
+ghost use Rattle.worker_run.specs.Served.{IsServed, runner_at};
 ghost use Rattle.worker_run.specs.declared.runner.Runner.{Runner};
 
 use crate::runner::Runner;
@@ -18,7 +19,8 @@ use turn_lock::{Brief, Seat, TurnLock};
 
 /// Whether there is a runner.
 fn has_runner<B: Body>(runners: &[Option<Runner<B>>]) -> bool
-    ensures some { result ≡ true → (place : ℕ) × (runner : Runner B) × (runner_at runners.now place ≡ Some runner) }
+    ensures some { result ≡ true
+        → (place : ℕ) × (runner : Runner B) × (runner_at runners.now place ≡ Some runner) }
     ensures none { result ≡ false → (place : ℕ) → runner_at runners.now place ≡ None }
 {
     for at in 0..runners.len() {
@@ -43,7 +45,9 @@ fn begin<R: Wait, P: Policy, B: Body, G: Gate>(
     requires owe { AllOwe (view seat.old) }
     requires few { length runners.old ≤ 64 }
     ensures of { HasSeat lock.now seat.new }
-    ensures crew { (start : ℕ → Pending) → IsCrew B.pending start 0 runners.old (view seat.old) → IsCrew B.pending start 0 runners.new (view seat.new) }
+    ensures crew { (start : ℕ → Pending)
+        → IsCrew B.pending start 0 runners.old (view seat.old)
+        → IsCrew B.pending start 0 runners.new (view seat.new) }
     ensures on { GoesOn (view seat.old) (view seat.new) }
     ensures runners { length runners.new ≡ length runners.old }
     ensures lawful { (t : ℕ) → Serves (view seat.old) t → IsLawful (view seat.new).seen }
@@ -60,7 +64,8 @@ fn begin<R: Wait, P: Policy, B: Body, G: Gate>(
     false
 }
 
-/// The threads of the seat take their turns, as the lock gives them, until the run is over or all of them have ended.
+/// The threads of the seat take their turns, as the lock gives them, until the run is over or all
+/// of them have ended.
 fn take_turns<R: Wait, P: Policy, B: Body, G: Gate>(
     rt: &R,
     lock: &TurnLock<P>,
@@ -75,7 +80,9 @@ fn take_turns<R: Wait, P: Policy, B: Body, G: Gate>(
     requires posted { NoneOwes (view seat.old) }
     requires few { length runners.old ≤ 64 }
     ensures of { HasSeat lock.now seat.new }
-    ensures served { (start : ℕ → Pending) → IsCrew B.pending start 0 runners.old (view seat.old) → IsServed start (view seat.old) (view seat.new) }
+    ensures served { (start : ℕ → Pending)
+        → IsCrew B.pending start 0 runners.old (view seat.old)
+        → IsServed start (view seat.old) (view seat.new) }
     ensures lawful { IsLawful (view seat.new).seen }
 {
     for _ in rt.forever() {
@@ -94,8 +101,8 @@ fn take_turns<R: Wait, P: Policy, B: Body, G: Gate>(
     unreachable!()
 }
 
-/// Serves the bodies until the run is over or all of them have ended. The seat's threads are those of the places that
-/// have a runner.
+/// Serves the bodies until the run is over or all of them have ended. The seat's threads are those
+/// of the places that have a runner.
 pub fn serve_all<R: Wait, P: Policy, B: Body, G: Gate>(
     rt: &R,
     lock: &TurnLock<P>,
@@ -109,7 +116,9 @@ pub fn serve_all<R: Wait, P: Policy, B: Body, G: Gate>(
     requires owe { AllOwe (view seat.old) }
     requires few { length runners.old ≤ 64 }
     ensures of { HasSeat lock.now seat.new }
-    ensures served { (start : ℕ → Pending) → IsCrew B.pending start 0 runners.old (view seat.old) → IsServed start (view seat.old) (view seat.new) }
+    ensures served { (start : ℕ → Pending)
+        → IsCrew B.pending start 0 runners.old (view seat.old)
+        → IsServed start (view seat.old) (view seat.new) }
     ensures lawful { (t : ℕ) → Serves (view seat.old) t → IsLawful (view seat.new).seen }
 {
     if !has_runner(runners) || begin(rt, lock, seat, runners, gate) {

@@ -1,5 +1,5 @@
 // The run on a lent lock: the one-lock case of a batch.
-ghost use Rattle.std.specs.Prelude.{◌≡◌, ◌<◌, ◌≤◌, ◌+◌, ℕ, [], length, map, Some, OnErr, OnOk, IfOk};
+ghost use Rattle.std.specs.Prelude.{◌≡◌, ◌<◌, ◌≤◌, ℕ, length, map, OnErr, OnOk, IfOk};
 ghost use Rattle.sync_store.specs.Store.{sizes_of_deal};
 ghost use Rattle.turn_lock.specs.Rule.{Serves};
 ghost use Rattle.turn_lock.specs.Calls.{first_book, ServesAll};
@@ -53,9 +53,10 @@ fn split_all<P: Policy>(lock: &TurnLock<P>, seat: &mut Seat<P>, threads: u32) ->
     all
 }
 
-/// Runs the bodies of a test on a lock, each in a thread of its own, until the run is over. A body that no thread can be
-/// started for is served by the caller. The gate is passed before each post. The lock's seat serves all threads again
-/// afterwards, and has seen the run. Where there is no memory nothing was posted, and the seat is as before.
+/// Runs the bodies of a test on a lock, each in a thread of its own, until the run is over. A body
+/// that no thread can be started for is served by the caller. The gate is passed before each post.
+/// The lock's seat serves all threads again afterwards, and has seen the run. Where there is no
+/// memory nothing was posted, and the seat is as before.
 pub fn run_on<R: Threads + Wait + Sync, P: Policy, B: Body, G: Gate>(
     rt: &R,
     alloc: Global,

@@ -1,5 +1,5 @@
 // Tests that are run with others under an order of their threads.
-ghost use Rattle.std.specs.Prelude.{◌≡◌, ◌≤◌, [], length, map, IfOk};
+ghost use Rattle.std.specs.Prelude.{◌≡◌, ◌≤◌, length, map, IfOk};
 ghost use Rattle.sync_store.specs.Store.{sizes_of_deal};
 ghost use Rattle.rank_now.specs.Order.{IsOrder};
 ghost use Rattle.policy_pick.specs.Plan.{ByPoints, ByEvents};

@@ -58,8 +58,8 @@ pub fn finish<P: Policy>(lock: TurnLock<P>, seat: Seat<P>) -> Played
     }
 }
 
-/// Runs the bodies of a test, one for each thread, under a policy, and stops after `limit` steps. The calling thread serves
-/// every body. The gate is passed before each post.
+/// Runs the bodies of a test, one for each thread, under a policy, and stops after `limit` steps.
+/// The calling thread serves every body. The gate is passed before each post.
 pub fn run_here<R: Wait, P: Policy, B: Body, G: Gate>(
     rt: &R,
     alloc: Global,
@@ -75,8 +75,11 @@ pub fn run_here<R: Wait, P: Policy, B: Body, G: Gate>(
     requires speaks { SpeaksOf (P.plan policy) deal.threads }
     requires bodies { length bodies.items ≡ deal.threads }
     requires in_range { AreInRange (sizes_of_deal deal) (map B.pending bodies.items) }
-    ensures played { IfOk result (λ played. IsPlayed (P.plan policy) deal (map B.pending bodies.items) limit played.events played.outcome) }
-    ensures run { (order points : List ℕ) → P.plan policy ≡ ByPoints order points → IfOk result (λ played. IsRun (run deal (map B.pending bodies.items) order points limit) played.events played.outcome) }
+    ensures played { IfOk result (λ played. IsPlayed (P.plan policy) deal
+        (map B.pending bodies.items) limit played.events played.outcome) }
+    ensures run { (order points : List ℕ)
+        → P.plan policy ≡ ByPoints order points → IfOk result (λ played. IsRun (run deal
+        (map B.pending bodies.items) order points limit) played.events played.outcome) }
     ensures directed { (order : List ℕ) (events : List Moment)
         → P.plan policy ≡ ByEvents order events → IfOk result (λ played. IsRun (directed_run deal
         (map B.pending bodies.items) order events limit) played.events played.outcome) }
@@ -103,8 +106,11 @@ pub fn run_threads<R: Threads + Wait + Sync, P: Policy, B: Body, G: Gate>(
     requires speaks { SpeaksOf (P.plan policy) deal.threads }
     requires bodies { length bodies.items ≡ deal.threads }
     requires in_range { AreInRange (sizes_of_deal deal) (map B.pending bodies.items) }
-    ensures played { IfOk result (λ played. IsPlayed (P.plan policy) deal (map B.pending bodies.items) limit played.events played.outcome) }
-    ensures run { (order points : List ℕ) → P.plan policy ≡ ByPoints order points → IfOk result (λ played. IsRun (run deal (map B.pending bodies.items) order points limit) played.events played.outcome) }
+    ensures played { IfOk result (λ played. IsPlayed (P.plan policy) deal
+        (map B.pending bodies.items) limit played.events played.outcome) }
+    ensures run { (order points : List ℕ)
+        → P.plan policy ≡ ByPoints order points → IfOk result (λ played. IsRun (run deal
+        (map B.pending bodies.items) order points limit) played.events played.outcome) }
     ensures directed { (order : List ℕ) (events : List Moment)
         → P.plan policy ≡ ByEvents order events → IfOk result (λ played. IsRun (directed_run deal
         (map B.pending bodies.items) order events limit) played.events played.outcome) }

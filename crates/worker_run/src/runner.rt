@@ -1,4 +1,4 @@
-ghost use Rattle.std.specs.Prelude.{◌≡◌, ◌<◌, ◌+◌, ◌^◌, ℤ, List, ◌∷◌, [], true, false, Some, IsSome};
+ghost use Rattle.std.specs.Prelude.{◌≡◌, ◌<◌, ◌+◌, ◌^◌, ℤ, List, ◌∷◌, [], true, false, IsSome};
 ghost use Rattle.sync_store.specs.Store.{sizes_of_deal};
 ghost use Rattle.turn_book.specs.Told.{IsLawful};
 ghost use Rattle.turn_lock.specs.Seen.{owes_of};
@@ -41,14 +41,16 @@ impl<B: Body> Runner<B> {
     pub fn hear(&mut self, value: i64)
         requires asks { IsSome (B.pending self.old.body []).ask }
         requires few { self.old.answered + 1 < 2 ^ 64 }
-        ensures body { (answers : List ℤ) → B.pending self.new.body answers ≡ B.pending self.old.body (value ∷ answers) }
+        ensures body { (answers : List ℤ)
+            → B.pending self.new.body answers ≡ B.pending self.old.body (value ∷ answers) }
         ensures answered { self.new.answered ≡ self.old.answered + 1 }
     {
         self.answered += 1;
         self.body.answer(value);
     }
 
-    /// The thread passes the gate and posts, and goes on so for as long as it is its turn. It is true where the run is over.
+    /// The thread passes the gate and posts, and goes on so for as long as it is its turn. It is
+    /// true where the run is over.
     pub fn speak<R: Wait, P: Policy, G: Gate>(
         &mut self,
         rt: &R,
@@ -64,7 +66,10 @@ impl<B: Body> Runner<B> {
             × IsInRangeBody (sizes_of_deal (first_book lock.now).deal) start × IsRunning start
             (B.pending self.old.body) self.old.answered thread (view seat.old).seen }
         ensures of { HasSeat lock.now seat.new }
-        ensures runs { (start : Pending) → IsRunning start (B.pending self.old.body) self.old.answered thread (view seat.old).seen → IsRunning start (B.pending self.new.body) self.new.answered thread (view seat.new).seen }
+        ensures runs { (start : Pending)
+            → IsRunning start (B.pending self.old.body) self.old.answered thread (view seat.old).seen
+            → IsRunning start (B.pending self.new.body) self.new.answered thread
+            (view seat.new).seen }
         ensures moves { Moves thread (view seat.old) (view seat.new) }
         ensures lawful { IsLawful (view seat.new).seen }
         ensures over { result ≡ true → IsOver (view seat.new).seen }

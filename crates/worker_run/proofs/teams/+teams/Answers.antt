@@ -41,12 +41,12 @@ start_place-scope-spawn_with-requires-send-F g t c = λ κs lives.
     let parts : IsSend (vec.the_row (part.the_row P B g.P.Policy) heap.the_row ghosts) = Vec-send _ (part-send P B g.P.Policy policy body) in
     param_send 2 (scope.arg-1-2 g.row.R g.row.P g.row.B g.row.G g.R.laws g.P.laws g.B.laws g.G.laws g.R.Threads g.R.Threads-dict g.R.Wait g.R.Wait-dict g.P.Policy g.P.Policy-dict g.B.Body g.B.Body-dict g.G.Gate g.G.Gate-dict g.P.Destruct-dict g.B.Destruct-dict κs)
     (arg_send _ no
-    (scope.of-20 g.row.R g.row.P g.row.B g.row.G g.R.laws g.P.laws g.B.laws g.G.laws g.R.Threads
+    (scope.of-22 g.row.R g.row.P g.row.B g.row.G g.R.laws g.P.laws g.B.laws g.G.laws g.R.Threads
     g.R.Threads-dict g.R.Wait g.R.Wait-dict g.P.Policy g.P.Policy-dict g.B.Body g.B.Body-dict
     g.G.Gate g.G.Gate-dict g.P.Destruct-dict g.B.Destruct-dict rt_lft stages_lft lock_lft
     goes_lft gate_lft)
     (captures-send _
-    (scope.of-18 g.row.R g.row.P g.row.B g.row.G g.R.laws g.P.laws g.B.laws g.G.laws g.R.Threads
+    (scope.of-20 g.row.R g.row.P g.row.B g.row.G g.R.laws g.P.laws g.B.laws g.G.laws g.R.Threads
     g.R.Threads-dict g.R.Wait g.R.Wait-dict g.P.Policy g.P.Policy-dict g.B.Body g.B.Body-dict
     g.G.Gate g.G.Gate-dict g.P.Destruct-dict g.B.Destruct-dict rt_lft stages_lft lock_lft
     goes_lft gate_lft) (

@@ -1,5 +1,20 @@
+use Rattle.std.proofs.Common.{replicate, false}
 use Rattle.turn_book.proofs.Boards.{new-board}
+use Rattle.turn_book.proofs.Joined.{nothing-noted}
 use Rattle.turn_book.proofs.board.Board.new.Goals as goal
 
 pub invariant_of-result : goal.invariant_of-result
-invariant_of-result c = new-board c.args.deal.now c.in_ok-new.field-0 c.in_ok-several.field-0.items c.in_ok-several-2.field-0.items c.in_ok-several-3.field-0.items c.in_ok-new.ensures.first c.in_ok-several.ensures c.in_ok-several-2.ensures c.in_ok-several-3.ensures
+invariant_of-result c =
+    let store = c.in_ok-new.field-0 in
+    let posts = c.in_ok-several.field-0.items in
+    let stands = c.in_ok-several-2.field-0.items in
+    let known = c.in_ok-several-3.field-0.items in
+    let none = c.in_ok-several.ensures in
+    let away = c.in_ok-several-2.ensures in
+    let chances = c.in_ok-several-3.ensures in
+    let deal = c.args.deal.now in
+    let first = c.in_ok-new.ensures.first in
+    record {
+      board = new-board deal store posts stands known first none away chances;
+      noted = nothing-noted deal.threads posts (replicate 64 false) none;
+    }

@@ -1,35 +1,101 @@
-use Rattle.std.proofs.Common.{◌≡◌, List, Option, Some, false, length, set, sym, ap, subst, refl, ◌∙◌, map}
+use Rattle.std.proofs.Common.{arith, ◌≡◌, List, ℕ, Option, Some, true, false, length, set, sym}
+use Rattle.std.proofs.Common.{ap, subst, refl, ◌∙◌, map, get_or}
 use Rattle.pct_ask.specs.declared.ask.Post.{Post}
 use Rattle.sync_store.specs.declared.touched.Touched.TheVariants.{Nothing}
 use Rattle.sync_store.specs.Store.{sizes_of}
 use Rattle.policy_pick.specs.Choice.{chance_of}
 use Rattle.turn_book.specs.Chances.{chance, chances}
 use Rattle.turn_book.specs.Told.{PostIsInRange, standing_by}
-use Rattle.turn_book.specs.Board.{BoardState, next_posts_of, concerns}
-use Rattle.turn_book.proofs.Boards.{standings-set, length-known, length-chances, others-kept, board-set, front-taken}
+use Rattle.turn_book.specs.Board.{BoardState, ask_of_post, next_posts_of, concerns, joins_ask}
+use Rattle.turn_book.proofs.Boards.{standings-set, length-known, length-chances, others-kept}
+use Rattle.turn_book.proofs.Boards.{board-set, front-taken}
+use Rattle.turn_book.proofs.Joined.{joined-within, not-noted, noted-set}
 use Rattle.turn_book.proofs.board.Board.post.Goals as goal
 
 pub look_again-requires-clause-standings : goal.look_again-requires-clause-standings
 look_again-requires-clause-standings c =
     let f = c.self.inside in
-    c.as_slice-2.ensures.value ∙ standings-set f.posts.items f.standings.items c.args.thread (Some c.args.post) c.standing_of.result c.self.invariant.standings c.standing_of.ensures ∙ ap (map standing_by) (sym c.as_slice.ensures.value)
+    let stands = f.standings.items in
+    let post = Some c.args.post in
+    let one = c.standing_of.result in
+    let was = c.self.invariant.board.standings in
+    c.as_slice-2.ensures.value
+    ∙ standings-set f.posts.items stands c.args.thread post one was c.standing_of.ensures
+    ∙ ap (map standing_by) (sym c.as_slice.ensures.value)
 
 pub look_again-requires-clause-as_many : goal.look_again-requires-clause-as_many
 look_again-requires-clause-as_many c =
     let f = c.self.inside in
-    ap length c.as_mut_slice.ensures.value ∙ length-known f.store f.posts.items f.standings.items f.chances.items c.self.invariant
+    let known = f.chances.items in
+    ap length c.as_mut_slice.ensures.value
+    ∙ length-known f.store f.posts.items f.standings.items known c.self.invariant.board
 
 pub look_again-requires-clause-others : goal.look_again-requires-clause-others
 look_again-requires-clause-others c = λ u within none.
     let f = c.self.inside in
-    let P : List (Option Post) → Type 0 = λ ps. concerns c.args.thread Nothing u (next_posts_of ps u) ≡ false → chance_of f.chances.items u ≡ chance f.store (next_posts_of ps) u in
+    let known = f.chances.items in
+    let t : ℕ = c.args.thread in
+    let post : Option Post = Some c.args.post in
+    let P : List (Option Post) → Type 0 =
+    λ ps. concerns t Nothing u (next_posts_of ps u) ≡ false
+    → chance_of known u ≡ chance f.store (next_posts_of ps) u in
+    let board = c.self.invariant.board in
+    let stands = f.standings.items in
+    let kept = others-kept f.store f.posts.items stands known board f.store t post Nothing refl in
     ap (λ cs. chance_of cs u) c.as_mut_slice.ensures.value
-    ∙ subst P (sym c.as_slice.ensures.value) (others-kept f.store f.posts.items f.standings.items f.chances.items c.self.invariant f.store c.args.thread (Some c.args.post) Nothing refl (λ ended v ask apart no. refl) u within) none
+    ∙ subst P (sym c.as_slice.ensures.value) (kept (λ ended v ask apart no. refl) u within) none
+
+pub look_again-requires-clause-joined : goal.look_again-requires-clause-joined
+look_again-requires-clause-joined c = λ none u.
+    let f = c.self.inside in
+    let posts = f.posts.items in
+    let t = c.args.thread in
+    let post : Option Post = Some c.args.post in
+    let after = c.note_joined.new.joined in
+    let few = c.self.invariant.board.few in
+    let kept = c.note_joined.ensures.kept in
+    let R : BoardState → Type 0 = λ b. PostIsInRange (sizes_of b.store) (c.args.post).ask in
+    let range = subst R (sym c.self.view_is) c.requires.in_range in
+    let one : (v : ℕ) → joins_ask v (ask_of_post post) ≡ true → get_or after v false ≡ true =
+    λ v joins.
+    let within = joined-within (sizes_of f.store) v (c.args.post).ask range joins in
+    c.note_joined.ensures.noted v (omega (arith, within, few)) joins in
+    let noted = noted-set posts f.joined after t post c.self.invariant.noted kept one in
+    let P : List (Option Post) → Type 0 =
+    λ ps. joins_ask t (ask_of_post (next_posts_of ps u)) ≡ false in
+    subst P (sym c.as_slice.ensures.value) (not-noted (set posts t post) after t noted none u)
 
 pub invariant_of-self : goal.invariant_of-self
 invariant_of-self c =
     let f = c.self.inside in
-    let looked : c.look_again.new.known ≡ chances f.store.threads f.store (next_posts_of (set f.posts.items c.args.thread (Some c.args.post))) = c.look_again.ensures ∙ ap (λ ps. chances f.store.threads f.store (next_posts_of ps)) c.as_slice.ensures.value in
-    let long : f.chances.len ≡ length c.look_again.new.known = f.chances.ok.0 ∙ length-known f.store f.posts.items f.standings.items f.chances.items c.self.invariant ∙ sym (ap length looked ∙ length-chances f.store.threads f.store (next_posts_of (set f.posts.items c.args.thread (Some c.args.post)))) in
+    let posts = f.posts.items in
+    let stands = f.standings.items in
+    let was = f.chances.items in
+    let t = c.args.thread in
+    let post : Option Post = Some c.args.post in
+    let known = c.look_again.new.known in
+    let n = f.store.threads in
+    let next = next_posts_of (set posts t post) in
+    let board = c.self.invariant.board in
+    let looked : known ≡ chances n f.store next =
+    c.look_again.ensures ∙ ap
+    (λ ps. chances n f.store (next_posts_of ps)) c.as_slice.ensures.value in
+    let long : f.chances.len ≡ length known =
+    f.chances.ok.0
+    ∙ length-known f.store posts stands was board
+    ∙ sym (ap length looked ∙ length-chances n f.store next) in
     let R : BoardState → Type 0 = λ b. PostIsInRange (sizes_of b.store) (c.args.post).ask in
-    board-set f.store f.posts.items f.standings.items f.chances.items c.self.invariant f.store c.args.thread (Some c.args.post) c.standing_of.result _ refl (subst R (sym c.self.view_is) c.requires.in_range) c.standing_of.ensures (front-taken _ _ _ long ∙ looked)
+    let range = subst R (sym c.self.view_is) c.requires.in_range in
+    let after = c.note_joined.new.joined in
+    let one : (v : ℕ) → joins_ask v (ask_of_post post) ≡ true → get_or after v false ≡ true =
+    λ v joins.
+    let within = joined-within (sizes_of f.store) v (c.args.post).ask range joins in
+    c.note_joined.ensures.noted v (omega (arith, within, board.few)) joins in
+    let stand = c.standing_of.result in
+    let is = c.standing_of.ensures in
+    let front = front-taken _ _ _ long ∙ looked in
+    let kept = c.note_joined.ensures.kept in
+    record {
+      board = board-set f.store posts stands was board f.store t post stand _ refl range is front;
+      noted = noted-set posts f.joined after t post c.self.invariant.noted kept one;
+    }

@@ -2,7 +2,7 @@ use Rattle.std.proofs.Common.{◌≡◌, ℕ, ◌<◌, ◌≤◌, length}
 use Rattle.policy_pick.specs.Choice.{chance_of}
 use Rattle.turn_book.specs.Chances.{chance}
 use Rattle.turn_book.specs.Board.{next_posts_of}
-use Rattle.turn_book.proofs.known.look_again.Given as goal
+use Rattle.turn_book.proofs.known.look_at_all.Given as goal
 
 abbrev pub invariant-loop-other : goal.invariant-loop-other
 invariant-loop-other l = record {
