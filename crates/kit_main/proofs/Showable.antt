@@ -1,8 +1,7 @@
 -- Bodies that may be shown name only what there is, and what there is has names.
-use Rattle.std.proofs.Common.{◌≡◌, ◌≢◌, ℕ, ℤ, pos, zero, suc, ◌+◌, ◌<◌, List, [], ◌∷◌, length, map}
-use Rattle.std.proofs.Common.{get_or, Some, refl, sym, ap, subst, ◌∙◌, arith, inl, inr}
+use Rattle.std.proofs.Common.{◌≡◌, ℕ, ℤ, pos, zero, suc, ◌+◌, ◌<◌, List, [], ◌∷◌, length, map}
+use Rattle.std.proofs.Common.{get_or, Some, sym, ap, subst, ◌∙◌, arith, inl, inr}
 use Rattle.std.specs.Prelude.{All}
-use Rattle.std.specs.List.{AllPairs}
 use Rattle.std.proofs.lemmas.Bool.{cases_lt}
 use Rattle.std.proofs.lemmas.List.{get_or_past, length-map}
 use Rattle.std.proofs.lemmas.List.Elements.{All-cons, All-nil}
@@ -21,8 +20,8 @@ use Rattle.turn_book.specs.Told.{PostIsInRange}
 use Rattle.worker_run.specs.Samples.{sample_post, sample_pending}
 use Rattle.worker_run.proofs.laws.SampleRanges.{samples-within}
 use Rattle.worker_run.specs.Bodies.{Pending, no_body, pending_of, AreInRange}
-use Rattle.trace_text.specs.Lawful.{HasObjects, IsHead, IsStepCount}
-use Rattle.kit_main.specs.Showing.{IsTestDeal, test_sizes, test_names, test_head, IsShowable}
+use Rattle.trace_text.specs.Lawful.{HasObjects}
+use Rattle.kit_main.specs.Showing.{IsTestDeal, test_sizes, test_names, IsShowable}
 use Rattle.kit_main.proofs.Known.{IsAsked}
 
 pub sizes-are : (deal : Deal) → IsTestDeal deal → sizes_of_deal deal ≡ test_sizes
@@ -96,40 +95,6 @@ module _ (bodies : List Pending) (three : length bodies ≡ 3) (all : All IsShow
         let P : Pending → Type 0 = λ pending. (pending answers).ask ≡ Some ask in
         absurd (let none : P no_body = subst P (get_or_past bodies t no_body past) asks in cc)
   ]
-
--- ---- the head of the trace
-order-known : All (λ thread. thread < 3) (0 ∷ 1 ∷ 2 ∷ [])
-order-known zero d within = omega arith
-order-known (suc zero) d within = omega arith
-order-known (suc (suc zero)) d within = omega arith
-order-known (suc (suc (suc k))) d within = absurd (omega arith)
-
-abbrev order : List ℕ
-order = 0 ∷ 1 ∷ 2 ∷ []
-
-order-once : AllPairs ◌≢◌ order
-order-once zero (suc zero) d below within = λ e. absurd (omega (arith, e))
-order-once zero (suc (suc zero)) d below within = λ e. absurd (omega (arith, e))
-order-once (suc zero) (suc (suc zero)) d below within = λ e. absurd (omega (arith, e))
-order-once i zero d below within = absurd (omega arith)
-order-once (suc i) (suc zero) d below within = absurd (omega arith)
-order-once (suc (suc i)) (suc (suc zero)) d below within = absurd (omega arith)
-order-once i (suc (suc (suc j))) d below within = absurd (omega arith)
-
-point-known : All IsStepCount (1 ∷ [])
-point-known zero d within = (omega arith, omega arith)
-point-known (suc k) d within = absurd (omega arith)
-
-pub is-head : IsHead test_names test_head
-is-head = record {
-  version = inl refl;
-  threads = order-known;
-  once = order-once;
-  every = refl;
-  few_points = omega arith;
-  points = point-known;
-  limit = (omega arith, omega arith);
-}
 
 -- ---- the order is one
 none-zero : (k : ℕ) → k < 0 → ⊥
