@@ -1,4 +1,5 @@
--- Bodies, each seen as what its thread posts after a list of answers, and the posts of a run over them (this project).
+-- Bodies, each seen as what its thread posts after a list of answers, and the posts of a run over
+-- them (this project).
 use Rattle.std.specs.Prelude.{ℕ, ℤ, List, None, slice_index_or}
 use Rattle.pct_ask.specs.declared.ask.Post.{Post}
 use Rattle.sync_store.specs.Store.{Sizes}
@@ -17,7 +18,8 @@ no_body answers = record { ask = None; line = 0 }
 abbrev pub pending_of : List Pending → ℕ → Pending
 pending_of bodies t = slice_index_or bodies t no_body
 
--- After some steps each thread's next post is what its body posts after the answers that the thread has had.
+-- After some steps each thread's next post is what its body posts after the answers that the thread
+-- has had.
 abbrev pub source_of_bodies : List Pending → Source
 source_of_bodies bodies = posts_of_bodies (pending_of bodies)
 

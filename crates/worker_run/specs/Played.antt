@@ -13,7 +13,8 @@ use Rattle.worker_run.specs.Bodies.{Pending, source_of_bodies}
 use Rattle.worker_run.specs.Run.{Run}
 
 -- The steps obey the plan over what the bodies post, and this is what became of the run.
-pub record IsPlayed (plan : Plan) (deal : Deal) (bodies : List Pending) (limit : ℕ) (events : List Event) (outcome : Outcome) : Type 0 where
+pub record IsPlayed (plan : Plan) (deal : Deal) (bodies : List Pending) (limit : ℕ)
+    (events : List Event) (outcome : Outcome) : Type 0 where
   pub obeys : Obeys plan deal (source_of_bodies bodies) limit events
   pub ends : outcome_after plan deal (source_of_bodies bodies) limit events ≡ Some outcome
 
@@ -23,8 +24,8 @@ pub record IsRun (run : Option Run) (events : List Event) (outcome : Outcome) : 
   pub ends : outcome ≡ Ends verdict
   pub steps : run ≡ Some (events, verdict)
 
--- What a seat has seen of a lock is a run over the bodies, by what the lock was made with: an outcome stands, by what was
--- posted, and it is what became of that run.
+-- What a seat has seen of a lock is a run over the bodies, by what the lock was made with: an
+-- outcome stands, by what was posted, and it is what became of that run.
 pub record HasPlayed (made : BookState) (bodies : List Pending) (seen : BookState) : Type 0 where
   pub outcome : Outcome
   pub stands : seen.outcome ≡ Some outcome

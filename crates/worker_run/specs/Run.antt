@@ -3,7 +3,8 @@
 -- 2010) and its directed run, where moments stand in the place of change points. Each step is by
 -- the enabled thread of the greatest rank; every thread's post is known. (The limit, and how a run
 -- ends where nobody may go on, are this project's.)
-use Rattle.std.specs.Prelude.{ℕ, zero, suc, Bool, false, ◌&&◌, ◌||◌, not, nat_le, List, [], ◌∷◌, ◌++◌, Option, Some, None}
+use Rattle.std.specs.Prelude.{ℕ, zero, suc, Bool, false, ◌&&◌, ◌||◌, not, nat_le, List, [], ◌∷◌}
+use Rattle.std.specs.Prelude.{◌++◌, Option, Some, None}
 use Rattle.std.specs.Option.{option_map, option_and_then, option_map_or}
 use Rattle.std.specs.List.{find, list_all}
 use Rattle.pct_ask.specs.declared.ask.Ask.{Ask}

@@ -1,5 +1,7 @@
 -- Bodies that are served over a lock, by what their seats have seen (this project).
-use Rattle.std.specs.Prelude.{◌≡◌, ◌≢◌, ◌<◌, ◌≤◌, ◌+◌, ◌⊎◌, ℕ, ℤ, Bool, true, false, List, [], ◌++◌, length, map, take, Option, Some, None, slice_get, slice_index_or}
+use Rattle.std.specs.Prelude.{◌≡◌, ◌≢◌, ◌<◌, ◌≤◌, ◌+◌, ◌⊎◌, ℕ, ℤ, Bool, true, false, List, []}
+use Rattle.std.specs.Prelude.{◌++◌, length, map, take, Option, Some, None, slice_get}
+use Rattle.std.specs.Prelude.{slice_index_or}
 use Rattle.pct_ask.specs.declared.ask.Post.{Post}
 use Rattle.pct_ask.specs.declared.event.Standing.TheVariants.{Ended}
 use Rattle.pct_ask.specs.declared.verdict.Outcome.{Outcome}
@@ -29,8 +31,8 @@ abbrev pub Follows : Pending → ℕ → BookState → Type 0
 Follows start t seen = (n : ℕ) (post : Post) → slice_get (posts_seen seen t) n ≡ Some post
     → post ≡ start (take n (answers_of t seen.trace))
 
--- A body that was `start` at first runs as the thread: the thread's posts were its own, and it has been told the thread's
--- answers.
+-- A body that was `start` at first runs as the thread: the thread's posts were its own, and it has
+-- been told the thread's answers.
 pub record IsRunning (start now : Pending) (answered t : ℕ) (seen : BookState) : Type 0 where
   pub follows : Follows start t seen
   pub next : (answers : List ℤ) → now answers ≡ start (answers_of t seen.trace ++ answers)
@@ -41,14 +43,23 @@ pub record IsRunning (start now : Pending) (answered t : ℕ) (seen : BookState)
 abbrev pub runner_at : {B : Type 0} → List (Option (Runner B)) → ℕ → Option (Runner B)
 runner_at runners place = slice_index_or runners place None
 
--- The threads of the seat are those that have a runner. The first place is that of the thread `base`.
-pub record IsCrew {B : Type 0} (pending : B → Pending) (start : ℕ → Pending) (base : ℕ) (runners : List (Option (Runner B))) (v : View) : Type 0 where
-  pub place : (t : ℕ) → Serves v t → (place : ℕ) × (runner : Runner B) × (t ≡ base + place) × (runner_at runners place ≡ Some runner)
-  pub running : (t place : ℕ) (runner : Runner B) → t ≡ base + place → runner_at runners place ≡ Some runner → Serves v t × IsRunning (start t) (pending runner.body) runner.answered t v.seen
+-- The threads of the seat are those that have a runner. The first place is that of the thread
+-- `base`.
+pub record IsCrew {B : Type 0} (pending : B → Pending) (start : ℕ → Pending) (base : ℕ)
+    (runners : List (Option (Runner B))) (v : View) : Type 0 where
+  pub place : (t : ℕ) → Serves v t
+      → (place : ℕ) × (runner : Runner B) × (t ≡ base + place)
+      × (runner_at runners place ≡ Some runner)
+  pub running : (t place : ℕ) (runner : Runner B)
+      → t ≡ base + place → runner_at runners place ≡ Some runner
+      → Serves v t × IsRunning (start t) (pending runner.body) runner.answered t v.seen
 
 -- the same of bodies that name only what there is
-abbrev pub HasCrew : {B : Type 0} → Sizes → (B → Pending) → ℕ → List (Option (Runner B)) → View → Type 0
-HasCrew sizes pending base runners v = (start : ℕ → Pending) × ((t : ℕ) → IsInRangeBody sizes (start t)) × IsCrew pending start base runners v
+abbrev pub HasCrew : {B : Type 0}
+    → Sizes → (B → Pending) → ℕ → List (Option (Runner B)) → View → Type 0
+HasCrew sizes pending base runners v =
+    (start : ℕ → Pending) × ((t : ℕ) → IsInRangeBody sizes (start t))
+    × IsCrew pending start base runners v
 
 abbrev pub AllOwe : View → Type 0
 AllOwe v = (t : ℕ) → Serves v t → owes_of v.seen t ≡ true
@@ -84,7 +95,8 @@ abbrev pub StaysOutside : BookState → BookState → Type 0
 StaysOutside earlier later =
     (t : ℕ) → later.deal.threads ≤ t → posts_seen earlier t ≡ [] → posts_seen later t ≡ []
 
--- The threads of the seat were served by their bodies until the run was over or all of them had ended.
+-- The threads of the seat were served by their bodies until the run was over or all of them had
+-- ended.
 pub record IsServed (start : ℕ → Pending) (v w : View) : Type 0 where
   pub within : Within v.seen w.seen
   pub serves : (t : ℕ) → Serves v t → Serves w t

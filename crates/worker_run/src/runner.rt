@@ -67,7 +67,8 @@ impl<B: Body> Runner<B> {
             (B.pending self.old.body) self.old.answered thread (view seat.old).seen }
         ensures of { HasSeat lock.now seat.new }
         ensures runs { (start : Pending)
-            → IsRunning start (B.pending self.old.body) self.old.answered thread (view seat.old).seen
+            → IsRunning start (B.pending self.old.body) self.old.answered thread
+            (view seat.old).seen
             → IsRunning start (B.pending self.new.body) self.new.answered thread
             (view seat.new).seen }
         ensures moves { Moves thread (view seat.old) (view seat.new) }
