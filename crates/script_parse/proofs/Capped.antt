@@ -1,29 +1,23 @@
--- An expression is read with the numbers that the code keeps as it is read with those of its
--- digits,
--- and then capped.
-use Rattle.std.proofs.Common.{◌≡◌, ℕ, ◌-◌, ◌^◌, Bool, true, false, min, cond, List, [], ◌∷◌, ◌++◌}
-use Rattle.std.proofs.Common.{Option, Some, None, refl, sym, ap, ◌∙◌}
-use Rattle.std.specs.Prelude.{ℤ, pos, nat_le, codes}
-use Rattle.std.specs.Option.{option_map, option_and_then}
-use Rattle.std.specs.Str.{bytes_eq}
+-- Expressions and forms with their numbers as the code keeps them.
+use Rattle.std.proofs.Common.{◌≡◌, ℕ, ◌^◌, ◌-◌, Bool, false, min, List, [], ◌∷◌, ◌++◌, refl, sym}
+use Rattle.std.proofs.Common.{ap, ◌∙◌}
+use Rattle.std.specs.Prelude.{ℤ, pos, codes}
 use Rattle.std.proofs.lemmas.List.Folds.{list_any-append}
 use Rattle.std.proofs.lemmas.Bool.{or_parts}
-use Rattle.pct_ask.specs.Tokens.{Token, Word, Number, Symbol}
-use Rattle.script_tree.specs.declared.expr.Op.{Op}
+use Rattle.pct_ask.specs.Tokens.{Token, Number, Symbol}
+use Rattle.pct_ask.specs.declared.names.NameKind.{NameKind}
 use Rattle.script_tree.specs.Trees.{Expression}
 use Rattle.script_tree.specs.Trees as trees
-use Rattle.script_tree.specs.Expressions.{strength, left_level, IsSpelled, number, register}
-use Rattle.script_tree.specs.Expressions.{enclosed, minus, not, two, stronger, signs_of}
-use Rattle.script_tree.specs.Ranges.{is_great, has_great}
-use Rattle.script_parse.specs.Numbers.{saturated_number}
-use Rattle.script_parse.specs.Registers.{register_in}
-use Rattle.script_parse.specs.Machine.{Frame, Paren, Not, Minus, Two, OpenExpression}
-use Rattle.script_parse.specs.Machine.{open_expression, operator_in, reduced_value, chains}
-use Rattle.script_parse.specs.Machine.{with_operator, with_bracket, closed_by, with_value_token}
-use Rattle.script_parse.specs.Machine.{joined_by, behind, token_step, token_step_at, whole}
-use Rattle.script_parse.specs.Machine.{finished_at, expression_from, expression_in}
+use Rattle.script_tree.specs.Expressions.{IsSpelled, number, register, enclosed, minus, not, two}
+use Rattle.script_tree.specs.Expressions.{stronger, signs_of}
+use Rattle.script_tree.specs.Forms.{TokenForm, MeantForm, Plain, Write, Add, Cas, Assert, Set, If}
+use Rattle.script_tree.specs.Forms.{While, Means, tokens_of_form, IsForm}
+use Rattle.script_tree.specs.Ranges.{is_great, has_great, is_out_of_range}
+use Rattle.script_tree.specs.Faults.{SoFar, may_stand, uses_unknown, declares_again, closes_nothing}
+use Rattle.script_tree.specs.Faults.{is_too_many}
+use Rattle.script_parse.specs.Part.{Part}
+use Rattle.script_parse.specs.Reading.{Finder, form_fault}
 use Rattle.script_parse.proofs.Numbers.{kept}
-use Rattle.script_parse.proofs.ExpressionWhole.{exact}
 
 -- a number, and the greatest i64 where it is greater
 abbrev pub cap : ℤ → ℤ
@@ -38,155 +32,21 @@ capped (trees.Not part) = trees.Not (capped part)
 capped (trees.Minus part) = trees.Minus (capped part)
 capped (trees.Two op left right) = trees.Two op (capped left) (capped right)
 
-abbrev capped_frame : Frame → Frame
-capped_frame Paren = Paren
-capped_frame Not = Not
-capped_frame Minus = Minus
-capped_frame (Two op left) = Two op (capped left)
-
-abbrev capped_frames : List Frame → List Frame
-capped_frames [] = []
-capped_frames (frame ∷ frames) = capped_frame frame ∷ capped_frames frames
-
-abbrev capped_pending : OpenExpression → OpenExpression
-capped_pending p = open_expression (capped_frames p.frames) (option_map capped p.value)
-
-abbrev capped_pair : List Frame × Expression → List Frame × Expression
-capped_pair p = (capped_frames p.0, capped p.1)
-
-reduced_capped : (level : ℕ) (frames : List Frame) (value : Expression)
-    → reduced_value level (capped_frames frames) (capped value)
-    ≡ capped_pair (reduced_value level frames value)
-reduced_capped level [] value = refl
-reduced_capped level (Paren ∷ frames) value = refl
-reduced_capped level (Not ∷ frames) value = reduced_capped level frames (trees.Not value)
-reduced_capped level (Minus ∷ frames) value = reduced_capped level frames (trees.Minus value)
-reduced_capped level (Two op left ∷ frames) value =
-    by_test (nat_le level (strength op)) (reduced_capped level frames (trees.Two op left value))
-  where
-    by_test : (b : Bool) → reduced_value level (capped_frames frames)
-        (capped (trees.Two op left value))
-        ≡ capped_pair (reduced_value level frames (trees.Two op left value))
-        → cond b (reduced_value level (capped_frames frames) (capped (trees.Two op left value)))
-        (Two op (capped left) ∷ capped_frames frames, capped value)
-        ≡ capped_pair (cond b (reduced_value level frames (trees.Two op left value))
-        (Two op left ∷ frames, value))
-    by_test true e = e
-    by_test false e = refl
-
-chains_capped : (op : Op) (frames : List Frame)
-    → chains op (capped_frames frames) ≡ chains op frames
-chains_capped op [] = refl
-chains_capped op (Paren ∷ frames) = refl
-chains_capped op frames = refl
-
-joined_capped : (op : Op) (frames : List Frame) (value : Expression)
-    → option_map capped_pending (with_operator op (frames, value))
-    ≡ with_operator op (capped_frames frames, capped value)
-joined_capped op frames value = rw (chains_capped op frames) (by_test (chains op frames))
-  where
-    by_test : (b : Bool) → option_map capped_pending
-        (cond b None (Some (open_expression (Two op value ∷ frames) None)))
-        ≡ cond b None (Some (open_expression (Two op (capped value) ∷ capped_frames frames) None))
-    by_test true = refl
-    by_test false = refl
-
-closed_capped : (frames : List Frame) (value : Expression)
-    → option_map capped_pending (with_bracket frames value)
-    ≡ with_bracket (capped_frames frames) (capped value)
-closed_capped [] value = refl
-closed_capped (Paren ∷ frames) value = refl
-closed_capped frames value = refl
-
-closed_by_capped : (frames : List Frame) (value : Expression)
-    → option_map capped_pending (closed_by frames value)
-    ≡ closed_by (capped_frames frames) (capped value)
-closed_by_capped frames value =
-    rw (reduced_capped 0 frames value)
-    (closed_capped (reduced_value 0 frames value).0 (reduced_value 0 frames value).1)
-
-joined_by_capped : (found : Option Op) (frames : List Frame) (value : Expression)
-    → option_map capped_pending (joined_by found frames value)
-    ≡ joined_by found (capped_frames frames) (capped value)
-joined_by_capped None frames value = refl
-joined_by_capped (Some op) frames value =
-    rw (reduced_capped (left_level op) frames value)
-    (joined_capped op (reduced_value (left_level op) frames value).0
-    (reduced_value (left_level op) frames value).1)
-
-map_cond : {A B : Type 0} (f : A → B) (b : Bool) (x y : Option A) (u v : Option B)
-    → option_map f x ≡ u → option_map f y ≡ v → option_map f (cond b x y) ≡ cond b u v
-map_cond f true x y u v p q = p
-map_cond f false x y u v p q = q
-
-behind_capped : (frames : List Frame) (value : Expression) (token : Token)
-    → option_map capped_pending (behind frames value token)
-    ≡ behind (capped_frames frames) (capped value) token
-behind_capped frames value (Number digits) = refl
-behind_capped frames value (Word word) = refl
-behind_capped frames value (Symbol signs) =
-    map_cond capped_pending (bytes_eq signs (codes ")")) _ _ _ _ (closed_by_capped frames value)
-    (joined_by_capped (operator_in signs) frames value)
-
-register_capped : (found : Option ℕ) (frames : List Frame)
-    → option_map capped_pending (option_map (λ r. open_expression frames (Some (trees.Reg r)))
-    found) ≡ option_map (λ r. open_expression (capped_frames frames) (Some (trees.Reg r))) found
-register_capped None frames = refl
-register_capped (Some r) frames = refl
-
-begun_capped : (frames : List Frame) (token : Token)
-    → option_map capped_pending (with_value_token exact frames token)
-    ≡ with_value_token saturated_number (capped_frames frames) token
-begun_capped frames (Number digits) = refl
-begun_capped frames (Word word) = register_capped (register_in word) frames
-begun_capped frames (Symbol signs) =
-    map_cond capped_pending (bytes_eq signs (codes "(")) _ _ _ _ refl
-    (map_cond capped_pending (bytes_eq signs (codes "-")) _ _ _ _ refl
-    (map_cond capped_pending (bytes_eq signs (codes "!")) _ _ _ _ refl refl))
-
-step_capped : (frames : List Frame) (value : Option Expression) (token : Token)
-    → option_map capped_pending (token_step_at exact frames value token)
-    ≡ token_step_at saturated_number (capped_frames frames) (option_map capped value) token
-step_capped frames None token = begun_capped frames token
-step_capped frames (Some value) token = behind_capped frames value token
-
-whole_capped : (frames : List Frame) (value : Expression)
-    → option_map capped (whole (frames, value)) ≡ whole (capped_frames frames, capped value)
-whole_capped [] value = refl
-whole_capped (frame ∷ frames) value = refl
-
-finished_capped : (frames : List Frame) (value : Option Expression)
-    → option_map capped (finished_at frames value)
-    ≡ finished_at (capped_frames frames) (option_map capped value)
-finished_capped frames None = refl
-finished_capped frames (Some value) =
-    rw (reduced_capped 0 frames value)
-    (whole_capped (reduced_value 0 frames value).0 (reduced_value 0 frames value).1)
-
-read_capped : (tokens : List Token) (p : OpenExpression)
-    → option_map capped (expression_from exact p tokens)
-    ≡ expression_from saturated_number (capped_pending p) tokens
-read_capped [] p = finished_capped p.frames p.value
-read_capped (token ∷ tokens) p =
-    by_next (token_step exact p token) (token_step saturated_number (capped_pending p) token)
-    (step_capped p.frames p.value token) (λ q. read_capped tokens q)
-  where
-    by_next : (o u : Option OpenExpression) → option_map capped_pending o ≡ u
-        → ((q : OpenExpression) → option_map capped (expression_from exact q tokens)
-        ≡ expression_from saturated_number (capped_pending q) tokens)
-        → option_map capped (option_and_then (λ next. expression_from exact next tokens) o)
-        ≡ option_and_then (λ next. expression_from saturated_number next tokens) u
-    by_next None u e r = rw (← e) refl
-    by_next (Some q) u e r = rw (← e) (r q)
-
-pub expression_capped : (tokens : List Token)
-    → option_map capped (expression_in exact tokens) ≡ expression_in saturated_number tokens
-expression_capped tokens = read_capped tokens (open_expression [] None)
+-- a form with the numbers of its expressions capped
+abbrev pub capped_form : MeantForm → MeantForm
+capped_form (Write var value) = Write var (capped value)
+capped_form (Add reg var value) = Add reg var (capped value)
+capped_form (Cas reg var old new) = Cas reg var (capped old) (capped new)
+capped_form (Assert test) = Assert (capped test)
+capped_form (Set reg value) = Set reg (capped value)
+capped_form (If test) = If (capped test)
+capped_form (While test) = While (capped test)
+capped_form form = form
 
 -- ---- numbers that aren't above the greatest i64
 
 -- parts of tokens without a great number have none
-pub front_small : (front back : List Token) → has_great (front ++ back) ≡ false
+front_small : (front back : List Token) → has_great (front ++ back) ≡ false
     → (has_great front ≡ false) × (has_great back ≡ false)
 front_small front back h =
     or_parts (has_great front) (has_great back) (sym (list_any-append is_great front back) ∙ h)
@@ -204,3 +64,63 @@ small_capped _ _ _ (two op lefts rights left right s t) h =
     let parts = front_small lefts (Symbol (signs_of op) ∷ rights) h in
     rw (small_capped _ lefts left s parts.0, small_capped _ rights right t parts.1) refl
 small_capped _ _ _ (stronger level tokens tree s) h = small_capped _ tokens tree s h
+
+-- a form whose numbers are in range stays as it is
+small_form : (cut : TokenForm) (meant : MeantForm) → Means cut meant
+    → is_out_of_range (tokens_of_form cut) meant ≡ false → capped_form meant ≡ meant
+small_form (Write var value) meant m h =
+    rw m.2 (ap (Write var) (small_capped 0 value m.0 m.1 (rw m.2 at h)))
+small_form (Add reg var value) meant m h =
+    rw m.2 (ap (Add reg var) (small_capped 0 value m.0 m.1 (rw m.2 at h)))
+small_form (Cas reg var old new) meant m h =
+    let parts = front_small old (Symbol (codes ",") ∷ new) (rw m.4 at h) in
+    rw (m.4, small_capped 0 old m.0 m.2 parts.0, small_capped 0 new m.1 m.3 parts.1) refl
+small_form (Assert test) meant m h = rw m.2 (ap Assert (small_capped 0 test m.0 m.1 (rw m.2 at h)))
+small_form (Set reg value) meant m h =
+    rw m.2 (ap (Set reg) (small_capped 0 value m.0 m.1 (rw m.2 at h)))
+small_form (If test) meant m h = rw m.2 (ap If (small_capped 0 test m.0 m.1 (rw m.2 at h)))
+small_form (While test) meant m h = rw m.2 (ap While (small_capped 0 test m.0 m.1 (rw m.2 at h)))
+small_form cut meant m h = rw m refl
+
+pub in_range_same : (version : ℕ) (tokens : List Token) (cut : TokenForm) (meant : MeantForm)
+    → IsForm version tokens cut meant → is_out_of_range tokens meant ≡ false
+    → capped_form meant ≡ meant
+in_range_same version tokens cut meant f h =
+    small_form cut meant f.means
+    (ap (λ (ts : List Token). is_out_of_range ts meant) (sym f.spelled) ∙ h)
+
+-- ---- what is asked of a form, whatever its numbers are
+
+-- a test of forms that looks at no number of theirs
+abbrev pub IsBlind : (MeantForm → Bool) → Type 0
+IsBlind test = (form : MeantForm) → test (capped_form form) ≡ test form
+
+pub stands_blind : (lines : SoFar) → IsBlind (may_stand lines)
+stands_blind lines (Plain kind name) = refl
+stands_blind lines form = refl
+
+pub unknown_blind : (is_known : NameKind → List ℕ → Bool) → IsBlind (uses_unknown is_known)
+unknown_blind is_known (Plain kind name) = refl
+unknown_blind is_known form = refl
+
+pub again_blind : (lines : SoFar) → IsBlind (declares_again lines)
+again_blind lines (Plain kind name) = refl
+again_blind lines form = refl
+
+pub range_blind : (tokens : List Token) → IsBlind (is_out_of_range tokens)
+range_blind tokens (Plain kind name) = refl
+range_blind tokens form = refl
+
+pub closes_blind : (lines : SoFar) → IsBlind (closes_nothing lines)
+closes_blind lines (Plain kind name) = refl
+closes_blind lines form = refl
+
+pub many_blind : (lines : SoFar) → IsBlind (is_too_many lines)
+many_blind lines (Plain kind name) = refl
+many_blind lines form = refl
+
+pub fault_blind : (part : Part) (find : Finder) (last : Bool) (tokens : List Token)
+    (form : MeantForm)
+    → form_fault part find last tokens (capped_form form) ≡ form_fault part find last tokens form
+fault_blind part find last tokens (Plain kind name) = refl
+fault_blind part find last tokens form = refl

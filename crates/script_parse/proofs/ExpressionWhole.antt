@@ -1,8 +1,7 @@
--- Tokens that spell an expression are read as it.
+-- Tokens that spell an expression are read as it, with its numbers as the code keeps them.
 use Rattle.std.proofs.Common.{◌≡◌, ℕ, ◌+◌, ◌<◌, ◌≤◌, ◌⊎◌, inl, inr, false, List, [], ◌∷◌, ◌++◌}
 use Rattle.std.proofs.Common.{Option, Some, None, refl, sym, ap, ◌∙◌, append_assoc, arith, rules}
-use Rattle.std.specs.Prelude.{ℤ, pos, codes}
-use Rattle.std.specs.Str.Parse.{digits_value}
+use Rattle.std.specs.Prelude.{codes}
 use Rattle.std.proofs.lemmas.List.{append-nil}
 use Rattle.std.proofs.lemmas.Bool.{le-leb, lt-leb}
 use Rattle.std.proofs.lemmas.Bool.Decides.{nat_tests}
@@ -18,11 +17,8 @@ use Rattle.script_parse.specs.Machine.{reduced_value, chains, expression_from, e
 use Rattle.pct_ask.specs.NameLists.{AreDistinct}
 use Rattle.script_parse.specs.Registers.{register_in}
 use Rattle.script_parse.proofs.Fresh.{place_at}
+use Rattle.script_parse.proofs.Capped.{capped}
 use Rattle.script_parse.proofs.Operators.{operator_at, no_parenthesis, strength_few, left_above}
-
--- the number that digits stand for
-abbrev pub exact : List ℕ → ℤ
-exact digits = pos (digits_value 10 digits)
 
 -- what waits there takes a part of this level
 abbrev pub Accepts : ℕ → List Frame → Type 0
@@ -60,37 +56,37 @@ follows_more level more (Word word ∷ tokens) h f = f
 
 -- ---- what waits takes its part, where that is as strong as what follows asks
 
-module _ (number_of : List ℕ → ℤ) where
-  abbrev goes : List Frame → Expression → List Token → Option Expression
-  goes frames value tokens = expression_from number_of (open_expression frames (Some value)) tokens
+abbrev goes : List Frame → Expression → List Token → Option Expression
+goes frames value tokens =
+    expression_from (open_expression frames (Some value)) tokens
 
-  same_by_symbol : (frames others : List Frame) (value other : Expression) (signs : List ℕ)
-      (tokens : List Token) (level : ℕ)
-      → ((l : ℕ) → l ≤ level → reduced_value l frames value ≡ reduced_value l others other)
-      → Follows level (Symbol signs ∷ tokens)
-      → goes frames value (Symbol signs ∷ tokens) ≡ goes others other (Symbol signs ∷ tokens)
-  same_by_symbol frames others value other signs tokens level same (inl e) =
-      rw (e, same 0 (omega arith)) refl
-  same_by_symbol frames others value other signs tokens level same (inr f) =
-      rw (f.1, no_parenthesis f.0, operator_at f.0, same (left_level f.0) f.2) refl
+same_by_symbol : (frames others : List Frame) (value other : Expression) (signs : List ℕ)
+    (tokens : List Token) (level : ℕ)
+    → ((l : ℕ) → l ≤ level → reduced_value l frames value ≡ reduced_value l others other)
+    → Follows level (Symbol signs ∷ tokens)
+    → goes frames value (Symbol signs ∷ tokens) ≡ goes others other (Symbol signs ∷ tokens)
+same_by_symbol frames others value other signs tokens level same (inl e) =
+    rw (e, same 0 (omega arith)) refl
+same_by_symbol frames others value other signs tokens level same (inr f) =
+    rw (f.1, no_parenthesis f.0, operator_at f.0, same (left_level f.0) f.2) refl
 
-  -- two stacks with their values that are the same once they are reduced go on alike
-  same_goes : (frames others : List Frame) (value other : Expression) (tokens : List Token)
-      (level : ℕ)
-      → ((l : ℕ) → l ≤ level → reduced_value l frames value ≡ reduced_value l others other)
-      → Follows level tokens → goes frames value tokens ≡ goes others other tokens
-  same_goes frames others value other [] level same f = rw (same 0 (omega arith)) refl
-  same_goes frames others value other (Symbol signs ∷ tokens) level same f =
-      same_by_symbol frames others value other signs tokens level same f
-  same_goes frames others value other (Number digits ∷ tokens) level same f = absurd f
-  same_goes frames others value other (Word word ∷ tokens) level same f = absurd f
+-- two stacks with their values that are the same once they are reduced go on alike
+same_goes : (frames others : List Frame) (value other : Expression) (tokens : List Token)
+    (level : ℕ)
+    → ((l : ℕ) → l ≤ level → reduced_value l frames value ≡ reduced_value l others other)
+    → Follows level tokens → goes frames value tokens ≡ goes others other tokens
+same_goes frames others value other [] level same f = rw (same 0 (omega arith)) refl
+same_goes frames others value other (Symbol signs ∷ tokens) level same f =
+    same_by_symbol frames others value other signs tokens level same f
+same_goes frames others value other (Number digits ∷ tokens) level same f = absurd f
+same_goes frames others value other (Word word ∷ tokens) level same f = absurd f
 
-  two_goes : (op : Op) (left value : Expression) (frames : List Frame) (tokens : List Token)
-      → Follows (strength op) tokens → goes (Two op left ∷ frames) value tokens
-      ≡ goes frames (trees.Two op left value) tokens
-  two_goes op left value frames tokens f =
-      same_goes (Two op left ∷ frames) frames value (trees.Two op left value) tokens (strength op)
-      (λ l h. rw (le-leb l (strength op) h) refl) f
+two_goes : (op : Op) (left value : Expression) (frames : List Frame) (tokens : List Token)
+    → Follows (strength op) tokens → goes (Two op left ∷ frames) value tokens
+    ≡ goes frames (trees.Two op left value) tokens
+two_goes op left value frames tokens f =
+    same_goes (Two op left ∷ frames) frames value (trees.Two op left value) tokens (strength op)
+    (λ l h. rw (le-leb l (strength op) h) refl) f
 
 -- ---- the whole expression
 
@@ -119,56 +115,51 @@ distinct_registers = search rules
 pub register_read : (reg : ℕ) → reg < 16 → register_in (register_word reg) ≡ Some reg
 register_read reg h = place_at registers reg distinct_registers h
 
-module _ (number_of : List ℕ → ℤ) (is_exact : (digits : List ℕ)
-    → number_of digits ≡ exact digits) where
-  -- an operator behind its left part waits for its right part
-  joins : (op : Op) (value : Expression) (frames : List Frame) (tokens : List Token)
-      → Accepts (strength op) frames
-      → expression_from number_of (open_expression frames (Some value))
-      (Symbol (signs_of op) ∷ tokens)
-      ≡ expression_from number_of (open_expression (Two op value ∷ frames) None) tokens
-  joins op value frames tokens a =
-      rw (no_parenthesis op, operator_at op, kept op value frames a, unchained op frames a) refl
+-- an operator behind its left part waits for its right part
+joins : (op : Op) (value : Expression) (frames : List Frame) (tokens : List Token)
+    → Accepts (strength op) frames → expression_from (open_expression frames (Some value))
+    (Symbol (signs_of op) ∷ tokens)
+    ≡ expression_from (open_expression (Two op value ∷ frames) None) tokens
+joins op value frames tokens a =
+    rw (no_parenthesis op, operator_at op, kept op value frames a, unchained op frames a) refl
 
-  -- tokens that spell a part are read as it, whatever may follow
-  pub part_is_read : (level : ℕ) (tokens : List Token) (tree : Expression)
-      → IsSpelled level tokens tree
-      → (frames : List Frame) → Accepts level frames → (rest : List Token) → Follows level rest
-      → expression_from number_of (open_expression frames None) (tokens ++ rest)
-      ≡ expression_from number_of (open_expression frames (Some tree)) rest
-  part_is_read _ _ _ (number digits) frames a rest f =
-      ap (λ (n : ℤ). expression_from number_of (open_expression frames (Some (trees.Number n)))
-      rest) (is_exact digits)
-  part_is_read _ _ _ (register reg few) frames a rest f = rw (register_read reg few) refl
-  part_is_read _ _ _ (enclosed tokens tree h) frames a rest f =
-      ap (λ (ts : List Token). expression_from number_of (open_expression (Paren ∷ frames) None) ts)
-      (append_assoc tokens (Symbol (codes ")") ∷ []) rest)
-      ∙ part_is_read 0 tokens tree h (Paren ∷ frames) tt (Symbol (codes ")") ∷ rest) (inl refl)
-  part_is_read _ _ _ (minus tokens tree h) frames a rest f =
-      part_is_read 5 tokens tree h (Minus ∷ frames) (omega arith) rest f
-      ∙ same_goes number_of (Minus ∷ frames) frames tree (trees.Minus tree) rest 5 (λ l h. refl) f
-  part_is_read _ _ _ (not tokens tree h) frames a rest f =
-      part_is_read 5 tokens tree h (Not ∷ frames) (omega arith) rest f
-      ∙ same_goes number_of (Not ∷ frames) frames tree (trees.Not tree) rest 5 (λ l h. refl) f
-  part_is_read _ _ _ (two op lefts rights left right hl hr) frames a rest f =
-      let sign : Token = Symbol (signs_of op) in
-      ap (λ (ts : List Token). expression_from number_of (open_expression frames None) ts)
-      (append_assoc lefts (sign ∷ rights) rest)
-      ∙ part_is_read (left_level op) lefts left hl frames
-      (accepts_more (strength op) frames (left_level op) (left_above op) a)
-      (sign ∷ (rights ++ rest)) (inr (op, refl, omega arith))
-      ∙ joins op left frames (rights ++ rest) a
-      ∙ part_is_read (strength op + 1) rights right hr (Two op left ∷ frames) (omega arith) rest
-      (follows_more (strength op) (strength op + 1) rest (omega arith) f)
-      ∙ two_goes number_of op left right frames rest f
-  part_is_read _ _ _ (stronger level tokens tree h) frames a rest f =
-      part_is_read (level + 1) tokens tree h frames
-      (accepts_more level frames (level + 1) (omega arith) a) rest
-      (follows_more level (level + 1) rest (omega arith) f)
+-- tokens that spell a part are read as it, whatever may follow
+pub part_is_read : (level : ℕ) (tokens : List Token) (tree : Expression)
+    → IsSpelled level tokens tree
+    → (frames : List Frame) → Accepts level frames → (rest : List Token) → Follows level rest
+    → expression_from (open_expression frames None) (tokens ++ rest)
+    ≡ expression_from (open_expression frames (Some (capped tree))) rest
+part_is_read _ _ _ (number digits) frames a rest f = refl
+part_is_read _ _ _ (register reg few) frames a rest f = rw (register_read reg few) refl
+part_is_read _ _ _ (enclosed tokens tree h) frames a rest f =
+    ap (λ (ts : List Token). expression_from (open_expression (Paren ∷ frames) None) ts)
+    (append_assoc tokens (Symbol (codes ")") ∷ []) rest)
+    ∙ part_is_read 0 tokens tree h (Paren ∷ frames) tt (Symbol (codes ")") ∷ rest) (inl refl)
+part_is_read _ _ _ (minus tokens tree h) frames a rest f =
+    part_is_read 5 tokens tree h (Minus ∷ frames) (omega arith) rest f
+    ∙ same_goes (Minus ∷ frames) frames (capped tree) (trees.Minus (capped tree)) rest 5
+    (λ l h. refl) f
+part_is_read _ _ _ (not tokens tree h) frames a rest f =
+    part_is_read 5 tokens tree h (Not ∷ frames) (omega arith) rest f
+    ∙ same_goes (Not ∷ frames) frames (capped tree) (trees.Not (capped tree)) rest 5 (λ l h. refl) f
+part_is_read _ _ _ (two op lefts rights left right hl hr) frames a rest f =
+    let sign : Token = Symbol (signs_of op) in
+    ap (λ (ts : List Token). expression_from (open_expression frames None) ts)
+    (append_assoc lefts (sign ∷ rights) rest) ∙ part_is_read (left_level op) lefts left hl frames
+    (accepts_more (strength op) frames (left_level op) (left_above op) a)
+    (sign ∷ (rights ++ rest)) (inr (op, refl, omega arith))
+    ∙ joins op (capped left) frames (rights ++ rest) a
+    ∙ part_is_read (strength op + 1) rights right hr (Two op (capped left) ∷ frames) (omega arith)
+    rest (follows_more (strength op) (strength op + 1) rest (omega arith) f)
+    ∙ two_goes op (capped left) (capped right) frames rest f
+part_is_read _ _ _ (stronger level tokens tree h) frames a rest f =
+    part_is_read (level + 1) tokens tree h frames
+    (accepts_more level frames (level + 1) (omega arith) a) rest
+    (follows_more level (level + 1) rest (omega arith) f)
 
-  -- tokens that spell an expression are read as it
-  pub expression_is_read : (tokens : List Token) (tree : Expression) → IsSpelled 0 tokens tree
-      → expression_in number_of tokens ≡ Some tree
-  expression_is_read tokens tree h =
-      ap (λ (ts : List Token). expression_from number_of (open_expression [] None) ts)
-      (sym (append-nil tokens)) ∙ part_is_read 0 tokens tree h [] tt [] tt
+-- tokens that spell an expression are read as it
+pub expression_is_read : (tokens : List Token) (tree : Expression) → IsSpelled 0 tokens tree
+    → expression_in tokens ≡ Some (capped tree)
+expression_is_read tokens tree h =
+    ap (λ (ts : List Token). expression_from (open_expression [] None) ts)
+    (sym (append-nil tokens)) ∙ part_is_read 0 tokens tree h [] tt [] tt

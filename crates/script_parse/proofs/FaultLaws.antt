@@ -16,7 +16,6 @@ use Rattle.script_tree.specs.Faults.{Place, so_far_at, leaves_open, lacks_thread
 use Rattle.script_tree.specs.Faults.{HasForm, judged_lines, IsFirstFault, IsFault}
 use Rattle.script_parse.specs.Reading.{is_empty, bytes_fault, blank_text_fault, read_as_script}
 use Rattle.script_parse.specs.Reading.{script_from}
-use Rattle.script_parse.proofs.ExpressionWhole.{exact}
 use Rattle.script_parse.proofs.FirstKinds.{IsFirstKind, first_in, in_order}
 use Rattle.script_parse.proofs.FirstFaults.{first_at}
 use Rattle.script_parse.proofs.LineFaults.{tells_end_any, tells_thread_any}
@@ -118,7 +117,7 @@ lines_tell (Ok script) bytes small j t = ok_tells script bytes small j t
 lines_tell (Err found) bytes small j t =
     inr (small, first_at (judged_lines bytes) t.0 (j ∙ t.1) found.1 t.3 t.4 found.0 t.2)
 
-text_tells : (bytes : List ℕ) → TextTells (read_as_script exact bytes) bytes
+text_tells : (bytes : List ℕ) → TextTells (read_as_script bytes) bytes
 text_tells bytes = elim (cases_lt 1048576 (length bytes)) [
   | inl large ↦ rw (lt-ltb 1048576 (length bytes) large) (inl (large, refl, refl))
   | inr small ↦ rw (le-ltb 1048576 (length bytes) small)
@@ -127,20 +126,20 @@ text_tells bytes = elim (cases_lt 1048576 (length bytes)) [
   where
     by_blank : (b : Bool) → are_blank (lines_of bytes) ≡ b → length bytes ≤ 1048576
         → TextTells (cond b (Err (1, blank_text_fault (lines_of bytes)))
-        (script_from exact (finder_of (lines_of bytes)) None 1 (lines_of bytes))) bytes
+        (script_from (finder_of (lines_of bytes)) None 1 (lines_of bytes))) bytes
     by_blank true h small = inr (small, all_blank bytes h)
     by_blank false h small =
-        lines_tell (script_from exact (finder_of (lines_of bytes)) None 1 (lines_of bytes)) bytes
+        lines_tell (script_from (finder_of (lines_of bytes)) None 1 (lines_of bytes)) bytes
         small (judged_are bytes h) (all_tell (lines_of bytes) (lines_of bytes) [] None 1 refl refl h
         (refl, quiet_none) (none_at_first (lines_of bytes)))
 
 -- a text whose reading finds a fault has it
 pub fault_found : (bytes : List ℕ) (n : ℕ) (kind : ScriptFault)
-    → read_as_script exact bytes ≡ Err (n, kind) → IsFault bytes n kind
+    → read_as_script bytes ≡ Err (n, kind) → IsFault bytes n kind
 fault_found bytes n kind e = subst (λ (f : Found). TextTells f bytes) e (text_tells bytes)
 
 -- a text that is read whole has none
-pub no_fault : (bytes : List ℕ) (script : ScriptText) → read_as_script exact bytes ≡ Ok script
+pub no_fault : (bytes : List ℕ) (script : ScriptText) → read_as_script bytes ≡ Ok script
     → (n : ℕ) (kind : ScriptFault) → ¬ IsFault bytes n kind
 no_fault bytes script e = subst (λ (f : Found). TextTells f bytes) e (text_tells bytes)
 

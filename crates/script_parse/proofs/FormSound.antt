@@ -1,7 +1,7 @@
--- What tokens are read as is a form of theirs.
-use Rattle.std.proofs.Common.{◌≡◌, ℕ, suc, ◌+◌, inl, inr, true, cond, get_or, List, [], ◌∷◌, ◌++◌}
-use Rattle.std.proofs.Common.{Option, Some, None, refl, sym, ap, ◌∙◌, take, drop, drop-cons}
-use Rattle.std.proofs.Common.{add-one, subst}
+-- What tokens are read as is a form of theirs, with its numbers as the code keeps them.
+use Rattle.std.proofs.Common.{◌≡◌, ℕ, suc, ◌+◌, inl, inr, true, false, cond, get_or, List, []}
+use Rattle.std.proofs.Common.{◌∷◌, ◌++◌, Option, Some, None, refl, sym, ap, ◌∙◌, take, drop}
+use Rattle.std.proofs.Common.{drop-cons, add-one, subst}
 use Rattle.std.specs.Prelude.{nat_le, ◌&&◌, codes}
 use Rattle.std.specs.List.{position}
 use Rattle.std.specs.Option.{option_map, option_and_then}
@@ -14,13 +14,15 @@ use Rattle.pct_ask.specs.Tokens.{Token, Word, Number, Symbol}
 use Rattle.pct_ask.specs.declared.names.NameKind.{NameKind}
 use Rattle.pct_ask.specs.declared.names.NameKind.TheVariants as kinds
 use Rattle.script_tree.specs.Trees.{Expression}
-use Rattle.script_tree.specs.Expressions.{register_word}
+use Rattle.script_tree.specs.Expressions.{IsExpression, register_word}
 use Rattle.script_tree.specs.Forms.{OnVerb, Lock, Unlock, Signal, Broadcast, Down, Up, Join, Start}
 use Rattle.script_tree.specs.Forms.{RdLock, WrLock, RwUnlock, IntoVerb, Read, TryLock, TryDown}
 use Rattle.script_tree.specs.Forms.{Arrive, TryRdLock, TryWrLock, TokenForm, MeantForm, Plain}
 use Rattle.script_tree.specs.Forms.{Valued, Thread, On, Into, Write, Add, Cas, Wait, Yield, Assert}
 use Rattle.script_tree.specs.Forms.{Set, If, While, End, Else, on_word, into_word, kind_word}
-use Rattle.script_tree.specs.Forms.{on_since, into_since, is_plain, has_value, kind_since, IsForm}
+use Rattle.script_tree.specs.Forms.{on_since, into_since, is_plain, has_value, kind_since}
+use Rattle.script_tree.specs.Forms.{tokens_of_form, Means, IsFormOf, IsForm}
+use Rattle.script_tree.specs.Ranges.{is_out_of_range}
 use Rattle.script_parse.specs.Registers.{register_in}
 use Rattle.script_parse.specs.Words.{on_verb_in, into_verb_in, kind_in}
 use Rattle.script_parse.specs.Machine.{expression_in}
@@ -32,12 +34,36 @@ use Rattle.script_parse.specs.Saying.{other_form, by_on, by_into, by_kind, form_
 use Rattle.script_parse.proofs.Choices.{some, some_is, chosen, passed, mapped_some, bind_some}
 use Rattle.script_parse.proofs.Choices.{same_bytes, one_choice}
 use Rattle.script_parse.proofs.FirstValues.{value_says}
-use Rattle.script_parse.proofs.ExpressionWhole.{exact}
+use Rattle.script_parse.proofs.Capped.{capped, capped_form, range_blind, in_range_same}
 use Rattle.script_parse.proofs.ExpressionSound.{expression_is_spelled, register_says}
 
--- the tokens are a line of some form that means this
-abbrev pub HasCut : ℕ → List Token → MeantForm → Type 0
-HasCut version tokens meant = (cut : TokenForm) × IsForm version tokens cut meant
+-- the tokens are a line of some form, which is read as this
+pub record HasCut (version : ℕ) (tokens : List Token) (meant : MeantForm) : Type 0 where
+  pub cut : TokenForm
+  pub sense : MeantForm
+  pub form : IsForm version tokens cut sense
+  pub kept : capped_form sense ≡ meant
+
+told : {version : ℕ} {tokens : List Token} {meant : MeantForm} (cut : TokenForm)
+    (sense : MeantForm) → tokens ≡ tokens_of_form cut → IsFormOf version cut → Means cut sense
+    → capped_form sense ≡ meant → HasCut version tokens meant
+told cut sense s o m k = record {
+  cut = cut;
+  sense = sense;
+  form = record { spelled = s; of = o; means = m };
+  kept = k;
+}
+
+-- an expression that is read, as it is spelled
+made_says : (make : Expression → MeantForm)
+    → ((tree : Expression) → capped_form (make tree) ≡ make (capped tree))
+    → (tokens : List Token) (meant : MeantForm)
+    → option_map make (expression_in tokens) ≡ Some meant
+    → (tree : Expression) × IsExpression tokens tree × (capped_form (make tree) ≡ meant)
+made_says make same tokens meant e =
+    let m = mapped_some make (expression_in tokens) meant e in
+    let r = expression_is_spelled tokens m.0 m.1 in
+    (r.0, r.1, same r.0 ∙ ap make r.2 ∙ m.2)
 
 on_word_says : (word : List ℕ) (verb : OnVerb) → on_verb_in word ≡ Some verb → word ≡ on_word verb
 on_word_says word verb e =
@@ -86,14 +112,9 @@ on_says : (version : ℕ) (word : List ℕ) (verb : OnVerb) (tokens : List Token
 on_says version word verb (Word object ∷ []) meant w e =
     let p = passed (nat_le (on_since verb) version && is_name version object)
     (some (On verb object)) meant e in
-    let b = and_parts (nat_le (on_since verb) version) (is_name version object) p.0 in (
-      On verb object,
-      record {
-        spelled = starts word (on_word verb) _ w;
-        of = (leb-true (on_since verb) version b.0, b.1);
-        means = sym (some_is (On verb object) meant p.1);
-      },
-    )
+    let b = and_parts (nat_le (on_since verb) version) (is_name version object) p.0 in
+    told (On verb object) (On verb object) (starts word (on_word verb) _ w)
+    (leb-true (on_since verb) version b.0, b.1) refl (some_is (On verb object) meant p.1)
 on_says version word verb tokens meant w e = absurd cc
 
 lone_says_word : (tokens : List Token) (word : List ℕ) → lone_word tokens ≡ Some word
@@ -110,16 +131,11 @@ into_object_says version word verb reg_word object meant w e =
     (option_map (λ r. Into verb r object) (register_in reg_word)) meant e in
     let b = and_parts (nat_le (into_since verb) version) (is_name version object) p.0 in
     let m = mapped_some (λ (r : ℕ). Into verb r object) (register_in reg_word) meant p.1 in
-    let r = register_says reg_word m.0 m.1 in (
-      Into verb m.0 object,
-      record {
-        spelled =
-            starts word (into_word verb) _ w
-            ∙ ap (λ (v : List ℕ). Word (into_word verb) ∷ Word v ∷ Word object ∷ []) (sym r.1);
-        of = (leb-true (into_since verb) version b.0, r.0, b.1);
-        means = sym m.2;
-      },
-    )
+    let r = register_says reg_word m.0 m.1 in
+    told (Into verb m.0 object) (Into verb m.0 object)
+    (starts word (into_word verb) _ w
+    ∙ ap (λ (v : List ℕ). Word (into_word verb) ∷ Word v ∷ Word object ∷ []) (sym r.1))
+    (leb-true (into_since verb) version b.0, r.0, b.1) refl m.2
 
 into_says : (version : ℕ) (word : List ℕ) (verb : IntoVerb) (tokens : List Token)
     (meant : MeantForm) → word ≡ into_word verb → into_form version verb tokens ≡ Some meant
@@ -139,27 +155,17 @@ plain_says version word kind name meant w e =
     (some (Plain kind name)) meant e in
     let b = and_parts (is_plain kind && nat_le (kind_since kind) version) (is_name version name)
     p.0 in
-    let c = and_parts (is_plain kind) (nat_le (kind_since kind) version) b.0 in (
-      Plain kind name,
-      record {
-        spelled = starts word (kind_word kind) _ w;
-        of = (c.0, leb-true (kind_since kind) version c.1, b.1);
-        means = sym (some_is (Plain kind name) meant p.1);
-      },
-    )
+    let c = and_parts (is_plain kind) (nat_le (kind_since kind) version) b.0 in
+    told (Plain kind name) (Plain kind name) (starts word (kind_word kind) _ w)
+    (c.0, leb-true (kind_since kind) version c.1, b.1) refl (some_is (Plain kind name) meant p.1)
 
 lone_says : (version : ℕ) (word : List ℕ) (kind : NameKind) (name : List ℕ) (meant : MeantForm)
     → word ≡ kind_word kind → lone_form version kind name ≡ Some meant
     → HasCut version (Word word ∷ Word name ∷ []) meant
 lone_says version word kinds.Thread name meant w e =
-    let p = passed (is_name version name) (some (Thread name)) meant e in (
-      Thread name,
-      record {
-        spelled = starts word (codes "thread") _ w;
-        of = p.0;
-        means = sym (some_is (Thread name) meant p.1);
-      },
-    )
+    let p = passed (is_name version name) (some (Thread name)) meant e in
+    told (Thread name) (Thread name) (starts word (codes "thread") _ w) p.0 refl
+    (some_is (Thread name) meant p.1)
 lone_says version word kind name meant w e = plain_says version word kind name meant w e
 
 valued_says : (version : ℕ) (word : List ℕ) (kind : NameKind) (name signs : List ℕ)
@@ -172,17 +178,11 @@ valued_says version word kind name signs value meant w e =
     let b = and_parts (has_value kind && bytes_eq signs (codes "=")) (is_name version name) p.0 in
     let c = and_parts (has_value kind) (bytes_eq signs (codes "=")) b.0 in
     let m = mapped_some (Valued kind name) (value_parts kind value) meant p.1 in
-    let v = value_says kind value m.0 m.1 in (
-      Valued kind name value,
-      record {
-        spelled =
-            starts word (kind_word kind) _ w
-            ∙ ap (λ (s : List ℕ). Word (kind_word kind) ∷ Word name ∷ Symbol s ∷ value)
-            (same_bytes signs (codes "=") c.1);
-        of = (c.0, b.1, v.0);
-        means = sym (ap (Valued kind name) v.1 ∙ m.2);
-      },
-    )
+    let v = value_says kind value m.0 m.1 in
+    told (Valued kind name value) (Valued kind name value)
+    (starts word (kind_word kind) _ w
+    ∙ ap (λ (s : List ℕ). Word (kind_word kind) ∷ Word name ∷ Symbol s ∷ value)
+    (same_bytes signs (codes "=") c.1)) (c.0, b.1, v.0) refl (ap (Valued kind name) v.1 ∙ m.2)
 
 declared_says : (version : ℕ) (word : List ℕ) (kind : NameKind) (tokens : List Token)
     (meant : MeantForm) → word ≡ kind_word kind → declared_form version kind tokens ≡ Some meant
@@ -194,40 +194,26 @@ declared_says version word kind (Word name ∷ Symbol signs ∷ value) meant w e
 declared_says version word kind tokens meant w e = absurd cc
 
 write_says : (version : ℕ) (tokens : List Token) (meant : MeantForm)
-    → write_form exact version tokens ≡ Some meant
-    → HasCut version (Word (codes "write") ∷ tokens) meant
+    → write_form version tokens ≡ Some meant → HasCut version (Word (codes "write") ∷ tokens) meant
 write_says version (Word var ∷ value) meant e =
-    let p = passed (is_name version var) (option_map (Write var) (expression_in exact value)) meant
-    e in
-    let m = mapped_some (Write var) (expression_in exact value) meant p.1 in (
-      Write var value,
-      record {
-        spelled = refl;
-        of = p.0;
-        means =
-            (m.0, expression_is_spelled exact (λ d. refl) value m.0 m.1, sym m.2);
-      },
-    )
+    let p = passed (is_name version var) (option_map (Write var) (expression_in value)) meant e in
+    let t = made_says (Write var) (λ e. refl) value meant p.1 in
+    told (Write var value) (Write var t.0) refl p.0 (t.0, t.1, refl) t.2
 write_says version tokens meant e = absurd cc
 
 add_says : (version : ℕ) (tokens : List Token) (meant : MeantForm)
-    → add_form exact version tokens ≡ Some meant
-    → HasCut version (Word (codes "add") ∷ tokens) meant
+    → add_form version tokens ≡ Some meant → HasCut version (Word (codes "add") ∷ tokens) meant
 add_says version (Word reg_word ∷ Word var ∷ value) meant e =
     let p = passed (is_name version var)
-    (option_and_then (λ r. option_map (Add r var) (expression_in exact value))
+    (option_and_then (λ r. option_map (Add r var) (expression_in value))
     (register_in reg_word)) meant e in
-    let b = bind_some (λ (r : ℕ). option_map (Add r var) (expression_in exact value))
+    let b = bind_some (λ (r : ℕ). option_map (Add r var) (expression_in value))
     (register_in reg_word) meant p.1 in
-    let m = mapped_some (Add b.0 var) (expression_in exact value) meant b.2 in
-    let r = register_says reg_word b.0 b.1 in (
-      Add b.0 var value,
-      record {
-        spelled = ap (λ (v : List ℕ). Word (codes "add") ∷ Word v ∷ Word var ∷ value) (sym r.1);
-        of = (r.0, p.0);
-        means = (m.0, expression_is_spelled exact (λ d. refl) value m.0 m.1, sym m.2);
-      },
-    )
+    let t = made_says (Add b.0 var) (λ e. refl) value meant b.2 in
+    let r = register_says reg_word b.0 b.1 in
+    told (Add b.0 var value) (Add b.0 var t.0)
+    (ap (λ (v : List ℕ). Word (codes "add") ∷ Word v ∷ Word var ∷ value) (sym r.1)) (r.0, p.0)
+    (t.0, t.1, refl) t.2
 add_says version tokens meant e = absurd cc
 
 comma_says : (token : Token) → is_comma token ≡ true → token ≡ Symbol (codes ",")
@@ -247,34 +233,24 @@ comma_splits values place e =
 
 cas_pair_says : (version : ℕ) (reg_word var : List ℕ) (reg : ℕ) (old new values : List Token)
     (meant : MeantForm) → register_in reg_word ≡ Some reg → is_name version var ≡ true
-    → values ≡ old ++ Symbol (codes ",") ∷ new → cas_pair exact reg var old new ≡ Some meant
+    → values ≡ old ++ Symbol (codes ",") ∷ new → cas_pair reg var old new ≡ Some meant
     → HasCut version (Word (codes "cas") ∷ Word reg_word ∷ Word var ∷ values) meant
 cas_pair_says version reg_word var reg old new values meant f named split e =
-    let b = bind_some (λ (a : Expression). option_map (Cas reg var a) (expression_in exact new))
-    (expression_in exact old) meant e in
-    let m = mapped_some (Cas reg var b.0) (expression_in exact new) meant b.2 in
-    let r = register_says reg_word reg f in (
-      Cas reg var old new,
-      record {
-        spelled =
-            ap (λ (v : List ℕ). Word (codes "cas") ∷ Word v ∷ Word var ∷ values) (sym r.1)
-            ∙ ap (λ (ts : List Token). Word (codes "cas") ∷ Word (register_word reg) ∷ Word var
-            ∷ ts) split;
-        of = (r.0, named);
-        means = (
-          b.0,
-          m.0,
-          expression_is_spelled exact (λ d. refl) old b.0 b.1,
-          expression_is_spelled exact (λ d. refl) new m.0 m.1,
-          sym m.2,
-        );
-      },
-    )
+    let b = bind_some (λ (a : Expression). option_map (Cas reg var a)
+    (expression_in new)) (expression_in old) meant e in
+    let m = mapped_some (Cas reg var b.0) (expression_in new) meant b.2 in
+    let x = expression_is_spelled old b.0 b.1 in
+    let y = expression_is_spelled new m.0 m.1 in
+    let r = register_says reg_word reg f in
+    told (Cas reg var old new) (Cas reg var x.0 y.0)
+    (ap (λ (v : List ℕ). Word (codes "cas") ∷ Word v ∷ Word var ∷ values) (sym r.1)
+    ∙ ap (λ (ts : List Token). Word (codes "cas") ∷ Word (register_word reg) ∷ Word var ∷ ts) split)
+    (r.0, named) (x.0, y.0, x.1, y.1, refl) (rw (x.2, y.2) m.2)
 
 cas_parts_says : (version : ℕ) (reg_word var : List ℕ) (reg : ℕ) (found : Option ℕ)
     (values : List Token) (meant : MeantForm) → register_in reg_word ≡ Some reg
     → is_name version var ≡ true → position is_comma values ≡ found
-    → cas_parts exact reg var (parts_at found values) ≡ Some meant
+    → cas_parts reg var (parts_at found values) ≡ Some meant
     → HasCut version (Word (codes "cas") ∷ Word reg_word ∷ Word var ∷ values) meant
 cas_parts_says version reg_word var reg None values meant f named p e = absurd cc
 cas_parts_says version reg_word var reg (Some place) values meant f named p e =
@@ -282,88 +258,56 @@ cas_parts_says version reg_word var reg (Some place) values meant f named p e =
     meant f named (comma_splits values place p) e
 
 cas_says : (version : ℕ) (tokens : List Token) (meant : MeantForm)
-    → cas_form exact version tokens ≡ Some meant
-    → HasCut version (Word (codes "cas") ∷ tokens) meant
+    → cas_form version tokens ≡ Some meant → HasCut version (Word (codes "cas") ∷ tokens) meant
 cas_says version (Word reg_word ∷ Word var ∷ values) meant e =
-    let p = passed (is_name version var)
-    (option_and_then (λ r. cas_parts exact r var (parts_at (position is_comma values) values))
-    (register_in reg_word)) meant e in
-    let b = bind_some (λ (r : ℕ). cas_parts exact r var
+    let p = passed (is_name version var) (option_and_then (λ r. cas_parts r var
+    (parts_at (position is_comma values) values)) (register_in reg_word)) meant e in
+    let b = bind_some (λ (r : ℕ). cas_parts r var
     (parts_at (position is_comma values) values)) (register_in reg_word) meant p.1 in
     cas_parts_says version reg_word var b.0 (position is_comma values) values meant b.1 p.0 refl b.2
 cas_says version tokens meant e = absurd cc
 
 set_says : (version : ℕ) (tokens : List Token) (meant : MeantForm)
-    → set_form exact tokens ≡ Some meant → HasCut version (Word (codes "set") ∷ tokens) meant
+    → set_form tokens ≡ Some meant → HasCut version (Word (codes "set") ∷ tokens) meant
 set_says version (Word reg_word ∷ value) meant e =
-    let b = bind_some (λ (r : ℕ). option_map (Set r) (expression_in exact value))
+    let b = bind_some (λ (r : ℕ). option_map (Set r) (expression_in value))
     (register_in reg_word) meant e in
-    let m = mapped_some (Set b.0) (expression_in exact value) meant b.2 in
-    let r = register_says reg_word b.0 b.1 in (
-      Set b.0 value,
-      record {
-        spelled = ap (λ (v : List ℕ). Word (codes "set") ∷ Word v ∷ value) (sym r.1);
-        of = r.0;
-        means = (m.0, expression_is_spelled exact (λ d. refl) value m.0 m.1, sym m.2);
-      },
-    )
+    let t = made_says (Set b.0) (λ e. refl) value meant b.2 in
+    let r = register_says reg_word b.0 b.1 in
+    told (Set b.0 value) (Set b.0 t.0)
+    (ap (λ (v : List ℕ). Word (codes "set") ∷ Word v ∷ value) (sym r.1)) r.0 (t.0, t.1, refl) t.2
 set_says version tokens meant e = absurd cc
 
 assert_says : (version : ℕ) (tokens : List Token) (meant : MeantForm)
-    → option_map Assert (expression_in exact tokens) ≡ Some meant
+    → option_map Assert (expression_in tokens) ≡ Some meant
     → HasCut version (Word (codes "assert") ∷ tokens) meant
 assert_says version tokens meant e =
-    let m = mapped_some Assert (expression_in exact tokens) meant e in (
-      Assert tokens,
-      record {
-        spelled = refl;
-        of = tt;
-        means =
-            (m.0, expression_is_spelled exact (λ d. refl) tokens m.0 m.1, sym m.2);
-      },
-    )
+    let t = made_says Assert (λ e. refl) tokens meant e in
+    told (Assert tokens) (Assert t.0) refl tt (t.0, t.1, refl) t.2
 
 if_says : (version : ℕ) (tokens : List Token) (meant : MeantForm)
-    → option_map If (expression_in exact tokens) ≡ Some meant
+    → option_map If (expression_in tokens) ≡ Some meant
     → HasCut version (Word (codes "if") ∷ tokens) meant
 if_says version tokens meant e =
-    let m = mapped_some If (expression_in exact tokens) meant e in (
-      If tokens,
-      record {
-        spelled = refl;
-        of = tt;
-        means =
-            (m.0, expression_is_spelled exact (λ d. refl) tokens m.0 m.1, sym m.2);
-      },
-    )
+    let t = made_says If (λ e. refl) tokens meant e in
+    told (If tokens) (If t.0) refl tt (t.0, t.1, refl) t.2
 
 while_says : (version : ℕ) (tokens : List Token) (meant : MeantForm)
-    → option_map While (expression_in exact tokens) ≡ Some meant
+    → option_map While (expression_in tokens) ≡ Some meant
     → HasCut version (Word (codes "while") ∷ tokens) meant
 while_says version tokens meant e =
-    let m = mapped_some While (expression_in exact tokens) meant e in (
-      While tokens,
-      record {
-        spelled = refl;
-        of = tt;
-        means =
-            (m.0, expression_is_spelled exact (λ d. refl) tokens m.0 m.1, sym m.2);
-      },
-    )
+    let t = made_says While (λ e. refl) tokens meant e in
+    told (While tokens) (While t.0) refl tt (t.0, t.1, refl) t.2
 
 wait_mutex_says : (version : ℕ) (waiting mutex : List ℕ) (meant : MeantForm)
     → wait_mutex version waiting mutex ≡ Some meant
     → HasCut version (Word (codes "wait") ∷ Word waiting ∷ Word mutex ∷ []) meant
 wait_mutex_says version waiting mutex meant e =
     let p = passed (is_name version waiting && is_name version mutex) (some (Wait waiting mutex))
-    meant e in (
-      Wait waiting mutex,
-      record {
-        spelled = refl;
-        of = and_parts (is_name version waiting) (is_name version mutex) p.0;
-        means = sym (some_is (Wait waiting mutex) meant p.1);
-      },
-    )
+    meant e in
+    told (Wait waiting mutex) (Wait waiting mutex) refl
+    (and_parts (is_name version waiting) (is_name version mutex) p.0) refl
+    (some_is (Wait waiting mutex) meant p.1)
 
 wait_says : (version : ℕ) (tokens : List Token) (meant : MeantForm)
     → wait_form version tokens ≡ Some meant → HasCut version (Word (codes "wait") ∷ tokens) meant
@@ -376,19 +320,19 @@ wait_says version tokens meant e = absurd cc
 yield_says : (version : ℕ) (tokens : List Token) (meant : MeantForm)
     → bare_form Yield tokens ≡ Some meant → HasCut version (Word (codes "yield") ∷ tokens) meant
 yield_says version [] meant e =
-    (Yield, record { spelled = refl; of = tt; means = sym (some_is Yield meant e) })
+    told Yield Yield refl tt refl (some_is Yield meant e)
 yield_says version (token ∷ tokens) meant e = absurd cc
 
 end_says : (version : ℕ) (tokens : List Token) (meant : MeantForm)
     → bare_form End tokens ≡ Some meant → HasCut version (Word (codes "end") ∷ tokens) meant
 end_says version [] meant e =
-    (End, record { spelled = refl; of = tt; means = sym (some_is End meant e) })
+    told End End refl tt refl (some_is End meant e)
 end_says version (token ∷ tokens) meant e = absurd cc
 
 else_says : (version : ℕ) (tokens : List Token) (meant : MeantForm)
     → bare_form Else tokens ≡ Some meant → HasCut version (Word (codes "else") ∷ tokens) meant
 else_says version [] meant e =
-    (Else, record { spelled = refl; of = tt; means = sym (some_is Else meant e) })
+    told Else Else refl tt refl (some_is Else meant e)
 else_says version (token ∷ tokens) meant e = absurd cc
 
 -- ---- the word that a line begins with
@@ -415,7 +359,7 @@ quiet_says version word tokens meant e =
     (λ e. absurd cc))))
 
 other_says : (version : ℕ) (word : List ℕ) (tokens : List Token) (meant : MeantForm)
-    → other_form exact version word tokens ≡ Some meant → HasCut version (Word word ∷ tokens) meant
+    → other_form version word tokens ≡ Some meant → HasCut version (Word word ∷ tokens) meant
 other_says version word tokens meant e =
     one_form version word (codes "write") tokens meant _ _ e (write_says version tokens meant) (λ e.
     one_form version word (codes "add") tokens meant _ _ e (add_says version tokens meant) (λ e.
@@ -454,12 +398,24 @@ by_kind_says None version word tokens meant others f e there = there e
 by_kind_says (Some kind) version word tokens meant others f e there =
     declared_says version word kind tokens meant (kind_word_says word kind f) e
 
--- what tokens are read as is a form of theirs
+-- what tokens are read as is a form of theirs, with its numbers capped
 pub form_says : (version : ℕ) (tokens : List Token) (meant : MeantForm)
-    → form_in exact version tokens ≡ Some meant → HasCut version tokens meant
+    → form_in version tokens ≡ Some meant → HasCut version tokens meant
 form_says version (Word word ∷ tokens) meant e =
     by_on_says (on_verb_in word) version word tokens meant _ refl e (λ e.
     by_into_says (into_verb_in word) version word tokens meant _ refl e (λ e.
     by_kind_says (kind_in word) version word tokens meant _ refl e
     (λ e. other_says version word tokens meant e)))
 form_says version tokens meant e = absurd cc
+
+-- where its numbers are in range, it is the form itself
+pub in_range_says : (version : ℕ) (tokens : List Token) (meant : MeantForm)
+    → form_in version tokens ≡ Some meant → is_out_of_range tokens meant ≡ false
+    → (cut : TokenForm) × IsForm version tokens cut meant
+in_range_says version tokens meant e h =
+    let has = form_says version tokens meant e in
+    let range : is_out_of_range tokens has.sense ≡ false =
+    sym (range_blind tokens has.sense) ∙ ap (is_out_of_range tokens) has.kept ∙ h in
+    let same : has.sense ≡ meant =
+    sym (in_range_same version tokens has.cut has.sense has.form range) ∙ has.kept in
+    (has.cut, subst (IsForm version tokens has.cut) same has.form)

@@ -15,7 +15,7 @@ use Rattle.script_parse.specs.Part.{Part}
 use Rattle.script_parse.specs.Reading.{Finder, is_empty, so_far_in, form_fault, with_form}
 use Rattle.script_parse.specs.Reading.{tokens_taken}
 use Rattle.script_parse.specs.Saying.{form_in}
-use Rattle.script_parse.proofs.ExpressionWhole.{exact}
+use Rattle.script_parse.proofs.Capped.{in_range_same}
 use Rattle.script_parse.proofs.FormWhole.{form_read}
 use Rattle.script_parse.proofs.Standing.{Stands, depth_is}
 use Rattle.script_parse.proofs.Agreeing.{taken_stands, same_so_far, leaves_open_same}
@@ -83,20 +83,22 @@ module _ (part : Part) (find : Finder) (n : ℕ) (last : Bool) (lines : List (Li
   formed : (tokens : List Token) → tokens_in text ≡ tokens → IsForm part.version tokens says.0 meant
   formed tokens e = subst (λ (ts : List Token). IsForm part.version ts says.0 meant) e says.1
 
-  read_form : (tokens : List Token) → tokens_in text ≡ tokens
-      → form_in exact part.version tokens ≡ Some meant
-  read_form tokens e = form_read part.version tokens says.0 meant (formed tokens e)
-
-  none_some : (m : MeantForm) → None ≡ Some m → ⊥
-  none_some m e = absurd cc
-
   in_range : (tokens : List Token) → tokens_in text ≡ tokens
       → ranges.is_out_of_range tokens meant ≡ false
   in_range tokens here =
       subst (λ (ts : List Token). ranges.is_out_of_range ts meant ≡ false) here says.2
 
+  read_form : (tokens : List Token) → tokens_in text ≡ tokens
+      → form_in part.version tokens ≡ Some meant
+  read_form tokens e =
+      form_read part.version tokens says.0 meant (formed tokens e) ∙ ap (λ (m : MeantForm). Some m)
+      (in_range_same part.version tokens says.0 meant (formed tokens e) (in_range tokens e))
+
+  none_some : (m : MeantForm) → None ≡ Some m → ⊥
+  none_some m e = absurd cc
+
   pub said_taken : (tokens : Option (List Token)) → tokens_of text ≡ tokens
-      → tokens_taken exact part find n last tokens ≡ Ok (with_form part find n meant)
+      → tokens_taken part find n last tokens ≡ Ok (with_form part find n meant)
   said_taken None e =
       absurd (none_some meant (read_form [] (ap (λ (ts : Option (List Token)). unwrap_or ts []) e)))
   said_taken (Some []) e =

@@ -21,7 +21,6 @@ use Rattle.script_parse.specs.Part.{Part}
 use Rattle.script_parse.specs.Reading.{Finder, is_empty, unless, header_taken, first_part}
 use Rattle.script_parse.specs.Reading.{line_taken, some_part}
 use Rattle.script_parse.proofs.Choices.{some, passed, same_bytes, clash}
-use Rattle.script_parse.proofs.ExpressionWhole.{exact}
 use Rattle.script_parse.proofs.FirstKinds.{Tells, first_in, in_order, IsFirst}
 use Rattle.script_parse.proofs.Standing.{Lines, Stands, count_push, names_push, reverse_push}
 use Rattle.script_parse.proofs.LineFaults.{tells_end_any, tells_thread_any}
@@ -135,7 +134,7 @@ module _ (find : Finder) (place : Place) (q : AreQuiet (tokens_before place))
     (above : are_blank place.before ≡ true)
     (some_says : are_blank (place.before ++ place.line ∷ place.after) ≡ false) where
   abbrev pub top_step : Step
-  top_step = line_taken exact None find (length place.before + 1) (is_empty place.after) place.line
+  top_step = line_taken None find (length place.before + 1) (is_empty place.after) place.line
 
   no_form : (cut : TokenForm) (meant : MeantForm) → ¬ HasForm place cut meant
   no_form cut meant h = clash (sym above ∙ h.is_below.below)

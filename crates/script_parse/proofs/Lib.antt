@@ -2,6 +2,7 @@ pub mod Pieces
 pub mod Fresh
 pub mod Numbers
 pub mod Choices
+pub mod Capped
 pub mod Operators
 pub mod ExpressionWhole
 pub mod ExpressionSound
@@ -32,8 +33,6 @@ pub mod TextLines
 pub mod DeclaredForms
 pub mod SoundText
 pub mod Spelled
-pub mod Capped
-pub mod SameReading
 pub mod Runs
 pub mod Rows
 pub mod ExpressionRows

@@ -21,7 +21,7 @@ use Rattle.script_parse.specs.Saying.{form_in}
 use Rattle.script_parse.specs.Reading.{is_empty, so_far_in, bytes_fault, unless, some_part}
 use Rattle.script_parse.specs.Reading.{after_fault, line_taken}
 use Rattle.script_parse.proofs.Choices.{some, clash}
-use Rattle.script_parse.proofs.ExpressionWhole.{exact}
+use Rattle.script_parse.proofs.Capped.{capped_form, fault_blind}
 use Rattle.script_parse.proofs.FormWhole.{form_read}
 use Rattle.script_parse.proofs.FormSound.{form_says}
 use Rattle.script_parse.proofs.FirstKinds.{Tells, first_in, in_order, IsFirst, is_first}
@@ -230,50 +230,57 @@ module _ (part : Part) (place : Place) (s : Stands part (tokens_before place))
     (below : are_blank place.before ≡ false) where
   abbrev pub step : Step
   step =
-      line_taken exact (Some part) (found part place s) (length place.before + 1)
+      line_taken (Some part) (found part place s) (length place.before + 1)
       (is_empty place.after) place.line
 
   form_step : (token : Token) (tokens : List Token) (meant : MeantForm)
       → tokens_of place.line ≡ Some (token ∷ tokens)
-      → form_in exact part.version (token ∷ tokens) ≡ Some meant → IsFirst (fault_of step) place
+      → form_in part.version (token ∷ tokens) ≡ Some meant → IsFirst (fault_of step) place
   form_step token tokens meant e f =
       let here : tokens_in place.line ≡ token ∷ tokens = cut_tokens place.line (token ∷ tokens) e in
       let has = form_says part.version (token ∷ tokens) meant f in
-      let is_form : IsForm part.version (tokens_in place.line) has.0 meant =
-      subst (λ (ts : List Token). IsForm part.version ts has.0 meant) (sym here) has.1 in
+      let is_form : IsForm part.version (tokens_in place.line) has.cut has.sense =
+      subst (λ (ts : List Token). IsForm part.version ts has.cut has.sense) (sym here) has.form in
       let is_below : IsBelowHeader place = record {
         below = below;
         says = says_something place.line token tokens e;
       } in
-      let may : Bool = faults.may_stand (so_far_in part) meant in
+      let capped : form_in part.version (token ∷ tokens)
+      ≡ Some (capped_form has.sense) = f ∙ ap some (sym has.kept) in
+      let may : Bool = faults.may_stand (so_far_in part) has.sense in
       first_told place _ _ _ false false (not may) _ _ _ _ _ _ _ (record {
         utf = tells_utf place;
         long = tells_long place;
         lines = tells_lines place;
         header = never (no_header place below);
         token = never (λ n. some_none (sym n ∙ e));
-        statement = tells_statement part place s is_below has.0 meant is_form;
-        unknown = tells_unknown part place s is_below has.0 meant is_form;
-        twice = tells_twice part place s is_below has.0 meant is_form;
-        range = subst (λ (ts : List Token). Tells (may && ranges.is_out_of_range ts meant)
+        statement = tells_statement part place s is_below has.cut has.sense is_form;
+        unknown = tells_unknown part place s is_below has.cut has.sense is_form;
+        twice = tells_twice part place s is_below has.cut has.sense is_form;
+        range = subst (λ (ts : List Token). Tells (may && ranges.is_out_of_range ts has.sense)
             (faults.NumberRange place)) here
-            (tells_range part place s is_below has.0 meant is_form);
+            (tells_range part place s is_below has.cut has.sense is_form);
         no_end = tells_end part place s (token ∷ tokens) here;
-        stray = tells_stray part place s is_below has.0 meant is_form;
+        stray = tells_stray part place s is_below has.cut has.sense is_form;
         no_thread = tells_thread part place s (token ∷ tokens) here;
-        many = tells_many part place s is_below has.0 meant is_form;
-      }) (fault_of step) (rw (bytes_at place, e, f) (form_chain _ _ _ may _ _ _ _ _ _ _ _))
+        many = tells_many part place s is_below has.cut has.sense is_form;
+      }) (fault_of step) (rw (
+        bytes_at place,
+        e,
+        capped,
+        fault_blind part (found part place s) (is_empty place.after) (token ∷ tokens) has.sense,
+      ) (form_chain _ _ _ may _ _ _ _ _ _ _ _))
 
   -- a line of no form
   bad_step : (token : Token) (tokens : List Token) → tokens_of place.line ≡ Some (token ∷ tokens)
-      → form_in exact part.version (token ∷ tokens) ≡ None → IsFirst (fault_of step) place
+      → form_in part.version (token ∷ tokens) ≡ None → IsFirst (fault_of step) place
   bad_step token tokens e f =
       let here : tokens_in place.line ≡ token ∷ tokens = cut_tokens place.line (token ∷ tokens) e in
       let none : (cut : TokenForm) (meant : MeantForm) → ¬ HasForm place cut meant = λ cut meant h.
       let version_is : IsForm part.version (tokens_in place.line) cut meant =
       subst (λ (v : ℕ). IsForm v (tokens_in place.line) cut meant)
       (ap version_of (sym (append-nil (tokens_before place))) ∙ s.version []) h.form in
-      some_none (sym f ∙ ap (form_in exact part.version) (sym here)
+      some_none (sym f ∙ ap (form_in part.version) (sym here)
       ∙ form_read part.version (tokens_in place.line) cut meant version_is) in
       let is_below : IsBelowHeader place = record {
         below = below;
@@ -317,7 +324,7 @@ module _ (part : Part) (place : Place) (s : Stands part (tokens_before place))
     where
       by_form : (token : Token) (tokens : List Token) (found_form : Option MeantForm)
           → tokens_of place.line ≡ Some (token ∷ tokens)
-          → form_in exact part.version (token ∷ tokens) ≡ found_form → IsFirst (fault_of step) place
+          → form_in part.version (token ∷ tokens) ≡ found_form → IsFirst (fault_of step) place
       by_form token tokens None e f = bad_step token tokens e f
       by_form token tokens (Some meant) e f = form_step token tokens meant e f
 
@@ -326,4 +333,4 @@ module _ (part : Part) (place : Place) (s : Stands part (tokens_before place))
       by_tokens None e = uncut_step e
       by_tokens (Some []) e = blank_step e
       by_tokens (Some (token ∷ tokens)) e =
-          by_form token tokens (form_in exact part.version (token ∷ tokens)) e refl
+          by_form token tokens (form_in part.version (token ∷ tokens)) e refl

@@ -10,7 +10,6 @@ use Rattle.script_tree.specs.Grammar.{Line, AreLines, IsLineText}
 use Rattle.script_parse.specs.Part.{Part}
 use Rattle.script_parse.specs.Reading.{Finder, is_empty, with_form, blank_fault, line_taken}
 use Rattle.script_parse.specs.Reading.{script_from, script_of}
-use Rattle.script_parse.proofs.ExpressionWhole.{exact}
 use Rattle.script_parse.proofs.Standing.{Stands, blank_stands}
 use Rattle.script_parse.proofs.Runs.{Runs, some_there}
 use Rattle.script_parse.proofs.FreeLines.{IsWhole, WholeAfter}
@@ -35,7 +34,7 @@ no_blank_fault part true whole = rw ((whole refl).closed, (whole refl).threads) 
 -- a blank line is read
 blank_step : (part : Part) (find : Finder) (n : ℕ) (last : Bool) (text : List ℕ)
     → is_blank_line text ≡ true → WholeAfter last part → IsLineText text → n ≤ 4096
-    → line_taken exact (Some part) find n last text ≡ Ok (Some part)
+    → line_taken (Some part) find n last text ≡ Ok (Some part)
 blank_step part find n last text b whole sound few =
     rw (plain_line n text sound few, blank_tokens text b, no_blank_fault part last whole) refl
 
@@ -52,7 +51,7 @@ pub lines_read : (find : Finder) (texts : List (List ℕ)) (n : ℕ) (part last 
     (lines : List Line) (before : List (List Token)) → Stands part before
     → AreLines part.version n texts lines → Runs find part lines last → IsWhole last
     → All IsLineText texts → n + length texts ≤ 4097
-    → script_from exact find (Some part) n texts ≡ Ok (script_of last)
+    → script_from find (Some part) n texts ≡ Ok (script_of last)
 lines_read find [] n part last lines before s a r whole sound few =
     ap (λ (p : Part). Ok (script_of p)) (subst (λ (ls : List Line). Runs find part ls last) a r)
 lines_read find (text ∷ texts) n part last lines before s (inl a) r whole sound few =

@@ -9,7 +9,6 @@ use Rattle.script_tree.specs.declared.fault.ScriptFault.TheVariants as fault
 use Rattle.script_tree.specs.Grammar.{Spells}
 use Rattle.script_tree.specs.Faults.{IsFault}
 use Rattle.script_parse.specs.Reading.{read_as_script}
-use Rattle.script_parse.proofs.ExpressionWhole.{exact}
 use Rattle.script_parse.proofs.FaultLaws.{fault_found}
 use Rattle.script_parse.proofs.Spelled.{read_is_spelled}
 
@@ -55,29 +54,28 @@ lost_update = record {
       ∷ [];
 }
 
-lost_update_read : read_as_script exact lost_update_text ≡ Ok lost_update
+lost_update_read : read_as_script lost_update_text ≡ Ok lost_update
 unfolding is_utf8 chars encode
 lost_update_read = refl
 
 pub lost_update_spelled : Spells lost_update_text lost_update
 lost_update_spelled = read_is_spelled lost_update_text lost_update lost_update_read
 
-not_utf8_read : read_as_script exact (codes "script 1\n" ++ 128 ∷ []) ≡ Err (2, fault.NotUtf8)
+not_utf8_read : read_as_script (codes "script 1\n" ++ 128 ∷ []) ≡ Err (2, fault.NotUtf8)
 unfolding is_utf8 chars encode
 not_utf8_read = refl
 
 pub not_utf8 : IsFault (codes "script 1\n" ++ 128 ∷ []) 2 fault.NotUtf8
 not_utf8 = fault_found (codes "script 1\n" ++ 128 ∷ []) 2 fault.NotUtf8 not_utf8_read
 
-bad_header_read : read_as_script exact (codes "script 4\nthread A\nend\n")
-    ≡ Err (1, fault.BadHeader)
+bad_header_read : read_as_script (codes "script 4\nthread A\nend\n") ≡ Err (1, fault.BadHeader)
 unfolding is_utf8 chars encode
 bad_header_read = refl
 
 pub bad_header : IsFault (codes "script 4\nthread A\nend\n") 1 fault.BadHeader
 bad_header = fault_found (codes "script 4\nthread A\nend\n") 1 fault.BadHeader bad_header_read
 
-bad_token_read : read_as_script exact (codes "script 1\nthread A\nset r0 1 ; 2\nend\n")
+bad_token_read : read_as_script (codes "script 1\nthread A\nset r0 1 ; 2\nend\n")
     ≡ Err (3, fault.BadToken)
 unfolding is_utf8 chars encode
 bad_token_read = refl
@@ -86,7 +84,7 @@ pub bad_token : IsFault (codes "script 1\nthread A\nset r0 1 ; 2\nend\n") 3 faul
 bad_token =
     fault_found (codes "script 1\nthread A\nset r0 1 ; 2\nend\n") 3 fault.BadToken bad_token_read
 
-bad_statement_read : read_as_script exact (codes "script 1\nthread A\nset r0\nend\n")
+bad_statement_read : read_as_script (codes "script 1\nthread A\nset r0\nend\n")
     ≡ Err (3, fault.BadStatement)
 unfolding is_utf8 chars encode
 bad_statement_read = refl
@@ -95,7 +93,7 @@ pub bad_statement : IsFault (codes "script 1\nthread A\nset r0\nend\n") 3 fault.
 bad_statement =
     fault_found (codes "script 1\nthread A\nset r0\nend\n") 3 fault.BadStatement bad_statement_read
 
-unknown_name_read : read_as_script exact (codes "script 1\nthread A\nread r0 x\nend\n")
+unknown_name_read : read_as_script (codes "script 1\nthread A\nread r0 x\nend\n")
     ≡ Err (3, fault.UnknownName)
 unfolding is_utf8 chars encode
 unknown_name_read = refl
@@ -104,7 +102,7 @@ pub unknown_name : IsFault (codes "script 1\nthread A\nread r0 x\nend\n") 3 faul
 unknown_name =
     fault_found (codes "script 1\nthread A\nread r0 x\nend\n") 3 fault.UnknownName unknown_name_read
 
-twice_named_read : read_as_script exact (codes "script 1\nvar A = 0\nthread A\nend\n")
+twice_named_read : read_as_script (codes "script 1\nvar A = 0\nthread A\nend\n")
     ≡ Err (3, fault.TwiceNamed)
 unfolding is_utf8 chars encode
 twice_named_read = refl
@@ -113,7 +111,7 @@ pub twice_named : IsFault (codes "script 1\nvar A = 0\nthread A\nend\n") 3 fault
 twice_named =
     fault_found (codes "script 1\nvar A = 0\nthread A\nend\n") 3 fault.TwiceNamed twice_named_read
 
-number_range_read : read_as_script exact
+number_range_read : read_as_script
     (codes "script 1\nvar x = 9223372036854775808\nthread A\nend\n") ≡ Err (2, fault.NumberRange)
 unfolding is_utf8 chars encode
 number_range_read = refl
@@ -124,22 +122,21 @@ number_range =
     fault_found (codes "script 1\nvar x = 9223372036854775808\nthread A\nend\n") 2 fault.NumberRange
     number_range_read
 
-no_end_read : read_as_script exact (codes "script 1\nthread A\nyield\n") ≡ Err (3, fault.NoEnd)
+no_end_read : read_as_script (codes "script 1\nthread A\nyield\n") ≡ Err (3, fault.NoEnd)
 unfolding is_utf8 chars encode
 no_end_read = refl
 
 pub no_end : IsFault (codes "script 1\nthread A\nyield\n") 3 fault.NoEnd
 no_end = fault_found (codes "script 1\nthread A\nyield\n") 3 fault.NoEnd no_end_read
 
-stray_end_read : read_as_script exact (codes "script 1\nthread A\nend\nend\n")
-    ≡ Err (4, fault.StrayEnd)
+stray_end_read : read_as_script (codes "script 1\nthread A\nend\nend\n") ≡ Err (4, fault.StrayEnd)
 unfolding is_utf8 chars encode
 stray_end_read = refl
 
 pub stray_end : IsFault (codes "script 1\nthread A\nend\nend\n") 4 fault.StrayEnd
 stray_end = fault_found (codes "script 1\nthread A\nend\nend\n") 4 fault.StrayEnd stray_end_read
 
-no_thread_read : read_as_script exact (codes "script 1\nvar x = 0\n") ≡ Err (2, fault.NoThread)
+no_thread_read : read_as_script (codes "script 1\nvar x = 0\n") ≡ Err (2, fault.NoThread)
 unfolding is_utf8 chars encode
 no_thread_read = refl
 
@@ -151,7 +148,7 @@ line_too_long_text =
     codes
     "script 1\n#xxxxxxxxxxxxxxxxxxxxxxxxxxxxxxxxxxxxxxxxxxxxxxxxxxxxxxxxxxxxxxxxxxxxxxxxxxxxxxxxxxxxxxxxxxxxxxxxxxxxxxxxxxxxxxxxxxxxxxxxxxxxxxxxxxxxxxxxxxxxxxxxxxxxxxxxxxxxxxxxxxxxxxxxxxxxxxxxxxxxxxxxxxxxxxxxxxxxxxxxxxxxxxxxxxxxxxxxxxxxxxxxxxxxxxxxxxxxxxxxxxxxxxxxxxxxxxxx\nthread A\nend\n"
 
-line_too_long_read : read_as_script exact line_too_long_text ≡ Err (2, fault.LineTooLong)
+line_too_long_read : read_as_script line_too_long_text ≡ Err (2, fault.LineTooLong)
 unfolding is_utf8 chars encode
 line_too_long_read = refl
 
@@ -163,7 +160,7 @@ too_many_text =
     codes
     "script 1\nthread A\nend\nthread B\nend\nthread C\nend\nthread D\nend\nthread E\nend\nthread F\nend\nthread G\nend\nthread H\nend\nthread I\nend\nthread J\nend\nthread K\nend\nthread L\nend\nthread M\nend\nthread N\nend\nthread O\nend\nthread P\nend\nthread Q\nend\n"
 
-too_many_read : read_as_script exact too_many_text ≡ Err (34, fault.TooMany)
+too_many_read : read_as_script too_many_text ≡ Err (34, fault.TooMany)
 unfolding is_utf8 chars encode
 too_many_read = refl
 
@@ -174,7 +171,7 @@ too_many = fault_found too_many_text 34 fault.TooMany too_many_read
 abbrev too_many_lines_text : List ℕ
 too_many_lines_text = replicate 4096 10 ++ codes "script 1\n"
 
-too_many_lines_read : read_as_script exact too_many_lines_text ≡ Err (4097, fault.TooManyLines)
+too_many_lines_read : read_as_script too_many_lines_text ≡ Err (4097, fault.TooManyLines)
 unfolding is_utf8 chars encode
 too_many_lines_read = refl
 

@@ -8,7 +8,6 @@ use Rattle.script_tree.specs.Lines.{tokens_in, version_of}
 use Rattle.script_tree.specs.Grammar.{Says, IsLineText}
 use Rattle.script_parse.specs.Part.{Part}
 use Rattle.script_parse.specs.Reading.{Finder, with_form, line_taken, bytes_fault}
-use Rattle.script_parse.proofs.ExpressionWhole.{exact}
 use Rattle.script_parse.proofs.Standing.{Stands}
 use Rattle.script_parse.proofs.Agreeing.{taken_stands}
 use Rattle.script_parse.proofs.Runs.{IsFree}
@@ -22,8 +21,7 @@ plain_line n text sound few =
 pub form_step : (part : Part) (find : Finder) (n : ℕ) (last : Bool) (lines : List (List Token))
     → Stands part lines → (text : List ℕ) (meant : MeantForm) → Says part.version text meant
     → IsFree part find meant → WholeAfter last (with_form part find n meant) → IsLineText text
-    → n ≤ 4096
-    → line_taken exact (Some part) find n last text ≡ Ok (Some (with_form part find n meant))
+    → n ≤ 4096 → line_taken (Some part) find n last text ≡ Ok (Some (with_form part find n meant))
 form_step part find n last lines s text meant says free whole sound few =
     rw (
       plain_line n text sound few,

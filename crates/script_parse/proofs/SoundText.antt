@@ -28,8 +28,7 @@ use Rattle.script_parse.specs.Reading.{form_fault, with_form, bytes_fault, unles
 use Rattle.script_parse.specs.Reading.{blank_fault, header_taken, part_after_header, first_part}
 use Rattle.script_parse.specs.Reading.{line_taken, tokens_taken, form_taken}
 use Rattle.script_parse.proofs.Choices.{some, some_is, passed}
-use Rattle.script_parse.proofs.ExpressionWhole.{exact}
-use Rattle.script_parse.proofs.FormSound.{form_says}
+use Rattle.script_parse.proofs.FormSound.{in_range_says}
 use Rattle.script_parse.proofs.LineSteps.{Step, cut_tokens}
 use Rattle.script_parse.proofs.TextFaults.{ok_is, err_ok, unless_ok, wrapped_ok, behind_tokens}
 use Rattle.script_parse.proofs.TextLines.{blank_more, says_more}
@@ -172,15 +171,15 @@ blank_reads threads part before line r p e =
 form_reads : (threads : List (List ℕ)) (part : Part) (before : List (List ℕ)) (line : List ℕ)
     (tokens : List Token) (meant : MeantForm) (last : Bool) → Reads threads part before
     → IsPlain (length before + 1) line → tokens_of line ≡ Some tokens
-    → form_in exact part.version tokens ≡ Some meant
+    → form_in part.version tokens ≡ Some meant
     → form_fault part (finder threads) last tokens meant ≡ None
     → Reads threads (with_form part (finder threads) (length before + 1) meant)
     (before ++ line ∷ [])
 form_reads threads part before line tokens meant last r p e f g =
     let longer : length (before ++ line ∷ []) ≡ length before + 1 = length_push before line in
     let next : Part = with_form part (finder threads) (length before + 1) meant in
-    let has = form_says part.version tokens meant f in
     let no_fault = no_fault_parts part (finder threads) last tokens meant g in
+    let has = in_range_says part.version tokens meant f no_fault.in_range in
     let here : tokens_in line ≡ tokens = cut_tokens line tokens e in
     let number : length before + 1 ≡ length r.above + 2 + length r.below =
     omega (arith, ap length r.split, length-append r.above (r.header ∷ r.below)) in
@@ -232,7 +231,7 @@ form_reads threads part before line tokens meant last r p e f g =
 below_reads : (threads : List (List ℕ)) (part : Part) (last : Bool) (before : List (List ℕ))
     (line : List ℕ) (next : Option Part) (found : Option (List Token)) → Reads threads part before
     → IsPlain (length before + 1) line → tokens_of line ≡ found
-    → some_part (tokens_taken exact part (finder threads) (length before + 1) last found) ≡ Ok next
+    → some_part (tokens_taken part (finder threads) (length before + 1) last found) ≡ Ok next
     → ReadsBefore threads next (before ++ line ∷ [])
 below_reads threads part last before line next None r p e w = err_ok w
 below_reads threads part last before line next (Some []) r p e w =
@@ -240,9 +239,9 @@ below_reads threads part last before line next (Some []) r p e w =
     subst (λ (x : Option Part). ReadsBefore threads x (before ++ line ∷ [])) ok.1
     (blank_reads threads part before line r p e)
 below_reads threads part last before line next (Some (token ∷ tokens)) r p e w =
-    by_form (form_in exact part.version (token ∷ tokens)) refl w
+    by_form (form_in part.version (token ∷ tokens)) refl w
   where
-    by_form : (found : Option MeantForm) → form_in exact part.version (token ∷ tokens) ≡ found
+    by_form : (found : Option MeantForm) → form_in part.version (token ∷ tokens) ≡ found
         → some_part (form_taken part (finder threads) (length before + 1) last (token ∷ tokens)
         found) ≡ Ok next → ReadsBefore threads next (before ++ line ∷ [])
     by_form None f w = err_ok w
@@ -373,7 +372,7 @@ above_reads threads last before line next (Some (token ∷ tokens)) r p e w =
 -- one more line is read
 pub line_reads : (threads : List (List ℕ)) (state : Option Part) (last : Bool)
     (before : List (List ℕ)) (line : List ℕ) (next : Option Part) → ReadsBefore threads state before
-    → line_taken exact state (finder threads) (length before + 1) last line ≡ Ok next
+    → line_taken state (finder threads) (length before + 1) last line ≡ Ok next
     → ReadsBefore threads next (before ++ line ∷ [])
 line_reads threads None last before line next r w =
     above_reads threads last before line next (tokens_of line) r

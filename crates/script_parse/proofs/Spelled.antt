@@ -26,7 +26,6 @@ use Rattle.script_tree.specs.Grammar.{AreLines, Spells, all_thread_lines}
 use Rattle.script_parse.specs.Part.{Open, Part}
 use Rattle.script_parse.specs.Reading.{is_empty, line_taken, then_read, script_from, read_as_script}
 use Rattle.script_parse.specs.Reading.{script_of, blank_text_fault}
-use Rattle.script_parse.proofs.ExpressionWhole.{exact}
 use Rattle.script_parse.proofs.Standing.{Lines, Stands, depth_is}
 use Rattle.script_parse.proofs.Agreeing.{leaves_open_same, few_ended, lacks_thread_same}
 use Rattle.script_parse.proofs.LineSteps.{Step}
@@ -48,8 +47,7 @@ record IsReached (lines : List (List ℕ)) (script : ScriptText) : Type 0 where
 reached : (rest lines before : List (List ℕ)) (state : Option Part) (n : ℕ) (script : ScriptText)
     → n ≡ length before + 1 → lines ≡ before ++ rest
     → ReadsBefore (threads_begun lines) state before → StandsBefore state before
-    → script_from exact (finder (threads_begun lines)) state n rest ≡ Ok script
-    → IsReached lines script
+    → script_from (finder (threads_begun lines)) state n rest ≡ Ok script → IsReached lines script
 reached [] lines before None n script count e r s f = err_ok f
 reached [] lines before (Some part) n script count e r s f =
     let same : before ≡ lines = sym (append-nil before) ∙ sym e in
@@ -60,21 +58,21 @@ reached [] lines before (Some part) n script count e r s f =
       stands = subst (λ (ls : List (List ℕ)). Stands part (map tokens_in ls)) same s.1;
     }
 reached (line ∷ rest) lines before state n script count e r s f =
-    by_step (line_taken exact state (finder (threads_begun lines)) n (is_empty rest) line) refl f
+    by_step (line_taken state (finder (threads_begun lines)) n (is_empty rest) line) refl f
     (λ next t g. reached rest lines (before ++ line ∷ []) next (n + 1) script
     (omega (arith, count, length_push before line))
     (e ∙ sym (append_assoc before (line ∷ []) rest))
     (line_reads (threads_begun lines) state (is_empty rest) before line next r
-    (subst (λ (m : ℕ). line_taken exact state (finder (threads_begun lines)) m (is_empty rest)
+    (subst (λ (m : ℕ). line_taken state (finder (threads_begun lines)) m (is_empty rest)
     line ≡ Ok next) count t))
     (line_next state (finder (threads_begun lines)) n (is_empty rest) before line next s t) g)
   where
-    by_step : (result : Step) → line_taken exact state (finder (threads_begun lines)) n
+    by_step : (result : Step) → line_taken state (finder (threads_begun lines)) n
         (is_empty rest) line ≡ result → then_read n result
-        (λ next. script_from exact (finder (threads_begun lines)) next (n + 1) rest) ≡ Ok script
-        → ((next : Option Part) → line_taken exact state (finder (threads_begun lines)) n
+        (λ next. script_from (finder (threads_begun lines)) next (n + 1) rest) ≡ Ok script
+        → ((next : Option Part) → line_taken state (finder (threads_begun lines)) n
         (is_empty rest) line ≡ Ok next
-        → script_from exact (finder (threads_begun lines)) next (n + 1) rest ≡ Ok script
+        → script_from (finder (threads_begun lines)) next (n + 1) rest ≡ Ok script
         → IsReached lines script) → IsReached lines script
     by_step (Err kind) t g go = err_ok g
     by_step (Ok next) t g go = go next t g
@@ -262,13 +260,13 @@ spelled_part bytes part small r s e =
 
 spelled_lines : (bytes : List ℕ) (script : ScriptText) → length bytes ≤ 1048576
     → are_blank (lines_of bytes) ≡ false
-    → script_from exact (finder (threads_begun (lines_of bytes))) None 1 (lines_of bytes)
+    → script_from (finder (threads_begun (lines_of bytes))) None 1 (lines_of bytes)
     ≡ Ok script → Spells bytes script
 spelled_lines bytes script small says e =
     let lines : List (List ℕ) = lines_of bytes in
     let r = reached (lines_of bytes) (lines_of bytes) [] None 1 script refl refl
     (record { blank = refl; promised = refl; sound = All-nil _ }) (refl, quiet_none) e in
-    let tells : TellsFault (script_from exact (finder_of (lines_of bytes)) None 1 (lines_of bytes))
+    let tells : TellsFault (script_from (finder_of (lines_of bytes)) None 1 (lines_of bytes))
     (lines_of bytes) = all_tell (lines_of bytes) (lines_of bytes) [] None 1 refl refl says
     (refl, quiet_none) (none_at_first (lines_of bytes)) in
     let none : TellsFault (Ok (script_of r.part)) (lines_of bytes) =
@@ -286,12 +284,12 @@ not_err e = absurd cc
 
 -- a text that is read as a script spells it
 pub read_is_spelled : (bytes : List ℕ) (script : ScriptText)
-    → read_as_script exact bytes ≡ Ok script → Spells bytes script
+    → read_as_script bytes ≡ Ok script → Spells bytes script
 read_is_spelled bytes script e = by_size (nat_lt 1048576 (length bytes)) refl e
   where
     by_blank : (b : Bool) → are_blank (lines_of bytes) ≡ b → length bytes ≤ 1048576
         → cond b (Err (1, blank_text_fault (lines_of bytes)))
-        (script_from exact (finder (threads_begun (lines_of bytes))) None 1 (lines_of bytes))
+        (script_from (finder (threads_begun (lines_of bytes))) None 1 (lines_of bytes))
         ≡ Ok script → Spells bytes script
     by_blank true h small f = not_err f
     by_blank false h small f = spelled_lines bytes script small h f
@@ -299,7 +297,7 @@ read_is_spelled bytes script e = by_size (nat_lt 1048576 (length bytes)) refl e
     by_size : (b : Bool) → nat_lt 1048576 (length bytes) ≡ b
         → cond b (Err (1, fault.TooMany))
         (cond (are_blank (lines_of bytes)) (Err (1, blank_text_fault (lines_of bytes)))
-        (script_from exact (finder (threads_begun (lines_of bytes))) None 1 (lines_of bytes)))
+        (script_from (finder (threads_begun (lines_of bytes))) None 1 (lines_of bytes)))
         ≡ Ok script → Spells bytes script
     by_size true h f = not_err f
     by_size false h f =

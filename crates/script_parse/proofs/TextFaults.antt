@@ -17,8 +17,7 @@ use Rattle.script_parse.specs.Reading.{Finder, is_empty, form_fault, with_form, 
 use Rattle.script_parse.specs.Reading.{some_part, after_fault, blank_fault, header_taken}
 use Rattle.script_parse.specs.Reading.{part_after_header, first_part, line_taken, tokens_taken}
 use Rattle.script_parse.specs.Reading.{form_taken, then_read, script_from}
-use Rattle.script_parse.proofs.ExpressionWhole.{exact}
-use Rattle.script_parse.proofs.FormSound.{form_says}
+use Rattle.script_parse.proofs.FormSound.{in_range_says}
 use Rattle.script_parse.proofs.FirstKinds.{IsFirstKind, IsFirst}
 use Rattle.script_parse.proofs.Standing.{Stands, blank_stands}
 use Rattle.script_parse.proofs.Agreeing.{taken_stands}
@@ -76,16 +75,17 @@ blank_next part find n last before line next s e r =
 form_next : (part : Part) (find : Finder) (n : ℕ) (last : Bool) (before : List (List ℕ))
     (line : List ℕ) (next : Option Part) (tokens : List Token) (found : Option MeantForm)
     → StandsBefore (Some part) before → tokens_of line ≡ Some tokens
-    → form_in exact part.version tokens ≡ found
+    → form_in part.version tokens ≡ found
     → some_part (form_taken part find n last tokens found) ≡ Ok next
     → StandsBefore next (before ++ line ∷ [])
 form_next part find n last before line next tokens None s e f r = err_ok r
 form_next part find n last before line next tokens (Some meant) s e f r =
     let w = wrapped_ok (form_fault part find last tokens meant)
     (with_form part find n meant) next r in
-    let has = form_says part.version tokens meant f in
+    let no_fault = no_fault_parts part find last tokens meant w.0 in
+    let has = in_range_says part.version tokens meant f no_fault.in_range in
     let stands = taken_stands part.version part find n (map tokens_in before) s.1 has.0 meant
-    has.1.means has.1.of (no_fault_parts part find last tokens meant w.0).closes in
+    has.1.means has.1.of no_fault.closes in
     let behind : map tokens_in (before ++ line ∷ [])
     ≡ map tokens_in before ++ tokens_of_form has.0 ∷ [] =
     behind_tokens before line tokens e
@@ -99,14 +99,14 @@ form_next part find n last before line next tokens (Some meant) s e f r =
 below_next : (part : Part) (find : Finder) (n : ℕ) (last : Bool) (before : List (List ℕ))
     (line : List ℕ) (next : Option Part) (found : Option (List Token))
     → StandsBefore (Some part) before → tokens_of line ≡ found
-    → some_part (tokens_taken exact part find n last found) ≡ Ok next
+    → some_part (tokens_taken part find n last found) ≡ Ok next
     → StandsBefore next (before ++ line ∷ [])
 below_next part find n last before line next None s e r = err_ok r
 below_next part find n last before line next (Some []) s e r =
     blank_next part find n last before line next s e r
 below_next part find n last before line next (Some (token ∷ tokens)) s e r =
     form_next part find n last before line next (token ∷ tokens)
-    (form_in exact part.version (token ∷ tokens)) s e refl r
+    (form_in part.version (token ∷ tokens)) s e refl r
 
 begun_next : (before : List (List ℕ)) (line : List ℕ) (last : Bool) (next : Option Part)
     (token : Token) (tokens : List Token) (version : Option ℕ) → StandsBefore None before
@@ -138,7 +138,7 @@ above_next before line last next (Some (token ∷ tokens)) s e r =
 
 pub line_next : (state : Option Part) (find : Finder) (n : ℕ) (last : Bool) (before : List (List ℕ))
     (line : List ℕ) (next : Option Part) → StandsBefore state before
-    → line_taken exact state find n last line ≡ Ok next → StandsBefore next (before ++ line ∷ [])
+    → line_taken state find n last line ≡ Ok next → StandsBefore next (before ++ line ∷ [])
 line_next None find n last before line next s r =
     above_next before line last next (tokens_of line) s refl
     (unless_ok (bytes_fault n line) _ next r)
@@ -156,7 +156,7 @@ at_place before line after = record { before = before; line = line; after = afte
 
 line_first : (state : Option Part) (before : List (List ℕ)) (line : List ℕ) (after : List (List ℕ))
     → StandsBefore state before → are_blank (before ++ line ∷ after) ≡ false
-    → IsFirst (fault_of (line_taken exact state (finder_of (before ++ line ∷ after))
+    → IsFirst (fault_of (line_taken state (finder_of (before ++ line ∷ after))
     (length before + 1) (is_empty after) line)) (at_place before line after)
 line_first None before line after s says =
     above_step (finder_of (before ++ line ∷ after)) (at_place before line after) s.1 s.0 says
@@ -252,7 +252,7 @@ step_tells lines before rest line (Ok next) more e none first on =
 pub all_tell : (rest : List (List ℕ)) (lines before : List (List ℕ)) (state : Option Part) (n : ℕ)
     → n ≡ length before + 1 → lines ≡ before ++ rest → are_blank lines ≡ false
     → StandsBefore state before → NoneBefore before rest
-    → TellsFault (script_from exact (finder_of lines) state n rest) lines
+    → TellsFault (script_from (finder_of lines) state n rest) lines
 all_tell [] lines before None n count e says s none =
     clash (sym (subst (λ (ls : List (List ℕ)). are_blank ls ≡ true) (sym (e ∙ append-nil before))
     s.0) ∙ says)
@@ -261,22 +261,20 @@ all_tell [] lines before (Some part) n count e says s none =
     kind (subst (λ (b : List (List ℕ)). IsFaulty kind (at_place front line b))
     (sym (append-nil back)) f)
 all_tell (line ∷ rest) lines before state n count e says s none =
-    let first : IsFirst (fault_of (line_taken exact state (finder_of lines) n (is_empty rest) line))
+    let first : IsFirst (fault_of (line_taken state (finder_of lines) n (is_empty rest) line))
     (at_place before line rest) =
-    subst (λ (m : ℕ). IsFirst (fault_of
-    (line_taken exact state (finder_of lines) m (is_empty rest) line))
+    subst (λ (m : ℕ). IsFirst (fault_of (line_taken state (finder_of lines) m (is_empty rest) line))
     (at_place before line rest)) (sym count)
     (subst (λ (ls : List (List ℕ)). IsFirst
-    (fault_of (line_taken exact state (finder_of ls) (length before + 1) (is_empty rest) line))
+    (fault_of (line_taken state (finder_of ls) (length before + 1) (is_empty rest) line))
     (at_place before line rest)) (sym e)
     (line_first state before line rest s
     (subst (λ (ls : List (List ℕ)). are_blank ls ≡ false) e says))) in
     subst (λ (m : ℕ). TellsFault (then_read m
-    (line_taken exact state (finder_of lines) n (is_empty rest) line)
-    (λ next. script_from exact (finder_of lines) next (n + 1) rest)) lines) (sym count)
-    (step_tells lines before rest line
-    (line_taken exact state (finder_of lines) n (is_empty rest) line)
-    (λ next. script_from exact (finder_of lines) next (n + 1) rest) e none first
+    (line_taken state (finder_of lines) n (is_empty rest) line)
+    (λ next. script_from (finder_of lines) next (n + 1) rest)) lines) (sym count)
+    (step_tells lines before rest line (line_taken state (finder_of lines) n (is_empty rest) line)
+    (λ next. script_from (finder_of lines) next (n + 1) rest) e none first
     (λ next r more. all_tell rest lines (before ++ line ∷ []) next (n + 1)
     (omega (arith, count, length_push before line))
     (e ∙ sym (append_assoc before (line ∷ []) rest)) says

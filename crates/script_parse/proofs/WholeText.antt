@@ -22,7 +22,6 @@ use Rattle.script_tree.specs.Grammar.{IsLineText, Spells, all_thread_lines}
 use Rattle.script_parse.specs.Part.{Part}
 use Rattle.script_parse.specs.Reading.{Finder, is_empty, first_part, line_taken, script_from}
 use Rattle.script_parse.specs.Reading.{script_of, read_as_script}
-use Rattle.script_parse.proofs.ExpressionWhole.{exact}
 use Rattle.script_parse.proofs.Fresh.{all_front, all_back}
 use Rattle.script_parse.proofs.LineSteps.{cut_tokens, says_something}
 use Rattle.script_parse.proofs.Standing.{Lines, Stands}
@@ -41,22 +40,21 @@ IsBlank line = is_blank_line line ≡ true
 -- ---- the lines down to the header
 
 blank_top : (find : Finder) (n : ℕ) (last : Bool) (text : List ℕ) → IsBlank text → IsLineText text
-    → n ≤ 4096 → line_taken exact None find n last text ≡ Ok None
+    → n ≤ 4096 → line_taken None find n last text ≡ Ok None
 blank_top find n last text b sound few = rw (plain_line n text sound few, blank_tokens text b) refl
 
 above_read : (find : Finder) (above rest : List (List ℕ)) (n : ℕ) → All IsBlank above
-    → All IsLineText above → n + length above ≤ 4097
-    → script_from exact find None n (above ++ rest)
-    ≡ script_from exact find None (n + length above) rest
+    → All IsLineText above → n + length above ≤ 4097 → script_from find None n (above ++ rest)
+    ≡ script_from find None (n + length above) rest
 above_read find [] rest n b sound few = let same : n ≡ n + length {A = List ℕ} [] = omega arith in
-    ap (λ (m : ℕ). script_from exact find None m rest) same
+    ap (λ (m : ℕ). script_from find None m rest) same
 above_read find (text ∷ above) rest n b sound few =
     let step = blank_top find n (is_empty (above ++ rest)) text (All-head IsBlank text above b)
     (All-head IsLineText text above sound) (omega (arith, few)) in
     let more = above_read find above rest (n + 1) (All-tail IsBlank text above b)
     (All-tail IsLineText text above sound) (omega (arith, few)) in
     let same : n + 1 + length above ≡ n + length (text ∷ above) = omega arith in
-    rw step (more ∙ ap (λ (m : ℕ). script_from exact find None m rest) same)
+    rw step (more ∙ ap (λ (m : ℕ). script_from find None m rest) same)
 
 no_version : (version : ℕ) → version_in [] ≡ Some version → ⊥
 no_version version e = absurd cc
@@ -64,7 +62,7 @@ no_version version e = absurd cc
 header_read : (find : Finder) (n : ℕ) (last : Bool) (header : List ℕ) (version : ℕ)
     (found : Option (List Token)) → tokens_of header ≡ found
     → version_in (tokens_in header) ≡ Some version → last ≡ false → IsLineText header → n ≤ 4096
-    → line_taken exact None find n last header ≡ Ok (Some (first_part version))
+    → line_taken None find n last header ≡ Ok (Some (first_part version))
 header_read find n last header version None e v l sound few =
     let none : tokens_in header ≡ [] = rw e refl in
     absurd (no_version version (sym (ap version_in none) ∙ v))
@@ -207,19 +205,19 @@ module _ (bytes : List ℕ) (script : ScriptText) (s : Spells bytes script) wher
       script.names.threads [] script.threads refl s.fits.same_threads few_threads
       s.fits.threads_fit)
 
-  below_read : script_from exact find (Some (first_part script.version)) (length s.above + 2)
+  below_read : script_from find (Some (first_part script.version)) (length s.above + 2)
       s.below ≡ Ok (script_of last)
   below_read =
       lines_read find s.below (length s.above + 2) (first_part script.version) last _ before begun
       s.lines runs whole_last sound_below (omega (arith, lengths, s.few_lines))
 
-  from_header : script_from exact find None (1 + length s.above) (s.header ∷ s.below) ≡ Ok script
+  from_header : script_from find None (1 + length s.above) (s.header ∷ s.below) ≡ Ok script
   from_header =
       let step = header_read find (1 + length s.above) (is_empty s.below) s.header script.version
       (tokens_of s.header) refl s.version (some_below s.below (s.names_are kinds.Thread))
       sound_header (omega (arith, lengths, s.few_lines)) in
       let same : 1 + length s.above + 1 ≡ length s.above + 2 = omega arith in
-      rw step (ap (λ (n : ℕ). script_from exact find (Some (first_part script.version)) n s.below)
+      rw step (ap (λ (n : ℕ). script_from find (Some (first_part script.version)) n s.below)
       same ∙ below_read)
 
   says : are_blank (lines_of bytes) ≡ false
@@ -228,17 +226,17 @@ module _ (bytes : List ℕ) (script : ScriptText) (s : Spells bytes script) wher
       ap are_blank s.split ∙ list_all-append is_blank_line s.above (s.header ∷ s.below)
       ∙ rw header (not_all (are_blank s.above) (are_blank s.below))
 
-  all_read : script_from exact (λ name. place_of name (threads_begun (lines_of bytes))) None 1
+  all_read : script_from (λ name. place_of name (threads_begun (lines_of bytes))) None 1
       (lines_of bytes) ≡ Ok script
   all_read =
-      subst (λ (ts : List (List ℕ)). script_from exact (λ name. place_of name ts) None 1
+      subst (λ (ts : List (List ℕ)). script_from (λ name. place_of name ts) None 1
       (lines_of bytes) ≡ Ok script) (sym threads_are)
-      (subst (λ (ls : List (List ℕ)). script_from exact find None 1 ls ≡ Ok script) (sym s.split)
+      (subst (λ (ls : List (List ℕ)). script_from find None 1 ls ≡ Ok script) (sym s.split)
       (above_read find s.above (s.header ∷ s.below) 1 s.blank sound_above
       (omega (arith, lengths, s.few_lines)) ∙ from_header))
 
   -- a text that spells a script is read as it
-  pub spelled_is_read : read_as_script exact bytes ≡ Ok script
+  pub spelled_is_read : read_as_script bytes ≡ Ok script
   spelled_is_read = rw (le-ltb 1048576 (length bytes) s.small, says) all_read
 
 -- ---- each text spells one script, or has one first fault

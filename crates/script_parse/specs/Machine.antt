@@ -1,5 +1,5 @@
 -- Reading an expression from its first token to its last, with what waits for its right part.
-use Rattle.std.specs.Prelude.{ℕ, ℤ, ◌==◌, nat_le, Bool, true, false, if◌then◌else◌, List, [], ◌∷◌}
+use Rattle.std.specs.Prelude.{ℕ, ◌==◌, nat_le, Bool, true, false, if◌then◌else◌, List, [], ◌∷◌}
 use Rattle.std.specs.Prelude.{Option, Some, None, codes}
 use Rattle.std.specs.Option.{option_map, option_and_then}
 use Rattle.std.specs.Str.{bytes_eq}
@@ -10,6 +10,7 @@ use Rattle.script_tree.specs.Trees.{Expression}
 use Rattle.script_tree.specs.Trees as trees
 use Rattle.script_tree.specs.Expressions.{strength, left_level}
 use Rattle.script_parse.specs.Registers.{register_in}
+use Rattle.script_parse.specs.Numbers.{saturated_number}
 
 -- what waits for what follows: a parenthesis for its end, an operator for its part or its right
 -- part
@@ -94,13 +95,13 @@ with_bracket (frame ∷ frames) value = None
 abbrev pub closed_by : List Frame → Expression → Option OpenExpression
 closed_by frames value = let done = reduced_value 0 frames value in with_bracket done.0 done.1
 
--- a token where a value may begin
-abbrev pub with_value_token : (List ℕ → ℤ) → List Frame → Token → Option OpenExpression
-with_value_token number frames (Number digits) =
-    Some (open_expression frames (Some (trees.Number (number digits))))
-with_value_token number frames (Word word) =
+-- a token where a value may begin; a number above the greatest i64 is read as that
+abbrev pub with_value_token : List Frame → Token → Option OpenExpression
+with_value_token frames (Number digits) =
+    Some (open_expression frames (Some (trees.Number (saturated_number digits))))
+with_value_token frames (Word word) =
     option_map (λ r. open_expression frames (Some (trees.Reg r))) (register_in word)
-with_value_token number frames (Symbol signs) =
+with_value_token frames (Symbol signs) =
     if bytes_eq signs (codes "(") then Some (open_expression (Paren ∷ frames) None)
     else (if bytes_eq signs (codes "-") then Some (open_expression (Minus ∷ frames) None)
     else (if bytes_eq signs (codes "!") then Some (open_expression (Not ∷ frames) None) else None))
@@ -116,14 +117,13 @@ behind frames value (Symbol signs) =
     else joined_by (operator_in signs) frames value
 behind frames value token = None
 
-abbrev pub token_step_at : (List ℕ → ℤ) → List Frame → Option Expression → Token
-    → Option OpenExpression
-token_step_at number frames None token = with_value_token number frames token
-token_step_at number frames (Some value) token = behind frames value token
+abbrev pub token_step_at : List Frame → Option Expression → Token → Option OpenExpression
+token_step_at frames None token = with_value_token frames token
+token_step_at frames (Some value) token = behind frames value token
 
--- one more token; None where no expression goes on with it. Digits stand for these numbers.
-abbrev pub token_step : (List ℕ → ℤ) → OpenExpression → Token → Option OpenExpression
-token_step number p token = token_step_at number p.frames p.value token
+-- one more token; None where no expression goes on with it
+abbrev pub token_step : OpenExpression → Token → Option OpenExpression
+token_step p token = token_step_at p.frames p.value token
 
 abbrev pub whole : List Frame × Expression → Option Expression
 whole ([], value) = Some value
@@ -137,11 +137,11 @@ finished_at frames (Some value) = whole (reduced_value 0 frames value)
 abbrev pub whole_expression : OpenExpression → Option Expression
 whole_expression p = finished_at p.frames p.value
 
-abbrev pub expression_from : (List ℕ → ℤ) → OpenExpression → List Token → Option Expression
-expression_from number p [] = whole_expression p
-expression_from number p (token ∷ tokens) =
-    option_and_then (λ next. expression_from number next tokens) (token_step number p token)
+abbrev pub expression_from : OpenExpression → List Token → Option Expression
+expression_from p [] = whole_expression p
+expression_from p (token ∷ tokens) =
+    option_and_then (λ next. expression_from next tokens) (token_step p token)
 
 -- the expression that tokens are read as
-abbrev pub expression_in : (List ℕ → ℤ) → List Token → Option Expression
-expression_in number tokens = expression_from number (open_expression [] None) tokens
+abbrev pub expression_in : List Token → Option Expression
+expression_in tokens = expression_from (open_expression [] None) tokens

@@ -222,12 +222,11 @@ form_taken part find number last tokens (Some form) =
     after_fault (form_fault part find last tokens form) (with_form part find number form)
 
 -- a line below the header, by its tokens
-abbrev pub tokens_taken : (List ℕ → ℤ) → Part → Finder → ℕ → Bool → Option (List Token)
-    → Result Part ScriptFault
-tokens_taken value part find number last None = Err BadToken
-tokens_taken value part find number last (Some []) = after_fault (blank_fault part last) part
-tokens_taken value part find number last (Some (token ∷ tokens)) =
-    form_taken part find number last (token ∷ tokens) (form_in value part.version (token ∷ tokens))
+abbrev pub tokens_taken : Part → Finder → ℕ → Bool → Option (List Token) → Result Part ScriptFault
+tokens_taken part find number last None = Err BadToken
+tokens_taken part find number last (Some []) = after_fault (blank_fault part last) part
+tokens_taken part find number last (Some (token ∷ tokens)) =
+    form_taken part find number last (token ∷ tokens) (form_in part.version (token ∷ tokens))
 
 abbrev pub part_after_header : Bool → Option ℕ → Result Part ScriptFault
 part_after_header last None = Err BadHeader
@@ -244,11 +243,11 @@ header_taken last (Some []) = Ok None
 header_taken last (Some (token ∷ tokens)) =
     some_part (part_after_header last (version_in (token ∷ tokens)))
 
-abbrev pub line_said : (List ℕ → ℤ) → Option Part → Finder → ℕ → Bool → Option (List Token)
+abbrev pub line_said : Option Part → Finder → ℕ → Bool → Option (List Token)
     → Result (Option Part) ScriptFault
-line_said value None find number last tokens = header_taken last tokens
-line_said value (Some part) find number last tokens =
-    some_part (tokens_taken value part find number last tokens)
+line_said None find number last tokens = header_taken last tokens
+line_said (Some part) find number last tokens =
+    some_part (tokens_taken part find number last tokens)
 
 -- the fault of a line that can't be cut into tokens, by what was read
 abbrev pub uncut_fault : Option Part → ScriptFault
@@ -261,10 +260,9 @@ unless None next = next
 unless (Some kind) next = Err kind
 
 -- one more line; what was read is none above the header
-abbrev pub line_taken : (List ℕ → ℤ) → Option Part → Finder → ℕ → Bool → List ℕ
-    → Result (Option Part) ScriptFault
-line_taken value part find number last line =
-    unless (bytes_fault number line) (line_said value part find number last (tokens_of line))
+abbrev pub line_taken : Option Part → Finder → ℕ → Bool → List ℕ → Result (Option Part) ScriptFault
+line_taken part find number last line =
+    unless (bytes_fault number line) (line_said part find number last (tokens_of line))
 
 abbrev pub script_of : Part → ScriptText
 script_of part = record {
@@ -286,12 +284,12 @@ abbrev pub then_read : ℕ → Result (Option Part) ScriptFault
 then_read number (Err kind) more = Err (number, kind)
 then_read number (Ok next) more = more next
 
-abbrev pub script_from : (List ℕ → ℤ) → Finder → Option Part → ℕ → List (List ℕ)
+abbrev pub script_from : Finder → Option Part → ℕ → List (List ℕ)
     → Result ScriptText (ℕ × ScriptFault)
-script_from value find part number [] = script_at_end part
-script_from value find part number (line ∷ lines) =
-    then_read number (line_taken value part find number (is_empty lines) line) (λ next.
-    script_from value find next (number + 1) lines)
+script_from find part number [] = script_at_end part
+script_from find part number (line ∷ lines) =
+    then_read number (line_taken part find number (is_empty lines) line)
+    (λ next. script_from find next (number + 1) lines)
 
 -- the fault of the first line, where all lines are blank
 abbrev pub blank_text_fault : List (List ℕ) → ScriptFault
@@ -299,9 +297,9 @@ blank_text_fault [] = BadHeader
 blank_text_fault (line ∷ lines) = unwrap_or (bytes_fault 1 line) BadHeader
 
 -- what a text is read as, from its first line to its last
-abbrev pub read_as_script : (List ℕ → ℤ) → List ℕ → Result ScriptText (ℕ × ScriptFault)
-read_as_script value bytes =
+abbrev pub read_as_script : List ℕ → Result ScriptText (ℕ × ScriptFault)
+read_as_script bytes =
     if nat_lt 1048576 (length bytes) then Err (1, TooMany)
     else (if are_blank (lines_of bytes) then Err (1, blank_text_fault (lines_of bytes))
-    else script_from value (λ name. place_of name (threads_begun (lines_of bytes))) None 1
+    else script_from (λ name. place_of name (threads_begun (lines_of bytes))) None 1
     (lines_of bytes))

@@ -1,6 +1,5 @@
--- What the tokens of a line say, read from the first word on. Digits in expressions stand for the
--- numbers that `number` gives them.
-use Rattle.std.specs.Prelude.{ℕ, ℤ, ◌+◌, ◌&&◌, Bool, false, nat_le, if◌then◌else◌, List, [], ◌∷◌}
+-- What the tokens of a line say, read from the first word on.
+use Rattle.std.specs.Prelude.{ℕ, ◌+◌, ◌&&◌, Bool, false, nat_le, if◌then◌else◌, List, [], ◌∷◌}
 use Rattle.std.specs.Prelude.{Option, Some, None, take, drop, codes}
 use Rattle.std.specs.List.{position}
 use Rattle.std.specs.Option.{option_map, option_and_then}
@@ -119,61 +118,58 @@ abbrev pub by_kind : Option NameKind → ℕ → List Token → Option MeantForm
 by_kind None version tokens others = others
 by_kind (Some kind) version tokens others = declared_form version kind tokens
 
-module _ (number : List ℕ → ℤ) where
-  abbrev pub write_form : ℕ → List Token → Option MeantForm
-  write_form version (Word var ∷ value) =
-      if is_name version var then option_map (Write var) (expression_in number value) else None
-  write_form version tokens = None
+abbrev pub write_form : ℕ → List Token → Option MeantForm
+write_form version (Word var ∷ value) =
+    if is_name version var then option_map (Write var) (expression_in value) else None
+write_form version tokens = None
 
-  abbrev pub add_form : ℕ → List Token → Option MeantForm
-  add_form version (Word register ∷ Word var ∷ value) =
-      if is_name version var
-      then option_and_then (λ r. option_map (Add r var) (expression_in number value))
-      (register_in register)
-      else None
-  add_form version tokens = None
+abbrev pub add_form : ℕ → List Token → Option MeantForm
+add_form version (Word register ∷ Word var ∷ value) =
+    if is_name version var
+    then option_and_then (λ r. option_map (Add r var) (expression_in value)) (register_in register)
+    else None
+add_form version tokens = None
 
-  abbrev pub cas_pair : ℕ → List ℕ → List Token → List Token → Option MeantForm
-  cas_pair register var old new =
-      option_and_then (λ a. option_map (Cas register var a) (expression_in number new))
-      (expression_in number old)
+abbrev pub cas_pair : ℕ → List ℕ → List Token → List Token → Option MeantForm
+cas_pair register var old new =
+    option_and_then (λ a. option_map (Cas register var a) (expression_in new)) (expression_in old)
 
-  abbrev pub cas_parts : ℕ → List ℕ → Option (List Token × List Token) → Option MeantForm
-  cas_parts register var None = None
-  cas_parts register var (Some parts) = cas_pair register var parts.0 parts.1
+abbrev pub cas_parts : ℕ → List ℕ → Option (List Token × List Token) → Option MeantForm
+cas_parts register var None = None
+cas_parts register var (Some parts) = cas_pair register var parts.0 parts.1
 
-  abbrev pub cas_form : ℕ → List Token → Option MeantForm
-  cas_form version (Word register ∷ Word var ∷ values) =
-      if is_name version var
-      then option_and_then (λ r. cas_parts r var (parts_at (position is_comma values) values))
-      (register_in register)
-      else None
-  cas_form version tokens = None
+abbrev pub cas_form : ℕ → List Token → Option MeantForm
+cas_form version (Word register ∷ Word var ∷ values) =
+    if is_name version var
+    then option_and_then (λ r. cas_parts r var (parts_at (position is_comma values) values))
+    (register_in register)
+    else None
+cas_form version tokens = None
 
-  abbrev pub set_form : List Token → Option MeantForm
-  set_form (Word register ∷ value) =
-      option_and_then (λ r. option_map (Set r) (expression_in number value)) (register_in register)
-  set_form tokens = None
+abbrev pub set_form : List Token → Option MeantForm
+set_form (Word register ∷ value) =
+    option_and_then (λ r. option_map (Set r) (expression_in value)) (register_in register)
+set_form tokens = None
 
-  -- the forms with an expression, and those that remain
-  abbrev pub other_form : ℕ → List ℕ → List Token → Option MeantForm
-  other_form version word tokens =
-      if bytes_eq word (codes "write") then write_form version tokens
-      else (if bytes_eq word (codes "add") then add_form version tokens
-      else (if bytes_eq word (codes "cas") then cas_form version tokens
-      else (if bytes_eq word (codes "set") then set_form tokens
-      else (if bytes_eq word (codes "assert") then option_map Assert (expression_in number tokens)
-      else (if bytes_eq word (codes "if") then option_map If (expression_in number tokens)
-      else (if bytes_eq word (codes "while") then option_map While (expression_in number tokens)
-      else quiet_form version word tokens))))))
+-- the forms with an expression, and those that remain
+abbrev pub other_form : ℕ → List ℕ → List Token → Option MeantForm
+other_form version word tokens =
+    if bytes_eq word (codes "write") then write_form version tokens
+    else (if bytes_eq word (codes "add") then add_form version tokens
+    else (if bytes_eq word (codes "cas") then cas_form version tokens
+    else (if bytes_eq word (codes "set") then set_form tokens
+    else (if bytes_eq word (codes "assert") then option_map Assert (expression_in tokens)
+    else (if bytes_eq word (codes "if") then option_map If (expression_in tokens)
+    else (if bytes_eq word (codes "while") then option_map While (expression_in tokens)
+    else quiet_form version word tokens))))))
 
-  abbrev pub form_at : ℕ → List ℕ → List Token → Option MeantForm
-  form_at version word tokens =
-      by_on (on_verb_in word) version tokens
-      (by_into (into_verb_in word) version tokens
-      (by_kind (kind_in word) version tokens (other_form version word tokens)))
+abbrev pub form_at : ℕ → List ℕ → List Token → Option MeantForm
+form_at version word tokens =
+    by_on (on_verb_in word) version tokens
+    (by_into (into_verb_in word) version tokens
+    (by_kind (kind_in word) version tokens (other_form version word tokens)))
 
-  -- the form of a line, by the version of the language
-  abbrev pub form_in : ℕ → List Token → Option MeantForm
-  form_in version (Word word ∷ tokens) = form_at version word tokens
-  form_in version tokens = None
+-- the form of a line, by the version of the language
+abbrev pub form_in : ℕ → List Token → Option MeantForm
+form_in version (Word word ∷ tokens) = form_at version word tokens
+form_in version tokens = None

@@ -7,7 +7,6 @@ ghost use Rattle.script_tree.specs.Seen.{expression as tree};
 ghost use Rattle.script_tree.specs.Expressions as language;
 ghost use Rattle.script_parse.specs.Seen.{seen, all_seen};
 ghost use Rattle.script_parse.specs.Registers.{register_in};
-ghost use Rattle.script_parse.specs.Numbers.{saturated_number};
 ghost use Rattle.script_parse.specs.Machine.{operator_in, expression_in, open_expression};
 ghost use Rattle.script_parse.specs.Machine as machine;
 ghost use Rattle.script_parse.specs.Frames.{seen_frame, seen_frames, seen_pending};
@@ -196,7 +195,7 @@ fn waiting(mut frames: Vec<Frame>, frame: Frame) -> Result<Pending, NoMemory>
 fn with_value_token(frames: Vec<Frame>, token: &Token<'_>) -> Result<Option<Pending>, NoMemory>
     ensures { IfOk result (λ next.
         option_map seen_pending next
-        ≡ machine.with_value_token saturated_number (seen_frames frames.items) (seen token.now)) }
+        ≡ machine.with_value_token (seen_frames frames.items) (seen token.now)) }
 {
     match token {
         Token::Number(digits) => Ok(Some(Pending {
@@ -285,7 +284,7 @@ impl Pending {
     fn take(self, alloc: Global, token: &Token<'_>) -> Result<Option<Pending>, NoMemory>
         ensures { IfOk result (λ next.
             option_map seen_pending next
-            ≡ machine.token_step saturated_number (seen_pending self) (seen token.now)) }
+            ≡ machine.token_step (seen_pending self) (seen token.now)) }
     {
         let Pending { frames, value } = self;
         match value {
@@ -315,7 +314,7 @@ impl Pending {
 /// The expression that tokens spell. A number above the greatest i64 is read as that.
 pub fn expression_of(alloc: Global, tokens: &[Token<'_>]) -> Result<Option<Expr>, NoMemory>
     ensures { IfOk result (λ found.
-        option_map tree found ≡ expression_in saturated_number (all_seen tokens.now)) }
+        option_map tree found ≡ expression_in (all_seen tokens.now)) }
 {
     let mut pending = Pending {
         frames: Vec::new(alloc),

@@ -5,7 +5,6 @@ ghost use Rattle.std.specs.List.{position};
 ghost use Rattle.std.specs.Option.{option_map};
 ghost use Rattle.script_parse.specs.Seen.{seen, all_seen};
 ghost use Rattle.script_parse.specs.SeenForms.{seen_on, seen_into, seen_form};
-ghost use Rattle.script_parse.specs.Numbers.{saturated_number};
 ghost use Rattle.script_parse.specs.Saying as saying;
 
 use crate::declaration::{declared_form, kind_of};
@@ -190,8 +189,7 @@ fn write_form<'a>(
     tokens: &[Token<'a>],
 ) -> Result<Option<Form<'a>>, NoMemory>
     ensures { IfOk result (λ found.
-        option_map seen_form found
-        ≡ saying.write_form saturated_number version (all_seen tokens.now)) }
+        option_map seen_form found ≡ saying.write_form version (all_seen tokens.now)) }
 {
     let [Token::Word(var), value @ ..] = tokens else {
         return Ok(None);
@@ -211,8 +209,7 @@ fn add_form<'a>(
     tokens: &[Token<'a>],
 ) -> Result<Option<Form<'a>>, NoMemory>
     ensures { IfOk result (λ found.
-        option_map seen_form found
-        ≡ saying.add_form saturated_number version (all_seen tokens.now)) }
+        option_map seen_form found ≡ saying.add_form version (all_seen tokens.now)) }
 {
     let [Token::Word(register), operands @ ..] = tokens else {
         return Ok(None);
@@ -256,7 +253,7 @@ fn cas_pair<'a>(
 ) -> Result<Option<Form<'a>>, NoMemory>
     ensures { IfOk result (λ found.
         option_map seen_form found
-        ≡ saying.cas_pair saturated_number reg var.now (all_seen old.now) (all_seen new.now)) }
+        ≡ saying.cas_pair reg var.now (all_seen old.now) (all_seen new.now)) }
 {
     let Some(old) = expression_of(alloc, old)? else {
         return Ok(None);
@@ -275,7 +272,7 @@ fn cas_parts<'a>(
 ) -> Result<Option<Form<'a>>, NoMemory>
     ensures { IfOk result (λ found.
         option_map seen_form found
-        ≡ saying.cas_parts saturated_number reg var.now
+        ≡ saying.cas_parts reg var.now
         (saying.parts_at (position saying.is_comma (all_seen values.now)) (all_seen values.now))) }
 {
     let Some(place) = comma_in(values) else {
@@ -294,8 +291,7 @@ fn cas_form<'a>(
     tokens: &[Token<'a>],
 ) -> Result<Option<Form<'a>>, NoMemory>
     ensures { IfOk result (λ found.
-        option_map seen_form found
-        ≡ saying.cas_form saturated_number version (all_seen tokens.now)) }
+        option_map seen_form found ≡ saying.cas_form version (all_seen tokens.now)) }
 {
     let [Token::Word(register), operands @ ..] = tokens else {
         return Ok(None);
@@ -314,7 +310,7 @@ fn cas_form<'a>(
 
 fn set_form<'a>(alloc: Global, tokens: &[Token<'a>]) -> Result<Option<Form<'a>>, NoMemory>
     ensures { IfOk result (λ found.
-        option_map seen_form found ≡ saying.set_form saturated_number (all_seen tokens.now)) }
+        option_map seen_form found ≡ saying.set_form (all_seen tokens.now)) }
 {
     let [Token::Word(register), value @ ..] = tokens else {
         return Ok(None);
@@ -336,8 +332,7 @@ fn other_form<'a>(
     tokens: &[Token<'a>],
 ) -> Result<Option<Form<'a>>, NoMemory>
     ensures { IfOk result (λ found.
-        option_map seen_form found
-        ≡ saying.other_form saturated_number version word.now (all_seen tokens.now)) }
+        option_map seen_form found ≡ saying.other_form version word.now (all_seen tokens.now)) }
 {
     if says(word, b"write") {
         write_form(alloc, version, tokens)
@@ -383,8 +378,7 @@ pub fn form_of<'a>(
     tokens: &[Token<'a>],
 ) -> Result<Option<Form<'a>>, NoMemory>
     ensures { IfOk result (λ found.
-        option_map seen_form found
-        ≡ saying.form_in saturated_number version (all_seen tokens.now)) }
+        option_map seen_form found ≡ saying.form_in version (all_seen tokens.now)) }
 {
     let [Token::Word(word), operands @ ..] = tokens else {
         return Ok(None);

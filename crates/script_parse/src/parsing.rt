@@ -13,7 +13,6 @@ ghost use Rattle.script_parse.specs.Ahead.{HasSeen, place_ahead};
 ghost use Rattle.script_parse.specs.SeenForms.{seen_form};
 ghost use Rattle.script_parse.specs.SeenParts.{seen_reader};
 ghost use Rattle.script_parse.specs.Saying.{form_in};
-ghost use Rattle.script_parse.specs.Numbers.{saturated_number};
 ghost use Rattle.script_parse.specs.States.{seen_state, seen_step, Gives, TellsFault};
 ghost use Rattle.script_parse.specs.Reading as reading;
 
@@ -114,13 +113,11 @@ fn read_form(
     tokens: &[Token<'_>],
     form: Form<'_>,
 ) -> Result<Step, NoMemory>
-    requires { form_in saturated_number reader.version (all_seen tokens.now)
-        ≡ Some (seen_form form) }
+    requires { form_in reader.version (all_seen tokens.now) ≡ Some (seen_form form) }
     ensures { IfOk result (λ step.
         seen_step step
         ≡ reading.some_part
-        (reading.tokens_taken saturated_number (seen_reader reader)
-        (place_ahead ahead.now) number last
+        (reading.tokens_taken (seen_reader reader) (place_ahead ahead.now) number last
         (Some (all_seen tokens.now)))) }
 {
     match reader.fault_of(ahead, last, tokens, &form) {
@@ -141,8 +138,7 @@ fn read_below(
     ensures { IfOk result (λ step.
         seen_step step
         ≡ reading.some_part
-        (reading.tokens_taken saturated_number (seen_reader reader)
-        (place_ahead ahead.now) number last
+        (reading.tokens_taken (seen_reader reader) (place_ahead ahead.now) number last
         (Some (all_seen tokens.now)))) }
 {
     if tokens.is_empty() {
@@ -173,10 +169,8 @@ fn read_tokens(
     tokens: &[Token<'_>],
 ) -> Result<Step, NoMemory>
     ensures { IfOk result (λ step.
-        seen_step step
-        ≡ reading.line_said saturated_number (seen_state state) (place_ahead ahead.now) number
-        (number == ahead.now.lines)
-        (Some (all_seen tokens.now))) }
+        seen_step step ≡ reading.line_said (seen_state state) (place_ahead ahead.now) number
+        (number == ahead.now.lines) (Some (all_seen tokens.now))) }
 {
     let last = number == ahead.lines();
     match state {
@@ -194,8 +188,7 @@ fn read_line(
     line: &[u8],
 ) -> Result<Step, NoMemory>
     ensures { IfOk result (λ step.
-        seen_step step
-        ≡ reading.line_taken saturated_number (seen_state state) (place_ahead ahead.now) number
+        seen_step step ≡ reading.line_taken (seen_state state) (place_ahead ahead.now) number
         (number == ahead.now.lines) line.now) }
 {
     if let Some(kind) = bytes_fault(number, line) {
@@ -214,7 +207,7 @@ fn read_lines(alloc: Global, ahead: &Ahead<'_>, bytes: &[u8]) -> Result<Script, 
     requires seen { HasSeen ahead.now (lines_of bytes.now) }
     requires small { length bytes.now ≤ 1048576 }
     requires says { are_blank (lines_of bytes.now) ≡ false }
-    ensures { Gives result (reading.read_as_script saturated_number bytes.now) }
+    ensures { Gives result (reading.read_as_script bytes.now) }
 {
     let mut state = State::Above;
     let mut number = 1;
@@ -245,7 +238,7 @@ fn blank_text_fault(bytes: &[u8]) -> ScriptFault
 }
 
 fn read_text(alloc: Global, bytes: &[u8]) -> Result<Script, ScriptError>
-    ensures { Gives result (reading.read_as_script saturated_number bytes.now) }
+    ensures { Gives result (reading.read_as_script bytes.now) }
 {
     if bytes.len() > 1_048_576 {
         return Err(ScriptError::Bad {

@@ -6,7 +6,6 @@ use Rattle.script_tree.specs.Faults.{IsFault}
 use Rattle.script_tree.specs.Grammar.{Spells}
 use Rattle.script_parse.specs.Answers.{SpellsOne, FailsOnce, EachHasOneAnswer}
 use Rattle.script_parse.specs.Reading.{read_as_script}
-use Rattle.script_parse.proofs.ExpressionWhole.{exact}
 use Rattle.script_parse.proofs.TextFaults.{ok_is}
 use Rattle.script_parse.proofs.laws.Faults.{one_fault}
 use Rattle.script_parse.proofs.FaultLaws.{fault_found, no_fault}
@@ -27,9 +26,9 @@ spelled_no_fault bytes script n kind s =
 
 -- each text does the one or has the other
 pub script_or_fault : EachHasOneAnswer
-script_or_fault bytes = by_read (read_as_script exact bytes) refl
+script_or_fault bytes = by_read (read_as_script bytes) refl
   where
-    by_read : (found : Result ScriptText (ℕ × ScriptFault)) → read_as_script exact bytes ≡ found
+    by_read : (found : Result ScriptText (ℕ × ScriptFault)) → read_as_script bytes ≡ found
         → SpellsOne bytes ⊎ FailsOnce bytes
     by_read (Ok script) e =
         let spells = read_is_spelled bytes script e in
