@@ -39,8 +39,7 @@ use Rattle.turn_book.proofs.laws.MorePosts.{settled-at}
 use Rattle.turn_book.proofs.laws.Worlds.{Steps, steps-from, event_of, effect-is, made-from}
 use Rattle.worker_run.specs.Bodies.{Pending, pending_of, source_of_bodies}
 use Rattle.worker_run.specs.Played.{IsPlayed}
-use Rattle.trace_text.specs.Lawful.{HasObjects, NamesKnown}
-use Rattle.kit_main.specs.Told.{IsKnownVerdict, AreKnown}
+use Rattle.trace_text.specs.Lawful.{HasObjects, NamesKnown, IsKnownVerdict, IsKnownRun}
 
 -- where a step is, and what it asks
 pub record IsAsked (names : NameLists) (version t line : ℕ) (ask : Ask) : Type 0 where
@@ -265,7 +264,7 @@ module _ (names : NameLists) (version : ℕ) (deal : Deal) (bodies : List Pendin
 
   pub known-run : (plan : Plan) (limit : ℕ) (events : List Event) (verdict : Verdict)
       (outcome : Outcome) → outcome ≡ Ends verdict → IsPlayed plan deal bodies limit events outcome
-      → AreKnown names version limit events verdict
+      → IsKnownRun names version limit events verdict
   known-run plan limit events verdict outcome ends played =
       let w = made-from (first_store deal) source events (played.obeys).made in
       let world = w.0 in

@@ -49,9 +49,8 @@ use Rattle.turn_book.proofs.laws.Worlds.{Steps, steps-from, event_of, effect-is,
 use Rattle.worker_run.specs.Bodies.{Pending, no_body, pending_of, source_of_bodies}
 use Rattle.worker_run.specs.Played.{IsPlayed}
 use Rattle.script_body.specs.Bodies.{bodies_of}
-use Rattle.trace_text.specs.Lawful.{HasObjects, NamesKnown}
+use Rattle.trace_text.specs.Lawful.{HasObjects, NamesKnown, IsKnownVerdict, IsKnownRun}
 use Rattle.pct_top.specs.Runs.{trace_version}
-use Rattle.pct_top.specs.Known.{IsKnownVerdict, IsKnownRun}
 
 second : (script : ScriptText) (l : ℕ) → rwlocks_fit script.version (script.names).rwlocks ≡ true
     → l < length (script.names).rwlocks → trace_version script ≡ 2
@@ -373,7 +372,7 @@ module _ (script : ScriptText) (deal : Deal) (sound : IsScript script)
 
   pub known-run : (plan : Plan) (limit : ℕ) (events : List Event) (verdict : Verdict)
       (outcome : Outcome) → outcome ≡ Ends verdict → IsPlayed plan deal bodies limit events outcome
-      → IsKnownRun script limit events verdict
+      → IsKnownRun names version limit events verdict
   known-run plan limit events verdict outcome ends played =
       let w = made-from (first_store deal) source events (played.obeys).made in
       let world = w.0 in
