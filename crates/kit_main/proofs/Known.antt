@@ -1,10 +1,10 @@
 -- A run over bodies that name only what has a name, and lines of a test, names only such.
 use Rattle.std.proofs.Common.{◌≡◌, ℕ, ℤ, ◌<◌, Bool, true, false, cond, eqb, inl, inr, List, [], ◌∷◌}
-use Rattle.std.proofs.Common.{length, Option, Some, None, refl, sym, ap, subst, ◌∙◌, arith}
+use Rattle.std.proofs.Common.{length, Option, Some, None, refl, sym, ap, subst, ◌∙◌}
 use Rattle.std.specs.Prelude.{All}
 use Rattle.std.specs.List.{filter_map, cons_option}
 use Rattle.std.proofs.lemmas.Bool.{cases_Bool}
-use Rattle.std.proofs.lemmas.List.Elements.{All-append, All-cons, All-nil, All-map}
+use Rattle.std.proofs.lemmas.List.Elements.{All-append, All-cons, All-nil}
 use Rattle.std.proofs.lemmas.Option.{option_and_then_some}
 use Rattle.pct_ask.specs.NameLists.{NameLists}
 use Rattle.pct_ask.specs.VerdictText.{IsLine}
@@ -21,8 +21,8 @@ use Rattle.pct_ask.specs.declared.verdict.Outcome.{Outcome}
 use Rattle.pct_ask.specs.declared.verdict.Outcome.TheVariants.{Verdict as Ends, Departed}
 use Rattle.pct_ask.specs.declared.verdict.Verdict.{Verdict}
 use Rattle.pct_ask.specs.declared.verdict.Verdict.TheVariants.{Failed, Misuse, Fault as Faulted}
-use Rattle.pct_ask.specs.declared.verdict.Verdict.TheVariants.{Cut}
-use Rattle.pct_ask.specs.declared.verdict.MisuseKind.TheVariants.{NotOwner, SemFull, TooManyReads}
+use Rattle.pct_ask.specs.declared.verdict.MisuseKind.TheVariants.{NotOwner, SemFull, AlreadyStarted}
+use Rattle.pct_ask.specs.declared.verdict.MisuseKind.TheVariants.{TooManyReads}
 use Rattle.sync_store.specs.Store.{StoreState, first_store, is_on, rwlock_of}
 use Rattle.sync_store.specs.Effect.{Goes, Stops, effect, after_unlock, goes_or}
 use Rattle.sync_store.specs.World.{Source, World, first_world, world_by_step, world_from}
@@ -39,14 +39,9 @@ use Rattle.turn_book.proofs.laws.MorePosts.{settled-at}
 use Rattle.turn_book.proofs.laws.Worlds.{Steps, steps-from, event_of, effect-is, made-from}
 use Rattle.worker_run.specs.Bodies.{Pending, pending_of, source_of_bodies}
 use Rattle.worker_run.specs.Played.{IsPlayed}
-use Rattle.trace_text.specs.Lawful.{HasObjects, NamesKnown}
-use Rattle.kit_main.specs.Told.{IsKnownVerdict, AreKnown}
-
--- where a step is, and what it asks
-pub record IsAsked (names : NameLists) (version t line : ℕ) (ask : Ask) : Type 0 where
-  pub at : t < length names.threads
-  pub on : IsLine line
-  pub has : HasObjects names version ask
+use Rattle.trace_text.specs.Lawful.{HasObjects, NamesKnown, IsKnownVerdict, IsKnownRun}
+use Rattle.trace_text.proofs.laws.KnownVerdicts.{IsAsked, IsKnownPlace, failed-known, fault-known}
+use Rattle.trace_text.proofs.laws.KnownVerdicts.{misuse-known, passed-known, stuck-known, cut-known}
 
 module _ (names : NameLists) (version : ℕ) (deal : Deal) (bodies : List Pending)
     (asked : (t : ℕ) (answers : List ℤ) (ask : Ask) → (pending_of bodies t answers).ask ≡ Some ask
@@ -61,11 +56,6 @@ module _ (names : NameLists) (version : ℕ) (deal : Deal) (bodies : List Pendin
 
   module _ (store : StoreState) (t line : ℕ) (at : t < length names.threads)
       (is_line : IsLine line) where
-    one : All (λ thread. thread < length names.threads) (t ∷ [])
-    one =
-        All-cons (λ thread. thread < length names.threads) t [] at
-        (All-nil (λ thread. thread < length names.threads))
-
     by-test : (b : Bool) (after : StoreState) (answer : ℤ) (verdict : Verdict)
         → IsKnownVerdict names version verdict
         → Maybe (verdict_of (cond b (Goes after answer) (Stops verdict)))
@@ -78,15 +68,14 @@ module _ (names : NameLists) (version : ℕ) (deal : Deal) (bodies : List Pendin
     no-stop false after other answer last = tt
 
     misused : IsKnownVerdict names version (Misuse t line NotOwner)
-    misused = record { threads = one; whole = is_line; known = inl refl }
+    misused = misuse-known names version t line at is_line NotOwner (inl refl)
 
     stop-known : (ask : Ask) → HasObjects names version ask
         → Maybe (verdict_of (effect store t line ask))
     stop-known (Read x) h = tt
     stop-known (Write x value) h = tt
     stop-known (Add x value) h =
-        by-test _ _ _ (Faulted t line _)
-        (record { threads = one; whole = is_line; known = inl refl })
+        by-test _ _ _ (Faulted t line _) (fault-known names version t line at is_line _)
     stop-known (Cas x old new) h = no-stop _ _ _ _ _
     stop-known (Lock m) h = tt
     stop-known (TryLock m) h = no-stop _ _ _ _ _
@@ -99,23 +88,22 @@ module _ (names : NameLists) (version : ℕ) (deal : Deal) (bodies : List Pendin
     stop-known (TryDown s) h = no-stop _ _ _ _ _
     stop-known (Up s) h =
         by-test _ _ _ (Misuse t line SemFull)
-        (record { threads = one; whole = is_line; known = inl refl })
+        (misuse-known names version t line at is_line SemFull (inl refl))
     stop-known (Arrive b) h = tt
     stop-known (Leave b) h = tt
     stop-known (Join u) h = tt
     stop-known Yield h = tt
     stop-known (Check holds) h =
-        by-test holds _ _ (Failed t line)
-        (record { threads = one; whole = is_line; known = inl refl })
-    stop-known (Fault kind) h = record { threads = one; whole = is_line; known = inl refl }
+        by-test holds _ _ (Failed t line) (failed-known names version t line at is_line)
+    stop-known (Fault kind) h = fault-known names version t line at is_line kind
     stop-known (Start u) h = elim (cases_Bool (is_on u store.started)) [
-      | inl on ↦ rw on (record { threads = one; whole = is_line; known = inl refl })
+      | inl on ↦ rw on (misuse-known names version t line at is_line AlreadyStarted (inl refl))
       | inr off ↦ rw off tt
     ]
     stop-known Begin h = tt
     stop-known (RdLock l) h =
         by-test _ _ _ (Misuse t line TooManyReads)
-        (record { threads = one; whole = is_line; known = inr h.1 })
+        (misuse-known names version t line at is_line TooManyReads (inr h.1))
     stop-known (WrLock l) h = tt
     stop-known (TryRdLock l) h = no-stop _ _ _ _ _
     stop-known (TryWrLock l) h = no-stop _ _ _ _ _
@@ -165,7 +153,7 @@ module _ (names : NameLists) (version : ℕ) (deal : Deal) (bodies : List Pendin
 
   -- ---- the verdict at rest
   abbrev IsPlace : ℕ × ℕ → Type 0
-  IsPlace place = (place.0 < length names.threads) × IsLine place.1
+  IsPlace = IsKnownPlace names
 
   module _ (world : World) where
     abbrev IsPlaceOf : Option (ℕ × ℕ) → Type 0
@@ -206,31 +194,14 @@ module _ (names : NameLists) (version : ℕ) (deal : Deal) (bodies : List Pendin
 
     blocked-known : (blocked : List (ℕ × ℕ)) → All IsPlace blocked
         → IsKnownVerdict names version (verdict_of_blocked blocked)
-    blocked-known [] all = record {
-      threads = All-nil (λ thread. thread < length names.threads);
-      whole = tt;
-      known = inl refl;
-    }
-    blocked-known (place ∷ blocked) all = record {
-      threads =
-          All-map (λ thread. thread < length names.threads) (λ (p : ℕ × ℕ). p.0) (place ∷ blocked)
-          (λ k d within. (all k d within).0);
-      whole = (omega arith, λ k d within. (all k d within).1);
-      known = inl refl;
-    }
+    blocked-known [] all = passed-known names version
+    blocked-known (place ∷ blocked) all = stuck-known names version place blocked all
 
     rest-known : IsKnownVerdict names version
         (rest_verdict deal.threads world.store (next_posts_in source world))
     rest-known =
         blocked-known (filter_map (blocked_at world.store (next_posts_in source world))
         (threads_below deal.threads)) (places (threads_below deal.threads))
-
-    cut-known : IsKnownVerdict names version Cut
-    cut-known = record {
-      threads = All-nil (λ thread. thread < length names.threads);
-      whole = tt;
-      known = inl refl;
-    }
 
     -- where a run ended by a verdict
     abbrev EndsKnown : Option Outcome → Type 0
@@ -243,9 +214,9 @@ module _ (names : NameLists) (version : ℕ) (deal : Deal) (bodies : List Pendin
         (outcome_by_pick (rest_verdict deal.threads world.store (next_posts_in source world))
         full pick)
     by-pick full Nobody = rest-known
-    by-pick true (Thread t) = cut-known
+    by-pick true (Thread t) = cut-known names version
     by-pick false (Thread t) = tt
-    by-pick true (Departs t) = cut-known
+    by-pick true (Departs t) = cut-known names version
     by-pick false (Departs t) = tt
     by-pick full (Waits t) = tt
 
@@ -265,7 +236,7 @@ module _ (names : NameLists) (version : ℕ) (deal : Deal) (bodies : List Pendin
 
   pub known-run : (plan : Plan) (limit : ℕ) (events : List Event) (verdict : Verdict)
       (outcome : Outcome) → outcome ≡ Ends verdict → IsPlayed plan deal bodies limit events outcome
-      → AreKnown names version limit events verdict
+      → IsKnownRun names version limit events verdict
   known-run plan limit events verdict outcome ends played =
       let w = made-from (first_store deal) source events (played.obeys).made in
       let world = w.0 in

@@ -21,8 +21,8 @@ use Rattle.worker_run.specs.Samples.{sample_post, sample_pending}
 use Rattle.worker_run.proofs.laws.SampleRanges.{samples-within}
 use Rattle.worker_run.specs.Bodies.{Pending, no_body, pending_of, AreInRange}
 use Rattle.trace_text.specs.Lawful.{HasObjects}
+use Rattle.trace_text.proofs.laws.KnownVerdicts.{IsAsked}
 use Rattle.kit_main.specs.Showing.{IsTestDeal, test_sizes, test_names, IsShowable}
-use Rattle.kit_main.proofs.Known.{IsAsked}
 
 pub sizes-are : (deal : Deal) → IsTestDeal deal → sizes_of_deal deal ≡ test_sizes
 sizes-are deal is = λ i. record {

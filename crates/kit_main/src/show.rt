@@ -1,7 +1,8 @@
 ghost use Rattle.std.specs.Prelude.{◌≡◌, ◌≤◌, All, length, map, IfOk};
 ghost use Rattle.pct_outside.specs.Counter.{Rose};
+ghost use Rattle.trace_text.specs.Lawful.{IsKnownRun};
 ghost use Rattle.kit_main.specs.Showing.{test_names, IsShowable, IsRunOfBodies, Shows};
-ghost use Rattle.kit_main.specs.Told.{AreKnown, IsRunTrace, status_by};
+ghost use Rattle.kit_main.specs.Told.{IsRunTrace, status_by};
 
 use crate::shown::Shown;
 use crate::test_parts::{LIMIT, ORDER, POINTS, deal, header, names};
@@ -34,7 +35,7 @@ fn run_test<R: Threads + Wait + Sync, G: Gate>(
     requires bodies { All IsShowable (map pending bodies.items) }
     ensures run { IfOk result (λ r.
         IsRunOfBodies (map pending bodies.items) limit (r.events, r.verdict)) }
-    ensures known { IfOk result (λ r. AreKnown test_names 1 limit r.events r.verdict) }
+    ensures known { IfOk result (λ r. IsKnownRun test_names 1 limit r.events r.verdict) }
 {
     let deal = deal(alloc)?;
     match run_boxed(rt, alloc, deal, &ORDER, &POINTS, limit, bodies, gate) {

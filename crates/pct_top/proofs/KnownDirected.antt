@@ -12,7 +12,7 @@ use Rattle.script_tree.specs.DealOf.{IsDealOf}
 use Rattle.policy_pick.specs.Plan.{ByPoints, ByEvents}
 use Rattle.turn_book.specs.Posts.{schedule_of}
 use Rattle.script_body.specs.Bodies.{bodies_of}
-use Rattle.trace_text.specs.Lawful.{IsStepCount}
+use Rattle.trace_text.specs.Lawful.{IsStepCount, IsKnownRun}
 use Rattle.worker_run.specs.declared.played.Played.{Played}
 use Rattle.worker_run.proofs.laws.WholeRuns.{run-played, directed-played}
 use Rattle.directive.specs.declared.directive.Directive.{Directive}
@@ -22,7 +22,7 @@ use Rattle.directive_run.specs.Certifying.{Certifies}
 use Rattle.directive_run.specs.declared.answers.Certified.{Certified}
 use Rattle.directive_run.specs.declared.answers.Certified.TheVariants.{Yes, Refuted, TooLong}
 use Rattle.directive_run.specs.declared.answers.Certified.TheVariants.{TooManyThreads}
-use Rattle.pct_top.specs.Known.{IsKnownRun}
+use Rattle.pct_top.specs.Runs.{trace_version}
 use Rattle.pct_top.specs.Priorities.{ArePriorities}
 use Rattle.pct_top.specs.commands.KnownCertificate.{IsKnownCertificate}
 use Rattle.pct_top.proofs.KnownRuns.{known-run}
@@ -50,7 +50,7 @@ module _ (script : ScriptText) (deal : Deal) (sound : IsScript script)
       (played : Played)
       (is : IsExposed deal (bodies_of script) order events steps limit points played) where
     pub known-exposed : deal.threads ≡ length order
-        → IsKnownRun script limit played.events is.verdict
+        → IsKnownRun script.names (trace_version script) limit played.events is.verdict
     known-exposed whole =
         let runs = run-played deal (bodies_of script) order points limit played.events is.verdict
         whole is.is_run in

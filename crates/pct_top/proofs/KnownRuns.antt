@@ -6,7 +6,7 @@ use Rattle.std.specs.List.{filter_map, cons_option}
 use Rattle.std.proofs.lemmas.Bool.{cases_lt, cases_Bool}
 use Rattle.std.proofs.lemmas.Bool.Decides.{nat_tests}
 use Rattle.std.proofs.lemmas.List.{get_or_past}
-use Rattle.std.proofs.lemmas.List.Elements.{All-append, All-cons, All-nil, All-map}
+use Rattle.std.proofs.lemmas.List.Elements.{All-append, All-cons, All-nil}
 use Rattle.std.proofs.lemmas.List.FromFn.{length-map-range_with_len, get_or-map-range_with_len}
 use Rattle.std.proofs.lemmas.Option.{option_and_then_some}
 use Rattle.pct_ask.specs.NameLists.{NameLists}
@@ -24,8 +24,8 @@ use Rattle.pct_ask.specs.declared.verdict.Outcome.{Outcome}
 use Rattle.pct_ask.specs.declared.verdict.Outcome.TheVariants.{Verdict as Ends, Departed}
 use Rattle.pct_ask.specs.declared.verdict.Verdict.{Verdict}
 use Rattle.pct_ask.specs.declared.verdict.Verdict.TheVariants.{Failed, Misuse, Fault as Faulted}
-use Rattle.pct_ask.specs.declared.verdict.Verdict.TheVariants.{Cut}
-use Rattle.pct_ask.specs.declared.verdict.MisuseKind.TheVariants.{NotOwner, SemFull, TooManyReads}
+use Rattle.pct_ask.specs.declared.verdict.MisuseKind.TheVariants.{NotOwner, SemFull, AlreadyStarted}
+use Rattle.pct_ask.specs.declared.verdict.MisuseKind.TheVariants.{TooManyReads}
 use Rattle.sync_store.specs.Store.{StoreState, first_store, is_on, rwlock_of}
 use Rattle.sync_store.specs.Effect.{Goes, Stops, effect, after_unlock, goes_or}
 use Rattle.sync_store.specs.World.{Source, World, first_world, world_by_step, world_from}
@@ -49,9 +49,10 @@ use Rattle.turn_book.proofs.laws.Worlds.{Steps, steps-from, event_of, effect-is,
 use Rattle.worker_run.specs.Bodies.{Pending, no_body, pending_of, source_of_bodies}
 use Rattle.worker_run.specs.Played.{IsPlayed}
 use Rattle.script_body.specs.Bodies.{bodies_of}
-use Rattle.trace_text.specs.Lawful.{HasObjects, NamesKnown}
+use Rattle.trace_text.specs.Lawful.{HasObjects, NamesKnown, IsKnownVerdict, IsKnownRun}
+use Rattle.trace_text.proofs.laws.KnownVerdicts.{IsAsked, IsKnownPlace, failed-known, fault-known}
+use Rattle.trace_text.proofs.laws.KnownVerdicts.{misuse-known, passed-known, stuck-known, cut-known}
 use Rattle.pct_top.specs.Runs.{trace_version}
-use Rattle.pct_top.specs.Known.{IsKnownVerdict, IsKnownRun}
 
 second : (script : ScriptText) (l : ℕ) → rwlocks_fit script.version (script.names).rwlocks ≡ true
     → l < length (script.names).rwlocks → trace_version script ≡ 2
@@ -128,14 +129,8 @@ module _ (script : ScriptText) (deal : Deal) (sound : IsScript script)
 
   -- ---- a step
 
-  -- where a step is, and what it asks
-  record IsAsked (t line : ℕ) (ask : Ask) : Type 0 where
-    at : t < length names.threads
-    on : IsLine line
-    has : HasObjects names version ask
-
   asked-of : (t : ℕ) (post : Post) (ask : Ask) → t < length names.threads → IsPostOf deal post
-      → post.ask ≡ Some ask → IsAsked t post.line ask
+      → post.ask ≡ Some ask → IsAsked names version t post.line ask
   asked-of t post ask within is asks = record {
     at = within;
     on = (is.first_line, is.last_line);
@@ -143,7 +138,7 @@ module _ (script : ScriptText) (deal : Deal) (sound : IsScript script)
   }
 
   asked : (t : ℕ) (answers : List ℤ) (ask : Ask) → (pending_of bodies t answers).ask ≡ Some ask
-      → IsAsked t (pending_of bodies t answers).line ask
+      → IsAsked names version t (pending_of bodies t answers).line ask
   asked t answers ask asks =
       let n = length script.threads in
       elim (cases_lt t n) [
@@ -151,7 +146,7 @@ module _ (script : ScriptText) (deal : Deal) (sound : IsScript script)
             let at = get_or-map-range_with_len (pending script) 0 n t t no_body below
             (omega arith) in
             let P : Pending → Type 0 = λ posts. (posts answers).ask ≡ Some ask
-            → IsAsked t (posts answers).line ask in
+            → IsAsked names version t (posts answers).line ask in
             let known : P (pending script t) =
             asked-of t (pending script t answers) ask (omega (arith, below, sound.same_threads))
             (pending_named script deal sound of t below answers) in
@@ -170,11 +165,6 @@ module _ (script : ScriptText) (deal : Deal) (sound : IsScript script)
 
   module _ (store : StoreState) (t line : ℕ) (at : t < length names.threads)
       (is_line : IsLine line) where
-    one : All (λ thread. thread < length names.threads) (t ∷ [])
-    one =
-        All-cons (λ thread. thread < length names.threads) t [] at
-        (All-nil (λ thread. thread < length names.threads))
-
     by-test : (b : Bool) (after : StoreState) (answer : ℤ) (verdict : Verdict)
         → IsKnownVerdict names version verdict
         → Maybe (verdict_of (cond b (Goes after answer) (Stops verdict)))
@@ -187,15 +177,14 @@ module _ (script : ScriptText) (deal : Deal) (sound : IsScript script)
     no-stop false after other answer last = tt
 
     misused : IsKnownVerdict names version (Misuse t line NotOwner)
-    misused = record { threads = one; whole = is_line; known = inl refl }
+    misused = misuse-known names version t line at is_line NotOwner (inl refl)
 
     stop-known : (ask : Ask) → HasObjects names version ask
         → Maybe (verdict_of (effect store t line ask))
     stop-known (Read x) h = tt
     stop-known (Write x value) h = tt
     stop-known (Add x value) h =
-        by-test _ _ _ (Faulted t line _)
-        (record { threads = one; whole = is_line; known = inl refl })
+        by-test _ _ _ (Faulted t line _) (fault-known names version t line at is_line _)
     stop-known (Cas x old new) h = no-stop _ _ _ _ _
     stop-known (Lock m) h = tt
     stop-known (TryLock m) h = no-stop _ _ _ _ _
@@ -208,23 +197,22 @@ module _ (script : ScriptText) (deal : Deal) (sound : IsScript script)
     stop-known (TryDown s) h = no-stop _ _ _ _ _
     stop-known (Up s) h =
         by-test _ _ _ (Misuse t line SemFull)
-        (record { threads = one; whole = is_line; known = inl refl })
+        (misuse-known names version t line at is_line SemFull (inl refl))
     stop-known (Arrive b) h = tt
     stop-known (Leave b) h = tt
     stop-known (Join u) h = tt
     stop-known Yield h = tt
     stop-known (Check holds) h =
-        by-test holds _ _ (Failed t line)
-        (record { threads = one; whole = is_line; known = inl refl })
-    stop-known (Fault kind) h = record { threads = one; whole = is_line; known = inl refl }
+        by-test holds _ _ (Failed t line) (failed-known names version t line at is_line)
+    stop-known (Fault kind) h = fault-known names version t line at is_line kind
     stop-known (Start u) h = elim (cases_Bool (is_on u store.started)) [
-      | inl on ↦ rw on (record { threads = one; whole = is_line; known = inl refl })
+      | inl on ↦ rw on (misuse-known names version t line at is_line AlreadyStarted (inl refl))
       | inr off ↦ rw off tt
     ]
     stop-known Begin h = tt
     stop-known (RdLock l) h =
         by-test _ _ _ (Misuse t line TooManyReads)
-        (record { threads = one; whole = is_line; known = inr h.1 })
+        (misuse-known names version t line at is_line TooManyReads (inr h.1))
     stop-known (WrLock l) h = tt
     stop-known (TryRdLock l) h = no-stop _ _ _ _ _
     stop-known (TryWrLock l) h = no-stop _ _ _ _ _
@@ -242,7 +230,8 @@ module _ (script : ScriptText) (deal : Deal) (sound : IsScript script)
   known-step : (world : World) (t : ℕ) (next : World) → IsKnownWorld world
       → Steps source world t next → IsKnownWorld next
   known-step world t next known steps =
-      let P : Post → Type 0 = λ post. (ask : Ask) → post.ask ≡ Some ask → IsAsked t post.line ask in
+      let P : Post → Type 0 = λ post. (ask : Ask) → post.ask ≡ Some ask
+      → IsAsked names version t post.line ask in
       let same : pending_of bodies t (answers_of t world.events) ≡ steps.post =
       let posted = steps.posted in cc in
       let is = subst P same (asked t (answers_of t world.events)) steps.ask steps.asks in
@@ -273,7 +262,7 @@ module _ (script : ScriptText) (deal : Deal) (sound : IsScript script)
 
   -- ---- the verdict at rest
   abbrev IsPlace : ℕ × ℕ → Type 0
-  IsPlace place = (place.0 < length names.threads) × IsLine place.1
+  IsPlace = IsKnownPlace names
 
   module _ (world : World) where
     abbrev IsPlaceOf : Option (ℕ × ℕ) → Type 0
@@ -291,7 +280,7 @@ module _ (script : ScriptText) (deal : Deal) (sound : IsScript script)
     place-of t post None asks posted = tt
     place-of t post (Some ask) asks posted =
         let P : Post → Type 0 = λ post. (ask : Ask) → post.ask ≡ Some ask
-        → IsAsked t post.line ask in
+        → IsAsked names version t post.line ask in
         let is = subst P posted (asked t (answers_of t world.events)) ask asks in
         place-by (is_idle world.store t ask) t post.line (is.at, is.on)
 
@@ -314,31 +303,14 @@ module _ (script : ScriptText) (deal : Deal) (sound : IsScript script)
 
     blocked-known : (blocked : List (ℕ × ℕ)) → All IsPlace blocked
         → IsKnownVerdict names version (verdict_of_blocked blocked)
-    blocked-known [] all = record {
-      threads = All-nil (λ thread. thread < length names.threads);
-      whole = tt;
-      known = inl refl;
-    }
-    blocked-known (place ∷ blocked) all = record {
-      threads =
-          All-map (λ thread. thread < length names.threads) (λ (p : ℕ × ℕ). p.0) (place ∷ blocked)
-          (λ k d within. (all k d within).0);
-      whole = (omega arith, λ k d within. (all k d within).1);
-      known = inl refl;
-    }
+    blocked-known [] all = passed-known names version
+    blocked-known (place ∷ blocked) all = stuck-known names version place blocked all
 
     rest-known : IsKnownVerdict names version
         (rest_verdict deal.threads world.store (next_posts_in source world))
     rest-known =
         blocked-known (filter_map (blocked_at world.store (next_posts_in source world))
         (threads_below deal.threads)) (places (threads_below deal.threads))
-
-    cut-known : IsKnownVerdict names version Cut
-    cut-known = record {
-      threads = All-nil (λ thread. thread < length names.threads);
-      whole = tt;
-      known = inl refl;
-    }
 
     -- where a run ended by a verdict
     abbrev EndsKnown : Option Outcome → Type 0
@@ -351,9 +323,9 @@ module _ (script : ScriptText) (deal : Deal) (sound : IsScript script)
         (outcome_by_pick (rest_verdict deal.threads world.store (next_posts_in source world))
         full pick)
     by-pick full Nobody = rest-known
-    by-pick true (Thread t) = cut-known
+    by-pick true (Thread t) = cut-known names version
     by-pick false (Thread t) = tt
-    by-pick true (Departs t) = cut-known
+    by-pick true (Departs t) = cut-known names version
     by-pick false (Departs t) = tt
     by-pick full (Waits t) = tt
 
@@ -373,7 +345,7 @@ module _ (script : ScriptText) (deal : Deal) (sound : IsScript script)
 
   pub known-run : (plan : Plan) (limit : ℕ) (events : List Event) (verdict : Verdict)
       (outcome : Outcome) → outcome ≡ Ends verdict → IsPlayed plan deal bodies limit events outcome
-      → IsKnownRun script limit events verdict
+      → IsKnownRun names version limit events verdict
   known-run plan limit events verdict outcome ends played =
       let w = made-from (first_store deal) source events (played.obeys).made in
       let world = w.0 in

@@ -10,7 +10,6 @@ pub mod Ready
 pub mod Printed
 pub mod Runs
 pub mod Priorities
-pub mod Known
 pub mod commands
 pub mod Reports
 pub mod Reported

@@ -3,10 +3,9 @@
 ghost use Rattle.std.specs.Prelude.{◌≡◌, ◌≤◌, length, Some, IfOk};
 ghost use Rattle.rank_now.specs.Order.{IsOrder};
 ghost use Rattle.script_tree.specs.ScriptSeen.{plain_script};
-ghost use Rattle.trace_text.specs.Lawful.{IsStepCount};
-ghost use Rattle.pct_top.specs.Runs.{run_of};
+ghost use Rattle.trace_text.specs.Lawful.{IsStepCount, IsKnownRun};
+ghost use Rattle.pct_top.specs.Runs.{run_of, trace_version};
 ghost use Rattle.pct_top.specs.Ready.{IsReadyTest};
-ghost use Rattle.pct_top.specs.Known.{IsKnownRun};
 
 use crate::test::Test;
 use pct_outside::Gate;
@@ -35,7 +34,8 @@ pub fn play<R: Threads + Wait + Sync, G: Gate>(
         run_of (plain_script test.now.script) test.now.deal order.now points.now limit
         ≡ Some (run.events, run.verdict)) }
     ensures known { IfOk result (λ run.
-        IsKnownRun (plain_script test.now.script) limit run.events run.verdict) }
+        IsKnownRun test.now.script.names (trace_version (plain_script test.now.script)) limit
+        run.events run.verdict) }
 {
     let bodies = bodies_of(alloc, &test.code)?;
     let deal = test.deal.copy(alloc)?;

@@ -2,10 +2,9 @@
 
 ghost use Rattle.std.specs.Prelude.{◌≡◌, length, IfOk};
 ghost use Rattle.script_tree.specs.ScriptSeen.{plain_script};
-ghost use Rattle.trace_text.specs.Lawful.{IsStepCount};
+ghost use Rattle.trace_text.specs.Lawful.{IsStepCount, IsKnownRun};
 ghost use Rattle.pct_top.specs.Runs.{trace_version as version_by, is_passed as is_passed_by};
 ghost use Rattle.pct_top.specs.Runs.{TellsRun};
-ghost use Rattle.pct_top.specs.Known.{IsKnownRun};
 ghost use Rattle.pct_top.specs.Priorities.{ArePriorities};
 ghost use Rattle.pct_top.specs.Outcome.{printed_of};
 
@@ -42,7 +41,8 @@ pub fn told_trace(
 ) -> Result<Outcome, NoMemory>
     requires priorities { ArePriorities (length script.now.names.threads) priorities }
     requires limit { IsStepCount limit }
-    requires known { IsKnownRun (plain_script script.now) limit run.now.events run.now.verdict }
+    requires known { IsKnownRun script.now.names (version_by (plain_script script.now)) limit
+        run.now.events run.now.verdict }
     ensures { IfOk result (λ outcome.
         TellsRun (plain_script script.now) priorities.order priorities.points limit
         (run.now.events, run.now.verdict) done (printed_of outcome)) }

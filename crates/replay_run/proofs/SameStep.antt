@@ -7,18 +7,11 @@ use Rattle.std.proofs.Common.{◌≡◌, refl, ap}
 use Rattle.std.proofs.lemmas.Bool.Decides.{Decides-and, Decides-like}
 use Rattle.pct_ask.specs.declared.ask.Ask.{Ask}
 use Rattle.pct_ask.specs.declared.ask.Ask.TheVariants.{Read, Write, Add, Cas, Lock, TryLock, Unlock, Release, Regain, Signal, Broadcast, Down, TryDown, Up, Arrive, Leave, Join, Yield, Check, Fault, Start, Begin, RdLock, WrLock, TryRdLock, TryWrLock, RwUnlock}
-use Rattle.pct_ask.specs.declared.ask.FaultKind.{FaultKind}
-use Rattle.pct_ask.specs.declared.ask.FaultKind.TheVariants.{Overflow, ZeroDivisor, Spin}
 use Rattle.pct_ask.specs.declared.event.Event.{Event}
 use Rattle.pct_ask.specs.contracts.ask.AskPartialEq.TheImpl as ask_eq
 use Rattle.pct_ask.specs.contracts.ask.FaultKindPartialEq.TheImpl as fault_eq
 use Rattle.pct_ask.specs.contracts.event.EventPartialEq.TheImpl as event_eq
-
-fault-Decides : (a b : FaultKind) → Decides ((fault_eq.ghosts).eq a b) (a ≡ b)
-fault-Decides Overflow Overflow = (λ h. refl, λ h. refl)
-fault-Decides ZeroDivisor ZeroDivisor = (λ h. refl, λ h. refl)
-fault-Decides Spin Spin = (λ h. refl, λ h. refl)
-fault-Decides a b = (λ h. cc, λ h. cc)
+use Rattle.pct_ask.proofs.laws.SameVerdicts.{fault-Decides}
 
 ask-Decides : (a b : Ask) → Decides ((ask_eq.ghosts).eq a b) (a ≡ b)
 ask-Decides (Read x) (Read u) = Decides-like (x == u) (λ e. ap (λ n. Read n) e) (λ e. cc) (unsigned_Decides x u)

@@ -24,6 +24,5 @@ pub mod Readings
 pub mod Sizes
 pub mod Traces
 pub mod OneAnswer
-pub mod WrittenForms
 pub mod FaultRows
 pub mod laws

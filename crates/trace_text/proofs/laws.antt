@@ -5,3 +5,5 @@ pub mod Objects
 pub mod Faults
 -- a file's trace is read as the file
 pub mod Answers
+-- a verdict of a step that names what there is may be told by a trace
+pub mod KnownVerdicts

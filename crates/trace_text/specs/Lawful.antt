@@ -1,10 +1,11 @@
 -- What the parts of a trace may be (this project).
 use Rattle.std.specs.Prelude.{◌≡◌, ◌≢◌, ℕ, ℤ, ◌≤◌, ◌<◌, ◌⊎◌, Bool, true, false, length, FitsSigned}
-use Rattle.std.specs.Prelude.{All}
+use Rattle.std.specs.Prelude.{List, All}
 use Rattle.std.specs.Int.{w64}
 use Rattle.std.specs.List.{AllPairs}
 use Rattle.pct_ask.specs.NameLists.{NameLists}
-use Rattle.pct_ask.specs.VerdictText.{named_verdict, IsVerdictForm, HasNames, IsLine}
+use Rattle.pct_ask.specs.VerdictText.{named_verdict, IsVerdictForm, HasNames, IsWholeVerdict}
+use Rattle.pct_ask.specs.VerdictText.{IsLine}
 use Rattle.pct_ask.specs.declared.ask.Ask.{Ask}
 use Rattle.pct_ask.specs.declared.ask.Ask.TheVariants.{Read, Write, Add, Cas, Lock, TryLock, Unlock}
 use Rattle.pct_ask.specs.declared.ask.Ask.TheVariants.{Release, Regain, Signal, Broadcast, Down}
@@ -93,6 +94,22 @@ pub record IsEnd (names : NameLists) (version : ℕ) (verdict : Verdict) : Type 
   pub threads : HasNames names verdict
   pub form : IsVerdictForm names (named_verdict names verdict)
   pub known : (is_of_second verdict ≡ false) ⊎ (version ≡ 2)
+
+-- A verdict that a trace of a version may tell of a test: its threads have names, its lines are a
+-- test's, a list of blocked threads isn't empty, and the first version has no misuse of a
+-- read-write lock.
+pub record IsKnownVerdict (names : NameLists) (version : ℕ) (verdict : Verdict) : Type 0 where
+  pub threads : HasNames names verdict
+  pub whole : IsWholeVerdict verdict
+  pub known : (is_of_second verdict ≡ false) ⊎ (version ≡ 2)
+
+-- A run that a trace of a version may tell of a test: it has at most so many steps, and they and
+-- the verdict name only what there is.
+pub record IsKnownRun (names : NameLists) (version limit : ℕ) (events : List Event)
+    (verdict : Verdict) : Type 0 where
+  pub few : length events ≤ limit
+  pub steps : All (NamesKnown names version) events
+  pub end : IsKnownVerdict names version verdict
 
 -- a number in 1..100000: a limit, or the step of a change point
 abbrev pub IsStepCount : ℕ → Type 0

@@ -11,7 +11,8 @@ use Rattle.worker_run.specs.declared.by_order.WholeRun.{WholeRun}
 use Rattle.worker_run.specs.Bodies.{Pending}
 use Rattle.worker_run.specs.Played.{IsPlayed}
 use Rattle.worker_run.specs.Run.{run}
-use Rattle.pct_top.specs.Known.{IsKnownRun}
+use Rattle.trace_text.specs.Lawful.{IsKnownRun}
+use Rattle.pct_top.specs.Runs.{trace_version}
 use Rattle.pct_top.proofs.KnownRuns.{known-run}
 use Rattle.pct_top.proofs.playing.play.Goals as goal
 
@@ -54,6 +55,7 @@ returns-clause-known g c =
     (subst D c.in_ok-deal.ensures c.run_by_points.ensures.played) in
     IfOk-weaker c.run_by_points.result
     (λ (r : WholeRun). IsPlayed plan test.deal (bodies_of script) c.args.limit r.events
-    (Ends r.verdict)) (λ (r : WholeRun). IsKnownRun script c.args.limit r.events r.verdict)
+    (Ends r.verdict)) (λ (r : WholeRun).
+    IsKnownRun script.names (trace_version script) c.args.limit r.events r.verdict)
     (λ r is. known-run script test.deal (c.requires.ready).sound (c.requires.ready).is_deal plan
     c.args.limit r.events r.verdict (Ends r.verdict) refl is) played

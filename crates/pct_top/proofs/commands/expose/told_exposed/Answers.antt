@@ -6,7 +6,8 @@ use Rattle.script_tree.specs.ScriptSeen.{plain_script}
 use Rattle.script_body.specs.Bodies.{bodies_of}
 use Rattle.directive_run.specs.Exposing.{Exposes}
 use Rattle.directive_run.specs.declared.answers.Exposed.{Exposed}
-use Rattle.pct_top.specs.Known.{IsKnownRun}
+use Rattle.trace_text.specs.Lawful.{IsKnownRun}
+use Rattle.pct_top.specs.Runs.{trace_version}
 use Rattle.pct_top.proofs.KnownDirected.{known-exposed}
 use Rattle.pct_top.proofs.commands.expose.told_exposed.Goals as goal
 
@@ -25,6 +26,8 @@ told_trace-requires-clause-known c =
     let ends : Ends is.verdict ≡ Ends run.verdict =
     sym is.ends ∙ c.into_whole-run.ensures.verdict in
     let verdict : is.verdict ≡ run.verdict = cc in
-    let E : List Event → Type 0 = λ made. IsKnownRun script c.args.limit made is.verdict in
-    let V : Verdict → Type 0 = λ v. IsKnownRun script c.args.limit run.events v in
+    let Known : List Event → Verdict → Type 0 =
+    IsKnownRun script.names (trace_version script) c.args.limit in
+    let E : List Event → Type 0 = λ made. Known made is.verdict in
+    let V : Verdict → Type 0 = λ v. Known run.events v in
     subst V verdict (subst E (sym c.into_whole-run.ensures.events) known)
