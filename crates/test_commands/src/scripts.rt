@@ -49,7 +49,8 @@ pub(crate) fn code_and_deal(alloc: Global, text: &[u8]) -> Result<(Code, Deal), 
     ensures { IfOk result (λ made. (script : ScriptText) × AreOf script (listing made.0) made.1) }
 {
     let script = parse(alloc, text)?;
-    let code = compile(alloc, &script)?;
-    let deal = script.deal(alloc)?;
-    Ok((code, deal))
+    let code = compile(alloc, &script);
+    let deal = script.deal(alloc);
+    drop(script);
+    Ok((code?, deal?))
 }

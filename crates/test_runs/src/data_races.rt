@@ -37,13 +37,11 @@ fn are_in_range(deal: &Deal, events: &[Event]) -> bool
     events.iter().all(|event| is_in_range(deal, event))
 }
 
-/// Steps of threads, each with its ask and its answer, have these races.
-fn expect(
-    rt: &impl Abort,
-    alloc: Global,
-    steps: &[(u32, Ask, i64)],
-    expected: &[Race],
-) -> Result<(), Fail> {
+/// A thread's step, with its ask and its answer.
+type Step = (u32, Ask, i64);
+
+/// The steps have these races.
+fn expect(rt: &impl Abort, alloc: Global, steps: &[Step], expected: &[Race]) -> Result<(), Fail> {
     let mut events = Vec::new(alloc);
     for (thread, ask, answer) in steps {
         events.push(Event {
@@ -65,76 +63,82 @@ fn expect(
     Ok(())
 }
 
+macro_rules! race {
+    ($var:literal, $first:literal, $second:literal) => {
+        Race {
+            var: $var,
+            first: $first,
+            second: $second,
+        }
+    };
+}
+
 /// Two threads add to a variable by a read and a write, and a third joins both and reads it.
+const ADDERS: [Step; 8] = [
+    (0, Ask::Read { var: 0 }, 0),
+    (0, Ask::Write { var: 0, value: 1 }, 0),
+    (1, Ask::Read { var: 0 }, 1),
+    (1, Ask::Write { var: 0, value: 2 }, 0),
+    (2, Ask::Join { thread: 0 }, 0),
+    (2, Ask::Join { thread: 1 }, 0),
+    (2, Ask::Read { var: 0 }, 2),
+    (2, Ask::Check { holds: true }, 0),
+];
+
 #[test]
 fn one_race(rt: HostRuntime) -> Result<(), Fail> {
-    let steps = [
-        (0, Ask::Read { var: 0 }, 0),
-        (0, Ask::Write { var: 0, value: 1 }, 0),
-        (1, Ask::Read { var: 0 }, 1),
-        (1, Ask::Write { var: 0, value: 2 }, 0),
-        (2, Ask::Join { thread: 0 }, 0),
-        (2, Ask::Join { thread: 1 }, 0),
-        (2, Ask::Read { var: 0 }, 2),
-        (2, Ask::Check { holds: true }, 0),
-    ];
-    let race = Race {
-        var: 0,
-        first: 2,
-        second: 3,
-    };
-    expect(&rt, rt.alloc(), &steps, &[race])
+    expect(&rt, rt.alloc(), &ADDERS, &[race!(0, 2, 3)])
 }
 
 /// The same mutex is held round both writes.
+const ONE_MUTEX: [Step; 6] = [
+    (0, Ask::Lock { mutex: 0 }, 0),
+    (0, Ask::Write { var: 0, value: 1 }, 0),
+    (0, Ask::Unlock { mutex: 0 }, 0),
+    (1, Ask::Lock { mutex: 0 }, 0),
+    (1, Ask::Write { var: 0, value: 2 }, 0),
+    (1, Ask::Unlock { mutex: 0 }, 0),
+];
+
 #[test]
 fn no_race(rt: HostRuntime) -> Result<(), Fail> {
-    let steps = [
-        (0, Ask::Lock { mutex: 0 }, 0),
-        (0, Ask::Write { var: 0, value: 1 }, 0),
-        (0, Ask::Unlock { mutex: 0 }, 0),
-        (1, Ask::Lock { mutex: 0 }, 0),
-        (1, Ask::Write { var: 0, value: 2 }, 0),
-        (1, Ask::Unlock { mutex: 0 }, 0),
-    ];
-    expect(&rt, rt.alloc(), &steps, &[])
+    expect(&rt, rt.alloc(), &ONE_MUTEX, &[])
 }
+
+const EXCHANGE: Ask = Ask::Cas {
+    var: 0,
+    old: 5,
+    new: 6,
+};
 
 /// A failed exchange after a plain write does not hide the write from a later read, and an addition
 /// of another thread comes after the one before it, with all that came before that.
+const ATOMIC_ACCESSES: [Step; 8] = [
+    (0, Ask::Write { var: 0, value: 1 }, 0),
+    (0, EXCHANGE, 0),
+    (0, Ask::Write { var: 1, value: 1 }, 0),
+    (0, Ask::Add { var: 1, value: 1 }, 1),
+    (1, Ask::Read { var: 0 }, 1),
+    (1, Ask::Add { var: 1, value: 1 }, 2),
+    (1, Ask::Read { var: 1 }, 3),
+    (2, Ask::Read { var: 1 }, 3),
+];
+
 #[test]
 fn atomic_accesses(rt: HostRuntime) -> Result<(), Fail> {
-    let exchange = Ask::Cas {
-        var: 0,
-        old: 5,
-        new: 6,
-    };
-    let steps = [
-        (0, Ask::Write { var: 0, value: 1 }, 0),
-        (0, exchange, 0),
-        (0, Ask::Write { var: 1, value: 1 }, 0),
-        (0, Ask::Add { var: 1, value: 1 }, 1),
-        (1, Ask::Read { var: 0 }, 1),
-        (1, Ask::Add { var: 1, value: 1 }, 2),
-        (1, Ask::Read { var: 1 }, 3),
-        (2, Ask::Read { var: 1 }, 3),
-    ];
-    let exchanged = Race {
-        var: 0,
-        first: 1,
-        second: 5,
-    };
-    let added = Race {
-        var: 1,
-        first: 6,
-        second: 8,
-    };
-    expect(&rt, rt.alloc(), &steps, &[exchanged, added])
+    expect(
+        &rt,
+        rt.alloc(),
+        &ATOMIC_ACCESSES,
+        &[race!(0, 1, 5), race!(1, 6, 8)],
+    )
 }
 
 /// What one thread does, with its answer, then another, with its answer, and whether that is an
 /// edge. Thread 0 is the first, thread 1 the other.
-const PAIRS: [(Ask, i64, Ask, i64, bool); 26] = [
+type Pair = (Ask, i64, Ask, i64, bool);
+
+const PAIRS: [Pair; 26] = [
     (Ask::Unlock { mutex: 0 }, 0, Ask::Lock { mutex: 0 }, 0, true),
     (
         Ask::Unlock { mutex: 0 },
@@ -265,27 +269,25 @@ const PAIRS: [(Ask, i64, Ask, i64, bool); 26] = [
     ),
 ];
 
+const WRITE: Ask = Ask::Write { var: 0, value: 1 };
+
 /// Two threads write, and an edge lies between the writes or none.
+fn expect_pair(rt: &impl Abort, alloc: Global, pair: &Pair) -> Result<(), Fail> {
+    let (first, told, second, answer, ordered) = *pair;
+    let steps = [
+        (0, WRITE, 0),
+        (0, first, told),
+        (1, second, answer),
+        (1, WRITE, 0),
+    ];
+    let races: &[Race] = if ordered { &[] } else { &[race!(0, 1, 4)] };
+    expect(rt, alloc, &steps, races)
+}
+
 #[test]
 fn edges(rt: HostRuntime) -> Result<(), Fail> {
-    let write = Ask::Write { var: 0, value: 1 };
-    let race = Race {
-        var: 0,
-        first: 1,
-        second: 4,
-    };
-    for (first, told, second, answer, ordered) in &PAIRS {
-        let steps = [
-            (0, write, 0),
-            (0, *first, *told),
-            (1, *second, *answer),
-            (1, write, 0),
-        ];
-        if *ordered {
-            expect(&rt, rt.alloc(), &steps, &[])?;
-        } else {
-            expect(&rt, rt.alloc(), &steps, &[race])?;
-        }
+    for pair in &PAIRS {
+        expect_pair(&rt, rt.alloc(), pair)?;
     }
     Ok(())
 }

@@ -116,76 +116,82 @@ fn is_good(
     Ok(check_report(alloc, &deal, &events, report)?)
 }
 
+/// What a report says.
+#[derive(Clone, Copy)]
+enum Said {
+    Cycle(&'static [Nesting]),
+    Order(&'static [u32]),
+}
+
+fn says(report: &LockReport, said: Said) -> bool {
+    match (report, said) {
+        (LockReport::Cycle { nestings }, Said::Cycle(cycle)) => nestings.as_slice() == cycle,
+        (LockReport::Order { mutexes }, Said::Order(order)) => mutexes.as_slice() == order,
+        _ => false,
+    }
+}
+
+/// The report that says it.
+fn report_of(alloc: Global, said: Said) -> Result<LockReport, AllocError> {
+    Ok(match said {
+        Said::Cycle(cycle) => LockReport::Cycle {
+            nestings: NestingList::from_vec(Vec::from_slice(alloc, cycle)?),
+        },
+        Said::Order(order) => LockReport::Order {
+            mutexes: IdList::from_vec(Vec::from_slice(alloc, order)?),
+        },
+    })
+}
+
+/// This is reported of the steps, and is so.
+fn expect(rt: &impl Abort, alloc: Global, steps: &[Step], said: Said) -> Result<(), Fail> {
+    let report = report_on(rt, alloc, steps)?;
+    assert!(rt; says(&report, said));
+    assert!(rt; is_good(rt, alloc, steps, &report)?);
+    Ok(())
+}
+
+/// This isn't so of the steps.
+fn expect_bad(rt: &impl Abort, alloc: Global, steps: &[Step], said: Said) -> Result<(), Fail> {
+    let report = report_of(alloc, said)?;
+    assert!(rt; !is_good(rt, alloc, steps, &report)?);
+    Ok(())
+}
+
+macro_rules! nesting {
+    ($step:literal, $thread:literal, $held:literal, $taken:literal) => {
+        Nesting {
+            step: $step,
+            thread: $thread,
+            held: $held,
+            taken: $taken,
+        }
+    };
+}
+
+const TWO_AROUND: [Nesting; 2] = [nesting!(2, 0, 0, 1), nesting!(6, 1, 1, 0)];
+
+const FIRST_OF_TWO: [Nesting; 1] = [nesting!(2, 0, 0, 1)];
+
 #[test]
 fn two_orders(rt: HostRuntime) -> Result<(), Fail> {
-    let first = Nesting {
-        step: 2,
-        thread: 0,
-        held: 0,
-        taken: 1,
-    };
-    let second = Nesting {
-        step: 6,
-        thread: 1,
-        held: 1,
-        taken: 0,
-    };
-    let report = report_on(&rt, rt.alloc(), &OPPOSED)?;
-    assert!(rt;
-        matches!(
-            &report,
-            LockReport::Cycle { nestings } if nestings.as_slice() == [first, second].as_slice()
-        )
-    );
-    assert!(rt; is_good(&rt, rt.alloc(), &OPPOSED, &report)?);
-    let alone = NestingList::from_vec(vec![in rt.alloc(); first]?);
-    let part = LockReport::Cycle { nestings: alone };
-    assert!(rt; !is_good(&rt, rt.alloc(), &OPPOSED, &part)?);
-    Ok(())
+    expect(&rt, rt.alloc(), &OPPOSED, Said::Cycle(&TWO_AROUND))?;
+    expect_bad(&rt, rt.alloc(), &OPPOSED, Said::Cycle(&FIRST_OF_TWO))
 }
 
 #[test]
 fn one_order(rt: HostRuntime) -> Result<(), Fail> {
-    let report = report_on(&rt, rt.alloc(), &AGREED)?;
-    assert!(rt;
-        matches!(
-            &report,
-            LockReport::Order { mutexes } if mutexes.as_slice() == [0, 1, 2, 3].as_slice()
-        )
-    );
-    assert!(rt; is_good(&rt, rt.alloc(), &AGREED, &report)?);
-    let twice = IdList::from_vec(vec![in rt.alloc(); 0, 1, 2, 3, 3]?);
-    let report = LockReport::Order { mutexes: twice };
-    assert!(rt; !is_good(&rt, rt.alloc(), &AGREED, &report)?);
-    Ok(())
+    expect(&rt, rt.alloc(), &AGREED, Said::Order(&[0, 1, 2, 3]))?;
+    expect_bad(&rt, rt.alloc(), &AGREED, Said::Order(&[0, 1, 2, 3, 3]))
 }
+
+const THREE_AROUND: [Nesting; 3] = [
+    nesting!(2, 0, 1, 3),
+    nesting!(6, 1, 3, 2),
+    nesting!(12, 2, 2, 1),
+];
 
 #[test]
 fn three_around(rt: HostRuntime) -> Result<(), Fail> {
-    let cycle = [
-        Nesting {
-            step: 2,
-            thread: 0,
-            held: 1,
-            taken: 3,
-        },
-        Nesting {
-            step: 6,
-            thread: 1,
-            held: 3,
-            taken: 2,
-        },
-        Nesting {
-            step: 12,
-            thread: 2,
-            held: 2,
-            taken: 1,
-        },
-    ];
-    let report = report_on(&rt, rt.alloc(), &AROUND)?;
-    assert!(rt;
-        matches!(&report, LockReport::Cycle { nestings } if nestings.as_slice() == cycle.as_slice())
-    );
-    assert!(rt; is_good(&rt, rt.alloc(), &AROUND, &report)?);
-    Ok(())
+    expect(&rt, rt.alloc(), &AROUND, Said::Cycle(&THREE_AROUND))
 }

@@ -40,8 +40,8 @@ fn play<R: Threads + Wait + Sync, P: Policy, G: Gate>(
     requires stands { P.stands policy [] }
     requires speaks { SpeaksOf (P.plan policy) 3 }
 {
-    let deal = deal_of(alloc, 3)?;
     let bodies = samples(alloc)?;
+    let deal = deal_of(alloc, 3)?;
     run_threads(rt, alloc, deal, policy, limit, bodies, gate)
 }
 
@@ -51,24 +51,36 @@ fn expect(rt: &impl Abort, played: &Played, events: &[Event], outcome: Outcome) 
     assert_eq!(rt; played.outcome, outcome);
 }
 
-/// Each body in a thread of its own.
-#[test]
-fn counts_in_order(rt: HostRuntime) -> Result<(), Fail> {
-    let pct = Pct::new(rt.alloc(), &[0, 1, 2], &[])?;
-    let played = play(&rt, rt.alloc(), pct, 10_000, &OpenGate::new())?;
-    expect(&rt, &played, &IN_ORDER, Outcome::Verdict(Verdict::Passed));
+/// The run in order, with each body in a thread of its own.
+fn expect_in_order<R: Threads + Wait + Sync + Abort, G: Gate>(
+    rt: &R,
+    alloc: Global,
+    gate: &G,
+) -> Result<(), Fail> {
+    let pct = Pct::new(alloc, &[0, 1, 2], &[])?;
+    let played = play(rt, alloc, pct, 10_000, gate)?;
+    expect(rt, &played, &IN_ORDER, Outcome::Verdict(Verdict::Passed));
     Ok(())
 }
 
-/// All bodies by the caller.
+#[test]
+fn counts_in_order(rt: HostRuntime) -> Result<(), Fail> {
+    expect_in_order(&rt, rt.alloc(), &OpenGate::new())
+}
+
+/// The run in order, with all bodies by the caller.
+fn expect_here<R: Wait + Abort, G: Gate>(rt: &R, alloc: Global, gate: &G) -> Result<(), Fail> {
+    let pct = Pct::new(alloc, &[0, 1, 2], &[])?;
+    let bodies = samples(alloc)?;
+    let deal = deal_of(alloc, 3)?;
+    let played = run_here(rt, alloc, deal, pct, 10_000, bodies, gate)?;
+    expect(rt, &played, &IN_ORDER, Outcome::Verdict(Verdict::Passed));
+    Ok(())
+}
+
 #[test]
 fn served_here(rt: HostRuntime) -> Result<(), Fail> {
-    let pct = Pct::new(rt.alloc(), &[0, 1, 2], &[])?;
-    let deal = deal_of(rt.alloc(), 3)?;
-    let bodies = samples(rt.alloc())?;
-    let played = run_here(&rt, rt.alloc(), deal, pct, 10_000, bodies, &OpenGate::new())?;
-    expect(&rt, &played, &IN_ORDER, Outcome::Verdict(Verdict::Passed));
-    Ok(())
+    expect_here(&rt, rt.alloc(), &OpenGate::new())
 }
 
 /// On a lock that is lent: afterwards its book has the run.
@@ -169,9 +181,7 @@ fn passes_the_gate(rt: HostRuntime) -> Result<(), Fail> {
         arrivals: AtomicU64::new(0),
         turns: AtomicU64::new(0),
     };
-    let pct = Pct::new(rt.alloc(), &[0, 1, 2], &[])?;
-    let played = play(&rt, rt.alloc(), pct, 10_000, &gate)?;
-    expect(&rt, &played, &IN_ORDER, Outcome::Verdict(Verdict::Passed));
+    expect_in_order(&rt, rt.alloc(), &gate)?;
     assert_eq!(rt; gate.arrivals.load(Ordering::SeqCst), 11);
     assert_eq!(rt; gate.turns.load(Ordering::SeqCst), 16);
     Ok(())

@@ -282,6 +282,33 @@ fn turn(
     lock.try_turn(seat, thread, Some(post))
 }
 
+/// What a thread's first post gets.
+fn expect_turn(
+    rt: &impl Abort,
+    lock: &TurnLock<Pct>,
+    deal: &Deal,
+    seat: &mut Seat<Pct>,
+    thread: u32,
+    want: Turn,
+)
+    requires of { HasSeat lock.now seat.old }
+    requires made { (first_book lock.now).deal ≡ deal.now }
+    ensures of { HasSeat lock.now seat.new }
+{
+    let post = post_of(Script::Sums, thread, 0, 0);
+    assert_eq!(rt; turn(rt, lock, deal, seat, thread, post), want, "{thread}");
+}
+
+/// The first thread has not posted yet.
+macro_rules! away {
+    ($at:literal) => {
+        Turn::NotYet {
+            at: $at,
+            because: Because::Away(0),
+        }
+    };
+}
+
 /// One seat for all threads is told whose turn it is.
 #[test]
 fn turns_of_one_seat(rt: HostRuntime) -> Result<(), Fail> {
@@ -290,30 +317,11 @@ fn turns_of_one_seat(rt: HostRuntime) -> Result<(), Fail> {
         mut seat,
         deal,
     } = make_bench(rt.alloc(), &[0, 1, 2])?;
-    let away = Because::Away(0);
-    let joins = post_of(Script::Sums, 2, 0, 0);
-    assert_eq!(rt;
-        turn(&rt, &lock, &deal, &mut seat, 2, joins),
-        Turn::NotYet {
-            at: 0,
-            because: away
-        }
-    );
-    let reads = post_of(Script::Sums, 0, 0, 0);
-    assert_eq!(rt;
-        turn(&rt, &lock, &deal, &mut seat, 0, reads),
-        Turn::Answer(0)
-    );
+    expect_turn(&rt, &lock, &deal, &mut seat, 2, away!(0));
+    expect_turn(&rt, &lock, &deal, &mut seat, 0, Turn::Answer(0));
     assert!(rt; seat.serves(0));
     assert!(rt; seat.owes(0));
-    let reads = post_of(Script::Sums, 1, 0, 0);
-    assert_eq!(rt;
-        turn(&rt, &lock, &deal, &mut seat, 1, reads),
-        Turn::NotYet {
-            at: 1,
-            because: away
-        }
-    );
+    expect_turn(&rt, &lock, &deal, &mut seat, 1, away!(1));
     Ok(())
 }
 

@@ -1,8 +1,8 @@
 // Bodies of scripts that are driven by hand.
+use crate::compiling::code_of_text;
 use pct_ask::{Ask, Body, FaultKind, Post};
 use script_body::ScriptBody;
-use script_code::{Code, compile};
-use script_parse::parse;
+use script_code::Code;
 use std::alloc::{AllocError as NoMemory, Global};
 use std::process::Abort;
 use std::test::Fail;
@@ -18,18 +18,10 @@ end
 
 #[test]
 fn a_loop_without_asks_spins(rt: HostRuntime) -> Result<(), Fail> {
-    let script = parse(rt.alloc(), SPINNER)?;
-    let code = compile(rt.alloc(), &script)?;
+    let code = code_of_text(rt.alloc(), SPINNER)?;
     assert_eq!(rt; code.threads(), 1);
     assert_eq!(rt; code.end(0), 1);
-    let mut body = ScriptBody::new(&code, 0);
-    let post = body.post();
-    assert_eq!(rt; post.ask, Some(SPIN));
-    assert_eq!(rt; post.line, 3);
-    body.answer(0);
-    let last = body.post();
-    assert_eq!(rt; last.ask, None);
-    assert_eq!(rt; last.line, 5);
+    expect_posts(&rt, &code, 0, &[(SPIN, 3, 0)], 5);
     Ok(())
 }
 
@@ -56,7 +48,7 @@ fn code_of(alloc: Global, first: &[&str], second: &[&str]) -> Result<Code, Fail>
     text.push_str("thread B\n")?;
     push_lines(&mut text, second)?;
     text.push_str("end\n")?;
-    Ok(compile(alloc, &parse(alloc, text.as_bytes())?)?)
+    code_of_text(alloc, text.as_bytes())
 }
 
 /// A body's posts before these answers, in turn, and then its end.

@@ -12,7 +12,10 @@ use texts::{EXPRESSIONS, LONG_TEXTS, NO_TEXTS, Parts, TEXTS, THREADS, VARIABLES,
 /// A text is a script, or has this first fault.
 fn expect(rt: &impl Abort, alloc: Global, text: &[u8], want: Want, place: usize) {
     match parse(alloc, text) {
-        Ok(_) => assert_eq!(rt; None, want, "text {place}"),
+        Ok(script) => {
+            drop(script);
+            assert_eq!(rt; None, want, "text {place}")
+        }
         Err(ScriptError::Bad { line, kind }) => {
             assert_eq!(rt; Some((line, kind)), want, "text {place}")
         }
@@ -234,15 +237,21 @@ end
 end
 ";
 
+/// A text's script as it is shown, and as it is printed.
+fn shown_and_printed(alloc: Global, text: &[u8]) -> Result<(String, Vec<u8>), Fail> {
+    let script = parse(alloc, text)?;
+    let shown = format!(in alloc; "{script:?}");
+    let print = print_script(alloc, &script);
+    drop(script);
+    Ok((shown?, print?))
+}
+
 /// A text is parsed as a script that prints as `printed`, which is parsed as the same script. Its
 /// lines are those of its print.
 fn expect_print(rt: &impl Abort, alloc: Global, text: &[u8], printed: &[u8]) -> Result<(), Fail> {
-    let script = parse(alloc, text)?;
-    let print = print_script(alloc, &script)?;
+    let (first, print) = shown_and_printed(alloc, text)?;
     assert_eq!(rt; print.as_slice(), printed);
-    let again = parse(alloc, &print)?;
-    let first = format!(in alloc; "{script:?}")?;
-    let second = format!(in alloc; "{again:?}")?;
+    let (second, _) = shown_and_printed(alloc, &print)?;
     assert_eq!(rt; first.as_str(), second.as_str());
     Ok(())
 }

@@ -1,25 +1,57 @@
 // Scripts from texts of another layout, as trees and as they are printed.
-use pct_ask::NameKind;
+use pct_ask::{Deal, NameKind};
 use script_parse::parse;
 use script_tree::{ThreadText, print_script};
 use std::alloc::Global;
 use std::process::Abort;
 use std::test::Fail;
 
-/// The statements of a thread, as they are shown, and the line of its end.
+/// A thread's statements, as they are shown, and the line of its end.
+type Thread = (&'static [&'static str], u32);
+
 fn expect_thread(
     rt: &impl Abort,
     alloc: Global,
     thread: &ThreadText,
-    want: &[&str],
-    end_line: u32,
+    want: &Thread,
 ) -> Result<(), Fail> {
-    assert_eq!(rt; thread.body.stmts.len(), want.len());
-    for (stmt, want) in thread.body.stmts.iter().zip(want.iter()) {
+    let (stmts, end_line) = *want;
+    assert_eq!(rt; thread.body.stmts.len(), stmts.len());
+    for (stmt, want) in thread.body.stmts.iter().zip(stmts) {
         let shown = format!(in alloc; "{stmt:?}")?;
         assert_eq!(rt; shown.as_str(), *want);
     }
     assert_eq!(rt; thread.body.end_line, end_line);
+    Ok(())
+}
+
+fn expect_threads(
+    rt: &impl Abort,
+    alloc: Global,
+    threads: &[ThreadText],
+    want: &[Thread],
+) -> Result<(), Fail> {
+    assert_eq!(rt; threads.len(), want.len());
+    for (thread, want) in threads.iter().zip(want) {
+        expect_thread(rt, alloc, thread, want)?;
+    }
+    Ok(())
+}
+
+/// The source is a script of these threads, and is printed so.
+fn expect_script(
+    rt: &impl Abort,
+    alloc: Global,
+    source: &[u8],
+    threads: &[Thread],
+    printed: &[u8],
+) -> Result<(), Fail> {
+    let script = parse(alloc, source)?;
+    let found = expect_threads(rt, alloc, &script.threads, threads);
+    let print = print_script(alloc, &script);
+    drop(script);
+    found?;
+    assert_eq!(rt; print?.as_slice(), printed);
     Ok(())
 }
 
@@ -63,35 +95,42 @@ assert (r0 == 2)
 end
 ";
 
-/// The statements of its threads.
-const FIRST_ADDER: [&str; 2] = [
-    "Read { line: 4, reg: 0, var: 0 }",
-    "Write { line: 5, var: 0, value: Two(Plus, Reg(0), Number(1)) }",
-];
-
-const SECOND_ADDER: [&str; 2] = [
-    "Read { line: 8, reg: 0, var: 0 }",
-    "Write { line: 9, var: 0, value: Two(Plus, Reg(0), Number(1)) }",
-];
-
-const CHECKER: [&str; 4] = [
-    "Join { line: 12, thread: 0 }",
-    "Join { line: 13, thread: 1 }",
-    "Read { line: 14, reg: 0, var: 0 }",
-    "Assert { line: 15, test: Two(Eq, Reg(0), Number(2)) }",
+/// Its threads.
+const LOST_UPDATE_THREADS: [Thread; 3] = [
+    (
+        &[
+            "Read { line: 4, reg: 0, var: 0 }",
+            "Write { line: 5, var: 0, value: Two(Plus, Reg(0), Number(1)) }",
+        ],
+        6,
+    ),
+    (
+        &[
+            "Read { line: 8, reg: 0, var: 0 }",
+            "Write { line: 9, var: 0, value: Two(Plus, Reg(0), Number(1)) }",
+        ],
+        10,
+    ),
+    (
+        &[
+            "Join { line: 12, thread: 0 }",
+            "Join { line: 13, thread: 1 }",
+            "Read { line: 14, reg: 0, var: 0 }",
+            "Assert { line: 15, test: Two(Eq, Reg(0), Number(2)) }",
+        ],
+        16,
+    ),
 ];
 
 #[test]
 fn lost_update_is_printed(rt: HostRuntime) -> Result<(), Fail> {
-    let alloc = rt.alloc();
-    let script = parse(alloc, LOST_UPDATE_SOURCE)?;
-    assert_eq!(rt; script.threads.len(), 3);
-    expect_thread(&rt, alloc, &script.threads[0], &FIRST_ADDER, 6)?;
-    expect_thread(&rt, alloc, &script.threads[1], &SECOND_ADDER, 10)?;
-    expect_thread(&rt, alloc, &script.threads[2], &CHECKER, 16)?;
-    let printed = print_script(alloc, &script)?;
-    assert_eq!(rt; printed.as_slice(), LOST_UPDATE);
-    Ok(())
+    expect_script(
+        &rt,
+        rt.alloc(),
+        LOST_UPDATE_SOURCE,
+        &LOST_UPDATE_THREADS,
+        LOST_UPDATE,
+    )
 }
 
 /// A script with every declaration, statement and operator.
@@ -204,7 +243,7 @@ thread B
 end
 ";
 
-/// The statements of its first thread. The second has none.
+/// The statements of its first thread.
 const EVERY_STATEMENT: [&str; 30] = [
     "Set { line: 12, reg: 0, value: Two(Or, Number(1), Two(And, Number(2), Number(3))) }",
     "Set { line: 13, reg: 1, value: \
@@ -245,23 +284,21 @@ const EVERY_STATEMENT: [&str; 30] = [
         then: Block { stmts: [], end_line: 48 }, otherwise: None }], end_line: 49 } }",
 ];
 
-#[test]
-fn every_form_is_printed(rt: HostRuntime) -> Result<(), Fail> {
-    let alloc = rt.alloc();
-    let script = parse(alloc, EVERY_FORM_SOURCE)?;
-    assert_eq!(rt; script.threads.len(), 2);
-    expect_thread(&rt, alloc, &script.threads[0], &EVERY_STATEMENT, 50)?;
-    expect_thread(&rt, alloc, &script.threads[1], &[], 52)?;
-    let printed = print_script(alloc, &script)?;
-    assert_eq!(rt; printed.as_slice(), EVERY_FORM);
-    Ok(())
-}
+/// Its threads, of which the second has no statement.
+const EVERY_FORM_THREADS: [Thread; 2] = [(&EVERY_STATEMENT, 50), (&[], 52)];
 
 #[test]
-fn deal_counts_each_kind(rt: HostRuntime) -> Result<(), Fail> {
-    let script = parse(rt.alloc(), EVERY_FORM_SOURCE)?;
-    let deal = script.deal(rt.alloc())?;
-    assert_eq!(rt; script.names().count(NameKind::Var), 2);
+fn every_form_is_printed(rt: HostRuntime) -> Result<(), Fail> {
+    expect_script(
+        &rt,
+        rt.alloc(),
+        EVERY_FORM_SOURCE,
+        &EVERY_FORM_THREADS,
+        EVERY_FORM,
+    )
+}
+
+fn expect_deal(rt: &impl Abort, deal: &Deal) {
     assert_eq!(rt;
         (deal.threads, deal.mutexes, deal.conds, deal.rwlocks),
         (2, 1, 1, 1)
@@ -269,5 +306,15 @@ fn deal_counts_each_kind(rt: HostRuntime) -> Result<(), Fail> {
     assert_eq!(rt; deal.vars.as_slice(), [i64::MIN, i64::MAX].as_slice());
     assert_eq!(rt; deal.sems.as_slice(), [2_147_483_647].as_slice());
     assert_eq!(rt; deal.barriers.as_slice(), [1000].as_slice());
+}
+
+#[test]
+fn deal_counts_each_kind(rt: HostRuntime) -> Result<(), Fail> {
+    let script = parse(rt.alloc(), EVERY_FORM_SOURCE)?;
+    let vars = script.names().count(NameKind::Var);
+    let deal = script.deal(rt.alloc());
+    drop(script);
+    assert_eq!(rt; vars, 2);
+    expect_deal(&rt, &deal?);
     Ok(())
 }

@@ -1,9 +1,0 @@
-use Rattle.test_runs.specs.declared.samples.Sample.{Sample}
-use Rattle.test_runs.proofs.Ranges.{samples-fit}
-use Rattle.test_runs.proofs.runs.meetings.meets_nobody_here.Goals as goal
-
-pub run_here-requires-clause-in_range : goal.run_here-requires-clause-in_range
-run_here-requires-clause-in_range g c = λ κs.
-    samples-fit c.in_ok-deal.deal c.in_ok-deal.ensures.vars c.in_ok-deal.ensures.threads
-    (λ (s : Sample). s.thread) (λ (s : Sample). s.steps) (λ (s : Sample). s.seen)
-    c.in_ok-bodies.bodies.items
