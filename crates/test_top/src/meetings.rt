@@ -6,7 +6,7 @@ ghost use Rattle.script_body.specs.BodyPosts.{pending_of_body};
 
 use crate::calls::{ADDERS, Given, IN_ORDER, SOUND, SUM, expect_gated};
 use pct_ask::{Ask, Body, Event, Outcome, Post, Verdict};
-use pct_outside::{OpenGate, PairGate};
+use pct_outside::{Gate, OpenGate, PairGate};
 use pct_top::Status;
 use policy_pick::Pct;
 use script_body::ScriptBody;
@@ -15,63 +15,30 @@ use script_parse::parse;
 use std::alloc::{AllocError as NoMemory, Global};
 use std::process::Abort;
 use std::sync::Wait;
-use std::sync::atomic::{AtomicBool, Ordering};
 use std::test::Fail;
-use std::thread::{Threads, yield_now};
+use std::thread::Threads;
 use worker_run::run_threads;
 
-const LOOKS: u32 = 10_000_000;
+const LOOKS: u64 = 10_000_000;
 
-/// A flag, and whether its thread saw the other's.
+/// A thread of the script that arrives at a gate while it posts, after so many answers.
 #[derive(Drop)]
-struct Flag {
-    raised: AtomicBool,
-    saw_other: AtomicBool,
-}
-
-impl Flag {
-    fn new() -> Flag {
-        Flag {
-            raised: AtomicBool::new(false),
-            saw_other: AtomicBool::new(false),
-        }
-    }
-
-    /// Raises the flag, and looks for the other. It waits for nobody.
-    fn raise(&self, other: &Flag) {
-        self.raised.store(true, Ordering::SeqCst);
-        for _ in 0..LOOKS {
-            if other.raised.load(Ordering::SeqCst) {
-                self.saw_other.store(true, Ordering::SeqCst);
-                return;
-            }
-            yield_now();
-        }
-    }
-
-    fn saw(&self) -> bool {
-        self.saw_other.load(Ordering::SeqCst)
-    }
-}
-
-/// A thread of the script that raises its flag at the post after so many answers.
-#[derive(Drop)]
-struct Looker<'c, 'f> {
+struct Looker<'c, 'g> {
+    thread: u32,
     body: ScriptBody<'c>,
     answers: u32,
     after: u32,
-    flag: &'f Flag,
-    other: &'f Flag,
+    gate: &'g PairGate,
 }
 
-impl<'c, 'f> Body for Looker<'c, 'f> {
+impl<'c, 'g> Body for Looker<'c, 'g> {
     ghost use Rattle.script_body.specs.BodyPosts.{pending_of_body};
 
     ghost pending = { λ b. pending_of_body b.body };
 
     fn post(&self) -> Post {
         if self.answers == self.after {
-            self.flag.raise(self.other);
+            self.gate.arrive(self.thread, 0);
         }
         self.body.post()
     }
@@ -108,38 +75,32 @@ const ADDED: [Event; 8] = [
     step!(2, 15, Ask::Check { holds: true }, 0),
 ];
 
-/// The first thread raises its flag after so many answers, and the second before its first post.
-/// The others never do.
-fn lookers<'c, 'f>(
+/// The first thread arrives after so many answers, and the others with their first posts. The gate
+/// holds the first and the second.
+fn lookers<'c, 'g>(
     alloc: Global,
     code: &'c Code,
     first_after: u32,
-    first: &'f Flag,
-    second: &'f Flag,
-) -> Result<Vec<Looker<'c, 'f>>, NoMemory>
+    gate: &'g PairGate,
+) -> Result<Vec<Looker<'c, 'g>>, NoMemory>
     ensures { IfOk result (λ bodies.
         map (λ b. pending_of_body b.body) bodies.items ≡ map flat_pending (listing code.now)) }
 {
     let mut lookers = Vec::new(alloc);
     for thread in 0..code.threads() {
         let body = ScriptBody::new(code, thread);
-        let (after, flag, other) = match thread {
-            0 => (first_after, first, second),
-            1 => (0, second, first),
-            _ => (u32::MAX, first, second),
-        };
         lookers.push(Looker {
+            thread,
             body,
             answers: 0,
-            after,
-            flag,
-            other,
+            after: if thread == 0 { first_after } else { 0 },
+            gate,
         })?;
     }
     Ok(lookers)
 }
 
-/// Each of the two sees the other's flag, and the steps are those of the order.
+/// Each of the two sees the other, and the steps are those of the order.
 fn expect_meeting<R: Threads + Wait + Abort + Sync>(
     rt: &R,
     alloc: Global,
@@ -149,15 +110,13 @@ fn expect_meeting<R: Threads + Wait + Abort + Sync>(
     let code = compile(alloc, &script)?;
     let deal = script.deal(alloc)?;
     assert_eq!(rt; deal.threads, 3);
-    let first = Flag::new();
-    let second = Flag::new();
-    let bodies = lookers(alloc, &code, first_after, &first, &second)?;
+    let gate = PairGate::new(0, 1, LOOKS);
+    let bodies = lookers(alloc, &code, first_after, &gate)?;
     let pct = Pct::new(alloc, &[0, 1, 2], &[])?;
     let played = run_threads(rt, alloc, deal, pct, 10_000, bodies, &OpenGate::new())?;
     assert_eq!(rt; played.events.as_slice(), ADDED.as_slice());
     assert_eq!(rt; played.outcome, Outcome::Verdict(Verdict::Passed));
-    assert!(rt; first.saw());
-    assert!(rt; second.saw());
+    assert!(rt; gate.met());
     Ok(())
 }
 
@@ -176,7 +135,7 @@ fn grants_early(rt: HostRuntime) -> Result<(), Fail> {
 /// The first two threads meet at the gate before their first posts.
 #[test]
 fn meets_at_the_gate(rt: HostRuntime) -> Result<(), Fail> {
-    let gate = PairGate::new(0, 1, 10_000_000);
+    let gate = PairGate::new(0, 1, LOOKS);
     let want = Given {
         status: Status::Done,
         out: SUM,

@@ -1,6 +1,7 @@
 // The words of calls, and what they ask for.
 use crate::calls::{Given, LOST, REPLAY, SOUND, expect_call, words_of};
 use pct_top::{Report, Settings, Status, WordsError, read_words};
+use std::process::Abort;
 use std::test::Fail;
 
 /// The word that isn't taken of each line.
@@ -54,10 +55,12 @@ fn untaken_words_are_said(rt: HostRuntime) -> Result<(), Fail> {
     Ok(())
 }
 
-#[test]
-fn words_of_an_ordered_run_are_read(rt: HostRuntime) -> Result<(), Fail> {
-    let words = words_of(rt.alloc(), "run s.pct --limit 9 --points 3,1 --order A,B")?;
-    match read_words(rt.alloc(), words.as_slice()) {
+/// What words are read as.
+type Read = Result<Settings, WordsError>;
+
+/// A run of the threads A and B.
+fn expect_ordered(rt: &impl Abort, read: &Read) {
+    match read {
         Ok(
             Settings::RunOrder {
                 file,
@@ -73,21 +76,24 @@ fn words_of_an_ordered_run_are_read(rt: HostRuntime) -> Result<(), Fail> {
             for (item, name) in order.as_slice().iter().zip(["A", "B"].iter()) {
                 assert_eq!(rt; item.as_str(), *name);
             }
-            assert_eq!(rt; word, 8);
+            assert_eq!(rt; *word, 8);
             assert_eq!(rt; points.as_slice(), [3, 1].as_slice());
-            assert_eq!(rt; limit, 9);
-            assert_eq!(rt; report, Report::Trace);
+            assert_eq!(rt; *limit, 9);
+            assert_eq!(rt; *report, Report::Trace);
         }
         _ => panic!(rt; "not a run under an order"),
     }
-    Ok(())
 }
 
 #[test]
-fn words_of_a_seeded_run_are_read(rt: HostRuntime) -> Result<(), Fail> {
-    let line = "run s.pct --steps 8 --seed 18446744073709551615 --depth 3";
-    let words = words_of(rt.alloc(), line)?;
-    match read_words(rt.alloc(), words.as_slice()) {
+fn words_of_an_ordered_run_are_read(rt: HostRuntime) -> Result<(), Fail> {
+    let words = words_of(rt.alloc(), "run s.pct --limit 9 --points 3,1 --order A,B")?;
+    expect_ordered(&rt, &read_words(rt.alloc(), words.as_slice()));
+    Ok(())
+}
+
+fn expect_seeded(rt: &impl Abort, read: &Read) {
+    match read {
         Ok(
             Settings::RunSeed {
                 seed,
@@ -97,20 +103,25 @@ fn words_of_a_seeded_run_are_read(rt: HostRuntime) -> Result<(), Fail> {
                 ..
             },
         ) => {
-            assert_eq!(rt; seed, u64::MAX);
-            assert_eq!(rt; depth, 3);
-            assert_eq!(rt; steps, Some(8));
-            assert_eq!(rt; limit, 10_000);
+            assert_eq!(rt; *seed, u64::MAX);
+            assert_eq!(rt; *depth, 3);
+            assert_eq!(rt; *steps, Some(8));
+            assert_eq!(rt; *limit, 10_000);
         }
         _ => panic!(rt; "not a run of a seed"),
     }
-    Ok(())
 }
 
 #[test]
-fn words_of_a_replay_are_read(rt: HostRuntime) -> Result<(), Fail> {
-    let words = words_of(rt.alloc(), REPLAY)?;
-    match read_words(rt.alloc(), words.as_slice()) {
+fn words_of_a_seeded_run_are_read(rt: HostRuntime) -> Result<(), Fail> {
+    let line = "run s.pct --steps 8 --seed 18446744073709551615 --depth 3";
+    let words = words_of(rt.alloc(), line)?;
+    expect_seeded(&rt, &read_words(rt.alloc(), words.as_slice()));
+    Ok(())
+}
+
+fn expect_replay(rt: &impl Abort, read: &Read) {
+    match read {
         Ok(Settings::Replay { file, trace }) => {
             assert_eq!(rt; file.as_str(), "s.pct");
             assert_eq!(rt; trace.as_str(), "t.txt");
@@ -118,5 +129,11 @@ fn words_of_a_replay_are_read(rt: HostRuntime) -> Result<(), Fail> {
         Err(WordsError::Word(word)) => panic!(rt; "word {word}"),
         _ => panic!(rt; "not a replay"),
     }
+}
+
+#[test]
+fn words_of_a_replay_are_read(rt: HostRuntime) -> Result<(), Fail> {
+    let words = words_of(rt.alloc(), REPLAY)?;
+    expect_replay(&rt, &read_words(rt.alloc(), words.as_slice()));
     Ok(())
 }
