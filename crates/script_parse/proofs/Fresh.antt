@@ -8,17 +8,13 @@ use Rattle.std.proofs.Math.Numerals.{one-add}
 use Rattle.std.proofs.lemmas.Bool.{lt-ltb, or_parts, or_from}
 use Rattle.std.proofs.lemmas.List.Elements.{All-nil, All-cons, All-head, All-tail}
 use Rattle.std.proofs.lemmas.List.Folds.{list_any-append}
-use Rattle.std.proofs.lemmas.Slice.Eq.{bytes_eq-Decides}
 use Rattle.pct_ask.specs.Words.{is_name, is_among}
 use Rattle.pct_ask.specs.NameLists.{AreDistinct, place_of}
-use Rattle.pct_ask.proofs.laws.SameWords.{bytes_eq-sym}
+use Rattle.pct_ask.proofs.laws.SameWords.{bytes_eq-sym, bytes_eq-self}
 
 -- a name by the language's first version
 abbrev pub IsLawful : List ℕ → Type 0
 IsLawful name = is_name 1 name ≡ true
-
-pub bytes_eq-refl : (a : List ℕ) → bytes_eq a a ≡ true
-bytes_eq-refl a = (bytes_eq-Decides a a).1 refl
 
 pub among_parts : (name : List ℕ) (xs ys : List (List ℕ)) → is_among name (xs ++ ys) ≡ false
     → (is_among name xs ≡ false) × (is_among name ys ≡ false)
@@ -64,7 +60,7 @@ other_at name (n ∷ ns) (suc k) h few =
 first_at : (names : List (List ℕ)) (k : ℕ) → AreDistinct names → k < length names
     → prefix_len (λ n. not (bytes_eq (get_or names k []) n)) names ≡ k
 first_at [] k h few = absurd (omega arith)
-first_at (n ∷ ns) zero h few = rw (bytes_eq-refl n) refl
+first_at (n ∷ ns) zero h few = rw (bytes_eq-self n) refl
 first_at (n ∷ ns) (suc k) h few =
     let differs : bytes_eq (get_or ns k []) n ≡ false =
     bytes_eq-sym (get_or ns k []) n ∙ other_at n ns k h.0 (omega arith) in

@@ -9,7 +9,7 @@ use Rattle.pct_ask.specs.NameLists.{NameLists, AreDistinct, list_of, all_names}
 use Rattle.pct_ask.specs.declared.names.NameKind.{NameKind}
 use Rattle.pct_ask.specs.declared.names.NameKind.TheVariants as kinds
 use Rattle.script_parse.proofs.Choices.{same_bytes}
-use Rattle.script_parse.proofs.Fresh.{bytes_eq-refl}
+use Rattle.pct_ask.proofs.laws.SameWords.{bytes_eq-self}
 
 abbrev once : Bool → ℕ
 once true = 1
@@ -128,7 +128,7 @@ fresh_name names small kind name more rest distinct split first =
     one = in_one (λ k. times name (more k)) kind
 
     there : times name (name ∷ rest) ≡ suc (times name rest)
-    there = let first : once (bytes_eq name name) ≡ 1 = rw (bytes_eq-refl name) refl in
+    there = let first : once (bytes_eq name name) ≡ 1 = rw (bytes_eq-self name) refl in
         omega (arith, first)
 
     here : times name (more kind) ≡ suc (times name rest)
