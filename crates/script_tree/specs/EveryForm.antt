@@ -81,7 +81,15 @@ every_form = record {
 }
 
 pub every_form_text : layout every_form ≡
-    codes
-    "script 3\nvar low = -9223372036854775808\nvar high = 9223372036854775807\nmutex m\ncond c\nsem s = 2147483647\nbarrier b = 1000\nrwlock l\nthread A\nset r0 (1 || (2 && 3))\nset r1 ((r0 == 1) != (r2 < 3))\nset r2 ((4 <= r3) > (5 >= r15))\nset r3 ((6 + 7) - ((8 * 9) / (10 % 11)))\nset r4 !-r5\nread r0 low\nwrite high r0\nadd r6 high -1\ncas r7 low 1, !r8\nassert (r0 == 2)\nlock m\ntrylock r9 m\nunlock m\nwait c m\nsignal c\nbroadcast c\ndown s\ntrydown r10 s\nup s\narrive r11 b\njoin B\nstart B\nrdlock l\nwrlock l\ntryrdlock r12 l\ntrywrlock r13 l\nrwunlock l\nif r0\nyield\nend\nif 0\nelse\nyield\nend\nwhile 0\nif 1\nend\nend\nend\nthread B\nend\n"
+    codes "script 3\nvar low = -9223372036854775808\nvar high = 9223372036854775807\n"
+    ++ codes "mutex m\ncond c\nsem s = 2147483647\nbarrier b = 1000\nrwlock l\nthread A\n"
+    ++ codes "set r0 (1 || (2 && 3))\nset r1 ((r0 == 1) != (r2 < 3))\n"
+    ++ codes "set r2 ((4 <= r3) > (5 >= r15))\nset r3 ((6 + 7) - ((8 * 9) / (10 % 11)))\n"
+    ++ codes "set r4 !-r5\nread r0 low\nwrite high r0\nadd r6 high -1\ncas r7 low 1, !r8\n"
+    ++ codes "assert (r0 == 2)\nlock m\ntrylock r9 m\nunlock m\nwait c m\nsignal c\n"
+    ++ codes "broadcast c\ndown s\ntrydown r10 s\nup s\narrive r11 b\njoin B\nstart B\n"
+    ++ codes "rdlock l\nwrlock l\ntryrdlock r12 l\ntrywrlock r13 l\nrwunlock l\nif r0\n"
+    ++ codes "yield\nend\nif 0\nelse\nyield\nend\nwhile 0\nif 1\nend\nend\nend\nthread B\n"
+    ++ codes "end\n"
 unfolding digits
 every_form_text = refl

@@ -1,5 +1,5 @@
 -- Small theorems that read the canonical layout.
-use Rattle.std.specs.Prelude.{◌≡◌, ℕ, pos, [], ◌∷◌, codes, refl}
+use Rattle.std.specs.Prelude.{◌≡◌, ℕ, pos, [], ◌∷◌, ◌++◌, codes, refl}
 use Rattle.std.specs.Fmt.{digits}
 use Rattle.pct_ask.specs.NameLists.{NameLists}
 use Rattle.script_tree.specs.declared.expr.Op.TheVariants as ops
@@ -63,8 +63,10 @@ other_checker = record {
 }
 
 pub lost_update_text : layout (lost_update (adder 3 4 5 6) (adder 7 8 9 10) checker) ≡
-    codes
-    "script 1\nvar x = 0\nthread A\nread r0 x\nwrite x (r0 + 1)\nend\nthread B\nread r0 x\nwrite x (r0 + 1)\nend\nthread C\njoin A\njoin B\nread r0 x\nassert (r0 == 2)\nend\n"
+    codes "script 1\nvar x = 0\n"
+    ++ codes "thread A\nread r0 x\nwrite x (r0 + 1)\nend\n"
+    ++ codes "thread B\nread r0 x\nwrite x (r0 + 1)\nend\n"
+    ++ codes "thread C\njoin A\njoin B\nread r0 x\nassert (r0 == 2)\nend\n"
 unfolding digits
 lost_update_text = refl
 
