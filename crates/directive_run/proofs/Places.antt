@@ -6,7 +6,8 @@ use Rattle.std.proofs.lemmas.Bool.Decides.{nat_tests}
 use Rattle.std.proofs.Math.Nat.{div-add-mod, div-lt_iff_lt-mul, mod-lt}
 use Rattle.std.proofs.lemmas.List.{length-map, reverse-append, get_or_default}
 use Rattle.std.proofs.lemmas.List.Edits.{length-remove}
-use Rattle.directive_run.specs.Orders.{factorial, orders_ending, orders_by, orders, threads_below, low_orders}
+use Rattle.turn_book.specs.Chances.{threads_below}
+use Rattle.directive_run.specs.Orders.{factorial, orders_ending, orders_by, orders, low_orders}
 use Rattle.directive_run.proofs.laws.OrderLists.{get-left, get-right, get-map, length-orders_by, length-threads}
 
 -- more threads in a row

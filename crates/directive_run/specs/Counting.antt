@@ -7,7 +7,8 @@ use Rattle.pct_ask.specs.declared.verdict.Verdict.{Verdict}
 use Rattle.pct_ask.specs.SameVerdict.{same_verdict}
 use Rattle.worker_run.specs.Bodies.{Pending}
 use Rattle.worker_run.specs.Run.{Run, run}
-use Rattle.directive_run.specs.Orders.{orders, threads_below}
+use Rattle.turn_book.specs.Chances.{threads_below}
+use Rattle.directive_run.specs.Orders.{orders}
 
 -- all lists of so many numbers in 1..k, the first number varying slowest
 abbrev pub pointlists : ℕ → ℕ → List (List ℕ)

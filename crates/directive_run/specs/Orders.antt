@@ -1,7 +1,7 @@
 -- The orders of some threads, listed (this project).
 use Rattle.std.specs.Prelude.{ℕ, zero, suc, ◌*◌, List, [], ◌∷◌, ◌++◌, length, map, remove}
 use Rattle.std.specs.Prelude.{slice_index}
-use Rattle.std.specs.List.{range_with_len}
+use Rattle.turn_book.specs.Chances.{threads_below}
 
 -- n!, the product of the numbers 1 to n: how many orders n threads have
 abbrev pub factorial : ℕ → ℕ
@@ -25,10 +25,6 @@ orders_by (suc n) list = orders_ending (orders_by n) list (suc n)
 -- first
 abbrev pub orders : List ℕ → List (List ℕ)
 orders list = orders_by (length list) list
-
--- the declared threads
-abbrev pub threads_below : ℕ → List ℕ
-threads_below threads = range_with_len 0 threads
 
 -- The orders that place the thread last: those of the other threads, each followed by it. Each
 -- declared thread stands at its own place.

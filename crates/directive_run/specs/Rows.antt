@@ -1,15 +1,15 @@
 -- Small theorems that read the definitions on known lists.
-use Rattle.std.specs.Prelude.{◌≡◌, ℕ, pos, List, [], ◌∷◌, refl}
+use Rattle.std.specs.Prelude.{◌≡◌, ℕ, pos, [], ◌∷◌, refl}
 use native.Mathlib.Nat.{not-suc-le-zero}
 use Prim.Native.Nat.{suc-le-suc, zero-le}
 use Rattle.pct_ask.specs.declared.Deal.{Deal}
 use Rattle.pct_ask.specs.declared.verdict.Verdict.TheVariants.{Failed}
 use Rattle.rank_now.specs.declared.moment.Moment.{Moment}
 use Rattle.rank_now.specs.Rank.{rank_by}
-use Rattle.worker_run.specs.Bodies.{Pending}
-use Rattle.worker_run.specs.Samples.{sample_pending}
+use Rattle.worker_run.specs.Samples.{sample_threads}
 use Rattle.directive_run.specs.Points.{points_of}
-use Rattle.directive_run.specs.Orders.{orders, threads_below, low_orders}
+use Rattle.turn_book.specs.Chances.{threads_below}
+use Rattle.directive_run.specs.Orders.{orders, low_orders}
 use Rattle.directive_run.specs.Counting.{pointlists, hits}
 
 abbrev pub at : ℕ → ℕ → Moment
@@ -67,11 +67,8 @@ adders_deal = record {
   barrier_counts = λ k d h. absurd (not-suc-le-zero h);
 }
 
-abbrev pub adders : List Pending
-adders = sample_pending 0 0 (pos 0) ∷ sample_pending 1 0 (pos 0) ∷ sample_pending 2 0 (pos 0) ∷ []
-
 -- A point after the first step loses an update under each of the six orders, and one after the
 -- second step under none.
-pub six_hits : hits adders_deal adders 3 2 1 (Failed 2 15) 9 ≡ 6
+pub six_hits : hits adders_deal sample_threads 3 2 1 (Failed 2 15) 9 ≡ 6
 unfolding rank_by
 six_hits = refl

@@ -1,7 +1,8 @@
 //! The orders of some threads that place one of them last, each by its place among them.
 
 ghost use Rattle.std.specs.Prelude.{◌≡◌, ◌≤◌, ◌<◌, ◌-◌, Some, IfOk, slice_get, remove};
-ghost use Rattle.directive_run.specs.Orders.{factorial, low_orders, threads_below};
+ghost use Rattle.turn_book.specs.Chances.{threads_below};
+ghost use Rattle.directive_run.specs.Orders.{factorial, low_orders};
 
 use pct_ask::OrderList;
 use std::alloc::{AllocError as NoMemory, Global};

@@ -4,7 +4,6 @@ pub mod Crews
 pub mod Parting
 pub mod Plays
 pub mod Samples
-pub mod Again
 pub mod Wholes
 pub mod Eachs
 pub mod Staged

@@ -21,3 +21,5 @@ pub mod SampleRanges
 pub mod Batches
 -- items of a list by their places
 pub mod ItemsByPlace
+-- what is so of all that bodies ask is so of their run's steps, and its verdict follows
+pub mod AskedRuns

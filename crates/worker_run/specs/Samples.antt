@@ -46,3 +46,8 @@ sample_post (suc (suc t)) steps seen = checker_post steps seen
 abbrev pub sample_pending : ℕ → ℕ → ℤ → List ℤ → Post
 sample_pending t steps seen [] = sample_post t steps seen
 sample_pending t steps seen (answer ∷ answers) = sample_pending t (steps + 1) answer answers
+
+-- the three threads of the test, before any answer
+abbrev pub sample_threads : List (List ℤ → Post)
+sample_threads =
+    sample_pending 0 0 (pos 0) ∷ sample_pending 1 0 (pos 0) ∷ sample_pending 2 0 (pos 0) ∷ []

@@ -16,7 +16,8 @@ use Rattle.pct_ask.proofs.laws.SameVerdicts.{verdict-Decides}
 use Rattle.worker_run.specs.Bodies.{Pending}
 use Rattle.worker_run.specs.Run.{run}
 use Rattle.directive_run.specs.Exposing.{IsWithin}
-use Rattle.directive_run.specs.Orders.{factorial, orders_ending, orders_by, orders, threads_below, low_orders}
+use Rattle.turn_book.specs.Chances.{threads_below}
+use Rattle.directive_run.specs.Orders.{factorial, orders_ending, orders_by, orders, low_orders}
 use Rattle.directive_run.specs.Counting.{pointlists, has_verdict, hits_under, hits}
 use Rattle.directive_run.proofs.laws.OrderLists.{get-left, get-right, get-map, length-low-orders, length-threads, thread-at}
 

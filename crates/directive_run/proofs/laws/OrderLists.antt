@@ -7,7 +7,8 @@ use Rattle.std.proofs.lemmas.List.{length-append, length-map}
 use Rattle.std.proofs.lemmas.List.Edits.{length-remove}
 use Rattle.std.proofs.lemmas.List.Elements.{All-nil, All-cons, All-append, All-map}
 use Rattle.rank_now.specs.Order.{IsOrder}
-use Rattle.directive_run.specs.Orders.{factorial, orders_ending, orders_by, orders, threads_below, low_orders}
+use Rattle.turn_book.specs.Chances.{threads_below}
+use Rattle.directive_run.specs.Orders.{factorial, orders_ending, orders_by, orders, low_orders}
 use Rattle.directive_run.specs.Guarantees.{EndsIn}
 
 -- ---- how many there are

@@ -1,6 +1,7 @@
 use Rattle.std.specs.Prelude.{remove}
 use Rattle.std.proofs.Common.{◌≡◌, ◌<◌, ◌≤◌, ◌-◌, ◌++◌, ◌∷◌, length}
-use Rattle.directive_run.specs.Orders.{factorial, threads_below}
+use Rattle.turn_book.specs.Chances.{threads_below}
+use Rattle.directive_run.specs.Orders.{factorial}
 use Rattle.directive_run.proofs.Places.{back_at}
 use Rattle.directive_run.proofs.orders.order_at.Given as goal
 

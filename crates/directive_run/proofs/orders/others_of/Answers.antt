@@ -1,6 +1,6 @@
 -- The declared threads come one after another, and the one is left out.
 use Rattle.std.proofs.Common.{◌≡◌, ◌+◌, ap, sym, ◌∙◌, arith, length, ◌++◌, ◌∷◌, []}
-use Rattle.directive_run.specs.Orders.{threads_below}
+use Rattle.turn_book.specs.Chances.{threads_below}
 use Rattle.directive_run.proofs.Places.{range-more, all-others}
 use Rattle.directive_run.proofs.laws.OrderLists.{length-threads}
 use Rattle.directive_run.proofs.orders.others_of.Goals as goal

@@ -1,5 +1,5 @@
 use Rattle.std.proofs.Common.{◌≡◌}
-use Rattle.directive_run.specs.Orders.{threads_below}
+use Rattle.turn_book.specs.Chances.{threads_below}
 use Rattle.directive_run.proofs.orders.others_of.Given as goal
 
 abbrev pub invariant-loop-thread : goal.invariant-loop-thread
