@@ -1,4 +1,4 @@
-ghost use Rattle.std.specs.Prelude.{◌≡◌, ◌∷◌, [], pos, IsSome};
+ghost use Rattle.std.specs.Prelude.{◌≡◌, ◌∷◌, [], pos, IsSome, IfOk};
 
 use crate::samples::{add, names_of};
 use pct_ask::{
@@ -6,7 +6,7 @@ use pct_ask::{
     Sequence, Verdict, VerdictRead, is_lawful_name, read_number, read_verdict, split_lines,
     write_number, write_verdict,
 };
-use std::alloc::Global;
+use std::alloc::{AllocError as NoMemory, Global};
 use std::process::Abort;
 use std::test::Fail;
 
@@ -29,16 +29,26 @@ const OBJECTS: [(NameKind, &[u8]); 7] = [
 
 #[test]
 fn names(rt: HostRuntime) -> Result<(), Fail> {
-    let mut names = names_of(&rt, rt.alloc(), &THREADS)?;
+    let mut names = names_of(&rt, rt.alloc(), &THREADS, &[])?;
+    let added = add_objects(&rt, rt.alloc(), &mut names);
+    look_up_objects(&rt, &names);
+    drop(names);
+    added
+}
+
+fn add_objects(rt: &impl Abort, alloc: Global, names: &mut Names) -> Result<(), Fail> {
     for (kind, name) in &OBJECTS {
-        let place = add(&rt, rt.alloc(), &mut names, *kind, name)?;
+        let place = add(rt, alloc, names, *kind, name)?;
         assert_eq!(rt; place, u32::from(*name == b"y".as_slice()));
     }
+    Ok(())
+}
+
+fn look_up_objects(rt: &impl Abort, names: &Names) {
     for (kind, name) in &OBJECTS {
-        look_up(&rt, &names, *kind, name);
+        look_up(rt, names, *kind, name);
     }
     assert_eq!(rt; names.count(NameKind::Var), 2);
-    Ok(())
 }
 
 fn look_up(rt: &impl Abort, names: &Names, kind: NameKind, name: &[u8]) {
@@ -107,18 +117,28 @@ const NO_NUMBERS: [&[u8]; 13] = [
     b"-170141183460469231731687303715884105729",
 ];
 
+/// A number is written as this text.
+fn expect_written(rt: &impl Abort, alloc: Global, number: i128, text: &[u8]) -> Result<(), Fail> {
+    let mut out = Vec::new(alloc);
+    write_number(number, &mut out)?;
+    assert!(rt; out.as_slice() == text);
+    Ok(())
+}
+
 #[test]
 fn numbers(rt: HostRuntime) -> Result<(), Fail> {
     for (text, number) in &NUMBERS {
-        assert_eq!(rt; read_number(text), Some(*number));
-        let mut out = Vec::new(rt.alloc());
-        write_number(*number, &mut out)?;
-        assert_eq!(rt; out.as_slice(), *text);
-    }
-    for text in &NO_NUMBERS {
-        assert_eq!(rt; read_number(text), None, "{text:?}");
+        assert!(rt; read_number(text) == Some(*number), "{text:?}");
+        expect_written(&rt, rt.alloc(), *number, text)?;
     }
     Ok(())
+}
+
+#[test]
+fn no_numbers(rt: HostRuntime) {
+    for text in &NO_NUMBERS {
+        assert!(rt; read_number(text).is_none(), "{text:?}");
+    }
 }
 
 #[test]
@@ -224,11 +244,10 @@ fn fault(kind: FaultKind) -> Verdict {
     }
 }
 
-#[test]
-fn verdicts_there_and_back(rt: HostRuntime) -> Result<(), Fail> {
-    let names = names_of(&rt, rt.alloc(), &THREADS)?;
+/// Each verdict's text is read as it, and written again as it was.
+fn expect_verdicts(rt: &impl Abort, alloc: Global, names: &Names) -> Result<(), Fail> {
     for (place, text) in VERDICTS.iter().enumerate() {
-        let (read, again) = rewritten(rt.alloc(), text, &names)?;
+        let (read, again) = rewritten(alloc, text, names)?;
         assert_eq!(rt; read, VerdictRead::Is(verdict(place)), "{text:?}");
         assert_eq!(rt; again.as_slice(), *text);
     }
@@ -285,20 +304,21 @@ const UNKNOWN_NAMES: [&[u8]; 6] = [
     b"fault rdlock 1 spin",
 ];
 
+/// Each of the texts is read so.
+fn expect_read(rt: &impl Abort, names: &Names, texts: &[&[u8]], told: VerdictRead) {
+    for text in texts {
+        assert_eq!(rt; read_verdict(text, names), told, "{text:?}");
+    }
+}
+
 #[test]
-fn no_verdicts(rt: HostRuntime) -> Result<(), Fail> {
-    let names = names_of(&rt, rt.alloc(), &THREADS)?;
-    for text in &NO_FORMS {
-        assert_eq!(rt; read_verdict(text, &names), VerdictRead::NoForm, "{text:?}");
-    }
-    for text in &UNKNOWN_NAMES {
-        assert_eq!(rt;
-            read_verdict(text, &names),
-            VerdictRead::UnknownName,
-            "{text:?}"
-        );
-    }
-    Ok(())
+fn verdict_texts(rt: HostRuntime) -> Result<(), Fail> {
+    let names = names_of(&rt, rt.alloc(), &THREADS, &[])?;
+    let told = expect_verdicts(&rt, rt.alloc(), &names);
+    expect_read(&rt, &names, &NO_FORMS, VerdictRead::NoForm);
+    expect_read(&rt, &names, &UNKNOWN_NAMES, VerdictRead::UnknownName);
+    drop(names);
+    told
 }
 
 fn block(
@@ -322,58 +342,81 @@ fn last_line(read: &VerdictRead) -> Option<u32> {
     }
 }
 
-// The names T00 to T77, and the text of a verdict in which each of them is blocked.
-fn all_threads(rt: &impl Abort, alloc: Global) -> Result<(Names, Vec<u8>), Fail> {
-    let mut names = Names::new(alloc);
+/// Adds the names T00 to T77, and tells the text of a verdict in which each of them is blocked.
+fn add_blocked(rt: &impl Abort, alloc: Global, names: &mut Names) -> Result<Vec<u8>, Fail> {
     let mut text = Vec::from_slice(alloc, b"stuck")?;
     for place in 0..64u8 {
         let name = [b'T', b'0' + place / 8, b'0' + place % 8];
-        block(rt, alloc, &mut names, &mut text, &name)?;
+        block(rt, alloc, names, &mut text, &name)?;
     }
-    Ok((names, text))
+    Ok(text)
 }
 
-#[test]
-fn all_blocked(rt: HostRuntime) -> Result<(), Fail> {
-    let (names, text) = all_threads(&rt, rt.alloc())?;
-    let (read, again) = rewritten(rt.alloc(), &text, &names)?;
+fn expect_blocked(rt: &impl Abort, alloc: Global, names: &mut Names) -> Result<(), Fail> {
+    let text = add_blocked(rt, alloc, names)?;
+    let (read, again) = rewritten(alloc, &text, names)?;
     assert_eq!(rt; last_line(&read), Some(4096));
     assert_eq!(rt; again.as_slice(), text.as_slice());
     Ok(())
 }
 
+#[test]
+fn all_blocked(rt: HostRuntime) -> Result<(), Fail> {
+    let mut names = Names::new(rt.alloc());
+    let told = expect_blocked(&rt, rt.alloc(), &mut names);
+    drop(names);
+    told
+}
+
 const NUMBERS_OF_A_LIST: [i64; 3] = [i64::MIN, 0, 7];
+
+fn push_numbers(vars: &mut NumberList) -> Result<(), NoMemory> {
+    for value in &NUMBERS_OF_A_LIST {
+        vars.try_push(*value)?;
+    }
+    Ok(())
+}
 
 #[test]
 fn lists(rt: HostRuntime) -> Result<(), Fail> {
     let mut vars = NumberList::new(rt.alloc());
-    for value in &NUMBERS_OF_A_LIST {
-        vars.try_push(*value)?;
-    }
-    assert_eq!(rt; (vars.len(), vars.get(2), vars.get(3)), (3, Some(7), None));
-    let copy = vars.copy(rt.alloc())?;
-    assert_eq!(rt; copy.as_slice(), NUMBERS_OF_A_LIST.as_slice());
+    let pushed = push_numbers(&mut vars);
+    assert!(rt; vars.len() == 3 && vars.get(2) == Some(7) && vars.get(3).is_none());
+    let copy = vars.copy(rt.alloc());
+    drop(vars);
+    pushed?;
+    assert!(rt; copy?.as_slice() == NUMBERS_OF_A_LIST.as_slice());
     Ok(())
 }
 
-fn small_deal(alloc: Global) -> Result<Deal, Fail> {
+fn one_number(alloc: Global, number: i64) -> Result<NumberList, NoMemory>
+    ensures { IfOk result (λ list. list ≡ number ∷ []) }
+{
+    Ok(Sequence::from_vec(Vec::from_slice(alloc, &[number])?))
+}
+
+fn small_deal(alloc: Global) -> Result<Deal, NoMemory> {
     Ok(Deal {
         threads: 2,
-        vars: Sequence::from_vec(Vec::from_slice(alloc, &[5])?),
+        vars: one_number(alloc, 5)?,
         mutexes: 1,
         conds: 0,
-        sems: Sequence::from_vec(Vec::from_slice(alloc, &[2147483647])?),
-        barriers: Sequence::from_vec(Vec::from_slice(alloc, &[2])?),
+        sems: one_number(alloc, 2147483647)?,
+        barriers: one_number(alloc, 2)?,
         rwlocks: 64,
     })
 }
 
 #[test]
 fn deals(rt: HostRuntime) -> Result<(), Fail> {
-    let copy = small_deal(rt.alloc())?.copy(rt.alloc())?;
+    let deal = small_deal(rt.alloc())?;
+    let copy = deal.copy(rt.alloc());
+    drop(deal);
+    let copy = copy?;
     assert_eq!(rt; (copy.threads, copy.rwlocks), (2, 64));
     assert_eq!(rt; copy.vars.as_slice(), [5].as_slice());
     assert_eq!(rt; copy.barriers.as_slice(), [2].as_slice());
+    drop(copy);
     Ok(())
 }
 

@@ -18,46 +18,42 @@ const NAMES: [(NameKind, &[u8]); 4] = [
 
 const LOST_UPDATE: &[u8] = b"directive 1\nlow B\nafter A 1\nverdict failed C 15\n";
 
-#[test]
-fn lost_update_is_written(rt: HostRuntime) -> Result<(), Fail> {
-    let names = names_of(&rt, rt.alloc(), &NAMES)?;
-    let mut events = MomentList::new(rt.alloc());
-    events.try_push(Moment {
-        thread: 0,
-        number: 1,
-    })?;
-    assert!(rt; events.len() <= 7);
+/// The one moment of the directive.
+const FIRST: Moment = Moment {
+    thread: 0,
+    number: 1,
+};
+
+const FAILED: Verdict = Verdict::Failed {
+    thread: 2,
+    line: 15,
+};
+
+/// What is written of the directive.
+fn lost_update(rt: &impl Abort, alloc: Global, names: &Names) -> Result<Vec<u8>, Fail> {
+    assert!(rt; names.count(NameKind::Thread) == 3);
     let directive = Directive {
         low: 1,
-        events,
-        verdict: Verdict::Failed {
-            thread: 2,
-            line: 15,
-        },
+        events: MomentList::from_vec(Vec::from_slice(alloc, &[FIRST])?),
+        verdict: FAILED,
     };
-    assert!(rt; names.count(NameKind::Thread) == 3);
-    let text = write_directive(rt.alloc(), &directive, &names)?;
+    let text = write_directive(alloc, &directive, names);
+    drop(directive);
+    Ok(text?)
+}
+
+fn expect_written(rt: &impl Abort, alloc: Global, names: &Names) -> Result<(), Fail> {
+    let text = lost_update(rt, alloc, names)?;
     assert!(rt; text.as_slice() == LOST_UPDATE);
     Ok(())
 }
 
-#[test]
-fn lost_update_is_read(rt: HostRuntime) -> Result<(), Fail> {
-    one_answer();
-    let names = names_of(&rt, rt.alloc(), &NAMES)?;
-    let directive = read_directive(rt.alloc(), LOST_UPDATE, &names)?;
-    assert_eq!(rt; directive.low, 1);
-    let first = Moment {
-        thread: 0,
-        number: 1,
-    };
-    assert!(rt; directive.events.as_slice() == [first].as_slice());
-    assert!(rt;
-        directive.verdict.is(&Verdict::Failed {
-            thread: 2,
-            line: 15
-        })
-    );
+fn expect_read(rt: &impl Abort, alloc: Global, names: &Names) -> Result<(), Fail> {
+    let directive = read_directive(alloc, LOST_UPDATE, names)?;
+    assert!(rt; directive.low == 1);
+    assert!(rt; directive.events.as_slice() == [FIRST].as_slice());
+    assert!(rt; directive.verdict.is(&FAILED));
+    drop(directive);
     Ok(())
 }
 
@@ -129,35 +125,52 @@ const FAULTS: [(&[u8], u32, DirectiveFault); 20] = [
 
 fn fault_of(alloc: Global, text: &[u8], names: &Names) -> Option<(u32, DirectiveFault)> {
     match read_directive(alloc, text, names) {
+        Ok(directive) => {
+            drop(directive);
+            None
+        }
         Err(DirectiveError::Bad { line, kind }) => Some((line, kind)),
-        _ => None,
+        Err(DirectiveError::NoMemory) => None,
     }
 }
 
-#[test]
-fn faults(rt: HostRuntime) -> Result<(), Fail> {
-    let names = names_of(&rt, rt.alloc(), &NAMES)?;
+fn expect_faults(rt: &impl Abort, alloc: Global, names: &Names) {
     for (text, line, kind) in &FAULTS {
-        assert!(rt; fault_of(rt.alloc(), text, &names) == Some((*line, *kind)));
+        assert!(rt; fault_of(alloc, text, names) == Some((*line, *kind)));
     }
-    Ok(())
 }
 
 /// The fault of so many bytes that are no directive.
 fn expect_large(
     rt: &impl Abort,
     alloc: Global,
+    names: &Names,
     size: usize,
     kind: DirectiveFault,
 ) -> Result<(), Fail> {
-    let names = names_of(rt, alloc, &NAMES)?;
     let text = vec![in alloc; b'x'; size]?;
-    assert!(rt; fault_of(alloc, text.as_slice(), &names) == Some((1, kind)));
+    assert!(rt; fault_of(alloc, text.as_slice(), names) == Some((1, kind)));
     Ok(())
 }
 
+fn expect_sizes(rt: &impl Abort, alloc: Global, names: &Names) -> Result<(), Fail> {
+    expect_large(rt, alloc, names, 65537, DirectiveFault::TooLong)?;
+    expect_large(rt, alloc, names, 65536, DirectiveFault::BadHeader)
+}
+
+fn expect_all(rt: &impl Abort, alloc: Global, names: &Names) -> Result<(), Fail> {
+    expect_written(rt, alloc, names)?;
+    expect_read(rt, alloc, names)?;
+    expect_faults(rt, alloc, names);
+    expect_sizes(rt, alloc, names)
+}
+
+/// The directive of a lost update is written and read, and other texts have their faults.
 #[test]
-fn sizes(rt: HostRuntime) -> Result<(), Fail> {
-    expect_large(&rt, rt.alloc(), 65537, DirectiveFault::TooLong)?;
-    expect_large(&rt, rt.alloc(), 65536, DirectiveFault::BadHeader)
+fn directives(rt: HostRuntime) -> Result<(), Fail> {
+    one_answer();
+    let names = names_of(&rt, rt.alloc(), &NAMES, &[])?;
+    let told = expect_all(&rt, rt.alloc(), &names);
+    drop(names);
+    told
 }

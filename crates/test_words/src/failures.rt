@@ -3,6 +3,7 @@ ghost use Rattle.std.specs.Prelude.{◌≤◌, length};
 use failure_rank::{Group, rank};
 use pct_ask::{Blocked, Row, RowList, Verdict};
 use std::alloc::Global;
+use std::process::Abort;
 use std::test::Fail;
 
 fn row(seed: u64, steps: u32, verdict: Verdict) -> Row {
@@ -13,27 +14,34 @@ fn row(seed: u64, steps: u32, verdict: Verdict) -> Row {
     }
 }
 
-fn ranked(alloc: Global, rows: &[Row]) -> Result<Vec<Group>, Fail>
+fn group(verdict: Verdict, count: u32, steps: u32, first: u64) -> Group {
+    Group {
+        verdict,
+        count,
+        steps,
+        first,
+    }
+}
+
+/// The rows are ranked so.
+fn expect_ranked(rt: &impl Abort, alloc: Global, rows: &[Row], told: &[Group]) -> Result<(), Fail>
     requires { length rows.now ≤ 100000 }
 {
     let rows = RowList::from_vec(Vec::from_slice(alloc, rows)?);
-    let groups = rank(alloc, &rows)?;
-    Ok(Vec::from_slice(alloc, groups.as_slice())?)
+    let groups = rank(alloc, &rows);
+    drop(rows);
+    let groups = groups?;
+    assert!(rt; groups.as_slice() == told);
+    drop(groups);
+    Ok(())
 }
 
 const FAILED: Verdict = Verdict::Failed { thread: 0, line: 3 };
 
 #[test]
 fn one_failure_twice(rt: HostRuntime) -> Result<(), Fail> {
-    let groups = ranked(rt.alloc(), &[row(7, 1, FAILED), row(8, 1, FAILED)])?;
-    let group = Group {
-        verdict: FAILED,
-        count: 2,
-        steps: 1,
-        first: 7,
-    };
-    assert_eq!(rt; groups.as_slice(), [group].as_slice());
-    Ok(())
+    let rows = [row(7, 1, FAILED), row(8, 1, FAILED)];
+    expect_ranked(&rt, rt.alloc(), &rows, &[group(FAILED, 2, 1, 7)])
 }
 
 fn stuck(line: u32) -> Verdict {
@@ -54,20 +62,11 @@ fn stuck_elsewhere_and_ties(rt: HostRuntime) -> Result<(), Fail> {
         row(3, 2, stuck(9)),
         row(4, 2, stuck(8)),
     ];
-    let groups = ranked(rt.alloc(), &rows)?;
     let told = [
-        (stuck(9), 2, 2, 0),
-        (stuck(8), 2, 2, u64::MAX),
-        (FAILED, 1, 3, 2),
-        (Verdict::Cut, 1, 3, 2),
+        group(stuck(9), 2, 2, 0),
+        group(stuck(8), 2, 2, u64::MAX),
+        group(FAILED, 1, 3, 2),
+        group(Verdict::Cut, 1, 3, 2),
     ];
-    assert_eq!(rt; groups.len(), told.len());
-    for (group, (verdict, count, steps, first)) in groups.iter().zip(&told) {
-        assert_eq!(rt; group.verdict, *verdict);
-        assert_eq!(rt;
-            (group.count, group.steps, group.first),
-            (*count, *steps, *first)
-        );
-    }
-    Ok(())
+    expect_ranked(&rt, rt.alloc(), &rows, &told)
 }

@@ -1,46 +1,41 @@
-use crate::samples::add;
-use crate::traces::{names_with, rewritten};
+use crate::samples::names_of;
+use crate::traces::{OBJECTS, rewritten};
 use pct_ask::{NameKind, Names};
-use std::alloc::Global;
+use std::alloc::{AllocError as NoMemory, Global};
+use std::fmt::Write;
 use std::process::Abort;
 use std::test::Fail;
 
 /// What stands in a longest step line after its number.
-const LONGEST: &[u8] =
-    b" a_thread_of_exactly_32_character 4096 cas a_name_of_exactly_32_characters_ -9223372036854775808 -9223372036854775807 = 1\n";
+const LONGEST: &str =
+    " a_thread_of_exactly_32_character 4096 cas a_name_of_exactly_32_characters_ -9223372036854775808 -9223372036854775807 = 1\n";
+
+/// The thread of the steps.
+const THREAD: [(NameKind, &[u8]); 1] = [(NameKind::Thread, b"a_thread_of_exactly_32_character")];
 
 /// As many steps as a run may have, each as long as a run's may be.
-fn longest_trace(alloc: Global) -> Result<Vec<u8>, Fail> {
-    let mut text = Vec::from_slice(
-        alloc,
-        b"trace 1\norder a_thread_of_exactly_32_character\npoints\nlimit 100000\n",
-    )?;
+fn push_longest(text: &mut String) -> Result<(), NoMemory> {
+    text.push_str("trace 1\norder a_thread_of_exactly_32_character\npoints\nlimit 100000\n")?;
     for step in 1..=100_000 {
-        text.extend_from_slice(format!(in alloc; "{step}")?.as_bytes())?;
-        text.extend_from_slice(LONGEST)?;
+        write!(text, "{step}{LONGEST}")?;
     }
-    text.extend_from_slice(b"verdict cut\n")?;
-    Ok(text)
+    text.push_str("verdict cut\n")
 }
 
 fn expect_many(rt: &impl Abort, alloc: Global, names: &Names) -> Result<(), Fail> {
-    let text = longest_trace(alloc)?;
-    let again = rewritten(alloc, text.as_slice(), names)?;
-    assert!(rt; again.as_slice() == text.as_slice());
+    let mut text = String::new(alloc);
+    push_longest(&mut text)?;
+    let again = rewritten(alloc, text.as_bytes(), names)?;
+    assert!(rt; again.as_slice() == text.as_bytes());
     Ok(())
 }
 
 #[test]
 fn many_steps(rt: HostRuntime) -> Result<(), Fail> {
-    let mut names = names_with(&rt, rt.alloc(), 0)?;
-    add(
-        &rt,
-        rt.alloc(),
-        &mut names,
-        NameKind::Thread,
-        b"a_thread_of_exactly_32_character",
-    )?;
     // With the six digits of its number a run's longest step line has 128 bytes.
     assert_eq!(rt; LONGEST.len(), 122);
-    expect_many(&rt, rt.alloc(), &names)
+    let names = names_of(&rt, rt.alloc(), &THREAD, &OBJECTS)?;
+    let told = expect_many(&rt, rt.alloc(), &names);
+    drop(names);
+    told
 }

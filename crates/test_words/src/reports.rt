@@ -23,7 +23,7 @@ const ONE_THREAD: [(NameKind, &[u8]); 1] = [(NameKind::Thread, b"A")];
 fn one_thread(rt: &impl Abort, alloc: Global) -> Result<Names, Fail>
     ensures { IfOk result (λ names. 0 < length names.threads) }
 {
-    let names = names_of(rt, alloc, &ONE_THREAD)?;
+    let names = names_of(rt, alloc, &ONE_THREAD, &[])?;
     assert!(rt; names.count(NameKind::Thread) == 1);
     Ok(names)
 }
@@ -64,29 +64,48 @@ fn one_group(alloc: Global, verdict: &Verdict) -> Result<Groups, NoMemory>
     Ok(groups)
 }
 
-fn expect(rt: &impl Abort, found: &[u8], told: &[u8]) {
-    assert!(rt; found == told);
+fn expect_told(rt: &impl Abort, found: Result<Vec<u8>, NoMemory>, told: &[u8]) -> Result<(), Fail> {
+    assert!(rt; found?.as_slice() == told);
+    Ok(())
+}
+
+/// What is told of a campaign of two rows that passed.
+fn passing_text(alloc: Global, names: &Names) -> Result<Vec<u8>, NoMemory> {
+    let rows = two_rows(alloc, 0, &Verdict::Passed)?;
+    let groups = Groups::new(alloc);
+    let text = text_report(alloc, &frame_of(1), &rows, &groups, names);
+    drop(groups);
+    drop(rows);
+    text
 }
 
 #[test]
 fn passing_campaign(rt: HostRuntime) -> Result<(), Fail> {
     let names = one_thread(&rt, rt.alloc())?;
-    let rows = two_rows(rt.alloc(), 0, &Verdict::Passed)?;
-    let groups = Groups::new(rt.alloc());
-    let text = text_report(rt.alloc(), &frame_of(1), &rows, &groups, &names)?;
-    expect(&rt, text.as_slice(), PASSING);
-    Ok(())
+    let text = passing_text(rt.alloc(), &names);
+    drop(names);
+    expect_told(&rt, text, PASSING)
+}
+
+/// What is told of a campaign of two rows that failed alike.
+fn expect_failing(rt: &impl Abort, alloc: Global, names: &Names) -> Result<(), Fail>
+    requires { 0 < length names.now.threads }
+{
+    let verdict = Verdict::Failed { thread: 0, line: 3 };
+    let rows = two_rows(alloc, 1, &verdict)?;
+    let groups = one_group(alloc, &verdict)?;
+    let text = text_report(alloc, &frame_of(2), &rows, &groups, names);
+    let json = json_report(alloc, &frame_of(2), &rows, &groups, names);
+    drop(groups);
+    drop(rows);
+    expect_told(rt, text, FAILING)?;
+    expect_told(rt, json, FAILING_AS_JSON)
 }
 
 #[test]
 fn failing_campaign(rt: HostRuntime) -> Result<(), Fail> {
     let names = one_thread(&rt, rt.alloc())?;
-    let verdict = Verdict::Failed { thread: 0, line: 3 };
-    let rows = two_rows(rt.alloc(), 1, &verdict)?;
-    let groups = one_group(rt.alloc(), &verdict)?;
-    let text = text_report(rt.alloc(), &frame_of(2), &rows, &groups, &names)?;
-    expect(&rt, text.as_slice(), FAILING);
-    let json = json_report(rt.alloc(), &frame_of(2), &rows, &groups, &names)?;
-    expect(&rt, json.as_slice(), FAILING_AS_JSON);
-    Ok(())
+    let told = expect_failing(&rt, rt.alloc(), &names);
+    drop(names);
+    told
 }

@@ -18,11 +18,42 @@ pub fn add(
     Ok(names.add(alloc, kind, name)?)
 }
 
-/// The names of a test, each with its kind.
-pub fn names_of(rt: &impl Abort, alloc: Global, all: &[(NameKind, &[u8])]) -> Result<Names, Fail> {
-    let mut names = Names::new(alloc);
+fn add_all(
+    rt: &impl Abort,
+    alloc: Global,
+    names: &mut Names,
+    all: &[(NameKind, &[u8])],
+) -> Result<(), Fail> {
     for (kind, name) in all {
-        add(rt, alloc, &mut names, *kind, name)?;
+        add(rt, alloc, names, *kind, name)?;
     }
-    Ok(names)
+    Ok(())
+}
+
+fn add_both(
+    rt: &impl Abort,
+    alloc: Global,
+    names: &mut Names,
+    some: &[(NameKind, &[u8])],
+    more: &[(NameKind, &[u8])],
+) -> Result<(), Fail> {
+    add_all(rt, alloc, names, some)?;
+    add_all(rt, alloc, names, more)
+}
+
+/// The names of a test, each with its kind: some, and then more.
+pub fn names_of(
+    rt: &impl Abort,
+    alloc: Global,
+    some: &[(NameKind, &[u8])],
+    more: &[(NameKind, &[u8])],
+) -> Result<Names, Fail> {
+    let mut names = Names::new(alloc);
+    match add_both(rt, alloc, &mut names, some, more) {
+        Ok(()) => Ok(names),
+        Err(error) => {
+            drop(names);
+            Err(error)
+        }
+    }
 }

@@ -1,11 +1,11 @@
-use crate::samples::{add, names_of};
+use crate::samples::names_of;
 use pct_ask::{NameKind, Names};
 use std::alloc::Global;
 use std::process::Abort;
 use std::test::Fail;
 use trace_text::{TraceError, TraceFault, TraceFile, one_answer, read_trace, write_trace};
 
-const OBJECTS: [(NameKind, &[u8]); 9] = [
+pub const OBJECTS: [(NameKind, &[u8]); 9] = [
     (NameKind::Var, b"x"),
     (NameKind::Mutex, b"p"),
     (NameKind::Mutex, b"q"),
@@ -17,27 +17,26 @@ const OBJECTS: [(NameKind, &[u8]); 9] = [
     (NameKind::Var, b"a_name_of_exactly_32_characters_"),
 ];
 
-const THREADS: [&[u8]; 3] = [b"A", b"B", b"C"];
+const TWO_THREADS: [(NameKind, &[u8]); 2] = [(NameKind::Thread, b"A"), (NameKind::Thread, b"B")];
 
-/// The names of a test with so many threads, at most three.
-pub fn names_with(rt: &impl Abort, alloc: Global, threads: usize) -> Result<Names, Fail> {
-    let mut names = names_of(rt, alloc, &OBJECTS)?;
-    for name in THREADS.iter().take(threads) {
-        add(rt, alloc, &mut names, NameKind::Thread, name)?;
-    }
-    Ok(names)
-}
+const THREE_THREADS: [(NameKind, &[u8]); 3] = [
+    (NameKind::Thread, b"A"),
+    (NameKind::Thread, b"B"),
+    (NameKind::Thread, b"C"),
+];
 
 /// A text, read and written again.
 pub fn rewritten(alloc: Global, text: &[u8], names: &Names) -> Result<Vec<u8>, Fail> {
     let file = read_trace(alloc, text, names)?;
-    Ok(write_trace(
+    let again = write_trace(
         alloc,
         &file.header,
         names,
         file.events.as_slice(),
         &file.verdict,
-    )?)
+    );
+    drop(file);
+    Ok(again?)
 }
 
 const IN_ORDER: &[u8] =
@@ -56,7 +55,7 @@ const STARTED_THREAD: &[u8] =
     b"trace 1\norder B A\npoints\nlimit 10000\n1 A 4 start B = 0\n2 B 7 begin = 0\n3 B 8 write x 1 = 0\n4 A 5 read x = 1\nverdict passed\n";
 
 /// Traces of three threads.
-const THREE_THREADS: [&[u8]; 2] = [IN_ORDER, LOST_UPDATE];
+const TRACES_OF_THREE: [&[u8]; 2] = [IN_ORDER, LOST_UPDATE];
 
 /// Every ask, with the least and the greatest numbers, and the greatest line.
 const EVERY_ASK: &[u8] =
@@ -90,22 +89,13 @@ fn expect_kept(rt: &impl Abort, alloc: Global, names: &Names, texts: &[&[u8]]) -
     Ok(())
 }
 
-#[test]
-fn traces_there_and_back(rt: HostRuntime) -> Result<(), Fail> {
-    let names = names_with(&rt, rt.alloc(), 2)?;
-    expect_kept(&rt, rt.alloc(), &names, &TRACES)
-}
-
-#[test]
-fn three_threads_there_and_back(rt: HostRuntime) -> Result<(), Fail> {
-    let names = names_with(&rt, rt.alloc(), 3)?;
-    expect_kept(&rt, rt.alloc(), &names, &THREE_THREADS)
-}
-
 /// The fault of a text.
 fn fault_of(read: Result<TraceFile, TraceError>) -> Result<Option<(u32, TraceFault)>, Fail> {
     match read {
-        Ok(_) => Ok(None),
+        Ok(file) => {
+            drop(file);
+            Ok(None)
+        }
         Err(TraceError::Bad { line, kind }) => Ok(Some((line, kind))),
         Err(error) => Err(error.into()),
     }
@@ -139,12 +129,6 @@ fn expect_cut(rt: &impl Abort, alloc: Global, names: &Names, whole: &[u8]) -> Re
         assert!(rt; fault == Some(fault_at(length)));
     }
     Ok(())
-}
-
-#[test]
-fn cut_traces(rt: HostRuntime) -> Result<(), Fail> {
-    let names = names_with(&rt, rt.alloc(), 3)?;
-    expect_cut(&rt, rt.alloc(), &names, IN_ORDER)
 }
 
 /// Texts under the names of two threads, and what is wrong with them.
@@ -430,10 +414,19 @@ fn expect_faults(
     Ok(())
 }
 
+fn expect_two(rt: &impl Abort, alloc: Global, names: &Names) -> Result<(), Fail> {
+    expect_kept(rt, alloc, names, &TRACES)?;
+    expect_faults(rt, alloc, names, &FAULTY)
+}
+
+/// Traces of two threads are read and written, or have their faults.
 #[test]
-fn faulty_traces(rt: HostRuntime) -> Result<(), Fail> {
-    let names = names_with(&rt, rt.alloc(), 2)?;
-    expect_faults(&rt, rt.alloc(), &names, &FAULTY)
+fn traces_of_two_threads(rt: HostRuntime) -> Result<(), Fail> {
+    one_answer();
+    let names = names_of(&rt, rt.alloc(), &TWO_THREADS, &OBJECTS)?;
+    let told = expect_two(&rt, rt.alloc(), &names);
+    drop(names);
+    told
 }
 
 /// A leading zero in the ninth line, and a line after the verdict.
@@ -450,25 +443,45 @@ const FAULTY_OF_THREE: [Faulty; 2] = [
     ),
 ];
 
+fn expect_three(rt: &impl Abort, alloc: Global, names: &Names) -> Result<(), Fail> {
+    expect_kept(rt, alloc, names, &TRACES_OF_THREE)?;
+    expect_cut(rt, alloc, names, IN_ORDER)?;
+    expect_faults(rt, alloc, names, &FAULTY_OF_THREE)
+}
+
+/// Traces of three threads are read and written, or have their faults.
 #[test]
-fn bad_traces(rt: HostRuntime) -> Result<(), Fail> {
-    let names = names_with(&rt, rt.alloc(), 3)?;
-    one_answer();
-    expect_faults(&rt, rt.alloc(), &names, &FAULTY_OF_THREE)
+fn traces_of_three_threads(rt: HostRuntime) -> Result<(), Fail> {
+    let names = names_of(&rt, rt.alloc(), &THREE_THREADS, &OBJECTS)?;
+    let told = expect_three(&rt, rt.alloc(), &names);
+    drop(names);
+    told
 }
 
 /// The fault of a file of so many bytes that are no trace.
-fn expect_large(rt: &impl Abort, alloc: Global, size: usize, kind: TraceFault) -> Result<(), Fail> {
-    let names = Names::new(alloc);
+fn expect_large(
+    rt: &impl Abort,
+    alloc: Global,
+    names: &Names,
+    size: usize,
+    kind: TraceFault,
+) -> Result<(), Fail> {
     let text = vec![in alloc; b'x'; size]?;
-    let fault = fault_of(read_trace(alloc, text.as_slice(), &names))?;
+    let fault = fault_of(read_trace(alloc, text.as_slice(), names))?;
     assert!(rt; fault == Some((1, kind)));
     Ok(())
 }
 
 /// One byte more than a file may have is told before all else; as many as it may have are read.
+fn expect_sizes(rt: &impl Abort, alloc: Global, names: &Names) -> Result<(), Fail> {
+    expect_large(rt, alloc, names, 16_777_217, TraceFault::TooLong)?;
+    expect_large(rt, alloc, names, 16_777_216, TraceFault::BadHeader)
+}
+
 #[test]
 fn large_files(rt: HostRuntime) -> Result<(), Fail> {
-    expect_large(&rt, rt.alloc(), 16_777_217, TraceFault::TooLong)?;
-    expect_large(&rt, rt.alloc(), 16_777_216, TraceFault::BadHeader)
+    let names = Names::new(rt.alloc());
+    let told = expect_sizes(&rt, rt.alloc(), &names);
+    drop(names);
+    told
 }

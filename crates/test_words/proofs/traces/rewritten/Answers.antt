@@ -20,8 +20,8 @@ all-steps : (names : NameLists) (file : TraceFile) (events : List Event) → IsW
     → events ≡ file.events → All (IsStep names file.header.version) events
 all-steps names file events run is = rw is run.steps
 
-pub write_trace-requires : goal.write_trace-requires
-write_trace-requires c =
+pub write_trace-again-requires : goal.write_trace-again-requires
+write_trace-again-requires c =
     let file = c.in_ok-file.file in
     let names = c.args.names.now in
     let events = c.as_slice.result.now in

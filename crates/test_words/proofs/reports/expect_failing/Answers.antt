@@ -7,7 +7,7 @@ use Rattle.pct_ask.specs.declared.event.Row.{Row}
 use Rattle.pct_ask.specs.declared.verdict.Verdict.TheVariants.{Failed}
 use Rattle.failure_rank.specs.declared.group.Group.{Group}
 use Rattle.report_text.specs.Report.{IsWritable}
-use Rattle.test_words.proofs.reports.failing_campaign.Goals as goal
+use Rattle.test_words.proofs.reports.expect_failing.Goals as goal
 
 writable : (names : NameLists) → 0 < length names.threads → IsWritable names (Failed 0 3)
 writable names some = record {
@@ -31,18 +31,18 @@ of_groups names some groups same =
     (λ (group : Group). IsWritable names group.verdict)
     (λ group is. subst (IsWritable names) (sym is) (writable names some)) groups same
 
-pub text_report-requires : goal.text_report-requires
-text_report-requires g c =
-    let names = c.in_ok-names in
+pub text_report-text-requires : goal.text_report-text-requires
+text_report-text-requires g c =
+    let names = c.args.names.now in
     record {
-      rows = of_rows names.names names.ensures c.in_ok-rows.rows c.in_ok-rows.ensures;
-      groups = of_groups names.names names.ensures c.in_ok-groups.groups c.in_ok-groups.ensures;
+      rows = of_rows names c.requires c.in_ok-rows.rows c.in_ok-rows.ensures;
+      groups = of_groups names c.requires c.in_ok-groups.groups c.in_ok-groups.ensures;
     }
 
-pub json_report-requires : goal.json_report-requires
-json_report-requires g c =
-    let names = c.in_ok-names in
+pub json_report-json-requires : goal.json_report-json-requires
+json_report-json-requires g c =
+    let names = c.args.names.now in
     record {
-      rows = of_rows names.names names.ensures c.in_ok-rows.rows c.in_ok-rows.ensures;
-      groups = of_groups names.names names.ensures c.in_ok-groups.groups c.in_ok-groups.ensures;
+      rows = of_rows names c.requires c.in_ok-rows.rows c.in_ok-rows.ensures;
+      groups = of_groups names c.requires c.in_ok-groups.groups c.in_ok-groups.ensures;
     }
