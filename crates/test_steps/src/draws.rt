@@ -30,12 +30,19 @@ fn draw_both(
     Ok((order, points))
 }
 
+/// A word, a bound, and the number below it.
+const SCALED: [(u64, u64, u64); 4] = [
+    (9223372036854775808, 3, 1),
+    (18446744073709551615, 16, 15),
+    (0, 5, 0),
+    (18446744073709551615, 1, 0),
+];
+
 #[test]
 fn scaled(rt: HostRuntime) {
-    assert_eq!(rt; scale(9223372036854775808, 3), 1);
-    assert_eq!(rt; scale(18446744073709551615, 16), 15);
-    assert_eq!(rt; scale(0, 5), 0);
-    assert_eq!(rt; scale(18446744073709551615, 1), 0);
+    for (word, bound, number) in &SCALED {
+        assert_eq!(rt; scale(*word, *bound), *number);
+    }
 }
 
 #[test]
@@ -71,33 +78,34 @@ const FIRST_WORDS: [(u64, [u32; 8]); 3] = [
     ),
 ];
 
-/// A draw below the greatest bound is the number less one.
-fn numbers_are(rt: &impl Abort, seed: u64, words: &[u32; 8]) {
-    let mut drawn = Words::of_seed(seed);
-    for pair in words.chunks_exact(2) {
-        if let [low, high] = pair {
-            let number = u64::from(*high) << 32 | u64::from(*low);
-            assert_eq!(rt; drawn.below(18446744073709551615), number.saturating_sub(1));
-        }
+/// The first draws of a seed, each below its bound.
+fn draws_below(rt: &impl Abort, seed: u64, bounds: [u64; 4]) -> [u64; 4] {
+    let mut words = Words::of_seed(seed);
+    let mut drawn = [0; 4];
+    for place in 0..4 {
+        assert!(rt; bounds[place] > 0);
+        drawn[place] = words.below(bounds[place]);
     }
+    drop(words);
+    drawn
+}
+
+/// Two words are a number, and a draw below the greatest bound is the number less one.
+fn draw_of_words(low: u32, high: u32) -> u64 {
+    (u64::from(high) << 32 | u64::from(low)).saturating_sub(1)
 }
 
 #[test]
 fn first_words(rt: HostRuntime) {
     for (seed, words) in &FIRST_WORDS {
-        numbers_are(&rt, *seed, words);
+        let wanted = [
+            draw_of_words(words[0], words[1]),
+            draw_of_words(words[2], words[3]),
+            draw_of_words(words[4], words[5]),
+            draw_of_words(words[6], words[7]),
+        ];
+        assert_eq!(rt; draws_below(&rt, *seed, [u64::MAX; 4]), wanted);
     }
-}
-
-#[test]
-fn one_thread_and_one_step(rt: HostRuntime) -> Result<(), Fail> {
-    let mut words = Words::of_seed(1);
-    assert_eq!(rt; words.draw_order(rt.alloc(), 1)?.as_slice(), [0].as_slice());
-    assert_eq!(rt;
-        words.draw_points(rt.alloc(), 1, 2)?.as_slice(),
-        [1, 1].as_slice()
-    );
-    Ok(())
 }
 
 // A seed, its places of four threads, and their order.
@@ -128,24 +136,11 @@ const ORDERS: [(u64, [u64; 4], [u32; 4]); 24] = [
     (28, [3, 2, 1, 0], [3, 2, 1, 0]),
 ];
 
-/// The four draws of the places.
-fn places_of(seed: u64) -> [u64; 4] {
-    let mut words = Words::of_seed(seed);
-    [
-        words.below(4),
-        words.below(3),
-        words.below(2),
-        words.below(1),
-    ]
-}
-
 #[test]
 fn all_orders_of_four(rt: HostRuntime) -> Result<(), Fail> {
     for (seed, places, order) in &ORDERS {
-        assert_eq!(rt; places_of(*seed), *places);
-        let mut words = Words::of_seed(*seed);
-        let drawn = words.draw_order(rt.alloc(), 4)?;
-        assert_eq!(rt; drawn.as_slice(), order.as_slice());
+        assert_eq!(rt; draws_below(&rt, *seed, [4, 3, 2, 1]), *places);
+        expect_drawn(&rt, rt.alloc(), &(*seed, 4, 1, order, &[]))?;
     }
     Ok(())
 }
@@ -158,18 +153,31 @@ const ORDER_OF_64: [u32; 64] = [
 
 const SEVEN_POINTS: [u32; 7] = [52140, 74076, 42112, 10546, 37801, 80074, 18436];
 
-#[test]
-fn greatest_bounds(rt: HostRuntime) -> Result<(), Fail> {
-    let (order, points) = draw_both(rt.alloc(), 0, 64, 100000, 8)?;
-    assert_eq!(rt; order.as_slice(), ORDER_OF_64.as_slice());
-    assert_eq!(rt; points.as_slice(), SEVEN_POINTS.as_slice());
+/// A seed, how many threads and steps, the order, and the points.
+type Drawn<'a> = (u64, u32, u32, &'a [u32], &'a [u32]);
+
+const DRAWN: [Drawn<'static>; 3] = [
+    (1, 1, 1, &[0], &[1, 1]),
+    (0, 64, 100000, &ORDER_OF_64, &SEVEN_POINTS),
+    (7, 3, 100000, &[2, 0, 1], &[30138, 38613]),
+];
+
+/// The order and then the points of the seed.
+fn expect_drawn(rt: &impl Abort, alloc: Global, drawn: &Drawn<'_>) -> Result<(), Fail> {
+    let (seed, threads, steps, order, points) = *drawn;
+    assert!(rt; 1 <= threads && threads <= 64);
+    assert!(rt; 1 <= steps && steps <= 100000);
+    assert!(rt; points.len() <= 7);
+    let found = draw_both(alloc, seed, threads, steps, points.len() as u32 + 1)?;
+    assert_eq!(rt; (found.0.as_slice(), found.1.as_slice()), (order, points));
     Ok(())
 }
 
+/// One thread and one step, the greatest bounds, and three threads.
 #[test]
-fn three_threads(rt: HostRuntime) -> Result<(), Fail> {
-    let (order, points) = draw_both(rt.alloc(), 7, 3, 100000, 3)?;
-    assert_eq!(rt; order.as_slice(), [2, 0, 1].as_slice());
-    assert_eq!(rt; points.as_slice(), [30138, 38613].as_slice());
+fn orders_and_points(rt: HostRuntime) -> Result<(), Fail> {
+    for drawn in &DRAWN {
+        expect_drawn(&rt, rt.alloc(), drawn)?;
+    }
     Ok(())
 }

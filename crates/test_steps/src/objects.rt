@@ -1,8 +1,8 @@
-ghost use Rattle.std.specs.Prelude.{◌≡◌};
+ghost use Rattle.std.specs.Prelude.{◌≡◌, IfOk};
 ghost use Rattle.sync_store.specs.Store.{sizes_of, sizes_of_deal};
 
-use crate::samples::fits;
-use pct_ask::{Ask, Deal, FaultKind, MisuseKind, Sequence, Standing, Verdict};
+use crate::samples::{deal_of, fits};
+use pct_ask::{Ask, Deal, FaultKind, MisuseKind, Standing, Verdict};
 use std::alloc::{AllocError, Global};
 use std::process::Abort;
 use std::test::Fail;
@@ -18,17 +18,18 @@ enum Seen {
 
 const LINE: u32 = 7;
 
-/// Three threads, and an object or two of each kind.
-fn small_deal(alloc: Global) -> Result<Deal, AllocError> {
-    Ok(Deal {
-        threads: 3,
-        vars: Sequence::from_vec(vec![in alloc; 5]?),
-        mutexes: 2,
-        conds: 1,
-        sems: Sequence::from_vec(vec![in alloc; 1, 2_147_483_647]?),
-        barriers: Sequence::from_vec(vec![in alloc; 1, 3]?),
-        rwlocks: 1,
-    })
+/// What three threads share, at the start of a run.
+fn small_store(alloc: Global) -> Result<(Deal, Store), AllocError>
+    ensures { IfOk result (λ both. sizes_of both.1 ≡ sizes_of_deal both.0) }
+{
+    let deal = deal_of(alloc, 3, 5)?;
+    match Store::new(alloc, &deal) {
+        Ok(store) => Ok((deal, store)),
+        Err(error) => {
+            drop(deal);
+            Err(error)
+        }
+    }
 }
 
 fn see(rt: &impl Abort, deal: &Deal, store: &mut Store, thread: u32, ask: Ask) -> Seen
@@ -65,9 +66,10 @@ fn expect_each(rt: &impl Abort, deal: &Deal, store: &mut Store, steps: &[Step])
 
 /// What becomes of asks, one after another, from the beginning on.
 fn expect(rt: &impl Abort, alloc: Global, steps: &[Step]) -> Result<(), Fail> {
-    let deal = small_deal(alloc)?;
-    let mut store = Store::new(alloc, &deal)?;
+    let (deal, mut store) = small_store(alloc)?;
     expect_each(rt, &deal, &mut store, steps);
+    drop(store);
+    drop(deal);
     Ok(())
 }
 
@@ -344,27 +346,26 @@ fn read_holds(rt: HostRuntime) -> Result<(), Fail> {
     expect(&rt, rt.alloc(), &steps)
 }
 
-const STANDINGS: [Standing; 3] = [Standing::Asks, Standing::Away, Standing::Ended];
-
 /// Whether the first thread may do what it asks, where the second is away and the third has ended.
 fn ready_to(rt: &impl Abort, deal: &Deal, store: &Store, ask: Ask) -> Ready
     requires { sizes_of store.now ≡ sizes_of_deal deal.now }
 {
-    let standings: &[Standing] = &STANDINGS;
-    assert!(rt; standings.len() == 3 && deal.threads == 3);
+    assert_eq!(rt; deal.threads, 3);
     assert!(rt; fits(deal, &ask));
-    store.ready(standings, 0, &ask)
+    let standings = [Standing::Asks, Standing::Away, Standing::Ended];
+    store.ready(&standings, 0, &ask)
 }
 
 /// Each ask is so ready, and no thread is started.
 fn expect_ready(rt: &impl Abort, alloc: Global, asks: &[(Ask, Ready)]) -> Result<(), Fail> {
-    let deal = small_deal(alloc)?;
-    let store = Store::new(alloc, &deal)?;
+    let (deal, store) = small_store(alloc)?;
     for (ask, wanted) in asks {
         assert_eq!(rt; ready_to(rt, &deal, &store, *ask), *wanted, "{ask:?}");
     }
     assert_eq!(rt; deal.threads, 3);
     assert!(rt; !store.is_started(1));
+    drop(store);
+    drop(deal);
     Ok(())
 }
 
@@ -382,18 +383,21 @@ fn joins(rt: HostRuntime) -> Result<(), Fail> {
     expect_ready(&rt, rt.alloc(), &JOINS)
 }
 
+/// What the store names as touched by an ask.
+const TOUCHED: [(Ask, Touched); 8] = [
+    (Ask::Read { var: 1 }, Touched::Nothing),
+    (Ask::Regain { cond: 1, mutex: 2 }, Touched::Mutex(2)),
+    (Ask::Broadcast { cond: 1 }, Touched::Cond(1)),
+    (Ask::TryDown { sem: 3 }, Touched::Sem(3)),
+    (Ask::Leave { barrier: 4 }, Touched::Barrier(4)),
+    (Ask::Start { thread: 5 }, Touched::Thread(5)),
+    (Ask::Begin, Touched::Nothing),
+    (Ask::TryRdLock { rwlock: 6 }, Touched::RwLock(6)),
+];
+
 #[test]
 fn touched_objects(rt: HostRuntime) {
-    for (ask, wanted) in [
-        (Ask::Read { var: 1 }, Touched::Nothing),
-        (Ask::Regain { cond: 1, mutex: 2 }, Touched::Mutex(2)),
-        (Ask::Broadcast { cond: 1 }, Touched::Cond(1)),
-        (Ask::TryDown { sem: 3 }, Touched::Sem(3)),
-        (Ask::Leave { barrier: 4 }, Touched::Barrier(4)),
-        (Ask::Start { thread: 5 }, Touched::Thread(5)),
-        (Ask::Begin, Touched::Nothing),
-        (Ask::TryRdLock { rwlock: 6 }, Touched::RwLock(6)),
-    ] {
-        assert_eq!(rt; Store::touched(&ask), wanted, "{ask:?}");
+    for (ask, wanted) in &TOUCHED {
+        assert_eq!(rt; Store::touched(ask), *wanted, "{ask:?}");
     }
 }

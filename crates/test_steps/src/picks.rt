@@ -1,6 +1,6 @@
-ghost use Rattle.std.specs.Prelude.{◌≡◌, ℕ, ◌+◌, ◌<◌, ◌≤◌, ◌∷◌, [], ◌++◌, List, length, IsTrue};
+ghost use Rattle.std.specs.Prelude.{◌≡◌, ℕ, ◌<◌, ◌≤◌, [], ◌++◌, List, length, IsTrue};
 ghost use Rattle.policy_pick.specs.Plan.{SpeaksOf};
-ghost use Rattle.policy_pick.specs.Choice.{choice, TargetsAreAway, IsSoundPick};
+ghost use Rattle.policy_pick.specs.Choice.{TargetsAreAway, HasAwayTarget};
 
 use crate::samples::ORDERS;
 use crate::slow::{slow_by_events, slow_by_list, slow_by_points, slow_choice};
@@ -9,52 +9,75 @@ use std::alloc::Global;
 use std::process::Abort;
 use std::test::Fail;
 
+/// Whether the target of an Unknown is Away.
+fn has_away_target(chances: &[Chance], chance: Chance) -> bool
+    ensures { IsTrue result → HasAwayTarget chances.now chance }
+{
+    match chance {
+        Chance::Unknown { target } => (target as usize) < chances.len()
+            && chances[target as usize] == Chance::Away,
+        _ => true,
+    }
+}
+
 /// Whether each target of an Unknown is Away.
 fn targets_are_away(chances: &[Chance]) -> bool
     ensures { IsTrue result → TargetsAreAway chances.now }
 {
     for chance in chances {
-        if let Chance::Unknown { target } = *chance {
-            if target as usize >= chances.len() || chances[target as usize] != Chance::Away {
-                return false;
-            }
+        if !has_away_target(chances, *chance) {
+            return false;
         }
     }
     true
 }
 
-/// A pick, and the step of the picked thread.
-fn step<P: Policy>(policy: &mut P, chances: &[Chance]) -> Pick
-    requires threads { SpeaksOf (P.plan policy.old) (length chances.now) }
-    requires targets { TargetsAreAway chances.now }
+/// The policy picks as wanted, and is told who takes a step then.
+fn expect_pick<P: Policy>(
+    rt: &impl Abort,
+    policy: &mut P,
+    chances: &[Chance],
+    wanted: Pick,
+    taker: Option<u32>,
+    place: usize,
+)
+    requires threads { SpeaksOf (P.plan policy.old) 3 }
     requires short { (schedule : List ℕ)
         × P.stands policy.old schedule
         × (length schedule < 100000) }
     ensures plan { P.plan policy.new ≡ P.plan policy.old }
-    ensures picked { (schedule : List ℕ) → P.stands policy.old schedule
-        → result ≡ choice (P.plan policy.old) schedule chances.now }
-    ensures sound { IsSoundPick (P.plan policy.old) chances.now result }
     ensures stands { (schedule : List ℕ) → P.stands policy.old schedule
         → ((more : List ℕ) × (length more ≤ 1) × P.stands policy.new (schedule ++ more)) }
 {
-    let pick = policy.pick(chances);
-    if let Pick::Thread(thread) = pick {
+    assert_eq!(rt; chances.len(), 3);
+    assert!(rt; targets_are_away(chances));
+    assert_eq!(rt; policy.pick(chances), wanted, "pick {place}");
+    if let Some(thread) = taker {
+        assert!(rt; thread < 3);
         policy.took(thread);
     }
-    pick
 }
 
-/// The picks of three threads, with the chances and the wanted pick of each.
-fn expect_picks<P: Policy>(rt: &impl Abort, mut policy: P, cases: &[(&[Chance], Pick)])
+/// The thread that is picked.
+fn thread_of(pick: Pick) -> Option<u32> {
+    match pick {
+        Pick::Thread(thread) => Some(thread),
+        _ => None,
+    }
+}
+
+/// The chances of three threads, and what is picked.
+type Case = (&'static [Chance], Pick);
+
+/// The policy picks as wanted, one case after another, and the picked threads take their steps.
+fn expect_picks<P: Policy>(rt: &impl Abort, mut policy: P, cases: &[Case])
     requires threads { SpeaksOf (P.plan policy) 3 }
     requires stands { P.stands policy [] }
     requires short { length cases.now ≤ 100 }
 {
     for place in 0..cases.len() {
-        let (chances, want) = cases[place];
-        assert_eq!(rt; chances.len(), 3);
-        assert!(rt; targets_are_away(chances));
-        assert_eq!(rt; step(&mut policy, chances), want, "pick {place}");
+        let (chances, wanted) = cases[place];
+        expect_pick(rt, &mut policy, chances, wanted, thread_of(wanted), place);
     }
 }
 
@@ -89,78 +112,67 @@ fn chance_of(kind: u32, away: Option<u32>) -> Chance {
 fn expect_along<P: Policy>(
     rt: &impl Abort,
     mut policy: P,
-    schedule: &[u32],
+    schedule: &[u32; 3],
     number: u32,
-    wanted: &[Pick],
+    wanted: &[Pick; 3],
 )
     requires threads { SpeaksOf (P.plan policy) 3 }
     requires stands { P.stands policy [] }
-    requires short { length schedule.now ≤ 100 }
     requires small { number < 1000000 }
 {
-    assert_eq!(rt; wanted.len(), schedule.len());
-    for taken in 0..schedule.len() {
+    for taken in 0..3 {
         let chances = chances_of(number + taken as u32);
-        assert!(rt; targets_are_away(&chances));
-        assert_eq!(rt;
-            policy.pick(&chances),
-            wanted[taken],
-            "step {taken} of {number}"
-        );
-        let thread = schedule[taken];
-        assert!(rt; thread < 3);
-        policy.took(thread);
+        let taker = Some(schedule[taken]);
+        let place = number as usize + taken;
+        expect_pick(rt, &mut policy, &chances, wanted[taken], taker, place);
     }
 }
 
-/// The picks by points, from the plain programs.
+/// The picks by points along a schedule, from the plain programs.
 fn wanted_by_points(
     rt: &impl Abort,
     alloc: Global,
     order: &[u32],
     points: &[u32],
-    schedule: &[u32],
+    schedule: &[u32; 3],
     number: u32,
-) -> Result<Vec<Pick>, Fail>
+) -> Result<[Pick; 3], Fail>
     requires few_threads { length order.now ≤ 64 }
     requires few_points { length points.now ≤ 7 }
-    requires short { length schedule.now ≤ 100 }
     requires small { number < 1000000 }
 {
-    let mut wanted = Vec::new(alloc);
-    for taken in 0..schedule.len() {
+    let mut wanted = [Pick::Nobody; 3];
+    for taken in 0..3 {
         let ranks = slow_by_points(alloc, order, points, &schedule[..taken])?;
         assert_eq!(rt; ranks.len(), 3);
-        wanted.push(slow_choice(&ranks, &chances_of(number + taken as u32)))?;
+        let chances = chances_of(number + taken as u32);
+        wanted[taken] = slow_choice(&ranks, &chances);
     }
     Ok(wanted)
 }
 
-/// The picks by moments, from the plain programs.
+/// The picks by moments along a schedule, from the plain programs.
 fn wanted_by_events(
     rt: &impl Abort,
     alloc: Global,
     order: &[u32],
     events: &[Moment],
-    schedule: &[u32],
+    schedule: &[u32; 3],
     number: u32,
-) -> Result<Vec<Pick>, Fail>
+) -> Result<[Pick; 3], Fail>
     requires few_threads { length order.now ≤ 64 }
     requires few_events { length events.now ≤ 7 }
-    requires short { length schedule.now ≤ 100 }
     requires small { number < 1000000 }
 {
-    let mut wanted = Vec::new(alloc);
-    for taken in 0..schedule.len() {
+    let mut wanted = [Pick::Nobody; 3];
+    for taken in 0..3 {
         let ranks = slow_by_events(alloc, order, events, &schedule[..taken])?;
         assert_eq!(rt; ranks.len(), 3);
-        wanted.push(slow_choice(&ranks, &chances_of(number + taken as u32)))?;
+        let chances = chances_of(number + taken as u32);
+        wanted[taken] = slow_choice(&ranks, &chances);
     }
     Ok(wanted)
 }
-
-/// The chances of three threads, and what is picked.
-type Case = (&'static [Chance], Pick);
 
 const AWAY: Chance = Chance::Away;
 
@@ -313,25 +325,15 @@ fn compare_case(rt: &impl Abort, alloc: Global, order: &[u32], case: u32) -> Res
     let schedule = [steps % 3, steps / 3 % 3, steps / 9 % 3];
     let points = [1 + case % 4, 1 + case / 4 % 4];
     let wanted = wanted_by_points(rt, alloc, order, &points, &schedule, 3 * case)?;
-    expect_along(
-        rt,
-        Pct::new(alloc, order, &points)?,
-        &schedule,
-        3 * case,
-        &wanted,
-    );
+    let policy = Pct::new(alloc, order, &points)?;
+    expect_along(rt, policy, &schedule, 3 * case, &wanted);
     let events = points.map(|point| Moment {
         thread: point % 3,
         number: 1 + point / 3,
     });
     let wanted = wanted_by_events(rt, alloc, order, &events, &schedule, 3 * case)?;
-    expect_along(
-        rt,
-        DirectedPolicy::new(alloc, order, &events)?,
-        &schedule,
-        3 * case,
-        &wanted,
-    );
+    let policy = DirectedPolicy::new(alloc, order, &events)?;
+    expect_along(rt, policy, &schedule, 3 * case, &wanted);
     Ok(())
 }
 
@@ -339,31 +341,26 @@ fn compare_case(rt: &impl Abort, alloc: Global, order: &[u32], case: u32) -> Res
 #[test]
 fn picks_are_the_slow_ones(rt: HostRuntime) -> Result<(), Fail> {
     for case in 0..16 * 27 {
-        for order in ORDERS {
+        for order in &ORDERS {
             assert_eq!(rt; order.len(), 3);
-            compare_case(&rt, rt.alloc(), &order, case)?;
+            compare_case(&rt, rt.alloc(), order, case)?;
         }
     }
     Ok(())
 }
 
 /// A list picks as the plain program does, also after the list.
-fn compare_list(
-    rt: &impl Abort,
-    alloc: Global,
-    listed: &[u32],
-    schedule: &[u32],
-    number: u32,
-) -> Result<(), Fail>
-    requires short { length schedule.now ≤ 100 }
+fn compare_list(rt: &impl Abort, alloc: Global, listed: &[u32; 2], number: u32) -> Result<(), Fail>
     requires small { number < 1000000 }
 {
     assert!(rt; listed.iter().all(|thread| *thread < 3));
-    let mut wanted = Vec::new(alloc);
-    for taken in 0..schedule.len() {
-        wanted.push(slow_by_list(listed, taken, &chances_of(number + taken as u32)))?;
+    let mut wanted = [Pick::Nobody; 3];
+    for taken in 0..3 {
+        let chances = chances_of(number + taken as u32);
+        wanted[taken] = slow_by_list(listed, taken, &chances);
     }
-    expect_along(rt, Listed::new(alloc, listed)?, schedule, number, &wanted);
+    let policy = Listed::new(alloc, listed)?;
+    expect_along(rt, policy, &[0, 1, 2], number, &wanted);
     Ok(())
 }
 
@@ -371,13 +368,7 @@ fn compare_list(
 #[test]
 fn lists_pick_as_slow_ones(rt: HostRuntime) -> Result<(), Fail> {
     for case in 0..9 * 125 {
-        compare_list(
-            &rt,
-            rt.alloc(),
-            &[case % 3, case / 3 % 3],
-            &[0, 1, 2],
-            case / 9,
-        )?;
+        compare_list(&rt, rt.alloc(), &[case % 3, case / 3 % 3], case / 9)?;
     }
     Ok(())
 }

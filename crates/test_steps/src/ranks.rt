@@ -74,48 +74,59 @@ fn check_case(
     Ok(())
 }
 
+/// What isn't an order, and the first wrong place.
+const WRONG_ORDERS: [(&'static [u32], u32); 4] = [
+    (&[0, 0], 1),
+    (&[1], 0),
+    (&[0, 2, 1, 1], 3),
+    (&[1, 0, 3, 3], 3),
+];
+
 #[test]
 fn wrong_orders(rt: HostRuntime) {
-    let cases: [(&[u32], u32); 4] = [
-        (&[0, 0], 1),
-        (&[1], 0),
-        (&[0, 2, 1, 1], 3),
-        (&[1, 0, 3, 3], 3),
-    ];
-    for (order, wrong) in cases {
+    for (order, wrong) in &WRONG_ORDERS {
         assert!(rt; order.len() <= 64);
-        let at = match Ranks::new(rt.alloc(), order, 1) {
+        let at = match Ranks::new(rt.alloc(), *order, 1) {
             Err(RankError::NotAnOrder { at }) => at,
             _ => 100,
         };
-        assert_eq!(rt; at, wrong);
+        assert_eq!(rt; at, *wrong);
     }
 }
+
+/// An order, change points, the steps, and the ranks after them.
+type Case = (
+    &'static [u32],
+    &'static [u32],
+    &'static [u32],
+    &'static [u32],
+);
+
+const BY_HAND: [Case; 10] = [
+    // Before the first step, and after the one change point, where the lowest value goes to the
+    // highest thread.
+    (&[2, 0, 1], &[1], &[], &[3, 2, 4]),
+    (&[2, 0, 1], &[1], &[2], &[3, 2, 1]),
+    // The other threads' steps change nothing.
+    (&[0, 1, 2], &[1], &[0, 1, 1, 0, 2], &[1, 3, 2]),
+    // Of equal points the greatest index stands.
+    (&[0, 1, 2], &[1, 1], &[0], &[2, 4, 3]),
+    // A point past the schedule changes nothing.
+    (&[0, 1, 2], &[8, 100], &[0, 0, 0, 1, 1, 1, 2], &[5, 4, 3]),
+    (&[0, 1, 2], &[8, 100], &[0, 0, 0, 1, 1, 1, 2, 2], &[5, 4, 1]),
+    // One thread is changed twice, up and down.
+    (&[0, 1, 2], &[1, 3], &[0, 1, 0], &[2, 4, 3]),
+    (&[0, 1, 2], &[3, 1], &[0, 1, 0], &[1, 4, 3]),
+    // Two threads, each at a point.
+    (&[0, 1, 2], &[2, 1], &[0, 1, 2], &[2, 1, 3]),
+    (&[0, 1, 2], &[1, 2], &[0, 1, 2], &[1, 2, 3]),
+];
 
 /// Three threads, with one change point or with two.
 #[test]
 fn values_by_hand(rt: HostRuntime) -> Result<(), Fail> {
-    let cases: [(&[u32], &[u32], &[u32], &[u32]); 10] = [
-        // Before the first step, and after the one change point, where the lowest value goes to the
-        // highest thread.
-        (&[2, 0, 1], &[1], &[], &[3, 2, 4]),
-        (&[2, 0, 1], &[1], &[2], &[3, 2, 1]),
-        // The other threads' steps change nothing.
-        (&[0, 1, 2], &[1], &[0, 1, 1, 0, 2], &[1, 3, 2]),
-        // Of equal points the greatest index stands.
-        (&[0, 1, 2], &[1, 1], &[0], &[2, 4, 3]),
-        // A point past the schedule changes nothing.
-        (&[0, 1, 2], &[8, 100], &[0, 0, 0, 1, 1, 1, 2], &[5, 4, 3]),
-        (&[0, 1, 2], &[8, 100], &[0, 0, 0, 1, 1, 1, 2, 2], &[5, 4, 1]),
-        // One thread is changed twice, up and down.
-        (&[0, 1, 2], &[1, 3], &[0, 1, 0], &[2, 4, 3]),
-        (&[0, 1, 2], &[3, 1], &[0, 1, 0], &[1, 4, 3]),
-        // Two threads, each at a point.
-        (&[0, 1, 2], &[2, 1], &[0, 1, 2], &[2, 1, 3]),
-        (&[0, 1, 2], &[1, 2], &[0, 1, 2], &[1, 2, 3]),
-    ];
-    for (order, points, schedule, want) in cases {
-        check_case(&rt, rt.alloc(), order, points, schedule, Some(want))?;
+    for (order, points, schedule, want) in &BY_HAND {
+        check_case(&rt, rt.alloc(), *order, *points, *schedule, Some(*want))?;
     }
     Ok(())
 }
@@ -124,12 +135,12 @@ fn values_by_hand(rt: HostRuntime) -> Result<(), Fail> {
 /// four steps.
 #[test]
 fn values_are_the_slow_ones(rt: HostRuntime) -> Result<(), Fail> {
-    for order in ORDERS {
+    for order in &ORDERS {
         for case in 0..25 * 81u32 {
             let points = [1 + case % 5, 1 + case / 5 % 5];
             let steps = case / 25;
             let schedule = [steps % 3, steps / 3 % 3, steps / 9 % 3, steps / 27 % 3];
-            check_case(&rt, rt.alloc(), &order, &points, &schedule, None)?;
+            check_case(&rt, rt.alloc(), order, &points, &schedule, None)?;
         }
     }
     Ok(())

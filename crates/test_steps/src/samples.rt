@@ -1,9 +1,10 @@
 //! What the tests of several libraries need.
-ghost use Rattle.std.specs.Prelude.{IsTrue};
+ghost use Rattle.std.specs.Prelude.{◌≡◌, ◌≤◌, IsTrue, IfOk};
 ghost use Rattle.sync_store.specs.Store.{sizes_of_deal};
 ghost use Rattle.sync_store.specs.Enabled.{IsInRange};
 
-use pct_ask::{Ask, Deal};
+use pct_ask::{Ask, Deal, Sequence};
+use std::alloc::{AllocError, Global};
 
 /// The orders of three threads.
 pub const ORDERS: [[u32; 3]; 6] = [
@@ -14,6 +15,23 @@ pub const ORDERS: [[u32; 3]; 6] = [
     [2, 0, 1],
     [2, 1, 0],
 ];
+
+/// So many threads, a variable of this first value, and an object or more of each other kind.
+pub fn deal_of(alloc: Global, threads: u32, var: i64) -> Result<Deal, AllocError>
+    requires some { 1 ≤ threads }
+    requires few { threads ≤ 64 }
+    ensures { IfOk result (λ deal. deal.threads ≡ threads) }
+{
+    Ok(Deal {
+        threads,
+        vars: Sequence::from_vec(vec![in alloc; var]?),
+        mutexes: 2,
+        conds: 1,
+        sems: Sequence::from_vec(vec![in alloc; 1, 2_147_483_647]?),
+        barriers: Sequence::from_vec(vec![in alloc; 1, 3, 2]?),
+        rwlocks: 1,
+    })
+}
 
 /// Whether an ask names only what there is.
 pub fn fits(deal: &Deal, ask: &Ask) -> bool

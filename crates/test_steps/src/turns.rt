@@ -1,11 +1,9 @@
-ghost use Rattle.std.specs.Prelude.{◌≡◌, ◌≤◌, length, IsTrue, IfOk};
-ghost use Rattle.sync_store.specs.Store.{sizes_of_deal};
-ghost use Rattle.turn_book.specs.Told.{PostIsInRange};
+ghost use Rattle.std.specs.Prelude.{◌≤◌, length};
 
-use crate::samples::fits;
-use pct_ask::{Ask, Blocked, Deal, Event, MisuseKind, Outcome, Post, Sequence, Standing, Verdict};
+use crate::samples::{deal_of, fits};
+use pct_ask::{Ask, Blocked, Event, MisuseKind, Outcome, Post, Standing, Verdict};
 use policy_pick::{Pct, Policy};
-use std::alloc::{AllocError, Global};
+use std::alloc::Global;
 use std::process::Abort;
 use std::test::Fail;
 use turn_book::{Because, Taken, TurnBook};
@@ -13,38 +11,28 @@ use turn_book::{Because, Taken, TurnBook};
 /// A thread, a line of its test, what it asks there, and the answer.
 type Row = (u32, u32, Ask, i64);
 
-/// So many threads, and an object of each kind.
-fn deal_of(alloc: Global, threads: u32) -> Result<Deal, AllocError>
-    requires some { 1 ≤ threads }
-    requires few { threads ≤ 64 }
-    ensures { IfOk result (λ deal. deal.threads ≡ threads) }
-{
-    Ok(Deal {
-        threads,
-        vars: Sequence::from_vec(vec![in alloc; 0]?),
-        mutexes: 2,
-        conds: 1,
-        sems: Sequence::from_vec(vec![in alloc; 1]?),
-        barriers: Sequence::from_vec(vec![in alloc; 2]?),
-        rwlocks: 1,
-    })
-}
-
-/// Whether a post names only what there is.
-fn post_fits(deal: &Deal, post: &Post) -> bool
-    ensures { IsTrue result → PostIsInRange (sizes_of_deal deal.now) post.now.ask }
-{
-    match post.ask {
-        None => true,
-        Some(ask) => fits(deal, &ask),
-    }
-}
-
 fn post<P: Policy>(rt: &impl Abort, book: &mut TurnBook<P>, thread: u32, post: Post) {
     assert!(rt; thread < book.deal().threads);
     assert_eq!(rt; book.standing(thread), Standing::Away);
-    assert!(rt; post_fits(book.deal(), &post));
-    book.post(thread, post);
+    match post.ask {
+        Some(ask) => {
+            assert!(rt; fits(book.deal(), &ask));
+            book.post(
+                thread,
+                Post {
+                    ask: Some(ask),
+                    line: post.line,
+                },
+            );
+        }
+        None => book.post(
+            thread,
+            Post {
+                ask: None,
+                line: post.line,
+            },
+        ),
+    }
 }
 
 fn ask<P: Policy>(rt: &impl Abort, book: &mut TurnBook<P>, thread: u32, line: u32, ask: Ask) {
@@ -76,9 +64,14 @@ fn book_of(alloc: Global, order: &[u32], points: &[u32], limit: u32) -> Result<T
     requires some_steps { 1 ≤ limit }
     requires few_steps { limit ≤ 100000 }
 {
-    let deal = deal_of(alloc, order.len() as u32)?;
-    let policy = Pct::new(alloc, order, points)?;
-    Ok(TurnBook::new(alloc, deal, policy, limit)?)
+    let deal = deal_of(alloc, order.len() as u32, 0)?;
+    match Pct::new(alloc, order, points) {
+        Ok(policy) => Ok(TurnBook::new(alloc, deal, policy, limit)?),
+        Err(error) => {
+            drop(deal);
+            Err(error)?
+        }
+    }
 }
 
 const READ: Ask = Ask::Read { var: 0 };
@@ -117,7 +110,7 @@ fn expect_move(rt: &impl Abort, book: &mut TurnBook<Pct>, made: &Move) {
     }
 }
 
-/// What a book of three threads answers.
+/// What a book of three threads answers, whose run is not over then.
 fn expect_moves(
     rt: &impl Abort,
     alloc: Global,
@@ -128,6 +121,8 @@ fn expect_moves(
     for made in moves {
         expect_move(rt, &mut book, made);
     }
+    let (_, found) = book.into_parts();
+    assert_eq!(rt; found, None);
     Ok(())
 }
 
@@ -174,13 +169,6 @@ fn grants_of_a_book(rt: HostRuntime) -> Result<(), Fail> {
     expect_moves(&rt, rt.alloc(), &[0, 1, 2], &GRANTS)
 }
 
-/// How many steps the thread took.
-fn steps_of(trace: &[Event], thread: u32) -> usize
-    ensures { result ≤ length trace.now }
-{
-    trace.iter().filter(|event| event.thread == thread).count()
-}
-
 /// What a thread asks at its step of a number, from 0, by the rows; behind its last row it has
 /// ended.
 fn post_of(rows: &[Row], thread: u32, number: usize) -> Post {
@@ -202,20 +190,29 @@ fn post_of(rows: &[Row], thread: u32, number: usize) -> Post {
     }
 }
 
-/// A thread posts what the rows say, if its next post isn't known.
-fn post_next<P: Policy>(rt: &impl Abort, book: &mut TurnBook<P>, rows: &[Row], thread: u32) {
+/// A thread posts what the rows say, if its next post isn't known. Each thread's posts are counted.
+fn post_next<P: Policy>(
+    rt: &impl Abort,
+    book: &mut TurnBook<P>,
+    rows: &[Row],
+    thread: u32,
+    posted: &mut [usize; 3],
+) {
     assert!(rt; thread < book.deal().threads);
+    assert!(rt; thread < 3);
     if book.outcome().is_none() && book.standing(thread) == Standing::Away {
-        let number = steps_of(book.trace(), thread);
+        let number = posted[thread as usize];
+        posted[thread as usize] = number.saturating_add(1);
         post(rt, book, thread, post_of(rows, thread, number));
     }
 }
 
 /// The threads post in this order, again and again, and whoever is granted takes a step.
 fn drive<P: Policy>(rt: &impl Abort, book: &mut TurnBook<P>, rows: &[Row], order: &[u32]) {
+    let mut posted = [0; 3];
     for _ in 0..10 {
         for thread in order {
-            post_next(rt, book, rows, *thread);
+            post_next(rt, book, rows, *thread, &mut posted);
             if let Some(next) = book.granted() {
                 assert!(rt; matches!(take(rt, book, next), Taken::Answer(_)));
             }
@@ -225,13 +222,21 @@ fn drive<P: Policy>(rt: &impl Abort, book: &mut TurnBook<P>, rows: &[Row], order
 
 /// A run of a test: its order and change points, its rows, of which the first `made` are its steps,
 /// and how it ends.
-#[derive(Drop)]
+#[derive(Clone, Copy)]
 struct Run<'a> {
     threads: &'a [u32],
     points: &'a [u32],
     rows: &'a [Row],
     made: usize,
     outcome: Verdict,
+}
+
+/// The events are so many rows, the first ones.
+fn expect_rows(rt: &impl Abort, events: &[Event], rows: &[Row], made: usize) {
+    assert_eq!(rt; events.len(), made);
+    for (event, row) in events.iter().zip(rows) {
+        assert_eq!(rt; (event.thread, event.line, event.ask, event.answer), *row);
+    }
 }
 
 /// The run is made where the threads post in this order.
@@ -241,11 +246,10 @@ fn expect_order(rt: &impl Abort, alloc: Global, run: &Run<'_>, order: &[u32]) ->
     assert!(rt; run.points.len() <= 7);
     let mut book = book_of(alloc, run.threads, run.points, 10_000)?;
     drive(rt, &mut book, run.rows, order);
+    expect_rows(rt, book.trace(), run.rows, run.made);
     let (events, found) = book.into_parts();
-    assert_eq!(rt; events.len(), run.made);
-    for (event, row) in events.as_slice().iter().zip(run.rows) {
-        assert_eq!(rt; (event.thread, event.line, event.ask, event.answer), *row);
-    }
+    expect_rows(rt, events.as_slice(), run.rows, run.made);
+    drop(events);
     assert_eq!(rt; found, Some(Outcome::Verdict(run.outcome)));
     Ok(())
 }
@@ -273,14 +277,14 @@ const DEADLOCK: [Row; 4] = [
 
 /// Two threads meet twice at a barrier.
 const BARRIER: [Row; 8] = [
-    (0, 4, Ask::Arrive { barrier: 0 }, 0),
-    (1, 8, Ask::Arrive { barrier: 0 }, 0),
-    (0, 4, Ask::Leave { barrier: 0 }, 0),
-    (0, 5, Ask::Arrive { barrier: 0 }, 0),
-    (1, 8, Ask::Leave { barrier: 0 }, 1),
-    (1, 9, Ask::Arrive { barrier: 0 }, 0),
-    (0, 5, Ask::Leave { barrier: 0 }, 0),
-    (1, 9, Ask::Leave { barrier: 0 }, 1),
+    (0, 4, Ask::Arrive { barrier: 2 }, 0),
+    (1, 8, Ask::Arrive { barrier: 2 }, 0),
+    (0, 4, Ask::Leave { barrier: 2 }, 0),
+    (0, 5, Ask::Arrive { barrier: 2 }, 0),
+    (1, 8, Ask::Leave { barrier: 2 }, 1),
+    (1, 9, Ask::Arrive { barrier: 2 }, 0),
+    (0, 5, Ask::Leave { barrier: 2 }, 0),
+    (1, 9, Ask::Leave { barrier: 2 }, 1),
 ];
 
 /// A reader that is lowered goes on before a writer that it blocks.

@@ -6,4 +6,4 @@ abbrev pub invariant-loop-taken : goal.invariant-loop-taken
 invariant-loop-taken g l =
     SpeaksOf (g.P.Policy.plan l.policy) 3
     × ((schedule : List ℕ)
-    × g.P.Policy.stands l.policy schedule × (length schedule ≤ l.taken-counter))
+    × g.P.Policy.stands l.policy schedule × (length schedule ≤ l.taken))

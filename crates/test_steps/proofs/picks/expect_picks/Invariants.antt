@@ -6,4 +6,4 @@ abbrev pub invariant-loop-place : goal.invariant-loop-place
 invariant-loop-place g l =
     SpeaksOf (g.P.Policy.plan l.policy) 3
     × ((schedule : List ℕ)
-    × g.P.Policy.stands l.policy schedule × (length schedule ≤ l.place-counter))
+    × g.P.Policy.stands l.policy schedule × (length schedule ≤ l.place))
