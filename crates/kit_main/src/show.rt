@@ -57,10 +57,12 @@ fn trace_of<R: Threads + Wait + Sync, G: Gate>(
     requires bodies { All IsShowable (map pending bodies.items) }
     ensures { IfOk result (λ t. IsRunTrace (map pending bodies.items) t.text.items t.verdict) }
 {
-    let names = names(alloc)?;
-    let header = header(alloc)?;
     let run = run_test(rt, alloc, LIMIT, bodies, gate)?;
-    let text = write_trace(alloc, &header, &names, run.events.as_slice(), &run.verdict)?;
+    let header = header(alloc)?;
+    let names = names(alloc)?;
+    let written = write_trace(alloc, &header, &names, run.events.as_slice(), &run.verdict);
+    drop(names);
+    let text = written?;
     Ok(Traced {
         text,
         verdict: run.verdict,

@@ -1,5 +1,11 @@
 //! A script, ready to be run.
 
+ghost use Rattle.std.specs.Prelude.{◌≡◌, IfOk};
+ghost use Rattle.script_tree.specs.ScriptSeen.{plain_script};
+ghost use Rattle.script_code.specs.Listing.{listing};
+ghost use Rattle.script_body.specs.Bodies.{AreOf};
+ghost use Rattle.pct_top.specs.Ready.{IsReadyTest};
+
 use pct_ask::Deal;
 use script_code::{Code, compile};
 use script_tree::Script;
@@ -13,17 +19,27 @@ pub struct Test {
     pub deal: Deal,
 }
 
-impl Test {
-    ghost use Rattle.std.specs.Prelude.{◌≡◌, IfOk};
-    ghost use Rattle.script_tree.specs.ScriptSeen.{plain_script};
-    ghost use Rattle.pct_top.specs.Ready.{IsReadyTest};
+/// A script's code, and what its threads share.
+fn parts_of(alloc: Global, script: &Script) -> Result<(Code, Deal), NoMemory>
+    ensures { IfOk result
+        (λ parts. AreOf (plain_script script.now) (listing parts.0) parts.1) }
+{
+    let deal = script.deal(alloc)?;
+    let code = compile(alloc, script)?;
+    Ok((code, deal))
+}
 
+impl Test {
     pub fn of_script(alloc: Global, script: Script) -> Result<Self, NoMemory>
         ensures script { IfOk result (λ test. plain_script test.script ≡ plain_script script) }
         ensures ready { IfOk result IsReadyTest }
     {
-        let code = compile(alloc, &script)?;
-        let deal = script.deal(alloc)?;
-        Ok(Test { script, code, deal })
+        match parts_of(alloc, &script) {
+            Ok((code, deal)) => Ok(Test { script, code, deal }),
+            Err(NoMemory) => {
+                drop(script);
+                Err(NoMemory)
+            }
+        }
     }
 }

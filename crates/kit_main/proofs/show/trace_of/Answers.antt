@@ -7,24 +7,24 @@ use Rattle.pct_ask.specs.declared.event.Event.{Event}
 use Rattle.trace_text.specs.Lawful.{NamesKnown, is_of_second}
 use Rattle.kit_main.proofs.show.trace_of.Goals as goal
 
-pub write_trace-requires-clause-steps : goal.write_trace-requires-clause-steps
-write_trace-requires-clause-steps g c =
+pub write_trace-written-requires-clause-steps : goal.write_trace-written-requires-clause-steps
+write_trace-written-requires-clause-steps g c =
     let names = c.in_ok-names.ensures in
     let version = ap (λ (h : TraceHead). h.version) c.in_ok-header.ensures in
     let events = c.as_slice.ensures in
     subst (λ (x : NameLists × ℕ × List Event). All (NamesKnown x.0 x.1) x.2)
     (λ i. (sym names i, sym version i, sym events i)) c.in_ok-run.ensures.known.steps
 
-pub write_trace-requires-clause-threads : goal.write_trace-requires-clause-threads
-write_trace-requires-clause-threads g c =
+pub write_trace-written-requires-clause-threads : goal.write_trace-written-requires-clause-threads
+write_trace-written-requires-clause-threads g c =
     subst (λ (n : NameLists). HasNames n c.in_ok-run.run'.verdict) (sym c.in_ok-names.ensures)
     c.in_ok-run.ensures.known.end.threads
 
-pub write_trace-requires-clause-whole : goal.write_trace-requires-clause-whole
-write_trace-requires-clause-whole g c = c.in_ok-run.ensures.known.end.whole
+pub write_trace-written-requires-clause-whole : goal.write_trace-written-requires-clause-whole
+write_trace-written-requires-clause-whole g c = c.in_ok-run.ensures.known.end.whole
 
-pub write_trace-requires-clause-version : goal.write_trace-requires-clause-version
-write_trace-requires-clause-version g c =
+pub write_trace-written-requires-clause-version : goal.write_trace-written-requires-clause-version
+write_trace-written-requires-clause-version g c =
     let version = ap (λ (h : TraceHead). h.version) c.in_ok-header.ensures in
     subst (λ (v : ℕ). (is_of_second c.in_ok-run.run'.verdict ≡ false) ⊎ (v ≡ 2)) (sym version)
     c.in_ok-run.ensures.known.end.known
