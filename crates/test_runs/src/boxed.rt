@@ -45,50 +45,51 @@ fn run_three<R: Threads + Wait + Sync>(
     requires other { pending other ≡ sample_pending 1 0 (pos 0) }
     requires last { pending last ≡ sample_pending 2 0 (pos 0) }
 {
-    let deal = deal_of(alloc, 3)?;
     let bodies = three(alloc, one, other, last)?;
+    let deal = deal_of(alloc, 3)?;
     let gate = OpenGate::new();
     run_boxed(rt, alloc, deal, order, points, 10_000, bodies, &gate)
 }
 
-#[test]
-fn runs_boxed_bodies(rt: HostRuntime) -> Result<(), Fail> {
-    let alloc = rt.alloc();
+/// A run of the small test's bodies, or why there is none.
+fn run_samples<R: Threads + Wait + Sync>(
+    rt: &R,
+    alloc: Global,
+    order: &[u32],
+    points: &[u32],
+) -> Result<Result<BoxedRun, KitError>, NoMemory>
+    requires few_points { length points.now ≤ 7 }
+    requires few_names { length order.now < 2 ^ 32 }
+{
     let one = Box::new(alloc, Sample::new(0))?;
     let other = Box::new(alloc, Sample::new(1))?;
     let last = Box::new(alloc, Sample::new(2))?;
-    let run = run_three(&rt, alloc, one, other, last, &[0, 1, 2], &[1])?;
+    Ok(run_three(rt, alloc, one, other, last, order, points))
+}
+
+#[test]
+fn runs_boxed_bodies(rt: HostRuntime) -> Result<(), Fail> {
+    let run = run_samples(&rt, rt.alloc(), &[0, 1, 2], &[1])??;
     assert_eq!(rt; run.events.as_slice(), LOST_UPDATE.as_slice());
     assert_eq!(rt; run.verdict, FAILED);
     Ok(())
 }
 
+/// Whether an order was refused that names a thread twice, the second time at this place.
+fn is_no_order(run: &Result<BoxedRun, KitError>, place: u32) -> bool {
+    matches!(run, Err(KitError::NotAnOrder { at }) if *at == place)
+}
+
+/// Whether an order of so many threads was refused beside so many bodies.
+fn is_wrong_count(run: &Result<BoxedRun, KitError>, had: u32, named: u32) -> bool {
+    matches!(run, Err(KitError::WrongCount { bodies, order }) if *bodies == had && *order == named)
+}
+
 #[test]
 fn refuses_boxed_bodies(rt: HostRuntime) -> Result<(), Fail> {
-    let alloc = rt.alloc();
-    let one = Box::new(alloc, Sample::new(0))?;
-    let other = Box::new(alloc, Sample::new(1))?;
-    let last = Box::new(alloc, Sample::new(2))?;
-    match run_three(&rt, alloc, one, other, last, &[0, 0, 1], &[]) {
-        Ok(_) => assert!(rt; false),
-        Err(error) => assert!(rt; matches!(error, KitError::NotAnOrder { at: 1 })),
-    }
-    let one = Box::new(alloc, Sample::new(0))?;
-    let other = Box::new(alloc, Sample::new(1))?;
-    let last = Box::new(alloc, Sample::new(2))?;
-    match run_three(&rt, alloc, one, other, last, &[0, 1], &[]) {
-        Ok(_) => assert!(rt; false),
-        Err(error) => {
-            assert!(rt;
-                matches!(
-                    error,
-                    KitError::WrongCount {
-                        bodies: 3,
-                        order: 2
-                    }
-                )
-            );
-        }
-    }
+    let run = run_samples(&rt, rt.alloc(), &[0, 0, 1], &[])?;
+    assert!(rt; is_no_order(&run, 1));
+    let run = run_samples(&rt, rt.alloc(), &[0, 1], &[])?;
+    assert!(rt; is_wrong_count(&run, 3, 2));
     Ok(())
 }

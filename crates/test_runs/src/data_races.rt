@@ -58,8 +58,10 @@ fn expect(rt: &impl Abort, alloc: Global, steps: &[Step], expected: &[Race]) -> 
     };
     assert!(rt; played.events.len() <= 100_000);
     assert!(rt; are_in_range(&deal, played.events.as_slice()));
-    let found = races(alloc, &deal, &played)?;
-    assert_eq!(rt; found.as_slice(), expected);
+    let found = races(alloc, &deal, &played);
+    drop(deal);
+    drop(played);
+    assert_eq!(rt; found?.as_slice(), expected);
     Ok(())
 }
 

@@ -1,10 +1,10 @@
 //! Orders of mutexes, and cycles of nestings, in lists of steps.
-ghost use Rattle.std.specs.Prelude.{IsTrue};
+ghost use Rattle.std.specs.Prelude.{◌≤◌, IsTrue, length};
 ghost use Rattle.lock_order.specs.Nestings.{AreEventsInRange, EventNamesOnly};
 
 use lock_order::{IdList, LockReport, Nesting, NestingList, check_report, lock_order};
 use pct_ask::{Ask, Deal, Event, Sequence};
-use std::alloc::{AllocError, Global};
+use std::alloc::{AllocError as NoMemory, Global};
 use std::process::Abort;
 use std::test::Fail;
 
@@ -64,7 +64,7 @@ fn small_deal(alloc: Global) -> Deal {
     }
 }
 
-fn events_of(alloc: Global, steps: &[Step]) -> Result<Vec<Event>, AllocError> {
+fn events_of(alloc: Global, steps: &[Step]) -> Result<Vec<Event>, NoMemory> {
     let mut events = Vec::new(alloc);
     for (thread, line, ask) in steps {
         events.push(Event {
@@ -97,25 +97,6 @@ fn all_fit(deal: &Deal, events: &[Event]) -> bool
     events.iter().all(|event| fits(deal, event))
 }
 
-fn report_on(rt: &impl Abort, alloc: Global, steps: &[Step]) -> Result<LockReport, Fail> {
-    let deal = small_deal(alloc);
-    let events = events_of(alloc, steps)?;
-    assert!(rt; all_fit(&deal, &events) && events.len() <= 100_000);
-    Ok(lock_order(alloc, &deal, &events)?)
-}
-
-fn is_good(
-    rt: &impl Abort,
-    alloc: Global,
-    steps: &[Step],
-    report: &LockReport,
-) -> Result<bool, Fail> {
-    let deal = small_deal(alloc);
-    let events = events_of(alloc, steps)?;
-    assert!(rt; all_fit(&deal, &events) && events.len() <= 100_000);
-    Ok(check_report(alloc, &deal, &events, report)?)
-}
-
 /// What a report says.
 #[derive(Clone, Copy)]
 enum Said {
@@ -132,7 +113,7 @@ fn says(report: &LockReport, said: Said) -> bool {
 }
 
 /// The report that says it.
-fn report_of(alloc: Global, said: Said) -> Result<LockReport, AllocError> {
+fn report_of(alloc: Global, said: Said) -> Result<LockReport, NoMemory> {
     Ok(match said {
         Said::Cycle(cycle) => LockReport::Cycle {
             nestings: NestingList::from_vec(Vec::from_slice(alloc, cycle)?),
@@ -144,18 +125,74 @@ fn report_of(alloc: Global, said: Said) -> Result<LockReport, AllocError> {
 }
 
 /// This is reported of the steps, and is so.
-fn expect(rt: &impl Abort, alloc: Global, steps: &[Step], said: Said) -> Result<(), Fail> {
-    let report = report_on(rt, alloc, steps)?;
+fn expect_report(
+    rt: &impl Abort,
+    alloc: Global,
+    deal: &Deal,
+    events: &[Event],
+    said: Said,
+) -> Result<(), NoMemory>
+    requires in_range { AreEventsInRange deal.now events.now }
+    requires short { length events.now ≤ 100000 }
+{
+    let report = lock_order(alloc, deal, events)?;
+    let good = check_report(alloc, deal, events, &report);
     assert!(rt; says(&report, said));
-    assert!(rt; is_good(rt, alloc, steps, &report)?);
+    drop(report);
+    assert!(rt; good?);
     Ok(())
 }
 
 /// This isn't so of the steps.
-fn expect_bad(rt: &impl Abort, alloc: Global, steps: &[Step], said: Said) -> Result<(), Fail> {
+fn expect_bad(
+    rt: &impl Abort,
+    alloc: Global,
+    deal: &Deal,
+    events: &[Event],
+    said: Said,
+) -> Result<(), NoMemory>
+    requires in_range { AreEventsInRange deal.now events.now }
+    requires short { length events.now ≤ 100000 }
+{
     let report = report_of(alloc, said)?;
-    assert!(rt; !is_good(rt, alloc, steps, &report)?);
+    let good = check_report(alloc, deal, events, &report);
+    drop(report);
+    assert!(rt; !good?);
     Ok(())
+}
+
+/// The first is reported of the steps, and is so. The others aren't so.
+fn expect_all(
+    rt: &impl Abort,
+    alloc: Global,
+    deal: &Deal,
+    events: &[Event],
+    said: Said,
+    bad: &[Said],
+) -> Result<(), NoMemory>
+    requires in_range { AreEventsInRange deal.now events.now }
+    requires short { length events.now ≤ 100000 }
+{
+    expect_report(rt, alloc, deal, events, said)?;
+    for other in bad {
+        expect_bad(rt, alloc, deal, events, *other)?;
+    }
+    Ok(())
+}
+
+fn expect(
+    rt: &impl Abort,
+    alloc: Global,
+    steps: &[Step],
+    said: Said,
+    bad: &[Said],
+) -> Result<(), Fail> {
+    let events = events_of(alloc, steps)?;
+    let deal = small_deal(alloc);
+    assert!(rt; all_fit(&deal, &events) && events.len() <= 100_000);
+    let told = expect_all(rt, alloc, &deal, &events, said, bad);
+    drop(deal);
+    Ok(told?)
 }
 
 macro_rules! nesting {
@@ -175,14 +212,24 @@ const FIRST_OF_TWO: [Nesting; 1] = [nesting!(2, 0, 0, 1)];
 
 #[test]
 fn two_orders(rt: HostRuntime) -> Result<(), Fail> {
-    expect(&rt, rt.alloc(), &OPPOSED, Said::Cycle(&TWO_AROUND))?;
-    expect_bad(&rt, rt.alloc(), &OPPOSED, Said::Cycle(&FIRST_OF_TWO))
+    expect(
+        &rt,
+        rt.alloc(),
+        &OPPOSED,
+        Said::Cycle(&TWO_AROUND),
+        &[Said::Cycle(&FIRST_OF_TWO)],
+    )
 }
 
 #[test]
 fn one_order(rt: HostRuntime) -> Result<(), Fail> {
-    expect(&rt, rt.alloc(), &AGREED, Said::Order(&[0, 1, 2, 3]))?;
-    expect_bad(&rt, rt.alloc(), &AGREED, Said::Order(&[0, 1, 2, 3, 3]))
+    expect(
+        &rt,
+        rt.alloc(),
+        &AGREED,
+        Said::Order(&[0, 1, 2, 3]),
+        &[Said::Order(&[0, 1, 2, 3, 3])],
+    )
 }
 
 const THREE_AROUND: [Nesting; 3] = [
@@ -193,5 +240,5 @@ const THREE_AROUND: [Nesting; 3] = [
 
 #[test]
 fn three_around(rt: HostRuntime) -> Result<(), Fail> {
-    expect(&rt, rt.alloc(), &AROUND, Said::Cycle(&THREE_AROUND))
+    expect(&rt, rt.alloc(), &AROUND, Said::Cycle(&THREE_AROUND), &[])
 }

@@ -3,6 +3,7 @@ use pct_outside::{
     Gate, HostShelf, HostSink, MemoryShelf, MemorySink, OpenGate, PairGate, Shelf, ShelfError,
     Sink, SinkError, SureShelf, SureSink,
 };
+use std::alloc::AllocError as NoMemory;
 use std::process::Abort;
 use std::test::Fail;
 use std::thread::join;
@@ -16,11 +17,12 @@ fn expect_read<S: Shelf>(
     most: u64,
     want: Result<&str, ShelfError>,
 ) {
-    match (shelf.read_up_to(name, most), want) {
-        (Ok(bytes), Ok(text)) => assert_eq!(rt; bytes.as_slice(), text.as_bytes(), "{name} {most}"),
-        (Err(error), Err(wanted)) => assert_eq!(rt; error, wanted, "{name} {most}"),
-        _ => panic!(rt; "{name} {most}"),
-    }
+    let same = match (shelf.read_up_to(name, most), want) {
+        (Ok(bytes), Ok(text)) => bytes.as_slice() == text.as_bytes(),
+        (Err(error), Err(wanted)) => error == wanted,
+        _ => false,
+    };
+    assert!(rt; same, "{name} {most}");
 }
 
 /// Puts through the trait, and compares the answer.
@@ -28,14 +30,12 @@ fn expect_put<S: Sink>(rt: &impl Abort, sink: &mut S, piece: &str, want: Result<
     assert_eq!(rt; sink.put(piece.as_bytes()), want, "{piece}");
 }
 
-#[test]
-fn memory_shelf_reads(rt: HostRuntime) -> Result<(), Fail> {
-    let mut shelf = MemoryShelf::new(rt.alloc(), vec![in rt.alloc(); 3]?);
+fn expect_memory_reads(rt: &impl Abort, shelf: &mut MemoryShelf) -> Result<(), NoMemory> {
     shelf.add("a", b"hello")?;
     shelf.add("empty", b"")?;
-    expect_read(&rt, &mut shelf, "a", 3, Ok("hel"));
-    expect_read(&rt, &mut shelf, "a", 5, Ok("hello"));
-    expect_read(&rt, &mut shelf, "a", 5, Err(ShelfError::Failed));
+    expect_read(rt, shelf, "a", 3, Ok("hel"));
+    expect_read(rt, shelf, "a", 5, Ok("hello"));
+    expect_read(rt, shelf, "a", 5, Err(ShelfError::Failed));
     shelf.add("a", b"new")?;
     for (name, most, want) in [
         ("a", 9, Ok("new")),
@@ -43,19 +43,33 @@ fn memory_shelf_reads(rt: HostRuntime) -> Result<(), Fail> {
         ("empty", 9, Ok("")),
         ("none", 9, Err(ShelfError::Failed)),
     ] {
-        expect_read(&rt, &mut shelf, name, most, want);
+        expect_read(rt, shelf, name, most, want);
     }
+    Ok(())
+}
+
+#[test]
+fn memory_shelf_reads(rt: HostRuntime) -> Result<(), Fail> {
+    let mut shelf = MemoryShelf::new(rt.alloc(), vec![in rt.alloc(); 3]?);
+    let added = expect_memory_reads(&rt, &mut shelf);
+    drop(shelf);
+    Ok(added?)
+}
+
+fn expect_sure_reads(rt: &impl Abort, shelf: &mut SureShelf) -> Result<(), NoMemory> {
+    shelf.add("a", b"hello")?;
+    shelf.add("a", b"new")?;
+    expect_read(rt, shelf, "a", 2, Ok("ne"));
+    expect_read(rt, shelf, "none", 9, Ok(""));
     Ok(())
 }
 
 #[test]
 fn sure_shelf_reads(rt: HostRuntime) -> Result<(), Fail> {
     let mut shelf = SureShelf::new(rt.alloc());
-    shelf.add("a", b"hello")?;
-    shelf.add("a", b"new")?;
-    expect_read(&rt, &mut shelf, "a", 2, Ok("ne"));
-    expect_read(&rt, &mut shelf, "none", 9, Ok(""));
-    Ok(())
+    let added = expect_sure_reads(&rt, &mut shelf);
+    drop(shelf);
+    Ok(added?)
 }
 
 #[test]
@@ -65,11 +79,13 @@ fn memory_sinks_take(rt: HostRuntime) -> Result<(), Fail> {
     expect_put(&rt, &mut sink, "cd", Err(SinkError::Failed));
     expect_put(&rt, &mut sink, "ef", Ok(()));
     assert_eq!(rt; sink.bytes(), b"abef".as_slice());
+    drop(sink);
 
     let mut sure = SureSink::new(rt.alloc());
     expect_put(&rt, &mut sure, "ab", Ok(()));
     expect_put(&rt, &mut sure, "cd", Ok(()));
     assert_eq!(rt; sure.bytes(), b"abcd".as_slice());
+    drop(sure);
     Ok(())
 }
 
@@ -89,9 +105,10 @@ fn host_shelf_reads(rt: HostRuntime) -> Result<(), Fail> {
     ] {
         expect_read(&rt, &mut shelf, name, most, want);
     }
-    fs::remove_file(&rt, path.as_str())?;
+    let removed = fs::remove_file(&rt, path.as_str());
     expect_read(&rt, &mut shelf, path.as_str(), 9, Err(ShelfError::Failed));
-    Ok(())
+    drop(shelf);
+    Ok(removed?)
 }
 
 #[test]

@@ -12,6 +12,7 @@ use crate::steps::{IN_ORDER, READ};
 use body_kit::{Asked, Kit, KitError};
 use pct_ask::{Ask, EventList, Outcome, Verdict};
 use policy_pick::Pct;
+use std::alloc::{AllocError as NoMemory, Global};
 use std::process::Abort;
 use std::sync::Wait;
 use std::test::Fail;
@@ -37,6 +38,7 @@ fn count<R: Wait>(rt: &R, kit: &Kit, mut seat: Seat<Pct>, thread: u32, line: u32
     ensures serves { Serves (view result) thread }
 {
     let mut port = kit.port(&mut seat, thread);
+    drop(seat);
     let seen = value_of(port.ask(rt, READ, line));
     let value = seen.wrapping_add(1);
     port.ask(rt, Ask::Write { var: 0, value }, line + 1);
@@ -54,6 +56,7 @@ fn check<R: Wait>(rt: &R, kit: &Kit, mut seat: Seat<Pct>) -> Seat<Pct>
     ensures serves { Serves (view result) 2 }
 {
     let mut port = kit.port(&mut seat, 2);
+    drop(seat);
     port.ask(rt, Ask::Join { thread: 0 }, 12);
     port.ask(rt, Ask::Join { thread: 1 }, 13);
     let holds = value_of(port.ask(rt, READ, 14)) == 2;
@@ -136,17 +139,22 @@ fn is_wrong_count(error: &KitError, had: u32, named: u32) -> bool {
     matches!(error, KitError::WrongCount { bodies, order } if *bodies == had && *order == named)
 }
 
+/// Why no kit of three threads is opened with this order.
+fn refusal_of(rt: &impl Abort, alloc: Global, order: &[u32]) -> Result<KitError, NoMemory>
+    requires few { length order.now ≤ 64 }
+{
+    let deal = deal_of(alloc, 3)?;
+    match Kit::open(alloc, deal, order, &[], 10_000) {
+        Ok(_) => panic!(rt; "a kit was opened"),
+        Err(error) => Ok(error),
+    }
+}
+
 #[test]
 fn refuses_an_order(rt: HostRuntime) -> Result<(), Fail> {
-    let deal = deal_of(rt.alloc(), 3)?;
-    match Kit::open(rt.alloc(), deal, &[0, 1], &[], 10_000) {
-        Ok(_) => assert!(rt; false),
-        Err(error) => assert!(rt; is_wrong_count(&error, 3, 2)),
-    }
-    let deal = deal_of(rt.alloc(), 3)?;
-    match Kit::open(rt.alloc(), deal, &[0, 0, 1], &[], 10_000) {
-        Ok(_) => assert!(rt; false),
-        Err(error) => assert!(rt; matches!(error, KitError::NotAnOrder { at: 1 })),
-    }
+    let error = refusal_of(&rt, rt.alloc(), &[0, 1])?;
+    assert!(rt; is_wrong_count(&error, 3, 2));
+    let error = refusal_of(&rt, rt.alloc(), &[0, 0, 1])?;
+    assert!(rt; matches!(error, KitError::NotAnOrder { at: 1 }));
     Ok(())
 }

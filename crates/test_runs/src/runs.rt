@@ -6,7 +6,7 @@ mod batches;
 mod many;
 mod meetings;
 
-use crate::deals::deal_of;
+use crate::deals::{deal_of, ordered};
 use crate::samples::samples;
 use crate::steps::{FAILED, IN_ORDER, LOST_UPDATE};
 use pct_ask::{Event, Outcome, Verdict};
@@ -46,7 +46,7 @@ fn play<R: Threads + Wait + Sync, P: Policy, G: Gate>(
 }
 
 /// That these are the steps of the run, and what becomes of it.
-fn expect(rt: &impl Abort, played: &Played, events: &[Event], outcome: Outcome) {
+fn expect(rt: &impl Abort, played: Played, events: &[Event], outcome: Outcome) {
     assert_eq!(rt; played.events.as_slice(), events);
     assert_eq!(rt; played.outcome, outcome);
 }
@@ -59,7 +59,7 @@ fn expect_in_order<R: Threads + Wait + Sync + Abort, G: Gate>(
 ) -> Result<(), Fail> {
     let pct = Pct::new(alloc, &[0, 1, 2], &[])?;
     let played = play(rt, alloc, pct, 10_000, gate)?;
-    expect(rt, &played, &IN_ORDER, Outcome::Verdict(Verdict::Passed));
+    expect(rt, played, &IN_ORDER, Outcome::Verdict(Verdict::Passed));
     Ok(())
 }
 
@@ -70,11 +70,10 @@ fn counts_in_order(rt: HostRuntime) -> Result<(), Fail> {
 
 /// The run in order, with all bodies by the caller.
 fn expect_here<R: Wait + Abort, G: Gate>(rt: &R, alloc: Global, gate: &G) -> Result<(), Fail> {
-    let pct = Pct::new(alloc, &[0, 1, 2], &[])?;
     let bodies = samples(alloc)?;
-    let deal = deal_of(alloc, 3)?;
+    let (deal, pct) = ordered(alloc, &[0, 1, 2])?;
     let played = run_here(rt, alloc, deal, pct, 10_000, bodies, gate)?;
-    expect(rt, &played, &IN_ORDER, Outcome::Verdict(Verdict::Passed));
+    expect(rt, played, &IN_ORDER, Outcome::Verdict(Verdict::Passed));
     Ok(())
 }
 
@@ -86,16 +85,16 @@ fn served_here(rt: HostRuntime) -> Result<(), Fail> {
 /// On a lock that is lent: afterwards its book has the run.
 #[test]
 fn runs_on_a_lent_lock(rt: HostRuntime) -> Result<(), Fail> {
-    let pct = Pct::new(rt.alloc(), &[0, 1, 2], &[])?;
-    let deal = deal_of(rt.alloc(), 3)?;
+    let bodies = samples(rt.alloc())?;
+    let (deal, pct) = ordered(rt.alloc(), &[0, 1, 2])?;
     let book = TurnBook::new(rt.alloc(), deal, pct, 10_000)?;
     let (lock, mut seat) = TurnLock::new(rt.alloc(), book)?;
-    let bodies = samples(rt.alloc())?;
-    run_on(&rt, rt.alloc(), &lock, &mut seat, bodies, &OpenGate::new())?;
+    let ran = run_on(&rt, rt.alloc(), &lock, &mut seat, bodies, &OpenGate::new());
     for thread in 0..3 {
         assert!(rt; seat.serves(thread));
     }
     let (events, outcome) = lock.close(seat).into_parts();
+    ran?;
     assert_eq!(rt; events.as_slice(), IN_ORDER.as_slice());
     assert_eq!(rt; outcome, Some(Outcome::Verdict(Verdict::Passed)));
     Ok(())
@@ -104,8 +103,8 @@ fn runs_on_a_lent_lock(rt: HostRuntime) -> Result<(), Fail> {
 /// A change point after the first step.
 #[test]
 fn loses_an_update(rt: HostRuntime) -> Result<(), Fail> {
-    let deal = deal_of(rt.alloc(), 3)?;
     let bodies = samples(rt.alloc())?;
+    let deal = deal_of(rt.alloc(), 3)?;
     let gate = OpenGate::new();
     let whole = run_by_points(
         &rt,
@@ -118,15 +117,15 @@ fn loses_an_update(rt: HostRuntime) -> Result<(), Fail> {
         &gate,
     )?;
     let failed = Outcome::Verdict(FAILED);
-    expect(&rt, &Played::from(whole), &LOST_UPDATE, failed);
+    expect(&rt, Played::from(whole), &LOST_UPDATE, failed);
     Ok(())
 }
 
 /// The same by the first thread's first own step.
 #[test]
 fn loses_an_update_by_a_moment(rt: HostRuntime) -> Result<(), Fail> {
-    let deal = deal_of(rt.alloc(), 3)?;
     let bodies = samples(rt.alloc())?;
+    let deal = deal_of(rt.alloc(), 3)?;
     let gate = OpenGate::new();
     let whole = run_by_events(
         &rt,
@@ -139,7 +138,7 @@ fn loses_an_update_by_a_moment(rt: HostRuntime) -> Result<(), Fail> {
         &gate,
     )?;
     let failed = Outcome::Verdict(FAILED);
-    expect(&rt, &Played::from(whole), &LOST_UPDATE, failed);
+    expect(&rt, Played::from(whole), &LOST_UPDATE, failed);
     Ok(())
 }
 
@@ -148,15 +147,10 @@ fn loses_an_update_by_a_moment(rt: HostRuntime) -> Result<(), Fail> {
 fn departs_and_is_cut(rt: HostRuntime) -> Result<(), Fail> {
     let listed = Listed::new(rt.alloc(), &[0, 2])?;
     let played = play(&rt, rt.alloc(), listed, 10_000, &OpenGate::new())?;
-    expect(
-        &rt,
-        &played,
-        &IN_ORDER[..1],
-        Outcome::Departed { thread: 2 },
-    );
+    expect(&rt, played, &IN_ORDER[..1], Outcome::Departed { thread: 2 });
     let pct = Pct::new(rt.alloc(), &[0, 1, 2], &[])?;
     let played = play(&rt, rt.alloc(), pct, 3, &OpenGate::new())?;
-    expect(&rt, &played, &IN_ORDER[..3], Outcome::Verdict(Verdict::Cut));
+    expect(&rt, played, &IN_ORDER[..3], Outcome::Verdict(Verdict::Cut));
     Ok(())
 }
 

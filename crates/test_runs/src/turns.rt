@@ -1,5 +1,5 @@
 //! One lock for the threads of a test, each by a seat of its own or some by one seat.
-ghost use Rattle.std.specs.Prelude.{◌≡◌, ◌<◌, ◌≤◌, ℕ, true, IsTrue, length};
+ghost use Rattle.std.specs.Prelude.{◌≡◌, ◌<◌, ◌≤◌, ℕ, true, IsTrue, IfOk, length};
 ghost use Rattle.std.specs.Thread.{IsSync};
 ghost use Rattle.sync_store.specs.Store.{sizes_of_deal};
 ghost use Rattle.turn_book.specs.Told.{PostIsInRange};
@@ -9,7 +9,7 @@ ghost use Rattle.turn_lock.specs.Views.{view, HasSeat};
 
 mod scripts;
 
-use crate::deals::{deal_of, fits};
+use crate::deals::{deal_of, fits, with_order};
 use crate::steps::{ENDS_EARLY, FAILS, IN_ORDER, ONE_MUTEX, WRITES};
 use pct_ask::{Deal, Event, Outcome, Post, Verdict};
 use policy_pick::Pct;
@@ -33,7 +33,6 @@ fn post_fits(deal: &Deal, post: Post) -> bool
 }
 
 /// A lock over a book of these threads, the highest first, with the seat that serves all of them.
-#[derive(Drop)]
 struct Bench {
     lock: TurnLock<Pct>,
     seat: Seat<Pct>,
@@ -42,20 +41,30 @@ struct Bench {
     ghost made: { (first_book lock).deal ≡ deal },
 }
 
+/// A lock over a book of a deal, and its first seat.
+fn lock_of(alloc: Global, deal: &Deal, order: &[u32]) -> Result<(TurnLock<Pct>, Seat<Pct>), Fail>
+    requires whole { deal.now.threads ≡ length order.now }
+    ensures of { IfOk result (λ made. HasSeat made.0 made.1) }
+    ensures made { IfOk result (λ made. (first_book made.0).deal ≡ deal.now) }
+{
+    let copy = deal.copy(alloc)?;
+    let (copy, policy) = with_order(alloc, copy, order)?;
+    let book = TurnBook::new(alloc, copy, policy, 10_000)?;
+    Ok(TurnLock::new(alloc, book)?)
+}
+
 fn make_bench(alloc: Global, order: &[u32]) -> Result<Bench, Fail>
     requires some { 1 ≤ length order.now }
     requires few { length order.now ≤ 64 }
 {
     let deal = deal_of(alloc, order.len() as u32)?;
-    let copy = deal.copy(alloc)?;
-    let policy = Pct::new(alloc, order, &[])?;
-    let book = TurnBook::new(alloc, deal, policy, 10_000)?;
-    let (lock, seat) = TurnLock::new(alloc, book)?;
-    Ok(Bench {
-        lock,
-        seat,
-        deal: copy,
-    })
+    match lock_of(alloc, &deal, order) {
+        Ok((lock, seat)) => Ok(Bench { lock, seat, deal }),
+        Err(error) => {
+            drop(deal);
+            Err(error)
+        }
+    }
 }
 
 /// The seat serves a thread, and owes no post.
@@ -74,29 +83,29 @@ fn waits(seat: &Seat<Pct>) -> bool
     some
 }
 
-/// How many answers each thread has had, and the last.
+/// How many answers each of the first eight threads has had, and the last.
 #[derive(Clone, Copy)]
 struct Had {
-    counts: [u32; 64],
-    last: [i64; 64],
+    counts: [u32; 8],
+    last: [i64; 8],
 }
 
 impl Had {
     fn new() -> Had {
         Had {
-            counts: [0; 64],
-            last: [0; 64],
+            counts: [0; 8],
+            last: [0; 8],
         }
     }
 
     fn note(&mut self, thread: u32, answer: i64) {
-        let place = thread as usize % 64;
+        let place = thread as usize % 8;
         self.counts[place] = self.counts[place].wrapping_add(1);
         self.last[place] = answer;
     }
 
     fn next(&self, script: Script, thread: u32) -> Post {
-        let place = thread as usize % 64;
+        let place = thread as usize % 8;
         post_of(script, thread, self.counts[place], self.last[place])
     }
 }
@@ -260,6 +269,7 @@ fn expect_apart<R: Threads + Wait + Sync + Abort>(
     let Bench { lock, seat, deal } = make_bench(alloc, order)?;
     let seat = play_all(rt, &lock, &deal, script, seat, 0);
     expect_closed(rt, lock, seat, &deal, steps, verdict);
+    drop(deal);
     Ok(())
 }
 
@@ -322,6 +332,9 @@ fn turns_of_one_seat(rt: HostRuntime) -> Result<(), Fail> {
     assert!(rt; seat.serves(0));
     assert!(rt; seat.owes(0));
     expect_turn(&rt, &lock, &deal, &mut seat, 1, away!(1));
+    drop(lock);
+    drop(seat);
+    drop(deal);
     Ok(())
 }
 
@@ -336,12 +349,12 @@ fn two_callers(rt: HostRuntime) -> Result<(), Fail> {
 #[test]
 fn board(rt: HostRuntime) -> Result<(), Fail> {
     let mut board = WaitBoard::new();
-    assert_eq!(rt; board.word_of(3), None);
+    let unnoted = board.word_of(3);
     board.note(3, 0);
-    assert_eq!(rt; board.word_of(3), Some(0));
+    let first = board.word_of(3);
     board.note(3, 2);
-    assert_eq!(rt; board.word_of(3), Some(2));
-    assert_eq!(rt; board.word_of(2), None);
+    let found = [unnoted, first, board.word_of(3), board.word_of(2)];
+    assert_eq!(rt; found, [None, Some(0), Some(2), None]);
     Ok(())
 }
 
@@ -429,6 +442,7 @@ fn two_and_one<R: Threads + Wait + Sync + Abort>(rt: &R, alloc: Global) -> Resul
     );
     lock.join(&mut both, mine);
     expect_closed(rt, owned, both, &counts, &IN_ORDER, Verdict::Passed);
+    drop(counts);
     Ok(())
 }
 
@@ -446,5 +460,6 @@ fn all_threads_by_one_seat(rt: HostRuntime) -> Result<(), Fail> {
     let Bench { lock, seat, deal } = make_bench(rt.alloc(), &[0, 1, 2])?;
     let seat = play(&rt, &lock, &deal, Script::Sums, seat);
     expect_closed(&rt, lock, seat, &deal, &IN_ORDER, Verdict::Passed);
+    drop(deal);
     Ok(())
 }

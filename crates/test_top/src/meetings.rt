@@ -1,11 +1,15 @@
 // Bodies of a script that look for each other while they post: they run at once.
 ghost use Rattle.std.specs.Prelude.{◌≡◌, map, IfOk};
+ghost use Rattle.policy_pick.specs.Kept.{points_plan, PointsStand};
+ghost use Rattle.script_tree.specs.ScriptText.{ScriptText};
 ghost use Rattle.script_code.specs.FlatPosts.{flat_pending};
 ghost use Rattle.script_code.specs.Listing.{listing};
 ghost use Rattle.script_body.specs.BodyPosts.{pending_of_body};
+ghost use Rattle.script_body.specs.Bodies.{AreOf};
+ghost use Rattle.worker_run.specs.Tests.{IsTest, AreTests};
 
 use crate::calls::{ADDERS, Given, IN_ORDER, SOUND, SUM, expect_gated};
-use pct_ask::{Ask, Body, Event, Outcome, Post, Verdict};
+use pct_ask::{Ask, Body, Deal, Event, Outcome, Post, Verdict};
 use pct_outside::{Gate, OpenGate, PairGate};
 use pct_top::Status;
 use policy_pick::Pct;
@@ -17,7 +21,7 @@ use std::process::Abort;
 use std::sync::Wait;
 use std::test::Fail;
 use std::thread::Threads;
-use worker_run::run_threads;
+use worker_run::{Played, Test, run_many, run_threads};
 
 const LOOKS: u64 = 10_000_000;
 
@@ -100,22 +104,76 @@ fn lookers<'c, 'g>(
     Ok(lookers)
 }
 
+/// The code of the adders, and what their threads share.
+fn adders<R: Abort>(rt: &R, alloc: Global) -> Result<(Code, Deal), Fail>
+    ensures of { IfOk result (λ made.
+        (script : ScriptText) × AreOf script (listing made.0) made.1) }
+    ensures three { IfOk result (λ made. made.1.threads ≡ 3) }
+{
+    let script = parse(alloc, ADDERS.as_bytes())?;
+    let code = compile(alloc, &script);
+    let deal = script.deal(alloc);
+    drop(script);
+    let made = (code?, deal?);
+    assert_eq!(rt; made.1.threads, 3);
+    Ok(made)
+}
+
+/// The adders in order, the first two of which look for each other.
+fn looking_test<'c, 'g>(
+    alloc: Global,
+    code: &'c Code,
+    deal: Deal,
+    first_after: u32,
+    gate: &'g PairGate,
+) -> Result<Test<Pct, Looker<'c, 'g>>, NoMemory>
+    requires of { (script : ScriptText) × AreOf script (listing code.now) deal }
+    requires three { deal.threads ≡ 3 }
+    ensures { IfOk result
+        (λ test. IsTest (λ b. pending_of_body b.body) points_plan PointsStand test) }
+{
+    let bodies = lookers(alloc, code, first_after, gate)?;
+    Test::by_points(alloc, deal, &[0, 1, 2], &[], 10_000, bodies)
+}
+
+/// The steps are those of the order.
+fn expect_added<R: Abort>(rt: &R, played: &Played) {
+    assert_eq!(rt; played.events.as_slice(), ADDED.as_slice());
+    assert_eq!(rt; played.outcome, Outcome::Verdict(Verdict::Passed));
+}
+
+/// The run of the adders, the first two of which look for each other.
+fn play_lookers<R: Threads + Wait + Sync>(
+    rt: &R,
+    alloc: Global,
+    code: &Code,
+    deal: Deal,
+    first_after: u32,
+    gate: &PairGate,
+) -> Result<Played, NoMemory>
+    requires of { (script : ScriptText) × AreOf script (listing code.now) deal }
+    requires three { deal.threads ≡ 3 }
+{
+    let Test {
+        deal,
+        policy,
+        limit,
+        bodies,
+    } = looking_test(alloc, code, deal, first_after, gate)?;
+    run_threads(rt, alloc, deal, policy, limit, bodies, &OpenGate::new())
+}
+
 /// Each of the two sees the other, and the steps are those of the order.
 fn expect_meeting<R: Threads + Wait + Abort + Sync>(
     rt: &R,
     alloc: Global,
     first_after: u32,
 ) -> Result<(), Fail> {
-    let script = parse(alloc, ADDERS.as_bytes())?;
-    let code = compile(alloc, &script)?;
-    let deal = script.deal(alloc)?;
-    assert_eq!(rt; deal.threads, 3);
+    let (code, deal) = adders(rt, alloc)?;
     let gate = PairGate::new(0, 1, LOOKS);
-    let bodies = lookers(alloc, &code, first_after, &gate)?;
-    let pct = Pct::new(alloc, &[0, 1, 2], &[])?;
-    let played = run_threads(rt, alloc, deal, pct, 10_000, bodies, &OpenGate::new())?;
-    assert_eq!(rt; played.events.as_slice(), ADDED.as_slice());
-    assert_eq!(rt; played.outcome, Outcome::Verdict(Verdict::Passed));
+    let played = play_lookers(rt, alloc, &code, deal, first_after, &gate);
+    drop(code);
+    expect_added(rt, &played?);
     assert!(rt; gate.met());
     Ok(())
 }
@@ -130,6 +188,60 @@ fn bodies_meet(rt: HostRuntime) -> Result<(), Fail> {
 #[test]
 fn grants_early(rt: HostRuntime) -> Result<(), Fail> {
     expect_meeting(&rt, rt.alloc(), 2)
+}
+
+/// Two tests, each with a gate of its own.
+fn looking_tests<'c, 'g>(
+    alloc: Global,
+    code: &'c Code,
+    deal: Deal,
+    first: &'g PairGate,
+    second: &'g PairGate,
+) -> Result<Vec<Test<Pct, Looker<'c, 'g>>>, NoMemory>
+    requires of { (script : ScriptText) × AreOf script (listing code.now) deal }
+    requires three { deal.threads ≡ 3 }
+    ensures { IfOk result
+        (λ tests. AreTests (λ b. pending_of_body b.body) points_plan PointsStand tests.items) }
+{
+    let other = deal.copy(alloc)?;
+    let mut tests = Vec::new(alloc);
+    tests.push(looking_test(alloc, code, other, 0, first)?)?;
+    tests.push(looking_test(alloc, code, deal, 0, second)?)?;
+    Ok(tests)
+}
+
+/// The runs of two tests as a batch.
+fn play_both<R: Threads + Wait + Sync>(
+    rt: &R,
+    alloc: Global,
+    code: &Code,
+    deal: Deal,
+    first: &PairGate,
+    second: &PairGate,
+) -> Result<Vec<Played>, NoMemory>
+    requires of { (script : ScriptText) × AreOf script (listing code.now) deal }
+    requires three { deal.threads ≡ 3 }
+{
+    let tests = looking_tests(alloc, code, deal, first, second)?;
+    run_many(rt, alloc, tests, &OpenGate::new())
+}
+
+/// In each test of a batch both post for the first time at once.
+#[test]
+fn bodies_meet_in_each_test(rt: HostRuntime) -> Result<(), Fail> {
+    let (code, deal) = adders(&rt, rt.alloc())?;
+    let first = PairGate::new(0, 1, LOOKS);
+    let second = PairGate::new(0, 1, LOOKS);
+    let runs = play_both(&rt, rt.alloc(), &code, deal, &first, &second);
+    drop(code);
+    let runs = runs?;
+    assert_eq!(rt; runs.len(), 2);
+    for played in runs.iter() {
+        expect_added(&rt, played);
+    }
+    assert!(rt; first.met());
+    assert!(rt; second.met());
+    Ok(())
 }
 
 /// The first two threads meet at the gate before their first posts.

@@ -1,11 +1,11 @@
 //! Batches of different tests: each test has the run that it has alone.
-ghost use Rattle.std.specs.Prelude.{◌≡◌, ◌≤◌, true, false, length, map, IfOk};
+ghost use Rattle.std.specs.Prelude.{◌≡◌, ◌≤◌, true, false, length, map, IfOk, OnOk};
 ghost use Rattle.std.specs.List.{list_all};
 ghost use Rattle.policy_pick.specs.Kept.{points_plan, PointsStand};
 ghost use Rattle.worker_run.specs.Tests.{IsTest, AreTests};
 ghost use Rattle.test_runs.specs.OneStep.{once_pending, is_deed};
 
-use crate::deals::deal_of;
+use crate::deals::ordered;
 use crate::steps::ADD;
 use pct_ask::{Ask, Body, Event, Outcome, Post, Verdict};
 use pct_outside::OpenGate;
@@ -66,9 +66,8 @@ fn once_test(alloc: Global, asks: &[Ask], limit: u32) -> Result<Test<Pct, Once>,
     ensures { IfOk result (λ test.
         IsTest (λ b. once_pending b.ask 7 b.asked) points_plan PointsStand test) }
 {
-    let policy = Pct::new(alloc, &ORDER[..asks.len()], &[])?;
-    let deal = deal_of(alloc, asks.len() as u32)?;
     let bodies = once_bodies(alloc, asks)?;
+    let (deal, policy) = ordered(alloc, &ORDER[..asks.len()])?;
     Ok(Test {
         deal,
         policy,
@@ -92,6 +91,18 @@ fn one_of_five(alloc: Global, place: usize) -> Result<Test<Pct, Once>, Fail>
     }
 }
 
+/// One more of the five.
+fn add_test(alloc: Global, place: usize, tests: &mut Vec<Test<Pct, Once>>) -> Result<(), Fail>
+    requires { AreTests
+        (λ b. once_pending b.ask 7 b.asked) points_plan PointsStand tests.old.items }
+    ensures { OnOk result
+        (AreTests (λ b. once_pending b.ask 7 b.asked) points_plan PointsStand tests.new.items) }
+{
+    let test = one_of_five(alloc, place)?;
+    tests.push(test)?;
+    Ok(())
+}
+
 /// The first so many of the five.
 fn first_tests(alloc: Global, count: usize) -> Result<Vec<Test<Pct, Once>>, Fail>
     ensures { IfOk result (λ tests.
@@ -99,8 +110,10 @@ fn first_tests(alloc: Global, count: usize) -> Result<Vec<Test<Pct, Once>>, Fail
 {
     let mut tests = Vec::new(alloc);
     for place in 0..count {
-        let test = one_of_five(alloc, place)?;
-        tests.push(test)?;
+        if let Err(error) = add_test(alloc, place, &mut tests) {
+            drop(tests);
+            return Err(error);
+        }
     }
     Ok(tests)
 }

@@ -3,11 +3,10 @@ ghost use Rattle.std.specs.Prelude.{◌≡◌, length, pos, IfOk};
 ghost use Rattle.pct_ask.specs.declared.ask.Ask.{Ask};
 ghost use Rattle.test_runs.specs.OneStep.{once_pending};
 
-use crate::deals::deal_of;
+use crate::deals::ordered;
 use crate::steps::ADD;
 use pct_ask::{Body, Event, Outcome, Post, Verdict};
 use pct_outside::OpenGate;
-use policy_pick::Pct;
 use std::alloc::{AllocError as NoMemory, Global};
 use std::test::Fail;
 use worker_run::run_threads;
@@ -60,9 +59,8 @@ fn runs_64_threads(rt: HostRuntime) -> Result<(), Fail> {
     for place in 0..64u32 {
         order[place as usize] = 63 - place;
     }
-    let pct = Pct::new(rt.alloc(), &order, &[])?;
-    let deal = deal_of(rt.alloc(), 64)?;
     let bodies = adders(rt.alloc())?;
+    let (deal, pct) = ordered(rt.alloc(), &order)?;
     let played = run_threads(&rt, rt.alloc(), deal, pct, 10_000, bodies, &OpenGate::new())?;
     let events = played.events.as_slice();
     assert_eq!(rt; events.len(), 64);

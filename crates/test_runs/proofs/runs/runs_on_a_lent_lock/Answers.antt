@@ -8,8 +8,8 @@ use Rattle.test_runs.specs.declared.samples.Sample.{Sample}
 use Rattle.test_runs.proofs.Ranges.{samples-fit}
 use Rattle.test_runs.proofs.runs.runs_on_a_lent_lock.Goals as goal
 
-pub run_on-requires-clause-in_range : goal.run_on-requires-clause-in_range
-run_on-requires-clause-in_range g c = λ κs.
+pub run_on-ran-requires-clause-in_range : goal.run_on-ran-requires-clause-in_range
+run_on-ran-requires-clause-in_range g c = λ κs.
     let deal = c.in_ok-deal.deal in
     let making = c.in_ok-lock.ensures.made ∙ c.in_ok-book.ensures.made in
     let posts =

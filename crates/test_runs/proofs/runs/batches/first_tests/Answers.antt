@@ -1,16 +1,10 @@
 use Rattle.policy_pick.specs.Kept.{points_plan, PointsStand}
 use Rattle.test_runs.specs.OneStep.{once_pending}
 use Rattle.test_runs.specs.declared.runs.batches.Once.{Once}
-use Rattle.worker_run.proofs.laws.Batches.{no-tests-in, one-more-test}
+use Rattle.worker_run.proofs.laws.Batches.{no-tests-in}
 use Rattle.test_runs.proofs.runs.batches.first_tests.Goals as goal
 
 pub loop-place-init : goal.loop-place-init
 loop-place-init c =
     no-tests-in (λ (b : Once). once_pending b.ask 7 b.asked) points_plan PointsStand
     c.new-tests.result.items c.new-tests.ensures.items
-
-pub loop-place-preserved : goal.loop-place-preserved
-loop-place-preserved c =
-    one-more-test (λ (b : Once). once_pending b.ask 7 b.asked) points_plan PointsStand
-    c.loop-place.tests.items c.push.new.self.items c.in_ok-test.test c.in_ok-push.ensures.items
-    c.in_ok-test.ensures c.loop-place.invariant

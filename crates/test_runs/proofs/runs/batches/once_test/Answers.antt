@@ -18,9 +18,10 @@ returns c =
     record {
       some_steps = c.requires.some_steps;
       few_steps = c.requires.few_steps;
-      stands = search rules;
-      speaks = search rules;
-      bodies = ap length made ∙ length-map c.args.asks.now new ∙ sym c.in_ok-deal.ensures.threads;
+      stands = c.in_ok-deal.ensures.stands;
+      speaks = c.in_ok-deal.ensures.speaks;
+      bodies = ap length made ∙ length-map c.args.asks.now new
+          ∙ sym (c.in_ok-deal.ensures.threads ∙ search rules);
       in_range = subst R (sym made) (onces-within sizes
           (omega (arith, c.in_ok-deal.ensures.vars)) (omega (arith, c.in_ok-deal.ensures.sems))
           7 (λ (b : Once). b.ask) (λ (b : Once). b.asked) new (λ a. refl)
