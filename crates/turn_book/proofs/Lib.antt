@@ -4,5 +4,4 @@ pub mod PostLists
 pub mod Books
 pub mod Takes
 pub mod Fronts
-pub mod Within
 pub mod laws

@@ -9,3 +9,5 @@ pub mod Prefixes
 pub mod ObeyingSteps
 -- a thread's own steps, and more of its posts
 pub mod OwnSteps
+-- a post and a step, as they make a later sight of a book
+pub mod LaterSights

@@ -1,16 +1,15 @@
 -- What a post and a turn do to the book, and so to the seat that made them.
-use Rattle.std.proofs.Common.{◌≡◌, ◌≢◌, ℕ, ℤ, ◌<◌, ◌⊎◌, List, [], ◌∷◌, ◌++◌, length, get_or, refl, sym, ap, ◌∙◌, subst, inl, inr, ⊎_elim, Option, None, Some, option_to_list, get_or-set_same, get_or-set_other}
+use Rattle.std.proofs.Common.{◌≡◌, ◌≢◌, ℕ, ℤ, ◌<◌, ◌⊎◌, List, [], ◌∷◌, ◌++◌, length, get_or, refl, sym, ap, ◌∙◌, subst, inl, inr, ⊎_elim, Option, None, Some, option_to_list}
 use Rattle.std.proofs.lemmas.List.{append-nil}
 use Rattle.std.specs.Prelude.{IsSome}
-use mathlib.Core.Logic.{dite}
-use native.Mathlib.Decide.{ℕ_discrete}
 use Rattle.pct_ask.specs.declared.ask.Post.{Post}
 use Rattle.pct_ask.specs.declared.event.Event.{Event}
 use Rattle.pct_ask.specs.declared.verdict.Outcome.{Outcome}
 use Rattle.turn_book.specs.Posts.{own_events}
 use Rattle.turn_book.specs.Told.{BookState, IsPosted, IsAnswered, IsLawful, Within}
-use Rattle.turn_book.proofs.laws.OwnSteps.{events-own, events-other}
-use Rattle.turn_lock.specs.Seen.{Begins, SameOf, pairs_of, posts_seen}
+use Rattle.turn_book.proofs.laws.LaterSights.{within-posted, posted-own, posted-other}
+use Rattle.turn_book.proofs.laws.LaterSights.{within-answered, answered-own, answered-other}
+use Rattle.turn_lock.specs.Seen.{SameOf, pairs_of, posts_seen}
 use Rattle.turn_lock.specs.Slots.{Slot, NotesBelow}
 use Rattle.turn_lock.specs.Rule.{Serves, Ties}
 use Rattle.turn_lock.specs.Plays.{with_gate, with_book, IsTaken}
@@ -33,23 +32,10 @@ grew-along : (t : ℕ) (a b c : BookState) → Grew t a b → Grew t b c → Gre
 grew-along t a b c p q = record { within = within-along a b c p.within q.within; others = λ u ne. same-along u a b c (p.others u ne) (q.others u ne) }
 
 -- ---- a post
-posts-own : (t : ℕ) (old : BookState) (post : Post) (new : BookState) → t < length old.posts → IsPosted old t post new → posts_seen new t ≡ posts_seen old t ++ post ∷ []
-posts-own t old post new inside p = ap (λ (l : List (List Post)). get_or l t []) p.posts ∙ get_or-set_same old.posts t (posts_seen old t ++ post ∷ []) [] inside
-
-posts-other : (t u : ℕ) (old : BookState) (post : Post) (new : BookState) → u ≢ t → IsPosted old t post new → posts_seen new u ≡ posts_seen old u
-posts-other t u old post new ne p = ap (λ (l : List (List Post)). get_or l u []) p.posts ∙ get_or-set_other old.posts t u (posts_seen old t ++ post ∷ []) [] ne
-
 grew-posted : (t : ℕ) (old : BookState) (post : Post) (new : BookState) → t < length old.posts → IsPosted old t post new → Grew t old new
 grew-posted t old post new inside p = record {
-  within = record {
-    making = p.making;
-    rest = [];
-    trace = p.trace ∙ sym (append-nil old.trace);
-    posts = λ u. dite (ℕ_discrete u t)
-        (λ e. subst (λ (n : ℕ). Begins (posts_seen old n) (posts_seen new n)) (sym e) (post ∷ [], posts-own t old post new inside p))
-        (λ ne. ([], posts-other t u old post new ne p ∙ sym (append-nil (posts_seen old u))));
-  };
-  others = λ u ne. record { pairs = ap (own_events u) p.trace; posts = posts-other t u old post new ne p };
+  within = within-posted old new t post inside p;
+  others = λ u ne. record { pairs = ap (own_events u) p.trace; posts = posted-other old new t post inside p u ne };
 }
 
 none-or-some : (o : Option Outcome) → (o ≡ None) ⊎ IsSome o
@@ -65,8 +51,8 @@ grew-asked t old (Some post) new inside p = ⊎_elim
 -- ---- a turn
 grew-answered : (t : ℕ) (old : BookState) (answer : ℤ) (new : BookState) → IsAnswered old t answer new → Grew t old new
 grew-answered t old answer new p = record {
-  within = record { making = p.making; rest = p.event ∷ []; trace = p.trace; posts = λ u. ([], ap (λ (l : List (List Post)). get_or l u []) p.posts ∙ sym (append-nil (posts_seen old u))) };
-  others = λ u ne. record { pairs = ap (own_events u) p.trace ∙ events-other u old.trace p.event (λ e. ne (sym e ∙ p.thread)); posts = ap (λ (l : List (List Post)). get_or l u []) p.posts };
+  within = within-answered old new t answer p;
+  others = λ u ne. record { pairs = answered-other old new t answer p u ne; posts = ap (λ (l : List (List Post)). get_or l u []) p.posts };
 }
 
 -- where the row gives the book back as it was
@@ -91,7 +77,7 @@ asked-pairs t old (Some post) new p = ⊎_elim (λ none. ap (own_events t) (p.0 
 
 asked-posts : (t : ℕ) (old : BookState) (post : Option Post) (new : BookState) → t < length old.posts → IsAsked old t post new → old.outcome ≡ None → posts_seen new t ≡ posts_seen old t ++ option_to_list post
 asked-posts t old None new inside p none = ap (λ (b : BookState). posts_seen b t) p ∙ sym (append-nil (posts_seen old t))
-asked-posts t old (Some post) new inside p none = posts-own t old post new inside (p.0 none)
+asked-posts t old (Some post) new inside p none = posted-own old new t post inside (p.0 none)
 
 asked-late : (t : ℕ) (old : BookState) (post : Option Post) (new : BookState) → IsAsked old t post new → IsSome old.outcome → posts_seen new t ≡ posts_seen old t
 asked-late t old None new p over = ap (λ (b : BookState). posts_seen b t) p
@@ -108,7 +94,7 @@ row-posts t old (Busy holder) new r = absurd r
 gains : (t : ℕ) (seen old : BookState) (turn : Turn) (new : BookState) → pairs_of old t ≡ pairs_of seen t → Row old t turn new → GainsPair seen t turn new
 gains t seen old (Answer answer) new e r =
     let p = r.2 in
-    (p.event, p.answer, ap (own_events t) p.trace ∙ events-own t old.trace p.event p.thread ∙ ap (λ (l : List Event). l ++ p.event ∷ []) e, (old.trace, p.trace))
+    (p.event, p.answer, answered-own old new t answer p ∙ ap (λ (l : List Event). l ++ p.event ∷ []) e, (old.trace, p.trace))
 gains t seen old Ended new e r = ap (λ (b : BookState). pairs_of b t) r.2 ∙ e
 gains t seen old (NotYet at because) new e r = ap (λ (b : BookState). pairs_of b t) r.4 ∙ e
 gains t seen old (Over outcome) new e r = ap (λ (b : BookState). pairs_of b t) r.1 ∙ e

@@ -1,4 +1,4 @@
--- Sights of one book: the later ones begin with the earlier ones.
+-- A post and a step each make a later sight of a book, and change what one thread has alone.
 use Rattle.std.proofs.Common.{◌≡◌, ◌≢◌, ℕ, ℤ, ◌<◌, List, [], ◌∷◌, ◌++◌, length, sym, ap, subst, ◌∙◌}
 use Rattle.std.proofs.lemmas.List.{append-nil, get_or-set_other, get_or-set_same}
 use Rattle.pct_ask.specs.declared.ask.Post.{Post}
@@ -7,7 +7,7 @@ use Rattle.turn_book.specs.Told.{BookState, IsPosted, IsAnswered, Within}
 use Rattle.turn_book.proofs.laws.OwnSteps.{events-own, events-other}
 use Rattle.turn_book.proofs.PostLists.{set-more}
 
-pub more-same : (earlier later : List (List Post)) → later ≡ earlier → HasMore earlier later
+more-same : (earlier later : List (List Post)) → later ≡ earlier → HasMore earlier later
 more-same earlier later e t =
     ([], ap (λ posts. posts_of posts t) e ∙ sym (append-nil (posts_of earlier t)))
 
