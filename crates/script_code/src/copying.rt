@@ -1,5 +1,5 @@
 ghost use Rattle.std.specs.Prelude.{◌≡◌, true, IfOk};
-ghost use Rattle.script_tree.specs.Trees.{has_no_block};
+ghost use Rattle.script_tree.specs.Trees.{Cas, has_no_block};
 ghost use Rattle.script_tree.specs.Seen.{expression, statement};
 ghost use Rattle.script_code.specs.Placed.{has_no_expression};
 
@@ -60,6 +60,27 @@ fn copy_plain(stmt: &Stmt) -> Stmt
     }
 }
 
+/// An exchange in a line, with a register and a variable, and with equal expressions.
+fn copy_cas(
+    alloc: Global,
+    line: u32,
+    reg: u32,
+    var: u32,
+    old: &Expr,
+    new: &Expr,
+) -> Result<Stmt, NoMemory>
+    ensures { IfOk result (λ copy.
+        statement copy ≡ Cas line reg var (expression old.now) (expression new.now)) }
+{
+    Ok(Stmt::Cas {
+        line,
+        reg,
+        var,
+        old: copy_expr(alloc, old)?,
+        new: copy_expr(alloc, new)?,
+    })
+}
+
 /// An equal statement in memory of its own, of a statement without blocks.
 pub(crate) fn copy_stmt(alloc: Global, stmt: &Stmt) -> Result<Stmt, NoMemory>
     requires { has_no_block (statement stmt.now) ≡ true }
@@ -89,13 +110,7 @@ pub(crate) fn copy_stmt(alloc: Global, stmt: &Stmt) -> Result<Stmt, NoMemory>
             var,
             old,
             new,
-        } => Stmt::Cas {
-            line: *line,
-            reg: *reg,
-            var: *var,
-            old: copy_expr(alloc, old)?,
-            new: copy_expr(alloc, new)?,
-        },
+        } => copy_cas(alloc, *line, *reg, *var, old, new)?,
         Stmt::Assert { line, test } => Stmt::Assert {
             line: *line,
             test: copy_expr(alloc, test)?,
