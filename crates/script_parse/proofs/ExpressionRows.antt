@@ -1,5 +1,5 @@
 -- Expressions that only strength and grouping tell apart.
-use Rattle.std.proofs.Common.{◌≡◌, ℕ, List, [], ◌∷◌, Some, None, refl, sym, ◌∙◌, subst}
+use Rattle.std.proofs.Common.{◌≡◌, ℕ, List, [], ◌∷◌, Some, None, refl, sym, ◌∙◌}
 use Rattle.std.specs.Prelude.{codes}
 use Rattle.pct_ask.specs.Tokens.{Token, Word, Symbol}
 use Rattle.script_tree.specs.declared.expr.Op.TheVariants as ops
@@ -7,7 +7,6 @@ use Rattle.script_tree.specs.Trees.{Expression, Reg, Two}
 use Rattle.script_tree.specs.Expressions.{IsExpression}
 use Rattle.script_parse.specs.Machine.{expression_in}
 use Rattle.script_parse.proofs.Choices.{some_is}
-use Rattle.script_parse.proofs.Capped.{capped, small_capped}
 use Rattle.script_parse.proofs.ExpressionWhole.{expression_is_read}
 use Rattle.script_parse.proofs.ExpressionSound.{expression_is_spelled}
 
@@ -18,9 +17,9 @@ three first second =
 
 -- tokens are no expression other than the one that they are read as
 no_other : (tokens : List Token) (tree other : Expression) → expression_in tokens ≡ Some tree
-    → (tree ≡ capped other → ⊥) → ¬ IsExpression tokens other
+    → (tree ≡ other → ⊥) → ¬ IsExpression tokens other
 no_other tokens tree other e differs spelled =
-    differs (some_is tree (capped other) (sym e ∙ expression_is_read tokens other spelled))
+    differs (some_is tree other (sym e ∙ expression_is_read tokens other spelled))
 
 minus_read : expression_in (three (codes "-") (codes "-"))
     ≡ Some (Two ops.Less (Two ops.Less (Reg 0) (Reg 1)) (Reg 2))
@@ -38,9 +37,7 @@ or_read = refl
 -- r0 || r1 && r2 is r0 || (r1 && r2), and isn't (r0 || r1) && r2
 pub and_is_stronger : IsExpression (three (codes "||") (codes "&&"))
     (Two ops.Or (Reg 0) (Two ops.And (Reg 1) (Reg 2)))
-and_is_stronger =
-    let r = expression_is_spelled _ _ or_read in
-    subst (IsExpression _) (sym (small_capped 0 _ r.0 r.1 refl) ∙ r.2) r.1
+and_is_stronger = expression_is_spelled _ _ or_read
 
 pub or_is_weaker : ¬ IsExpression (three (codes "||") (codes "&&"))
     (Two ops.And (Two ops.Or (Reg 0) (Reg 1)) (Reg 2))
@@ -53,5 +50,5 @@ chain_unread = refl
 pub comparisons_form_no_chain : (tree : Expression)
     → ¬ IsExpression (three (codes "<") (codes "<")) tree
 comparisons_form_no_chain tree spelled =
-    let both : None ≡ Some (capped tree) = sym chain_unread ∙ expression_is_read _ tree spelled in
+    let both : None ≡ Some tree = sym chain_unread ∙ expression_is_read _ tree spelled in
     absurd cc

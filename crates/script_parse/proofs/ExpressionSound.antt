@@ -1,9 +1,10 @@
--- What tokens are read as they spell, with its numbers as the code keeps them.
+-- What tokens are read as they spell.
 use Rattle.std.proofs.Common.{◌≡◌, ℕ, zero, suc, ◌+◌, ◌<◌, ◌≤◌, inl, inr, false, cond, List, []}
 use Rattle.std.proofs.Common.{◌∷◌, ◌++◌, Option, Some, None, refl, sym, ap, ◌∙◌, append_assoc}
 use Rattle.std.proofs.Common.{arith, subst}
-use Rattle.std.specs.Prelude.{◌-◌, nat_le, codes, slice_index_or}
+use Rattle.std.specs.Prelude.{pos, ◌-◌, nat_le, codes, slice_index_or}
 use Rattle.std.specs.Str.{bytes_eq}
+use Rattle.std.specs.Str.Parse.{digits_value}
 use Rattle.std.proofs.lemmas.List.{append-nil}
 use Rattle.std.proofs.lemmas.List.Quantifiers.{position-Some}
 use Rattle.std.proofs.lemmas.Slice.Eq.{bytes_eq-Decides}
@@ -18,7 +19,6 @@ use Rattle.script_tree.specs.Trees as trees
 use Rattle.script_tree.specs.Expressions.{IsSpelled, number, register, enclosed, minus, not, two}
 use Rattle.script_tree.specs.Expressions.{stronger, signs_of, strength, left_level, register_word}
 use Rattle.script_parse.specs.Registers.{register_in}
-use Rattle.script_parse.specs.Numbers.{saturated_number}
 use Rattle.script_parse.specs.Machine.{Frame, Paren, Not, Minus, Two, OpenExpression}
 use Rattle.script_parse.specs.Machine.{open_expression, operator_in, reduced_value, chains}
 use Rattle.script_parse.specs.Machine.{with_operator, with_bracket, with_value_token, joined_by}
@@ -27,7 +27,6 @@ use Rattle.script_parse.specs.Machine.{expression_from, expression_in}
 use Rattle.script_parse.proofs.Choices.{some, some_is, chosen, passed, unfailed, mapped_some}
 use Rattle.script_parse.proofs.Choices.{bind_some, same_bytes}
 use Rattle.script_parse.proofs.Operators.{strength_few, left_few}
-use Rattle.script_parse.proofs.Capped.{capped}
 use Rattle.script_parse.proofs.ExpressionWhole.{Accepts, accepts_more}
 
 down_by : (k low : ℕ) (tokens : List Token) (tree : Expression) → IsSpelled (low + k) tokens tree
@@ -41,18 +40,12 @@ down_by (suc k) low tokens tree h =
 gap_to : (low high : ℕ) → low ≤ high → (k : ℕ) × (high ≡ low + k)
 gap_to low high h = (high - low, omega arith)
 
--- the tokens spell at this level what is read as the tree
-abbrev pub IsRead : ℕ → List Token → Expression → Type 0
-IsRead level tokens tree =
-    (spelled : Expression) × IsSpelled level tokens spelled × (capped spelled ≡ tree)
-
--- what is read at a level is read at each weaker one
+-- what is spelled at a level is spelled at each weaker one
 down : (low high : ℕ) (tokens : List Token) (tree : Expression) → low ≤ high
-    → IsRead high tokens tree → IsRead low tokens tree
+    → IsSpelled high tokens tree → IsSpelled low tokens tree
 down low high tokens tree h r =
     let gap = gap_to low high h in
-    let same = subst (λ (l : ℕ). IsSpelled l tokens r.0) gap.1 r.1 in
-    (r.0, down_by gap.0 low tokens r.0 same, r.2)
+    down_by gap.0 low tokens tree (subst (λ (l : ℕ). IsSpelled l tokens tree) gap.1 r)
 
 -- ---- the tokens of what waits
 
@@ -66,7 +59,7 @@ Stands (Minus ∷ frames) front =
     (before : List Token) × Stands frames before × (front ≡ before ++ Symbol (codes "-") ∷ [])
 Stands (Two op left ∷ frames) front =
     (before : List Token) × (lefts : List Token) × Stands frames before
-    × Accepts (strength op) frames × IsRead (left_level op) lefts left
+    × Accepts (strength op) frames × IsSpelled (left_level op) lefts left
     × (front ≡ before ++ (lefts ++ Symbol (signs_of op) ∷ []))
 
 -- what waits, and behind it a value
@@ -76,7 +69,7 @@ record HasValue (level : ℕ) (frames : List Frame) (value : Expression) (front 
   tokens : List Token
   stands : Stands frames before
   accepts : Accepts level frames
-  read : IsRead level tokens value
+  read : IsSpelled level tokens value
   front_is : front ≡ before ++ tokens
 
 abbrev IsPartAt : List Frame → Option Expression → List Token → Type 0
@@ -124,9 +117,7 @@ minus_taken level frames value front h = record {
   tokens = Symbol (codes "-") ∷ h.tokens;
   stands = h.stands.1;
   accepts = five_accepted frames;
-  read =
-      let r = down 5 level h.tokens value h.accepts h.read in
-      (trees.Minus r.0, minus h.tokens r.0 r.1, ap trees.Minus r.2);
+  read = minus h.tokens value (down 5 level h.tokens value h.accepts h.read);
   front_is =
       h.front_is ∙ ap (λ (ts : List Token). ts ++ h.tokens) h.stands.2
       ∙ regroup h.stands.0 (Symbol (codes "-")) h.tokens;
@@ -139,9 +130,7 @@ not_taken level frames value front h = record {
   tokens = Symbol (codes "!") ∷ h.tokens;
   stands = h.stands.1;
   accepts = five_accepted frames;
-  read =
-      let r = down 5 level h.tokens value h.accepts h.read in
-      (trees.Not r.0, not h.tokens r.0 r.1, ap trees.Not r.2);
+  read = not h.tokens value (down 5 level h.tokens value h.accepts h.read);
   front_is =
       h.front_is ∙ ap (λ (ts : List Token). ts ++ h.tokens) h.stands.2
       ∙ regroup h.stands.0 (Symbol (codes "!")) h.tokens;
@@ -156,9 +145,8 @@ two_taken level op left frames value front h = record {
   stands = h.stands.2;
   accepts = h.stands.3;
   read =
-      let l = h.stands.4 in
-      let r = down (strength op + 1) level h.tokens value (omega (arith, h.accepts)) h.read in
-      (trees.Two op l.0 r.0, two op h.stands.1 h.tokens l.0 r.0 l.1 r.1, rw (l.2, r.2) refl);
+      two op h.stands.1 h.tokens left value h.stands.4
+      (down (strength op + 1) level h.tokens value (omega (arith, h.accepts)) h.read);
   front_is =
       h.front_is ∙ ap (λ (ts : List Token). ts ++ h.tokens) h.stands.5
       ∙ append_assoc h.stands.0 (h.stands.1 ++ Symbol (signs_of op) ∷ []) h.tokens
@@ -226,7 +214,7 @@ operator_says signs op e =
     one_operator signs ops.Rest _ op e (λ e. absurd cc)))))))))))))
 
 value_next : (frames : List Frame) (front : List Token) (token : Token) (tree : Expression)
-    → Stands frames front → IsRead 6 (token ∷ []) tree
+    → Stands frames front → IsSpelled 6 (token ∷ []) tree
     → HasValue 6 frames tree (front ++ token ∷ [])
 value_next frames front token tree h r = record {
   before = front;
@@ -289,7 +277,7 @@ closed_next (Paren ∷ frames) value p front e r =
       tokens = begin ∷ (h.tokens ++ end);
       stands = h.stands.1;
       accepts = six_accepted frames;
-      read = (inner.0, enclosed h.tokens inner.0 inner.1, inner.2);
+      read = enclosed h.tokens value inner;
       front_is =
           ap (λ (ts : List Token). ts ++ end)
           (h.front_is ∙ ap (λ (ts : List Token). ts ++ h.tokens) h.stands.2
@@ -332,10 +320,10 @@ begun_next : (frames : List Frame) (token : Token) (p : OpenExpression) (front :
     → Stands frames front → with_value_token frames token ≡ Some p → IsPart p (front ++ token ∷ [])
 begun_next frames (Symbol signs) p front h e = begun_symbol frames signs p front h e
 begun_next frames (Number digits) p front h e =
-    let value : Expression = trees.Number (saturated_number digits) in
+    let value : Expression = trees.Number (pos (digits_value 10 digits)) in
     subst (λ (q : OpenExpression). IsPart q (front ++ Number digits ∷ []))
     (some_is (open_expression frames (Some value)) p e)
-    (value_next frames front (Number digits) value h (_, number digits, refl))
+    (value_next frames front (Number digits) value h (number digits))
 begun_next frames (Word word) p front h e =
     let m = mapped_some (λ (r : ℕ). open_expression frames (Some (trees.Reg r)))
     (register_in word) p e in
@@ -343,7 +331,7 @@ begun_next frames (Word word) p front h e =
     let spelled : IsSpelled 6 (Word word ∷ []) (trees.Reg m.0) =
     subst (λ (w : List ℕ). IsSpelled 6 (Word w ∷ []) (trees.Reg m.0)) r.1 (register m.0 r.0) in
     subst (λ (q : OpenExpression). IsPart q (front ++ Word word ∷ [])) m.2
-    (value_next frames front (Word word) (trees.Reg m.0) h (trees.Reg m.0, spelled, refl))
+    (value_next frames front (Word word) (trees.Reg m.0) h spelled)
 
 joined_by_next : (found : Option Op) (signs : List ℕ) (frames : List Frame) (value : Expression)
     (p : OpenExpression) (front : List Token) → operator_in signs ≡ found
@@ -378,18 +366,18 @@ step_next frames None token p front h e = begun_next frames token p front h e
 step_next frames (Some value) token p front h e = behind_next frames value token p front h e
 
 whole_sound : (frames : List Frame) (value : Expression) (tree : Expression) (front : List Token)
-    → whole (frames, value) ≡ Some tree → IsReduced 0 (frames, value) front → IsRead 0 front tree
+    → whole (frames, value) ≡ Some tree → IsReduced 0 (frames, value) front → IsSpelled 0 front tree
 whole_sound (frame ∷ frames) value tree front e r = absurd cc
 whole_sound [] value tree front e r =
     let h = r.has in
     let all : front ≡ h.tokens = h.front_is ∙ ap (λ (ts : List Token). ts ++ h.tokens) h.stands in
-    subst (λ (ts : List Token). IsRead 0 ts tree) (sym all)
-    (subst (λ (t : Expression). IsRead 0 h.tokens t) (some_is value tree e)
+    subst (λ (ts : List Token). IsSpelled 0 ts tree) (sym all)
+    (subst (λ (t : Expression). IsSpelled 0 h.tokens t) (some_is value tree e)
     (down 0 r.level h.tokens value (omega arith) h.read))
 
 finished_sound : (frames : List Frame) (value : Option Expression) (tree : Expression)
     (front : List Token) → IsPartAt frames value front → finished_at frames value ≡ Some tree
-    → IsRead 0 front tree
+    → IsSpelled 0 front tree
 finished_sound frames None tree front h e = absurd cc
 finished_sound frames (Some value) tree front h e =
     let done = reduced_value 0 frames value in
@@ -397,17 +385,17 @@ finished_sound frames (Some value) tree front h e =
     (is_reduced 0 frames value 6 front (omega arith) (omega arith) h)
 
 read_sound : (tokens : List Token) (p : OpenExpression) (tree : Expression) (front : List Token)
-    → IsPart p front → expression_from p tokens ≡ Some tree → IsRead 0 (front ++ tokens) tree
+    → IsPart p front → expression_from p tokens ≡ Some tree → IsSpelled 0 (front ++ tokens) tree
 read_sound [] p tree front h e =
-    subst (λ (ts : List Token). IsRead 0 ts tree) (sym (append-nil front))
+    subst (λ (ts : List Token). IsSpelled 0 ts tree) (sym (append-nil front))
     (finished_sound p.frames p.value tree front h e)
 read_sound (token ∷ tokens) p tree front h e =
     let b = bind_some (λ next. expression_from next tokens) (token_step p token) tree e in
-    subst (λ (ts : List Token). IsRead 0 ts tree) (append_assoc front (token ∷ []) tokens)
+    subst (λ (ts : List Token). IsSpelled 0 ts tree) (append_assoc front (token ∷ []) tokens)
     (read_sound tokens b.0 tree (front ++ token ∷ [])
     (step_next p.frames p.value token b.0 front h b.1) b.2)
 
 -- what tokens are read as they spell
 pub expression_is_spelled : (tokens : List Token) (tree : Expression)
-    → expression_in tokens ≡ Some tree → IsRead 0 tokens tree
+    → expression_in tokens ≡ Some tree → IsSpelled 0 tokens tree
 expression_is_spelled tokens tree e = read_sound tokens (open_expression [] None) tree [] refl e

@@ -1,4 +1,4 @@
--- Tokens that spell an expression are read as it, with its numbers as the code keeps them.
+-- Tokens that spell an expression are read as it.
 use Rattle.std.proofs.Common.{◌≡◌, ℕ, ◌+◌, ◌<◌, ◌≤◌, ◌⊎◌, inl, inr, false, List, [], ◌∷◌, ◌++◌}
 use Rattle.std.proofs.Common.{Option, Some, None, refl, sym, ap, ◌∙◌, append_assoc, arith, rules}
 use Rattle.std.specs.Prelude.{codes}
@@ -17,7 +17,6 @@ use Rattle.script_parse.specs.Machine.{reduced_value, chains, expression_from, e
 use Rattle.pct_ask.specs.NameLists.{AreDistinct}
 use Rattle.script_parse.specs.Registers.{register_in}
 use Rattle.script_parse.proofs.Fresh.{place_at}
-use Rattle.script_parse.proofs.Capped.{capped}
 use Rattle.script_parse.proofs.Operators.{operator_at, no_parenthesis, strength_few, left_above}
 
 -- what waits there takes a part of this level
@@ -128,7 +127,7 @@ pub part_is_read : (level : ℕ) (tokens : List Token) (tree : Expression)
     → IsSpelled level tokens tree
     → (frames : List Frame) → Accepts level frames → (rest : List Token) → Follows level rest
     → expression_from (open_expression frames None) (tokens ++ rest)
-    ≡ expression_from (open_expression frames (Some (capped tree))) rest
+    ≡ expression_from (open_expression frames (Some tree)) rest
 part_is_read _ _ _ (number digits) frames a rest f = refl
 part_is_read _ _ _ (register reg few) frames a rest f = rw (register_read reg few) refl
 part_is_read _ _ _ (enclosed tokens tree h) frames a rest f =
@@ -137,21 +136,21 @@ part_is_read _ _ _ (enclosed tokens tree h) frames a rest f =
     ∙ part_is_read 0 tokens tree h (Paren ∷ frames) tt (Symbol (codes ")") ∷ rest) (inl refl)
 part_is_read _ _ _ (minus tokens tree h) frames a rest f =
     part_is_read 5 tokens tree h (Minus ∷ frames) (omega arith) rest f
-    ∙ same_goes (Minus ∷ frames) frames (capped tree) (trees.Minus (capped tree)) rest 5
+    ∙ same_goes (Minus ∷ frames) frames tree (trees.Minus tree) rest 5
     (λ l h. refl) f
 part_is_read _ _ _ (not tokens tree h) frames a rest f =
     part_is_read 5 tokens tree h (Not ∷ frames) (omega arith) rest f
-    ∙ same_goes (Not ∷ frames) frames (capped tree) (trees.Not (capped tree)) rest 5 (λ l h. refl) f
+    ∙ same_goes (Not ∷ frames) frames tree (trees.Not tree) rest 5 (λ l h. refl) f
 part_is_read _ _ _ (two op lefts rights left right hl hr) frames a rest f =
     let sign : Token = Symbol (signs_of op) in
     ap (λ (ts : List Token). expression_from (open_expression frames None) ts)
     (append_assoc lefts (sign ∷ rights) rest) ∙ part_is_read (left_level op) lefts left hl frames
     (accepts_more (strength op) frames (left_level op) (left_above op) a)
     (sign ∷ (rights ++ rest)) (inr (op, refl, omega arith))
-    ∙ joins op (capped left) frames (rights ++ rest) a
-    ∙ part_is_read (strength op + 1) rights right hr (Two op (capped left) ∷ frames) (omega arith)
+    ∙ joins op left frames (rights ++ rest) a
+    ∙ part_is_read (strength op + 1) rights right hr (Two op left ∷ frames) (omega arith)
     rest (follows_more (strength op) (strength op + 1) rest (omega arith) f)
-    ∙ two_goes op (capped left) (capped right) frames rest f
+    ∙ two_goes op left right frames rest f
 part_is_read _ _ _ (stronger level tokens tree h) frames a rest f =
     part_is_read (level + 1) tokens tree h frames
     (accepts_more level frames (level + 1) (omega arith) a) rest
@@ -159,7 +158,7 @@ part_is_read _ _ _ (stronger level tokens tree h) frames a rest f =
 
 -- tokens that spell an expression are read as it
 pub expression_is_read : (tokens : List Token) (tree : Expression) → IsSpelled 0 tokens tree
-    → expression_in tokens ≡ Some (capped tree)
+    → expression_in tokens ≡ Some tree
 expression_is_read tokens tree h =
     ap (λ (ts : List Token). expression_from (open_expression [] None) ts)
     (sym (append-nil tokens)) ∙ part_is_read 0 tokens tree h [] tt [] tt

@@ -1,5 +1,5 @@
--- What tokens are read as is a form of theirs, with its numbers as the code keeps them.
-use Rattle.std.proofs.Common.{◌≡◌, ℕ, suc, ◌+◌, inl, inr, true, false, cond, get_or, List, []}
+-- What tokens are read as is a form of theirs.
+use Rattle.std.proofs.Common.{◌≡◌, ℕ, suc, ◌+◌, inl, inr, true, cond, get_or, List, []}
 use Rattle.std.proofs.Common.{◌∷◌, ◌++◌, Option, Some, None, refl, sym, ap, ◌∙◌, take, drop}
 use Rattle.std.proofs.Common.{drop-cons, add-one, subst}
 use Rattle.std.specs.Prelude.{nat_le, ◌&&◌, codes}
@@ -22,7 +22,6 @@ use Rattle.script_tree.specs.Forms.{Valued, Thread, On, Into, Write, Add, Cas, W
 use Rattle.script_tree.specs.Forms.{Set, If, While, End, Else, on_word, into_word, kind_word}
 use Rattle.script_tree.specs.Forms.{on_since, into_since, is_plain, has_value, kind_since}
 use Rattle.script_tree.specs.Forms.{tokens_of_form, Means, IsFormOf, IsForm}
-use Rattle.script_tree.specs.Ranges.{is_out_of_range}
 use Rattle.script_parse.specs.Registers.{register_in}
 use Rattle.script_parse.specs.Words.{on_verb_in, into_verb_in, kind_in}
 use Rattle.script_parse.specs.Machine.{expression_in}
@@ -34,36 +33,28 @@ use Rattle.script_parse.specs.Saying.{other_form, by_on, by_into, by_kind, form_
 use Rattle.script_parse.proofs.Choices.{some, some_is, chosen, passed, mapped_some, bind_some}
 use Rattle.script_parse.proofs.Choices.{same_bytes, one_choice}
 use Rattle.script_parse.proofs.FirstValues.{value_says}
-use Rattle.script_parse.proofs.Capped.{capped, capped_form, range_blind, in_range_same}
 use Rattle.script_parse.proofs.ExpressionSound.{expression_is_spelled, register_says}
 
--- the tokens are a line of some form, which is read as this
+-- the tokens are a line of this form
 pub record HasCut (version : ℕ) (tokens : List Token) (meant : MeantForm) : Type 0 where
   pub cut : TokenForm
-  pub sense : MeantForm
-  pub form : IsForm version tokens cut sense
-  pub kept : capped_form sense ≡ meant
+  pub form : IsForm version tokens cut meant
 
 told : {version : ℕ} {tokens : List Token} {meant : MeantForm} (cut : TokenForm)
     (sense : MeantForm) → tokens ≡ tokens_of_form cut → IsFormOf version cut → Means cut sense
-    → capped_form sense ≡ meant → HasCut version tokens meant
-told cut sense s o m k = record {
+    → sense ≡ meant → HasCut version tokens meant
+told {version} {tokens} {meant} cut sense s o m k = record {
   cut = cut;
-  sense = sense;
-  form = record { spelled = s; of = o; means = m };
-  kept = k;
+  form = subst (IsForm version tokens cut) k (record { spelled = s; of = o; means = m });
 }
 
 -- an expression that is read, as it is spelled
-made_says : (make : Expression → MeantForm)
-    → ((tree : Expression) → capped_form (make tree) ≡ make (capped tree))
-    → (tokens : List Token) (meant : MeantForm)
+made_says : (make : Expression → MeantForm) (tokens : List Token) (meant : MeantForm)
     → option_map make (expression_in tokens) ≡ Some meant
-    → (tree : Expression) × IsExpression tokens tree × (capped_form (make tree) ≡ meant)
-made_says make same tokens meant e =
+    → (tree : Expression) × IsExpression tokens tree × (make tree ≡ meant)
+made_says make tokens meant e =
     let m = mapped_some make (expression_in tokens) meant e in
-    let r = expression_is_spelled tokens m.0 m.1 in
-    (r.0, r.1, same r.0 ∙ ap make r.2 ∙ m.2)
+    (m.0, expression_is_spelled tokens m.0 m.1, m.2)
 
 on_word_says : (word : List ℕ) (verb : OnVerb) → on_verb_in word ≡ Some verb → word ≡ on_word verb
 on_word_says word verb e =
@@ -197,7 +188,7 @@ write_says : (version : ℕ) (tokens : List Token) (meant : MeantForm)
     → write_form version tokens ≡ Some meant → HasCut version (Word (codes "write") ∷ tokens) meant
 write_says version (Word var ∷ value) meant e =
     let p = passed (is_name version var) (option_map (Write var) (expression_in value)) meant e in
-    let t = made_says (Write var) (λ e. refl) value meant p.1 in
+    let t = made_says (Write var) value meant p.1 in
     told (Write var value) (Write var t.0) refl p.0 (t.0, t.1, refl) t.2
 write_says version tokens meant e = absurd cc
 
@@ -209,7 +200,7 @@ add_says version (Word reg_word ∷ Word var ∷ value) meant e =
     (register_in reg_word)) meant e in
     let b = bind_some (λ (r : ℕ). option_map (Add r var) (expression_in value))
     (register_in reg_word) meant p.1 in
-    let t = made_says (Add b.0 var) (λ e. refl) value meant b.2 in
+    let t = made_says (Add b.0 var) value meant b.2 in
     let r = register_says reg_word b.0 b.1 in
     told (Add b.0 var value) (Add b.0 var t.0)
     (ap (λ (v : List ℕ). Word (codes "add") ∷ Word v ∷ Word var ∷ value) (sym r.1)) (r.0, p.0)
@@ -239,13 +230,12 @@ cas_pair_says version reg_word var reg old new values meant f named split e =
     let b = bind_some (λ (a : Expression). option_map (Cas reg var a)
     (expression_in new)) (expression_in old) meant e in
     let m = mapped_some (Cas reg var b.0) (expression_in new) meant b.2 in
-    let x = expression_is_spelled old b.0 b.1 in
-    let y = expression_is_spelled new m.0 m.1 in
     let r = register_says reg_word reg f in
-    told (Cas reg var old new) (Cas reg var x.0 y.0)
+    told (Cas reg var old new) (Cas reg var b.0 m.0)
     (ap (λ (v : List ℕ). Word (codes "cas") ∷ Word v ∷ Word var ∷ values) (sym r.1)
     ∙ ap (λ (ts : List Token). Word (codes "cas") ∷ Word (register_word reg) ∷ Word var ∷ ts) split)
-    (r.0, named) (x.0, y.0, x.1, y.1, refl) (rw (x.2, y.2) m.2)
+    (r.0, named)
+    (b.0, m.0, expression_is_spelled old b.0 b.1, expression_is_spelled new m.0 m.1, refl) m.2
 
 cas_parts_says : (version : ℕ) (reg_word var : List ℕ) (reg : ℕ) (found : Option ℕ)
     (values : List Token) (meant : MeantForm) → register_in reg_word ≡ Some reg
@@ -272,7 +262,7 @@ set_says : (version : ℕ) (tokens : List Token) (meant : MeantForm)
 set_says version (Word reg_word ∷ value) meant e =
     let b = bind_some (λ (r : ℕ). option_map (Set r) (expression_in value))
     (register_in reg_word) meant e in
-    let t = made_says (Set b.0) (λ e. refl) value meant b.2 in
+    let t = made_says (Set b.0) value meant b.2 in
     let r = register_says reg_word b.0 b.1 in
     told (Set b.0 value) (Set b.0 t.0)
     (ap (λ (v : List ℕ). Word (codes "set") ∷ Word v ∷ value) (sym r.1)) r.0 (t.0, t.1, refl) t.2
@@ -282,21 +272,21 @@ assert_says : (version : ℕ) (tokens : List Token) (meant : MeantForm)
     → option_map Assert (expression_in tokens) ≡ Some meant
     → HasCut version (Word (codes "assert") ∷ tokens) meant
 assert_says version tokens meant e =
-    let t = made_says Assert (λ e. refl) tokens meant e in
+    let t = made_says Assert tokens meant e in
     told (Assert tokens) (Assert t.0) refl tt (t.0, t.1, refl) t.2
 
 if_says : (version : ℕ) (tokens : List Token) (meant : MeantForm)
     → option_map If (expression_in tokens) ≡ Some meant
     → HasCut version (Word (codes "if") ∷ tokens) meant
 if_says version tokens meant e =
-    let t = made_says If (λ e. refl) tokens meant e in
+    let t = made_says If tokens meant e in
     told (If tokens) (If t.0) refl tt (t.0, t.1, refl) t.2
 
 while_says : (version : ℕ) (tokens : List Token) (meant : MeantForm)
     → option_map While (expression_in tokens) ≡ Some meant
     → HasCut version (Word (codes "while") ∷ tokens) meant
 while_says version tokens meant e =
-    let t = made_says While (λ e. refl) tokens meant e in
+    let t = made_says While tokens meant e in
     told (While tokens) (While t.0) refl tt (t.0, t.1, refl) t.2
 
 wait_mutex_says : (version : ℕ) (waiting mutex : List ℕ) (meant : MeantForm)
@@ -398,7 +388,7 @@ by_kind_says None version word tokens meant others f e there = there e
 by_kind_says (Some kind) version word tokens meant others f e there =
     declared_says version word kind tokens meant (kind_word_says word kind f) e
 
--- what tokens are read as is a form of theirs, with its numbers capped
+-- what tokens are read as is a form of theirs
 pub form_says : (version : ℕ) (tokens : List Token) (meant : MeantForm)
     → form_in version tokens ≡ Some meant → HasCut version tokens meant
 form_says version (Word word ∷ tokens) meant e =
@@ -407,15 +397,3 @@ form_says version (Word word ∷ tokens) meant e =
     by_kind_says (kind_in word) version word tokens meant _ refl e
     (λ e. other_says version word tokens meant e)))
 form_says version tokens meant e = absurd cc
-
--- where its numbers are in range, it is the form itself
-pub in_range_says : (version : ℕ) (tokens : List Token) (meant : MeantForm)
-    → form_in version tokens ≡ Some meant → is_out_of_range tokens meant ≡ false
-    → (cut : TokenForm) × IsForm version tokens cut meant
-in_range_says version tokens meant e h =
-    let has = form_says version tokens meant e in
-    let range : is_out_of_range tokens has.sense ≡ false =
-    sym (range_blind tokens has.sense) ∙ ap (is_out_of_range tokens) has.kept ∙ h in
-    let same : has.sense ≡ meant =
-    sym (in_range_same version tokens has.cut has.sense has.form range) ∙ has.kept in
-    (has.cut, subst (IsForm version tokens has.cut) same has.form)

@@ -1,6 +1,6 @@
--- Tokens of a form are read as it, with its numbers as the code keeps them.
+-- Tokens of a form are read as it.
 use Rattle.std.proofs.Common.{◌≡◌, ℕ, suc, ◌+◌, ◌<◌, ◌≤◌, true, false, length, List, [], ◌∷◌, ◌++◌}
-use Rattle.std.proofs.Common.{Option, Some, None, refl, sym, ap, ◌∙◌, arith, drop}
+use Rattle.std.proofs.Common.{Some, None, refl, sym, ap, ◌∙◌, arith, drop}
 use Rattle.std.specs.Prelude.{not as flip, codes}
 use Rattle.std.specs.List.{position, list_any}
 use Rattle.std.specs.Option.{option_map}
@@ -27,7 +27,7 @@ use Rattle.script_parse.specs.Saying.{is_comma, parts_at, lone_form, form_in}
 use Rattle.std.specs.List.{prefix_len}
 use Rattle.std.proofs.Math.Seq.{take-append_seam, drop-append-add}
 use Rattle.std.proofs.Common.{length-append}
-use Rattle.script_parse.proofs.Capped.{capped_form}
+use Rattle.script_parse.proofs.Choices.{some}
 use Rattle.script_parse.proofs.FirstValues.{value_is_read}
 use Rattle.script_parse.proofs.ExpressionWhole.{expression_is_read, register_read}
 
@@ -98,20 +98,17 @@ first_comma front back h =
 
 -- ---- a form's tokens
 
-abbrev kept : MeantForm → Option MeantForm
-kept meant = Some (capped_form meant)
-
 form_is_read : (version : ℕ) (cut : TokenForm) (meant : MeantForm) → IsFormOf version cut
-    → Means cut meant → form_in version (tokens_of_form cut) ≡ Some (capped_form meant)
+    → Means cut meant → form_in version (tokens_of_form cut) ≡ Some meant
 form_is_read version (Plain kind name) meant of means =
     rw ((kind_at kind).0, (kind_at kind).1, (kind_at kind).2)
-    (plain_is_read version kind name of.0 of.1 of.2 ∙ ap kept (sym means))
+    (plain_is_read version kind name of.0 of.1 of.2 ∙ ap some (sym means))
 form_is_read version (Valued kind name value) meant of means =
     rw ((kind_at kind).0, (kind_at kind).1, (kind_at kind).2, of.0, of.1)
-    (ap (option_map (Valued kind name)) (value_is_read kind value of.2) ∙ ap kept (sym means))
-form_is_read version (Thread name) meant of means = rw of (ap kept (sym means))
+    (ap (option_map (Valued kind name)) (value_is_read kind value of.2) ∙ ap some (sym means))
+form_is_read version (Thread name) meant of means = rw of (ap some (sym means))
 form_is_read version (On verb object) meant of means =
-    rw (on_verb_at verb, le-leb (on_since verb) version of.0, of.1) (ap kept (sym means))
+    rw (on_verb_at verb, le-leb (on_since verb) version of.0, of.1) (ap some (sym means))
 form_is_read version (Into verb reg object) meant of means =
     rw (
       (into_verb_at verb).0,
@@ -119,12 +116,12 @@ form_is_read version (Into verb reg object) meant of means =
       le-leb (into_since verb) version of.0,
       of.2,
       register_read reg of.1,
-    ) (ap kept (sym means))
+    ) (ap some (sym means))
 form_is_read version (Write var value) meant of means =
-    rw (of, expression_is_read value means.0 means.1) (ap kept (sym means.2))
+    rw (of, expression_is_read value means.0 means.1) (ap some (sym means.2))
 form_is_read version (Add reg var value) meant of means =
     rw (of.1, register_read reg of.0, expression_is_read value means.0 means.1)
-    (ap kept (sym means.2))
+    (ap some (sym means.2))
 form_is_read version (Cas reg var old new) meant of means =
     rw (
       of.1,
@@ -132,22 +129,22 @@ form_is_read version (Cas reg var old new) meant of means =
       first_comma old new (no_comma 0 old means.0 means.2),
       expression_is_read old means.0 means.2,
       expression_is_read new means.1 means.3,
-    ) (ap kept (sym means.4))
-form_is_read version (Wait waiting mutex) meant of means = rw (of.0, of.1) (ap kept (sym means))
-form_is_read version Yield meant of means = ap kept (sym means)
+    ) (ap some (sym means.4))
+form_is_read version (Wait waiting mutex) meant of means = rw (of.0, of.1) (ap some (sym means))
+form_is_read version Yield meant of means = ap some (sym means)
 form_is_read version (Assert test) meant of means =
-    rw (expression_is_read test means.0 means.1) (ap kept (sym means.2))
+    rw (expression_is_read test means.0 means.1) (ap some (sym means.2))
 form_is_read version (Set reg value) meant of means =
-    rw (register_read reg of, expression_is_read value means.0 means.1) (ap kept (sym means.2))
+    rw (register_read reg of, expression_is_read value means.0 means.1) (ap some (sym means.2))
 form_is_read version (If test) meant of means =
-    rw (expression_is_read test means.0 means.1) (ap kept (sym means.2))
+    rw (expression_is_read test means.0 means.1) (ap some (sym means.2))
 form_is_read version (While test) meant of means =
-    rw (expression_is_read test means.0 means.1) (ap kept (sym means.2))
-form_is_read version End meant of means = ap kept (sym means)
-form_is_read version Else meant of means = ap kept (sym means)
+    rw (expression_is_read test means.0 means.1) (ap some (sym means.2))
+form_is_read version End meant of means = ap some (sym means)
+form_is_read version Else meant of means = ap some (sym means)
 
--- the tokens of a form are read as it, with its numbers capped
+-- the tokens of a form are read as it
 pub form_read : (version : ℕ) (tokens : List Token) (cut : TokenForm) (meant : MeantForm)
-    → IsForm version tokens cut meant → form_in version tokens ≡ Some (capped_form meant)
+    → IsForm version tokens cut meant → form_in version tokens ≡ Some meant
 form_read version tokens cut meant f =
     ap (form_in version) f.spelled ∙ form_is_read version cut meant f.of f.means

@@ -15,7 +15,6 @@ use Rattle.script_parse.specs.Part.{Part}
 use Rattle.script_parse.specs.Reading.{Finder, is_empty, so_far_in, form_fault, with_form}
 use Rattle.script_parse.specs.Reading.{tokens_taken}
 use Rattle.script_parse.specs.Saying.{form_in}
-use Rattle.script_parse.proofs.Capped.{in_range_same}
 use Rattle.script_parse.proofs.FormWhole.{form_read}
 use Rattle.script_parse.proofs.Standing.{Stands, depth_is}
 use Rattle.script_parse.proofs.Agreeing.{taken_stands, same_so_far, leaves_open_same}
@@ -91,8 +90,7 @@ module _ (part : Part) (find : Finder) (n : ℕ) (last : Bool) (lines : List (Li
   read_form : (tokens : List Token) → tokens_in text ≡ tokens
       → form_in part.version tokens ≡ Some meant
   read_form tokens e =
-      form_read part.version tokens says.0 meant (formed tokens e) ∙ ap (λ (m : MeantForm). Some m)
-      (in_range_same part.version tokens says.0 meant (formed tokens e) (in_range tokens e))
+      form_read part.version tokens says.0 meant (formed tokens e)
 
   none_some : (m : MeantForm) → None ≡ Some m → ⊥
   none_some m e = absurd cc

@@ -2,7 +2,7 @@ pub mod Pieces
 pub mod Fresh
 pub mod Numbers
 pub mod Choices
-pub mod Capped
+pub mod SmallNumbers
 pub mod Operators
 pub mod ExpressionWhole
 pub mod ExpressionSound

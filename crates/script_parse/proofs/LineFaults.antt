@@ -16,8 +16,6 @@ use Rattle.script_tree.specs.Faults.{HasForm, HasFormWith}
 use Rattle.script_parse.specs.Part.{Part}
 use Rattle.script_parse.specs.Reading.{is_empty, so_far_in, is_known_name}
 use Rattle.script_parse.proofs.Choices.{some_is, clash}
-use Rattle.script_parse.proofs.Capped.{capped_form, IsBlind, stands_blind, unknown_blind}
-use Rattle.script_parse.proofs.Capped.{again_blind, range_blind, closes_blind, many_blind}
 use Rattle.script_parse.proofs.FormWhole.{form_read}
 use Rattle.script_parse.proofs.FirstKinds.{Tells}
 use Rattle.script_parse.proofs.Standing.{Stands}
@@ -102,41 +100,39 @@ module _ (part : Part) (place : Place) (s : Stands part (tokens_before place))
     stands = h;
   }
 
-  -- the line has no other form, but for numbers that the code caps
-  one_meaning : (test : MeantForm → Bool) → IsBlind test → (other : TokenForm)
-      (sense : MeantForm) → HasForm place other sense → test meant ≡ test sense
-  one_meaning test blind other sense h =
+  -- the line has no other form
+  one_meaning : (other : TokenForm) (sense : MeantForm) → HasForm place other sense
+      → meant ≡ sense
+  one_meaning other sense h =
       let again : IsForm part.version (tokens_in place.line) other sense =
       subst (λ (v : ℕ). IsForm v (tokens_in place.line) other sense) spoken_version h.form in
-      let same : capped_form meant ≡ capped_form sense = some_is _ _
+      some_is _ _
       (sym (form_read part.version (tokens_in place.line) cut meant is_form)
-      ∙ form_read part.version (tokens_in place.line) other sense again) in
-      sym (blind meant) ∙ ap test same ∙ blind sense
+      ∙ form_read part.version (tokens_in place.line) other sense again)
 
   stands_here : (other : TokenForm) (sense : MeantForm) → HasForm place other sense
       → faults.may_stand (faults.so_far_at place) meant ≡ true
   stands_here other sense h =
-      one_meaning (faults.may_stand (faults.so_far_at place))
-      (stands_blind (faults.so_far_at place)) other sense h ∙ h.stands
+      ap (faults.may_stand (faults.so_far_at place)) (one_meaning other sense h) ∙ h.stands
 
   -- a test tells whether the line has a form of which it holds
-  tells : (test : MeantForm → Bool) → IsBlind test → Tells
+  tells : (test : MeantForm → Bool) → Tells
       (faults.may_stand (faults.so_far_at place) meant && test meant) (HasFormWith test place)
-  tells test blind = (
+  tells test = (
     λ e. let p = and_parts (faults.may_stand (faults.so_far_at place) meant) (test meant) e in
         (cut, meant, has_form p.0, p.1),
     λ e w. both_hold (faults.may_stand (faults.so_far_at place) meant) (test meant) e
-        (stands_here w.0 w.1 w.2) (one_meaning test blind w.0 w.1 w.2 ∙ w.3),
+        (stands_here w.0 w.1 w.2) (ap test (one_meaning w.0 w.1 w.2) ∙ w.3),
   )
 
   -- so does a test of what was read
-  tells_here : (test : SoFar → MeantForm → Bool) → ((lines : SoFar) → IsBlind (test lines))
+  tells_here : (test : SoFar → MeantForm → Bool)
       → Tells (faults.may_stand (so_far_in part) meant && test (so_far_in part) meant)
       (HasFormWith (test (faults.so_far_at place)) place)
-  tells_here test blind =
+  tells_here test =
       subst (λ (lines : SoFar). Tells (faults.may_stand lines meant && test lines meant)
       (HasFormWith (test (faults.so_far_at place)) place)) here
-      (tells (test (faults.so_far_at place)) (blind (faults.so_far_at place)))
+      (tells (test (faults.so_far_at place)))
 
   no_statement : Tells (not (faults.may_stand (faults.so_far_at place) meant))
       (faults.BadStatement place)
@@ -163,23 +159,20 @@ module _ (part : Part) (place : Place) (s : Stands part (tokens_before place))
       subst (λ (known : NameKind → List ℕ → Bool).
       Tells (faults.may_stand (so_far_in part) meant && faults.uses_unknown known meant)
       (faults.UnknownName place)) (known_same part place s)
-      (tells_here (λ lines. faults.uses_unknown (is_declared place))
-      (λ lines. unknown_blind (is_declared place)))
+      (tells_here (λ lines. faults.uses_unknown (is_declared place)))
 
   pub tells_twice : Tells (faults.may_stand (so_far_in part) meant
       && faults.declares_again (so_far_in part) meant) (faults.TwiceNamed place)
-  tells_twice = tells_here faults.declares_again again_blind
+  tells_twice = tells_here faults.declares_again
 
   pub tells_range : Tells (faults.may_stand (so_far_in part) meant
       && ranges.is_out_of_range (tokens_in place.line) meant) (faults.NumberRange place)
-  tells_range =
-      tells_here (λ lines. ranges.is_out_of_range (tokens_in place.line))
-      (λ lines. range_blind (tokens_in place.line))
+  tells_range = tells_here (λ lines. ranges.is_out_of_range (tokens_in place.line))
 
   pub tells_stray : Tells (faults.may_stand (so_far_in part) meant
       && faults.closes_nothing (so_far_in part) meant) (faults.StrayEnd place)
-  tells_stray = tells_here faults.closes_nothing closes_blind
+  tells_stray = tells_here faults.closes_nothing
 
   pub tells_many : Tells (faults.may_stand (so_far_in part) meant
       && faults.is_too_many (so_far_in part) meant) (faults.TooMany place)
-  tells_many = tells_here faults.is_too_many many_blind
+  tells_many = tells_here faults.is_too_many

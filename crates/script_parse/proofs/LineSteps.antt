@@ -21,7 +21,6 @@ use Rattle.script_parse.specs.Saying.{form_in}
 use Rattle.script_parse.specs.Reading.{is_empty, so_far_in, bytes_fault, unless, some_part}
 use Rattle.script_parse.specs.Reading.{after_fault, line_taken}
 use Rattle.script_parse.proofs.Choices.{some, clash}
-use Rattle.script_parse.proofs.Capped.{capped_form, fault_blind}
 use Rattle.script_parse.proofs.FormWhole.{form_read}
 use Rattle.script_parse.proofs.FormSound.{form_says}
 use Rattle.script_parse.proofs.FirstKinds.{Tells, first_in, in_order, IsFirst, is_first}
@@ -239,37 +238,30 @@ module _ (part : Part) (place : Place) (s : Stands part (tokens_before place))
   form_step token tokens meant e f =
       let here : tokens_in place.line ≡ token ∷ tokens = cut_tokens place.line (token ∷ tokens) e in
       let has = form_says part.version (token ∷ tokens) meant f in
-      let is_form : IsForm part.version (tokens_in place.line) has.cut has.sense =
-      subst (λ (ts : List Token). IsForm part.version ts has.cut has.sense) (sym here) has.form in
+      let is_form : IsForm part.version (tokens_in place.line) has.cut meant =
+      subst (λ (ts : List Token). IsForm part.version ts has.cut meant) (sym here) has.form in
       let is_below : IsBelowHeader place = record {
         below = below;
         says = says_something place.line token tokens e;
       } in
-      let capped : form_in part.version (token ∷ tokens)
-      ≡ Some (capped_form has.sense) = f ∙ ap some (sym has.kept) in
-      let may : Bool = faults.may_stand (so_far_in part) has.sense in
+      let may : Bool = faults.may_stand (so_far_in part) meant in
       first_told place _ _ _ false false (not may) _ _ _ _ _ _ _ (record {
         utf = tells_utf place;
         long = tells_long place;
         lines = tells_lines place;
         header = never (no_header place below);
         token = never (λ n. some_none (sym n ∙ e));
-        statement = tells_statement part place s is_below has.cut has.sense is_form;
-        unknown = tells_unknown part place s is_below has.cut has.sense is_form;
-        twice = tells_twice part place s is_below has.cut has.sense is_form;
-        range = subst (λ (ts : List Token). Tells (may && ranges.is_out_of_range ts has.sense)
+        statement = tells_statement part place s is_below has.cut meant is_form;
+        unknown = tells_unknown part place s is_below has.cut meant is_form;
+        twice = tells_twice part place s is_below has.cut meant is_form;
+        range = subst (λ (ts : List Token). Tells (may && ranges.is_out_of_range ts meant)
             (faults.NumberRange place)) here
-            (tells_range part place s is_below has.cut has.sense is_form);
+            (tells_range part place s is_below has.cut meant is_form);
         no_end = tells_end part place s (token ∷ tokens) here;
-        stray = tells_stray part place s is_below has.cut has.sense is_form;
+        stray = tells_stray part place s is_below has.cut meant is_form;
         no_thread = tells_thread part place s (token ∷ tokens) here;
-        many = tells_many part place s is_below has.cut has.sense is_form;
-      }) (fault_of step) (rw (
-        bytes_at place,
-        e,
-        capped,
-        fault_blind part (found part place s) (is_empty place.after) (token ∷ tokens) has.sense,
-      ) (form_chain _ _ _ may _ _ _ _ _ _ _ _))
+        many = tells_many part place s is_below has.cut meant is_form;
+      }) (fault_of step) (rw (bytes_at place, e, f) (form_chain _ _ _ may _ _ _ _ _ _ _ _))
 
   -- a line of no form
   bad_step : (token : Token) (tokens : List Token) → tokens_of place.line ≡ Some (token ∷ tokens)

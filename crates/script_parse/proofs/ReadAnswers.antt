@@ -1,6 +1,6 @@
 -- What a reading tells of the text and of its lines.
 use Rattle.std.proofs.Common.{◌≡◌, ℕ, ◌≤◌, true, false, length, List, Some, None, Result}
-use Rattle.std.proofs.Common.{refl, sym, ap, ◌∙◌, subst}
+use Rattle.std.proofs.Common.{refl, subst}
 use Rattle.std.proofs.Math.Path.{fun_ext}
 use Rattle.std.proofs.lemmas.Bool.{le-ltb}
 use Rattle.pct_ask.specs.Lines.{lines_of}
@@ -9,15 +9,16 @@ use Rattle.pct_ask.specs.NameLists.{place_of}
 use Rattle.pct_ask.proofs.laws.Names.{is_name-first}
 use Rattle.script_tree.specs.ScriptText.{ScriptText}
 use Rattle.script_tree.specs.declared.fault.ScriptFault.{ScriptFault}
-use Rattle.script_tree.specs.Forms.{TokenForm, MeantForm, Plain, IsFormOf, Means}
+use Rattle.script_tree.specs.Forms.{TokenForm, MeantForm, IsFormOf, Means}
 use Rattle.script_tree.specs.Lines.{threads_begun}
+use Rattle.script_tree.specs.Ranges.{is_out_of_range}
 use Rattle.script_tree.specs.Faults.{are_blank}
-use Rattle.script_parse.specs.Lawful.{names_lawful}
+use Rattle.script_parse.specs.Lawful.{names_lawful, NumbersAreSmall}
 use Rattle.script_parse.specs.Saying.{form_in}
 use Rattle.script_parse.specs.Reading.{Finder, script_from, read_as_script}
 use Rattle.script_parse.proofs.FormSound.{form_says}
 use Rattle.script_parse.proofs.Meanings.{by_meaning}
-use Rattle.script_parse.proofs.Capped.{capped_form}
+use Rattle.script_parse.proofs.SmallNumbers.{in_range_small}
 
 -- a text is read by where its lines begin their threads
 pub read_by : (bytes : List ℕ) (find : Finder) (result : Result ScriptText (ℕ × ScriptFault))
@@ -54,14 +55,17 @@ lawful_means version = by_meaning (λ cut meant. IsFormOf version cut → names_
       otherwise = λ of. refl;
     })
 
-lawful_capped : (meant : MeantForm) → names_lawful (capped_form meant) ≡ names_lawful meant
-lawful_capped (Plain kind name) = refl
-lawful_capped meant = refl
-
 -- the names that a line declares are lawful by the first version's keywords
 pub lawful_read : (version : ℕ) (tokens : List Token) (meant : MeantForm)
     → form_in version tokens ≡ Some meant → names_lawful meant ≡ true
 lawful_read version tokens meant e =
     let has = form_says version tokens meant e in
-    ap names_lawful (sym has.kept) ∙ lawful_capped has.sense
-    ∙ lawful_means version has.cut has.sense has.form.means has.form.of
+    lawful_means version has.cut meant has.form.means has.form.of
+
+-- the numbers that a line names are small where they are in range
+pub small_read : (version : ℕ) (tokens : List Token) (meant : MeantForm)
+    → form_in version tokens ≡ Some meant → is_out_of_range tokens meant ≡ false
+    → NumbersAreSmall meant
+small_read version tokens meant e h =
+    let has = form_says version tokens meant e in
+    in_range_small version tokens has.cut meant has.form h

@@ -28,7 +28,7 @@ use Rattle.script_parse.specs.Reading.{form_fault, with_form, bytes_fault, unles
 use Rattle.script_parse.specs.Reading.{blank_fault, header_taken, part_after_header, first_part}
 use Rattle.script_parse.specs.Reading.{line_taken, tokens_taken, form_taken}
 use Rattle.script_parse.proofs.Choices.{some, some_is, passed}
-use Rattle.script_parse.proofs.FormSound.{in_range_says}
+use Rattle.script_parse.proofs.FormSound.{form_says}
 use Rattle.script_parse.proofs.LineSteps.{Step, cut_tokens}
 use Rattle.script_parse.proofs.TextFaults.{ok_is, err_ok, unless_ok, wrapped_ok, behind_tokens}
 use Rattle.script_parse.proofs.TextLines.{blank_more, says_more}
@@ -179,18 +179,18 @@ form_reads threads part before line tokens meant last r p e f g =
     let longer : length (before ++ line ∷ []) ≡ length before + 1 = length_push before line in
     let next : Part = with_form part (finder threads) (length before + 1) meant in
     let no_fault = no_fault_parts part (finder threads) last tokens meant g in
-    let has = in_range_says part.version tokens meant f no_fault.in_range in
+    let has = form_says part.version tokens meant f in
     let here : tokens_in line ≡ tokens = cut_tokens line tokens e in
     let number : length before + 1 ≡ length r.above + 2 + length r.below =
     omega (arith, ap length r.split, length-append r.above (r.header ∷ r.below)) in
     let kept = form_keeps threads part r.lines (length before) last tokens r.has
-    (on_line (length before + 1) (length before) refl p.few) p.few has.0 meant has.1.means
-    has.1.of (means_fits has.0 meant has.1.means) no_fault in
+    (on_line (length before + 1) (length before) refl p.few) p.few has.cut meant has.form.means
+    has.form.of (means_fits has.cut meant has.form.means) no_fault in
     let range : ranges.is_out_of_range (tokens_in line) meant ≡ false =
     ap (λ (ts : List Token). ranges.is_out_of_range ts meant) here ∙ no_fault.in_range in
     let adds = form_adds part.version part (finder threads) (length before + 1)
-    (map tokens_in r.below) r.values has.0 meant has.1.means has.1.of in
-    let cut_is : tokens_in line ≡ tokens_of_form has.0 = here ∙ has.1.spelled in
+    (map tokens_in r.below) r.values has.cut meant has.form.means has.form.of in
+    let cut_is : tokens_in line ≡ tokens_of_form has.cut = here ∙ has.form.spelled in
     let same_version : next.version ≡ part.version = adds.version in
     record {
       above = r.above;
@@ -205,9 +205,9 @@ form_reads threads part before line tokens meant last r p e f g =
           (r.lines ++ (length before + 1, meant) ∷ [])) (sym same_version)
           (says_more part.version (length r.above + 2) (length before + 1) r.below line r.lines
           meant r.are_lines (
-            has.0,
+            has.cut,
             subst
-                (λ (ts : List Token). IsForm part.version ts has.0 meant) (sym here) has.1,
+                (λ (ts : List Token). IsForm part.version ts has.cut meant) (sym here) has.form,
             range,
           )
           number);

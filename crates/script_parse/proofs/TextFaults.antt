@@ -17,7 +17,7 @@ use Rattle.script_parse.specs.Reading.{Finder, is_empty, form_fault, with_form, 
 use Rattle.script_parse.specs.Reading.{some_part, after_fault, blank_fault, header_taken}
 use Rattle.script_parse.specs.Reading.{part_after_header, first_part, line_taken, tokens_taken}
 use Rattle.script_parse.specs.Reading.{form_taken, then_read, script_from}
-use Rattle.script_parse.proofs.FormSound.{in_range_says}
+use Rattle.script_parse.proofs.FormSound.{form_says}
 use Rattle.script_parse.proofs.FirstKinds.{IsFirstKind, IsFirst}
 use Rattle.script_parse.proofs.Standing.{Stands, blank_stands}
 use Rattle.script_parse.proofs.Agreeing.{taken_stands}
@@ -83,13 +83,13 @@ form_next part find n last before line next tokens (Some meant) s e f r =
     let w = wrapped_ok (form_fault part find last tokens meant)
     (with_form part find n meant) next r in
     let no_fault = no_fault_parts part find last tokens meant w.0 in
-    let has = in_range_says part.version tokens meant f no_fault.in_range in
-    let stands = taken_stands part.version part find n (map tokens_in before) s.1 has.0 meant
-    has.1.means has.1.of no_fault.closes in
+    let has = form_says part.version tokens meant f in
+    let stands = taken_stands part.version part find n (map tokens_in before) s.1 has.cut meant
+    has.form.means has.form.of no_fault.closes in
     let behind : map tokens_in (before ++ line ∷ [])
-    ≡ map tokens_in before ++ tokens_of_form has.0 ∷ [] =
+    ≡ map tokens_in before ++ tokens_of_form has.cut ∷ [] =
     behind_tokens before line tokens e
-    ∙ ap (λ (ts : List Token). map tokens_in before ++ ts ∷ []) has.1.spelled in
+    ∙ ap (λ (ts : List Token). map tokens_in before ++ ts ∷ []) has.form.spelled in
     subst (λ (p : Option Part). StandsBefore p (before ++ line ∷ [])) w.1 (
       still_below before line s.0,
       subst (Stands (with_form part find n meant)) (sym behind)

@@ -1,7 +1,7 @@
 -- How what the code keeps of an expression stands for what was read of it.
 use Rattle.std.specs.Prelude.{List, map, reverse}
 use Rattle.std.specs.Option.{option_map}
-use Rattle.script_tree.specs.Seen.{expression}
+use Rattle.script_parse.specs.Spellings.{spelled_tree}
 use Rattle.script_parse.specs.Machine as machine
 use Rattle.script_parse.specs.declared.expression.Frame.{Frame}
 use Rattle.script_parse.specs.declared.expression.Frame.TheVariants.{Paren, Not, Minus, Two}
@@ -11,7 +11,7 @@ abbrev pub seen_frame : Frame → machine.Frame
 seen_frame Paren = machine.Paren
 seen_frame Not = machine.Not
 seen_frame Minus = machine.Minus
-seen_frame (Two op left) = machine.Two op (expression left)
+seen_frame (Two op left) = machine.Two op (spelled_tree left)
 
 -- what waits, the innermost first
 abbrev pub seen_frames : List Frame → List machine.Frame
@@ -19,4 +19,4 @@ seen_frames frames = reverse (map seen_frame frames)
 
 abbrev pub seen_pending : Pending → machine.OpenExpression
 seen_pending p =
-    machine.open_expression (seen_frames p.frames.items) (option_map expression p.value)
+    machine.open_expression (seen_frames p.frames.items) (option_map spelled_tree p.value)

@@ -2,7 +2,7 @@ pub mod Seen
 pub mod Cutting
 pub mod Registers
 pub mod Machine
-pub mod Numbers
+pub mod Spellings
 pub mod Frames
 pub mod Words
 pub mod Saying

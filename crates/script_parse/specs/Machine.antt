@@ -1,8 +1,9 @@
 -- Reading an expression from its first token to its last, with what waits for its right part.
 use Rattle.std.specs.Prelude.{ℕ, ◌==◌, nat_le, Bool, true, false, if◌then◌else◌, List, [], ◌∷◌}
-use Rattle.std.specs.Prelude.{Option, Some, None, codes}
+use Rattle.std.specs.Prelude.{Option, Some, None, codes, pos}
 use Rattle.std.specs.Option.{option_map, option_and_then}
 use Rattle.std.specs.Str.{bytes_eq}
+use Rattle.std.specs.Str.Parse.{digits_value}
 use Rattle.pct_ask.specs.Tokens.{Token, Word, Number, Symbol}
 use Rattle.script_tree.specs.declared.expr.Op.{Op}
 use Rattle.script_tree.specs.declared.expr.Op.TheVariants as ops
@@ -10,7 +11,6 @@ use Rattle.script_tree.specs.Trees.{Expression}
 use Rattle.script_tree.specs.Trees as trees
 use Rattle.script_tree.specs.Expressions.{strength, left_level}
 use Rattle.script_parse.specs.Registers.{register_in}
-use Rattle.script_parse.specs.Numbers.{saturated_number}
 
 -- what waits for what follows: a parenthesis for its end, an operator for its part or its right
 -- part
@@ -95,10 +95,10 @@ with_bracket (frame ∷ frames) value = None
 abbrev pub closed_by : List Frame → Expression → Option OpenExpression
 closed_by frames value = let done = reduced_value 0 frames value in with_bracket done.0 done.1
 
--- a token where a value may begin; a number above the greatest i64 is read as that
+-- a token where a value may begin
 abbrev pub with_value_token : List Frame → Token → Option OpenExpression
 with_value_token frames (Number digits) =
-    Some (open_expression frames (Some (trees.Number (saturated_number digits))))
+    Some (open_expression frames (Some (trees.Number (pos (digits_value 10 digits)))))
 with_value_token frames (Word word) =
     option_map (λ r. open_expression frames (Some (trees.Reg r))) (register_in word)
 with_value_token frames (Symbol signs) =

@@ -3,7 +3,7 @@ use Rattle.std.specs.Prelude.{ℕ, Bool, true, false, List, [], ◌∷◌, codes
 use Rattle.pct_ask.specs.Tokens.{Token, Number, Symbol}
 use Rattle.script_tree.specs.Forms as language
 use Rattle.script_tree.specs.Forms.{MeantForm}
-use Rattle.script_tree.specs.Seen.{expression}
+use Rattle.script_parse.specs.Spellings.{spelled_tree}
 use Rattle.script_parse.specs.declared.form.OnVerb.{OnVerb}
 use Rattle.script_parse.specs.declared.form.OnVerb.TheVariants as on
 use Rattle.script_parse.specs.declared.form.IntoVerb.{IntoVerb}
@@ -45,14 +45,14 @@ seen_form (forms.Valued kind name minus digits) =
 seen_form (forms.Thread name) = language.Thread name.now
 seen_form (forms.On verb object) = language.On (seen_on verb) object.now
 seen_form (forms.Into verb reg object) = language.Into (seen_into verb) reg object.now
-seen_form (forms.Write var value) = language.Write var.now (expression value)
-seen_form (forms.Add reg var value) = language.Add reg var.now (expression value)
-seen_form (forms.Cas reg var old new) = language.Cas reg var.now (expression old) (expression new)
+seen_form (forms.Write var value) = language.Write var.now (spelled_tree value)
+seen_form (forms.Add reg var value) = language.Add reg var.now (spelled_tree value)
+seen_form (forms.Cas reg var old new) = language.Cas reg var.now (spelled_tree old) (spelled_tree new)
 seen_form (forms.Wait cond mutex) = language.Wait cond.now mutex.now
 seen_form forms.Yield = language.Yield
-seen_form (forms.Assert test) = language.Assert (expression test)
-seen_form (forms.Set reg value) = language.Set reg (expression value)
-seen_form (forms.If test) = language.If (expression test)
-seen_form (forms.While test) = language.While (expression test)
+seen_form (forms.Assert test) = language.Assert (spelled_tree test)
+seen_form (forms.Set reg value) = language.Set reg (spelled_tree value)
+seen_form (forms.If test) = language.If (spelled_tree test)
+seen_form (forms.While test) = language.While (spelled_tree test)
 seen_form forms.End = language.End
 seen_form forms.Else = language.Else

@@ -3,7 +3,7 @@
 ghost use Rattle.std.specs.Prelude.{◌≡◌, ◌∷◌, IfOk, OnOk, Some, None, position};
 ghost use Rattle.std.specs.Option.{option_map};
 ghost use Rattle.std.specs.Str.{bytes_eq};
-ghost use Rattle.script_tree.specs.Seen.{expression as tree};
+ghost use Rattle.script_parse.specs.Spellings.{spelled_tree as tree};
 ghost use Rattle.script_tree.specs.Expressions as language;
 ghost use Rattle.script_parse.specs.Seen.{seen, all_seen};
 ghost use Rattle.script_parse.specs.Registers.{register_in};
@@ -11,9 +11,9 @@ ghost use Rattle.script_parse.specs.Machine.{operator_in, expression_in, open_ex
 ghost use Rattle.script_parse.specs.Machine as machine;
 ghost use Rattle.script_parse.specs.Frames.{seen_frame, seen_frames, seen_pending};
 
-use crate::number::saturated_number;
+use crate::spelling::Spelling;
 use crate::token::Token;
-use script_tree::{Expr, Op};
+use script_tree::Op;
 use std::alloc::{AllocError as NoMemory, Global};
 
 const REGISTERS: [&[u8]; 16] = [
@@ -24,19 +24,19 @@ const REGISTERS: [&[u8]; 16] = [
 /// What waits for what follows: a parenthesis for its end, an operator for its part or its right
 /// part.
 #[derive(Drop)]
-pub enum Frame {
+pub enum Frame<'a> {
     Paren,
     Not,
     Minus,
-    Two(Op, Expr),
+    Two(Op, Spelling<'a>),
 }
 
 /// What was read of an expression: what waits, the innermost last, and the value that was read
 /// last, if one was.
 #[derive(Drop)]
-pub struct Pending {
-    frames: Vec<Frame>,
-    value: Option<Expr>,
+pub struct Pending<'a> {
+    frames: Vec<Frame<'a>>,
+    value: Option<Spelling<'a>>,
 }
 
 /// Whether a word or a symbol is this text.
@@ -118,7 +118,7 @@ fn left_level(op: Op) -> u32
 }
 
 /// Whether what waits takes a part of this level.
-fn takes_part(frame: &Frame, level: u32) -> bool
+fn takes_part(frame: &Frame<'_>, level: u32) -> bool
     ensures { result ≡ machine.takes_part level (seen_frame frame.now) }
 {
     match frame {
@@ -129,22 +129,23 @@ fn takes_part(frame: &Frame, level: u32) -> bool
 }
 
 /// What waited, with its part.
-fn around(alloc: Global, frame: Frame, part: Expr) -> Result<Expr, NoMemory>
-    ensures { IfOk result (λ e. tree e ≡ machine.around (seen_frame frame) (tree part)) }
+fn around<'a>(alloc: Global, frame: Frame<'a>, part: Spelling<'a>) -> Result<Spelling<'a>, NoMemory>
+    ensures { IfOk result (λ e.
+        tree e ≡ machine.around (seen_frame frame.entry) (tree part.entry)) }
 {
     match frame {
         Frame::Paren => Ok(part),
-        Frame::Not => Ok(Expr::Not(Box::new(alloc, part)?)),
-        Frame::Minus => Ok(Expr::Minus(Box::new(alloc, part)?)),
+        Frame::Not => Ok(Spelling::Not(Box::new(alloc, part)?)),
+        Frame::Minus => Ok(Spelling::Minus(Box::new(alloc, part)?)),
         Frame::Two(op, left) => {
             let left = Box::new(alloc, left)?;
             let right = Box::new(alloc, part)?;
-            Ok(Expr::Two(op, left, right))
+            Ok(Spelling::Two(op, left, right))
         }
     }
 }
 
-fn is_taken(frames: &[Frame], level: u32) -> bool
+fn is_taken(frames: &[Frame<'_>], level: u32) -> bool
     ensures { result ≡ machine.is_taken level (seen_frames frames.now) }
 {
     match frames.last() {
@@ -154,10 +155,15 @@ fn is_taken(frames: &[Frame], level: u32) -> bool
 }
 
 /// The value with all that waits for it at this level or a stronger one.
-fn reduce(alloc: Global, level: u32, frames: &mut Vec<Frame>, value: Expr) -> Result<Expr, NoMemory>
+fn reduce<'a>(
+    alloc: Global,
+    level: u32,
+    frames: &mut Vec<Frame<'a>>,
+    value: Spelling<'a>,
+) -> Result<Spelling<'a>, NoMemory>
     ensures { OnOk result
         (IfOk result (λ e.
-        machine.reduced_value level (seen_frames frames.old.items) (tree value)
+        machine.reduced_value level (seen_frames frames.old.items) (tree value.entry)
         ≡ (seen_frames frames.new.items, tree e))) }
 {
     let mut value = value;
@@ -171,7 +177,7 @@ fn reduce(alloc: Global, level: u32, frames: &mut Vec<Frame>, value: Expr) -> Re
 }
 
 /// Whether a comparison waits there for its right part, where another comparison begins.
-fn chains(op: Op, frames: &[Frame]) -> bool
+fn chains(op: Op, frames: &[Frame<'_>]) -> bool
     ensures { result ≡ machine.chains op (seen_frames frames.now) }
 {
     match frames.last() {
@@ -180,9 +186,10 @@ fn chains(op: Op, frames: &[Frame]) -> bool
     }
 }
 
-fn waiting(mut frames: Vec<Frame>, frame: Frame) -> Result<Pending, NoMemory>
+fn waiting<'a>(mut frames: Vec<Frame<'a>>, frame: Frame<'a>) -> Result<Pending<'a>, NoMemory>
     ensures { IfOk result (λ p.
-        seen_pending p ≡ open_expression (seen_frame frame ∷ seen_frames frames.items) None) }
+        seen_pending p
+        ≡ open_expression (seen_frame frame.entry ∷ seen_frames frames.entry.items) None) }
 {
     frames.push(frame)?;
     Ok(Pending {
@@ -192,21 +199,24 @@ fn waiting(mut frames: Vec<Frame>, frame: Frame) -> Result<Pending, NoMemory>
 }
 
 /// A token where a value may begin.
-fn with_value_token(frames: Vec<Frame>, token: &Token<'_>) -> Result<Option<Pending>, NoMemory>
+fn with_value_token<'a>(
+    frames: Vec<Frame<'a>>,
+    token: &Token<'a>,
+) -> Result<Option<Pending<'a>>, NoMemory>
     ensures { IfOk result (λ next.
         option_map seen_pending next
-        ≡ machine.with_value_token (seen_frames frames.items) (seen token.now)) }
+        ≡ machine.with_value_token (seen_frames frames.entry.items) (seen token.now)) }
 {
     match token {
         Token::Number(digits) => Ok(Some(Pending {
             frames,
-            value: Some(Expr::Number(saturated_number(digits))),
+            value: Some(Spelling::Number(digits)),
         })),
         Token::Word(word) => match register_of(word) {
             None => Ok(None),
             Some(reg) => Ok(Some(Pending {
                 frames,
-                value: Some(Expr::Reg(reg)),
+                value: Some(Spelling::Reg(reg)),
             })),
         },
         Token::Symbol(signs) => {
@@ -224,15 +234,15 @@ fn with_value_token(frames: Vec<Frame>, token: &Token<'_>) -> Result<Option<Pend
 }
 
 /// An operator behind a value.
-fn joined(
+fn joined<'a>(
     alloc: Global,
-    mut frames: Vec<Frame>,
-    value: Expr,
+    mut frames: Vec<Frame<'a>>,
+    value: Spelling<'a>,
     op: Op,
-) -> Result<Option<Pending>, NoMemory>
+) -> Result<Option<Pending<'a>>, NoMemory>
     ensures { IfOk result (λ next.
         option_map seen_pending next
-        ≡ machine.joined_by (Some op) (seen_frames frames.items) (tree value)) }
+        ≡ machine.joined_by (Some op) (seen_frames frames.entry.items) (tree value.entry)) }
 {
     let left = reduce(alloc, left_level(op), &mut frames, value)?;
     if chains(op, &frames) {
@@ -242,9 +252,14 @@ fn joined(
 }
 
 /// A `)` behind a value.
-fn closed(alloc: Global, mut frames: Vec<Frame>, value: Expr) -> Result<Option<Pending>, NoMemory>
+fn closed<'a>(
+    alloc: Global,
+    mut frames: Vec<Frame<'a>>,
+    value: Spelling<'a>,
+) -> Result<Option<Pending<'a>>, NoMemory>
     ensures { IfOk result (λ next.
-        option_map seen_pending next ≡ machine.closed_by (seen_frames frames.items) (tree value)) }
+        option_map seen_pending next
+        ≡ machine.closed_by (seen_frames frames.entry.items) (tree value.entry)) }
 {
     let value = reduce(alloc, 0, &mut frames, value)?;
     match frames.pop() {
@@ -257,15 +272,15 @@ fn closed(alloc: Global, mut frames: Vec<Frame>, value: Expr) -> Result<Option<P
 }
 
 /// A token behind a value.
-fn behind(
+fn behind<'a>(
     alloc: Global,
-    frames: Vec<Frame>,
-    value: Expr,
-    token: &Token<'_>,
-) -> Result<Option<Pending>, NoMemory>
+    frames: Vec<Frame<'a>>,
+    value: Spelling<'a>,
+    token: &Token<'a>,
+) -> Result<Option<Pending<'a>>, NoMemory>
     ensures { IfOk result (λ next.
         option_map seen_pending next
-        ≡ machine.behind (seen_frames frames.items) (tree value) (seen token.now)) }
+        ≡ machine.behind (seen_frames frames.entry.items) (tree value.entry) (seen token.now)) }
 {
     let Token::Symbol(signs) = token else {
         return Ok(None);
@@ -279,12 +294,12 @@ fn behind(
     }
 }
 
-impl Pending {
+impl<'a> Pending<'a> {
     /// Takes the next token. None where no expression goes on with it.
-    fn take(self, alloc: Global, token: &Token<'_>) -> Result<Option<Pending>, NoMemory>
+    fn take(self, alloc: Global, token: &Token<'a>) -> Result<Option<Pending<'a>>, NoMemory>
         ensures { IfOk result (λ next.
             option_map seen_pending next
-            ≡ machine.token_step (seen_pending self) (seen token.now)) }
+            ≡ machine.token_step (seen_pending self.entry) (seen token.now)) }
     {
         let Pending { frames, value } = self;
         match value {
@@ -294,9 +309,9 @@ impl Pending {
     }
 
     /// The expression, where the last token was read.
-    fn finish(self, alloc: Global) -> Result<Option<Expr>, NoMemory>
+    fn finish(self, alloc: Global) -> Result<Option<Spelling<'a>>, NoMemory>
         ensures { IfOk result (λ found.
-            option_map tree found ≡ machine.whole_expression (seen_pending self)) }
+            option_map tree found ≡ machine.whole_expression (seen_pending self.entry)) }
     {
         let Pending { mut frames, value } = self;
         let Some(value) = value else {
@@ -311,8 +326,11 @@ impl Pending {
     }
 }
 
-/// The expression that tokens spell. A number above the greatest i64 is read as that.
-pub fn expression_of(alloc: Global, tokens: &[Token<'_>]) -> Result<Option<Expr>, NoMemory>
+/// The expression that tokens spell.
+pub fn expression_of<'a>(
+    alloc: Global,
+    tokens: &[Token<'a>],
+) -> Result<Option<Spelling<'a>>, NoMemory>
     ensures { IfOk result (λ found.
         option_map tree found ≡ expression_in (all_seen tokens.now)) }
 {

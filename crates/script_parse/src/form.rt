@@ -5,14 +5,16 @@ ghost use Rattle.std.specs.List.{position};
 ghost use Rattle.std.specs.Option.{option_map};
 ghost use Rattle.script_parse.specs.Seen.{seen, all_seen};
 ghost use Rattle.script_parse.specs.SeenForms.{seen_on, seen_into, seen_form};
+ghost use Rattle.script_tree.specs.Forms.{Assert, If, While};
+ghost use Rattle.script_parse.specs.Machine.{expression_in};
 ghost use Rattle.script_parse.specs.Saying as saying;
 
 use crate::declaration::{declared_form, kind_of};
 use crate::expression::{expression_of, register_of, says};
+use crate::spelling::Spelling;
 use crate::token::Token;
 use crate::verb::{into_verb_of, into_verb_since, on_verb_of, on_verb_since};
 use pct_ask::{NameKind, is_lawful_name};
-use script_tree::Expr;
 use std::alloc::{AllocError as NoMemory, Global};
 
 /// A statement on one object.
@@ -69,18 +71,18 @@ pub enum Form<'a> {
     },
     Write {
         var: &'a [u8],
-        value: Expr,
+        value: Spelling<'a>,
     },
     Add {
         reg: u32,
         var: &'a [u8],
-        value: Expr,
+        value: Spelling<'a>,
     },
     Cas {
         reg: u32,
         var: &'a [u8],
-        old: Expr,
-        new: Expr,
+        old: Spelling<'a>,
+        new: Spelling<'a>,
     },
     Wait {
         cond: &'a [u8],
@@ -88,17 +90,17 @@ pub enum Form<'a> {
     },
     Yield,
     Assert {
-        test: Expr,
+        test: Spelling<'a>,
     },
     Set {
         reg: u32,
-        value: Expr,
+        value: Spelling<'a>,
     },
     If {
-        test: Expr,
+        test: Spelling<'a>,
     },
     While {
-        test: Expr,
+        test: Spelling<'a>,
     },
     End,
     Else,
@@ -248,8 +250,8 @@ fn cas_pair<'a>(
     alloc: Global,
     reg: u32,
     var: &'a [u8],
-    old: &[Token<'_>],
-    new: &[Token<'_>],
+    old: &[Token<'a>],
+    new: &[Token<'a>],
 ) -> Result<Option<Form<'a>>, NoMemory>
     ensures { IfOk result (λ found.
         option_map seen_form found
@@ -268,7 +270,7 @@ fn cas_parts<'a>(
     alloc: Global,
     reg: u32,
     var: &'a [u8],
-    values: &[Token<'_>],
+    values: &[Token<'a>],
 ) -> Result<Option<Form<'a>>, NoMemory>
     ensures { IfOk result (λ found.
         option_map seen_form found
@@ -324,6 +326,36 @@ fn set_form<'a>(alloc: Global, tokens: &[Token<'a>]) -> Result<Option<Form<'a>>,
     }
 }
 
+fn assert_form<'a>(alloc: Global, tokens: &[Token<'a>]) -> Result<Option<Form<'a>>, NoMemory>
+    ensures { IfOk result (λ found.
+        option_map seen_form found ≡ option_map Assert (expression_in (all_seen tokens.now))) }
+{
+    match expression_of(alloc, tokens)? {
+        None => Ok(None),
+        Some(test) => Ok(Some(Form::Assert { test })),
+    }
+}
+
+fn if_form<'a>(alloc: Global, tokens: &[Token<'a>]) -> Result<Option<Form<'a>>, NoMemory>
+    ensures { IfOk result (λ found.
+        option_map seen_form found ≡ option_map If (expression_in (all_seen tokens.now))) }
+{
+    match expression_of(alloc, tokens)? {
+        None => Ok(None),
+        Some(test) => Ok(Some(Form::If { test })),
+    }
+}
+
+fn while_form<'a>(alloc: Global, tokens: &[Token<'a>]) -> Result<Option<Form<'a>>, NoMemory>
+    ensures { IfOk result (λ found.
+        option_map seen_form found ≡ option_map While (expression_in (all_seen tokens.now))) }
+{
+    match expression_of(alloc, tokens)? {
+        None => Ok(None),
+        Some(test) => Ok(Some(Form::While { test })),
+    }
+}
+
 /// The forms with an expression, and the rest.
 fn other_form<'a>(
     alloc: Global,
@@ -343,11 +375,11 @@ fn other_form<'a>(
     } else if says(word, b"set") {
         set_form(alloc, tokens)
     } else if says(word, b"assert") {
-        Ok(expression_of(alloc, tokens)?.map(|test| Form::Assert { test }))
+        assert_form(alloc, tokens)
     } else if says(word, b"if") {
-        Ok(expression_of(alloc, tokens)?.map(|test| Form::If { test }))
+        if_form(alloc, tokens)
     } else if says(word, b"while") {
-        Ok(expression_of(alloc, tokens)?.map(|test| Form::While { test }))
+        while_form(alloc, tokens)
     } else {
         Ok(quiet_form(version, word, tokens))
     }

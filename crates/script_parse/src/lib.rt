@@ -12,6 +12,7 @@ mod number;
 mod parsing;
 mod range;
 mod reader;
+mod spelling;
 mod statement;
 mod token;
 mod verb;

@@ -1,11 +1,10 @@
 //! The numbers that digits stand for.
 
-ghost use Rattle.std.specs.Prelude.{◌≡◌, ◌^◌, true, min, Some};
+ghost use Rattle.std.specs.Prelude.{◌≡◌, ◌<◌, ◌^◌, true, min, pos, Some};
 ghost use Rattle.std.specs.Char.{digit_value};
 ghost use Rattle.std.specs.Str.Parse.{digits_value};
 ghost use Rattle.script_tree.specs.Forms as language;
 ghost use Rattle.script_tree.specs.Ranges as ranges;
-ghost use Rattle.script_parse.specs.Numbers.{saturated_number};
 ghost use Rattle.script_parse.specs.SeenForms.{seen_value_tokens};
 
 use pct_ask::NameKind;
@@ -28,16 +27,12 @@ pub fn number_of(digits: &[u8]) -> u128
     value
 }
 
-/// The number that digits stand for, and the greatest i64 where it is greater.
-pub fn saturated_number(digits: &[u8]) -> i64
-    ensures { result ≡ saturated_number digits.now }
+/// The number that digits stand for, where it isn't above the greatest i64.
+pub fn small_number(digits: &[u8]) -> i64
+    requires { digits_value 10 digits.now < 2 ^ 63 }
+    ensures { result ≡ pos (digits_value 10 digits.now) }
 {
-    let number = number_of(digits);
-    if number < 1 << 63 {
-        number as i64
-    } else {
-        i64::MAX
-    }
+    number_of(digits) as i64
 }
 
 /// The first value that digits stand for, with a `-` before them or without.
@@ -46,7 +41,7 @@ pub fn first_value(kind: NameKind, minus: bool, digits: &[u8]) -> i64
     ensures { language.value_in kind (seen_value_tokens minus digits.now) ≡ Some result }
 {
     if !minus {
-        return saturated_number(digits);
+        return number_of(digits) as i64;
     }
     let number = number_of(digits);
     if number < 1 << 63 {

@@ -111,16 +111,16 @@ fn read_form(
     number: u32,
     last: bool,
     tokens: &[Token<'_>],
-    form: Form<'_>,
+    form: &Form<'_>,
 ) -> Result<Step, NoMemory>
-    requires { form_in reader.version (all_seen tokens.now) ≡ Some (seen_form form) }
+    requires { form_in reader.version (all_seen tokens.now) ≡ Some (seen_form form.now) }
     ensures { IfOk result (λ step.
         seen_step step
         ≡ reading.some_part
         (reading.tokens_taken (seen_reader reader) (place_ahead ahead.now) number last
         (Some (all_seen tokens.now)))) }
 {
-    match reader.fault_of(ahead, last, tokens, &form) {
+    match reader.fault_of(ahead, last, tokens, form) {
         Some(kind) => Ok(bad(State::Below(reader), kind)),
         None => Ok(Step::Next(State::Below(reader.take(alloc, ahead, number, form)?))),
     }
@@ -146,7 +146,11 @@ fn read_below(
     }
     match form_of(alloc, reader.version(), tokens)? {
         None => Ok(bad(State::Below(reader), ScriptFault::BadStatement)),
-        Some(form) => read_form(alloc, reader, ahead, number, last, tokens, form),
+        Some(form) => {
+            let step = read_form(alloc, reader, ahead, number, last, tokens, &form);
+            drop(form);
+            step
+        }
     }
 }
 

@@ -12,7 +12,10 @@ ghost use Rattle.script_parse.specs.Ahead.{place_ahead};
 ghost use Rattle.script_parse.specs.Seen.{all_seen};
 ghost use Rattle.script_parse.specs.SeenForms.{seen_form};
 ghost use Rattle.script_parse.specs.SeenParts.{seen_opening, seen_reader};
+ghost use Rattle.script_parse.specs.Spellings.{spelled_tree};
+ghost use Rattle.script_parse.specs.Part.{If, While};
 ghost use Rattle.script_parse.specs.Lawful.{names_lawful, value_lawful};
+ghost use Rattle.script_parse.specs.Lawful.{HasSmallNumbers, NumbersAreSmall};
 ghost use Rattle.script_parse.specs.Reading as reading;
 
 use crate::ahead::Ahead;
@@ -21,6 +24,7 @@ use crate::blocks::{OpenBlock, Opening, depth, is_closed, is_in_if, open_block, 
 use crate::form::Form;
 use crate::number::first_value;
 use crate::range::is_out_of_range;
+use crate::spelling::{Spelling, expression_at};
 use crate::statement::{into_kind, on_kind, place_in, statement_on};
 use crate::token::Token;
 use pct_ask::{NameKind, Names, NumberList};
@@ -221,40 +225,42 @@ impl Reader {
         alloc: Global,
         ahead: &Ahead<'_>,
         line: u32,
-        form: Form<'_>,
+        form: &Form<'_>,
     ) -> Result<Reader, NoMemory>
-        requires lawful { names_lawful (seen_form form) ≡ true }
-        requires fits { value_lawful (seen_form form) ≡ true }
+        requires lawful { names_lawful (seen_form form.now) ≡ true }
+        requires fits { value_lawful (seen_form form.now) ≡ true }
+        requires small { NumbersAreSmall (seen_form form.now) }
         requires fresh { faults.declares_again (reading.so_far_in (seen_reader self))
-            (seen_form form)
+            (seen_form form.now)
             ≡ false }
-        requires room { faults.is_too_many (reading.so_far_in (seen_reader self)) (seen_form form)
+        requires room { faults.is_too_many (reading.so_far_in (seen_reader self))
+            (seen_form form.now)
             ≡ false }
         ensures { IfOk result (λ r.
             seen_reader r
             ≡ reading.with_form (seen_reader self) (place_ahead ahead.now) line
-            (seen_form form.entry)) }
+            (seen_form form.now)) }
     {
         match form {
-            Form::Plain { kind, name } => self.with_name(alloc, kind, name),
+            Form::Plain { kind, name } => self.with_name(alloc, *kind, name),
             Form::Valued {
                 kind,
                 name,
                 minus,
                 digits,
             } => {
-                let value = first_value(kind, minus, digits);
-                self.with_name(alloc, kind, name)?
-                    .with_first_value(kind, value)
+                let value = first_value(*kind, *minus, digits);
+                self.with_name(alloc, *kind, name)?
+                    .with_first_value(*kind, value)
             }
             Form::Thread { name } => self
                 .with_name(alloc, NameKind::Thread, name)?
                 .with_block(alloc, Opening::Thread { line }),
-            Form::If { test } => self.with_block(alloc, Opening::If { line, test }),
-            Form::While { test } => self.with_block(alloc, Opening::While { line, test }),
+            Form::If { test } => self.with_if(alloc, line, test),
+            Form::While { test } => self.with_while(alloc, line, test),
             Form::End => self.with_end(line),
             Form::Else => self.with_else(alloc, line),
-            form => self.with_statement(ahead, line, form),
+            form => self.with_statement(alloc, ahead, line, form),
         }
     }
 
@@ -288,6 +294,26 @@ impl Reader {
     {
         open_block(alloc, &mut self.open_blocks, opening)?;
         Ok(self)
+    }
+
+    fn with_if(self, alloc: Global, line: u32, test: &Spelling<'_>) -> Result<Reader, NoMemory>
+        requires { HasSmallNumbers (spelled_tree test.now) }
+        ensures { IfOk result (λ r.
+            seen_reader r
+            ≡ reading.with_block (seen_reader self) (If line (spelled_tree test.now))) }
+    {
+        let test = expression_at(alloc, test)?;
+        self.with_block(alloc, Opening::If { line, test })
+    }
+
+    fn with_while(self, alloc: Global, line: u32, test: &Spelling<'_>) -> Result<Reader, NoMemory>
+        requires { HasSmallNumbers (spelled_tree test.now) }
+        ensures { IfOk result (λ r.
+            seen_reader r
+            ≡ reading.with_block (seen_reader self) (While line (spelled_tree test.now))) }
+    {
+        let test = expression_at(alloc, test)?;
+        self.with_block(alloc, Opening::While { line, test })
     }
 
     /// Closes the innermost block.
@@ -345,16 +371,18 @@ impl Reader {
     /// Takes a line that opens and closes no block, with the statement that it has, if any.
     fn with_statement(
         self,
+        alloc: Global,
         ahead: &Ahead<'_>,
         line: u32,
-        form: Form<'_>,
+        form: &Form<'_>,
     ) -> Result<Reader, NoMemory>
+        requires { NumbersAreSmall (seen_form form.now) }
         ensures { IfOk result (λ r.
             seen_reader r
             ≡ reading.part_with_statement (seen_reader self)
-            (reading.statement_on self.names (place_ahead ahead.now) line (seen_form form.entry))) }
+            (reading.statement_on self.names (place_ahead ahead.now) line (seen_form form.now))) }
     {
-        match statement_on(&self.names, ahead, line, form) {
+        match statement_on(alloc, &self.names, ahead, line, form)? {
             None => Ok(self),
             Some(stmt) => self.part_with_statement(stmt),
         }

@@ -1,18 +1,22 @@
 //! The statements that open and close no block.
 
-ghost use Rattle.std.specs.Prelude.{◌≡◌};
+ghost use Rattle.std.specs.Prelude.{◌≡◌, IfOk};
 ghost use Rattle.std.specs.Option.{option_map};
 ghost use Rattle.script_tree.specs.Forms as language;
+ghost use Rattle.script_tree.specs.Forms.{On, Into, Wait};
 ghost use Rattle.script_tree.specs.Seen.{expression, statement};
 ghost use Rattle.script_tree.specs.Trees as trees;
 ghost use Rattle.script_parse.specs.SeenForms.{seen_on, seen_into, seen_form};
 ghost use Rattle.script_parse.specs.Ahead.{place_ahead};
+ghost use Rattle.script_parse.specs.Lawful.{NumbersAreSmall};
 ghost use Rattle.script_parse.specs.Reading as reading;
 
 use crate::ahead::Ahead;
 use crate::form::{Form, IntoVerb, OnVerb};
+use crate::spelling::expression_at;
 use pct_ask::{NameKind, Names};
 use script_tree::{Expr, Stmt};
+use std::alloc::{AllocError as NoMemory, Global};
 
 /// The kind of the object that a statement is on.
 pub fn on_kind(verb: OnVerb) -> NameKind
@@ -122,6 +126,65 @@ fn into_statement(verb: IntoVerb, line: u32, reg: u32, place: u32) -> Stmt
     }
 }
 
+fn on_object(
+    names: &Names,
+    ahead: &Ahead<'_>,
+    line: u32,
+    verb: OnVerb,
+    object: &[u8],
+) -> Option<Stmt>
+    ensures { option_map statement result
+        ≡ reading.statement_on names.now (place_ahead ahead.now) line
+        (On (seen_on verb) object.now) }
+{
+    let place = place_in(names, ahead, on_kind(verb), object)?;
+    Some(on_statement(verb, line, place))
+}
+
+fn into_register(
+    names: &Names,
+    ahead: &Ahead<'_>,
+    line: u32,
+    verb: IntoVerb,
+    reg: u32,
+    object: &[u8],
+) -> Option<Stmt>
+    ensures { option_map statement result
+        ≡ reading.statement_on names.now (place_ahead ahead.now) line
+        (Into (seen_into verb) reg object.now) }
+{
+    let place = place_in(names, ahead, into_kind(verb), object)?;
+    Some(into_statement(verb, line, reg, place))
+}
+
+#[tactic(auto, using(script_tree::proofs::laws::SeenParts::seen_laws))]
+fn wait_statement(
+    names: &Names,
+    ahead: &Ahead<'_>,
+    line: u32,
+    cond: &[u8],
+    mutex: &[u8],
+) -> Option<Stmt>
+    ensures { option_map statement result
+        ≡ reading.statement_on names.now (place_ahead ahead.now) line (Wait cond.now mutex.now) }
+{
+    let cond = place_in(names, ahead, NameKind::Cond, cond)?;
+    let mutex = place_in(names, ahead, NameKind::Mutex, mutex)?;
+    Some(Stmt::Wait { line, cond, mutex })
+}
+
+#[tactic(auto, using(script_tree::proofs::laws::SeenParts::seen_laws))]
+fn add_statement(line: u32, reg: u32, var: u32, value: Expr) -> Stmt
+    ensures { statement result ≡ trees.Add line reg var (expression value) }
+{
+    Stmt::Add {
+        line,
+        reg,
+        var,
+        value,
+    }
+}
+
 #[tactic(auto, using(script_tree::proofs::laws::SeenParts::seen_laws))]
 fn cas_statement(line: u32, reg: u32, var: u32, old: Expr, new: Expr) -> Stmt
     ensures { statement result ≡ trees.Cas line reg var (expression old) (expression new) }
@@ -138,44 +201,56 @@ fn cas_statement(line: u32, reg: u32, var: u32, old: Expr, new: Expr) -> Stmt
 /// The statement on a line, where the names that it uses are known and it opens and closes no
 /// block.
 #[tactic(auto, using(script_tree::proofs::laws::SeenParts::seen_laws))]
-pub fn statement_on(names: &Names, ahead: &Ahead<'_>, line: u32, form: Form<'_>) -> Option<Stmt>
-    ensures { option_map statement result
-        ≡ reading.statement_on names.now (place_ahead ahead.now) line (seen_form form.entry) }
+pub fn statement_on(
+    alloc: Global,
+    names: &Names,
+    ahead: &Ahead<'_>,
+    line: u32,
+    form: &Form<'_>,
+) -> Result<Option<Stmt>, NoMemory>
+    requires { NumbersAreSmall (seen_form form.now) }
+    ensures { IfOk result (λ found.
+        option_map statement found
+        ≡ reading.statement_on names.now (place_ahead ahead.now) line (seen_form form.now)) }
 {
     match form {
-        Form::On { verb, object } => {
-            let place = place_in(names, ahead, on_kind(verb), object)?;
-            Some(on_statement(verb, line, place))
-        }
+        Form::On { verb, object } => Ok(on_object(names, ahead, line, *verb, object)),
         Form::Into { verb, reg, object } => {
-            let place = place_in(names, ahead, into_kind(verb), object)?;
-            Some(into_statement(verb, line, reg, place))
+            Ok(into_register(names, ahead, line, *verb, *reg, object))
         }
         Form::Write { var, value } => {
-            let var = place_in(names, ahead, NameKind::Var, var)?;
-            Some(Stmt::Write { line, var, value })
+            let Some(var) = place_in(names, ahead, NameKind::Var, var) else {
+                return Ok(None);
+            };
+            let value = expression_at(alloc, value)?;
+            Ok(Some(Stmt::Write { line, var, value }))
         }
         Form::Add { reg, var, value } => {
-            let var = place_in(names, ahead, NameKind::Var, var)?;
-            Some(Stmt::Add {
-                line,
-                reg,
-                var,
-                value,
-            })
+            let Some(var) = place_in(names, ahead, NameKind::Var, var) else {
+                return Ok(None);
+            };
+            let value = expression_at(alloc, value)?;
+            Ok(Some(add_statement(line, *reg, var, value)))
         }
         Form::Cas { reg, var, old, new } => {
-            let var = place_in(names, ahead, NameKind::Var, var)?;
-            Some(cas_statement(line, reg, var, old, new))
+            let Some(var) = place_in(names, ahead, NameKind::Var, var) else {
+                return Ok(None);
+            };
+            let old = expression_at(alloc, old)?;
+            let new = expression_at(alloc, new)?;
+            Ok(Some(cas_statement(line, *reg, var, old, new)))
         }
-        Form::Wait { cond, mutex } => {
-            let cond = place_in(names, ahead, NameKind::Cond, cond)?;
-            let mutex = place_in(names, ahead, NameKind::Mutex, mutex)?;
-            Some(Stmt::Wait { line, cond, mutex })
+        Form::Wait { cond, mutex } => Ok(wait_statement(names, ahead, line, cond, mutex)),
+        Form::Yield => Ok(Some(Stmt::Yield { line })),
+        Form::Assert { test } => {
+            let test = expression_at(alloc, test)?;
+            Ok(Some(Stmt::Assert { line, test }))
         }
-        Form::Yield => Some(Stmt::Yield { line }),
-        Form::Assert { test } => Some(Stmt::Assert { line, test }),
-        Form::Set { reg, value } => Some(Stmt::Set { line, reg, value }),
-        _ => None,
+        Form::Set { reg, value } => {
+            let value = expression_at(alloc, value)?;
+            let reg = *reg;
+            Ok(Some(Stmt::Set { line, reg, value }))
+        }
+        _ => Ok(None),
     }
 }

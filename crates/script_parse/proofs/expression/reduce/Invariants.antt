@@ -1,5 +1,5 @@
 use Rattle.std.proofs.Common.{◌≡◌, length}
-use Rattle.script_tree.specs.Seen.{expression as tree}
+use Rattle.script_parse.specs.Spellings.{spelled_tree as tree}
 use Rattle.script_parse.specs.Machine.{reduced_value}
 use Rattle.script_parse.specs.Frames.{seen_frames}
 use Rattle.script_parse.proofs.expression.reduce.Given as goal
