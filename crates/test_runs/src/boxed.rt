@@ -3,6 +3,7 @@ ghost use Rattle.std.specs.Prelude.{◌≡◌, ◌<◌, ◌≤◌, ◌^◌, leng
 ghost use Rattle.worker_run.specs.Samples.{sample_pending};
 
 use crate::deals::deal_of;
+use crate::ports::is_wrong_count;
 use crate::samples::Sample;
 use crate::steps::{FAILED, LOST_UPDATE};
 use body_kit::{BoxedRun, KitError, run_boxed};
@@ -80,16 +81,11 @@ fn is_no_order(run: &Result<BoxedRun, KitError>, place: u32) -> bool {
     matches!(run, Err(KitError::NotAnOrder { at }) if *at == place)
 }
 
-/// Whether an order of so many threads was refused beside so many bodies.
-fn is_wrong_count(run: &Result<BoxedRun, KitError>, had: u32, named: u32) -> bool {
-    matches!(run, Err(KitError::WrongCount { bodies, order }) if *bodies == had && *order == named)
-}
-
 #[test]
 fn refuses_boxed_bodies(rt: HostRuntime) -> Result<(), Fail> {
     let run = run_samples(&rt, rt.alloc(), &[0, 0, 1], &[])?;
     assert!(rt; is_no_order(&run, 1));
     let run = run_samples(&rt, rt.alloc(), &[0, 1], &[])?;
-    assert!(rt; is_wrong_count(&run, 3, 2));
+    assert!(rt; matches!(&run, Err(error) if is_wrong_count(error, 3, 2)));
     Ok(())
 }

@@ -135,7 +135,7 @@ fn counts_in_order(rt: HostRuntime) -> Result<(), Fail> {
 }
 
 /// Whether a kit is refused with these counts.
-fn is_wrong_count(error: &KitError, had: u32, named: u32) -> bool {
+pub(crate) fn is_wrong_count(error: &KitError, had: u32, named: u32) -> bool {
     matches!(error, KitError::WrongCount { bodies, order } if *bodies == had && *order == named)
 }
 

@@ -17,21 +17,9 @@ fn post<P: Policy>(rt: &impl Abort, book: &mut TurnBook<P>, thread: u32, post: P
     match post.ask {
         Some(ask) => {
             assert!(rt; fits(book.deal(), &ask));
-            book.post(
-                thread,
-                Post {
-                    ask: Some(ask),
-                    line: post.line,
-                },
-            );
+            book.post(thread, post);
         }
-        None => book.post(
-            thread,
-            Post {
-                ask: None,
-                line: post.line,
-            },
-        ),
+        None => book.post(thread, post),
     }
 }
 
