@@ -94,7 +94,11 @@ pub fn steps_of<R: Threads + Wait + Sync>(
     let Ok(script) = parse(alloc, bytes) else {
         return Ok(None);
     };
-    let code = compile(alloc, &script)?;
-    let deal = script.deal(alloc)?;
-    Ok(Some(run_all(rt, alloc, &code, &deal, mode, times)?))
+    let code = compile(alloc, &script);
+    let deal = script.deal(alloc);
+    drop(script);
+    let (code, deal) = (code?, deal?);
+    let steps = run_all(rt, alloc, &code, &deal, mode, times);
+    drop(code);
+    Ok(Some(steps?))
 }
