@@ -2,16 +2,16 @@
 use Rattle.std.specs.Prelude.{◌==◌, codes, decimal, map}
 use Rattle.std.specs.List.{All, join_with_byte}
 use Rattle.std.proofs.Common.{◌≡◌, ℕ, ◌+◌, ◌*◌, ◌≤◌, true, List, [], ◌∷◌, ◌++◌, length, refl, sym}
-use Rattle.std.proofs.Common.{◌∙◌, ap, arith, append_assoc, append-nil, length-append}
+use Rattle.std.proofs.Common.{◌∙◌, ap, arith, append_assoc, length-append}
 use Rattle.std.proofs.lemmas.Fmt.{length-decimal-le}
 use Rattle.std.proofs.lemmas.List.Elements.{All-head, All-tail}
-use Rattle.std.proofs.lemmas.List.Concat.{flat_map-append}
 use Rattle.std.proofs.lemmas.List.Splits.{slice_split_at, join_with_byte-slice_split}
 use Rattle.pct_ask.specs.Words.{is_name}
 use Rattle.pct_ask.specs.NameLists.{NameLists, AreNames}
 use Rattle.pct_ask.specs.VerdictText.{NamedVerdict, thread_name, verdict_words, named_text}
 use Rattle.pct_ask.specs.VerdictText.{named_verdict, verdict_text, IsVerdictForm, HasNames}
 use Rattle.pct_ask.specs.declared.verdict.Verdict.{Verdict}
+use Rattle.pct_ask.proofs.laws.LineTexts.{text_of_lines-append}
 use Rattle.pct_ask.proofs.laws.Names.{thread-lawful}
 use Rattle.pct_ask.proofs.laws.NameParts.{name-short}
 use Rattle.pct_ask.proofs.laws.TextBytes.{HasNoEnd, no-end, no-end-append, no-end-by, high-by}
@@ -19,8 +19,9 @@ use Rattle.pct_ask.proofs.laws.TextBytes.{name-high, decimal-high, form-high}
 use Rattle.pct_ask.proofs.laws.TextSizes.{verdict-size, length-join, length-joined}
 use Rattle.rank_now.specs.declared.moment.Moment.{Moment}
 use Rattle.directive.specs.DirectiveText.{DirectiveText, low_line, moment_line, verdict_line}
-use Rattle.directive.specs.DirectiveText.{directive_lines, text_of_lines, directive_text}
+use Rattle.directive.specs.DirectiveText.{directive_lines, directive_text}
 use Rattle.pct_ask.specs.Pieces.{pieces_of}
+use Rattle.pct_ask.specs.Lines.{text_of_lines}
 use Rattle.directive.specs.Directive.{IsMoment, IsSound}
 
 -- the pieces of a text of lines
@@ -40,8 +41,7 @@ pub pieces-lines : (lines : List (List ℕ)) → HaveNoEnds lines
     → pieces_of (text_of_lines lines) ≡ pieces_of_lines lines
 pieces-lines [] h = refl
 pieces-lines (line ∷ lines) h =
-    ap pieces_of (append_assoc line (10 ∷ []) (text_of_lines lines))
-    ∙ slice_split_at (λ b. b == 10) line 10 (text_of_lines lines) h.0 refl
+    slice_split_at (λ b. b == 10) line 10 (text_of_lines lines) h.0 refl
     ∙ ap (λ ps. line ∷ ps) (pieces-lines lines h.1)
 
 -- some piece is first
@@ -59,7 +59,6 @@ joined-lines (line ∷ lines) =
     ap (join_with_byte 10) (sym some.2) ∙ joined-lines lines in
     ap (λ ps. join_with_byte 10 (line ∷ ps)) some.2
     ∙ ap (λ (x : List ℕ). line ++ (10 ∷ x)) more
-    ∙ sym (append_assoc line (10 ∷ []) (text_of_lines lines))
 
 -- a text of these pieces is that text
 pub text-pieces : (bytes : List ℕ) (lines : List (List ℕ)) → pieces_of bytes ≡ lines ++ [] ∷ []
@@ -124,12 +123,7 @@ lines_size (line ∷ lines) = length line + 1 + lines_size lines
 length-lines : (lines : List (List ℕ)) → length (text_of_lines lines) ≡ lines_size lines
 length-lines [] = refl
 length-lines (line ∷ lines) =
-    omega (
-      arith,
-      length-lines lines,
-      length-append (line ++ 10 ∷ []) (text_of_lines lines),
-      length-append line (10 ∷ []),
-    )
+    omega (arith, length-lines lines, length-append line (10 ∷ text_of_lines lines))
 
 low-size : (name : List ℕ) → is_name 1 name ≡ true → length (low_line name) ≤ 36
 low-size name lawful = omega (arith, name-short name lawful, length-join (codes "low") (name ∷ []))
@@ -182,9 +176,6 @@ directive-size names told valid sound =
 
 -- ---- as it is written
 
-lines-append : (a b : List (List ℕ)) → text_of_lines (a ++ b) ≡ text_of_lines a ++ text_of_lines b
-lines-append a b = flat_map-append (λ line. line ++ 10 ∷ []) a b
-
 pub whole-text : (names : NameLists) (told : DirectiveText) (events : List Moment)
     (none first low moments : List ℕ) (all : List ℕ)
     → first ≡ none ++ (codes "directive 1" ++ 10 ∷ []) → none ≡ []
@@ -193,22 +184,23 @@ pub whole-text : (names : NameLists) (told : DirectiveText) (events : List Momen
     → all ≡ moments ++ text_of_lines (verdict_line (verdict_text names told.verdict) ∷ [])
     → all ≡ directive_text names told
 whole-text names told events none first low moments all a b c d e f =
-    let more = λ (x : List ℕ). codes "directive 1" ++ (10 ∷ x) in
     f
     ∙ ap (λ m. m ++ text_of_lines (verdict_line (verdict_text names told.verdict) ∷ []))
     (d ∙ ap (λ es. low ++ text_of_lines (map (moment_line names) es)) e
     ∙ ap (λ l. l ++ text_of_lines (map (moment_line names) told.events))
     (c ∙ ap (λ p. p ++ text_of_lines (low_line (thread_name names told.low) ∷ []))
     (a ∙ ap (λ n. n ++ (codes "directive 1" ++ 10 ∷ [])) b)))
-    ∙ regrouped (codes "directive 1" ++ 10 ∷ []) (low_line (thread_name names told.low) ++ 10 ∷ [])
+    ∙ regrouped (codes "directive 1") (low_line (thread_name names told.low))
     (text_of_lines (map (moment_line names) told.events))
     (text_of_lines (verdict_line (verdict_text names told.verdict) ∷ []))
-    ∙ ap (λ t. (codes "directive 1" ++ 10 ∷ [])
-    ++ ((low_line (thread_name names told.low) ++ 10 ∷ []) ++ t))
-    (sym (lines-append (map (moment_line names) told.events)
+    ∙ ap (λ t. codes "directive 1" ++ 10 ∷ (low_line (thread_name names told.low) ++ 10 ∷ t))
+    (sym (text_of_lines-append (map (moment_line names) told.events)
     (verdict_line (verdict_text names told.verdict) ∷ [])))
   where
-    regrouped : (h l m v : List ℕ) → ((h ++ (l ++ [])) ++ m) ++ v ≡ h ++ (l ++ (m ++ v))
+    regrouped : (h l m v : List ℕ)
+        → (((h ++ 10 ∷ []) ++ (l ++ 10 ∷ [])) ++ m) ++ v ≡ h ++ 10 ∷ (l ++ 10 ∷ (m ++ v))
     regrouped h l m v =
-        ap (λ x. ((h ++ x) ++ m) ++ v) (append-nil l) ∙ ap (λ x. x ++ v) (append_assoc h l m)
-        ∙ append_assoc h (l ++ m) v ∙ ap (λ x. h ++ x) (append_assoc l m v)
+        append_assoc ((h ++ 10 ∷ []) ++ (l ++ 10 ∷ [])) m v
+        ∙ append_assoc (h ++ 10 ∷ []) (l ++ 10 ∷ []) (m ++ v)
+        ∙ append_assoc h (10 ∷ []) ((l ++ 10 ∷ []) ++ (m ++ v))
+        ∙ ap (λ t. h ++ 10 ∷ t) (append_assoc l (10 ∷ []) (m ++ v))

@@ -1,6 +1,7 @@
 -- A directive as plain data, and the text of it (this project).
 use Rattle.std.specs.Prelude.{ℕ, List, [], ◌∷◌, ◌++◌, map, codes, decimal}
-use Rattle.std.specs.List.{flat_map, join_with_byte}
+use Rattle.std.specs.List.{join_with_byte}
+use Rattle.pct_ask.specs.Lines.{text_of_lines}
 use Rattle.pct_ask.specs.NameLists.{NameLists}
 use Rattle.pct_ask.specs.VerdictText.{thread_name, verdict_text}
 use Rattle.pct_ask.specs.declared.verdict.Verdict.{Verdict}
@@ -34,10 +35,6 @@ abbrev pub directive_lines : NameLists → DirectiveText → List (List ℕ)
 directive_lines names told =
     codes "directive 1" ∷ low_line (thread_name names told.low)
     ∷ (map (moment_line names) told.events ++ verdict_line (verdict_text names told.verdict) ∷ [])
-
--- each line ends with an LF
-abbrev pub text_of_lines : List (List ℕ) → List ℕ
-text_of_lines lines = flat_map (λ line. line ++ 10 ∷ []) lines
 
 -- the text of a directive file: all its lines, each with its LF
 abbrev pub directive_text : NameLists → DirectiveText → List ℕ

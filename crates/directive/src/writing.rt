@@ -4,9 +4,10 @@ ghost use Rattle.std.specs.Prelude.{◌≡◌, ◌<◌, [], ◌∷◌, ◌++◌,
 ghost use Rattle.pct_ask.specs.VerdictText.{thread_name, verdict_text, named_verdict};
 ghost use Rattle.pct_ask.specs.VerdictText.{IsVerdictForm, HasNames};
 ghost use Rattle.pct_ask.specs.VerdictText.{IsWholeVerdict};
+ghost use Rattle.pct_ask.specs.Lines.{text_of_lines};
 ghost use Rattle.directive.specs.Answers.{plain_directive};
 ghost use Rattle.directive.specs.Directive.{IsDirective, IsMoment};
-ghost use Rattle.directive.specs.DirectiveText.{low_line, moment_line, verdict_line, text_of_lines};
+ghost use Rattle.directive.specs.DirectiveText.{low_line, moment_line, verdict_line};
 ghost use Rattle.directive.specs.DirectiveText.{directive_text};
 
 use crate::directive::Directive;

@@ -9,14 +9,14 @@ use Rattle.std.specs.Fmt.{digits}
 use Rattle.std.proofs.lemmas.Bool.{and_parts, and_from, leb-true}
 use Rattle.std.proofs.lemmas.List.{map-append, length-map}
 use Rattle.std.proofs.lemmas.List.Elements.{All-nil, All-cons}
-use Rattle.pct_ask.specs.Lines.{lines_of}
+use Rattle.pct_ask.specs.Lines.{lines_of, text_of_lines}
 use Rattle.script_tree.specs.Trees.{Statement, closed_at}
 use Rattle.script_tree.specs.ScriptText.{ScriptText}
 use Rattle.script_tree.specs.Forms.{MeantForm, End}
 use Rattle.script_tree.specs.Forms as forms
 use Rattle.script_tree.specs.Grammar.{Spells, Line, statement_lines, block_lines, thread_lines}
 use Rattle.script_tree.specs.Grammar.{all_thread_lines}
-use Rattle.script_tree.specs.Layout.{form_text, text_of_lines, meanings, forms_of, declared_forms}
+use Rattle.script_tree.specs.Layout.{form_text, meanings, forms_of, declared_forms}
 use Rattle.script_tree.specs.Layout.{header_text, layout}
 use Rattle.script_tree.specs.Renumbering.{IsShort, renumbered_script}
 use Rattle.script_tree.proofs.laws.Conjunctions.{all-append}

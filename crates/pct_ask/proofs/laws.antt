@@ -3,6 +3,8 @@
 pub mod Positions
 -- where a text is cut at every byte of one value
 pub mod Splits
+-- the text of lines that stand one behind another
+pub mod LineTexts
 -- what comes after a line that was cut off, and that something does
 pub mod TextPieces
 -- when two words are the same

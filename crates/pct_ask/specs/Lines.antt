@@ -1,5 +1,5 @@
 -- A text as lines.
-use Rattle.std.specs.Prelude.{ℕ, List, [], ◌∷◌, if◌then◌else◌, ◌==◌}
+use Rattle.std.specs.Prelude.{ℕ, List, [], ◌∷◌, ◌++◌, if◌then◌else◌, ◌==◌}
 
 -- the lines with one more byte at the front of the first
 abbrev pub onto_first : ℕ → List (List ℕ) → List (List ℕ)
@@ -11,3 +11,8 @@ onto_first b (line ∷ lines) = (b ∷ line) ∷ lines
 abbrev pub lines_of : List ℕ → List (List ℕ)
 lines_of [] = []
 lines_of (b ∷ bs) = if b == 10 then [] ∷ lines_of bs else onto_first b (lines_of bs)
+
+-- lines as a text: each of them ends with an LF
+abbrev pub text_of_lines : List (List ℕ) → List ℕ
+text_of_lines [] = []
+text_of_lines (line ∷ lines) = line ++ 10 ∷ text_of_lines lines

@@ -7,6 +7,8 @@ use Rattle.std.proofs.lemmas.List.{map-append, append-nil, at_drop_more, at_drop
 use Rattle.pct_ask.specs.Numbers.{number_text}
 use Rattle.pct_ask.specs.NameLists.{NameLists}
 use Rattle.pct_ask.specs.declared.names.NameKind.{NameKind}
+use Rattle.pct_ask.specs.Lines.{text_of_lines}
+use Rattle.pct_ask.proofs.laws.LineTexts.{text_of_lines-append}
 use Rattle.script_tree.specs.Seen.{block}
 use Rattle.script_tree.specs.ScriptParts.{thread_text}
 use Rattle.script_tree.specs.declared.stmt.ThreadText.{ThreadText}
@@ -14,11 +16,11 @@ use Rattle.script_tree.specs.ScriptText.{ScriptText}
 use Rattle.script_tree.specs.Forms.{MeantForm, kind_word}
 use Rattle.script_tree.specs.Forms as forms
 use Rattle.script_tree.specs.Grammar.{Line, thread_lines, all_thread_lines}
-use Rattle.script_tree.specs.Layout.{spaced_words, token_text, value_tokens, text_of_lines}
+use Rattle.script_tree.specs.Layout.{spaced_words, token_text, value_tokens}
 use Rattle.script_tree.specs.Layout.{form_text, plain_forms, valued_forms, declared_forms, meanings}
 use Rattle.script_tree.specs.Layout.{header_text, layout}
 use Rattle.script_tree.specs.Printing.{printed_lines, are_ranged}
-use Rattle.script_tree.proofs.PrintLemmas.{text_of_lines-append, printed-append, printed-more}
+use Rattle.script_tree.proofs.PrintLemmas.{printed-append, printed-more}
 use Rattle.script_tree.proofs.PrintLemmas.{inner_lines, one-printed, ranged-block}
 use Rattle.script_tree.proofs.PrintLemmas.{are_ranged-append}
 

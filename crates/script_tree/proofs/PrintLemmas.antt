@@ -15,15 +15,8 @@ use Rattle.script_tree.specs.Trees.{Statements, Closed, Then, statement_list, en
 use Rattle.script_tree.specs.Forms.{MeantForm}
 use Rattle.script_tree.specs.Forms as forms
 use Rattle.script_tree.specs.Grammar.{Line, statement_lines, block_lines}
-use Rattle.script_tree.specs.Layout.{text_of_lines, form_text, meanings}
+use Rattle.script_tree.specs.Layout.{form_text, meanings}
 use Rattle.script_tree.specs.Printing.{printed_lines, are_ranged, is_ranged_form}
-
-pub text_of_lines-append : (a b : List (List ℕ))
-    → text_of_lines (a ++ b) ≡ text_of_lines a ++ text_of_lines b
-text_of_lines-append [] b = refl
-text_of_lines-append (line ∷ a) b =
-    ap (λ text. line ++ 10 ∷ text) (text_of_lines-append a b)
-    ∙ sym (append_assoc line (10 ∷ text_of_lines a) (text_of_lines b))
 
 pub printed-append : (a b : List Line) → printed_lines (a ++ b) ≡ printed_lines a ++ printed_lines b
 printed-append [] b = refl

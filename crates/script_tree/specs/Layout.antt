@@ -5,6 +5,7 @@ use Rattle.pct_ask.specs.Numbers.{number_text}
 use Rattle.pct_ask.specs.Tokens.{Token, Word, Number, Symbol}
 use Rattle.pct_ask.specs.declared.names.NameKind.{NameKind}
 use Rattle.pct_ask.specs.declared.names.NameKind.TheVariants as kinds
+use Rattle.pct_ask.specs.Lines.{text_of_lines}
 use Rattle.script_tree.specs.Trees.{Expression}
 use Rattle.script_tree.specs.Trees as trees
 use Rattle.script_tree.specs.Expressions.{signs_of, register_word}
@@ -100,11 +101,6 @@ forms_of script =
 -- the first line: `script` and the version of the language
 abbrev pub header_text : ℕ → List ℕ
 header_text version = spaced_words (codes "script" ∷ decimal version ∷ [])
-
--- a text of these lines, each of which ends with LF
-abbrev pub text_of_lines : List (List ℕ) → List ℕ
-text_of_lines [] = []
-text_of_lines (line ∷ lines) = line ++ 10 ∷ text_of_lines lines
 
 -- the canonical layout: the header, and then a line for each declaration, statement, `else` and
 -- `end`

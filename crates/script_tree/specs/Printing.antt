@@ -5,7 +5,8 @@ use Rattle.script_tree.specs.Trees.{Expression, Number, Reg, Not, Minus, Two, St
 use Rattle.script_tree.specs.Trees as trees
 use Rattle.script_tree.specs.Forms.{MeantForm, Write, Add, Cas, Assert, Set, If, While}
 use Rattle.script_tree.specs.Grammar.{Line}
-use Rattle.script_tree.specs.Layout.{text_of_lines, form_text, meanings}
+use Rattle.pct_ask.specs.Lines.{text_of_lines}
+use Rattle.script_tree.specs.Layout.{form_text, meanings}
 
 -- the text of lines
 abbrev pub printed_lines : List Line → List ℕ

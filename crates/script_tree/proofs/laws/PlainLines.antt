@@ -5,8 +5,7 @@ use Rattle.std.specs.Prelude.{◌&&◌, nat_le, nat_lt}
 use Rattle.std.specs.List.{list_all}
 use Rattle.std.proofs.lemmas.Bool.{and_parts}
 use Rattle.std.proofs.lemmas.Bool.Decides.{nat_tests}
-use Rattle.pct_ask.specs.Lines.{lines_of, onto_first}
-use Rattle.script_tree.specs.Layout.{text_of_lines}
+use Rattle.pct_ask.specs.Lines.{lines_of, onto_first, text_of_lines}
 
 -- a byte that a line may have: an ASCII character that is shown, or a space
 abbrev pub is_plain : ℕ → Bool

@@ -26,3 +26,9 @@ returns-clause-directive c =
           (directive-size names text c.count.ensures.lawful sound);
       text = is;
     }
+
+pub returns-clause-text : goal.returns-clause-text
+returns-clause-text c =
+    whole-text c.args.names.now (plain_directive c.args.directive.now) _ _ _ _ _ _
+    c.in_ok-extend_from_slice.ensures.items c.new-text.ensures.items c.in_ok-push_low.ensures
+    c.in_ok-push_moments.ensures c.as_slice.ensures c.in_ok-push_verdict.ensures.text

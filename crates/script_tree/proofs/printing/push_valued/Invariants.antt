@@ -3,7 +3,8 @@ use Rattle.std.proofs.Common.{◌≡◌, ◌++◌, drop, take, map, All}
 use Rattle.std.specs.Prelude.{FitsSigned}
 use Rattle.std.specs.Int.{w64}
 use Rattle.pct_ask.specs.NameLists.{list_of}
-use Rattle.script_tree.specs.Layout.{text_of_lines, form_text, valued_forms}
+use Rattle.pct_ask.specs.Lines.{text_of_lines}
+use Rattle.script_tree.specs.Layout.{form_text, valued_forms}
 use Rattle.script_tree.proofs.printing.push_valued.Given as goal
 
 abbrev pub invariant-loop-place : goal.invariant-loop-place
