@@ -1,10 +1,13 @@
-ghost use Rattle.std.specs.Prelude.{◌≡◌, ◌≤◌, ◌++◌, ℤ, IfSome, OnOk, OnErr, Some, FitsSigned};
+ghost use Rattle.std.specs.Prelude.{◌≡◌, ◌≤◌, ◌++◌, ℤ, IfOk, IfSome, OnOk, OnErr, Some};
+ghost use Rattle.std.specs.Prelude.{FitsSigned};
 ghost use Rattle.std.specs.Int.{w128};
 ghost use Rattle.pct_ask.specs.Numbers as numbers;
 ghost use Rattle.pct_ask.specs.Numbers.{number_text};
+ghost use Rattle.pct_ask.specs.Pieces.{seen};
 
+use crate::sequence::PointList;
 use itoa::Buffer;
-use std::alloc::AllocError as NoMemory;
+use std::alloc::{AllocError as NoMemory, Global};
 
 /// The number that a canonical decimal spells. `None` where the text is no canonical decimal, or
 /// one outside i128.
@@ -47,6 +50,30 @@ pub fn number_in(low: u64, high: u64, text: &[u8]) -> Option<u64>
 {
     let number = read_number(text)?;
     in_range(low, high, number)
+}
+
+/// A number of steps: a limit, or the step of a change point.
+pub fn step_count(word: &[u8]) -> Option<u32>
+    ensures { result ≡ numbers.step_count word.now }
+{
+    let count = number_in(1, 100_000, word)?;
+    Some(count as u32)
+}
+
+/// What each word is, where each is a number of steps.
+pub fn step_counts(alloc: Global, words: &[&[u8]]) -> Result<Option<PointList>, NoMemory>
+    ensures { IfOk result (λ counts. counts ≡ numbers.step_counts (seen words.now)) }
+{
+    let mut counts = PointList::new(alloc);
+    let mut rest = words;
+    while let [word, others @ ..] = rest {
+        let Some(count) = step_count(word) else {
+            return Ok(None);
+        };
+        counts.try_push(count)?;
+        rest = others;
+    }
+    Ok(Some(counts))
 }
 
 /// Writes a number's canonical decimal at the end. After an `Err` the bytes are as before.

@@ -8,8 +8,8 @@ ghost use Rattle.pct_top.specs.Options.{ChangesTo, GivesOptions, LeavesTo, lawfu
 use crate::command::Command;
 use crate::settings::WordsError;
 use crate::text::TextList;
-use crate::values::{depth_in, is_json, order_in, points_in, seed_in, step_count};
-use pct_ask::PointList;
+use crate::values::{depth_in, is_json, order_in, points_in, seed_in};
+use pct_ask::{PointList, step_count};
 use std::alloc::Global;
 
 /// The words that begin an option.
@@ -136,7 +136,7 @@ impl Options {
         ensures { ChangesTo result self.new
             (lawful_or word (options.with_option_value self.old word OptionName.Limit value.now)) }
     {
-        let Some(limit) = step_count(value) else {
+        let Some(limit) = step_count(value.as_bytes()) else {
             return Err(WordsError::Word(word));
         };
         self.limit = Some(limit);
@@ -169,7 +169,7 @@ impl Options {
         ensures { ChangesTo result self.new
             (lawful_or word (options.with_option_value self.old word OptionName.Steps value.now)) }
     {
-        let Some(steps) = step_count(value) else {
+        let Some(steps) = step_count(value.as_bytes()) else {
             return Err(WordsError::Word(word));
         };
         self.steps = Some(steps);
@@ -191,7 +191,7 @@ impl Options {
         ensures { ChangesTo result self.new
             (lawful_or word (options.with_option_value self.old word OptionName.Count value.now)) }
     {
-        let Some(count) = step_count(value) else {
+        let Some(count) = step_count(value.as_bytes()) else {
             return Err(WordsError::Word(word));
         };
         self.count = Some(count);

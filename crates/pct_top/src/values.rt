@@ -2,12 +2,11 @@
 
 ghost use Rattle.std.specs.Prelude.{◌≡◌, IfOk};
 ghost use Rattle.std.specs.List.{list_all};
-ghost use Rattle.pct_ask.specs.Numbers as numbers;
 ghost use Rattle.pct_ask.specs.Words.{is_name};
 ghost use Rattle.pct_top.specs.Values as values;
 
 use crate::text::{Text, TextList};
-use pct_ask::{PointList, is_lawful_name, number_in};
+use pct_ask::{PointList, first_pieces, is_lawful_name, number_in, step_counts};
 use std::alloc::{AllocError as NoMemory, Global};
 
 /// The items of a value, which stand between commas.
@@ -36,14 +35,6 @@ pub fn order_in(alloc: Global, value: &str) -> Result<Option<TextList>, NoMemory
     let items = items_of(alloc, value)?;
     let lawful = items.len() <= 64 && are_names(items.as_slice());
     Ok(lawful.then_some(items))
-}
-
-/// A number of steps.
-pub fn step_count(word: &str) -> Option<u32>
-    ensures { result ≡ numbers.step_count word.now }
-{
-    let count = number_in(1, 100_000, word.as_bytes())?;
-    Some(count as u32)
 }
 
 pub fn seed_in(word: &str) -> Option<u64>
@@ -78,25 +69,11 @@ pub fn is_json(word: &str) -> Option<bool>
     }
 }
 
-/// What each item is, where each is a number of steps.
-fn step_counts(alloc: Global, items: &[Text]) -> Result<Option<PointList>, NoMemory>
-    ensures { IfOk result (λ counts. counts ≡ numbers.step_counts items.now) }
-{
-    let mut counts = PointList::new(alloc);
-    for item in items {
-        match step_count(item.as_str()) {
-            Some(count) => counts.try_push(count)?,
-            None => return Ok(None),
-        }
-    }
-    Ok(Some(counts))
-}
-
 /// The numbers of steps that a value lists, where it lists one to seven.
 pub fn points_in(alloc: Global, value: &str) -> Result<Option<PointList>, NoMemory>
     ensures { IfOk result (λ points. points ≡ values.points_in value.now) }
 {
-    let items = items_of(alloc, value)?;
+    let items = first_pieces(alloc, value.as_bytes(), b',', 8)?;
     if items.len() > 7 {
         return Ok(None);
     }

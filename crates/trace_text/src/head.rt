@@ -3,7 +3,6 @@
 ghost use Rattle.std.specs.Prelude.{◌≡◌, IfOk};
 ghost use Rattle.std.specs.List.{list_all};
 ghost use Rattle.std.specs.Option.{option_map};
-ghost use Rattle.pct_ask.specs.Numbers.{step_counts};
 ghost use Rattle.pct_ask.specs.Words as lexis;
 ghost use Rattle.trace_text.specs.reader.Heads as heads;
 ghost use Rattle.pct_ask.specs.Pieces.{pieces_of, seen};
@@ -11,9 +10,9 @@ ghost use Rattle.trace_text.specs.reader.Reading as reading;
 ghost use Rattle.trace_text.specs.reader.Seen.{cut_value, Gives};
 
 use crate::fault::{TraceError, TraceFault};
-use crate::number::count_of;
 use pct_ask::{
     NameKind, Names, OrderList, PointList, cut_line, first_words, is_among, is_lawful_name,
+    step_count, step_counts,
 };
 use std::alloc::{AllocError as NoMemory, Global};
 
@@ -150,21 +149,6 @@ pub fn read_order<'a>(
     }
 }
 
-fn step_counts(alloc: Global, words: &[&[u8]]) -> Result<Option<PointList>, NoMemory>
-    ensures { IfOk result (λ points. points ≡ step_counts (seen words.now)) }
-{
-    let mut points = PointList::new(alloc);
-    let mut rest = words;
-    while let [word, others @ ..] = rest {
-        let Some(point) = count_of(1, 100_000, word) else {
-            return Ok(None);
-        };
-        points.try_push(point)?;
-        rest = others;
-    }
-    Ok(Some(points))
-}
-
 fn points_in(alloc: Global, words: &[&[u8]]) -> Result<Option<PointList>, NoMemory>
     ensures { IfOk result (λ points. points ≡ heads.point_words (seen words.now)) }
 {
@@ -192,7 +176,7 @@ fn limit_on_line(words: &[&[u8]]) -> Option<u32>
     ensures { result ≡ heads.limit_words (seen words.now) }
 {
     match words {
-        [head, number] if *head == LIMIT => count_of(1, 100_000, number),
+        [head, number] if *head == LIMIT => step_count(number),
         _ => None,
     }
 }
