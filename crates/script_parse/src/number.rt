@@ -40,11 +40,10 @@ pub fn first_value(kind: NameKind, minus: bool, digits: &[u8]) -> i64
     requires { ranges.value_fits kind (seen_value_tokens minus digits.now) ≡ true }
     ensures { language.value_in kind (seen_value_tokens minus digits.now) ≡ Some result }
 {
-    if !minus {
-        return number_of(digits) as i64;
-    }
     let number = number_of(digits);
-    if number < 1 << 63 {
+    if !minus {
+        number as i64
+    } else if number < 1 << 63 {
         -(number as i64)
     } else {
         i64::MIN
