@@ -3,9 +3,10 @@ use Rattle.std.proofs.Common.{◌≡◌, ℕ, zero, suc, Bool, List, [], ◌∷�
 use Rattle.pct_ask.specs.declared.Deal.{Deal}
 use Rattle.pct_ask.specs.declared.event.Event.{Event}
 use Rattle.pct_ask.specs.declared.verdict.Outcome.{Outcome}
+use Rattle.pct_ask.specs.Objects.{Sizes}
+use Rattle.pct_ask.specs.Bodies.{Pending, IsInRangeBody, AreInRange}
 use Rattle.policy_pick.specs.Plan.{Plan}
 use Rattle.policy_pick.specs.declared.policy.Policy.{Ghosts}
-use Rattle.sync_store.specs.Store.{Sizes}
 use Rattle.turn_lock.specs.Calls.{ServesAll}
 use Rattle.turn_lock.specs.Rule.{HasFlag, Serves}
 use Rattle.turn_lock.specs.Views.{view}
@@ -13,7 +14,6 @@ use Rattle.turn_lock.specs.declared.seat.Seat.{Seat}
 use Rattle.turn_lock.specs.declared.view.View.{View}
 use Rattle.turn_lock.proofs.laws.SeenBooks.{within-along}
 use Rattle.worker_run.specs.Played.{IsPlayed}
-use Rattle.worker_run.specs.Bodies.{Pending, IsInRangeBody, AreInRange}
 use Rattle.body_kit.specs.Asking.{SeatGoesOn}
 use Rattle.body_kit.specs.Ports.{IsBack}
 

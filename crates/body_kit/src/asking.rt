@@ -1,7 +1,6 @@
 // What a port does with the lock.
 ghost use Rattle.std.specs.Prelude.{◌≡◌, true, false, Some, None};
-ghost use Rattle.sync_store.specs.Store.{sizes_of_deal};
-ghost use Rattle.sync_store.specs.Enabled.{IsInRange};
+ghost use Rattle.pct_ask.specs.Objects.{sizes_of_deal, IsInRange};
 ghost use Rattle.turn_book.specs.Told.{next_post};
 ghost use Rattle.turn_lock.specs.Seen.{owes_of};
 ghost use Rattle.turn_lock.specs.Rule.{Serves};

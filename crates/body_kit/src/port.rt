@@ -1,7 +1,6 @@
 ghost use Rattle.std.specs.Prelude.{◌≡◌, ℕ, Some, None};
 ghost use Rattle.pct_ask.specs.declared.verdict.Outcome.{Outcome};
-ghost use Rattle.sync_store.specs.Store.{sizes_of_deal};
-ghost use Rattle.sync_store.specs.Enabled.{IsInRange};
+ghost use Rattle.pct_ask.specs.Objects.{sizes_of_deal, IsInRange};
 ghost use Rattle.turn_book.specs.Told.{IsLawful};
 ghost use Rattle.turn_lock.specs.Rule.{Serves};
 ghost use Rattle.turn_lock.specs.Views.{view, HasSeat};

@@ -1,8 +1,8 @@
 ghost use Rattle.std.specs.Prelude.{◌≡◌, ◌<◌, ◌≤◌, ◌^◌, ◌↔◌, ℕ, Some, length, map, IfOk};
 ghost use Rattle.pct_ask.specs.declared.verdict.Outcome.TheVariants.{Verdict as Ends};
-ghost use Rattle.sync_store.specs.Store.{sizes_of_deal};
+ghost use Rattle.pct_ask.specs.Objects.{sizes_of_deal};
+ghost use Rattle.pct_ask.specs.Bodies.{AreInRange};
 ghost use Rattle.policy_pick.specs.Plan.{ByPoints};
-ghost use Rattle.worker_run.specs.Bodies.{AreInRange};
 ghost use Rattle.worker_run.specs.Run.{run};
 ghost use Rattle.worker_run.specs.Played.{IsPlayed};
 ghost use Rattle.body_kit.specs.Refusals.{IsWrongCount, IsWrongOrder};

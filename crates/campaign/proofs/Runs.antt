@@ -9,12 +9,12 @@ use Rattle.pct_ask.specs.declared.event.Row.{Row}
 use Rattle.pct_ask.specs.declared.verdict.Verdict.{Verdict}
 use Rattle.pct_ask.specs.declared.verdict.Outcome.{Outcome}
 use Rattle.pct_ask.specs.declared.verdict.Outcome.TheVariants.{Verdict as Ends}
+use Rattle.pct_ask.specs.Bodies.{Pending}
 use Rattle.policy_pick.specs.Plan.{Plan}
 use Rattle.policy_pick.specs.Kept.{PointsKept, points_plan, PointsStand}
 use Rattle.priority_draw.specs.Drawing.{draw_of_seed}
 use Rattle.script_body.specs.BodyPosts.{pending_of_body}
 use Rattle.script_body.specs.declared.body.ScriptBody.{ScriptBody}
-use Rattle.worker_run.specs.Bodies.{Pending}
 use Rattle.worker_run.specs.Run.{Run, run}
 use Rattle.worker_run.specs.Played.{IsRun}
 use Rattle.worker_run.specs.Batch.{Each}

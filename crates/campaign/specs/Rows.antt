@@ -7,8 +7,8 @@ use Rattle.std.specs.Option.{option_map}
 use Rattle.std.specs.List.{range_with_len}
 use Rattle.pct_ask.specs.declared.Deal.{Deal}
 use Rattle.pct_ask.specs.declared.event.Row.{Row}
+use Rattle.pct_ask.specs.Bodies.{Pending}
 use Rattle.priority_draw.specs.Drawing.{draw_of_seed}
-use Rattle.worker_run.specs.Bodies.{Pending}
 use Rattle.worker_run.specs.Run.{Run, run}
 
 -- what the runs of a campaign have in common: what the threads share, their bodies, the depth, from

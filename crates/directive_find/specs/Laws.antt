@@ -1,7 +1,7 @@
 -- A law on what is found (this project).
 use Rattle.std.specs.Prelude.{◌≡◌, ℕ, List}
 use Rattle.pct_ask.specs.declared.Deal.{Deal}
-use Rattle.worker_run.specs.Bodies.{Pending}
+use Rattle.pct_ask.specs.Bodies.{Pending}
 use Rattle.directive_find.specs.declared.finding.FoundOut.{FoundOut}
 use Rattle.directive_find.specs.Found.{Finds}
 

@@ -3,10 +3,10 @@ use Rattle.std.specs.Prelude.{◌≡◌, ◌≢◌, ℕ, ◌*◌, ◌^◌, ◌<�
 use Rattle.pct_ask.specs.declared.Deal.{Deal}
 use Rattle.pct_ask.specs.declared.event.Event.{Event}
 use Rattle.pct_ask.specs.declared.verdict.Verdict.{Verdict}
+use Rattle.pct_ask.specs.Bodies.{Pending}
 use Rattle.rank_now.specs.declared.moment.Moment.{Moment}
 use Rattle.rank_now.specs.Order.{IsOrder}
 use Rattle.turn_book.specs.Posts.{schedule_of}
-use Rattle.worker_run.specs.Bodies.{Pending}
 use Rattle.worker_run.specs.Run.{run, directed_run}
 use Rattle.directive.specs.declared.directive.Directive.{Directive}
 use Rattle.directive_run.specs.Points.{points_of}

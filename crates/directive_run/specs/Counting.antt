@@ -5,7 +5,7 @@ use Rattle.std.specs.List.{flat_map, range_with_len}
 use Rattle.pct_ask.specs.declared.Deal.{Deal}
 use Rattle.pct_ask.specs.declared.verdict.Verdict.{Verdict}
 use Rattle.pct_ask.specs.SameVerdict.{same_verdict}
-use Rattle.worker_run.specs.Bodies.{Pending}
+use Rattle.pct_ask.specs.Bodies.{Pending}
 use Rattle.worker_run.specs.Run.{Run, run}
 use Rattle.turn_book.specs.Chances.{threads_below}
 use Rattle.directive_run.specs.Orders.{orders}

@@ -4,9 +4,9 @@ use Rattle.std.specs.Prelude.{◌≡◌, ℕ, ◌≤◌, List, [], ◌∷◌, �
 use Rattle.pct_ask.specs.declared.Deal.{Deal}
 use Rattle.pct_ask.specs.declared.event.Event.{Event}
 use Rattle.pct_ask.specs.declared.verdict.Verdict.{Verdict}
+use Rattle.pct_ask.specs.Bodies.{Pending}
 use Rattle.rank_now.specs.declared.moment.Moment.{Moment}
 use Rattle.rank_now.specs.Order.{IsOrder}
-use Rattle.worker_run.specs.Bodies.{Pending}
 use Rattle.worker_run.specs.Run.{directed_run}
 
 -- the order places the thread last

@@ -1,8 +1,8 @@
 -- Laws on what exposing and certifying a directive may answer (this project).
 use Rattle.std.specs.Prelude.{◌≡◌, ◌↔◌, ℕ, ◌≤◌, List}
 use Rattle.pct_ask.specs.declared.Deal.{Deal}
+use Rattle.pct_ask.specs.Bodies.{Pending}
 use Rattle.rank_now.specs.declared.moment.Moment.{Moment}
-use Rattle.worker_run.specs.Bodies.{Pending}
 use Rattle.directive.specs.declared.directive.Directive.{Directive}
 use Rattle.directive_run.specs.Exposing.{Exposes}
 use Rattle.directive_run.specs.Guarantees.{Guarantees}

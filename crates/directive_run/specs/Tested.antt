@@ -5,6 +5,7 @@ use Rattle.std.specs.Prelude.{Option, Some, None}
 use Rattle.pct_ask.specs.declared.Deal.{Deal}
 use Rattle.pct_ask.specs.declared.event.Event.{Event}
 use Rattle.pct_ask.specs.declared.verdict.Verdict.{Verdict}
+use Rattle.pct_ask.specs.Bodies.{Pending}
 use Rattle.rank_now.specs.declared.moment.Moment.{Moment}
 use Rattle.policy_pick.specs.Plan.{ByEvents}
 use Rattle.policy_pick.specs.Kept.{EventsKept, events_plan}
@@ -13,7 +14,6 @@ use Rattle.script_code.specs.Listing.{listing}
 use Rattle.script_body.specs.BodyPosts.{pending_of_body}
 use Rattle.script_body.specs.Bodies.{bodies_of, AreOf}
 use Rattle.script_body.specs.declared.body.ScriptBody.{ScriptBody}
-use Rattle.worker_run.specs.Bodies.{Pending}
 use Rattle.worker_run.specs.Run.{Run, directed_run}
 use Rattle.worker_run.specs.Played.{IsRun}
 use Rattle.worker_run.specs.declared.batch.Test.{Test}

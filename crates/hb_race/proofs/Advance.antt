@@ -6,13 +6,13 @@ use Rattle.std.proofs.Math.Nat.{le-max_left, le-max_right}
 use Rattle.pct_ask.specs.declared.ask.Ask.{Ask}
 use Rattle.pct_ask.specs.declared.ask.Ask.TheVariants.{Add, Cas, Lock, TryLock, Regain, Down, TryDown, Leave, Join, RdLock, WrLock, TryRdLock, TryWrLock}
 use Rattle.pct_ask.specs.declared.event.Event.{Event}
+use Rattle.pct_ask.specs.Objects.{IsInRange, EventIsInRange}
 use Rattle.hb_race.specs.declared.object.Object.{Object}
 use Rattle.hb_race.specs.declared.object.Object.TheVariants.{Thread, Mutex, Condition, Semaphore, Barrier, Variable, ReadWriteLock}
 use Rattle.hb_race.specs.Order.{Steps, Among}
 use Rattle.hb_race.specs.Clocks.{own_count, greatest_of, clocks, stamp}
 use Rattle.hb_race.specs.Objects.{place, places_taken, object_given, first_taken, second_taken, is_at}
-use Rattle.sync_store.specs.Enabled.{IsInRange}
-use Rattle.hb_race.specs.Ranges.{IsEventInRange, most_with}
+use Rattle.hb_race.specs.Ranges.{most_with}
 use Rattle.hb_race.specs.Table.{clock_entry, IsTable, IsStepEvent}
 use Rattle.hb_race.proofs.Numbers.{max-within}
 use Rattle.hb_race.proofs.Words.{some-same, taken-same}
@@ -56,18 +56,18 @@ second-low : (ask : Ask) (o : Object) → IsInRange (most_with 64) ask → secon
 second-low (Regain c m) o range e = subst (λ p. place p < 512) (some-same (Condition c) o e) (let low = range.0 in omega arith)
 second-low _ o range e = absurd cc
 
-takes-low : (e : Event) → IsEventInRange (most_with 64) e → (row : ℕ) → Among (places_taken e) row → row < 512
-takes-low e range row (inl same) = let low = range.0 in omega arith
-takes-low e range row (inr (inl same)) = let low = range.0 in omega arith
+takes-low : (e : Event) → EventIsInRange (most_with 64) e → (row : ℕ) → Among (places_taken e) row → row < 512
+takes-low e range row (inl same) = let low = range.thread in omega arith
+takes-low e range row (inr (inl same)) = let low = range.thread in omega arith
 takes-low e range row (inr (inr h)) =
     let at = among-two (first_taken e.ask e.answer) (second_taken e.ask) row h in
     elim at.2 [
-      | inl first ↦ subst (λ r. r < 512) at.1 (first-low e.ask e.answer at.0 range.1 first)
-      | inr second ↦ subst (λ r. r < 512) at.1 (second-low e.ask at.0 range.1 second)
+      | inl first ↦ subst (λ r. r < 512) at.1 (first-low e.ask e.answer at.0 range.ask first)
+      | inr second ↦ subst (λ r. r < 512) at.1 (second-low e.ask at.0 range.ask second)
     ]
 
 -- ---- the clock that is made of the table is the step's
-pub stamp-is : (s : Steps ℕ) (n : ℕ) (e : Event) (table : List (List ℕ)) (counts : List ℕ) → IsStepEvent s n e → IsEventInRange (most_with 64) e → IsTable s n table counts
+pub stamp-is : (s : Steps ℕ) (n : ℕ) (e : Event) (table : List (List ℕ)) (counts : List ℕ) → IsStepEvent s n e → EventIsInRange (most_with 64) e → IsTable s n table counts
     → (u : ℕ) → cond (eqb e.thread u) (suc (get_or counts u 0)) (greatest_of (clock_entry table) u (places_taken e)) ≡ stamp s n u
 stamp-is s n e table counts step range is u =
     ap (λ t. cond (eqb t u) (suc (get_or counts u 0)) (greatest_of (clock_entry table) u (places_taken e))) (sym step.thread)

@@ -1,12 +1,11 @@
 -- What there is in a test is within the most that a test may have.
-use Rattle.std.proofs.Common.{◌≡◌, ℕ, ◌≤◌, List, length, get_or, All, arith}
-use Rattle.pct_ask.specs.declared.ask.Ask.{Ask}
-use Rattle.pct_ask.specs.declared.ask.Ask.TheVariants.{Read, Write, Add, Cas, Lock, TryLock, Unlock, Release, Regain, Signal, Broadcast, Down, TryDown, Up, Arrive, Leave, Join, Yield, Check, Fault, Start, Begin, RdLock, WrLock, TryRdLock, TryWrLock, RwUnlock}
+use Rattle.std.proofs.Common.{◌≡◌, ℕ, ◌<◌, ◌≤◌, List, [], ◌∷◌, length, get_or, All, arith}
+use Rattle.pct_ask.specs.declared.names.NameKind.{NameKind}
+use Rattle.pct_ask.specs.declared.names.NameKind.TheVariants.{Thread, Var, Mutex, Cond, Sem, Barrier, RwLock}
 use Rattle.pct_ask.specs.declared.deal.Deal.{Deal}
 use Rattle.pct_ask.specs.declared.event.Event.{Event}
-use Rattle.sync_store.specs.Store.{Sizes, sizes_of_deal}
-use Rattle.sync_store.specs.Enabled.{IsInRange}
-use Rattle.hb_race.specs.Ranges.{IsEventInRange, most_with}
+use Rattle.pct_ask.specs.Objects.{Sizes, TestObject, size_of, sizes_of_deal, objects_of, AreThere, EventIsInRange}
+use Rattle.hb_race.specs.Ranges.{most_with}
 
 record IsWithin (a b : Sizes) : Type 0 where
   threads : a.threads ≤ b.threads
@@ -17,36 +16,27 @@ record IsWithin (a b : Sizes) : Type 0 where
   barriers : a.barriers ≤ b.barriers
   rwlocks : a.rwlocks ≤ b.rwlocks
 
-wider : (a b : Sizes) (ask : Ask) → IsWithin a b → IsInRange a ask → IsInRange b ask
-wider a b (Read x) within low = omega arith
-wider a b (Write x value) within low = omega arith
-wider a b (Add x value) within low = omega arith
-wider a b (Cas x old new) within low = omega arith
-wider a b (Lock m) within low = omega arith
-wider a b (TryLock m) within low = omega arith
-wider a b (Unlock m) within low = omega arith
-wider a b (Release c m) within low = ((let l = low.0 in omega arith), let l = low.1 in omega arith)
-wider a b (Regain c m) within low = ((let l = low.0 in omega arith), let l = low.1 in omega arith)
-wider a b (Signal c) within low = omega arith
-wider a b (Broadcast c) within low = omega arith
-wider a b (Down s) within low = omega arith
-wider a b (TryDown s) within low = omega arith
-wider a b (Up s) within low = omega arith
-wider a b (Arrive r) within low = omega arith
-wider a b (Leave r) within low = omega arith
-wider a b (Join u) within low = omega arith
-wider a b Yield within low = tt
-wider a b (Check holds) within low = tt
-wider a b (Fault kind) within low = tt
-wider a b (Start u) within low = omega arith
-wider a b Begin within low = tt
-wider a b (RdLock l) within low = omega arith
-wider a b (WrLock l) within low = omega arith
-wider a b (TryRdLock l) within low = omega arith
-wider a b (TryWrLock l) within low = omega arith
-wider a b (RwUnlock l) within low = omega arith
+kind-within : (kind : NameKind) (a b : Sizes) → IsWithin a b → size_of kind a ≤ size_of kind b
+kind-within Thread a b within = within.threads
+kind-within Var a b within = within.vars
+kind-within Mutex a b within = within.mutexes
+kind-within Cond a b within = within.conds
+kind-within Sem a b within = within.sems
+kind-within Barrier a b within = within.barriers
+kind-within RwLock a b within = within.rwlocks
 
-pub all-wider : (deal : Deal) (vars : ℕ) (events : List Event) → vars ≡ length deal.vars → All (IsEventInRange (sizes_of_deal deal)) events → All (IsEventInRange (most_with vars)) events
+one-wider : (a b : Sizes) (o : TestObject) → IsWithin a b → o.place < size_of o.kind a
+    → o.place < size_of o.kind b
+one-wider a b o within low = omega (arith, kind-within o.kind a b within, low)
+
+wider : (a b : Sizes) (objects : List TestObject) → IsWithin a b → AreThere a objects
+    → AreThere b objects
+wider a b [] within low = tt
+wider a b (o ∷ []) within low = one-wider a b o within low
+wider a b (o ∷ p ∷ others) within low =
+    (one-wider a b o within low.0, wider a b (p ∷ others) within low.1)
+
+pub all-wider : (deal : Deal) (vars : ℕ) (events : List Event) → vars ≡ length deal.vars → All (EventIsInRange (sizes_of_deal deal)) events → All (EventIsInRange (most_with vars)) events
 all-wider deal vars events same range = λ k d low.
     let within : IsWithin (sizes_of_deal deal) (most_with vars) = record {
       threads = deal.few_threads;
@@ -58,4 +48,7 @@ all-wider deal vars events same range = λ k d low.
       rwlocks = deal.few_rwlocks;
     } in
     let at = range k d low in
-    ((let few = deal.few_threads in let thread = at.0 in omega arith), wider (sizes_of_deal deal) (most_with vars) (get_or events k d).ask within at.1)
+    record {
+      thread = let few = deal.few_threads in let thread = at.thread in omega arith;
+      ask = wider (sizes_of_deal deal) (most_with vars) (objects_of (get_or events k d).ask) within at.ask;
+    }

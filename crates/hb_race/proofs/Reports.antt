@@ -11,13 +11,13 @@ use Rattle.std.proofs.lemmas.Bool.{cases_Bool, eqb-true, and_from, and_parts}
 use Rattle.pct_ask.specs.declared.ask.Ask.{Ask}
 use Rattle.pct_ask.specs.declared.ask.Ask.TheVariants.{Read, Write, Add, Cas}
 use Rattle.pct_ask.specs.declared.event.Event.{Event}
-use Rattle.sync_store.specs.Enabled.{IsInRange}
+use Rattle.pct_ask.specs.Objects.{IsInRange, EventIsInRange}
 use Rattle.hb_race.specs.declared.access.AccessKind.{AccessKind}
 use Rattle.hb_race.specs.declared.access.AccessKind.TheVariants.{PlainRead, PlainWrite, AtomicRead, AtomicWrite}
 use Rattle.hb_race.specs.declared.history.History.{History}
 use Rattle.hb_race.specs.declared.race.Race.{Race}
 use Rattle.hb_race.specs.Races.{variable_accessed, is_plain_access, is_writing, IsRace, IsReported, AreRaces}
-use Rattle.hb_race.specs.Ranges.{IsEventInRange, most_with}
+use Rattle.hb_race.specs.Ranges.{most_with}
 use Rattle.hb_race.specs.Accesses.{access_by, access_of, exchange_kind, kind_on, is_plain_kind, is_write_kind}
 use Rattle.hb_race.specs.Table.{steps_of, accesses_of, no_event}
 use Rattle.hb_race.specs.Lasts.{StepsRace, HasLasts, NoneRaces, IsFirstRace, no_history}
@@ -224,11 +224,11 @@ accessed-low vars (Add y value) x range e = let same : y ≡ x = cc in omega ari
 accessed-low vars (Cas y old new) x range e = let same : y ≡ x = cc in omega arith
 accessed-low vars _ x range e = absurd cc
 
-race-low : (vars : ℕ) (events : List Event) (x i j : ℕ) → All (IsEventInRange (most_with vars)) events → IsRace events x i j → x < vars
+race-low : (vars : ℕ) (events : List Event) (x i j : ℕ) → All (EventIsInRange (most_with vars)) events → IsRace events x i j → x < vars
 race-low vars events x i j range race =
     let there = within events j race.b race.second in
-    let at = subst (IsEventInRange (most_with vars)) (at-is events j race.b race.second) (range j no_event there) in
-    accessed-low vars race.b.ask x at.1 race.second_accesses
+    let at = subst (EventIsInRange (most_with vars)) (at-is events j race.b race.second) (range j no_event there) in
+    accessed-low vars race.b.ask x at.ask race.second_accesses
 
 found-var : (events : List Event) (histories : List History) → AreHistories events (length events) histories → (x : ℕ) (race : Race) → x < length histories → (get_or histories x no_history).race ≡ Some race → IsFirstRace (steps_of events) (accesses_of events x) x race
 found-var events histories are x race low e =
@@ -236,7 +236,7 @@ found-var events histories are x race low e =
     let history = get_or histories x no_history in
     match-some history.race (HasLasts (steps_of events) (accesses_of events x) n history × NoneRaces (steps_of events) (accesses_of events x) n) (IsFirstRace (steps_of events) (accesses_of events x) x) race e (are x low)
 
-every-race : (events : List Event) (histories : List History) → All (IsEventInRange (most_with (length histories))) events → AreHistories events (length events) histories
+every-race : (events : List Event) (histories : List History) → All (EventIsInRange (most_with (length histories))) events → AreHistories events (length events) histories
     → (x i j : ℕ) → IsRace events x i j → Contains (vars_of (filter_map race_of histories)) x
 every-race events histories range are x i j race =
     let n = length events in
@@ -247,7 +247,7 @@ every-race events histories range are x i j race =
       | inr found ↦ subst (Contains (vars_of (filter_map race_of histories))) found.2.var (contains-list histories x found.0 low found.1)
     ]
 
-pub reported : (events : List Event) (histories : List History) (races : List Race) → All (IsEventInRange (most_with (length histories))) events → AreHistories events (length events) histories → races ≡ filter_map race_of histories → AreRaces events races
+pub reported : (events : List Event) (histories : List History) (races : List Race) → All (EventIsInRange (most_with (length histories))) events → AreHistories events (length events) histories → races ≡ filter_map race_of histories → AreRaces events races
 reported events histories races range are made = subst (AreRaces events) (sym made) (record {
   ordered = (rising-list 0 histories (λ x race low e. let first = found-var events histories are x race low e in let same = first.var in omega arith)).0;
   each = all-list (IsReported events) histories (λ x race low e. report events x race (found-var events histories are x race low e));

@@ -4,11 +4,12 @@ use Rattle.std.proofs.lemmas.Bool.{cases_lt, cases_eq}
 use Rattle.std.proofs.lemmas.List.{get_or-set_same, get_or-set_other, length-set, get_or_past}
 use Rattle.std.specs.Option.{option_and_then}
 use Rattle.pct_ask.specs.declared.event.Event.{Event}
+use Rattle.pct_ask.specs.Objects.{EventIsInRange}
 use Rattle.hb_race.specs.declared.access.Access.{Access}
 use Rattle.hb_race.specs.declared.history.History.{History}
 use Rattle.hb_race.specs.Order.{Steps}
 use Rattle.hb_race.specs.Clocks.{own_count}
-use Rattle.hb_race.specs.Ranges.{IsEventInRange, most_with}
+use Rattle.hb_race.specs.Ranges.{most_with}
 use Rattle.hb_race.specs.Accesses.{access_of, kind_on}
 use Rattle.hb_race.specs.Table.{clock_entry, no_event, event_at, steps_of, accesses_of, IsTable}
 use Rattle.hb_race.specs.Table.{IsStepEvent}
@@ -82,8 +83,8 @@ pub histories-begin : (events : List Event) (histories : List History) → ((x :
 histories-begin events histories fresh = λ x low.
     subst (IsHistory (steps_of events) (accesses_of events x) x 0) (sym (fresh x low)) (history-new (steps_of events) (accesses_of events x) x)
 
-pub thread-low : (events : List Event) (vars : ℕ) → All (IsEventInRange (most_with vars)) events → (i : ℕ) → (event_at events i).thread < 64
+pub thread-low : (events : List Event) (vars : ℕ) → All (EventIsInRange (most_with vars)) events → (i : ℕ) → (event_at events i).thread < 64
 thread-low events vars range i = elim (cases_lt i (length events)) [
-  | inl low ↦ (range i no_event low).0
+  | inl low ↦ (range i no_event low).thread
   | inr past ↦ subst (λ (e : Event). e.thread < 64) (sym (get_or_past events i no_event past)) (omega arith)
 ]

@@ -1,21 +1,30 @@
 -- The data races of a run (this project's profile of happens-before).
 use Rattle.std.specs.Prelude.{◌≡◌, ◌≢◌, ℕ, ℤ, pos, ◌+◌, ◌<◌, ◌≤◌, Bool, true, false, ◌||◌, List}
-use Rattle.std.specs.Prelude.{map, All, Contains, Option, Some, None, slice_get}
+use Rattle.std.specs.Prelude.{[], ◌∷◌, map, All, Contains, Option, Some, None, slice_get}
 use Rattle.std.specs.Ordering.{int_eq}
 use Rattle.std.specs.List.Sorted.{IsStrictlyIncreasing}
 use Rattle.pct_ask.specs.declared.ask.Ask.{Ask}
+use Rattle.pct_ask.specs.declared.names.NameKind.{NameKind}
+use Rattle.pct_ask.specs.declared.names.NameKind.TheVariants.{Var}
+use Rattle.pct_ask.specs.Objects.{TestObject, objects_of}
 use Rattle.pct_ask.specs.declared.ask.Ask.TheVariants.{Read, Write, Add, Cas}
 use Rattle.pct_ask.specs.declared.event.Event.{Event}
 use Rattle.hb_race.specs.declared.race.Race.{Race}
 use Rattle.hb_race.specs.HappensBefore.{HappensBefore}
 
--- the variable that a step accesses
+-- the variable, where an object is one, and else the other
+abbrev pub variable_or : NameKind → ℕ → Option ℕ → Option ℕ
+variable_or Var place other = Some place
+variable_or _ place other = other
+
+-- the variable among some objects
+abbrev pub variable_among : List TestObject → Option ℕ
+variable_among [] = None
+variable_among (o ∷ others) = variable_or o.kind o.place (variable_among others)
+
+-- the variable that a step accesses: the one that its ask names
 abbrev pub variable_accessed : Ask → Option ℕ
-variable_accessed (Read x) = Some x
-variable_accessed (Write x value) = Some x
-variable_accessed (Add x value) = Some x
-variable_accessed (Cas x old new) = Some x
-variable_accessed _ = None
+variable_accessed ask = variable_among (objects_of ask)
 
 -- whether an access is plain: it is not atomic
 abbrev pub is_plain_access : Ask → Bool

@@ -1,12 +1,6 @@
--- What the steps of a run name (this project).
-use Rattle.std.specs.Prelude.{ℕ, ◌<◌}
-use Rattle.pct_ask.specs.declared.event.Event.{Event}
-use Rattle.sync_store.specs.Store.{Sizes}
-use Rattle.sync_store.specs.Enabled.{IsInRange}
-
--- a step is of a thread that there is, and names only objects and threads that there are
-abbrev pub IsEventInRange : Sizes → Event → Type 0
-IsEventInRange sizes event = (event.thread < sizes.threads) × IsInRange sizes event.ask
+-- The most that a test may have of each kind (this project).
+use Rattle.std.specs.Prelude.{ℕ}
+use Rattle.pct_ask.specs.Objects.{Sizes}
 
 -- so many variables, and the most threads and other objects that a test may have
 abbrev pub most_with : ℕ → Sizes

@@ -1,7 +1,8 @@
 ghost use Rattle.std.specs.Prelude.{◌≡◌, ◌<◌, ℕ, suc, max, ◌==◌, length, Some};
 ghost use Rattle.hb_race.specs.Order.{Steps};
 ghost use Rattle.hb_race.specs.Clocks.{stamp};
-ghost use Rattle.hb_race.specs.Ranges.{IsEventInRange, most_with};
+ghost use Rattle.pct_ask.specs.Objects.{EventIsInRange};
+ghost use Rattle.hb_race.specs.Ranges.{most_with};
 ghost use Rattle.hb_race.specs.Objects.{place, is_at};
 ghost use Rattle.hb_race.specs.Table.{time, entry_if, stamp_from, AreJoined, IsStepEvent, IsTable};
 
@@ -41,7 +42,7 @@ fn join_object(clock: &mut Clock, table: &[Clock], object: Option<Object>)
 /// The clock of the next step.
 fn stamp_of(table: &[Clock], counts: &Clock, event: &Event) -> Clock
     requires rows { length table.now ≡ 512 }
-    requires range { IsEventInRange (most_with 64) event.now }
+    requires range { EventIsInRange (most_with 64) event.now }
     requires few { (u : ℕ) → time counts.now u < 100000 }
     ensures { (u : ℕ) → time result u ≡ stamp_from table.now counts.now event.now u }
 {
@@ -77,7 +78,7 @@ fn give_object(table: &mut [Clock], object: Option<Object>, stamp: &Clock)
 /// Takes one step, and answers its clock.
 pub(crate) fn advance(table: &mut [Clock], counts: &mut Clock, event: &Event) -> Clock
     requires rows { length table.old ≡ 512 }
-    requires range { IsEventInRange (most_with 64) event.now }
+    requires range { EventIsInRange (most_with 64) event.now }
     requires few { (u : ℕ) → time counts.old u < 100000 }
     ensures rows { length table.new ≡ 512 }
     ensures stamp { (s : Steps ℕ) (n : ℕ) → IsStepEvent s n event.now

@@ -3,8 +3,8 @@ ghost use Rattle.std.specs.Prelude.{OnErr, Some};
 ghost use Rattle.std.specs.Option.{option_to_list};
 ghost use Rattle.std.specs.List.{filter_map};
 ghost use Rattle.pct_ask.specs.declared.event.Event.{Event as Step};
-ghost use Rattle.sync_store.specs.Store.{sizes_of_deal};
-ghost use Rattle.hb_race.specs.Ranges.{IsEventInRange, most_with};
+ghost use Rattle.pct_ask.specs.Objects.{sizes_of_deal, EventIsInRange};
+ghost use Rattle.hb_race.specs.Ranges.{most_with};
 ghost use Rattle.hb_race.specs.Races.{AreRaces};
 ghost use Rattle.hb_race.specs.Table.{clock_entry};
 ghost use Rattle.hb_race.specs.Histories.{AreHistories, AreNew, IsNoted};
@@ -21,7 +21,7 @@ use worker_run::Played;
 /// steps times the threads.
 pub fn races(alloc: Global, deal: &Deal, played: &Played) -> Result<RaceList, NoMemory>
     requires few { length (played.now).events ≤ 100000 }
-    requires in_range { All (IsEventInRange (sizes_of_deal deal.now)) (played.now).events }
+    requires in_range { All (EventIsInRange (sizes_of_deal deal.now)) (played.now).events }
     ensures { IfOk result (λ races. AreRaces (played.now).events races) }
 {
     races_of(alloc, deal, played.events.as_slice())
@@ -30,7 +30,7 @@ pub fn races(alloc: Global, deal: &Deal, played: &Played) -> Result<RaceList, No
 /// The races of some steps.
 fn races_of(alloc: Global, deal: &Deal, events: &[Event]) -> Result<RaceList, NoMemory>
     requires few { length events.now ≤ 100000 }
-    requires in_range { All (IsEventInRange (sizes_of_deal deal.now)) events.now }
+    requires in_range { All (EventIsInRange (sizes_of_deal deal.now)) events.now }
     ensures { IfOk result (λ races. AreRaces events.now races) }
 {
     let mut table = new_table(alloc)?;
@@ -70,7 +70,7 @@ fn follow(table: &mut [Clock], histories: &mut [History], events: &[Event])
     requires few_vars { length histories.old ≤ 64 }
     requires fresh { AreNew (length histories.old) histories.old }
     requires few { length events.now ≤ 100000 }
-    requires in_range { All (IsEventInRange (most_with (length histories.old))) events.now }
+    requires in_range { All (EventIsInRange (most_with (length histories.old))) events.now }
     ensures { AreHistories events.now (length events.now) histories.new }
 {
     let mut counts = [0; MAX_THREADS];

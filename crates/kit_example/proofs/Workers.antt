@@ -1,8 +1,7 @@
 -- The workers of the queue name only what there is.
 use Rattle.std.proofs.Common.{◌≡◌, ℕ, ◌<◌, ◌≤◌, ℤ, List, [], ◌∷◌, sym, subst, arith}
-use Rattle.sync_store.specs.Store.{Sizes}
-use Rattle.turn_book.specs.Told.{PostIsInRange}
-use Rattle.worker_run.specs.Bodies.{Pending, IsInRangeBody}
+use Rattle.pct_ask.specs.Objects.{Sizes, PostIsInRange}
+use Rattle.pct_ask.specs.Bodies.{Pending, IsInRangeBody}
 use Rattle.kit_example.specs.declared.worker.Step.{Step}
 use Rattle.kit_example.specs.declared.worker.Step.TheVariants.{Lock, Look, Release, Regain, Change}
 use Rattle.kit_example.specs.declared.worker.Step.TheVariants.{Tell, Unlock, End}

@@ -11,8 +11,8 @@ use Rattle.pct_ask.specs.declared.verdict.Outcome.TheVariants.{Verdict as Ends}
 use Rattle.pct_ask.specs.declared.verdict.Verdict.{Verdict}
 use Rattle.pct_ask.specs.declared.verdict.MisuseKind.TheVariants.{NotOwner, SemFull, AlreadyStarted}
 use Rattle.pct_ask.specs.declared.verdict.MisuseKind.TheVariants.{TooManyReads}
+use Rattle.pct_ask.specs.Bodies.{Pending, pending_of}
 use Rattle.policy_pick.specs.Plan.{Plan}
-use Rattle.worker_run.specs.Bodies.{Pending, pending_of}
 use Rattle.worker_run.specs.Played.{IsPlayed}
 use Rattle.worker_run.proofs.laws.AskedRuns.{ComesOf, steps-asked, verdict-comes}
 use Rattle.trace_text.specs.Lawful.{NamesKnown, IsKnownVerdict, IsKnownRun}

@@ -8,18 +8,13 @@ use Rattle.std.proofs.lemmas.List.Elements.{All-cons, All-nil}
 use Rattle.pct_ask.specs.VerdictText.{IsLine}
 use Rattle.pct_ask.specs.declared.Deal.{Deal}
 use Rattle.pct_ask.specs.declared.ask.Ask.{Ask}
-use Rattle.pct_ask.specs.declared.ask.Ask.TheVariants.{Read, Write, Add, Cas, Lock, TryLock, Unlock}
-use Rattle.pct_ask.specs.declared.ask.Ask.TheVariants.{Release, Regain, Signal, Broadcast, Down}
-use Rattle.pct_ask.specs.declared.ask.Ask.TheVariants.{TryDown, Up, Arrive, Leave, Join, Yield}
-use Rattle.pct_ask.specs.declared.ask.Ask.TheVariants.{Check, Fault, Start, Begin, RdLock, WrLock}
-use Rattle.pct_ask.specs.declared.ask.Ask.TheVariants.{TryRdLock, TryWrLock, RwUnlock}
+use Rattle.pct_ask.specs.declared.ask.Ask.TheVariants.{RdLock, WrLock, TryRdLock, TryWrLock}
+use Rattle.pct_ask.specs.declared.ask.Ask.TheVariants.{RwUnlock}
+use Rattle.pct_ask.specs.Objects.{Sizes, sizes_of_deal, IsInRange, PostIsInRange}
+use Rattle.pct_ask.specs.Bodies.{Pending, no_body, pending_of, AreInRange}
 use Rattle.rank_now.specs.Order.{IsFirstWrong}
-use Rattle.sync_store.specs.Store.{Sizes, sizes_of_deal}
-use Rattle.sync_store.specs.Enabled.{IsInRange}
-use Rattle.turn_book.specs.Told.{PostIsInRange}
 use Rattle.worker_run.specs.Samples.{sample_post, sample_pending}
 use Rattle.worker_run.proofs.laws.SampleRanges.{samples-within}
-use Rattle.worker_run.specs.Bodies.{Pending, no_body, pending_of, AreInRange}
 use Rattle.trace_text.specs.Lawful.{HasObjects}
 use Rattle.trace_text.proofs.laws.KnownVerdicts.{IsAsked}
 use Rattle.kit_main.specs.Showing.{IsTestDeal, test_sizes, test_names, IsShowable}
@@ -37,33 +32,12 @@ sizes-are deal is = λ i. record {
 
 -- ---- what the bodies name
 objects : (ask : Ask) → IsInRange test_sizes ask → HasObjects test_names 1 ask
-objects (Read x) h = h
-objects (Write x value) h = h
-objects (Add x value) h = h
-objects (Cas x old new) h = h
-objects (Lock m) h = h
-objects (TryLock m) h = h
-objects (Unlock m) h = h
-objects (Release c m) h = h
-objects (Regain c m) h = h
-objects (Signal c) h = h
-objects (Broadcast c) h = h
-objects (Down s) h = h
-objects (TryDown s) h = h
-objects (Up s) h = h
-objects (Arrive b) h = h
-objects (Leave b) h = h
-objects (Join t) h = h
-objects Yield h = tt
-objects (Check holds) h = tt
-objects (Fault kind) h = tt
-objects (Start t) h = h
-objects Begin h = tt
 objects (RdLock l) h = absurd (omega arith)
 objects (WrLock l) h = absurd (omega arith)
 objects (TryRdLock l) h = absurd (omega arith)
 objects (TryWrLock l) h = absurd (omega arith)
 objects (RwUnlock l) h = absurd (omega arith)
+objects ask h = h
 
 pub mapped-three : {X : Type 0} (pending : X → Pending) (items : List X) → length items ≡ 3
     → length (map pending items) ≡ 3

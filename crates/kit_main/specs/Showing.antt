@@ -5,9 +5,9 @@ use Rattle.pct_ask.specs.TraceText.{TraceHead, trace_text}
 use Rattle.pct_ask.specs.VerdictText.{IsLine}
 use Rattle.pct_ask.specs.declared.Deal.{Deal}
 use Rattle.pct_ask.specs.declared.verdict.Verdict.TheVariants.{Passed}
+use Rattle.pct_ask.specs.Objects.{Sizes}
+use Rattle.pct_ask.specs.Bodies.{Pending, IsInRangeBody}
 use Rattle.pct_outside.specs.Piece.{IsAppended, IsPartAppended}
-use Rattle.sync_store.specs.Store.{Sizes}
-use Rattle.worker_run.specs.Bodies.{Pending, IsInRangeBody}
 use Rattle.worker_run.specs.Run.{Run, run}
 use Rattle.kit_main.specs.declared.shown.Shown.{Shown}
 use Rattle.kit_main.specs.declared.shown.Shown.TheVariants.{Done, Found, WriteFault, NoMemory}

@@ -9,10 +9,9 @@ use Rattle.pct_ask.specs.declared.ask.Ask.{Ask}
 use Rattle.pct_ask.specs.declared.ask.Ask.TheVariants.{Read, Lock, TryLock, Regain}
 use Rattle.pct_ask.specs.declared.event.Event.{Event}
 use Rattle.pct_ask.specs.declared.Deal.{Deal}
-use Rattle.sync_store.specs.Store.{Sizes, sizes_of_deal}
-use Rattle.sync_store.specs.Enabled.{IsInRange}
+use Rattle.pct_ask.specs.Objects.{Sizes, sizes_of_deal, IsInRange, EventIsInRange}
 use Rattle.lock_order.specs.declared.mutex_set.MutexSet.{MutexSet}
-use Rattle.lock_order.specs.Nestings.{EventNamesOnly, AreEventsInRange, event_at_step, TakesBy, LetsGoBy, Takes, LetsGo, HoldsMutex}
+use Rattle.lock_order.specs.Nestings.{AreEventsInRange, event_at_step, TakesBy, LetsGoBy, Takes, LetsGo, HoldsMutex}
 use Rattle.lock_order.specs.MutexSets.{HasMutex, HasThose}
 use Rattle.lock_order.proofs.Places.{slice_get-push, slice_get-set, slice_get-replicate}
 
@@ -33,7 +32,7 @@ module _ (deal : Deal) (events : List Event) (place : ℕ) (in_range : AreEvents
   abbrev event : Event
   event = get_or events place no_event
 
-  names : EventNamesOnly deal event
+  names : EventIsInRange (sizes_of_deal deal) event
   names = in_range place no_event within
 
   pub thread-small : event.thread < 64

@@ -7,10 +7,10 @@ use Rattle.std.proofs.lemmas.Option.{slice_get_within, get_or_from_slice_get}
 use Rattle.std.proofs.lemmas.Nat.Bits.{bit_at-zero}
 use Rattle.pct_ask.specs.declared.event.Event.{Event}
 use Rattle.pct_ask.specs.declared.Deal.{Deal}
-use Rattle.sync_store.specs.Store.{sizes_of_deal}
+use Rattle.pct_ask.specs.Objects.{sizes_of_deal, EventIsInRange}
 use Rattle.lock_order.specs.declared.mutex_set.MutexSet.{MutexSet}
 use Rattle.lock_order.specs.declared.nesting.Nesting.{Nesting}
-use Rattle.lock_order.specs.Nestings.{EventNamesOnly, AreEventsInRange, event_at_step, TakesBy, Takes, HoldsMutex, IsNesting}
+use Rattle.lock_order.specs.Nestings.{AreEventsInRange, event_at_step, TakesBy, Takes, HoldsMutex, IsNesting}
 use Rattle.lock_order.specs.Chosen.{IsOfPair}
 use Rattle.lock_order.specs.MutexSets.{HasMutex, HasThose, AreNestedSets}
 use Rattle.lock_order.proofs.Places.{slice_get-set, slice_get-replicate}
@@ -23,10 +23,10 @@ step-within events (suc place) event at = let within = slice_get_within events p
 -- the events name only what there is, so the mutexes of nestings are the deal's
 module _ (deal : Deal) (events : List Event) (in_range : AreEventsInRange deal events) where
   event-names : (step : ℕ) (event : Event) → event_at_step events step ≡ Some event
-      → EventNamesOnly deal event
+      → EventIsInRange (sizes_of_deal deal) event
   event-names zero event at = absurd cc
   event-names (suc place) event at =
-      let P : Event → Type 0 = λ x. EventNamesOnly deal x in
+      let P : Event → Type 0 = λ x. EventIsInRange (sizes_of_deal deal) x in
       subst P (get_or_from_slice_get events place event event at) (in_range place event (slice_get_within events place event at))
 
   takes-below : (step thread mutex : ℕ) → Takes events step thread mutex → mutex < deal.mutexes

@@ -7,18 +7,12 @@ use Rattle.pct_ask.specs.declared.ask.Ask.{Ask}
 use Rattle.pct_ask.specs.declared.ask.Ask.TheVariants.{Lock, TryLock, Unlock, Release, Regain}
 use Rattle.pct_ask.specs.declared.event.Event.{Event}
 use Rattle.pct_ask.specs.declared.Deal.{Deal}
-use Rattle.sync_store.specs.Store.{sizes_of_deal}
-use Rattle.sync_store.specs.Enabled.{IsInRange}
+use Rattle.pct_ask.specs.Objects.{sizes_of_deal, EventIsInRange}
 use Rattle.lock_order.specs.declared.nesting.Nesting.{Nesting}
 
--- every event names only threads and objects of the deal (the limits of a test)
-pub record EventNamesOnly (deal : Deal) (event : Event) : Type 0 where
-  pub thread : event.thread < deal.threads
-  pub ask : IsInRange (sizes_of_deal deal) event.ask
-
--- all events of the list name only threads and objects of the deal
+-- all events of the list name only threads and objects of the deal (the limits of a test)
 abbrev pub AreEventsInRange : Deal → List Event → Type 0
-AreEventsInRange deal events = All (EventNamesOnly deal) events
+AreEventsInRange deal events = All (EventIsInRange (sizes_of_deal deal)) events
 
 -- the events are those of some test
 abbrev pub AreOfSomeDeal : List Event → Type 0

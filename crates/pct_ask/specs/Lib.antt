@@ -16,3 +16,5 @@ pub mod Places
 pub mod PlaceLaws
 pub mod SameVerdict
 pub mod TraceText
+pub mod Objects
+pub mod Bodies

@@ -9,6 +9,7 @@ mod event;
 mod line;
 mod names;
 mod number;
+mod objects;
 mod pieces;
 mod sequence;
 mod verdict;

@@ -1,6 +1,6 @@
 -- A run of a script names only what the script has.
 use Rattle.std.proofs.Common.{◌≡◌, ℕ, ℤ, ◌<◌, true, nat_le, inl, inr, List, length, Some, refl}
-use Rattle.std.proofs.Common.{sym, ap, subst, arith}
+use Rattle.std.proofs.Common.{sym, subst, arith}
 use Rattle.std.specs.Prelude.{All}
 use Rattle.std.proofs.lemmas.Bool.{cases_lt, cases_Bool}
 use Rattle.std.proofs.lemmas.Bool.Decides.{nat_tests}
@@ -8,13 +8,12 @@ use Rattle.std.proofs.lemmas.List.{get_or_past}
 use Rattle.std.proofs.lemmas.List.Elements.{All-weaker}
 use Rattle.std.proofs.lemmas.List.FromFn.{length-map-range_with_len, get_or-map-range_with_len}
 use Rattle.pct_ask.specs.NameLists.{NameLists}
+use Rattle.pct_ask.specs.Objects.{Sizes, sizes_of_deal, sizes_of_names, IsInRange}
+use Rattle.pct_ask.specs.Objects.{PostIsInRange}
 use Rattle.pct_ask.specs.declared.Deal.{Deal}
 use Rattle.pct_ask.specs.declared.ask.Ask.{Ask}
-use Rattle.pct_ask.specs.declared.ask.Ask.TheVariants.{Read, Write, Add, Cas, Lock, TryLock, Unlock}
-use Rattle.pct_ask.specs.declared.ask.Ask.TheVariants.{Release, Regain, Signal, Broadcast, Down}
-use Rattle.pct_ask.specs.declared.ask.Ask.TheVariants.{TryDown, Up, Arrive, Leave, Join, Yield}
-use Rattle.pct_ask.specs.declared.ask.Ask.TheVariants.{Check, Fault, Start, Begin, RdLock, WrLock}
-use Rattle.pct_ask.specs.declared.ask.Ask.TheVariants.{TryRdLock, TryWrLock, RwUnlock}
+use Rattle.pct_ask.specs.declared.ask.Ask.TheVariants.{RdLock, WrLock, TryRdLock, TryWrLock}
+use Rattle.pct_ask.specs.declared.ask.Ask.TheVariants.{RwUnlock}
 use Rattle.pct_ask.specs.declared.ask.Post.{Post}
 use Rattle.pct_ask.specs.declared.event.Event.{Event}
 use Rattle.pct_ask.specs.declared.verdict.Outcome.{Outcome}
@@ -22,14 +21,14 @@ use Rattle.pct_ask.specs.declared.verdict.Outcome.TheVariants.{Verdict as Ends}
 use Rattle.pct_ask.specs.declared.verdict.Verdict.{Verdict}
 use Rattle.pct_ask.specs.declared.verdict.MisuseKind.TheVariants.{NotOwner, SemFull, AlreadyStarted}
 use Rattle.pct_ask.specs.declared.verdict.MisuseKind.TheVariants.{TooManyReads}
+use Rattle.pct_ask.specs.Bodies.{Pending, no_body, pending_of}
 use Rattle.script_tree.specs.ScriptText.{ScriptText}
 use Rattle.script_tree.specs.Fitting.{IsScript, rwlocks_fit}
 use Rattle.script_tree.specs.DealOf.{IsDealOf}
-use Rattle.script_tree.specs.Naming.{NamesOnly, AsksOnly, IsPostOf}
+use Rattle.script_tree.specs.Naming.{IsPostOf}
 use Rattle.script_tree.specs.Posts.{pending}
 use Rattle.script_tree.proofs.laws.Naming.{pending_named}
 use Rattle.policy_pick.specs.Plan.{Plan}
-use Rattle.worker_run.specs.Bodies.{Pending, no_body, pending_of}
 use Rattle.worker_run.specs.Played.{IsPlayed}
 use Rattle.worker_run.proofs.laws.AskedRuns.{ComesOf, steps-asked, verdict-comes}
 use Rattle.script_body.specs.Bodies.{bodies_of}
@@ -37,6 +36,7 @@ use Rattle.trace_text.specs.Lawful.{HasObjects, NamesKnown, IsKnownVerdict, IsKn
 use Rattle.trace_text.proofs.laws.KnownVerdicts.{IsAsked, failed-known, fault-known, misuse-known}
 use Rattle.trace_text.proofs.laws.KnownVerdicts.{passed-known, stuck-known, cut-known}
 use Rattle.pct_top.specs.Runs.{trace_version}
+use Rattle.pct_top.proofs.InRange.{same_sizes}
 
 second : (script : ScriptText) (l : ℕ) → rwlocks_fit script.version (script.names).rwlocks ≡ true
     → l < length (script.names).rwlocks → trace_version script ≡ 2
@@ -53,57 +53,19 @@ module _ (script : ScriptText) (deal : Deal) (sound : IsScript script)
   abbrev version : ℕ
   version = trace_version script
 
-  below-rwlock : (l : ℕ) → l < deal.rwlocks → (l < length names.rwlocks) × (version ≡ 2)
-  below-rwlock l h =
-      let within : l < length names.rwlocks = omega (arith, h, of.rwlocks) in
-      (within, second script l sound.known_rwlocks within)
+  -- what is one of those that have names has a name in the trace of the script's version
+  named : (ask : Ask) → IsInRange (sizes_of_names names) ask → HasObjects names version ask
+  named (RdLock l) h = (h, second script l sound.known_rwlocks h)
+  named (WrLock l) h = (h, second script l sound.known_rwlocks h)
+  named (TryRdLock l) h = (h, second script l sound.known_rwlocks h)
+  named (TryWrLock l) h = (h, second script l sound.known_rwlocks h)
+  named (RwUnlock l) h = (h, second script l sound.known_rwlocks h)
+  named ask h = h
 
-  below-var : (x : ℕ) → x < length deal.vars → x < length names.vars
-  below-var x h = omega (arith, h, ap length of.vars, sound.same_vars)
-
-  below-sem : (s : ℕ) → s < length deal.sems → s < length names.sems
-  below-sem s h = omega (arith, h, ap length of.sems, sound.same_sems)
-
-  below-barrier : (b : ℕ) → b < length deal.barriers → b < length names.barriers
-  below-barrier b h = omega (arith, h, ap length of.barriers, sound.same_barriers)
-
-  below-mutex : (m : ℕ) → m < deal.mutexes → m < length names.mutexes
-  below-mutex m h = omega (arith, h, of.mutexes)
-
-  below-cond : (c : ℕ) → c < deal.conds → c < length names.conds
-  below-cond c h = omega (arith, h, of.conds)
-
-  below-thread : (t : ℕ) → t < deal.threads → t < length names.threads
-  below-thread t h = omega (arith, h, of.threads)
-
-  objects : (ask : Ask) → NamesOnly deal ask → HasObjects names version ask
-  objects (Read x) h = below-var x h
-  objects (Write x value) h = below-var x h
-  objects (Add x value) h = below-var x h
-  objects (Cas x old new) h = below-var x h
-  objects (Lock m) h = below-mutex m h
-  objects (TryLock m) h = below-mutex m h
-  objects (Unlock m) h = below-mutex m h
-  objects (Release c m) h = (below-cond c h.0, below-mutex m h.1)
-  objects (Regain c m) h = (below-cond c h.0, below-mutex m h.1)
-  objects (Signal c) h = below-cond c h
-  objects (Broadcast c) h = below-cond c h
-  objects (Down s) h = below-sem s h
-  objects (TryDown s) h = below-sem s h
-  objects (Up s) h = below-sem s h
-  objects (Arrive b) h = below-barrier b h
-  objects (Leave b) h = below-barrier b h
-  objects (Join t) h = below-thread t h
-  objects Yield h = tt
-  objects (Check holds) h = tt
-  objects (Fault kind) h = tt
-  objects (Start t) h = below-thread t h
-  objects Begin h = tt
-  objects (RdLock l) h = below-rwlock l h
-  objects (WrLock l) h = below-rwlock l h
-  objects (TryRdLock l) h = below-rwlock l h
-  objects (TryWrLock l) h = below-rwlock l h
-  objects (RwUnlock l) h = below-rwlock l h
+  objects : (ask : Ask) → IsInRange (sizes_of_deal deal) ask → HasObjects names version ask
+  objects ask h =
+      named ask
+      (subst (λ (sizes : Sizes). IsInRange sizes ask) (sym (same_sizes script deal sound of)) h)
 
   abbrev bodies : List Pending
   bodies = bodies_of script
@@ -115,7 +77,7 @@ module _ (script : ScriptText) (deal : Deal) (sound : IsScript script)
   asked-of t post ask within is asks = record {
     at = within;
     on = (is.first_line, is.last_line);
-    has = objects ask (subst (AsksOnly deal) asks is.ask);
+    has = objects ask (subst (PostIsInRange (sizes_of_deal deal)) asks is.ask);
   }
 
   asked : (t : ℕ) (answers : List ℤ) (ask : Ask) → (pending_of bodies t answers).ask ≡ Some ask

@@ -3,9 +3,9 @@ use Rattle.std.proofs.Common.{◌≡◌, ℕ, ◌≤◌, List, length, sym, subs
 use Rattle.std.specs.Coded.{le_prop}
 use Rattle.pct_ask.specs.declared.Deal.{Deal}
 use Rattle.pct_ask.specs.NameLists.{AreNames}
+use Rattle.pct_ask.specs.Bodies.{Pending}
 use Rattle.script_tree.specs.ScriptText.{ScriptText}
 use Rattle.script_body.specs.Bodies.{bodies_of}
-use Rattle.worker_run.specs.Bodies.{Pending}
 use Rattle.directive.specs.declared.directive.Directive.{Directive}
 use Rattle.directive.specs.Directive.{IsDirective}
 use Rattle.directive.specs.DirectiveText.{DirectiveText}

@@ -8,11 +8,8 @@ use Rattle.pct_ask.specs.VerdictText.{thread_name, named_verdict, HasNames, IsWh
 use Rattle.pct_ask.specs.VerdictText.{IsVerdictForm, IsPlace}
 use Rattle.pct_ask.specs.declared.Deal.{Deal}
 use Rattle.pct_ask.specs.declared.ask.Ask.{Ask}
-use Rattle.pct_ask.specs.declared.ask.Ask.TheVariants.{Read, Write, Add, Cas, Lock, TryLock, Unlock}
-use Rattle.pct_ask.specs.declared.ask.Ask.TheVariants.{Release, Regain, Signal, Broadcast, Down}
-use Rattle.pct_ask.specs.declared.ask.Ask.TheVariants.{TryDown, Up, Arrive, Leave, Join, Yield}
-use Rattle.pct_ask.specs.declared.ask.Ask.TheVariants.{Check, Fault, Start, Begin, RdLock, WrLock}
-use Rattle.pct_ask.specs.declared.ask.Ask.TheVariants.{TryRdLock, TryWrLock, RwUnlock}
+use Rattle.pct_ask.specs.declared.ask.Ask.TheVariants.{RdLock, WrLock, TryRdLock, TryWrLock}
+use Rattle.pct_ask.specs.declared.ask.Ask.TheVariants.{RwUnlock}
 use Rattle.pct_ask.specs.declared.event.Event.{Event}
 use Rattle.pct_ask.specs.declared.verdict.Verdict.{Verdict}
 use Rattle.pct_ask.specs.declared.verdict.Verdict.TheVariants.{Passed, Failed, Stuck, Misuse}
@@ -37,33 +34,12 @@ use Rattle.pct_top.proofs.KnownRuns.{known-steps, known-run}
 -- what is known in a version is known in the second
 to_second : (names : NameLists) (version : ℕ) (ask : Ask) → HasObjects names version ask
     → HasObjects names 2 ask
-to_second names version (Read x) h = h
-to_second names version (Write x value) h = h
-to_second names version (Add x value) h = h
-to_second names version (Cas x old new) h = h
-to_second names version (Lock m) h = h
-to_second names version (TryLock m) h = h
-to_second names version (Unlock m) h = h
-to_second names version (Release c m) h = h
-to_second names version (Regain c m) h = h
-to_second names version (Signal c) h = h
-to_second names version (Broadcast c) h = h
-to_second names version (Down s) h = h
-to_second names version (TryDown s) h = h
-to_second names version (Up s) h = h
-to_second names version (Arrive b) h = h
-to_second names version (Leave b) h = h
-to_second names version (Join t) h = h
-to_second names version Yield h = tt
-to_second names version (Check holds) h = tt
-to_second names version (Fault kind) h = tt
-to_second names version (Start t) h = h
-to_second names version Begin h = tt
 to_second names version (RdLock l) h = (h.0, refl)
 to_second names version (WrLock l) h = (h.0, refl)
 to_second names version (TryRdLock l) h = (h.0, refl)
 to_second names version (TryWrLock l) h = (h.0, refl)
 to_second names version (RwUnlock l) h = (h.0, refl)
+to_second names version ask h = h
 
 made_known : (names : NameLists) (version : ℕ) (event : Event) → NamesKnown names version event
     → IsKnownStep names event

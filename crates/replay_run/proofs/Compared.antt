@@ -6,11 +6,11 @@ use Rattle.pct_ask.specs.declared.event.Event.{Event}
 use Rattle.pct_ask.specs.declared.verdict.Verdict.{Verdict}
 use Rattle.pct_ask.specs.declared.verdict.Outcome.{Outcome}
 use Rattle.pct_ask.specs.declared.verdict.Outcome.TheVariants.{Verdict as Ends}
+use Rattle.pct_ask.specs.Bodies.{Pending}
 use Rattle.policy_pick.specs.Plan.{Plan, ByPoints, ByList, SpeaksOf}
 use Rattle.turn_book.specs.Posts.{schedule_of}
 use Rattle.turn_book.proofs.laws.Worlds.{same-cut}
 use Rattle.trace_text.specs.declared.file.TraceFile.{TraceFile}
-use Rattle.worker_run.specs.Bodies.{Pending}
 use Rattle.worker_run.specs.Run.{run}
 use Rattle.worker_run.specs.Played.{IsPlayed}
 use Rattle.worker_run.proofs.laws.OnePlayed.{only-played}

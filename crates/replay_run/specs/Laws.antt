@@ -1,8 +1,8 @@
 -- A law on replies (this project).
 use Rattle.std.specs.Prelude.{◌≡◌, List}
 use Rattle.pct_ask.specs.declared.Deal.{Deal}
+use Rattle.pct_ask.specs.Bodies.{Pending}
 use Rattle.trace_text.specs.declared.file.TraceFile.{TraceFile}
-use Rattle.worker_run.specs.Bodies.{Pending}
 use Rattle.replay_run.specs.declared.answer.Replayed.{Replayed}
 use Rattle.replay_run.specs.Replay.{IsReplay}
 

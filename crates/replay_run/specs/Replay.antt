@@ -6,10 +6,10 @@ use Rattle.pct_ask.specs.declared.event.Event.{Event}
 use Rattle.pct_ask.specs.declared.verdict.Verdict.{Verdict}
 use Rattle.pct_ask.specs.declared.verdict.Outcome.{Outcome}
 use Rattle.pct_ask.specs.declared.verdict.Outcome.TheVariants.{Verdict as Ends, Departed}
+use Rattle.pct_ask.specs.Bodies.{Pending}
 use Rattle.policy_pick.specs.Plan.{ByList}
 use Rattle.turn_book.specs.Posts.{schedule_of}
 use Rattle.trace_text.specs.declared.file.TraceFile.{TraceFile}
-use Rattle.worker_run.specs.Bodies.{Pending}
 use Rattle.worker_run.specs.Played.{IsPlayed}
 use Rattle.replay_run.specs.declared.answer.Written.{Written}
 use Rattle.replay_run.specs.declared.answer.Written.TheVariants.{Event as WrittenEvent}

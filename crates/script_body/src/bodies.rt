@@ -1,13 +1,14 @@
 // The bodies of all threads of a script's code.
 ghost use Rattle.std.specs.Prelude.{◌≡◌, length, map, IfOk};
 ghost use Rattle.pct_ask.specs.declared.deal.Deal.{Deal};
-ghost use Rattle.sync_store.specs.Store.{sizes_of_deal};
+ghost use Rattle.pct_ask.specs.Objects.{sizes_of_deal};
+ghost use Rattle.pct_ask.specs.Bodies.{AreInRange};
 ghost use Rattle.script_tree.specs.ScriptText.{ScriptText};
 ghost use Rattle.script_code.specs.CodeOf.{IsCodeOf};
 ghost use Rattle.script_code.specs.FlatPosts.{flat_pending};
 ghost use Rattle.script_code.specs.Listing.{listing};
 ghost use Rattle.script_body.specs.BodyPosts.{pending_of_body};
-ghost use Rattle.script_body.specs.Bodies.{bodies_of, AreOf, AskInRange};
+ghost use Rattle.script_body.specs.Bodies.{bodies_of, AreOf};
 
 use crate::ScriptBody;
 use script_code::Code;
@@ -25,7 +26,7 @@ pub fn bodies_of<'c>(alloc: Global, code: &'c Code) -> Result<Vec<ScriptBody<'c>
         → IfOk result (λ bodies. length bodies.items ≡ deal.threads) }
     ensures in_range { (script : ScriptText) (deal : Deal) → AreOf script (listing code.now) deal
         → IfOk result
-        (λ bodies. AskInRange (sizes_of_deal deal) (map pending_of_body bodies.items)) }
+        (λ bodies. AreInRange (sizes_of_deal deal) (map pending_of_body bodies.items)) }
 {
     let mut bodies = Vec::new(alloc);
     for thread in 0..code.threads() {

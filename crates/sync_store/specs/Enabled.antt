@@ -1,5 +1,5 @@
 -- When a thread's ask may take its step (POSIX threads; this project's own asks never wait).
-use Rattle.std.specs.Prelude.{◌<◌, ℕ, ◌==◌, ◌&&◌, pos, int_lt, Bool, true, not, List, is_none}
+use Rattle.std.specs.Prelude.{ℕ, ◌==◌, ◌&&◌, pos, int_lt, Bool, true, not, List, is_none}
 use Rattle.std.specs.List.{list_any, list_all}
 use Rattle.pct_ask.specs.declared.Ask.{Ask}
 use Rattle.pct_ask.specs.declared.Ask.TheVariants.{Read, Write, Add, Cas, Lock, TryLock, Unlock}
@@ -7,7 +7,7 @@ use Rattle.pct_ask.specs.declared.Ask.TheVariants.{Release, Regain, Signal, Broa
 use Rattle.pct_ask.specs.declared.Ask.TheVariants.{TryDown, Up, Arrive, Leave, Join, Yield, Check}
 use Rattle.pct_ask.specs.declared.Ask.TheVariants.{Fault, Start, Begin, RdLock, WrLock, TryRdLock}
 use Rattle.pct_ask.specs.declared.Ask.TheVariants.{TryWrLock, RwUnlock}
-use Rattle.sync_store.specs.Store.{Release as Released, RwLockState, StoreState, Sizes, is_on}
+use Rattle.sync_store.specs.Store.{Release as Released, RwLockState, StoreState, is_on}
 use Rattle.sync_store.specs.Store.{owner_of, condition_of, number_of, barrier_of, rwlock_of}
 
 -- whether a barrier has let a thread through
@@ -54,33 +54,3 @@ enabled store ended t (RwUnlock l) = true
 -- every thread but t has ended
 abbrev pub others_ended : ℕ → ℕ → Bool
 others_ended t u = not (u == t)
-
--- an ask names only objects and threads that there are
-abbrev pub IsInRange : Sizes → Ask → Type 0
-IsInRange sizes (Read x) = x < sizes.vars
-IsInRange sizes (Write x value) = x < sizes.vars
-IsInRange sizes (Add x value) = x < sizes.vars
-IsInRange sizes (Cas x old new) = x < sizes.vars
-IsInRange sizes (Lock m) = m < sizes.mutexes
-IsInRange sizes (TryLock m) = m < sizes.mutexes
-IsInRange sizes (Unlock m) = m < sizes.mutexes
-IsInRange sizes (Release c m) = (c < sizes.conds) × (m < sizes.mutexes)
-IsInRange sizes (Regain c m) = (c < sizes.conds) × (m < sizes.mutexes)
-IsInRange sizes (Signal c) = c < sizes.conds
-IsInRange sizes (Broadcast c) = c < sizes.conds
-IsInRange sizes (Down s) = s < sizes.sems
-IsInRange sizes (TryDown s) = s < sizes.sems
-IsInRange sizes (Up s) = s < sizes.sems
-IsInRange sizes (Arrive b) = b < sizes.barriers
-IsInRange sizes (Leave b) = b < sizes.barriers
-IsInRange sizes (Join u) = u < sizes.threads
-IsInRange sizes Yield = Unit {0}
-IsInRange sizes (Check holds) = Unit {0}
-IsInRange sizes (Fault kind) = Unit {0}
-IsInRange sizes (Start u) = u < sizes.threads
-IsInRange sizes Begin = Unit {0}
-IsInRange sizes (RdLock l) = l < sizes.rwlocks
-IsInRange sizes (WrLock l) = l < sizes.rwlocks
-IsInRange sizes (TryRdLock l) = l < sizes.rwlocks
-IsInRange sizes (TryWrLock l) = l < sizes.rwlocks
-IsInRange sizes (RwUnlock l) = l < sizes.rwlocks

@@ -4,6 +4,7 @@ use Rattle.std.specs.Prelude.{ℕ, ℤ, pos, Bool, List, [], length, map, replic
 use Rattle.std.specs.Prelude.{slice_index_or, slice_set, nat_eq}
 use Rattle.std.specs.Set.{is_member}
 use Rattle.pct_ask.specs.declared.Deal.{Deal}
+use Rattle.pct_ask.specs.Objects.{Sizes}
 
 -- a condition: the threads that wait for a signal, the longest first, and those that were woken and
 -- haven't taken their mutex again
@@ -119,29 +120,7 @@ with_rwlock store l rwlock = record store { rwlocks = slice_set store.rwlocks l 
 abbrev pub is_on : ℕ → List ℕ → Bool
 is_on t threads = is_member nat_eq threads t
 
--- how many threads and objects of each kind there are
-pub record Sizes : Type 0 where
-  pub threads : ℕ
-  pub vars : ℕ
-  pub mutexes : ℕ
-  pub conds : ℕ
-  pub sems : ℕ
-  pub barriers : ℕ
-  pub rwlocks : ℕ
-
--- how many of them a deal declares
-abbrev pub sizes_of_deal : Deal → Sizes
-sizes_of_deal deal = record {
-  threads = deal.threads;
-  vars = length deal.vars;
-  mutexes = deal.mutexes;
-  conds = deal.conds;
-  sems = length deal.sems;
-  barriers = length deal.barriers;
-  rwlocks = deal.rwlocks;
-}
-
--- how many of them a store has
+-- how many threads and objects of each kind a store has
 abbrev pub sizes_of : StoreState → Sizes
 sizes_of store = record {
   threads = store.threads;

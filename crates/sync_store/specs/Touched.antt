@@ -1,47 +1,38 @@
 -- Which object a step may have changed for the other threads, and whose asks it concerns (this
 -- project).
-use Rattle.std.specs.Prelude.{◌≡◌, ◌≢◌, ℕ, ◌==◌, ◌||◌, Bool, false}
+use Rattle.std.specs.Prelude.{◌≡◌, ◌≢◌, ℕ, ◌==◌, ◌||◌, Bool, false, List, [], ◌∷◌}
 use Rattle.pct_ask.specs.declared.Ask.{Ask}
-use Rattle.pct_ask.specs.declared.Ask.TheVariants.{Read, Write, Add, Cas, Lock, TryLock, Unlock}
-use Rattle.pct_ask.specs.declared.Ask.TheVariants.{Release, Regain, Signal, Broadcast, Down}
-use Rattle.pct_ask.specs.declared.Ask.TheVariants.{TryDown, Up, Arrive, Leave, Join, Yield, Check}
-use Rattle.pct_ask.specs.declared.Ask.TheVariants.{Fault, Start, Begin, RdLock, WrLock, TryRdLock}
-use Rattle.pct_ask.specs.declared.Ask.TheVariants.{TryWrLock, RwUnlock}
+use Rattle.pct_ask.specs.declared.Ask.TheVariants.{Join, Begin}
+use Rattle.pct_ask.specs.declared.names.NameKind.{NameKind}
+use Rattle.pct_ask.specs.declared.names.NameKind.TheVariants as kinds
+use Rattle.pct_ask.specs.Objects.{TestObject, objects_of}
 use Rattle.sync_store.specs.declared.touched.Touched.{Touched}
 use Rattle.sync_store.specs.declared.touched.Touched.TheVariants.{Nothing, Mutex, Cond, Sem}
 use Rattle.sync_store.specs.declared.touched.Touched.TheVariants.{Barrier, Thread, RwLock}
 use Rattle.sync_store.specs.Store.{StoreState}
 use Rattle.sync_store.specs.Enabled.{enabled}
 
--- the object that the step of an ask touches (this project)
+-- an object as one that a step may touch: a variable is none, as no thread waits for one
+abbrev pub touched_at : NameKind → ℕ → Touched
+touched_at kinds.Thread place = Thread place
+touched_at kinds.Var place = Nothing
+touched_at kinds.Mutex place = Mutex place
+touched_at kinds.Cond place = Cond place
+touched_at kinds.Sem place = Sem place
+touched_at kinds.Barrier place = Barrier place
+touched_at kinds.RwLock place = RwLock place
+
+-- the last of some objects
+abbrev pub last_touched : List TestObject → Touched
+last_touched [] = Nothing
+last_touched (o ∷ []) = touched_at o.kind o.place
+last_touched (o ∷ others) = last_touched others
+
+-- The object that the step of an ask touches (this project): the last one that it names. The start
+-- and the end of a wait touch the mutex, and a join touches nothing.
 abbrev pub touched_of : Ask → Touched
-touched_of (Read x) = Nothing
-touched_of (Write x value) = Nothing
-touched_of (Add x value) = Nothing
-touched_of (Cas x old new) = Nothing
-touched_of (Lock m) = Mutex m
-touched_of (TryLock m) = Mutex m
-touched_of (Unlock m) = Mutex m
-touched_of (Release c m) = Mutex m
-touched_of (Regain c m) = Mutex m
-touched_of (Signal c) = Cond c
-touched_of (Broadcast c) = Cond c
-touched_of (Down s) = Sem s
-touched_of (TryDown s) = Sem s
-touched_of (Up s) = Sem s
-touched_of (Arrive b) = Barrier b
-touched_of (Leave b) = Barrier b
 touched_of (Join u) = Nothing
-touched_of Yield = Nothing
-touched_of (Check holds) = Nothing
-touched_of (Fault kind) = Nothing
-touched_of (Start u) = Thread u
-touched_of Begin = Nothing
-touched_of (RdLock l) = RwLock l
-touched_of (WrLock l) = RwLock l
-touched_of (TryRdLock l) = RwLock l
-touched_of (TryWrLock l) = RwLock l
-touched_of (RwUnlock l) = RwLock l
+touched_of ask = last_touched (objects_of ask)
 
 -- whether an object is the mutex m
 abbrev pub is_mutex : ℕ → Touched → Bool
@@ -73,36 +64,29 @@ abbrev pub is_rwlock : ℕ → Touched → Bool
 is_rwlock l (RwLock k) = l == k
 is_rwlock l _ = false
 
--- Whether an ask of the thread t names an object. A regain names its condition and its mutex, a
--- begin the thread itself, and a join no object.
+-- whether two are the same object
+abbrev pub is_object : Touched → Touched → Bool
+is_object Nothing object = false
+is_object (Mutex m) object = is_mutex m object
+is_object (Cond c) object = is_cond c object
+is_object (Sem s) object = is_sem s object
+is_object (Barrier b) object = is_barrier b object
+is_object (Thread t) object = is_thread t object
+is_object (RwLock l) object = is_rwlock l object
+
+-- whether an object is one of these
+abbrev pub is_one_of : List TestObject → Touched → Bool
+is_one_of [] object = false
+is_one_of (o ∷ []) object = is_object (touched_at o.kind o.place) object
+is_one_of (o ∷ others) object =
+    is_object (touched_at o.kind o.place) object || is_one_of others object
+
+-- Whether the step of an ask of the thread t may wait for what is done to an object: the ask names
+-- it. A begin names the thread itself besides, and a join waits for the end of a thread alone.
 abbrev pub names_object : ℕ → Ask → Touched → Bool
-names_object t (Read x) object = false
-names_object t (Write x value) object = false
-names_object t (Add x value) object = false
-names_object t (Cas x old new) object = false
-names_object t (Lock m) object = is_mutex m object
-names_object t (TryLock m) object = is_mutex m object
-names_object t (Unlock m) object = is_mutex m object
-names_object t (Release c m) object = is_cond c object || is_mutex m object
-names_object t (Regain c m) object = is_cond c object || is_mutex m object
-names_object t (Signal c) object = is_cond c object
-names_object t (Broadcast c) object = is_cond c object
-names_object t (Down s) object = is_sem s object
-names_object t (TryDown s) object = is_sem s object
-names_object t (Up s) object = is_sem s object
-names_object t (Arrive b) object = is_barrier b object
-names_object t (Leave b) object = is_barrier b object
 names_object t (Join u) object = false
-names_object t Yield object = false
-names_object t (Check holds) object = false
-names_object t (Fault kind) object = false
-names_object t (Start u) object = is_thread u object
 names_object t Begin object = is_thread t object
-names_object t (RdLock l) object = is_rwlock l object
-names_object t (WrLock l) object = is_rwlock l object
-names_object t (TryRdLock l) object = is_rwlock l object
-names_object t (TryWrLock l) object = is_rwlock l object
-names_object t (RwUnlock l) object = is_rwlock l object
+names_object t ask object = is_one_of (objects_of ask) object
 
 -- An ask of a thread other than t that doesn't name the object is as enabled afterwards as it was
 -- before.

@@ -1,5 +1,6 @@
 ghost use Rattle.std.specs.Prelude.{◌≡◌, ◌<◌, IfOk};
-ghost use Rattle.sync_store.specs.Store.{first_store, is_on, sizes_of, sizes_of_deal};
+ghost use Rattle.pct_ask.specs.Objects.{sizes_of_deal};
+ghost use Rattle.sync_store.specs.Store.{first_store, is_on, sizes_of};
 ghost use Rattle.sync_store.specs.Effect.{effect, store_after, applied_of};
 ghost use Rattle.sync_store.specs.Stepped.{applied_by};
 

@@ -5,15 +5,9 @@ use Rattle.std.specs.List.{list_all}
 use Rattle.std.proofs.lemmas.Bool.{false≢true, ltb-true}
 use Rattle.pct_ask.specs.declared.Deal.{Deal}
 use Rattle.pct_ask.specs.declared.ask.Ask.{Ask}
-use Rattle.pct_ask.specs.declared.ask.Ask.TheVariants.{Read, Write, Add, Cas, Lock, TryLock}
-use Rattle.pct_ask.specs.declared.ask.Ask.TheVariants.{Unlock, Release, Regain, Signal, Broadcast}
-use Rattle.pct_ask.specs.declared.ask.Ask.TheVariants.{Down, TryDown, Up, Arrive, Leave, Join}
-use Rattle.pct_ask.specs.declared.ask.Ask.TheVariants.{Yield, Check, Fault, Start, Begin, RdLock}
-use Rattle.pct_ask.specs.declared.ask.Ask.TheVariants.{WrLock, TryRdLock, TryWrLock, RwUnlock}
-use Rattle.sync_store.specs.Store.{Sizes, sizes_of_deal}
-use Rattle.sync_store.specs.Enabled.{IsInRange}
-use Rattle.turn_book.specs.Told.{PostIsInRange}
-use Rattle.worker_run.specs.Bodies.{AreInRange}
+use Rattle.pct_ask.specs.declared.ask.Ask.TheVariants.{Add, Check, Down}
+use Rattle.pct_ask.specs.Objects.{Sizes, sizes_of_deal, IsInRange, PostIsInRange}
+use Rattle.pct_ask.specs.Bodies.{AreInRange}
 use Rattle.worker_run.specs.Samples.{sample_pending}
 use Rattle.worker_run.proofs.laws.SampleRanges.{samples-within}
 use Rattle.test_runs.specs.OneStep.{once_pending, is_deed}
@@ -33,30 +27,7 @@ module _ (sizes : Sizes) (vars : 1 ≤ sizes.vars) (sems : 1 ≤ sizes.sems) whe
   deed-within (Add x value) is = let b = ltb-true x 1 is in omega arith
   deed-within (Down s) is = let b = ltb-true s 1 is in omega arith
   deed-within (Check holds) is = tt
-  deed-within (Read x) is = absurd (false≢true is)
-  deed-within (Write x value) is = absurd (false≢true is)
-  deed-within (Cas x old new) is = absurd (false≢true is)
-  deed-within (Lock m) is = absurd (false≢true is)
-  deed-within (TryLock m) is = absurd (false≢true is)
-  deed-within (Unlock m) is = absurd (false≢true is)
-  deed-within (Release c m) is = absurd (false≢true is)
-  deed-within (Regain c m) is = absurd (false≢true is)
-  deed-within (Signal c) is = absurd (false≢true is)
-  deed-within (Broadcast c) is = absurd (false≢true is)
-  deed-within (TryDown s) is = absurd (false≢true is)
-  deed-within (Up s) is = absurd (false≢true is)
-  deed-within (Arrive b) is = absurd (false≢true is)
-  deed-within (Leave b) is = absurd (false≢true is)
-  deed-within (Join u) is = absurd (false≢true is)
-  deed-within Yield is = absurd (false≢true is)
-  deed-within (Fault kind) is = absurd (false≢true is)
-  deed-within (Start u) is = absurd (false≢true is)
-  deed-within Begin is = absurd (false≢true is)
-  deed-within (RdLock l) is = absurd (false≢true is)
-  deed-within (WrLock l) is = absurd (false≢true is)
-  deed-within (TryRdLock l) is = absurd (false≢true is)
-  deed-within (TryWrLock l) is = absurd (false≢true is)
-  deed-within (RwUnlock l) is = absurd (false≢true is)
+  deed-within _ is = absurd (false≢true is)
 
   once-within : (ask : Ask) (line : ℕ) (asked : Bool) (answers : List ℤ) → is_deed ask ≡ true
       → PostIsInRange sizes (once_pending ask line asked answers).ask

@@ -1,9 +1,6 @@
 //! The data races of lists of steps.
-ghost use Rattle.std.specs.Prelude.{IsTrue, All};
-ghost use Rattle.sync_store.specs.Store.{sizes_of_deal};
-ghost use Rattle.hb_race.specs.Ranges.{IsEventInRange};
 
-use crate::deals::fits;
+use crate::deals::are_in_range;
 use hb_race::{Race, races};
 use pct_ask::{Ask, Deal, Event, Outcome, Sequence, Verdict};
 use std::alloc::{AllocError, Global};
@@ -22,19 +19,6 @@ fn small_deal(alloc: Global) -> Result<Deal, AllocError> {
         barriers: Sequence::from_vec(vec![in alloc; 2]?),
         rwlocks: 1,
     })
-}
-
-/// Whether a step is by one of the threads, and asks for what there is.
-fn is_in_range(deal: &Deal, event: &Event) -> bool
-    ensures { IsTrue result → IsEventInRange (sizes_of_deal deal.now) event.now }
-{
-    event.thread < deal.threads && fits(deal, &event.ask)
-}
-
-fn are_in_range(deal: &Deal, events: &[Event]) -> bool
-    ensures { IsTrue result → All (IsEventInRange (sizes_of_deal deal.now)) events.now }
-{
-    events.iter().all(|event| is_in_range(deal, event))
 }
 
 /// A thread's step, with its ask and its answer.

@@ -1,11 +1,10 @@
 //! What the threads of the tests share.
-ghost use Rattle.std.specs.Prelude.{◌≡◌, ◌≤◌, [], length, IfOk, IsTrue};
-ghost use Rattle.sync_store.specs.Store.{sizes_of_deal};
-ghost use Rattle.sync_store.specs.Enabled.{IsInRange};
+ghost use Rattle.std.specs.Prelude.{◌≡◌, ◌≤◌, [], length, All, IfOk, IsTrue};
+ghost use Rattle.pct_ask.specs.Objects.{sizes_of_deal, EventIsInRange};
 ghost use Rattle.policy_pick.specs.Plan.{SpeaksOf};
 ghost use Rattle.policy_pick.specs.Kept.{points_plan, PointsStand};
 
-use pct_ask::{Ask, Deal, Sequence};
+use pct_ask::{Deal, Event, Sequence};
 use policy_pick::Pct;
 use std::alloc::{AllocError as NoMemory, Global};
 use std::test::Fail;
@@ -59,28 +58,15 @@ pub(crate) fn ordered(alloc: Global, order: &[u32]) -> Result<(Deal, Pct), Fail>
     with_order(alloc, deal, order)
 }
 
-/// Whether an ask names only what there is.
-pub(crate) fn fits(deal: &Deal, ask: &Ask) -> bool
-    ensures { IsTrue result → IsInRange (sizes_of_deal deal.now) ask.now }
+fn is_in_range(deal: &Deal, event: &Event) -> bool
+    ensures { IsTrue result → EventIsInRange (sizes_of_deal deal.now) event.now }
 {
-    match *ask {
-        Ask::Read { var } | Ask::Write { var, .. } | Ask::Add { var, .. } | Ask::Cas { var, .. } =>
-            (var as usize) < deal.vars.len(),
-        Ask::Lock { mutex } | Ask::TryLock { mutex } | Ask::Unlock { mutex } => mutex
-            < deal.mutexes,
-        Ask::Release { cond, mutex } | Ask::Regain { cond, mutex } => cond < deal.conds
-            && mutex < deal.mutexes,
-        Ask::Signal { cond } | Ask::Broadcast { cond } => cond < deal.conds,
-        Ask::Down { sem } | Ask::TryDown { sem } | Ask::Up { sem } => (sem as usize)
-            < deal.sems.len(),
-        Ask::Arrive { barrier } | Ask::Leave { barrier } => (barrier as usize)
-            < deal.barriers.len(),
-        Ask::Join { thread } | Ask::Start { thread } => thread < deal.threads,
-        Ask::Yield | Ask::Check { .. } | Ask::Fault { .. } | Ask::Begin => true,
-        Ask::RdLock { rwlock }
-        | Ask::WrLock { rwlock }
-        | Ask::TryRdLock { rwlock }
-        | Ask::TryWrLock { rwlock }
-        | Ask::RwUnlock { rwlock } => rwlock < deal.rwlocks,
-    }
+    event.thread < deal.threads && deal.has_objects_of(&event.ask)
+}
+
+/// Whether each step is by one of the threads, and asks for what there is.
+pub(crate) fn are_in_range(deal: &Deal, events: &[Event]) -> bool
+    ensures { IsTrue result → All (EventIsInRange (sizes_of_deal deal.now)) events.now }
+{
+    events.iter().all(|event| is_in_range(deal, event))
 }

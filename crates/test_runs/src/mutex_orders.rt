@@ -1,7 +1,8 @@
 //! Orders of mutexes, and cycles of nestings, in lists of steps.
-ghost use Rattle.std.specs.Prelude.{◌≤◌, IsTrue, length};
-ghost use Rattle.lock_order.specs.Nestings.{AreEventsInRange, EventNamesOnly};
+ghost use Rattle.std.specs.Prelude.{◌≤◌, length};
+ghost use Rattle.lock_order.specs.Nestings.{AreEventsInRange};
 
+use crate::deals::are_in_range;
 use lock_order::{IdList, LockReport, Nesting, NestingList, check_report, lock_order};
 use pct_ask::{Ask, Deal, Event, Sequence};
 use std::alloc::{AllocError as NoMemory, Global};
@@ -75,26 +76,6 @@ fn events_of(alloc: Global, steps: &[Step]) -> Result<Vec<Event>, NoMemory> {
         })?;
     }
     Ok(events)
-}
-
-/// Whether the event asks for mutexes alone, and names only what there is.
-fn fits(deal: &Deal, event: &Event) -> bool
-    ensures { IsTrue result → EventNamesOnly deal.now event.now }
-{
-    let within = match event.ask {
-        Ask::Lock { mutex } | Ask::TryLock { mutex } | Ask::Unlock { mutex } => mutex
-            < deal.mutexes,
-        Ask::Release { cond, mutex } | Ask::Regain { cond, mutex } => cond < deal.conds
-            && mutex < deal.mutexes,
-        _ => false,
-    };
-    within && event.thread < deal.threads
-}
-
-fn all_fit(deal: &Deal, events: &[Event]) -> bool
-    ensures { IsTrue result → AreEventsInRange deal.now events.now }
-{
-    events.iter().all(|event| fits(deal, event))
 }
 
 /// What a report says.
@@ -189,7 +170,7 @@ fn expect(
 ) -> Result<(), Fail> {
     let events = events_of(alloc, steps)?;
     let deal = small_deal(alloc);
-    assert!(rt; all_fit(&deal, &events) && events.len() <= 100_000);
+    assert!(rt; are_in_range(&deal, &events) && events.len() <= 100_000);
     let told = expect_all(rt, alloc, &deal, &events, said, bad);
     drop(deal);
     Ok(told?)

@@ -1,15 +1,14 @@
 //! One lock for the threads of a test, each by a seat of its own or some by one seat.
 ghost use Rattle.std.specs.Prelude.{◌≡◌, ◌<◌, ◌≤◌, ℕ, true, IsTrue, IfOk, length};
 ghost use Rattle.std.specs.Thread.{IsSync};
-ghost use Rattle.sync_store.specs.Store.{sizes_of_deal};
-ghost use Rattle.turn_book.specs.Told.{PostIsInRange};
+ghost use Rattle.pct_ask.specs.Objects.{sizes_of_deal, PostIsInRange};
 ghost use Rattle.turn_lock.specs.Rule.{Serves};
 ghost use Rattle.turn_lock.specs.Calls.{first_book, WaitsForTurn};
 ghost use Rattle.turn_lock.specs.Views.{view, HasSeat};
 
 mod scripts;
 
-use crate::deals::{deal_of, fits, with_order};
+use crate::deals::{deal_of, with_order};
 use crate::steps::{ENDS_EARLY, FAILS, IN_ORDER, ONE_MUTEX, WRITES};
 use pct_ask::{Deal, Event, Outcome, Post, Verdict};
 use policy_pick::Pct;
@@ -28,7 +27,7 @@ fn post_fits(deal: &Deal, post: Post) -> bool
 {
     match post.ask {
         None => true,
-        Some(ask) => fits(deal, &ask),
+        Some(ask) => deal.has_objects_of(&ask),
     }
 }
 

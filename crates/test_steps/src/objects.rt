@@ -1,7 +1,8 @@
 ghost use Rattle.std.specs.Prelude.{◌≡◌, IfOk};
-ghost use Rattle.sync_store.specs.Store.{sizes_of, sizes_of_deal};
+ghost use Rattle.pct_ask.specs.Objects.{sizes_of_deal};
+ghost use Rattle.sync_store.specs.Store.{sizes_of};
 
-use crate::samples::{deal_of, fits};
+use crate::samples::deal_of;
 use pct_ask::{Ask, Deal, FaultKind, MisuseKind, Standing, Verdict};
 use std::alloc::{AllocError, Global};
 use std::process::Abort;
@@ -38,7 +39,7 @@ fn see(rt: &impl Abort, deal: &Deal, store: &mut Store, thread: u32, ask: Ask) -
 {
     assert_eq!(rt; deal.threads, 3);
     assert!(rt; thread < 3);
-    assert!(rt; fits(deal, &ask));
+    assert!(rt; deal.has_objects_of(&ask));
     let mut standings = [Standing::Ended; 3];
     standings[thread as usize] = Standing::Asks;
     match store.ready(&standings, thread, &ask) {
@@ -351,7 +352,7 @@ fn ready_to(rt: &impl Abort, deal: &Deal, store: &Store, ask: Ask) -> Ready
     requires { sizes_of store.now ≡ sizes_of_deal deal.now }
 {
     assert_eq!(rt; deal.threads, 3);
-    assert!(rt; fits(deal, &ask));
+    assert!(rt; deal.has_objects_of(&ask));
     let standings = [Standing::Asks, Standing::Away, Standing::Ended];
     store.ready(&standings, 0, &ask)
 }

@@ -1,6 +1,6 @@
 ghost use Rattle.std.specs.Prelude.{◌≤◌, length};
 
-use crate::samples::{deal_of, fits};
+use crate::samples::deal_of;
 use pct_ask::{Ask, Blocked, Event, MisuseKind, Outcome, Post, Standing, Verdict};
 use policy_pick::{Pct, Policy};
 use std::alloc::Global;
@@ -16,7 +16,7 @@ fn post<P: Policy>(rt: &impl Abort, book: &mut TurnBook<P>, thread: u32, post: P
     assert_eq!(rt; book.standing(thread), Standing::Away);
     match post.ask {
         Some(ask) => {
-            assert!(rt; fits(book.deal(), &ask));
+            assert!(rt; book.deal().has_objects_of(&ask));
             book.post(thread, post);
         }
         None => book.post(thread, post),

@@ -2,9 +2,9 @@ ghost use Rattle.std.specs.Prelude.{◌≡◌, ◌∷◌, [], pos, IsSome, IfOk}
 
 use crate::samples::{add, names_of};
 use pct_ask::{
-    Ask, Blocked, Body, Deal, FaultKind, MisuseKind, NameKind, Names, NumberList, Outcome, Post,
-    Sequence, Verdict, VerdictRead, is_lawful_name, read_number, read_verdict, split_lines,
-    write_number, write_verdict,
+    Ask, Blocked, Body, Deal, FaultKind, MisuseKind, NameKind, Names, NumberList, Outcome,
+    PointList, Post, Sequence, Verdict, VerdictRead, first_pieces, is_lawful_name, read_number,
+    read_verdict, split_lines, step_counts, write_number, write_verdict,
 };
 use std::alloc::{AllocError as NoMemory, Global};
 use std::process::Abort;
@@ -139,6 +139,21 @@ fn no_numbers(rt: HostRuntime) {
     for text in &NO_NUMBERS {
         assert!(rt; read_number(text).is_none(), "{text:?}");
     }
+}
+
+fn steps_in(alloc: Global, text: &[u8]) -> Result<Option<PointList>, NoMemory> {
+    let pieces = first_pieces(alloc, text, b',', 8)?;
+    step_counts(alloc, pieces.as_slice())
+}
+
+#[test]
+fn numbers_of_steps(rt: HostRuntime) -> Result<(), Fail> {
+    let Some(steps) = steps_in(rt.alloc(), b"100000,1,40")? else {
+        panic!(rt; "numbers of steps");
+    };
+    assert_eq!(rt; steps.as_slice(), [100_000, 1, 40].as_slice());
+    assert!(rt; steps_in(rt.alloc(), b"1,100001")?.is_none());
+    Ok(())
 }
 
 #[test]
@@ -416,6 +431,8 @@ fn deals(rt: HostRuntime) -> Result<(), Fail> {
     assert_eq!(rt; (copy.threads, copy.rwlocks), (2, 64));
     assert_eq!(rt; copy.vars.as_slice(), [5].as_slice());
     assert_eq!(rt; copy.barriers.as_slice(), [2].as_slice());
+    assert!(rt; copy.has_objects_of(&Ask::WrLock { rwlock: 63 }));
+    assert!(rt; !copy.has_objects_of(&Ask::Regain { cond: 0, mutex: 0 }));
     drop(copy);
     Ok(())
 }

@@ -4,14 +4,12 @@ use Rattle.std.specs.Prelude.{List, All}
 use Rattle.std.specs.Int.{w64}
 use Rattle.std.specs.List.{AllPairs}
 use Rattle.pct_ask.specs.NameLists.{NameLists}
+use Rattle.pct_ask.specs.Objects.{sizes_of_names, IsInRange}
 use Rattle.pct_ask.specs.VerdictText.{named_verdict, IsVerdictForm, HasNames, IsWholeVerdict}
 use Rattle.pct_ask.specs.VerdictText.{IsLine}
 use Rattle.pct_ask.specs.declared.ask.Ask.{Ask}
-use Rattle.pct_ask.specs.declared.ask.Ask.TheVariants.{Read, Write, Add, Cas, Lock, TryLock, Unlock}
-use Rattle.pct_ask.specs.declared.ask.Ask.TheVariants.{Release, Regain, Signal, Broadcast, Down}
-use Rattle.pct_ask.specs.declared.ask.Ask.TheVariants.{TryDown, Up, Arrive, Leave, Join, Yield}
-use Rattle.pct_ask.specs.declared.ask.Ask.TheVariants.{Check, Fault, Start, Begin, RdLock, WrLock}
-use Rattle.pct_ask.specs.declared.ask.Ask.TheVariants.{TryRdLock, TryWrLock, RwUnlock}
+use Rattle.pct_ask.specs.declared.ask.Ask.TheVariants.{Write, Add, Cas, RdLock, WrLock, TryRdLock}
+use Rattle.pct_ask.specs.declared.ask.Ask.TheVariants.{TryWrLock, RwUnlock}
 use Rattle.pct_ask.specs.declared.event.Event.{Event}
 use Rattle.pct_ask.specs.declared.verdict.MisuseKind.TheVariants.{NotOwner, SemFull, AlreadyStarted}
 use Rattle.pct_ask.specs.declared.verdict.MisuseKind.TheVariants.{TooManyReads}
@@ -24,42 +22,27 @@ use Rattle.pct_ask.specs.TraceText.{TraceHead}
 abbrev pub IsValue : ℤ → Type 0
 IsValue z = FitsSigned w64 z
 
--- The objects and threads that an ask names are there, and in the first version it asks nothing of
+-- The threads and objects that an ask names have names, and in the first version it asks nothing of
 -- a read-write lock.
 abbrev pub HasObjects : NameLists → ℕ → Ask → Type 0
-HasObjects names version (Read x) = x < length names.vars
-HasObjects names version (Write x value) = x < length names.vars
-HasObjects names version (Add x value) = x < length names.vars
-HasObjects names version (Cas x old new) = x < length names.vars
-HasObjects names version (Lock m) = m < length names.mutexes
-HasObjects names version (TryLock m) = m < length names.mutexes
-HasObjects names version (Unlock m) = m < length names.mutexes
-HasObjects names version (Release c m) = (c < length names.conds) × (m < length names.mutexes)
-HasObjects names version (Regain c m) = (c < length names.conds) × (m < length names.mutexes)
-HasObjects names version (Signal c) = c < length names.conds
-HasObjects names version (Broadcast c) = c < length names.conds
-HasObjects names version (Down s) = s < length names.sems
-HasObjects names version (TryDown s) = s < length names.sems
-HasObjects names version (Up s) = s < length names.sems
-HasObjects names version (Arrive b) = b < length names.barriers
-HasObjects names version (Leave b) = b < length names.barriers
-HasObjects names version (Join t) = t < length names.threads
-HasObjects names version Yield = Unit {0}
-HasObjects names version (Check holds) = Unit {0}
-HasObjects names version (Fault kind) = Unit {0}
-HasObjects names version (Start t) = t < length names.threads
-HasObjects names version Begin = Unit {0}
-HasObjects names version (RdLock l) = (l < length names.rwlocks) × (version ≡ 2)
-HasObjects names version (WrLock l) = (l < length names.rwlocks) × (version ≡ 2)
-HasObjects names version (TryRdLock l) = (l < length names.rwlocks) × (version ≡ 2)
-HasObjects names version (TryWrLock l) = (l < length names.rwlocks) × (version ≡ 2)
-HasObjects names version (RwUnlock l) = (l < length names.rwlocks) × (version ≡ 2)
+HasObjects names version (RdLock l) =
+    IsInRange (sizes_of_names names) (RdLock l) × (version ≡ 2)
+HasObjects names version (WrLock l) =
+    IsInRange (sizes_of_names names) (WrLock l) × (version ≡ 2)
+HasObjects names version (TryRdLock l) =
+    IsInRange (sizes_of_names names) (TryRdLock l) × (version ≡ 2)
+HasObjects names version (TryWrLock l) =
+    IsInRange (sizes_of_names names) (TryWrLock l) × (version ≡ 2)
+HasObjects names version (RwUnlock l) =
+    IsInRange (sizes_of_names names) (RwUnlock l) × (version ≡ 2)
+HasObjects names version ask = IsInRange (sizes_of_names names) ask
 
 -- an ask of a test in a trace of a version: its numbers are i64s besides
 abbrev pub IsAsk : NameLists → ℕ → Ask → Type 0
-IsAsk names version (Write x value) = (x < length names.vars) × IsValue value
-IsAsk names version (Add x value) = (x < length names.vars) × IsValue value
-IsAsk names version (Cas x old new) = (x < length names.vars) × IsValue old × IsValue new
+IsAsk names version (Write x value) = HasObjects names version (Write x value) × IsValue value
+IsAsk names version (Add x value) = HasObjects names version (Add x value) × IsValue value
+IsAsk names version (Cas x old new) =
+    HasObjects names version (Cas x old new) × IsValue old × IsValue new
 IsAsk names version ask = HasObjects names version ask
 
 -- what a step names is there, and its line is a test's

@@ -19,9 +19,10 @@ use Rattle.pct_ask.specs.declared.Deal.{Deal}
 use Rattle.pct_ask.specs.declared.event.Standing.{Standing}
 use Rattle.pct_ask.specs.declared.event.Standing.TheVariants.{Away as AwayStanding}
 use Rattle.pct_ask.specs.declared.verdict.Verdict.TheVariants.{Passed, Stuck}
+use Rattle.pct_ask.specs.Objects.{Sizes, IsInRange, PostIsInRange}
 use Rattle.sync_store.specs.declared.touched.Touched.{Touched}
-use Rattle.sync_store.specs.Store.{StoreState, Sizes, sizes_of, first_store}
-use Rattle.sync_store.specs.Enabled.{IsInRange, enabled}
+use Rattle.sync_store.specs.Store.{StoreState, sizes_of, first_store}
+use Rattle.sync_store.specs.Enabled.{enabled}
 use Rattle.sync_store.specs.Ready.{join_target, unknown_target, ready_by, away_by, ended_by}
 use Rattle.sync_store.specs.Ready.{standing_is_away, standing_is_ended as is_ended_standing}
 use Rattle.sync_store.specs.Touched.{KeepsOthers, names_object}
@@ -30,7 +31,7 @@ use Rattle.policy_pick.specs.declared.chance.Chance.TheVariants.{Away, Ended}
 use Rattle.policy_pick.specs.Choice.{chance_of, HasAwayTarget, TargetsAreAway}
 use Rattle.turn_book.specs.Chances.{NextPosts, is_unknown, is_ended, chance_by, chance_of_ask}
 use Rattle.turn_book.specs.Chances.{chance_of_post, chance, chances, blocked_at, verdict_of_blocked}
-use Rattle.turn_book.specs.Told.{PostIsInRange, standing_by_ask, standing_by}
+use Rattle.turn_book.specs.Told.{standing_by_ask, standing_by}
 use Rattle.turn_book.specs.Board.{IsBoard, next_posts_of, ask_of_post, ArePostsInRange, joins}
 use Rattle.turn_book.specs.Board.{concerns_ask, concerns}
 use Rattle.turn_book.proofs.laws.MorePosts.{readiness-same}

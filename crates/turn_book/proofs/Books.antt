@@ -13,7 +13,8 @@ use Rattle.pct_ask.specs.declared.event.Event.{Event}
 use Rattle.pct_ask.specs.declared.event.Standing.TheVariants.{Away as AwayStanding}
 use Rattle.pct_ask.specs.declared.verdict.Verdict.{Verdict}
 use Rattle.pct_ask.specs.declared.verdict.Outcome.{Outcome}
-use Rattle.sync_store.specs.Store.{StoreState, Sizes, sizes_of, sizes_of_deal, first_store}
+use Rattle.pct_ask.specs.Objects.{Sizes, sizes_of_deal}
+use Rattle.sync_store.specs.Store.{StoreState, sizes_of, first_store}
 use Rattle.sync_store.specs.Enabled.{enabled}
 use Rattle.sync_store.specs.Ready.{join_target, unknown_target, ready_by}
 use Rattle.sync_store.specs.Effect.{effect}

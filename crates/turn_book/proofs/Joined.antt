@@ -10,10 +10,9 @@ use Rattle.pct_ask.specs.declared.ask.Ask.TheVariants.{TryDown, Up, Arrive, Leav
 use Rattle.pct_ask.specs.declared.ask.Ask.TheVariants.{Check, Fault, Start, Begin, RdLock, WrLock}
 use Rattle.pct_ask.specs.declared.ask.Ask.TheVariants.{TryRdLock, TryWrLock, RwUnlock}
 use Rattle.pct_ask.specs.declared.ask.Post.{Post}
+use Rattle.pct_ask.specs.Objects.{Sizes, PostIsInRange}
 use Rattle.sync_store.specs.declared.touched.Touched.TheVariants.{Nothing}
-use Rattle.sync_store.specs.Store.{Sizes}
 use Rattle.sync_store.specs.Touched.{names_object}
-use Rattle.turn_book.specs.Told.{PostIsInRange}
 use Rattle.turn_book.specs.Board.{AreNoted, ask_of_post, concerns, concerns_ask, joins, joins_ask}
 use Rattle.turn_book.specs.Board.{next_posts_of}
 use Rattle.turn_book.proofs.Boards.{nothing-posted, set-listed}

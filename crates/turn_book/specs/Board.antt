@@ -8,16 +8,14 @@ use Rattle.pct_ask.specs.declared.ask.Post.{Post}
 use Rattle.pct_ask.specs.declared.event.Event.{Event}
 use Rattle.pct_ask.specs.declared.event.Standing.{Standing}
 use Rattle.pct_ask.specs.declared.verdict.Verdict.{Verdict}
+use Rattle.pct_ask.specs.Objects.{PostIsInRange}
 use Rattle.sync_store.specs.declared.touched.Touched.{Touched}
-use Rattle.sync_store.specs.declared.touched.Touched.TheVariants.{Nothing, Mutex, Cond, Sem}
-use Rattle.sync_store.specs.declared.touched.Touched.TheVariants.{Barrier, Thread, RwLock}
 use Rattle.sync_store.specs.Store.{StoreState, sizes_of}
 use Rattle.sync_store.specs.Effect.{Effect, Goes, Stops, effect, store_after}
-use Rattle.sync_store.specs.Touched.{is_mutex, is_cond, is_sem, is_barrier, is_thread, is_rwlock}
 use Rattle.sync_store.specs.Touched.{names_object}
 use Rattle.policy_pick.specs.declared.chance.Chance.{Chance}
 use Rattle.turn_book.specs.Chances.{NextPosts, chances}
-use Rattle.turn_book.specs.Told.{PostIsInRange, standing_by}
+use Rattle.turn_book.specs.Told.{standing_by}
 
 pub record BoardState : Type 0 where
   pub store : StoreState
@@ -63,16 +61,6 @@ pub record TakesStep (old : BoardState) (t : ℕ) (event : Event) (ends : Option
   pub verdict : ends ≡ verdict_of (effect old.store t event.line event.ask)
   pub store : new.store ≡ store_after old.store (effect old.store t event.line event.ask)
   pub posts : new.posts ≡ slice_set old.posts t None
-
--- whether two are the same object
-abbrev pub is_object : Touched → Touched → Bool
-is_object Nothing object = false
-is_object (Mutex m) object = is_mutex m object
-is_object (Cond c) object = is_cond c object
-is_object (Sem s) object = is_sem s object
-is_object (Barrier b) object = is_barrier b object
-is_object (Thread t) object = is_thread t object
-is_object (RwLock l) object = is_rwlock l object
 
 -- whether an ask joins a thread
 abbrev pub joins : ℕ → Ask → Bool

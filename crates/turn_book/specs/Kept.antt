@@ -7,7 +7,8 @@ use Rattle.pct_ask.specs.declared.Deal.{Deal}
 use Rattle.pct_ask.specs.declared.event.Event.{Event}
 use Rattle.pct_ask.specs.declared.verdict.Verdict.{Verdict}
 use Rattle.pct_ask.specs.declared.verdict.Outcome.{Outcome}
-use Rattle.sync_store.specs.Store.{sizes_of, sizes_of_deal, first_store}
+use Rattle.pct_ask.specs.Objects.{sizes_of_deal}
+use Rattle.sync_store.specs.Store.{sizes_of, first_store}
 use Rattle.sync_store.specs.World.{Source, world_after}
 use Rattle.policy_pick.specs.declared.chance.Pick.{Pick}
 use Rattle.policy_pick.specs.Plan.{Plan, SpeaksOf}

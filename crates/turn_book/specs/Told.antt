@@ -8,8 +8,6 @@ use Rattle.pct_ask.specs.declared.event.Event.{Event}
 use Rattle.pct_ask.specs.declared.event.Standing.{Standing}
 use Rattle.pct_ask.specs.declared.event.Standing.TheVariants.{Away, Asks, Ended}
 use Rattle.pct_ask.specs.declared.verdict.Outcome.{Outcome}
-use Rattle.sync_store.specs.Store.{Sizes}
-use Rattle.sync_store.specs.Enabled.{IsInRange}
 use Rattle.policy_pick.specs.declared.chance.Pick.{Pick}
 use Rattle.policy_pick.specs.Plan.{Plan, SpeaksOf}
 use Rattle.turn_book.specs.Posts.{schedule_of, own_events, posts_of, source_of, HasMore}
@@ -56,11 +54,6 @@ standing_of book t = standing_by (next_post book t)
 -- the plan's choice after the book's steps
 abbrev pub choice_of : BookState → Option Pick
 choice_of book = choice_after book.plan book.deal (source_of book.posts) (schedule_of book.trace)
-
--- a post's ask, if it has one, names only objects and threads that there are
-abbrev pub PostIsInRange : Sizes → Option Ask → Type 0
-PostIsInRange sizes None = Unit {0}
-PostIsInRange sizes (Some ask) = IsInRange sizes ask
 
 -- the post that a step was made of
 abbrev pub post_of_event : Event → Post

@@ -1,12 +1,13 @@
 ghost use Rattle.std.specs.Prelude.{◌≡◌, ◌<◌, length, replicate, Option, Some, None};
 ghost use Rattle.std.specs.Prelude.{slice_set, IfOk};
 ghost use Rattle.pct_ask.specs.declared.verdict.Verdict.{Verdict};
-ghost use Rattle.sync_store.specs.Store.{first_store, sizes_of, sizes_of_deal};
+ghost use Rattle.pct_ask.specs.Objects.{sizes_of_deal, PostIsInRange};
+ghost use Rattle.sync_store.specs.Store.{first_store, sizes_of};
 ghost use Rattle.policy_pick.specs.declared.chance.Chance.{Chance};
 ghost use Rattle.policy_pick.specs.Choice.{TargetsAreAway};
 ghost use Rattle.turn_book.specs.Chances.{chance, chances, rest_verdict};
 ghost use Rattle.turn_book.specs.Obeys.{outcome_by};
-ghost use Rattle.turn_book.specs.Told.{PostIsInRange, standing_by};
+ghost use Rattle.turn_book.specs.Told.{standing_by};
 ghost use Rattle.turn_book.specs.Board.{TakesStep, next_posts_of};
 
 use crate::known::{asked, blocked_line, look_again, note_joined, standing_of, step_of};

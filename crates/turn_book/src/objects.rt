@@ -1,7 +1,7 @@
 ghost use Rattle.std.specs.Prelude.{◌≡◌, ◌||◌};
 ghost use Rattle.sync_store.specs.declared.touched.Touched.{Touched};
-ghost use Rattle.sync_store.specs.Touched.{names_object};
-ghost use Rattle.turn_book.specs.Board.{is_object, joins};
+ghost use Rattle.sync_store.specs.Touched.{is_object, names_object};
+ghost use Rattle.turn_book.specs.Board.{joins};
 
 use pct_ask::Ask;
 use sync_store::Touched;

@@ -6,8 +6,8 @@ use mathlib.Core.Logic.{dite}
 use native.Mathlib.Decide.{ℕ_discrete}
 use Rattle.pct_ask.specs.declared.Deal.{Deal}
 use Rattle.pct_ask.specs.declared.ask.Post.{Post}
-use Rattle.sync_store.specs.Store.{sizes_of_deal}
-use Rattle.turn_book.specs.Told.{BookState, SameMaking, Within, PostIsInRange}
+use Rattle.pct_ask.specs.Objects.{sizes_of_deal, PostIsInRange}
+use Rattle.turn_book.specs.Told.{BookState, SameMaking, Within}
 use Rattle.turn_lock.specs.Seen.{SameOf, owes_of}
 use Rattle.turn_lock.specs.Slots.{Slot, NotesBelow}
 use Rattle.turn_lock.specs.Rule.{HasFlag, Serves}

@@ -4,9 +4,9 @@ use Rattle.std.specs.Prelude.{length, Option, Some, None, option_to_list, IsSome
 use Rattle.pct_ask.specs.declared.ask.Post.{Post}
 use Rattle.pct_ask.specs.declared.event.Event.{Event}
 use Rattle.pct_ask.specs.declared.event.Standing.TheVariants as standings
+use Rattle.pct_ask.specs.Objects.{sizes_of_deal, PostIsInRange}
 use Rattle.policy_pick.specs.declared.chance.Pick.TheVariants as picks
-use Rattle.sync_store.specs.Store.{sizes_of_deal}
-use Rattle.turn_book.specs.Told.{BookState, PostIsInRange, standing_of, choice_of, IsPosted}
+use Rattle.turn_book.specs.Told.{BookState, standing_of, choice_of, IsPosted}
 use Rattle.turn_book.specs.Told.{IsAnswered}
 use Rattle.turn_book.specs.Told.{IsLawful, Within}
 use Rattle.turn_book.specs.Answers.{IsBecause}

@@ -1,7 +1,6 @@
 // The calls that may wait.
 ghost use Rattle.std.specs.Prelude.{◌≡◌, ◌≤◌, ◌<◌, ℕ, true, false, None, Some};
-ghost use Rattle.sync_store.specs.Store.{sizes_of_deal};
-ghost use Rattle.turn_book.specs.Told.{PostIsInRange};
+ghost use Rattle.pct_ask.specs.Objects.{sizes_of_deal, PostIsInRange};
 ghost use Rattle.turn_lock.specs.Seen.{ObeysPlan, owes_of};
 ghost use Rattle.turn_lock.specs.Rule.{Serves};
 ghost use Rattle.turn_lock.specs.Turns.{TookAtLast, TellsEnd};

@@ -5,7 +5,7 @@ use Rattle.policy_pick.specs.declared.policy.Policy.{Ghosts}
 use Rattle.turn_lock.specs.Calls.{first_book}
 use Rattle.turn_lock.specs.Views.{view, HasSeat}
 use Rattle.turn_lock.proofs.laws.SeenBooks.{making-along}
-use Rattle.worker_run.specs.Bodies.{Pending, pending_of}
+use Rattle.pct_ask.specs.Bodies.{Pending, pending_of}
 use Rattle.worker_run.specs.Batch.{bodies_on, is_there, IsPart, IsWaiting, IsPartBack, WasServed}
 use Rattle.worker_run.specs.Batches.{AreParts, AreBack}
 use Rattle.worker_run.specs.declared.batch.Stage.{Stage}

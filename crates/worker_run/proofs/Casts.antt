@@ -10,7 +10,7 @@ use Rattle.turn_lock.specs.Views.{view, HasSeat}
 use Rattle.turn_lock.specs.declared.view.View.{View}
 use Rattle.turn_lock.specs.declared.seat.Seat.{Seat}
 use Rattle.turn_lock.proofs.laws.Serving.{alone-one, without-had, without-has}
-use Rattle.worker_run.specs.Bodies.{Pending, pending_of}
+use Rattle.pct_ask.specs.Bodies.{Pending, pending_of}
 use Rattle.worker_run.specs.Served.{runner_at, IsCrew, AllOwe}
 use Rattle.worker_run.specs.Batch.{bodies_on, NoneOutside, IsSeatOf, IsCrewOf, IsWaiting}
 use Rattle.worker_run.specs.declared.runner.Runner.{Runner}

@@ -5,6 +5,7 @@ use Rattle.std.proofs.lemmas.Bool.{cases_eq, false≢true}
 use Rattle.std.proofs.lemmas.List.{length-set, get_or-set_same, get_or-set_other, get_or_past, get_or_default}
 use Rattle.pct_ask.specs.declared.Deal.{Deal}
 use Rattle.pct_ask.specs.declared.event.Standing.TheVariants.{Ended as HasEnded}
+use Rattle.pct_ask.specs.Bodies.{Pending}
 use Rattle.turn_book.specs.Told.{BookState, IsLawful, Within, standing_by, standing_of}
 use Rattle.turn_lock.specs.Seen.{SameOf, pairs_of, posts_seen, owes_of}
 use Rattle.turn_lock.specs.Rule.{Serves}
@@ -12,7 +13,6 @@ use Rattle.turn_lock.specs.declared.view.View.{View}
 use Rattle.turn_lock.proofs.laws.Serving.{serves-along}
 use Rattle.turn_lock.proofs.laws.Standings.{same-owes}
 use Rattle.turn_lock.proofs.laws.SeenBooks.{within-self, within-along, same-self, same-along}
-use Rattle.worker_run.specs.Bodies.{Pending}
 use Rattle.worker_run.specs.declared.runner.Runner.{Runner}
 use Rattle.worker_run.specs.Served.{Follows, IsRunning, runner_at, IsCrew, AllOwe, GoesOn, Moves, IsOver, StaysOutside, IsServed}
 use Rattle.worker_run.proofs.Running.{running-same}

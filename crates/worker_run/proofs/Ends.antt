@@ -11,7 +11,7 @@ use Rattle.turn_lock.specs.Calls.{first_book}
 use Rattle.turn_lock.specs.Views.{view, HasSeat}
 use Rattle.turn_lock.specs.declared.held.TurnLock.{TurnLock}
 use Rattle.worker_run.specs.Batch.{Each, IsSeatOf, IsThreadTold}
-use Rattle.worker_run.specs.Bodies.{Pending}
+use Rattle.pct_ask.specs.Bodies.{Pending}
 use Rattle.worker_run.specs.Batches.{AreSeats, AreCrews, Holds, ToldAt}
 use Rattle.worker_run.specs.Tests.{AreTests, AllTold, IsLockOf, IsFirstCrew}
 use Rattle.worker_run.specs.declared.batch.Test.{Test}

@@ -2,7 +2,8 @@
 use Rattle.std.proofs.Common.{◌≡◌, ℕ, ◌<◌, Option, Some, List, [], ◌∷◌, length, map, refl, sym, ap}
 use Rattle.std.proofs.Common.{subst, ◌∙◌, arith}
 use Rattle.std.proofs.lemmas.List.{length-map}
-use Rattle.sync_store.specs.Store.{sizes_of_deal}
+use Rattle.pct_ask.specs.Objects.{sizes_of_deal}
+use Rattle.pct_ask.specs.Bodies.{Pending, pending_of, AreInRange}
 use Rattle.policy_pick.specs.declared.policy.Policy.{Ghosts}
 use Rattle.policy_pick.specs.Plan.{Plan, SpeaksOf}
 use Rattle.turn_book.specs.Told.{BookState, new_book}
@@ -10,7 +11,6 @@ use Rattle.turn_lock.specs.Rule.{Serves}
 use Rattle.turn_lock.specs.Calls.{first_book, ServesAll}
 use Rattle.turn_lock.specs.Views.{view, HasSeat}
 use Rattle.turn_lock.specs.declared.held.TurnLock.{TurnLock}
-use Rattle.worker_run.specs.Bodies.{Pending, pending_of, AreInRange}
 use Rattle.worker_run.specs.Played.{IsPlayed, HasPlayed}
 use Rattle.worker_run.specs.Served.{IsUnposted, IsCrew, first_runners}
 use Rattle.worker_run.specs.Batch.{posts_at, bodies_on, IsSeatOf, IsCrewOf, IsThreadTold}

@@ -8,6 +8,7 @@ use Rattle.pct_ask.specs.declared.verdict.Verdict.{Verdict}
 use Rattle.pct_ask.specs.declared.verdict.Verdict.TheVariants.{Cut}
 use Rattle.pct_ask.specs.declared.verdict.Outcome.{Outcome}
 use Rattle.pct_ask.specs.declared.verdict.Outcome.TheVariants.{Verdict as Ends}
+use Rattle.pct_ask.specs.Bodies.{Pending}
 use Rattle.rank_now.specs.declared.moment.Moment.{Moment}
 use Rattle.rank_now.specs.Rank.{rank, rank_by_events}
 use Rattle.sync_store.specs.Store.{first_store}
@@ -19,7 +20,7 @@ use Rattle.turn_book.specs.Chances.{rest_verdict}
 use Rattle.turn_book.specs.Obeys.{next_posts_in, choice_in, outcome_by_pick, outcome_by}
 use Rattle.turn_book.proofs.laws.Worlds.{IsMade, made-from, last-step}
 use Rattle.turn_book.proofs.laws.MorePosts.{choice-at, settled-at}
-use Rattle.worker_run.specs.Bodies.{Pending, source_of_bodies}
+use Rattle.worker_run.specs.Bodies.{source_of_bodies}
 use Rattle.worker_run.specs.Run.{Setting, Over, Goes, next_of, next_thread, next_after, cut_at, go_on, run_from, run, directed_run}
 use Rattle.worker_run.specs.Played.{IsPlayed, IsRun}
 use Rattle.worker_run.proofs.laws.KnownPosts.{pick_of, pick_of-thread, points-pick, events-pick}

@@ -2,7 +2,7 @@
 use Rattle.std.proofs.Common.{◌≡◌, ℕ, List, [], ◌∷◌, ◌++◌, length, map, sym, ap, subst, ◌∙◌, ◌⊎◌, inl, inr}
 use Rattle.std.specs.Prelude.{slice_get, Vec}
 use Rattle.policy_pick.specs.declared.policy.Policy.{Ghosts}
-use Rattle.worker_run.specs.Bodies.{Pending}
+use Rattle.pct_ask.specs.Bodies.{Pending}
 use Rattle.worker_run.specs.Batch.{is_there}
 use Rattle.worker_run.specs.Batches.{IsThere, Holds, ToldAt, AreSeats, AreTold, AreToldBeside}
 use Rattle.worker_run.specs.declared.batch.Stage.{Stage}

@@ -6,7 +6,7 @@ use Rattle.std.proofs.lemmas.Option.{slice_get_within}
 use Rattle.policy_pick.specs.declared.policy.Policy.{Ghosts}
 use Rattle.turn_lock.specs.Rule.{Serves}
 use Rattle.turn_lock.specs.Views.{view}
-use Rattle.worker_run.specs.Bodies.{Pending}
+use Rattle.pct_ask.specs.Bodies.{Pending}
 use Rattle.worker_run.specs.Batch.{Each, IsPart, IsServedPart, IsThreadTold, bodies_on, is_there}
 use Rattle.worker_run.specs.Batches.{IsThere, IsRoom, AreRooms, Holds, InPlaces, ToldAt, AreParts}
 use Rattle.worker_run.specs.Batches.{ArePlaces}

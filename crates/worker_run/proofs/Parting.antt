@@ -3,6 +3,7 @@ use Rattle.std.proofs.Common.{◌≡◌, ◌≢◌, ℕ, zero, suc, ◌+◌, ◌
 use Rattle.std.proofs.lemmas.Bool.{cases_eq}
 use Rattle.std.proofs.lemmas.List.{get_or-set_same, get_or-set_other}
 use Rattle.pct_ask.specs.declared.ask.Post.{Post}
+use Rattle.pct_ask.specs.Bodies.{Pending}
 use Rattle.turn_book.specs.Told.{Within}
 use Rattle.turn_lock.specs.Seen.{SameOf, ObeysPlan, posts_seen}
 use Rattle.turn_lock.specs.Rule.{Serves}
@@ -10,7 +11,6 @@ use Rattle.turn_lock.specs.Seats.{seat_without, seat_of_one, joined_seat, longer
 use Rattle.turn_lock.specs.declared.view.View.{View}
 use Rattle.turn_lock.proofs.laws.Serving.{alone-one, alone-has, without-not, without-had, without-has, joined-left, joined-right, joined-either}
 use Rattle.turn_lock.proofs.laws.SeenBooks.{within-self, within-along}
-use Rattle.worker_run.specs.Bodies.{Pending}
 use Rattle.worker_run.specs.declared.runner.Runner.{Runner}
 use Rattle.worker_run.specs.Served.{IsUnposted, IsWhole, IsRunning, runner_at, IsCrew}
 use Rattle.worker_run.proofs.Crews.{runner-within}

@@ -9,7 +9,8 @@ use Rattle.pct_ask.specs.declared.Deal.{Deal}
 use Rattle.pct_ask.specs.declared.ask.Post.{Post}
 use Rattle.pct_ask.specs.declared.event.Event.{Event}
 use Rattle.pct_ask.specs.declared.verdict.Outcome.{Outcome}
-use Rattle.sync_store.specs.Store.{sizes_of_deal}
+use Rattle.pct_ask.specs.Objects.{sizes_of_deal}
+use Rattle.pct_ask.specs.Bodies.{Pending, pending_of, AreInRange}
 use Rattle.sync_store.specs.World.{answers_of}
 use Rattle.policy_pick.specs.Plan.{Plan, SpeaksOf}
 use Rattle.turn_book.specs.Posts.{own_events, source_of, KeepsPosts}
@@ -21,7 +22,7 @@ use Rattle.turn_lock.specs.Rule.{Serves, first_view}
 use Rattle.turn_lock.specs.Seats.{joined_seat}
 use Rattle.turn_lock.specs.declared.view.View.{View}
 use Rattle.turn_lock.proofs.laws.FirstThreads.{first-has, first-below}
-use Rattle.worker_run.specs.Bodies.{Pending, pending_of, source_of_bodies, AreInRange}
+use Rattle.worker_run.specs.Bodies.{source_of_bodies}
 use Rattle.worker_run.specs.declared.runner.Runner.{Runner}
 use Rattle.worker_run.specs.Played.{IsPlayed, HasPlayed}
 use Rattle.worker_run.specs.Served.{IsUnposted, IsRunning, runner_at, IsCrew, AllOwe, IsOver, IsServed, first_runners}

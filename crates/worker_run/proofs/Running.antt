@@ -9,6 +9,7 @@ use Rattle.pct_ask.specs.declared.ask.Post.{Post}
 use Rattle.pct_ask.specs.declared.event.Event.{Event}
 use Rattle.pct_ask.specs.declared.verdict.Outcome.{Outcome}
 use Rattle.pct_ask.specs.declared.event.Standing.TheVariants.{Ended as HasEnded}
+use Rattle.pct_ask.specs.Bodies.{Pending}
 use Rattle.sync_store.specs.World.{answers_of}
 use Rattle.turn_book.specs.Posts.{own_events, posts_of}
 use Rattle.turn_book.specs.Told.{BookState, IsLawful, IsAnswered, standing_of, post_of_event}
@@ -19,7 +20,6 @@ use Rattle.turn_lock.specs.declared.turn.Turn.{Turn}
 use Rattle.turn_lock.specs.declared.turn.Turn.TheVariants.{Answer, Ended, NotYet, Busy, Over}
 use Rattle.turn_lock.specs.declared.view.View.{View}
 use Rattle.turn_lock.proofs.laws.Standings.{owes-length, here-owes}
-use Rattle.worker_run.specs.Bodies.{Pending}
 use Rattle.worker_run.specs.Served.{Follows, IsRunning, Moves, IsOver, is_over}
 
 -- ---- lists

@@ -5,6 +5,7 @@ use Rattle.std.proofs.lemmas.Bool.{cases_eq}
 use Rattle.std.proofs.lemmas.List.{get_or-set_same, get_or-set_other}
 use Rattle.pct_ask.specs.declared.Deal.{Deal}
 use Rattle.pct_ask.specs.declared.event.Standing.TheVariants.{Ended as HasEnded}
+use Rattle.pct_ask.specs.Bodies.{Pending, pending_of}
 use Rattle.turn_book.specs.Told.{BookState, SameMaking, IsLawful, Within, new_book, standing_of}
 use Rattle.turn_lock.specs.Seen.{SameOf, ObeysPlan, posts_seen}
 use Rattle.turn_lock.specs.Rule.{Serves, first_view}
@@ -12,7 +13,6 @@ use Rattle.turn_lock.specs.Calls.{ServesAll}
 use Rattle.turn_lock.specs.declared.view.View.{View}
 use Rattle.turn_lock.proofs.laws.Standings.{same-owes}
 use Rattle.turn_lock.proofs.laws.FirstThreads.{first-below, first-has}
-use Rattle.worker_run.specs.Bodies.{Pending, pending_of}
 use Rattle.worker_run.specs.Played.{HasPlayed}
 use Rattle.worker_run.specs.declared.runner.Runner.{Runner}
 use Rattle.worker_run.specs.Served.{IsRunning, runner_at, IsCrew, AllOwe, IsOver, IsServed}

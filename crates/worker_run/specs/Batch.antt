@@ -2,7 +2,8 @@
 use Rattle.std.specs.Prelude.{◌≡◌, ◌<◌, ◌≤◌, ◌⊎◌, ℕ, Bool, true, false, List, [], ◌∷◌, length, map}
 use Rattle.std.specs.Prelude.{Option, Some, None, slice_get}
 use Rattle.pct_ask.specs.declared.event.Standing.TheVariants.{Ended}
-use Rattle.sync_store.specs.Store.{sizes_of_deal}
+use Rattle.pct_ask.specs.Objects.{sizes_of_deal}
+use Rattle.pct_ask.specs.Bodies.{Pending, no_body, pending_of, AreInRange}
 use Rattle.policy_pick.specs.Plan.{SpeaksOf}
 use Rattle.policy_pick.specs.declared.policy.Policy.{Ghosts}
 use Rattle.turn_book.specs.Posts.{source_of}
@@ -15,7 +16,6 @@ use Rattle.turn_lock.specs.Views.{view, HasSeat}
 use Rattle.turn_lock.specs.declared.view.View.{View}
 use Rattle.turn_lock.specs.declared.held.TurnLock.{TurnLock}
 use Rattle.turn_lock.specs.declared.seat.Seat.{Seat}
-use Rattle.worker_run.specs.Bodies.{Pending, no_body, pending_of, AreInRange}
 use Rattle.worker_run.specs.Served.{Follows, IsCrew, AllOwe, IsOver, IsServed}
 use Rattle.worker_run.specs.declared.runner.Runner.{Runner}
 use Rattle.worker_run.specs.declared.batch.Stage.{Stage}

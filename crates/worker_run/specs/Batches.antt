@@ -4,7 +4,7 @@ use Rattle.std.specs.Prelude.{◌≡◌, ℕ, true, List, [], map, Some, slice_g
 use Rattle.policy_pick.specs.declared.policy.Policy.{Ghosts}
 use Rattle.turn_lock.specs.Rule.{Serves}
 use Rattle.turn_lock.specs.Views.{view}
-use Rattle.worker_run.specs.Bodies.{Pending}
+use Rattle.pct_ask.specs.Bodies.{Pending}
 use Rattle.worker_run.specs.Batch.{Each, IsSeatOf, IsCrewOf, IsPart, IsServedPart, IsThreadTold}
 use Rattle.worker_run.specs.Batch.{IsPartBack, bodies_on, is_there}
 use Rattle.worker_run.specs.declared.batch.Stage.{Stage}

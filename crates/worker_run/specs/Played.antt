@@ -5,11 +5,12 @@ use Rattle.pct_ask.specs.declared.event.Event.{Event}
 use Rattle.pct_ask.specs.declared.verdict.Verdict.{Verdict}
 use Rattle.pct_ask.specs.declared.verdict.Outcome.{Outcome}
 use Rattle.pct_ask.specs.declared.verdict.Outcome.TheVariants.{Verdict as Ends}
+use Rattle.pct_ask.specs.Bodies.{Pending}
 use Rattle.policy_pick.specs.Plan.{Plan}
 use Rattle.turn_book.specs.Posts.{source_of}
 use Rattle.turn_book.specs.Obeys.{Obeys, outcome_after}
 use Rattle.turn_book.specs.Told.{BookState}
-use Rattle.worker_run.specs.Bodies.{Pending, source_of_bodies}
+use Rattle.worker_run.specs.Bodies.{source_of_bodies}
 use Rattle.worker_run.specs.Run.{Run}
 
 -- The steps obey the plan over what the bodies post, and this is what became of the run.

@@ -12,6 +12,7 @@ use Rattle.pct_ask.specs.declared.Deal.{Deal}
 use Rattle.pct_ask.specs.declared.event.Event.{Event}
 use Rattle.pct_ask.specs.declared.verdict.Verdict.{Verdict}
 use Rattle.pct_ask.specs.declared.verdict.Verdict.TheVariants.{Cut}
+use Rattle.pct_ask.specs.Bodies.{Pending, pending_of}
 use Rattle.sync_store.specs.Store.{first_store}
 use Rattle.sync_store.specs.Enabled.{enabled}
 use Rattle.sync_store.specs.World.{World, has_ended, answers_of, world_after}
@@ -19,7 +20,7 @@ use Rattle.rank_now.specs.declared.moment.Moment.{Moment}
 use Rattle.rank_now.specs.Rank.{rank, rank_by_events}
 use Rattle.turn_book.specs.Chances.{threads_below, rest_verdict}
 use Rattle.turn_book.specs.Obeys.{next_posts_in}
-use Rattle.worker_run.specs.Bodies.{Pending, pending_of, source_of_bodies}
+use Rattle.worker_run.specs.Bodies.{source_of_bodies}
 
 -- what a run is made of: what the threads share, their bodies, and each thread's rank after a
 -- schedule

@@ -5,7 +5,8 @@ use Rattle.std.specs.Prelude.{slice_index_or}
 use Rattle.pct_ask.specs.declared.ask.Post.{Post}
 use Rattle.pct_ask.specs.declared.event.Standing.TheVariants.{Ended}
 use Rattle.pct_ask.specs.declared.verdict.Outcome.{Outcome}
-use Rattle.sync_store.specs.Store.{Sizes}
+use Rattle.pct_ask.specs.Objects.{Sizes}
+use Rattle.pct_ask.specs.Bodies.{Pending, IsInRangeBody}
 use Rattle.sync_store.specs.World.{answers_of}
 use Rattle.policy_pick.specs.Plan.{SpeaksOf}
 use Rattle.turn_book.specs.Posts.{source_of}
@@ -16,7 +17,6 @@ use Rattle.turn_lock.specs.Rule.{Serves}
 use Rattle.turn_lock.specs.declared.turn.Turn.{Turn}
 use Rattle.turn_lock.specs.declared.turn.Turn.TheVariants.{Over}
 use Rattle.turn_lock.specs.declared.view.View.{View}
-use Rattle.worker_run.specs.Bodies.{Pending, IsInRangeBody}
 use Rattle.worker_run.specs.declared.runner.Runner.{Runner}
 
 -- nothing was posted, and no step was taken

@@ -1,6 +1,7 @@
 -- What is asked of a test that is run with others, and what is promised of its run (this project).
 use Rattle.std.specs.Prelude.{◌≡◌, ◌<◌, ◌≤◌, ℕ, List, [], length, map, Some, slice_get}
-use Rattle.sync_store.specs.Store.{sizes_of_deal}
+use Rattle.pct_ask.specs.Objects.{sizes_of_deal}
+use Rattle.pct_ask.specs.Bodies.{Pending, AreInRange}
 use Rattle.rank_now.specs.declared.moment.Moment.{Moment}
 use Rattle.policy_pick.specs.Plan.{Plan, SpeaksOf, ByPoints, ByEvents}
 use Rattle.policy_pick.specs.declared.policy.Policy.{Ghosts}
@@ -9,7 +10,6 @@ use Rattle.turn_lock.specs.Rule.{first_view}
 use Rattle.turn_lock.specs.Calls.{first_book}
 use Rattle.turn_lock.specs.Views.{view}
 use Rattle.turn_lock.specs.declared.held.TurnLock.{TurnLock}
-use Rattle.worker_run.specs.Bodies.{Pending, AreInRange}
 use Rattle.worker_run.specs.Run.{run, directed_run}
 use Rattle.worker_run.specs.Played.{IsPlayed, IsRun}
 use Rattle.worker_run.specs.Served.{first_runners}

@@ -3,11 +3,11 @@
 ghost use Rattle.std.specs.Prelude.{◌≡◌, ◌≤◌, [], length, map, IfOk, Some};
 ghost use Rattle.pct_ask.specs.declared.verdict.Outcome.{Outcome};
 ghost use Rattle.pct_ask.specs.declared.verdict.Verdict.{Verdict};
-ghost use Rattle.sync_store.specs.Store.{sizes_of_deal};
+ghost use Rattle.pct_ask.specs.Objects.{sizes_of_deal};
+ghost use Rattle.pct_ask.specs.Bodies.{AreInRange};
 ghost use Rattle.rank_now.specs.Order.{IsOrder};
 ghost use Rattle.policy_pick.specs.Plan.{ByPoints, ByEvents};
 ghost use Rattle.policy_pick.specs.Kept.{points_plan, PointsStand, events_plan, EventsStand};
-ghost use Rattle.worker_run.specs.Bodies.{AreInRange};
 ghost use Rattle.worker_run.specs.Run.{run, directed_run};
 ghost use Rattle.worker_run.specs.Played.{IsPlayed};
 

@@ -1,11 +1,11 @@
 // The caller's loop: one thread serves some bodies by one seat.
 ghost use Rattle.std.specs.Prelude.{◌≡◌, ◌≤◌, ℕ, true, false, None, Some, length};
-ghost use Rattle.sync_store.specs.Store.{sizes_of_deal};
+ghost use Rattle.pct_ask.specs.Objects.{sizes_of_deal};
+ghost use Rattle.pct_ask.specs.Bodies.{Pending};
 ghost use Rattle.turn_book.specs.Told.{IsLawful};
 ghost use Rattle.turn_lock.specs.Rule.{Serves};
 ghost use Rattle.turn_lock.specs.Calls.{first_book};
 ghost use Rattle.turn_lock.specs.Views.{view, HasSeat};
-ghost use Rattle.worker_run.specs.Bodies.{Pending};
 ghost use Rattle.worker_run.specs.Served.{IsCrew, HasCrew, AllOwe, NoneOwes, GoesOn, IsOver};
 ghost use Rattle.worker_run.specs.Served.{IsServed, runner_at};
 ghost use Rattle.worker_run.specs.declared.runner.Runner.{Runner};

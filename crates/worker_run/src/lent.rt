@@ -1,10 +1,10 @@
 // The run on a lent lock: the one-lock case of a batch.
 ghost use Rattle.std.specs.Prelude.{◌≡◌, ◌<◌, ◌≤◌, ℕ, length, map, OnErr, OnOk, IfOk};
-ghost use Rattle.sync_store.specs.Store.{sizes_of_deal};
+ghost use Rattle.pct_ask.specs.Objects.{sizes_of_deal};
+ghost use Rattle.pct_ask.specs.Bodies.{AreInRange};
 ghost use Rattle.turn_lock.specs.Rule.{Serves};
 ghost use Rattle.turn_lock.specs.Calls.{first_book, ServesAll};
 ghost use Rattle.turn_lock.specs.Views.{view, HasSeat};
-ghost use Rattle.worker_run.specs.Bodies.{AreInRange};
 ghost use Rattle.worker_run.specs.Played.{HasPlayed};
 ghost use Rattle.worker_run.specs.Served.{IsUnposted, IsWhole, first_runners};
 

@@ -1,10 +1,10 @@
 // Tests that are run with others under an order of their threads.
 ghost use Rattle.std.specs.Prelude.{◌≡◌, ◌≤◌, length, map, IfOk};
-ghost use Rattle.sync_store.specs.Store.{sizes_of_deal};
+ghost use Rattle.pct_ask.specs.Objects.{sizes_of_deal};
+ghost use Rattle.pct_ask.specs.Bodies.{AreInRange};
 ghost use Rattle.rank_now.specs.Order.{IsOrder};
 ghost use Rattle.policy_pick.specs.Plan.{ByPoints, ByEvents};
 ghost use Rattle.policy_pick.specs.Kept.{points_plan, PointsStand, events_plan, EventsStand};
-ghost use Rattle.worker_run.specs.Bodies.{AreInRange};
 ghost use Rattle.worker_run.specs.Tests.{IsTest};
 
 use crate::batch::Test;

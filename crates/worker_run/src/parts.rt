@@ -1,10 +1,10 @@
 // One test of a batch: its parts are taken off its crew, served, and joined to it again.
 ghost use Rattle.std.specs.Prelude.{◌≡◌, ◌⊎◌, ℕ, ◌∷◌, [], true, Some};
-ghost use Rattle.sync_store.specs.Store.{sizes_of_deal};
+ghost use Rattle.pct_ask.specs.Objects.{sizes_of_deal};
+ghost use Rattle.pct_ask.specs.Bodies.{Pending};
 ghost use Rattle.turn_lock.specs.Rule.{Serves};
 ghost use Rattle.turn_lock.specs.Calls.{first_book};
 ghost use Rattle.turn_lock.specs.Views.{view, HasSeat};
-ghost use Rattle.worker_run.specs.Bodies.{Pending};
 ghost use Rattle.worker_run.specs.Served.{IsCrew, HasCrew, AllOwe, IsServed};
 ghost use Rattle.worker_run.specs.Batch.{IsSeatOf, IsCrewOf, IsPart, IsServedPart};
 ghost use Rattle.worker_run.specs.Batch.{IsPartBack, IsThreadTold, bodies_on, is_there};

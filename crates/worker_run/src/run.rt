@@ -1,12 +1,12 @@
 ghost use Rattle.std.specs.Prelude.{◌≡◌, ◌≤◌, [], List, length, map, IfOk, ℕ};
-ghost use Rattle.sync_store.specs.Store.{sizes_of_deal};
+ghost use Rattle.pct_ask.specs.Objects.{sizes_of_deal};
+ghost use Rattle.pct_ask.specs.Bodies.{Pending, AreInRange};
 ghost use Rattle.rank_now.specs.declared.moment.Moment.{Moment};
 ghost use Rattle.policy_pick.specs.Plan.{SpeaksOf, ByPoints, ByEvents};
 ghost use Rattle.turn_book.specs.Told.{new_book};
 ghost use Rattle.turn_lock.specs.Rule.{first_view};
 ghost use Rattle.turn_lock.specs.Calls.{first_book, ServesAll};
 ghost use Rattle.turn_lock.specs.Views.{view, HasSeat};
-ghost use Rattle.worker_run.specs.Bodies.{Pending, AreInRange};
 ghost use Rattle.worker_run.specs.Run.{run, directed_run};
 ghost use Rattle.worker_run.specs.Played.{IsPlayed, IsRun, HasPlayed};
 

@@ -1,5 +1,6 @@
 ghost use Rattle.std.specs.Prelude.{◌≡◌, ◌<◌, ◌+◌, ◌^◌, ℤ, List, ◌∷◌, [], true, false, IsSome};
-ghost use Rattle.sync_store.specs.Store.{sizes_of_deal};
+ghost use Rattle.pct_ask.specs.Objects.{sizes_of_deal};
+ghost use Rattle.pct_ask.specs.Bodies.{Pending, IsInRangeBody};
 ghost use Rattle.turn_book.specs.Told.{IsLawful};
 ghost use Rattle.turn_lock.specs.Seen.{owes_of};
 ghost use Rattle.turn_lock.specs.Rule.{Serves};
@@ -7,7 +8,6 @@ ghost use Rattle.turn_lock.specs.Calls.{first_book};
 ghost use Rattle.turn_lock.specs.Views.{view, HasSeat};
 ghost use Rattle.turn_lock.specs.Briefs.{brief};
 ghost use Rattle.turn_lock.specs.declared.turn.Turn.{Turn};
-ghost use Rattle.worker_run.specs.Bodies.{Pending, IsInRangeBody};
 ghost use Rattle.worker_run.specs.Served.{IsRunning, Moves, IsOver, is_over};
 
 use pct_ask::Body;

@@ -9,13 +9,14 @@ use Rattle.std.proofs.lemmas.Bool.Decides.{nat_tests}
 use Rattle.pct_ask.specs.declared.Deal.{Deal}
 use Rattle.pct_ask.specs.declared.event.Event.{Event}
 use Rattle.pct_ask.specs.declared.verdict.Outcome.{Outcome}
+use Rattle.pct_ask.specs.Bodies.{Pending}
 use Rattle.rank_now.specs.Positions.{passes_at}
 use Rattle.rank_now.specs.Rank.{own_steps}
 use Rattle.rank_now.proofs.laws.Positions.{passes_at-read}
 use Rattle.policy_pick.specs.Plan.{ByPoints}
 use Rattle.turn_book.specs.Posts.{schedule_of}
 use Rattle.turn_book.proofs.laws.ObeyingSteps.{obeys-within}
-use Rattle.worker_run.specs.Bodies.{Pending, source_of_bodies}
+use Rattle.worker_run.specs.Bodies.{source_of_bodies}
 use Rattle.worker_run.specs.Played.{IsPlayed}
 use Rattle.worker_run.proofs.laws.Moments.{own-step, own-rises}
 use Rattle.directive_find.specs.Moments.{moment_at, is_kept, events_of, MomentFits}

@@ -8,13 +8,13 @@ use Rattle.std.proofs.lemmas.List.{length-append}
 use Rattle.pct_ask.specs.declared.Deal.{Deal}
 use Rattle.pct_ask.specs.declared.event.Event.{Event}
 use Rattle.pct_ask.specs.declared.verdict.Verdict.{Verdict}
+use Rattle.pct_ask.specs.Bodies.{Pending}
 use Rattle.rank_now.specs.declared.moment.Moment.{Moment}
 use Rattle.rank_now.specs.Order.{IsOrder}
 use Rattle.rank_now.specs.Positions.{greatest_where, passes_at, last_position}
 use Rattle.rank_now.specs.Rank.{index_of_point, own_steps, is_moment, index_of_moment, rank, rank_by_events}
 use Rattle.rank_now.proofs.laws.Positions.{greatest-le, passes_at-read}
 use Rattle.turn_book.specs.Posts.{schedule_of}
-use Rattle.worker_run.specs.Bodies.{Pending}
 use Rattle.worker_run.specs.Run.{run, directed_run}
 use Rattle.worker_run.proofs.laws.SameRuns.{same-from}
 use Rattle.worker_run.proofs.laws.RanksAlike.{GivenAlike, rank_by-alike}

@@ -13,7 +13,7 @@ use Rattle.pct_ask.specs.declared.Deal.{Deal}
 use Rattle.pct_ask.specs.declared.event.Event.{Event}
 use Rattle.pct_ask.specs.declared.verdict.Verdict.{Verdict}
 use Rattle.pct_ask.proofs.laws.SameVerdicts.{verdict-Decides}
-use Rattle.worker_run.specs.Bodies.{Pending}
+use Rattle.pct_ask.specs.Bodies.{Pending}
 use Rattle.worker_run.specs.Run.{run}
 use Rattle.directive_run.specs.Exposing.{IsWithin}
 use Rattle.turn_book.specs.Chances.{threads_below}

@@ -8,12 +8,12 @@ use Rattle.std.proofs.lemmas.List.Elements.{All-nil, All-cons}
 use Rattle.pct_ask.specs.declared.Deal.{Deal}
 use Rattle.pct_ask.specs.declared.event.Event.{Event}
 use Rattle.pct_ask.specs.declared.verdict.Verdict.{Verdict}
+use Rattle.pct_ask.specs.Bodies.{Pending}
 use Rattle.rank_now.specs.declared.moment.Moment.{Moment}
 use Rattle.rank_now.specs.Positions.{greatest_where, passes_at}
 use Rattle.rank_now.specs.Rank.{rank_by, index_of_point, is_moment, index_of_moment, rank, rank_by_events}
 use Rattle.rank_now.proofs.laws.Positions.{greatest-agree, greatest-passes, greatest-le, passes_at-agree, rank_by-agree}
 use Rattle.turn_book.specs.Posts.{schedule_of}
-use Rattle.worker_run.specs.Bodies.{Pending}
 use Rattle.worker_run.specs.Run.{run, directed_run}
 use Rattle.worker_run.proofs.laws.Moments.{moment-once, is_moment-append}
 use Rattle.worker_run.proofs.laws.SameRuns.{same-from}

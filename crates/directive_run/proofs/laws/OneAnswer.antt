@@ -5,9 +5,9 @@ use Rattle.pct_ask.specs.declared.Deal.{Deal}
 use Rattle.pct_ask.specs.declared.event.Event.{Event}
 use Rattle.pct_ask.specs.declared.verdict.Verdict.{Verdict}
 use Rattle.pct_ask.specs.declared.verdict.Outcome.TheVariants.{Verdict as Ends}
+use Rattle.pct_ask.specs.Bodies.{Pending}
 use Rattle.rank_now.specs.declared.moment.Moment.{Moment}
 use Rattle.turn_book.specs.Posts.{schedule_of}
-use Rattle.worker_run.specs.Bodies.{Pending}
 use Rattle.worker_run.specs.Run.{Run}
 use Rattle.worker_run.specs.declared.played.Played.{Played}
 use Rattle.directive.specs.declared.directive.Directive.{Directive}

@@ -1,5 +1,5 @@
 use Rattle.std.proofs.Common.{sym, subst}
-use Rattle.worker_run.specs.Bodies.{Pending}
+use Rattle.pct_ask.specs.Bodies.{Pending}
 use Rattle.kit_main.specs.Showing.{IsShowable}
 use Rattle.kit_main.proofs.Showable.{boxed-showable, sample-showable}
 use Rattle.kit_main.proofs.show_samples.Goals as goal

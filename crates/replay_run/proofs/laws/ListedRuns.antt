@@ -10,6 +10,7 @@ use Rattle.pct_ask.specs.declared.Deal.{Deal}
 use Rattle.pct_ask.specs.declared.event.Event.{Event}
 use Rattle.pct_ask.specs.declared.verdict.Verdict.{Verdict}
 use Rattle.pct_ask.specs.declared.verdict.Outcome.TheVariants.{Verdict as Ends}
+use Rattle.pct_ask.specs.Bodies.{Pending}
 use Rattle.sync_store.specs.Store.{first_store}
 use Rattle.sync_store.specs.World.{Source, World, world_after}
 use Rattle.policy_pick.specs.declared.chance.Chance.{Chance}
@@ -26,7 +27,7 @@ use Rattle.turn_book.specs.Posts.{schedule_of}
 use Rattle.turn_book.specs.Obeys.{next_posts_in, choice_in, choice_after, Obeys, outcome_by_pick, outcome_by, outcome_after}
 use Rattle.turn_book.proofs.laws.Worlds.{map-some, made-from}
 use Rattle.turn_book.proofs.laws.MorePosts.{nobody-closed, chosen-ready, departs-may, settled-at}
-use Rattle.worker_run.specs.Bodies.{Pending, source_of_bodies}
+use Rattle.worker_run.specs.Bodies.{source_of_bodies}
 use Rattle.worker_run.specs.Played.{IsPlayed}
 use Rattle.worker_run.proofs.laws.KnownPosts.{bodies-no-wait}
 

@@ -1,38 +1,22 @@
 -- The bodies of a script's code are those of the script, and name only what its deal has.
 use Rattle.std.proofs.Common.{◌≡◌, ℕ, ℤ, suc, ◌+◌, ◌<◌, List, [], ◌∷◌, ◌++◌, length, get_or, map}
-use Rattle.std.proofs.Common.{take, Some, None, Option, sym, ap, subst, ◌∙◌, arith, inl, inr}
+use Rattle.std.proofs.Common.{take, sym, ap, subst, ◌∙◌, arith, inl, inr}
 use Rattle.std.proofs.lemmas.Bool.{cases_lt}
 use Rattle.std.proofs.lemmas.List.{ext_get_or, get_or_past, length-map, map-append}
 use Rattle.std.proofs.Math.ListN.{get_or-map}
 use Rattle.std.proofs.Math.Seq.{take-suc}
 use Rattle.std.proofs.lemmas.List.FromFn.{length-map-range_with_len, get_or-map-range_with_len}
-use Rattle.pct_ask.specs.declared.ask.Ask.{Ask}
-use Rattle.pct_ask.specs.declared.ask.Ask.TheVariants.{Read, Write, Add, Cas, Lock, TryLock, Unlock}
-use Rattle.pct_ask.specs.declared.ask.Ask.TheVariants.{Release, Regain, Signal, Broadcast, Down}
-use Rattle.pct_ask.specs.declared.ask.Ask.TheVariants.{TryDown, Up, Arrive, Leave, Join, Yield}
-use Rattle.pct_ask.specs.declared.ask.Ask.TheVariants.{Check, Fault, Start, Begin, RdLock, WrLock}
-use Rattle.pct_ask.specs.declared.ask.Ask.TheVariants.{TryRdLock, TryWrLock, RwUnlock}
-use Rattle.pct_ask.specs.declared.ask.Post.{Post}
 use Rattle.pct_ask.specs.declared.Deal.{Deal}
-use Rattle.sync_store.specs.Store.{sizes_of_deal}
-use Rattle.sync_store.specs.Enabled.{IsInRange}
+use Rattle.pct_ask.specs.Objects.{sizes_of_deal, PostIsInRange}
+use Rattle.pct_ask.specs.Bodies.{Pending, no_body, AreInRange}
 use Rattle.script_tree.specs.ScriptText.{ScriptText}
-use Rattle.script_tree.specs.Naming.{NamesOnly, AsksOnly}
 use Rattle.script_tree.specs.Posts.{pending}
 use Rattle.script_tree.proofs.laws.Naming.{pending_named}
 use Rattle.script_code.specs.Operations.{Operation}
 use Rattle.script_code.specs.Placed.{listing_of}
 use Rattle.script_code.specs.FlatPosts.{flat_pending}
 use Rattle.script_code.specs.CodeOf.{IsCodeOf}
-use Rattle.script_body.specs.Bodies.{bodies_of, AreOf, AskIsInRange, AskInRange}
-
--- what a body posts after each list of answers
-abbrev Pending : Type 0
-Pending = List ℤ → Post
-
--- a thread that there isn't
-abbrev nobody : Pending
-nobody answers = record { ask = None; line = 0 }
+use Rattle.script_body.specs.Bodies.{bodies_of, AreOf}
 
 same_posts : (f g : Pending) → ((answers : List ℤ) → f answers ≡ g answers) → f ≡ g
 same_posts f g same = λ j answers. same answers j
@@ -66,54 +50,18 @@ code_bodies script code of =
     ∙ sym (get_or-map-range_with_len (pending script) 0 n i i (flat_pending []) below
     (omega arith)))
 
--- an ask that names only what the deal has is in its range
-ask_in_range : (deal : Deal) (ask : Ask) → NamesOnly deal ask → IsInRange (sizes_of_deal deal) ask
-ask_in_range deal (Read x) h = h
-ask_in_range deal (Write x value) h = h
-ask_in_range deal (Add x value) h = h
-ask_in_range deal (Cas x old new) h = h
-ask_in_range deal (Lock m) h = h
-ask_in_range deal (TryLock m) h = h
-ask_in_range deal (Unlock m) h = h
-ask_in_range deal (Release c m) h = h
-ask_in_range deal (Regain c m) h = h
-ask_in_range deal (Signal c) h = h
-ask_in_range deal (Broadcast c) h = h
-ask_in_range deal (Down s) h = h
-ask_in_range deal (TryDown s) h = h
-ask_in_range deal (Up s) h = h
-ask_in_range deal (Arrive b) h = h
-ask_in_range deal (Leave b) h = h
-ask_in_range deal (Join u) h = h
-ask_in_range deal Yield h = h
-ask_in_range deal (Check holds) h = h
-ask_in_range deal (Fault kind) h = h
-ask_in_range deal (Start u) h = h
-ask_in_range deal Begin h = h
-ask_in_range deal (RdLock l) h = h
-ask_in_range deal (WrLock l) h = h
-ask_in_range deal (TryRdLock l) h = h
-ask_in_range deal (TryWrLock l) h = h
-ask_in_range deal (RwUnlock l) h = h
-
-post_in_range : (deal : Deal) (ask : Option Ask) → AsksOnly deal ask
-    → AskIsInRange (sizes_of_deal deal) ask
-post_in_range deal None h = tt
-post_in_range deal (Some ask) h = ask_in_range deal ask h
-
 bodies_in_range : (script : ScriptText) (code : List (List Operation)) (deal : Deal)
-    → AreOf script code deal → AskInRange (sizes_of_deal deal) (bodies_of script)
+    → AreOf script code deal → AreInRange (sizes_of_deal deal) (bodies_of script)
 bodies_in_range script code deal of t answers =
     let n = length script.threads in
-    let P : Pending → Type 0 = λ posts. AskIsInRange (sizes_of_deal deal) (posts answers).ask in
+    let P : Pending → Type 0 = λ posts. PostIsInRange (sizes_of_deal deal) (posts answers).ask in
     elim (cases_lt t n) [
       | inl below ↦
-          let at = get_or-map-range_with_len (pending script) 0 n t t nobody below (omega arith) in
-          subst P (sym at) (post_in_range deal (pending script t answers).ask
-          (pending_named script deal of.sound of.is_deal t below answers).ask)
+          let at = get_or-map-range_with_len (pending script) 0 n t t no_body below (omega arith) in
+          subst P (sym at) (pending_named script deal of.sound of.is_deal t below answers).ask
       | inr past ↦
           let long = length-map-range_with_len (pending script) 0 n in
-          subst P (sym (get_or_past (bodies_of script) t nobody (omega (arith, long, past)))) tt
+          subst P (sym (get_or_past (bodies_of script) t no_body (omega (arith, long, past)))) tt
     ]
 
 -- bodies that post what the code does are one for each thread of a deal like the script's
@@ -128,9 +76,9 @@ one_each bodies posts script code deal own of same are =
 -- and they name only what it has
 pub all_in_range : {X : Type 0} (bodies : List X) (posts : X → Pending) (script : ScriptText)
     (code : List (List Operation)) (deal own : Deal) → AreOf script code deal → own ≡ deal
-    → map posts bodies ≡ map flat_pending code → AskInRange (sizes_of_deal own) (map posts bodies)
+    → map posts bodies ≡ map flat_pending code → AreInRange (sizes_of_deal own) (map posts bodies)
 all_in_range bodies posts script code deal own of same are =
-    let B : List Pending → Type 0 = λ bs. AskInRange (sizes_of_deal own) bs in
-    let D : Deal → Type 0 = λ d. AskInRange (sizes_of_deal d) (bodies_of script) in
+    let B : List Pending → Type 0 = λ bs. AreInRange (sizes_of_deal own) bs in
+    let D : Deal → Type 0 = λ d. AreInRange (sizes_of_deal d) (bodies_of script) in
     subst B (sym (are ∙ code_bodies script code of.is_code))
     (subst D (sym same) (bodies_in_range script code deal of))

@@ -12,6 +12,7 @@ use Rattle.pct_ask.specs.declared.ask.Ask.TheVariants as asks
 use Rattle.pct_ask.specs.declared.ask.FaultKind.{FaultKind}
 use Rattle.pct_ask.specs.declared.ask.FaultKind.TheVariants.{Spin}
 use Rattle.pct_ask.specs.declared.deal.Deal.{Deal}
+use Rattle.pct_ask.specs.Objects.{sizes_of_deal, IsInRange, PostIsInRange}
 use Rattle.script_tree.specs.Trees.{Statement, Statements, Closed, Then, Read, Write, Add, Cas}
 use Rattle.script_tree.specs.Trees.{Lock, TryLock, Unlock, Wait, Signal, Broadcast, Down, TryDown}
 use Rattle.script_tree.specs.Trees.{Up, Arrive, Join, Yield, Assert, Set, If, IfElse, While, Start}
@@ -27,7 +28,7 @@ use Rattle.script_tree.specs.Moves.{State, end_state, moves, asks_by, act, head,
 use Rattle.script_tree.specs.Posts.{most_moves, body_pending, held_pending, is_held, thread_of}
 use Rattle.script_tree.specs.Posts.{no_thread, pending}
 use Rattle.script_tree.specs.DealOf.{IsDealOf}
-use Rattle.script_tree.specs.Naming.{NamesOnly, AsksOnly, IsPostOf}
+use Rattle.script_tree.specs.Naming.{IsPostOf}
 use Rattle.script_tree.proofs.laws.Conjunctions.{left_true, right_true, first_of_3, first_of_4}
 use Rattle.script_tree.proofs.laws.Conjunctions.{first_of_5, second_of_3, third_of_4, third_of_5}
 
@@ -140,7 +141,8 @@ module _ (version : ℕ) (names : NameLists) where
     abbrev ActFits : Act State → Type 0
     ActFits (Moves (Ok s)) = AllFit s.rest
     ActFits (Moves (Err kind)) = Unit {0}
-    ActFits (Asks ask after) = NamesOnly deal ask × ((x : ℤ) → AllFit (after x).rest)
+    ActFits (Asks ask after) =
+        IsInRange (sizes_of_deal deal) ask × ((x : ℤ) → AllFit (after x).rest)
     ActFits Ends = Unit {0}
 
     by_value : (v : Value) (a : ℤ → Act State) → ((n : ℤ) → ActFits (a n)) → ActFits (asks_by v a)
@@ -320,8 +322,8 @@ module _ (version : ℕ) (names : NameLists) where
 
     -- ---- where a thread stands
 
-    post_of : (line : ℕ) (ask : Option Ask) → line_fits line ≡ true → AsksOnly deal ask
-        → IsPostOf deal (record { ask = ask; line = line })
+    post_of : (line : ℕ) (ask : Option Ask) → line_fits line ≡ true
+        → PostIsInRange (sizes_of_deal deal) ask → IsPostOf deal (record { ask = ask; line = line })
     post_of line ask l a = record {
       first_line = line_low line l;
       last_line = line_high line l;

@@ -23,6 +23,7 @@ use Rattle.pct_ask.specs.declared.verdict.Verdict.TheVariants.{Passed, Failed, S
 use Rattle.pct_ask.specs.declared.verdict.Verdict.TheVariants.{Fault as Faulted, Cut}
 use Rattle.pct_ask.specs.declared.verdict.MisuseKind.TheVariants.{NotOwner, SemFull, AlreadyStarted}
 use Rattle.pct_ask.specs.declared.verdict.MisuseKind.TheVariants.{TooManyReads}
+use Rattle.pct_ask.specs.Bodies.{Pending, pending_of}
 use Rattle.sync_store.specs.Store.{StoreState, first_store, is_on, rwlock_of}
 use Rattle.sync_store.specs.Effect.{Goes, Stops, effect, after_unlock, goes_or}
 use Rattle.sync_store.specs.World.{Source, World, first_world, world_by_step, world_from}
@@ -37,7 +38,7 @@ use Rattle.turn_book.specs.Obeys.{next_posts_in, choice_in, outcome_by, outcome_
 use Rattle.turn_book.specs.Posts.{schedule_of}
 use Rattle.turn_book.proofs.laws.MorePosts.{settled-at}
 use Rattle.turn_book.proofs.laws.Worlds.{Steps, steps-from, event_of, effect-is, made-from}
-use Rattle.worker_run.specs.Bodies.{Pending, pending_of, source_of_bodies}
+use Rattle.worker_run.specs.Bodies.{source_of_bodies}
 use Rattle.worker_run.specs.Played.{IsPlayed}
 
 -- a thread asks so at its line

@@ -1,7 +1,7 @@
 -- One more test in a list of tests.
 use Rattle.std.proofs.Common.{◌≡◌, ℕ, List, [], ◌∷◌, ◌++◌, sym, subst, inl, inr}
 use Rattle.policy_pick.specs.Plan.{Plan}
-use Rattle.worker_run.specs.Bodies.{Pending}
+use Rattle.pct_ask.specs.Bodies.{Pending}
 use Rattle.worker_run.specs.Tests.{IsTest, AreTests}
 use Rattle.worker_run.specs.declared.batch.Test.{Test}
 use Rattle.worker_run.proofs.Eachs.{get-more}

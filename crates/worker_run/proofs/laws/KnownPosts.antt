@@ -6,6 +6,7 @@ use Rattle.std.proofs.lemmas.List.FromFn.{length-map-range_with_len, get_or-map-
 use Rattle.pct_ask.specs.declared.ask.Ask.{Ask}
 use Rattle.pct_ask.specs.declared.ask.Post.{Post}
 use Rattle.pct_ask.specs.declared.Deal.{Deal}
+use Rattle.pct_ask.specs.Bodies.{Pending, pending_of}
 use Rattle.rank_now.specs.declared.moment.Moment.{Moment}
 use Rattle.rank_now.specs.Rank.{rank, rank_by_events, ranks, ranks_by_events}
 use Rattle.sync_store.specs.declared.ready.Ready.TheVariants.{Yes, No}
@@ -24,7 +25,7 @@ use Rattle.policy_pick.specs.Laws.Finds.{found-or-none}
 use Rattle.policy_pick.specs.Laws.Walks.{rank-stops, rank-ends, highest-parts}
 use Rattle.turn_book.specs.Chances.{NextPosts, is_unknown, is_ended, chance_by, chance_of_ask, chance, chances, threads_below}
 use Rattle.turn_book.specs.Obeys.{choice_in}
-use Rattle.worker_run.specs.Bodies.{Pending, pending_of, source_of_bodies}
+use Rattle.worker_run.specs.Bodies.{source_of_bodies}
 use Rattle.worker_run.specs.Run.{next_thread}
 
 -- ---- lists of numbers

@@ -3,10 +3,11 @@ use Rattle.std.proofs.Common.{◌≡◌, ℕ, List, sym, ap, ◌∙◌}
 use Rattle.pct_ask.specs.declared.Deal.{Deal}
 use Rattle.pct_ask.specs.declared.event.Event.{Event}
 use Rattle.pct_ask.specs.declared.verdict.Outcome.{Outcome}
+use Rattle.pct_ask.specs.Bodies.{Pending}
 use Rattle.policy_pick.specs.Plan.{Plan}
 use Rattle.turn_book.specs.Obeys.{outcome_after}
 use Rattle.turn_book.proofs.laws.Prefixes.{Compared, Same, Shorter, Longer, compare, goes-on}
-use Rattle.worker_run.specs.Bodies.{Pending, source_of_bodies}
+use Rattle.worker_run.specs.Bodies.{source_of_bodies}
 use Rattle.worker_run.specs.Played.{IsPlayed}
 
 only-by : (plan : Plan) (deal : Deal) (bodies : List Pending) (limit : ℕ) (events other : List Event) (outcome last : Outcome)

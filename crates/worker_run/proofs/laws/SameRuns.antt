@@ -10,13 +10,14 @@ use Rattle.std.proofs.lemmas.Option.{option_and_then_some}
 use Rattle.pct_ask.specs.declared.Deal.{Deal}
 use Rattle.pct_ask.specs.declared.event.Event.{Event}
 use Rattle.pct_ask.specs.declared.verdict.Verdict.{Verdict}
+use Rattle.pct_ask.specs.Bodies.{Pending}
 use Rattle.sync_store.specs.Store.{first_store}
 use Rattle.sync_store.specs.World.{Source, World, first_world, world_after}
 use Rattle.policy_pick.specs.Laws.Finds.{find-none, found-or-none, all-from-below}
 use Rattle.turn_book.specs.Chances.{threads_below}
 use Rattle.turn_book.specs.Posts.{schedule_of}
 use Rattle.turn_book.proofs.laws.Worlds.{map-some, grows}
-use Rattle.worker_run.specs.Bodies.{Pending, source_of_bodies}
+use Rattle.worker_run.specs.Bodies.{source_of_bodies}
 use Rattle.worker_run.specs.Run.{Setting, Next, Over, Goes, Run, may_go, goes_first, next_of, next_thread, next_after, cut_at, go_on, run_from}
 
 -- ---- searches of a range by tests that agree there

@@ -1,8 +1,7 @@
 -- The sample threads name only what there is.
 use Rattle.std.proofs.Common.{ℕ, zero, suc, ◌+◌, ◌≤◌, ℤ, List, [], ◌∷◌, map, arith}
-use Rattle.sync_store.specs.Store.{Sizes}
-use Rattle.turn_book.specs.Told.{PostIsInRange}
-use Rattle.worker_run.specs.Bodies.{AreInRange}
+use Rattle.pct_ask.specs.Objects.{Sizes, PostIsInRange}
+use Rattle.pct_ask.specs.Bodies.{AreInRange}
 use Rattle.worker_run.specs.Samples.{sample_post, sample_pending}
 
 module _ (sizes : Sizes) (vars : 1 ≤ sizes.vars) (threads : 2 ≤ sizes.threads) where

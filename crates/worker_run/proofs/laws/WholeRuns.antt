@@ -14,6 +14,7 @@ use Rattle.pct_ask.specs.declared.event.Event.{Event}
 use Rattle.pct_ask.specs.declared.verdict.Verdict.{Verdict}
 use Rattle.pct_ask.specs.declared.verdict.Outcome.{Outcome}
 use Rattle.pct_ask.specs.declared.verdict.Outcome.TheVariants.{Verdict as Ends}
+use Rattle.pct_ask.specs.Bodies.{Pending, pending_of}
 use Rattle.rank_now.specs.declared.moment.Moment.{Moment}
 use Rattle.sync_store.specs.Store.{StoreState, first_store}
 use Rattle.sync_store.specs.Enabled.{enabled}
@@ -36,7 +37,7 @@ use Rattle.turn_book.proofs.laws.Worlds.{event_of, effect-is, Steps, IsMade, mad
 use Rattle.turn_book.proofs.laws.Worlds.{made-push}
 use Rattle.turn_book.proofs.laws.MorePosts.{chosen-ready, choice-at, settled-at}
 use Rattle.turn_book.proofs.laws.ObeyingSteps.{obeys-push, obeys-none}
-use Rattle.worker_run.specs.Bodies.{Pending, pending_of, source_of_bodies}
+use Rattle.worker_run.specs.Bodies.{source_of_bodies}
 use Rattle.worker_run.specs.Run.{Run, run, directed_run}
 use Rattle.worker_run.specs.Played.{IsPlayed, IsRun}
 use Rattle.worker_run.proofs.laws.KnownPosts.{bodies-no-wait}

@@ -1,13 +1,13 @@
 -- The test's run is that of the order and the points that the seed draws.
 use Rattle.std.proofs.Common.{◌≡◌, ◌*◌, map, refl, sym, subst, ap, ◌∙◌, arith}
 use Rattle.pct_ask.specs.declared.Deal.{Deal}
+use Rattle.pct_ask.specs.Objects.{sizes_of_deal}
+use Rattle.pct_ask.specs.Bodies.{AreInRange}
 use Rattle.rank_now.specs.Order.{IsOrder}
-use Rattle.sync_store.specs.Store.{sizes_of_deal}
 use Rattle.policy_pick.specs.Plan.{ByPoints}
 use Rattle.priority_draw.specs.Words.{words_later}
 use Rattle.priority_draw.specs.Drawing.{draw_of_seed}
 use Rattle.script_body.specs.BodyPosts.{pending_of_body}
-use Rattle.script_body.specs.Bodies.{AskInRange}
 use Rattle.campaign.specs.Batches.{setup_of_task}
 use Rattle.campaign.proofs.Runs.{seed-tested}
 use Rattle.campaign.proofs.seed_tests.seed_test.Goals as goal
@@ -19,7 +19,7 @@ by_points-requires-clause-order c κs =
 pub by_points-requires-clause-in_range : goal.by_points-requires-clause-in_range
 by_points-requires-clause-in_range c κs =
     let posting = map pending_of_body c.in_ok-bodies.bodies.items in
-    let D : Deal → Type 0 = λ d. AskInRange (sizes_of_deal d) posting in
+    let D : Deal → Type 0 = λ d. AreInRange (sizes_of_deal d) posting in
     subst D (sym c.in_ok-own.ensures)
     (c.in_ok-bodies.ensures.in_range c.requires.script.0 c.args.task.now.deal.now
     c.requires.script.1)

@@ -1,10 +1,10 @@
 -- The test's run is the directed run of the order at the place.
 use Rattle.std.proofs.Common.{length, map, refl, sym, subst, ap, ◌∙◌}
 use Rattle.pct_ask.specs.declared.Deal.{Deal}
+use Rattle.pct_ask.specs.Objects.{sizes_of_deal}
+use Rattle.pct_ask.specs.Bodies.{AreInRange}
 use Rattle.rank_now.specs.Order.{IsOrder}
-use Rattle.sync_store.specs.Store.{sizes_of_deal}
 use Rattle.script_body.specs.BodyPosts.{pending_of_body}
-use Rattle.script_body.specs.Bodies.{AskInRange}
 use Rattle.directive_run.specs.Tested.{directed_setup}
 use Rattle.directive_run.proofs.Certificates.{low-at}
 use Rattle.directive_run.proofs.OrderRuns.{order-tested}
@@ -30,7 +30,7 @@ by_events-requires-clause-whole c κs =
 pub by_events-requires-clause-in_range : goal.by_events-requires-clause-in_range
 by_events-requires-clause-in_range c κs =
     let posting = map pending_of_body c.in_ok-bodies.bodies.items in
-    let D : Deal → Type 0 = λ d. AskInRange (sizes_of_deal d) posting in
+    let D : Deal → Type 0 = λ d. AreInRange (sizes_of_deal d) posting in
     subst D (sym c.in_ok-own.ensures)
     (c.in_ok-bodies.ensures.in_range c.requires.script.0 c.args.task.now.deal.now
     c.requires.script.1)

@@ -1,5 +1,5 @@
 use Rattle.std.proofs.Common.{◌<◌, ◌≤◌, arith}
-use Rattle.sync_store.specs.Store.{sizes_of_deal}
+use Rattle.pct_ask.specs.Objects.{sizes_of_deal}
 use Rattle.body_kit.proofs.Laws.{boxed-in-range}
 use Rattle.kit_example.proofs.Workers.{taker-in-range, putter-in-range}
 use Rattle.kit_example.proofs.trial.run_seed.Goals as goal

@@ -2,13 +2,13 @@ use Rattle.std.proofs.Common.{◌≡◌, List, Some, IfOk, map, refl, sym, subst
 use Rattle.std.proofs.lemmas.Result.{IfOk-weaker}
 use Rattle.pct_ask.specs.declared.Deal.{Deal}
 use Rattle.pct_ask.specs.declared.verdict.Outcome.TheVariants.{Verdict as Ends}
-use Rattle.sync_store.specs.Store.{sizes_of_deal}
+use Rattle.pct_ask.specs.Objects.{sizes_of_deal}
+use Rattle.pct_ask.specs.Bodies.{Pending, AreInRange}
 use Rattle.script_tree.specs.ScriptSeen.{plain_script}
 use Rattle.script_body.specs.BodyPosts.{pending_of_body}
-use Rattle.script_body.specs.Bodies.{bodies_of, AskInRange}
+use Rattle.script_body.specs.Bodies.{bodies_of}
 use Rattle.policy_pick.specs.Plan.{ByPoints}
 use Rattle.worker_run.specs.declared.by_order.WholeRun.{WholeRun}
-use Rattle.worker_run.specs.Bodies.{Pending}
 use Rattle.worker_run.specs.Played.{IsPlayed}
 use Rattle.worker_run.specs.Run.{run}
 use Rattle.trace_text.specs.Lawful.{IsKnownRun}
@@ -19,7 +19,7 @@ use Rattle.pct_top.proofs.playing.play.Goals as goal
 pub run_by_points-requires-clause-in_range : goal.run_by_points-requires-clause-in_range
 run_by_points-requires-clause-in_range g c κs within =
     let test = c.args.test.now in
-    let D : Deal → Type 0 = λ d. AskInRange (sizes_of_deal d)
+    let D : Deal → Type 0 = λ d. AreInRange (sizes_of_deal d)
     (map pending_of_body c.in_ok-bodies.bodies.items) in
     subst D (sym c.in_ok-deal.ensures)
     (c.in_ok-bodies.ensures.in_range (plain_script test.script) test.deal c.requires.ready)

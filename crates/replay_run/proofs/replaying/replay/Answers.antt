@@ -3,13 +3,14 @@ use Rattle.std.proofs.lemmas.List.{length-map}
 use Rattle.std.proofs.lemmas.List.Elements.{All-map}
 use Rattle.pct_ask.specs.declared.Deal.{Deal}
 use Rattle.pct_ask.specs.declared.event.Event.{Event}
-use Rattle.sync_store.specs.Store.{sizes_of_deal}
+use Rattle.pct_ask.specs.Objects.{sizes_of_deal}
+use Rattle.pct_ask.specs.Bodies.{AreInRange}
 use Rattle.script_body.specs.BodyPosts.{pending_of_body}
 use Rattle.policy_pick.specs.Plan.{Plan, ByList, SpeaksOf}
 use Rattle.policy_pick.specs.Kept.{list_plan}
 use Rattle.turn_book.specs.Posts.{schedule_of}
 use Rattle.worker_run.specs.Bodies.{source_of_bodies}
-use Rattle.script_body.specs.Bodies.{bodies_of, AskInRange}
+use Rattle.script_body.specs.Bodies.{bodies_of}
 use Rattle.replay_run.proofs.laws.ListedRuns.{listed_short}
 use Rattle.replay_run.proofs.Compared.{played_as, run_confirmed}
 use Rattle.replay_run.proofs.replaying.replay.Goals as goal
@@ -25,7 +26,7 @@ run_threads-requires-clause-speaks g c κs within =
 
 pub run_threads-requires-clause-in_range : goal.run_threads-requires-clause-in_range
 run_threads-requires-clause-in_range g c κs within =
-    let D : Deal → Type 0 = λ d. AskInRange (sizes_of_deal d) (map pending_of_body c.in_ok-bodies.bodies.items) in
+    let D : Deal → Type 0 = λ d. AreInRange (sizes_of_deal d) (map pending_of_body c.in_ok-bodies.bodies.items) in
     subst D (sym c.in_ok-own.ensures) (c.in_ok-bodies.ensures.in_range c.requires.script.0 c.args.deal.now c.requires.script.1)
 
 pub compare-requires-clause-no_longer : goal.compare-requires-clause-no_longer

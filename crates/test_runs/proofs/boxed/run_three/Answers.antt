@@ -1,6 +1,6 @@
 use Rattle.std.proofs.Common.{ℕ, pos, [], ◌∷◌, sym, subst}
-use Rattle.sync_store.specs.Store.{sizes_of_deal}
-use Rattle.worker_run.specs.Bodies.{Pending, IsInRangeBody}
+use Rattle.pct_ask.specs.Objects.{sizes_of_deal}
+use Rattle.pct_ask.specs.Bodies.{Pending, IsInRangeBody}
 use Rattle.body_kit.proofs.Laws.{boxed-in-range}
 use Rattle.test_runs.proofs.Ranges.{samples-fit}
 use Rattle.test_runs.proofs.boxed.run_three.Goals as goal

@@ -1,8 +1,8 @@
 use Rattle.std.proofs.Common.{map, ap, sym, subst, ◌∙◌}
 use Rattle.pct_ask.specs.declared.Deal.{Deal}
-use Rattle.sync_store.specs.Store.{sizes_of_deal}
+use Rattle.pct_ask.specs.Objects.{sizes_of_deal}
+use Rattle.pct_ask.specs.Bodies.{AreInRange}
 use Rattle.turn_book.specs.Told.{BookState}
-use Rattle.worker_run.specs.Bodies.{AreInRange}
 use Rattle.worker_run.specs.Samples.{sample_pending}
 use Rattle.test_runs.specs.declared.samples.Sample.{Sample}
 use Rattle.test_runs.proofs.Ranges.{samples-fit}

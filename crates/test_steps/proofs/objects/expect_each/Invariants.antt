@@ -1,5 +1,6 @@
 use Rattle.std.proofs.Common.{◌≡◌}
-use Rattle.sync_store.specs.Store.{sizes_of, sizes_of_deal}
+use Rattle.pct_ask.specs.Objects.{sizes_of_deal}
+use Rattle.sync_store.specs.Store.{sizes_of}
 use Rattle.test_steps.proofs.objects.expect_each.Given as goal
 
 abbrev pub invariant-loop-thread : goal.invariant-loop-thread

@@ -1,6 +1,6 @@
 use Rattle.std.proofs.Common.{◌≡◌, ℕ, length}
 use Rattle.turn_lock.specs.Views.{view, HasSeat}
-use Rattle.worker_run.specs.Bodies.{Pending}
+use Rattle.pct_ask.specs.Bodies.{Pending}
 use Rattle.worker_run.specs.Served.{IsCrew, GoesOn, NoneOwes}
 use Rattle.worker_run.proofs.crew.take_turns.Given as goal
 

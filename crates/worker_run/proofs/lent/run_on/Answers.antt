@@ -3,7 +3,7 @@ use Rattle.turn_book.specs.Told.{BookState}
 use Rattle.turn_lock.specs.Seen.{posts_seen}
 use Rattle.turn_lock.specs.Calls.{first_book}
 use Rattle.turn_lock.specs.Views.{view}
-use Rattle.worker_run.specs.Bodies.{Pending}
+use Rattle.pct_ask.specs.Bodies.{Pending}
 use Rattle.worker_run.specs.Batch.{IsCrewOf, NoneOutside, IsThreadTold}
 use Rattle.worker_run.specs.Batches.{AreRooms}
 use Rattle.worker_run.proofs.Finals.{first-bodies, first-crew-of}

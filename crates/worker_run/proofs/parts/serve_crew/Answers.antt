@@ -1,7 +1,7 @@
 use Rattle.std.proofs.Common.{List, Option, length, sym, ap, subst, arith}
 use Rattle.turn_lock.specs.Calls.{first_book}
 use Rattle.turn_lock.specs.Views.{view}
-use Rattle.worker_run.specs.Bodies.{pending_of}
+use Rattle.pct_ask.specs.Bodies.{pending_of}
 use Rattle.worker_run.specs.Served.{IsCrew}
 use Rattle.worker_run.specs.Batch.{bodies_on}
 use Rattle.worker_run.specs.declared.runner.Runner.{Runner}

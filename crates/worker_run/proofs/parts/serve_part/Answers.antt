@@ -1,6 +1,6 @@
 use Rattle.std.proofs.Common.{refl, sym, subst, ◌∙◌, inl, inr}
 use Rattle.turn_lock.specs.Views.{view}
-use Rattle.worker_run.specs.Bodies.{pending_of}
+use Rattle.pct_ask.specs.Bodies.{pending_of}
 use Rattle.worker_run.specs.Batch.{bodies_on, IsPart, IsWaiting}
 use Rattle.worker_run.specs.declared.batch.Part.{Part}
 use Rattle.worker_run.proofs.Crews.{own-serves}

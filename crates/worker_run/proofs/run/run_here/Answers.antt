@@ -1,9 +1,9 @@
 use Rattle.std.proofs.Common.{map, ap, subst, ◌∙◌, arith}
 use Rattle.pct_ask.specs.declared.Deal.{Deal}
+use Rattle.pct_ask.specs.Bodies.{pending_of}
 use Rattle.policy_pick.specs.Plan.{Plan, SpeaksOf}
 use Rattle.turn_lock.specs.Calls.{first_book}
 use Rattle.turn_lock.specs.Views.{view}
-use Rattle.worker_run.specs.Bodies.{pending_of}
 use Rattle.worker_run.specs.Played.{IsPlayed}
 use Rattle.worker_run.proofs.Follows.{points-run, events-run}
 use Rattle.worker_run.proofs.Plays.{here-range, here-unposted, here-all, here-crew, here-played, first-owe, has-played}

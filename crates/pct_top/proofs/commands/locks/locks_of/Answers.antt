@@ -3,7 +3,7 @@ use Rattle.pct_ask.specs.NameLists.{NameLists}
 use Rattle.pct_ask.specs.declared.event.Event.{Event}
 use Rattle.script_tree.specs.ScriptSeen.{plain_script}
 use Rattle.worker_run.specs.Run.{Run}
-use Rattle.lock_order.specs.Nestings.{EventNamesOnly, AreEventsInRange}
+use Rattle.lock_order.specs.Nestings.{AreEventsInRange}
 use Rattle.lock_order.specs.Chosen.{IsChosen}
 use Rattle.pct_top.specs.Printed.{printed_text}
 use Rattle.pct_top.specs.Runs.{run_of, trace_version}
@@ -16,8 +16,7 @@ lock_order-requires-clause-in_range g c =
     let test = c.args.test.now in
     let ready = c.requires.ready in
     let of = all_in_range (plain_script test.script) test.deal ready.sound ready.is_deal
-    (trace_version (plain_script test.script)) (EventNamesOnly test.deal)
-    (λ event at has. record { thread = at; ask = has })
+    (trace_version (plain_script test.script))
     c.in_ok-run.run'.events c.in_ok-run.ensures.known.steps in
     subst (AreEventsInRange test.deal) (sym c.as_slice.ensures) of
 

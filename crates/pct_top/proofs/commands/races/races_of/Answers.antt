@@ -2,11 +2,10 @@ use Rattle.std.proofs.Common.{◌≡◌, ℕ, List, Some, length, ◌≤◌, eqb
 use Rattle.std.specs.Prelude.{All}
 use Rattle.pct_ask.specs.NameLists.{NameLists}
 use Rattle.pct_ask.specs.declared.event.Event.{Event}
-use Rattle.sync_store.specs.Store.{sizes_of_deal}
+use Rattle.pct_ask.specs.Objects.{sizes_of_deal, EventIsInRange}
 use Rattle.script_tree.specs.ScriptSeen.{plain_script}
 use Rattle.worker_run.specs.Run.{Run}
 use Rattle.hb_race.specs.declared.race.Race.{Race}
-use Rattle.hb_race.specs.Ranges.{IsEventInRange}
 use Rattle.hb_race.specs.Races.{AreRaces}
 use Rattle.pct_top.specs.Printed.{printed_text}
 use Rattle.pct_top.specs.Runs.{run_of, trace_version}
@@ -19,10 +18,9 @@ races-requires-clause-in_range g c =
     let test = c.args.test.now in
     let ready = c.requires.ready in
     let of = all_in_range (plain_script test.script) test.deal ready.sound ready.is_deal
-    (trace_version (plain_script test.script)) (IsEventInRange (sizes_of_deal test.deal))
-    (λ event at has. (at, has))
+    (trace_version (plain_script test.script))
     c.in_ok-run.run'.events c.in_ok-run.ensures.known.steps in
-    subst (All (IsEventInRange (sizes_of_deal test.deal))) (sym (c.from.ensures).0) of
+    subst (All (EventIsInRange (sizes_of_deal test.deal))) (sym (c.from.ensures).0) of
 
 pub races-requires-clause-few : goal.races-requires-clause-few
 races-requires-clause-few g c =

@@ -1,8 +1,8 @@
 use Rattle.std.proofs.Common.{rules, false, List, map, length, refl, sym, ap, subst, ◌∙◌, arith}
 use Rattle.std.proofs.lemmas.List.{length-map}
 use Rattle.pct_ask.specs.declared.ask.Ask.{Ask}
-use Rattle.sync_store.specs.Store.{sizes_of_deal}
-use Rattle.worker_run.specs.Bodies.{AreInRange}
+use Rattle.pct_ask.specs.Objects.{sizes_of_deal}
+use Rattle.pct_ask.specs.Bodies.{AreInRange}
 use Rattle.test_runs.specs.OneStep.{once_pending}
 use Rattle.test_runs.specs.declared.runs.batches.Once.{Once}
 use Rattle.test_runs.proofs.Ranges.{onces-within}

@@ -1,5 +1,5 @@
 use Rattle.std.proofs.Common.{arith}
-use Rattle.sync_store.specs.Store.{sizes_of_deal}
+use Rattle.pct_ask.specs.Objects.{sizes_of_deal}
 use Rattle.test_runs.specs.declared.runs.many.Adder.{Adder}
 use Rattle.test_runs.proofs.Ranges.{adders-within}
 use Rattle.test_runs.proofs.runs.many.runs_64_threads.Goals as goal

@@ -1,11 +1,12 @@
 use Rattle.std.proofs.Common.{arith, ◌≡◌, List, ℕ, Option, Some, true, false, length, set, sym}
 use Rattle.std.proofs.Common.{ap, subst, refl, ◌∙◌, map, get_or}
 use Rattle.pct_ask.specs.declared.ask.Post.{Post}
+use Rattle.pct_ask.specs.Objects.{PostIsInRange}
 use Rattle.sync_store.specs.declared.touched.Touched.TheVariants.{Nothing}
 use Rattle.sync_store.specs.Store.{sizes_of}
 use Rattle.policy_pick.specs.Choice.{chance_of}
 use Rattle.turn_book.specs.Chances.{chance, chances}
-use Rattle.turn_book.specs.Told.{PostIsInRange, standing_by}
+use Rattle.turn_book.specs.Told.{standing_by}
 use Rattle.turn_book.specs.Board.{BoardState, ask_of_post, next_posts_of, concerns, joins_ask}
 use Rattle.turn_book.proofs.Boards.{standings-set, length-known, length-chances, others-kept}
 use Rattle.turn_book.proofs.Boards.{board-set, front-taken}

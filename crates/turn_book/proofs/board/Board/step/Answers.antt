@@ -3,8 +3,8 @@ use Rattle.std.proofs.Common.{◌∙◌, map}
 use Rattle.std.proofs.lemmas.Bool.{false≢true}
 use Rattle.pct_ask.specs.declared.ask.Post.{Post}
 use Rattle.pct_ask.specs.declared.event.Standing.TheVariants.{Away}
+use Rattle.pct_ask.specs.Objects.{Sizes}
 use Rattle.sync_store.specs.declared.touched.Touched.{Touched}
-use Rattle.sync_store.specs.Store.{Sizes}
 use Rattle.sync_store.specs.Touched.{KeepsOthers}
 use Rattle.policy_pick.specs.Choice.{chance_of}
 use Rattle.turn_book.specs.Chances.{chance, chances}

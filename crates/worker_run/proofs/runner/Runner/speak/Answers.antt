@@ -1,9 +1,8 @@
 use Rattle.std.proofs.Common.{◌≡◌, ◌+◌, ℕ, ℤ, List, true, [], ◌∷◌, ◌++◌, Some, sym, ap, subst, ◌∙◌, arith, rules, w64, to_z, of_z}
 use Rattle.std.proofs.lemmas.Int.{to_z-of_z}
 use Rattle.pct_ask.specs.declared.ask.Post.{Post}
-use Rattle.sync_store.specs.Store.{sizes_of_deal}
+use Rattle.pct_ask.specs.Objects.{sizes_of_deal, PostIsInRange}
 use Rattle.sync_store.specs.World.{answers_of}
-use Rattle.turn_book.specs.Told.{PostIsInRange}
 use Rattle.turn_lock.specs.Seen.{owes_of}
 use Rattle.turn_lock.specs.Calls.{first_book}
 use Rattle.turn_lock.specs.Turns.{TookTurn}
