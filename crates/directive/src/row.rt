@@ -2,14 +2,13 @@
 
 ghost use Rattle.std.specs.Prelude.{◌≡◌, IfOk};
 ghost use Rattle.std.specs.Option.{option_copied};
-ghost use Rattle.pct_ask.specs.Numbers as numbers;
 ghost use Rattle.pct_ask.specs.VerdictWords.{words_of, verdict_of_words};
 ghost use Rattle.directive.specs.Reading as reading;
 ghost use Rattle.pct_ask.specs.Pieces.{seen};
 
 use crate::fault::DirectiveFault;
 use pct_ask::{
-    NameKind, Names, Verdict, VerdictRead, first_words, is_lawful_name, number_in, read_verdict,
+    NameKind, Names, Verdict, VerdictRead, first_words, is_lawful_name, read_verdict, step_count,
 };
 use policy_pick::Moment;
 use std::alloc::{AllocError as NoMemory, Global};
@@ -32,14 +31,6 @@ pub enum Row {
 pub enum Sound {
     Event(Moment),
     Last(Verdict),
-}
-
-/// The number of a step, from 1, that a canonical decimal spells.
-fn step_count(word: &[u8]) -> Option<u32>
-    ensures { result ≡ numbers.step_count word.now }
-{
-    let number = number_in(1, 100_000, word)?;
-    Some(number as u32)
 }
 
 fn lawful(name: &[u8]) -> Option<&[u8]>

@@ -4,7 +4,7 @@ use Rattle.pct_ask.specs.declared.names.NameKind.{NameKind}
 use Rattle.pct_ask.specs.declared.names.NameKind.TheVariants.{Thread, Var, Mutex, Cond, Sem, Barrier, RwLock}
 use Rattle.pct_ask.specs.declared.deal.Deal.{Deal}
 use Rattle.pct_ask.specs.declared.event.Event.{Event}
-use Rattle.pct_ask.specs.Objects.{Sizes, TestObject, size_of, sizes_of_deal, objects_of, AreThere, EventIsInRange}
+use Rattle.pct_ask.specs.Objects.{Sizes, TestObject, count_of, sizes_of_deal, objects_of, AreThere, EventIsInRange}
 use Rattle.hb_race.specs.Ranges.{most_with}
 
 record IsWithin (a b : Sizes) : Type 0 where
@@ -16,7 +16,7 @@ record IsWithin (a b : Sizes) : Type 0 where
   barriers : a.barriers ≤ b.barriers
   rwlocks : a.rwlocks ≤ b.rwlocks
 
-kind-within : (kind : NameKind) (a b : Sizes) → IsWithin a b → size_of kind a ≤ size_of kind b
+kind-within : (kind : NameKind) (a b : Sizes) → IsWithin a b → count_of kind a ≤ count_of kind b
 kind-within Thread a b within = within.threads
 kind-within Var a b within = within.vars
 kind-within Mutex a b within = within.mutexes
@@ -25,8 +25,8 @@ kind-within Sem a b within = within.sems
 kind-within Barrier a b within = within.barriers
 kind-within RwLock a b within = within.rwlocks
 
-one-wider : (a b : Sizes) (o : TestObject) → IsWithin a b → o.place < size_of o.kind a
-    → o.place < size_of o.kind b
+one-wider : (a b : Sizes) (o : TestObject) → IsWithin a b → o.place < count_of o.kind a
+    → o.place < count_of o.kind b
 one-wider a b o within low = omega (arith, kind-within o.kind a b within, low)
 
 wider : (a b : Sizes) (objects : List TestObject) → IsWithin a b → AreThere a objects

@@ -4,20 +4,20 @@ use Rattle.std.specs.Prelude.{[], ◌∷◌, map, All, Contains, Option, Some, N
 use Rattle.std.specs.Ordering.{int_eq}
 use Rattle.std.specs.List.Sorted.{IsStrictlyIncreasing}
 use Rattle.pct_ask.specs.declared.ask.Ask.{Ask}
+use Rattle.pct_ask.specs.declared.ask.Ask.TheVariants.{Read, Write, Add, Cas}
 use Rattle.pct_ask.specs.declared.names.NameKind.{NameKind}
 use Rattle.pct_ask.specs.declared.names.NameKind.TheVariants.{Var}
 use Rattle.pct_ask.specs.Objects.{TestObject, objects_of}
-use Rattle.pct_ask.specs.declared.ask.Ask.TheVariants.{Read, Write, Add, Cas}
 use Rattle.pct_ask.specs.declared.event.Event.{Event}
 use Rattle.hb_race.specs.declared.race.Race.{Race}
 use Rattle.hb_race.specs.HappensBefore.{HappensBefore}
 
--- the variable, where an object is one, and else the other
+-- the place, where the kind is a variable's, and otherwise what is given beside it
 abbrev pub variable_or : NameKind → ℕ → Option ℕ → Option ℕ
 variable_or Var place other = Some place
 variable_or _ place other = other
 
--- the variable among some objects
+-- the first variable among some objects, if there is one
 abbrev pub variable_among : List TestObject → Option ℕ
 variable_among [] = None
 variable_among (o ∷ others) = variable_or o.kind o.place (variable_among others)

@@ -1,4 +1,4 @@
--- The most that a test may have of each kind (this project).
+-- The most that a test may have of each kind, but for variables (this project).
 use Rattle.std.specs.Prelude.{ℕ}
 use Rattle.pct_ask.specs.Objects.{Sizes}
 

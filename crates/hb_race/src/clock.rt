@@ -1,7 +1,7 @@
 ghost use Rattle.std.specs.Prelude.{◌≡◌, ◌<◌, ℕ, suc, max, ◌==◌, length, Some};
+ghost use Rattle.pct_ask.specs.Objects.{EventIsInRange};
 ghost use Rattle.hb_race.specs.Order.{Steps};
 ghost use Rattle.hb_race.specs.Clocks.{stamp};
-ghost use Rattle.pct_ask.specs.Objects.{EventIsInRange};
 ghost use Rattle.hb_race.specs.Ranges.{most_with};
 ghost use Rattle.hb_race.specs.Objects.{place, is_at};
 ghost use Rattle.hb_race.specs.Table.{time, entry_if, stamp_from, AreJoined, IsStepEvent, IsTable};

@@ -36,7 +36,7 @@ abbrev pub all_of : (List ℕ → Option ℕ) → List (List ℕ) → Option (Li
 all_of says [] = Some []
 all_of says (word ∷ words) = onto_front (says word) (all_of says words)
 
--- a number of steps, 1 to 100000: a limit, or the step of a change point
+-- a number of steps, 1 to 100000: a limit, a count, or the step of a change point or of a moment
 abbrev pub step_count : List ℕ → Option ℕ
 step_count word = number_in 1 100000 word
 

@@ -13,7 +13,8 @@ use Rattle.pct_ask.specs.declared.ask.Ask.TheVariants.{TryDown, Up, Arrive, Leav
 use Rattle.pct_ask.specs.declared.ask.Ask.TheVariants.{Check, Fault, Start, Begin, RdLock, WrLock}
 use Rattle.pct_ask.specs.declared.ask.Ask.TheVariants.{TryRdLock, TryWrLock, RwUnlock}
 
--- a thread or an object of a test: its kind, and its place among those of its kind
+-- an object of a test, for which its threads count here too: its kind, and its place among those of
+-- its kind
 pub record TestObject : Type 0 where
   pub kind : NameKind
   pub place : ℕ
@@ -63,16 +64,16 @@ pub record Sizes : Type 0 where
   pub rwlocks : ℕ
 
 -- how many there are of a kind
-abbrev pub size_of : NameKind → Sizes → ℕ
-size_of Thread sizes = sizes.threads
-size_of Var sizes = sizes.vars
-size_of Mutex sizes = sizes.mutexes
-size_of Cond sizes = sizes.conds
-size_of Sem sizes = sizes.sems
-size_of Barrier sizes = sizes.barriers
-size_of RwLock sizes = sizes.rwlocks
+abbrev pub count_of : NameKind → Sizes → ℕ
+count_of Thread sizes = sizes.threads
+count_of Var sizes = sizes.vars
+count_of Mutex sizes = sizes.mutexes
+count_of Cond sizes = sizes.conds
+count_of Sem sizes = sizes.sems
+count_of Barrier sizes = sizes.barriers
+count_of RwLock sizes = sizes.rwlocks
 
--- how many of them a deal declares
+-- how many threads and objects of each kind a deal declares
 abbrev pub sizes_of_deal : Deal → Sizes
 sizes_of_deal deal = record {
   threads = deal.threads;
@@ -84,7 +85,7 @@ sizes_of_deal deal = record {
   rwlocks = deal.rwlocks;
 }
 
--- how many of them have names
+-- how many threads and objects of each kind have names
 abbrev pub sizes_of_names : NameLists → Sizes
 sizes_of_names names = record {
   threads = length names.threads;
@@ -99,8 +100,8 @@ sizes_of_names names = record {
 -- the threads and objects are there
 abbrev pub AreThere : Sizes → List TestObject → Type 0
 AreThere sizes [] = Unit {0}
-AreThere sizes (o ∷ []) = o.place < size_of o.kind sizes
-AreThere sizes (o ∷ others) = (o.place < size_of o.kind sizes) × AreThere sizes others
+AreThere sizes (o ∷ []) = o.place < count_of o.kind sizes
+AreThere sizes (o ∷ others) = (o.place < count_of o.kind sizes) × AreThere sizes others
 
 -- an ask names only threads and objects that there are
 abbrev pub IsInRange : Sizes → Ask → Type 0

@@ -29,5 +29,5 @@ pub use pieces::{cut_line, first_pieces, first_words};
 pub use sequence::{NumberList, OrderList, PointList, Sequence};
 pub use verdict::{MisuseKind, Outcome, Verdict};
 pub use verdict_text::{VerdictRead, fault_word, read_verdict, write_verdict};
-pub use verdict_words::fault_kind;
+pub use verdict_words::{fault_kind, line_number};
 pub use words::{is_among, is_lawful_name};

@@ -1,4 +1,4 @@
-//! A text as lines, and a line as words.
+//! A text as lines or as pieces, and a line as words.
 
 ghost use Rattle.std.specs.Prelude.{◌≡◌, ◌≤◌, ◌==◌, ◌∷◌, IfOk, length, position, take};
 ghost use Rattle.std.specs.List.{slice_split};

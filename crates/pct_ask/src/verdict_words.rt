@@ -201,12 +201,13 @@ fn read_place<'a>(text: &'a [u8], names: &Names) -> Option<PlaceRead<'a>>
     if !is_lawful_name(1, name) {
         return None;
     }
-    let line = read_line(line)?;
+    let line = line_number(line)?;
     let thread = names.find(NameKind::Thread, name);
     Some(PlaceRead { thread, line, rest })
 }
 
-fn read_line(word: &[u8]) -> Option<u32>
+/// The number of a line of a test, from 1 to 4096.
+pub fn line_number(word: &[u8]) -> Option<u32>
     ensures { result ≡ line_number word.now }
 {
     let number = number_in(1, 4096, word)?;

@@ -1,11 +1,11 @@
 -- What has been printed, and that its numbers are those of the code (this project).
 use Rattle.std.specs.Prelude.{ℕ, pos, ◌^◌, ◌&&◌, Bool, true, false, int_lt, List, map}
 use Rattle.std.specs.List.{list_all}
+use Rattle.pct_ask.specs.Lines.{text_of_lines}
 use Rattle.script_tree.specs.Trees.{Expression, Number, Reg, Not, Minus, Two, Statement}
 use Rattle.script_tree.specs.Trees as trees
 use Rattle.script_tree.specs.Forms.{MeantForm, Write, Add, Cas, Assert, Set, If, While}
 use Rattle.script_tree.specs.Grammar.{Line}
-use Rattle.pct_ask.specs.Lines.{text_of_lines}
 use Rattle.script_tree.specs.Layout.{form_text, meanings}
 
 -- the text of lines

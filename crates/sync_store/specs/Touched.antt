@@ -22,14 +22,14 @@ touched_at kinds.Sem place = Sem place
 touched_at kinds.Barrier place = Barrier place
 touched_at kinds.RwLock place = RwLock place
 
--- the last of some objects
+-- the last of some objects, as one that a step may touch; of none, nothing
 abbrev pub last_touched : List TestObject → Touched
 last_touched [] = Nothing
 last_touched (o ∷ []) = touched_at o.kind o.place
 last_touched (o ∷ others) = last_touched others
 
--- The object that the step of an ask touches (this project): the last one that it names. The start
--- and the end of a wait touch the mutex, and a join touches nothing.
+-- What the step of an ask touches (this project): the last object that it names, but nothing of a
+-- variable or of a join. So the start and the end of a wait touch the mutex.
 abbrev pub touched_of : Ask → Touched
 touched_of (Join u) = Nothing
 touched_of ask = last_touched (objects_of ask)
@@ -64,7 +64,7 @@ abbrev pub is_rwlock : ℕ → Touched → Bool
 is_rwlock l (RwLock k) = l == k
 is_rwlock l _ = false
 
--- whether two are the same object
+-- whether two are the same object; nothing is no object
 abbrev pub is_object : Touched → Touched → Bool
 is_object Nothing object = false
 is_object (Mutex m) object = is_mutex m object
@@ -81,16 +81,17 @@ is_one_of (o ∷ []) object = is_object (touched_at o.kind o.place) object
 is_one_of (o ∷ others) object =
     is_object (touched_at o.kind o.place) object || is_one_of others object
 
--- Whether the step of an ask of the thread t may wait for what is done to an object: the ask names
--- it. A begin names the thread itself besides, and a join waits for the end of a thread alone.
-abbrev pub names_object : ℕ → Ask → Touched → Bool
-names_object t (Join u) object = false
-names_object t Begin object = is_thread t object
-names_object t ask object = is_one_of (objects_of ask) object
+-- Whether an ask of the thread t is looked at again where an object is touched: where it names the
+-- object, but for two asks. A begin depends on its own thread, which a start touches, and a join on
+-- no object, since it waits for the end of its thread alone.
+abbrev pub depends_on : ℕ → Ask → Touched → Bool
+depends_on t (Join u) object = false
+depends_on t Begin object = is_thread t object
+depends_on t ask object = is_one_of (objects_of ask) object
 
--- An ask of a thread other than t that doesn't name the object is as enabled afterwards as it was
--- before.
+-- An ask of a thread other than t that doesn't depend on the object is as enabled afterwards as it
+-- was before.
 abbrev pub KeepsOthers : ℕ → Touched → StoreState → StoreState → Type 0
 KeepsOthers t object before after =
-    (ended : ℕ → Bool) (u : ℕ) (ask : Ask) → u ≢ t → names_object u ask object ≡ false
+    (ended : ℕ → Bool) (u : ℕ) (ask : Ask) → u ≢ t → depends_on u ask object ≡ false
     → enabled after ended u ask ≡ enabled before ended u ask

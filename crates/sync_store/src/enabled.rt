@@ -1,6 +1,6 @@
 ghost use Rattle.std.specs.Prelude.{◌≡◌, ◌<◌, ◌↔◌, ℕ, IsTrue, length};
-ghost use Rattle.sync_store.specs.Store.{sizes_of};
 ghost use Rattle.pct_ask.specs.Objects.{IsInRange};
+ghost use Rattle.sync_store.specs.Store.{sizes_of};
 ghost use Rattle.sync_store.specs.Ready.{readiness, away_by, ended_by};
 
 use crate::ready::Ready;

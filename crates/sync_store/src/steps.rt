@@ -1,11 +1,11 @@
 ghost use Rattle.std.specs.Prelude.{◌≡◌, ◌<◌, pos, if◌then◌else◌, IsTrue};
+ghost use Rattle.pct_ask.specs.Objects.{IsInRange};
 ghost use Rattle.sync_store.specs.Store.{sizes_of};
 ghost use Rattle.sync_store.specs.Enabled.{enabled, others_ended};
 ghost use Rattle.sync_store.specs.Effect.{effect, store_after, applied_of};
 ghost use Rattle.sync_store.specs.Stepped.{applied_by};
 ghost use Rattle.sync_store.specs.Touched.{KeepsOthers, touched_of};
 ghost use Rattle.pct_ask.specs.declared.Verdict.{Verdict};
-ghost use Rattle.pct_ask.specs.Objects.{IsInRange};
 
 use crate::applied::{Applied, Stepped};
 use crate::store::Store;

@@ -17,7 +17,7 @@ pub enum Touched {
 }
 
 impl Store {
-    /// The object that the step of an ask touches. Only asks that name it may be more or less
+    /// The object that the step of an ask touches. Only asks that depend on it may be more or less
     /// enabled afterwards.
     pub fn touched(ask: &Ask) -> Touched
         ensures { result ≡ touched_of ask.now }

@@ -1,10 +1,9 @@
 //! The numbers of a trace.
 
 ghost use Rattle.std.specs.Prelude.{◌≡◌};
-ghost use Rattle.pct_ask.specs.Numbers as decimals;
 ghost use Rattle.trace_text.specs.reader.Numbers as numbers;
 
-use pct_ask::{number_in, read_number};
+use pct_ask::read_number;
 
 /// The i64 that a canonical decimal spells.
 pub fn i64_in(word: &[u8]) -> Option<i64>
@@ -35,12 +34,4 @@ fn as_natural(value: i64) -> Option<u64>
     ensures { result ≡ numbers.natural (Some value) }
 {
     if value < 0 { None } else { Some(value as u64) }
-}
-
-/// The number in a range that a canonical decimal spells.
-pub fn count_of(low: u32, high: u32, word: &[u8]) -> Option<u32>
-    ensures { result ≡ decimals.number_in low high word.now }
-{
-    let number = number_in(u64::from(low), u64::from(high), word)?;
-    Some(number as u32)
 }

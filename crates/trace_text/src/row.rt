@@ -13,9 +13,10 @@ ghost use Rattle.pct_ask.specs.Pieces.{seen};
 
 use crate::asks::{WordsRead, ask_on_one, ask_on_three, ask_on_two, bare_ask, object};
 use crate::fault::TraceFault;
-use crate::number::{count_of, i64_in, natural_of};
+use crate::number::{i64_in, natural_of};
 use pct_ask::{
-    Ask, Event, MisuseKind, NameKind, Names, Verdict, VerdictRead, first_words, read_verdict,
+    Ask, Event, MisuseKind, NameKind, Names, Verdict, VerdictRead, first_words, line_number,
+    read_verdict,
 };
 use std::alloc::{AllocError as NoMemory, Global};
 
@@ -98,7 +99,7 @@ fn step_in_words(names: &Names, around: &Around<'_>, ask: WordsRead<Ask>) -> Opt
         ask around.now.sign.now around.now.answer.now }
 {
     let number = natural_of(around.number)?;
-    let line = count_of(1, 4096, around.line)?;
+    let line = line_number(around.line)?;
     if !is_sign(around.sign) {
         return None;
     }

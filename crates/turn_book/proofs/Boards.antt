@@ -25,7 +25,7 @@ use Rattle.sync_store.specs.Store.{StoreState, sizes_of, first_store}
 use Rattle.sync_store.specs.Enabled.{enabled}
 use Rattle.sync_store.specs.Ready.{join_target, unknown_target, ready_by, away_by, ended_by}
 use Rattle.sync_store.specs.Ready.{standing_is_away, standing_is_ended as is_ended_standing}
-use Rattle.sync_store.specs.Touched.{KeepsOthers, names_object}
+use Rattle.sync_store.specs.Touched.{KeepsOthers, depends_on}
 use Rattle.policy_pick.specs.declared.chance.Chance.{Chance}
 use Rattle.policy_pick.specs.declared.chance.Chance.TheVariants.{Away, Ended}
 use Rattle.policy_pick.specs.Choice.{chance_of, HasAwayTarget, TargetsAreAway}
@@ -181,7 +181,7 @@ joins-other t v ask e is = absurd cc
 
 module _ (store after : StoreState) (posts : List (Option Post)) (t : ℕ) (post : Option Post)
     (object : Touched)
-    (keeps : (ended : ℕ → Bool) (u : ℕ) (ask : Ask) → u ≢ t → names_object u ask object ≡ false
+    (keeps : (ended : ℕ → Bool) (u : ℕ) (ask : Ask) → u ≢ t → depends_on u ask object ≡ false
     → enabled after ended u ask ≡ enabled store ended u ask) where
   abbrev later : NextPosts
   later = next_posts_of (set posts t post)
@@ -195,7 +195,7 @@ module _ (store after : StoreState) (posts : List (Option Post)) (t : ℕ) (post
       ask
   kept-ask u None apart none = refl
   kept-ask u (Some ask) apart none =
-      let parts = or_parts (names_object u ask object) (joins t ask) none in
+      let parts = or_parts (depends_on u ask object) (joins t ask) none in
       ap chance_by (
       readiness-same after (is_unknown later) (is_ended later) (is_unknown (next_posts_of posts))
       (is_ended (next_posts_of posts)) u ask (λ v e.

@@ -4,54 +4,25 @@ use Rattle.std.proofs.Common.{None, set, get_or, replicate, refl, sym, ap, ◌�
 use Rattle.std.proofs.Common.{eqb-true, arith}
 use Rattle.std.proofs.lemmas.Bool.{cases_Bool, false≢true}
 use Rattle.pct_ask.specs.declared.ask.Ask.{Ask}
-use Rattle.pct_ask.specs.declared.ask.Ask.TheVariants.{Read, Write, Add, Cas, Lock, TryLock, Unlock}
-use Rattle.pct_ask.specs.declared.ask.Ask.TheVariants.{Release, Regain, Signal, Broadcast, Down}
-use Rattle.pct_ask.specs.declared.ask.Ask.TheVariants.{TryDown, Up, Arrive, Leave, Join, Yield}
-use Rattle.pct_ask.specs.declared.ask.Ask.TheVariants.{Check, Fault, Start, Begin, RdLock, WrLock}
-use Rattle.pct_ask.specs.declared.ask.Ask.TheVariants.{TryRdLock, TryWrLock, RwUnlock}
+use Rattle.pct_ask.specs.declared.ask.Ask.TheVariants.{Join, Begin}
 use Rattle.pct_ask.specs.declared.ask.Post.{Post}
 use Rattle.pct_ask.specs.Objects.{Sizes, PostIsInRange}
 use Rattle.sync_store.specs.declared.touched.Touched.TheVariants.{Nothing}
-use Rattle.sync_store.specs.Touched.{names_object}
+use Rattle.sync_store.specs.Touched.{depends_on}
 use Rattle.turn_book.specs.Board.{AreNoted, ask_of_post, concerns, concerns_ask, joins, joins_ask}
 use Rattle.turn_book.specs.Board.{next_posts_of}
 use Rattle.turn_book.proofs.Boards.{nothing-posted, set-listed}
 
--- no ask names nothing
-pub names-nothing : (u : ℕ) (ask : Ask) → names_object u ask Nothing ≡ false
-names-nothing u (Read x) = refl
-names-nothing u (Write x value) = refl
-names-nothing u (Add x value) = refl
-names-nothing u (Cas x old new) = refl
-names-nothing u (Lock m) = refl
-names-nothing u (TryLock m) = refl
-names-nothing u (Unlock m) = refl
-names-nothing u (Release c m) = refl
-names-nothing u (Regain c m) = refl
-names-nothing u (Signal c) = refl
-names-nothing u (Broadcast c) = refl
-names-nothing u (Down s) = refl
-names-nothing u (TryDown s) = refl
-names-nothing u (Up s) = refl
-names-nothing u (Arrive b) = refl
-names-nothing u (Leave b) = refl
-names-nothing u (Join v) = refl
-names-nothing u Yield = refl
-names-nothing u (Check holds) = refl
-names-nothing u (Fault kind) = refl
-names-nothing u (Start v) = refl
-names-nothing u Begin = refl
-names-nothing u (RdLock l) = refl
-names-nothing u (WrLock l) = refl
-names-nothing u (TryRdLock l) = refl
-names-nothing u (TryWrLock l) = refl
-names-nothing u (RwUnlock l) = refl
+-- no ask depends on nothing
+pub depends-on-nothing : (u : ℕ) (ask : Ask) → depends_on u ask Nothing ≡ false
+depends-on-nothing u Begin = refl
+depends-on-nothing u ask = refl
 
 -- ---- a step that touches no object
 alone-concerned : (t u : ℕ) (ask : Option Ask) → joins_ask t ask ≡ false
     → concerns_ask t Nothing u ask ≡ false
 alone-concerned t u None e = refl
-alone-concerned t u (Some ask) e = ap (λ b. b || joins t ask) (names-nothing u ask) ∙ e
+alone-concerned t u (Some ask) e = ap (λ b. b || joins t ask) (depends-on-nothing u ask) ∙ e
 
 -- concerns its own thread and those that join it
 pub others-alone : (t u : ℕ) (post : Option Post) → u ≢ t → joins_ask t (ask_of_post post) ≡ false

@@ -12,7 +12,7 @@ use Rattle.pct_ask.specs.Objects.{PostIsInRange}
 use Rattle.sync_store.specs.declared.touched.Touched.{Touched}
 use Rattle.sync_store.specs.Store.{StoreState, sizes_of}
 use Rattle.sync_store.specs.Effect.{Effect, Goes, Stops, effect, store_after}
-use Rattle.sync_store.specs.Touched.{names_object}
+use Rattle.sync_store.specs.Touched.{depends_on}
 use Rattle.policy_pick.specs.declared.chance.Chance.{Chance}
 use Rattle.turn_book.specs.Chances.{NextPosts, chances}
 use Rattle.turn_book.specs.Told.{standing_by}
@@ -86,7 +86,7 @@ pub record IsNotedBoard (store : StoreState) (posts : List (Option Post)) (stand
 
 abbrev pub concerns_ask : ℕ → Touched → ℕ → Option Ask → Bool
 concerns_ask t object u None = false
-concerns_ask t object u (Some ask) = names_object u ask object || joins t ask
+concerns_ask t object u (Some ask) = depends_on u ask object || joins t ask
 
 -- whether the chance of a thread u with this post may change where the thread t posts or takes a
 -- step that touches an object

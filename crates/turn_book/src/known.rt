@@ -17,7 +17,7 @@ ghost use Rattle.turn_book.specs.Board.{ArePostsInRange, ask_of_post, answer_of,
 ghost use Rattle.turn_book.specs.Board.{concerns};
 ghost use Rattle.turn_book.specs.Board.{next_posts_of, joins_ask};
 
-use crate::objects::{is_named, joins};
+use crate::objects::{depends_on, joins};
 use pct_ask::{Ask, Event, Outcome, Post, Standing};
 use policy_pick::Chance;
 use sync_store::{Applied, Ready, Stepped, Store, Touched};
@@ -141,7 +141,7 @@ fn concerns(thread: u32, touched: Touched, other: u32, post: Option<Post>) -> bo
     }
     match asked(post) {
         None => false,
-        Some((_, ask)) => is_named(other, &ask, touched) || joins(thread, &ask),
+        Some((_, ask)) => depends_on(other, &ask, touched) || joins(thread, &ask),
     }
 }
 

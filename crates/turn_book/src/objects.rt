@@ -1,15 +1,15 @@
 ghost use Rattle.std.specs.Prelude.{◌≡◌, ◌||◌};
 ghost use Rattle.sync_store.specs.declared.touched.Touched.{Touched};
-ghost use Rattle.sync_store.specs.Touched.{is_object, names_object};
+ghost use Rattle.sync_store.specs.Touched.{is_object, depends_on};
 ghost use Rattle.turn_book.specs.Board.{joins};
 
 use pct_ask::Ask;
 use sync_store::Touched;
 
-/// The objects that an ask of a thread names. Where it names one, that is the second.
-fn named(thread: u32, ask: &Ask) -> (Touched, Touched)
+/// The objects that an ask of a thread depends on. Where it is one, that is the second.
+fn dependencies(thread: u32, ask: &Ask) -> (Touched, Touched)
     ensures { (object : Touched)
-        → names_object thread ask.now object
+        → depends_on thread ask.now object
         ≡ (is_object result.0 object || is_object result.1 object) }
 {
     match *ask {
@@ -59,14 +59,14 @@ fn is_object(one: Touched, other: Touched) -> bool
     }
 }
 
-/// Whether an ask of a thread names an object. Most steps touch none.
-pub fn is_named(thread: u32, ask: &Ask, object: Touched) -> bool
-    ensures { result ≡ names_object thread ask.now object }
+/// Whether an ask of a thread depends on an object. Most steps touch none.
+pub fn depends_on(thread: u32, ask: &Ask, object: Touched) -> bool
+    ensures { result ≡ depends_on thread ask.now object }
 {
     if let Touched::Nothing = object {
         return false;
     }
-    let (first, second) = named(thread, ask);
+    let (first, second) = dependencies(thread, ask);
     is_object(first, object) || is_object(second, object)
 }
 

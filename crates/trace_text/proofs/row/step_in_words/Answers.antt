@@ -12,7 +12,7 @@ returns-in_err-answer c =
     c.from_residual-in_err-answer.ensures
     ∙ sym (step-unanswered c.args.names.now around.number.now around.thread.now around.line.now
     c.args.ask around.sign.now around.answer.now c.in_ok-number.number c.in_ok-line.line
-    (sym c.natural_of.ensures ∙ c.in_ok-number.was) (sym c.count_of.ensures ∙ c.in_ok-line.was)
+    (sym c.natural_of.ensures ∙ c.in_ok-number.was) (sym c.line_number.ensures ∙ c.in_ok-line.was)
     (sym c.is_sign.ensures ∙ c.if-not-is_sign.false)
     (sym c.i64_in.ensures ∙ c.in_err-answer.was))
 
@@ -27,5 +27,5 @@ returns c =
     ∙ rw (c.object-thread.ensures, to_z-of_z w64 c.in_ok-answer.answer fits)
     (sym (step-whole c.args.names.now around.number.now around.thread.now around.line.now
     c.args.ask around.sign.now around.answer.now number line c.in_ok-answer.answer
-    (sym c.natural_of.ensures ∙ c.in_ok-number.was) (sym c.count_of.ensures ∙ c.in_ok-line.was)
+    (sym c.natural_of.ensures ∙ c.in_ok-number.was) (sym c.line_number.ensures ∙ c.in_ok-line.was)
     (sym c.is_sign.ensures ∙ c.if-not-is_sign.false) value))
