@@ -1,6 +1,6 @@
 -- Bodies that may be shown name only what there is, and what there is has names.
-use Rattle.std.proofs.Common.{◌≡◌, ℕ, ℤ, pos, zero, suc, ◌+◌, ◌<◌, List, [], ◌∷◌, length, map}
-use Rattle.std.proofs.Common.{get_or, Some, sym, ap, subst, ◌∙◌, arith, inl, inr}
+use Rattle.std.proofs.Common.{◌≡◌, ◌≢◌, ℕ, ℤ, pos, zero, suc, ◌+◌, ◌<◌, List, [], ◌∷◌, length, map}
+use Rattle.std.proofs.Common.{get_or, Some, refl, sym, ap, subst, ◌∙◌, arith, inl, inr}
 use Rattle.std.specs.Prelude.{All}
 use Rattle.std.proofs.lemmas.Bool.{cases_lt}
 use Rattle.std.proofs.lemmas.List.{get_or_past, length-map}
@@ -15,9 +15,11 @@ use Rattle.pct_ask.specs.Bodies.{Pending, no_body, pending_of, AreInRange}
 use Rattle.rank_now.specs.Order.{IsFirstWrong}
 use Rattle.worker_run.specs.Samples.{sample_post, sample_pending}
 use Rattle.worker_run.proofs.laws.SampleRanges.{samples-within}
-use Rattle.trace_text.specs.Lawful.{HasObjects}
+use Rattle.rank_now.proofs.laws.WholeOrders.{whole-order}
+use Rattle.trace_text.specs.Lawful.{HasObjects, IsStepCount, IsHead}
 use Rattle.trace_text.proofs.laws.KnownVerdicts.{IsAsked}
-use Rattle.kit_main.specs.Showing.{IsTestDeal, test_sizes, test_names, IsShowable}
+use Rattle.kit_main.specs.Showing.{IsTestDeal, test_sizes, test_names, test_order, test_head}
+use Rattle.kit_main.specs.Showing.{IsShowable}
 
 pub sizes-are : (deal : Deal) → IsTestDeal deal → sizes_of_deal deal ≡ test_sizes
 sizes-are deal is = λ i. record {
@@ -100,6 +102,34 @@ no-wrong-order (suc (suc zero)) w = elim w.wrong [
   | inr again ↦ none-two again.0 again.1 again.2
 ]
 no-wrong-order (suc (suc (suc k))) w = absurd (let within = w.within in omega arith)
+
+order-below : (place : ℕ) → place < 3 → get_or test_order place 0 < 3
+order-below zero within = omega arith
+order-below (suc zero) within = omega arith
+order-below (suc (suc zero)) within = omega arith
+order-below (suc (suc (suc k))) within = absurd (omega arith)
+
+order-once : (first second : ℕ) → first < second → second < 3
+    → get_or test_order first 0 ≢ get_or test_order second 0
+order-once zero (suc zero) low within same = omega (arith, same)
+order-once zero (suc (suc zero)) low within same = omega (arith, same)
+order-once (suc zero) (suc (suc zero)) low within same = omega (arith, same)
+order-once zero zero low within same = omega arith
+order-once (suc zero) zero low within same = omega arith
+order-once (suc zero) (suc zero) low within same = omega arith
+order-once (suc (suc first)) second low within same = omega arith
+order-once first (suc (suc (suc second))) low within same = omega arith
+
+pub head-is : IsHead test_names test_head
+head-is = record {
+  version = inl refl;
+  order = whole-order test_order order-below order-once;
+  whole = refl;
+  few_points = omega arith;
+  points =
+      All-cons IsStepCount 1 [] (omega arith, omega arith) (All-nil IsStepCount);
+  limit = (omega arith, omega arith);
+}
 
 -- ---- bodies in boxes
 three-all : (one other last : Pending) → IsShowable one → IsShowable other → IsShowable last

@@ -62,7 +62,7 @@ module _ (script : ScriptText) (deal : Deal) (of : IsDealOf script deal) (order 
       let run = whole.run in
       let known : All (λ (e : Event). e.thread < deal.threads) file.events =
       λ k d within. omega (arith, ((run.steps) k d within).thread, of.threads) in
-      let threads : deal.threads ≡ length order = of.threads ∙ sym (run.head).every in
+      let threads : deal.threads ≡ length order = of.threads ∙ sym (run.head).whole in
       let listed = All-map (λ t. t < deal.threads) (λ (e : Event). e.thread) file.events known in
       let made = run-played deal (bodies_of script) order points limit ended.0 ended.1 threads
       runs in

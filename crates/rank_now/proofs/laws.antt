@@ -7,3 +7,5 @@ pub mod GivenOnce
 pub mod PlacesByValue
 -- each thread's place is one of the order's
 pub mod Orders
+-- a list of numbers below its length, none twice, is an order
+pub mod WholeOrders

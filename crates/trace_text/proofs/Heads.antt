@@ -7,7 +7,7 @@ use Rattle.std.proofs.Common.{◌≡◌, ◌≢◌, ◌⊎◌, ℕ, ◌<◌, ◌
 use Rattle.std.proofs.Common.{get_or, zero, suc, Option, Some, None, refl, sym, ap, ◌∙◌, inl, inr}
 use Rattle.std.proofs.Common.{arith}
 use Rattle.std.proofs.lemmas.Bool.Decides.{nat_tests}
-use Rattle.std.proofs.lemmas.List.{length-map}
+use Rattle.std.proofs.lemmas.List.{length-map, get_or_default}
 use Rattle.std.proofs.lemmas.List.Elements.{All-nil, All-cons, All-head, All-tail}
 use Rattle.std.proofs.lemmas.List.Kept.{AllPairs-cons}
 use Rattle.std.proofs.lemmas.Bool.{and_parts, not-true}
@@ -20,6 +20,8 @@ use Rattle.pct_ask.specs.declared.names.NameKind.TheVariants.{Thread}
 use Rattle.pct_ask.proofs.laws.Names.{place_of-Some, not-at}
 use Rattle.pct_ask.proofs.laws.SplitWords.{join-words_of}
 use Rattle.pct_ask.proofs.laws.TextBytes.{AreHigh, words_of-high, high-by, name-high, decimal-high}
+use Rattle.rank_now.specs.Order.{IsOrder}
+use Rattle.rank_now.proofs.laws.WholeOrders.{whole-order}
 use Rattle.trace_text.specs.Lawful.{IsStepCount}
 use Rattle.pct_ask.specs.Numbers.{onto_front, all_of, step_count, step_counts}
 use Rattle.pct_ask.proofs.laws.Decimals.{number_in-decimal, number_in-Some}
@@ -147,17 +149,35 @@ once-told names (t ∷ ts) h =
     (is_among (thread_name names t) (map (thread_name names) ts)))
     (are_different (map (thread_name names) ts)) h).1)
 
+-- threads that have names, none twice and as many as there are, are an order
+named-order : (names : NameLists) (order : List ℕ) → All (HasName names) order
+    → AllPairs ◌≢◌ order → length order ≡ length names.threads → IsOrder order
+named-order names order all once long =
+    whole-order order (λ place within. let low = all place 0 within in omega (arith, low, long))
+    (λ first second low within. once first second 0 low within)
+
+-- the threads of an order of as many have names
+pub order-named : (names : NameLists) (order : List ℕ) → IsOrder order
+    → length order ≡ length names.threads → All (λ t. t < length names.threads) order
+order-named names order is long = λ place d within.
+    let same = get_or_default order place d 0 within in
+    omega (arith, same, is.below place within, long)
+
+order-once : (order : List ℕ) → IsOrder order → AllPairs ◌≢◌ order
+order-once order is = λ first second d low within same.
+    is.once first second low within
+    (sym (get_or_default order first d 0 (omega arith)) ∙ same
+    ∙ get_or_default order second d 0 within)
+
 pub order-told : (names : NameLists) (text : List ℕ) (words : List (List ℕ)) (order : List ℕ)
     → order_on_line names text ≡ Some words → threads_of_names names words ≡ Some order
     → (text ≡ join_with_byte 32 (codes "order" ∷ map (thread_name names) order))
-    × All (λ t. t < length names.threads) order × AllPairs ◌≢◌ order
-    × (length order ≡ length names.threads)
+    × IsOrder order × (length order ≡ length names.threads)
 order-told names text words order h known = by (words_of text) refl h
   where
     by : (all : List (List ℕ)) → words_of text ≡ all → names_after_order names all ≡ Some words
         → (text ≡ join_with_byte 32 (codes "order" ∷ map (thread_name names) order))
-        × All (λ t. t < length names.threads) order × AllPairs ◌≢◌ order
-        × (length order ≡ length names.threads)
+        × IsOrder order × (length order ≡ length names.threads)
     by [] is h = absurd cc
     by (head ∷ others) is h =
         let g = guarded (bytes_eq head (codes "order") && are_order_names names others)
@@ -179,8 +199,8 @@ order-told names text words order h known = by (words_of text) refl h
         ∙ ap (λ (ws : List (List ℕ)). length ws) (sym words_are) in (
           sym (join-words_of text) ∙ ap (join_with_byte 32)
               (is ∙ ap (λ w. w ∷ others) head_is ∙ ap (λ ws. codes "order" ∷ ws) words_are),
-          told.1,
-          once-told names order (ap are_different (sym words_are) ∙ parts.1),
+          named-order names order told.1
+              (once-told names order (ap are_different (sym words_are) ∙ parts.1)) (as_long ∙ long),
           as_long ∙ long,
         )
       where
@@ -241,13 +261,14 @@ pub order-line-high : (names : NameLists) (order : List ℕ) → AreNames names
 order-line-high names order sound all =
     (high-by (codes "order") refl, order-high names order sound all)
 
-pub order-known : (names : NameLists) (order : List ℕ) → AreNames names
-    → All (λ t. t < length names.threads) order → AllPairs ◌≢◌ order
+pub order-known : (names : NameLists) (order : List ℕ) → AreNames names → IsOrder order
     → length order ≡ length names.threads
     → (order_on_line names (join_with_byte 32 (codes "order" ∷ map (thread_name names) order))
     ≡ Some (map (thread_name names) order))
     × (threads_of_names names (map (thread_name names) order) ≡ Some order)
-order-known names order sound all once long =
+order-known names order sound is long =
+    let all = order-named names order is long in
+    let once = order-once order is in
     let high = order-high names order sound all in
     let cut = words_of-high (codes "order") (map (thread_name names) order)
     (high-by (codes "order") refl, high) in

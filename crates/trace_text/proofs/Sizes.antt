@@ -28,6 +28,7 @@ use Rattle.trace_text.specs.Lawful.{IsAsk, IsStep, IsStepCount, IsValue}
 use Rattle.trace_text.specs.Trace.{head_of, IsWritableFile}
 use Rattle.trace_text.specs.declared.file.TraceFile.{TraceFile}
 use Rattle.trace_text.proofs.Names.{name-lawful}
+use Rattle.trace_text.proofs.Heads.{order-named}
 
 length-line : (word : List ℕ) (words : List (List ℕ))
     → length (line_text (word ∷ words)) ≡ size (word ∷ words)
@@ -221,8 +222,9 @@ trace-size names file sound run =
     let a : length (line_text l1) ≤ 8 = let v = version-size file.header.version head.version in
     omega (arith, v, length-line (codes "trace") (decimal file.header.version ∷ [])) in
     let b : length (line_text l2) ≤ 2118 =
-    let o = order-size names file.header.order sound head.threads in let f = sound.few Thread in
-    let e = head.every in omega (
+    let all = order-named names file.header.order head.order head.whole in
+    let o = order-size names file.header.order sound all in let f = sound.few Thread in
+    let e = head.whole in omega (
       arith,
       o,
       f,

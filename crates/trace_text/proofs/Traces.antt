@@ -30,7 +30,8 @@ use Rattle.trace_text.specs.declared.fault.TraceError.TheVariants.{Bad, NoMemory
 use Rattle.pct_ask.proofs.laws.TextBytes.{AreHigh, no-end, high-by, decimal-high, form-high}
 use Rattle.trace_text.proofs.Bytes.{step-high}
 use Rattle.trace_text.proofs.Heads.{version-told, version-known, order-told, order-known}
-use Rattle.trace_text.proofs.Heads.{order-line-high, points-told, points-known, points-line-high}
+use Rattle.trace_text.proofs.Heads.{order-named, order-line-high, points-told, points-known}
+use Rattle.trace_text.proofs.Heads.{points-line-high}
 use Rattle.trace_text.proofs.Heads.{limit-told, limit-known, limit-line-high}
 use Rattle.trace_text.proofs.Wholes.{line_pieces, HaveNoEnds, pieces-lines, line_pieces-some}
 use Rattle.trace_text.proofs.Wholes.{text-pieces, body-told, body-known}
@@ -115,9 +116,8 @@ whole names bytes p1 p2 p3 p4 rest words version order points limit events verdi
       run = record {
         head = record {
           version = v_told.0;
-          threads = o_told.1;
-          once = o_told.2;
-          every = o_told.3;
+          order = o_told.1;
+          whole = o_told.2;
           few_points = p_told.1;
           points = p_told.2;
           limit = l_told.1;
@@ -199,7 +199,8 @@ lines-no-end names file sound run =
           (version-high file.header.version head.version),
       (
         no-end (codes "order" ∷ map (thread_name names) file.header.order)
-            (order-line-high names file.header.order sound head.threads),
+            (order-line-high names file.header.order sound
+            (order-named names file.header.order head.order head.whole)),
         (
           no-end (codes "points" ∷ map decimal file.header.points)
               (points-line-high file.header.points head.points),
@@ -225,7 +226,7 @@ trace-read names bytes file sound trace =
     let small : nat_lt 16777216 (length bytes) ≡ false = let s = trace.small in
     grind (arith, nat_tests) in
     let v = version-known file.header.version head.version in
-    let o = order-known names file.header.order sound head.threads head.once head.every in
+    let o = order-known names file.header.order sound head.order head.whole in
     let p = points-known file.header.points head.few_points head.points in
     let l = limit-known file.header.limit head.limit in
     let some = line_pieces-some (step_lines names 1 file.events

@@ -1,8 +1,7 @@
 -- What the parts of a trace may be (this project).
-use Rattle.std.specs.Prelude.{◌≡◌, ◌≢◌, ℕ, ℤ, ◌≤◌, ◌<◌, ◌⊎◌, Bool, true, false, length, FitsSigned}
+use Rattle.std.specs.Prelude.{◌≡◌, ℕ, ℤ, ◌≤◌, ◌<◌, ◌⊎◌, Bool, true, false, length, FitsSigned}
 use Rattle.std.specs.Prelude.{List, All}
 use Rattle.std.specs.Int.{w64}
-use Rattle.std.specs.List.{AllPairs}
 use Rattle.pct_ask.specs.NameLists.{NameLists}
 use Rattle.pct_ask.specs.Objects.{sizes_of_names, IsInRange}
 use Rattle.pct_ask.specs.VerdictText.{named_verdict, IsVerdictForm, HasNames, IsWholeVerdict}
@@ -17,6 +16,7 @@ use Rattle.pct_ask.specs.declared.verdict.Verdict.{Verdict}
 use Rattle.pct_ask.specs.declared.verdict.Verdict.TheVariants.{Passed, Failed, Stuck, Misuse}
 use Rattle.pct_ask.specs.declared.verdict.Verdict.TheVariants.{Fault as VerdictFault, Cut}
 use Rattle.pct_ask.specs.TraceText.{TraceHead}
+use Rattle.rank_now.specs.Order.{IsOrder}
 
 -- the numbers of an ask and of an answer are i64s
 abbrev pub IsValue : ℤ → Type 0
@@ -98,13 +98,12 @@ pub record IsKnownRun (names : NameLists) (version limit : ℕ) (events : List E
 abbrev pub IsStepCount : ℕ → Type 0
 IsStepCount n = (1 ≤ n) × (n ≤ 100000)
 
--- The head of a trace: its version is 1 or 2, its order names every thread once, it has at most 7
+-- The head of a trace: its version is 1 or 2, its order is one of all threads, it has at most 7
 -- points, and each point and the limit is in 1..100000.
 pub record IsHead (names : NameLists) (head : TraceHead) : Type 0 where
   pub version : (head.version ≡ 1) ⊎ (head.version ≡ 2)
-  pub threads : All (λ thread. thread < length names.threads) head.order
-  pub once : AllPairs ◌≢◌ head.order
-  pub every : length head.order ≡ length names.threads
+  pub order : IsOrder head.order
+  pub whole : length head.order ≡ length names.threads
   pub few_points : length head.points ≤ 7
   pub points : All IsStepCount head.points
   pub limit : IsStepCount head.limit

@@ -4,8 +4,15 @@ use Rattle.pct_ask.specs.NameLists.{NameLists}
 use Rattle.pct_ask.specs.TraceText.{TraceHead, trace_text}
 use Rattle.pct_ask.specs.VerdictText.{HasNames}
 use Rattle.pct_ask.specs.declared.event.Event.{Event}
-use Rattle.trace_text.specs.Lawful.{NamesKnown, is_of_second}
+use Rattle.trace_text.specs.Lawful.{NamesKnown, IsHead, is_of_second}
+use Rattle.kit_main.proofs.Showable.{head-is}
 use Rattle.kit_main.proofs.show.trace_of.Goals as goal
+
+pub write_trace-written-requires-clause-head : goal.write_trace-written-requires-clause-head
+write_trace-written-requires-clause-head g c =
+    let names = c.in_ok-names.ensures in
+    let head = c.in_ok-header.ensures in
+    subst (λ (x : NameLists × TraceHead). IsHead x.0 x.1) (λ i. (sym names i, sym head i)) head-is
 
 pub write_trace-written-requires-clause-steps : goal.write_trace-written-requires-clause-steps
 write_trace-written-requires-clause-steps g c =
