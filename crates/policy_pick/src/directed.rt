@@ -15,7 +15,6 @@ use std::marker::Model;
 /// own step of a number.
 #[derive(Debug, Drop)]
 pub struct DirectedPolicy {
-    order: Vec<u32>,
     events: Vec<Moment>,
     ranks: Ranks,
     own: Vec<u32>,
@@ -28,14 +27,14 @@ impl Model for DirectedPolicy {
     ghost Value = { EventsKept };
 
     ghost view = { λ p. record {
-      order = p.order.items;
+      order = p.ranks.order;
       events = p.events.items;
       values = p.ranks.values;
       own = p.own.items;
     } };
 
     ghost invariant = { λ p.
-        FitsOrder p.order.items p.ranks.values p.ranks.count (length p.events.items) };
+        FitsOrder p.ranks.order p.ranks.values p.ranks.count (length p.events.items) };
 }
 
 impl DirectedPolicy {
@@ -50,14 +49,8 @@ impl DirectedPolicy {
     {
         let ranks = Ranks::new(alloc, order, events.len() as u32)?;
         let own = vec![in alloc; 0; order.len()]?;
-        let order = Vec::from_slice(alloc, order)?;
         let events = Vec::from_slice(alloc, events)?;
-        Ok(DirectedPolicy {
-            order,
-            events,
-            ranks,
-            own,
-        })
+        Ok(DirectedPolicy { events, ranks, own })
     }
 }
 

@@ -15,7 +15,6 @@ use std::marker::Model;
 /// step is lowered.
 #[derive(Debug, Drop)]
 pub struct Pct {
-    order: Vec<u32>,
     points: Vec<u32>,
     ranks: Ranks,
     taken: u32,
@@ -28,14 +27,14 @@ impl Model for Pct {
     ghost Value = { PointsKept };
 
     ghost view = { λ p. record {
-      order = p.order.items;
+      order = p.ranks.order;
       points = p.points.items;
       taken = p.taken;
       values = p.ranks.values;
     } };
 
     ghost invariant = { λ p.
-        FitsOrder p.order.items p.ranks.values p.ranks.count (length p.points.items) };
+        FitsOrder p.ranks.order p.ranks.values p.ranks.count (length p.points.items) };
 }
 
 impl Pct {
@@ -50,10 +49,8 @@ impl Pct {
             → (result ≡ Err (RankError.NotAnOrder at)) ↔ IsFirstWrong order.now at }
     {
         let ranks = Ranks::new(alloc, order, points.len() as u32)?;
-        let order = Vec::from_slice(alloc, order)?;
         let points = Vec::from_slice(alloc, points)?;
         Ok(Pct {
-            order,
             points,
             ranks,
             taken: 0,

@@ -4,17 +4,20 @@ ghost use Rattle.policy_pick.specs.Choice.{choice_by_rank, choice_by_number};
 use crate::chance::{Chance, Pick, is_open, pick_at};
 use rank_now::Ranks;
 
-/// The pick of the walk by falling value.
+/// The pick of the walk by falling value: down the order past those that were lowered, and then
+/// down the values that they were lowered to.
 pub fn pick_by_rank(ranks: &Ranks, chances: &[Chance]) -> Pick
     requires threads { length chances.now ≡ length ranks.now.values }
     requires few_threads { length chances.now ≤ 64 }
     ensures { result ≡ choice_by_rank ranks.now.values chances.now }
 {
-    for place in 0..chances.len() as u32 {
-        let thread = ranks.walk(place);
-        let chance = chances[thread as usize];
-        if is_open(chance) {
-            return pick_at(Pick::Thread(thread), thread, chance);
+    let greatest = ranks.greatest();
+    for below in 0..greatest {
+        if let Some(thread) = ranks.holder(greatest - below) {
+            let chance = chances[thread as usize];
+            if is_open(chance) {
+                return pick_at(Pick::Thread(thread), thread, chance);
+            }
         }
     }
     Pick::Nobody

@@ -1,3 +1,5 @@
+pub mod Counts
+pub mod Holders
 pub mod Orders
 pub mod Places
 pub mod laws

@@ -3,8 +3,6 @@
 pub mod Positions
 -- each index is given at one step at most, by change points and by moments
 pub mod GivenOnce
--- a thread's place by its value
-pub mod PlacesByValue
 -- each thread's place is one of the order's
 pub mod Orders
 -- a list of numbers below its length, none twice, is an order

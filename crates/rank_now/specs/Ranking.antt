@@ -1,9 +1,14 @@
 -- What each thread's priority is now.
-use Rattle.std.specs.Prelude.{◌≡◌, ℕ, ◌+◌, ◌-◌, ◌<◌, ◌≤◌, List, length, nat_lt, slice_index}
+use Rattle.std.specs.Prelude.{◌≡◌, ℕ, ◌+◌, ◌-◌, ◌<◌, ◌≤◌, ◌⊎◌, ◌↔◌, List, Option, Some, None, length}
+use Rattle.std.specs.Prelude.{nat_lt, slice_index, slice_index_or}
 use Rattle.std.specs.List.{count_by}
+use Rattle.rank_now.specs.Order.{IsOrder}
+use Rattle.rank_now.specs.Rank.{place_in_order}
 
--- each thread's value, at its number, and how many lower values there are to give
+-- the order of the threads, how many values there are to give below those that it gives, and each
+-- thread's value, at its number
 pub record Ranking : Type 0 where
+  pub order : List ℕ
   pub count : ℕ
   pub values : List ℕ
 
@@ -22,26 +27,24 @@ pub record IsAtPlace (values : List ℕ) (place thread : ℕ) : Type 0 where
   pub within : thread < length values
   pub greater : place_by_value values thread ≡ place
 
--- what a `Ranks` keeps true of its values and of the walk: the threads by falling value
-pub record IsWalkOfValues (count : ℕ) (values walk : List ℕ) : Type 0 where
-  pub few_threads : length values ≤ 64
-  pub few_points : count ≤ 7
-  pub small : (thread : ℕ) → thread < length values
-      → slice_index values thread ≤ count + length values
-  pub distinct : AreDistinctValues values
-  pub whole : length walk ≡ length values
-  pub walked : (place : ℕ) → place < length values → IsAtPlace values place (slice_index walk place)
+-- the thread has the value
+pub record HasValue (values : List ℕ) (value thread : ℕ) : Type 0 where
+  pub within : thread < length values
+  pub has : slice_index values thread ≡ value
 
--- the item of one place now stands at another, and those between are one place nearer to where it
--- stood
-pub record IsMoved (old new : List ℕ) (from to : ℕ) : Type 0 where
-  pub whole : length new ≡ length old
-  pub moved : slice_index new to ≡ slice_index old from
-  pub nearer_up : (place : ℕ) → from ≤ place → place < to
-      → slice_index new place ≡ slice_index old (place + 1)
-  pub nearer_down : (place : ℕ) → to < place → place ≤ from
-      → slice_index new place ≡ slice_index old (place - 1)
-  pub below : (place : ℕ) → place < from → place < to
-      → slice_index new place ≡ slice_index old place
-  pub above : (place : ℕ) → from < place → to < place
-      → slice_index new place ≡ slice_index old place
+-- the value is one of those to give, from 1 up
+abbrev pub IsLow : ℕ → ℕ → Type 0
+IsLow count value = (1 ≤ value) × (value ≤ count)
+
+-- what a `Ranks` keeps true: each thread has the value that the order gave it, or was lowered, and
+-- who was lowered to each value, from 1 up, is who has it
+pub record AreLowered (order values : List ℕ) (lowered : List (Option ℕ)) : Type 0 where
+  pub few_threads : length order ≤ 64
+  pub few_values : length lowered ≤ 7
+  pub is_order : IsOrder order
+  pub threads : length values ≡ length order
+  pub given : (thread : ℕ) → thread < length order
+      → (slice_index values thread ≡ length lowered + length order - place_in_order order thread)
+      ⊎ IsLow (length lowered) (slice_index values thread)
+  pub holders : (index thread : ℕ) → index < length lowered
+      → (slice_index_or lowered index None ≡ Some thread) ↔ HasValue values (index + 1) thread

@@ -1,33 +1,37 @@
 ghost use Rattle.std.specs.Prelude.{◌≡◌, ◌≢◌, ℕ, ◌+◌, ◌-◌, ◌<◌, ◌≤◌, ◌↔◌, [], ◌∷◌, ◌++◌, List};
-ghost use Rattle.std.specs.Prelude.{length, map, nat_lt, slice_set, slice_index, IfOk, OnOk};
-ghost use Rattle.std.specs.List.{count_by};
+ghost use Rattle.std.specs.Prelude.{length, map, slice_set, slice_index, IfOk, OnOk, IfSome, IsNone};
 ghost use Rattle.rank_now.specs.Rank.{place_in_order, threads_of, ranks, ranks_by_events};
 ghost use Rattle.rank_now.specs.Rank.{index_of_point};
 ghost use Rattle.rank_now.specs.Rank.{index_of_moment};
 ghost use Rattle.rank_now.specs.Order.{IsOrder, IsFirstWrong};
-ghost use Rattle.rank_now.specs.Ranking.{Ranking, AreDistinctValues, IsAtPlace, IsMoved};
+ghost use Rattle.rank_now.specs.Ranking.{Ranking, AreDistinctValues, HasValue, IsAtPlace};
 ghost use Rattle.rank_now.specs.declared.moment.Moment.{Moment};
 
 use crate::order::{RankError, first_wrong};
 use std::alloc::{AllocError, Global};
 use std::marker::Model;
 
-/// The value of each thread, and the threads by falling value.
+/// The order of the threads, the value of each one, and who was lowered to each value, from 1 up.
 #[derive(Debug, Drop)]
 pub struct Ranks {
-    count: u32,
+    order: Vec<u32>,
     values: Vec<u32>,
-    walk: Vec<u32>,
+    lowered: Vec<Option<u32>>,
 }
 
 impl Model for Ranks {
-    ghost use Rattle.rank_now.specs.Ranking.{Ranking, IsWalkOfValues};
+    ghost use Rattle.std.specs.Prelude.{length};
+    ghost use Rattle.rank_now.specs.Ranking.{Ranking, AreLowered};
 
     ghost Value = { Ranking };
 
-    ghost view = { λ r. record { count = r.count; values = r.values.items } };
+    ghost view = { λ r. record {
+      order = r.order.items;
+      count = length r.lowered.items;
+      values = r.values.items;
+    } };
 
-    ghost invariant = { λ r. IsWalkOfValues r.count r.values.items r.walk.items };
+    ghost invariant = { λ r. AreLowered r.order.items r.values.items r.lowered.items };
 }
 
 impl Ranks {
@@ -36,6 +40,7 @@ impl Ranks {
     pub fn new(alloc: Global, order: &[u32], count: u32) -> Result<Ranks, RankError>
         requires few_threads { length order.now ≤ 64 }
         requires few_points { count ≤ 7 }
+        ensures order { IfOk result (λ r. r.order ≡ order.now) }
         ensures count { IfOk result (λ r. r.count ≡ count) }
         ensures values { IfOk result (λ r.
             r.values
@@ -50,7 +55,7 @@ impl Ranks {
             (events : List Moment) → length events ≡ count
             → r.values ≡ ranks_by_events order.now events []) }
 
-        ensures order { OnOk result (IsOrder order.now) }
+        ensures is_order { OnOk result (IsOrder order.now) }
         ensures not_an_order { (at : ℕ)
             → (result ≡ Err (RankError.NotAnOrder at)) ↔ IsFirstWrong order.now at }
     {
@@ -58,21 +63,23 @@ impl Ranks {
             return Err(RankError::NotAnOrder { at });
         }
         let values = first_values(alloc, order, count)?;
-        let walk = Vec::from_slice(alloc, order)?;
+        let lowered = vec![in alloc; None; count as usize]?;
+        let order = Vec::from_slice(alloc, order)?;
         Ok(Ranks {
-            count,
+            order,
             values,
-            walk,
+            lowered,
         })
     }
 
-    /// Gives the thread a value that no thread has, at the cost of a few passes over the threads.
+    /// Gives the thread a value that no thread has.
     pub fn lower(&mut self, thread: u32, value: u32)
         requires thread { thread < length self.old.values }
         requires positive { 1 ≤ value }
         requires low { value ≤ self.old.count }
         requires free { (other : ℕ) → other < length self.old.values
             → slice_index self.old.values other ≢ value }
+        ensures order { self.new.order ≡ self.old.order }
         ensures count { self.new.count ≡ self.old.count }
         ensures values { self.new.values ≡ slice_set self.old.values thread value }
         ensures distinct { AreDistinctValues self.new.values }
@@ -87,10 +94,9 @@ impl Ranks {
             → value ≡ index_of_moment events (schedule ++ thread ∷ []) (length schedule + 1)
             → self.new.values ≡ ranks_by_events order events (schedule ++ thread ∷ []) }
     {
-        let from = greater(&self.values, self.values[thread as usize]);
+        free(&mut self.lowered, self.values[thread as usize]);
         self.values[thread as usize] = value;
-        let to = greater(&self.values, value);
-        shift(&mut self.walk, from, to);
+        self.lowered[value as usize - 1] = Some(thread);
     }
 
     pub fn value(&self, thread: u32) -> u32
@@ -100,21 +106,64 @@ impl Ranks {
         self.values[thread as usize]
     }
 
+    /// The greatest value that a thread may have.
+    pub fn greatest(&self) -> u32
+        ensures value { result ≡ self.now.count + length self.now.values }
+        ensures positive { (thread : ℕ) → thread < length self.now.values
+            → 1 ≤ slice_index self.now.values thread }
+        ensures bound { (thread : ℕ) → thread < length self.now.values
+            → slice_index self.now.values thread ≤ result }
+    {
+        (self.lowered.len() + self.order.len()) as u32
+    }
+
+    /// The thread that has a value: one that was lowered to it, or the one that the order gave it,
+    /// where that one has not been lowered.
+    pub fn holder(&self, value: u32) -> Option<u32>
+        requires positive { 1 ≤ value }
+        requires within { value ≤ self.now.count + length self.now.values }
+        ensures some { IfSome result (HasValue self.now.values value) }
+        ensures none { IsNone result → (thread : ℕ) → ¬ HasValue self.now.values value thread }
+        ensures distinct { AreDistinctValues self.now.values }
+    {
+        let low = self.lowered.len() as u32;
+        if value <= low {
+            return self.lowered[value as usize - 1];
+        }
+        let thread = self.order[(self.greatest() - value) as usize];
+        (self.values[thread as usize] == value).then_some(thread)
+    }
+
     /// The thread at a place, from 0, of the threads by falling value.
     pub fn walk(&self, place: u32) -> u32
         requires { place < length self.now.values }
         ensures at_place { IsAtPlace self.now.values place result }
         ensures only { (other : ℕ) → IsAtPlace self.now.values place other → other ≡ result }
     {
-        self.walk[place as usize]
+        let greatest = self.greatest();
+        let mut passed = 0;
+        for below in 0..greatest {
+            if let Some(thread) = self.holder(greatest - below) {
+                if passed == place {
+                    return thread;
+                }
+                passed += 1;
+            }
+        }
+        unreachable!()
     }
 }
 
-/// How many values are greater than this one.
-fn greater(values: &[u32], value: u32) -> usize
-    ensures { result ≡ count_by (nat_lt value) values.now }
+/// Nobody holds the value any more, where it is one of those to give.
+fn free(lowered: &mut [Option<u32>], value: u32)
+    requires { 1 ≤ value }
+    ensures low { value ≤ length lowered.old
+        → lowered.new ≡ slice_set lowered.old (value - 1) None }
+    ensures high { length lowered.old < value → lowered.new ≡ lowered.old }
 {
-    values.iter().filter(|other| value < **other).count()
+    if value as usize <= lowered.len() {
+        lowered[value as usize - 1] = None;
+    }
 }
 
 /// The thread at place p of n has the value count + n - p.
@@ -131,17 +180,4 @@ fn first_values(alloc: Global, order: &[u32], count: u32) -> Result<Vec<u32>, Al
         values[*thread as usize] = count + (order.len() - place) as u32;
     }
     Ok(values)
-}
-
-/// Moves the item at one place to another, and each item between by one place.
-fn shift(walk: &mut [u32], from: usize, to: usize)
-    requires from { from < length walk.old }
-    requires to { to < length walk.old }
-    ensures { IsMoved walk.old walk.new from to }
-{
-    if from < to {
-        walk[from..=to].rotate_left(1);
-    } else {
-        walk[to..=from].rotate_right(1);
-    }
 }

@@ -14,9 +14,9 @@ returns-in_err-ranks-clause-not_an_order c =
 
 pub invariant_of-result : goal.invariant_of-result
 invariant_of-result c =
-    let same = c.in_ok-order.ensures.items in
+    let same = c.in_ok-ranks.ensures.order in
     record {
-      is_order = subst IsOrder (sym same) c.in_ok-ranks.ensures.order;
+      is_order = subst IsOrder (sym same) c.in_ok-ranks.ensures.is_order;
       few_threads = omega (arith, ap length same, c.requires.few_threads);
       few_changes = omega (arith, ap length c.in_ok-events.ensures.items, c.requires.few_events);
       as_many = c.in_ok-ranks.ensures.count ∙ sym (ap length c.in_ok-events.ensures.items);
@@ -27,15 +27,15 @@ invariant_of-result c =
 
 pub returns-clause-stands : goal.returns-clause-stands
 returns-clause-stands c =
-    let order = c.in_ok-order.ensures.items in
+    let order = c.in_ok-ranks.ensures.order in
     let events = c.in_ok-events.ensures.items in
     record {
       values =
           c.in_ok-ranks.ensures.by_events c.args.events.now refl
           ∙ ap (λ x. ranks_by_events x c.args.events.now []) (sym order)
-          ∙ ap (λ x. ranks_by_events c.in_ok-order.order.items x []) (sym events);
+          ∙ ap (λ x. ranks_by_events c.in_ok-ranks.ranks.order x []) (sym events);
       own =
-          own_counts-first c.in_ok-order.order.items c.in_ok-own.own.items
+          own_counts-first c.in_ok-ranks.ranks.order c.in_ok-own.own.items
           (c.in_ok-own.ensures.items_if_clones_equal (λ y e. e)
           ∙ ap (λ n. replicate n 0) (sym (ap length order)));
     }

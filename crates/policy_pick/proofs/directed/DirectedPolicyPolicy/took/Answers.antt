@@ -1,8 +1,10 @@
-use Rattle.std.proofs.Common.{◌≡◌, ◌+◌, ◌<◌, length, eqb, sym, ap, subst, ◌∙◌, arith}
+use Rattle.std.proofs.Common.{◌≡◌, ◌+◌, ◌<◌, [], ◌∷◌, ◌++◌, length, eqb, sym, ap, subst}
+use Rattle.std.proofs.Common.{◌∙◌, arith}
 use Rattle.std.proofs.lemmas.List.{get_or_read}
 use Rattle.std.proofs.lemmas.List.Sums.{count_by-le-length}
 use Rattle.rank_now.proofs.laws.GivenOnce.{ranks_by_events-same, ranks_by_events-free}
-use Rattle.policy_pick.specs.Kept.{EventsKept, EventsStand}
+use Rattle.rank_now.specs.Rank.{ranks_by_events}
+use Rattle.policy_pick.specs.Kept.{EventsKept, EventsStand, own_counts}
 use Rattle.policy_pick.proofs.Moments.{own_counts-threads, own_counts-at, own_counts-after, step-is}
 use Rattle.policy_pick.proofs.directed.DirectedPolicyPolicy.took.Goals as goal
 
@@ -12,14 +14,14 @@ overflow_add-number c =
     let schedule = c.requires.short.0 in
     let P : EventsKept → Type 0 = λ kept. EventsStand kept schedule in
     let stands = subst P (sym c.self.view_is) c.requires.short.1 in
-    let order : f.order.items ≡ c.args.self.now.order =
+    let order : f.ranks.order ≡ c.args.self.now.order =
     ap (λ (kept : EventsKept). kept.order) c.self.view_is in
-    let within : c.args.thread < length f.order.items =
+    let within : c.args.thread < length f.ranks.order =
     omega (arith, ap length order, c.requires.thread.1, c.requires.thread.2) in
-    let long = own_counts-threads f.order.items schedule f.own.items stands.own in
+    let long = own_counts-threads f.ranks.order schedule f.own.items stands.own in
     let read = get_or_read f.own.items c.args.thread c.index.result.now (omega arith)
     c.index.ensures 0 in
-    let counted = own_counts-at f.order.items schedule f.own.items c.args.thread stands.own
+    let counted = own_counts-at f.ranks.order schedule f.own.items c.args.thread stands.own
     within in
     let few = count_by-le-length (λ taker. eqb taker c.args.thread) schedule in
     omega (arith, c.requires.short.2)
@@ -30,11 +32,11 @@ lower-requires-clause-low c =
     let schedule = c.requires.short.0 in
     let P : EventsKept → Type 0 = λ kept. EventsStand kept schedule in
     let stands = subst P (sym c.self.view_is) c.requires.short.1 in
-    let order : f.order.items ≡ c.args.self.now.order =
+    let order : f.ranks.order ≡ c.args.self.now.order =
     ap (λ (kept : EventsKept). kept.order) c.self.view_is in
-    let within : c.args.thread < length f.order.items =
+    let within : c.args.thread < length f.ranks.order =
     omega (arith, ap length order, c.requires.thread.1, c.requires.thread.2) in
-    let step = step-is f.order.items f.own.items f.events.items c.deref.result.now schedule
+    let step = step-is f.ranks.order f.own.items f.events.items c.deref.result.now schedule
     c.args.thread c.index.result.now c.index_of_moment-index.result stands.own within
     c.index.ensures c.deref.ensures.value c.index_of_moment-index.ensures in
     omega (arith, step.low, c.self.invariant.as_many)
@@ -45,14 +47,14 @@ lower-requires-clause-free c =
     let schedule = c.requires.short.0 in
     let P : EventsKept → Type 0 = λ kept. EventsStand kept schedule in
     let stands = subst P (sym c.self.view_is) c.requires.short.1 in
-    let order : f.order.items ≡ c.args.self.now.order =
+    let order : f.ranks.order ≡ c.args.self.now.order =
     ap (λ (kept : EventsKept). kept.order) c.self.view_is in
-    let within : c.args.thread < length f.order.items =
+    let within : c.args.thread < length f.ranks.order =
     omega (arith, ap length order, c.requires.thread.1, c.requires.thread.2) in
-    let step = step-is f.order.items f.own.items f.events.items c.deref.result.now schedule
+    let step = step-is f.ranks.order f.own.items f.events.items c.deref.result.now schedule
     c.args.thread c.index.result.now c.index_of_moment-index.result stands.own within
     c.index.ensures c.deref.ensures.value c.index_of_moment-index.ensures in
-    ranks_by_events-free f.order.items f.events.items schedule c.args.thread
+    ranks_by_events-free f.ranks.order f.events.items schedule c.args.thread
     c.self.invariant.is_order f.ranks.values c.index_of_moment-index.result c.if-index-gt0.true
     step.given stands.values
 
@@ -61,19 +63,23 @@ returns-then-index-gt0-clause-stands c = λ schedule stood.
     let f = c.self.inside in
     let P : EventsKept → Type 0 = λ kept. EventsStand kept schedule in
     let stands = subst P (sym c.self.view_is) stood in
-    let order : f.order.items ≡ c.args.self.now.order =
+    let order : f.ranks.order ≡ c.args.self.now.order =
     ap (λ (kept : EventsKept). kept.order) c.self.view_is in
-    let within : c.args.thread < length f.order.items =
+    let within : c.args.thread < length f.ranks.order =
     omega (arith, ap length order, c.requires.thread.1, c.requires.thread.2) in
-    let step = step-is f.order.items f.own.items f.events.items c.deref.result.now schedule
+    let step = step-is f.ranks.order f.own.items f.events.items c.deref.result.now schedule
     c.args.thread c.index.result.now c.index_of_moment-index.result stands.own within
     c.index.ensures c.deref.ensures.value c.index_of_moment-index.ensures in
     record {
       values =
-          c.lower.ensures.by_events f.order.items f.events.items schedule stands.values step.given;
+          c.lower.ensures.by_events f.ranks.order f.events.items schedule stands.values step.given
+          ∙ ap (λ order. ranks_by_events order f.events.items (schedule ++ c.args.thread ∷ []))
+          (sym c.lower.ensures.order);
       own =
-          own_counts-after f.order.items schedule f.own.items c.args.thread (c.index.result.now + 1)
-          stands.own step.own;
+          own_counts-after f.ranks.order schedule f.own.items c.args.thread (c.index.result.now + 1)
+          stands.own step.own
+          ∙ ap (λ order. own_counts order (schedule ++ c.args.thread ∷ []))
+          (sym c.lower.ensures.order);
     }
 
 pub returns-else-index-gt0-clause-stands : goal.returns-else-index-gt0-clause-stands
@@ -81,18 +87,18 @@ returns-else-index-gt0-clause-stands c = λ schedule stood.
     let f = c.self.inside in
     let P : EventsKept → Type 0 = λ kept. EventsStand kept schedule in
     let stands = subst P (sym c.self.view_is) stood in
-    let order : f.order.items ≡ c.args.self.now.order =
+    let order : f.ranks.order ≡ c.args.self.now.order =
     ap (λ (kept : EventsKept). kept.order) c.self.view_is in
-    let within : c.args.thread < length f.order.items =
+    let within : c.args.thread < length f.ranks.order =
     omega (arith, ap length order, c.requires.thread.1, c.requires.thread.2) in
-    let step = step-is f.order.items f.own.items f.events.items c.deref.result.now schedule
+    let step = step-is f.ranks.order f.own.items f.events.items c.deref.result.now schedule
     c.args.thread c.index.result.now c.index_of_moment-index.result stands.own within
     c.index.ensures c.deref.ensures.value c.index_of_moment-index.ensures in
     record {
       values =
-          stands.values ∙ ranks_by_events-same f.order.items f.events.items schedule c.args.thread
+          stands.values ∙ ranks_by_events-same f.ranks.order f.events.items schedule c.args.thread
           (omega (arith, c.if-index-gt0.false, step.given));
       own =
-          own_counts-after f.order.items schedule f.own.items c.args.thread (c.index.result.now + 1)
+          own_counts-after f.ranks.order schedule f.own.items c.args.thread (c.index.result.now + 1)
           stands.own step.own;
     }

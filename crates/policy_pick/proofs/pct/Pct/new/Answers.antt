@@ -12,9 +12,9 @@ returns-in_err-ranks-clause-not_an_order c =
 
 pub invariant_of-result : goal.invariant_of-result
 invariant_of-result c =
-    let same = c.in_ok-order.ensures.items in
+    let same = c.in_ok-ranks.ensures.order in
     record {
-      is_order = subst IsOrder (sym same) c.in_ok-ranks.ensures.order;
+      is_order = subst IsOrder (sym same) c.in_ok-ranks.ensures.is_order;
       few_threads = omega (arith, ap length same, c.requires.few_threads);
       few_changes = omega (arith, ap length c.in_ok-points.ensures.items, c.requires.few_points);
       as_many = c.in_ok-ranks.ensures.count ∙ sym (ap length c.in_ok-points.ensures.items);

@@ -1,7 +1,7 @@
-use Rattle.std.proofs.Common.{◌≡◌, ◌+◌, length, eqb, sym, ap, subst, ◌∙◌, arith}
+use Rattle.std.proofs.Common.{◌≡◌, ◌+◌, [], ◌∷◌, ◌++◌, length, eqb, sym, ap, subst, ◌∙◌, arith}
 use Rattle.std.proofs.lemmas.List.{length_push}
 use Rattle.rank_now.specs.Positions.{passes_at}
-use Rattle.rank_now.specs.Rank.{index_of_point}
+use Rattle.rank_now.specs.Rank.{index_of_point, ranks}
 use Rattle.rank_now.proofs.laws.Positions.{greatest-le}
 use Rattle.rank_now.proofs.laws.GivenOnce.{ranks-same, ranks-free}
 use Rattle.policy_pick.specs.Kept.{PointsKept, PointsStand}
@@ -30,7 +30,7 @@ lower-requires-clause-free c =
     c.index_of_point-index.ensures ∙ ap (λ points. index_of_point points (f.taken + 1))
     c.deref.ensures.value ∙ ap (λ taken. index_of_point f.points.items (taken + 1))
     stands.taken in
-    ranks-free f.order.items f.points.items schedule c.args.thread c.self.invariant.is_order
+    ranks-free f.ranks.order f.points.items schedule c.args.thread c.self.invariant.is_order
     f.ranks.values c.index_of_point-index.result c.if-index-gt0.true index stands.values
 
 pub returns-then-index-gt0-clause-stands : goal.returns-then-index-gt0-clause-stands
@@ -45,7 +45,10 @@ returns-then-index-gt0-clause-stands c = λ schedule stood.
     stands.taken in
     record {
       taken = omega (arith, stands.taken, length_push schedule c.args.thread);
-      values = c.lower.ensures.by_points f.order.items f.points.items schedule stands.values index;
+      values =
+          c.lower.ensures.by_points f.ranks.order f.points.items schedule stands.values index
+          ∙ ap (λ order. ranks order f.points.items (schedule ++ c.args.thread ∷ []))
+          (sym c.lower.ensures.order);
     }
 
 pub returns-else-index-gt0-clause-stands : goal.returns-else-index-gt0-clause-stands
@@ -61,6 +64,6 @@ returns-else-index-gt0-clause-stands c = λ schedule stood.
     record {
       taken = omega (arith, stands.taken, length_push schedule c.args.thread);
       values =
-          stands.values ∙ ranks-same f.order.items f.points.items schedule c.args.thread
+          stands.values ∙ ranks-same f.ranks.order f.points.items schedule c.args.thread
           (omega (arith, c.if-index-gt0.false, index));
     }

@@ -1,6 +1,7 @@
-use Rattle.std.proofs.Common.{refl, sym, subst, List, ℕ}
-use Rattle.rank_now.specs.Ranking.{IsWalkOfValues}
-use Rattle.rank_now.proofs.Orders.{is-order, first-kept}
+use Rattle.std.proofs.Common.{rules, List, ℕ, refl, sym, subst}
+use Rattle.rank_now.specs.Ranking.{AreLowered}
+use Rattle.rank_now.proofs.Holders.{distinct-values}
+use Rattle.rank_now.proofs.Orders.{is-order, first-lowered}
 use Rattle.rank_now.proofs.laws.GivenOnce.{ranks-first, ranks_by_events-first}
 use Rattle.rank_now.proofs.ranks.Ranks.new.Goals as goal
 
@@ -10,23 +11,25 @@ first_values-requires-clause-order c = is-order c.args.order.now (c.in_default.e
 pub invariant_of-result : goal.invariant_of-result
 invariant_of-result c =
     let order = c.args.order.now in
-    let kept = first-kept order c.in_ok-values.values.items c.args.count
+    let P : List ℕ → Type 0 = λ o.
+    AreLowered o c.in_ok-values.values.items c.in_ok-lowered.lowered.items in
+    subst P (sym c.in_ok-order.ensures.items)
+    (first-lowered order c.in_ok-values.values.items c.in_ok-lowered.lowered.items c.args.count
     (is-order order (c.in_default.ensures.none refl)) c.in_ok-values.ensures
-    c.requires.few_threads c.requires.few_points in
-    let P : List ℕ → Type 0 =
-    λ walk. IsWalkOfValues c.args.count c.in_ok-values.values.items walk in
-    subst P (sym (c.in_ok-walk.ensures.items)) kept
+    (c.in_ok-lowered.ensures.items_if_clones_equal (λ y e. search rules)) c.requires.few_threads
+    c.requires.few_points)
 
 pub returns-clause-distinct : goal.returns-clause-distinct
 returns-clause-distinct c =
     let order = c.args.order.now in
-    let kept = first-kept order c.in_ok-values.values.items c.args.count
+    distinct-values order c.in_ok-values.values.items c.in_ok-lowered.lowered.items
+    (first-lowered order c.in_ok-values.values.items c.in_ok-lowered.lowered.items c.args.count
     (is-order order (c.in_default.ensures.none refl)) c.in_ok-values.ensures
-    c.requires.few_threads c.requires.few_points in
-    kept.distinct
+    (c.in_ok-lowered.ensures.items_if_clones_equal (λ y e. search rules)) c.requires.few_threads
+    c.requires.few_points)
 
-pub returns-clause-order : goal.returns-clause-order
-returns-clause-order c = is-order c.args.order.now (c.in_default.ensures.none refl)
+pub returns-clause-is_order : goal.returns-clause-is_order
+returns-clause-is_order c = is-order c.args.order.now (c.in_default.ensures.none refl)
 
 pub returns-clause-by_points : goal.returns-clause-by_points
 returns-clause-by_points c =
