@@ -1,8 +1,8 @@
 -- Small theorems that read the definitions on known texts.
-use Rattle.std.specs.Prelude.{◌≡◌, true, false, [], ◌∷◌, Some, None, codes, refl}
+use Rattle.std.specs.Prelude.{◌≡◌, true, false, [], ◌∷◌, Some, None, length, codes, refl}
 use Rattle.pct_ask.specs.Lines.{lines_of}
 use Rattle.pct_ask.specs.Tokens.{Word, Number, Symbol, tokens_of}
-use Rattle.pct_ask.specs.Words.{is_name}
+use Rattle.pct_ask.specs.Words.{is_name, registers, register_count, register_word, register_in}
 
 pub last_line_without_end : lines_of (codes "ab\n\nc") ≡ codes "ab" ∷ [] ∷ codes "c" ∷ []
 last_line_without_end = refl
@@ -34,3 +34,12 @@ register = refl
 
 pub no_register : is_name 3 (codes "r16") ≡ true
 no_register = refl
+
+pub as_many_registers : length registers ≡ register_count
+as_many_registers = refl
+
+pub last_register : register_in (register_word 15) ≡ Some 15
+last_register = refl
+
+pub past_the_registers : register_in (codes "r16") ≡ None
+past_the_registers = refl

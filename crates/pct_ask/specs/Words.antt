@@ -1,8 +1,8 @@
 -- The words of the script language: those with a meaning of their own, and those that may be names
 -- (this project).
 use Rattle.std.specs.Prelude.{ℕ, ◌==◌, ◌&&◌, if◌then◌else◌, Bool, false, not, nat_le, List, [], ◌∷◌}
-use Rattle.std.specs.Prelude.{◌++◌, length, codes}
-use Rattle.std.specs.List.{list_all, list_any}
+use Rattle.std.specs.Prelude.{◌++◌, Option, length, codes, position}
+use Rattle.std.specs.List.{list_all, list_any, slice_index_or}
 use Rattle.std.specs.Str.{bytes_eq}
 use Rattle.pct_ask.specs.Characters.{is_letter, is_word_byte}
 
@@ -39,6 +39,18 @@ registers =
     codes "r0" ∷ codes "r1" ∷ codes "r2" ∷ codes "r3" ∷ codes "r4" ∷ codes "r5" ∷ codes "r6"
     ∷ codes "r7" ∷ codes "r8" ∷ codes "r9" ∷ codes "r10" ∷ codes "r11" ∷ codes "r12" ∷ codes "r13"
     ∷ codes "r14" ∷ codes "r15" ∷ []
+
+-- how many those are
+abbrev pub register_count : ℕ
+register_count = 16
+
+-- the word of a register, r0 to r15
+abbrev pub register_word : ℕ → List ℕ
+register_word register = slice_index_or registers register []
+
+-- the register that a word is
+abbrev pub register_in : List ℕ → Option ℕ
+register_in word = position (bytes_eq word) registers
 
 -- a word that is no keyword of the version and no register
 abbrev pub is_name : ℕ → List ℕ → Bool

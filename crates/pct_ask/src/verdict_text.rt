@@ -12,6 +12,7 @@ ghost use Rattle.pct_ask.specs.VerdictRead.{ReadsAs};
 use crate::ask::FaultKind;
 use crate::blocked::Blocked;
 use crate::names::{NameKind, Names};
+use crate::spaced::write_spaced_word;
 use crate::verdict::{MisuseKind, Verdict};
 use crate::verdict_words::{
     ALREADY_STARTED, CUT, FAILED, FAULT, MISUSE, NOT_OWNER, OVERFLOW, PASSED, SEM_FULL, SPIN,
@@ -71,11 +72,11 @@ fn push_verdict(verdict: &Verdict, names: &Names, out: &mut Vec<u8>) -> Result<(
         Verdict::Stuck { blocked } => push_stuck(blocked, names, out),
         Verdict::Misuse { thread, line, kind } => {
             push_placed(MISUSE, *thread, *line, names, out)?;
-            push_word(misuse_word(*kind), out)
+            write_spaced_word(misuse_word(*kind), out)
         }
         Verdict::Fault { thread, line, kind } => {
             push_placed(FAULT, *thread, *line, names, out)?;
-            push_word(fault_word(*kind), out)
+            write_spaced_word(fault_word(*kind), out)
         }
         Verdict::Cut => out.extend_from_slice(CUT),
     }
@@ -121,17 +122,8 @@ fn push_place(thread: u32, line: u32, names: &Names, out: &mut Vec<u8>) -> Resul
     ensures begun { OnErr result (IsStartOf out.old.items out.new.items) }
 {
     let mut buffer = Buffer::new();
-    push_word(names.name(NameKind::Thread, thread).unwrap(), out)?;
-    push_word(buffer.format(line).as_bytes(), out)
-}
-
-// A space and a word.
-fn push_word(word: &[u8], out: &mut Vec<u8>) -> Result<(), NoMemory>
-    ensures written { OnOk result (out.new.items ≡ out.old.items ++ 32 ∷ word.now) }
-    ensures begun { OnErr result (IsStartOf out.old.items out.new.items) }
-{
-    out.push(b' ')?;
-    out.extend_from_slice(word)
+    write_spaced_word(names.name(NameKind::Thread, thread).unwrap(), out)?;
+    write_spaced_word(buffer.format(line).as_bytes(), out)
 }
 
 fn misuse_word(kind: MisuseKind) -> &'static [u8]

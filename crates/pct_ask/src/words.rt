@@ -1,7 +1,8 @@
-ghost use Rattle.std.specs.Prelude.{◌≡◌, map};
+ghost use Rattle.std.specs.Prelude.{◌≡◌, map, position};
 ghost use Rattle.std.specs.List.{list_all, list_any};
 ghost use Rattle.std.specs.Str.{bytes_eq};
 ghost use Rattle.pct_ask.specs.Words.{is_word, is_among, is_name, keywords};
+ghost use Rattle.pct_ask.specs.Words.{register_word, register_in};
 ghost use Rattle.pct_ask.specs.Characters.{is_letter, is_word_byte};
 
 const FIRST_KEYWORDS: [&[u8]; 29] = [
@@ -48,7 +49,10 @@ const THIRD_KEYWORDS: [&[u8]; 7] = [
     b"rwunlock",
 ];
 
-const REGISTERS: [&[u8]; 16] = [
+/// How many registers a thread has.
+pub const REGISTER_COUNT: usize = 16;
+
+const REGISTERS: [&[u8]; REGISTER_COUNT] = [
     b"r0", b"r1", b"r2", b"r3", b"r4", b"r5", b"r6", b"r7", b"r8", b"r9", b"r10", b"r11", b"r12",
     b"r13", b"r14", b"r15",
 ];
@@ -75,13 +79,15 @@ fn are_word_bytes(bytes: &[u8]) -> bool
     bytes.iter().all(|b| is_word_byte(*b))
 }
 
-fn is_letter(b: u8) -> bool
+/// Whether a word may begin with the byte.
+pub fn is_letter(b: u8) -> bool
     ensures { result ≡ is_letter b }
 {
     matches!(b, b'a'..=b'z' | b'A'..=b'Z' | b'_')
 }
 
-fn is_word_byte(b: u8) -> bool
+/// Whether a word may go on with the byte.
+pub fn is_word_byte(b: u8) -> bool
     ensures { result ≡ is_word_byte b }
 {
     is_letter(b) || b.is_ascii_digit()
@@ -98,6 +104,27 @@ fn is_keyword(version: u32, word: &[u8]) -> bool
         2 => is_among(word, &SECOND_KEYWORDS),
         _ => is_among(word, &THIRD_KEYWORDS),
     }
+}
+
+/// The word of a register, r0 to r15, and no bytes where there is no such one.
+pub fn register_word(register: u32) -> &'static [u8]
+    ensures { result.now ≡ register_word register }
+{
+    REGISTERS.get(register as usize).copied().unwrap_or(b"")
+}
+
+/// The register, from 0, that a word is.
+pub fn register_of(word: &[u8]) -> Option<u32>
+    ensures { result ≡ register_in word.now }
+{
+    let place = place_among(word, &REGISTERS)?;
+    Some(place as u32)
+}
+
+fn place_among(word: &[u8], words: &[&[u8]]) -> Option<usize>
+    ensures { result ≡ position (λ other. bytes_eq word.now other.now) words.now }
+{
+    words.iter().position(|other| word == *other)
 }
 
 /// Whether a word is one of these.

@@ -7,8 +7,8 @@ use Rattle.pct_ask.proofs.verdict_text.push_place.Goals as goal
 pub returns-clause-written : goal.returns-clause-written
 returns-clause-written c =
     place-written c.args.names.now c.args.thread c.args.line c.args.out.now.items
-    c.push_word.new.out.items c.push_word-2.new.out.items c.unwrap.result.now
-    c.as_bytes.result.now c.push_word-2.result
+    c.write_spaced_word.new.out.items c.write_spaced_word-2.new.out.items c.unwrap.result.now
+    c.as_bytes.result.now c.write_spaced_word-2.result
     (ap option_copied (sym c.unwrap.ensures) ∙ c.name.ensures.name)
-    c.in_ok-push_word.ensures.written (c.as_bytes.ensures.value ∙ c.format.ensures.text)
-    c.push_word-2.ensures.written
+    c.in_ok-write_spaced_word.ensures.written (c.as_bytes.ensures.value ∙ c.format.ensures.text)
+    c.write_spaced_word-2.ensures.written

@@ -3,7 +3,7 @@ use Rattle.std.proofs.Common.{◌≡◌, ℕ, List, [], Option, Some, None, Bor,
 use Rattle.std.specs.Option.{unwrap_or, option_copied}
 use Rattle.std.proofs.lemmas.Option.{unwrap_or-slice_get}
 use Rattle.pct_ask.specs.NameLists.{list_of}
-use Rattle.script_tree.proofs.printing_words.name_at.Goals as goal
+use Rattle.pct_ask.proofs.spaced.name_at.Goals as goal
 
 now_of : (name : Option (Bor (List ℕ))) (other : Bor (List ℕ))
     → (unwrap_or name other).now ≡ unwrap_or (option_copied name) other.now
