@@ -8,7 +8,7 @@ use crate::chance::{Chance, Pick};
 use crate::policy::Policy;
 use crate::walk::pick_by_rank;
 use rank_now::{Moment, RankError, Ranks};
-use std::alloc::{AllocError, Global};
+use std::alloc::Global;
 use std::marker::Model;
 
 /// The scheduler of PCT with moments in the place of change points: a thread is lowered after its

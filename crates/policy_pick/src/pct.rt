@@ -8,7 +8,7 @@ use crate::chance::{Chance, Pick};
 use crate::policy::Policy;
 use crate::walk::pick_by_rank;
 use rank_now::{RankError, Ranks};
-use std::alloc::{AllocError, Global};
+use std::alloc::Global;
 use std::marker::Model;
 
 /// The scheduler of PCT: the highest thread goes, and at each change point the one that took the

@@ -8,7 +8,7 @@ ghost use Rattle.script_body.specs.Waiting.{is_waiting};
 use crate::answer::take_answer;
 use crate::settling::settle;
 use crate::state::State;
-use pct_ask::{Body, Post};
+use pct_ask::{Body, Post, REGISTER_COUNT};
 use script_code::Code;
 
 /// The body of a script's thread. It waits at an ask of its code, or at its end.
@@ -53,7 +53,7 @@ impl<'c> ScriptBody<'c> {
     {
         let mut state = State {
             place: 0,
-            registers: [0; 16],
+            registers: [0; REGISTER_COUNT],
             halfway: false,
         };
         let post = settle(code, thread, &mut state);

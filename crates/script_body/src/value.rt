@@ -4,11 +4,11 @@ ghost use Rattle.script_tree.specs.Fitting.{expression_fits};
 ghost use Rattle.script_tree.specs.Values.{i64_or_overflow, truth, quotient, remainder, value_of};
 ghost use Rattle.script_body.specs.Combine.{decided_by_left, combined_value};
 
-use pct_ask::FaultKind;
+use pct_ask::{FaultKind, REGISTER_COUNT};
 use script_tree::{Expr, Op};
 
 /// A thread's numbers.
-pub(crate) type Registers = [i64; 16];
+pub(crate) type Registers = [i64; REGISTER_COUNT];
 
 /// The value of an expression, or the first fault from the left.
 pub(crate) fn value_of(expr: &Expr, registers: &Registers) -> Result<i64, FaultKind>

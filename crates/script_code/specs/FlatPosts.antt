@@ -1,6 +1,7 @@
 -- What a thread posts that runs flat code (this project).
 use Rattle.std.specs.Prelude.{ℕ, ℤ, pos, Bool, true, false, if◌then◌else◌, List, [], ◌∷◌, replicate}
 use Rattle.std.specs.Prelude.{Option, Some, None, Ok, Err, slice_get}
+use Rattle.pct_ask.specs.Words.{register_count}
 use Rattle.pct_ask.specs.declared.ask.Ask.{Ask}
 use Rattle.pct_ask.specs.declared.ask.Ask.TheVariants as asks
 use Rattle.pct_ask.specs.declared.ask.Post.{Post}
@@ -25,7 +26,7 @@ spot place registers = record { place = place; registers = registers; halfway = 
 
 -- where a thread begins: at the first operation, with 0 in each register
 abbrev pub first_spot : Spot
-first_spot = spot 0 (replicate 16 (pos 0))
+first_spot = spot 0 (replicate register_count (pos 0))
 
 -- at the last operation of the code
 abbrev pub last_spot : List Operation → Spot

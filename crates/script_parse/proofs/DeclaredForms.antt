@@ -8,7 +8,7 @@ use Rattle.pct_ask.specs.declared.names.NameKind.{NameKind}
 use Rattle.pct_ask.specs.declared.names.NameKind.TheVariants as kinds
 use Rattle.script_tree.specs.Trees.{Statement, Statements, closed_at}
 use Rattle.script_tree.specs.Forms as forms
-use Rattle.script_tree.specs.Expressions.{register_word}
+use Rattle.pct_ask.specs.Words.{register_word}
 use Rattle.script_tree.specs.Forms.{OnVerb, IntoVerb, TokenForm, MeantForm, Thread, On, Into, Write}
 use Rattle.script_tree.specs.Forms.{Add, Cas, Wait, Yield, Assert, Set, If, While, End, Else}
 use Rattle.script_tree.specs.Forms.{on_word, into_word, kind_word, has_value, is_plain, value_in}

@@ -17,8 +17,9 @@ use Rattle.script_tree.specs.declared.expr.Op.TheVariants as ops
 use Rattle.script_tree.specs.Trees.{Expression}
 use Rattle.script_tree.specs.Trees as trees
 use Rattle.script_tree.specs.Expressions.{IsSpelled, number, register, enclosed, minus, not, two}
-use Rattle.script_tree.specs.Expressions.{stronger, signs_of, strength, left_level, register_word}
-use Rattle.script_parse.specs.Registers.{register_in}
+use Rattle.script_tree.specs.Expressions.{stronger, signs_of, strength, left_level}
+use Rattle.pct_ask.specs.Words.{register_word}
+use Rattle.pct_ask.specs.Words.{register_in}
 use Rattle.script_parse.specs.Machine.{Frame, Paren, Not, Minus, Two, OpenExpression}
 use Rattle.script_parse.specs.Machine.{open_expression, operator_in, reduced_value, chains}
 use Rattle.script_parse.specs.Machine.{with_operator, with_bracket, with_value_token, joined_by}

@@ -11,11 +11,12 @@ use Rattle.script_tree.specs.declared.expr.Op.{Op}
 use Rattle.script_tree.specs.Trees.{Expression}
 use Rattle.script_tree.specs.Trees as trees
 use Rattle.script_tree.specs.Expressions.{IsSpelled, number, register, enclosed, minus, not, two}
-use Rattle.script_tree.specs.Expressions.{stronger, signs_of, strength, left_level, register_word}
+use Rattle.script_tree.specs.Expressions.{stronger, signs_of, strength, left_level}
+use Rattle.pct_ask.specs.Words.{register_word}
 use Rattle.script_parse.specs.Machine.{Frame, Paren, Not, Minus, Two, open_expression}
 use Rattle.script_parse.specs.Machine.{reduced_value, chains, expression_from, expression_in}
 use Rattle.pct_ask.specs.NameLists.{AreDistinct}
-use Rattle.script_parse.specs.Registers.{register_in}
+use Rattle.pct_ask.specs.Words.{register_in}
 use Rattle.script_parse.proofs.Fresh.{place_at}
 use Rattle.script_parse.proofs.Operators.{operator_at, no_parenthesis, strength_few, left_above}
 

@@ -14,7 +14,8 @@ use Rattle.pct_ask.specs.Tokens.{Token, Word, Number, Symbol}
 use Rattle.pct_ask.specs.declared.names.NameKind.{NameKind}
 use Rattle.pct_ask.specs.declared.names.NameKind.TheVariants as kinds
 use Rattle.script_tree.specs.Trees.{Expression}
-use Rattle.script_tree.specs.Expressions.{IsExpression, register_word}
+use Rattle.script_tree.specs.Expressions.{IsExpression}
+use Rattle.pct_ask.specs.Words.{register_word}
 use Rattle.script_tree.specs.Forms.{OnVerb, Lock, Unlock, Signal, Broadcast, Down, Up, Join, Start}
 use Rattle.script_tree.specs.Forms.{RdLock, WrLock, RwUnlock, IntoVerb, Read, TryLock, TryDown}
 use Rattle.script_tree.specs.Forms.{Arrive, TryRdLock, TryWrLock, TokenForm, MeantForm, Plain}
@@ -22,7 +23,7 @@ use Rattle.script_tree.specs.Forms.{Valued, Thread, On, Into, Write, Add, Cas, W
 use Rattle.script_tree.specs.Forms.{Set, If, While, End, Else, on_word, into_word, kind_word}
 use Rattle.script_tree.specs.Forms.{on_since, into_since, is_plain, has_value, kind_since}
 use Rattle.script_tree.specs.Forms.{tokens_of_form, Means, IsFormOf, IsForm}
-use Rattle.script_parse.specs.Registers.{register_in}
+use Rattle.pct_ask.specs.Words.{register_in}
 use Rattle.script_parse.specs.Words.{on_verb_in, into_verb_in, kind_in}
 use Rattle.script_parse.specs.Machine.{expression_in}
 use Rattle.script_parse.specs.Saying.{lone_word, is_comma, parts_at, plain_form, lone_form}

@@ -14,7 +14,7 @@ use Rattle.pct_ask.specs.declared.names.NameKind.TheVariants as kinds
 use Rattle.script_tree.specs.Trees.{Statement, Statements, Closed, Then}
 use Rattle.script_tree.specs.Trees as trees
 use Rattle.script_tree.specs.ScriptText.{Thread as ThreadTree}
-use Rattle.script_tree.specs.Expressions.{register_word}
+use Rattle.pct_ask.specs.Words.{register_word}
 use Rattle.script_tree.specs.Forms as forms
 use Rattle.script_tree.specs.Forms.{TokenForm, MeantForm, Plain, Valued, Thread, On, Into, Write}
 use Rattle.script_tree.specs.Forms.{Add, Cas, Wait, Yield, Assert, Set, If, While, End, Else}

@@ -1,6 +1,5 @@
 pub mod Seen
 pub mod Cutting
-pub mod Registers
 pub mod Machine
 pub mod Spellings
 pub mod Frames

@@ -10,7 +10,7 @@ use Rattle.script_tree.specs.declared.expr.Op.TheVariants as ops
 use Rattle.script_tree.specs.Trees.{Expression}
 use Rattle.script_tree.specs.Trees as trees
 use Rattle.script_tree.specs.Expressions.{strength, left_level}
-use Rattle.script_parse.specs.Registers.{register_in}
+use Rattle.pct_ask.specs.Words.{register_in}
 
 -- what waits for what follows: a parenthesis for its end, an operator for its part or its right
 -- part

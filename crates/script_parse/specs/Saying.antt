@@ -12,7 +12,7 @@ use Rattle.script_tree.specs.Forms.{OnVerb, IntoVerb, MeantForm, Plain, Valued, 
 use Rattle.script_tree.specs.Forms.{Write}
 use Rattle.script_tree.specs.Forms.{Add, Cas, Wait, Yield, Assert, Set, If, While, End, Else}
 use Rattle.script_tree.specs.Forms.{is_plain, has_value, kind_since, on_since, into_since}
-use Rattle.script_parse.specs.Registers.{register_in}
+use Rattle.pct_ask.specs.Words.{register_in}
 use Rattle.script_parse.specs.Machine.{expression_in}
 use Rattle.script_parse.specs.Words.{on_verb_in, into_verb_in, kind_in}
 

@@ -1,25 +1,20 @@
 //! Expressions, read token by token.
 
-ghost use Rattle.std.specs.Prelude.{◌≡◌, ◌∷◌, IfOk, OnOk, Some, None, position};
+ghost use Rattle.std.specs.Prelude.{◌≡◌, ◌∷◌, IfOk, OnOk, Some, None};
 ghost use Rattle.std.specs.Option.{option_map};
 ghost use Rattle.std.specs.Str.{bytes_eq};
 ghost use Rattle.script_parse.specs.Spellings.{spelled_tree as tree};
 ghost use Rattle.script_tree.specs.Expressions as language;
 ghost use Rattle.script_parse.specs.Seen.{seen, all_seen};
-ghost use Rattle.script_parse.specs.Registers.{register_in};
 ghost use Rattle.script_parse.specs.Machine.{operator_in, expression_in, open_expression};
 ghost use Rattle.script_parse.specs.Machine as machine;
 ghost use Rattle.script_parse.specs.Frames.{seen_frame, seen_frames, seen_pending};
 
 use crate::spelling::Spelling;
 use crate::token::Token;
+use pct_ask::register_of;
 use script_tree::Op;
 use std::alloc::{AllocError as NoMemory, Global};
-
-const REGISTERS: [&[u8]; 16] = [
-    b"r0", b"r1", b"r2", b"r3", b"r4", b"r5", b"r6", b"r7", b"r8", b"r9", b"r10", b"r11", b"r12",
-    b"r13", b"r14", b"r15",
-];
 
 /// What waits for what follows: a parenthesis for its end, an operator for its part or its right
 /// part.
@@ -44,20 +39,6 @@ pub fn says(word: &[u8], text: &[u8]) -> bool
     ensures { result ≡ bytes_eq word.now text.now }
 {
     word == text
-}
-
-/// The place of a register among r0 to r15.
-pub fn register_of(word: &[u8]) -> Option<u32>
-    ensures { result ≡ register_in word.now }
-{
-    let place = place_among(word, &REGISTERS)?;
-    Some(place as u32)
-}
-
-fn place_among(word: &[u8], words: &[&[u8]]) -> Option<usize>
-    ensures { result ≡ position (λ other. bytes_eq word.now other.now) words.now }
-{
-    words.iter().position(|other| word == *other)
 }
 
 /// The operator that signs stand for.

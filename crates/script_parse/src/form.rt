@@ -10,11 +10,11 @@ ghost use Rattle.script_parse.specs.Machine.{expression_in};
 ghost use Rattle.script_parse.specs.Saying as saying;
 
 use crate::declaration::{declared_form, kind_of};
-use crate::expression::{expression_of, register_of, says};
+use crate::expression::{expression_of, says};
 use crate::spelling::Spelling;
 use crate::token::Token;
 use crate::verb::{into_verb_of, into_verb_since, on_verb_of, on_verb_since};
-use pct_ask::{NameKind, is_lawful_name};
+use pct_ask::{NameKind, is_lawful_name, register_of};
 use std::alloc::{AllocError as NoMemory, Global};
 
 /// A statement on one object.

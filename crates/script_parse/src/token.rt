@@ -9,6 +9,7 @@ ghost use Rattle.pct_ask.specs.Tokens.{is_short_symbol as is_short, is_long_symb
 ghost use Rattle.script_parse.specs.Cutting.{BeginsPlain, BeginsWithPiece, IsNext};
 ghost use Rattle.script_parse.specs.Seen.{seen, all_seen};
 
+use pct_ask::{is_letter, is_word_byte};
 use std::alloc::{AllocError as NoMemory, Global};
 
 /// A word, a number or a symbol of a line.
@@ -38,18 +39,6 @@ fn is_digit(byte: u8) -> bool
     ensures { result ≡ characters.is_digit byte }
 {
     byte.is_ascii_digit()
-}
-
-fn is_letter(byte: u8) -> bool
-    ensures { result ≡ characters.is_letter byte }
-{
-    byte.is_ascii_alphabetic() || byte == b'_'
-}
-
-fn is_word_byte(byte: u8) -> bool
-    ensures { result ≡ characters.is_word_byte byte }
-{
-    is_letter(byte) || is_digit(byte)
 }
 
 fn is_short_symbol(byte: u8) -> bool

@@ -20,7 +20,7 @@ use Rattle.script_tree.specs.Trees.{Expression}
 use Rattle.script_tree.specs.Trees as trees
 use Rattle.script_tree.specs.Expressions.{IsSpelled, IsExpression, number, register, enclosed}
 use Rattle.script_tree.specs.Expressions.{minus, not, two, stronger, signs_of, strength, left_level}
-use Rattle.script_tree.specs.Expressions.{register_word}
+use Rattle.pct_ask.specs.Words.{register_word}
 use Rattle.script_tree.specs.Fitting.{expression_fits}
 use Rattle.script_tree.specs.Ranges.{is_great, has_great}
 use Rattle.script_tree.specs.Layout.{expression_text}

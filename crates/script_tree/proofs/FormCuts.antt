@@ -8,7 +8,7 @@ use Rattle.pct_ask.specs.Words.{is_word, is_among, keywords, registers}
 use Rattle.pct_ask.specs.Tokens.{Token, Word, Symbol}
 use Rattle.pct_ask.specs.declared.names.NameKind.{NameKind}
 use Rattle.pct_ask.specs.declared.names.NameKind.TheVariants as kinds
-use Rattle.script_tree.specs.Expressions.{register_word}
+use Rattle.pct_ask.specs.Words.{register_word}
 use Rattle.script_tree.specs.Forms.{TokenForm, MeantForm, Plain, Valued, Thread, On, Into, Write}
 use Rattle.script_tree.specs.Forms.{Add, Cas, Wait, Yield, Assert, Set, If, While, End, Else}
 use Rattle.script_tree.specs.Forms.{OnVerb, IntoVerb, on_word, into_word, on_since, into_since}

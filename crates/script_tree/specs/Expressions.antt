@@ -1,9 +1,8 @@
 -- Expressions, as a relation between tokens and trees by the strength of operators (the levels are
 -- C's; a comparison doesn't chain, which is this project's choice).
 use Rattle.std.specs.Prelude.{ℕ, pos, ◌+◌, ◌<◌, ◌==◌, if◌then◌else◌, List, [], ◌∷◌, ◌++◌, codes}
-use Rattle.std.specs.Prelude.{slice_index_or}
 use Rattle.std.specs.Str.Parse.{digits_value}
-use Rattle.pct_ask.specs.Words.{registers}
+use Rattle.pct_ask.specs.Words.{register_word, register_count}
 use Rattle.pct_ask.specs.Tokens.{Token, Word, Number, Symbol}
 use Rattle.script_tree.specs.declared.expr.Op.{Op}
 use Rattle.script_tree.specs.declared.expr.Op.TheVariants as ops
@@ -47,16 +46,13 @@ strength ops.Rest = 4
 abbrev pub left_level : Op → ℕ
 left_level op = if strength op == 2 then 3 else strength op
 
--- the word of a register, r0 to r15
-abbrev pub register_word : ℕ → List ℕ
-register_word reg = slice_index_or registers reg []
-
 -- The tokens spell the tree at a level: 0 to 4 are the binary operators by their strength, 5 is a
 -- sign before its part, and 6 is a number, a register or an expression in parentheses.
 pub data IsSpelled : ℕ → List Token → Expression → Type 0 where
   number : (digits : List ℕ)
       → IsSpelled 6 (Number digits ∷ []) (trees.Number (pos (digits_value 10 digits)))
-  register : (reg : ℕ) → reg < 16 → IsSpelled 6 (Word (register_word reg) ∷ []) (trees.Reg reg)
+  register : (reg : ℕ) → reg < register_count
+      → IsSpelled 6 (Word (register_word reg) ∷ []) (trees.Reg reg)
   enclosed : (tokens : List Token) (tree : Expression) → IsSpelled 0 tokens tree
       → IsSpelled 6 (Symbol (codes "(") ∷ (tokens ++ Symbol (codes ")") ∷ [])) tree
   minus : (tokens : List Token) (tree : Expression) → IsSpelled 5 tokens tree

@@ -12,6 +12,7 @@ use Rattle.script_tree.specs.Trees.{Wait, Signal, Broadcast, Down, TryDown, Up, 
 use Rattle.script_tree.specs.Trees.{Assert, Set, If, IfElse, While, Start, RdLock, WrLock}
 use Rattle.script_tree.specs.Trees.{TryRdLock, TryWrLock, RwUnlock}
 use Rattle.script_tree.specs.ScriptText.{Thread, ScriptText}
+use Rattle.pct_ask.specs.Words.{register_count}
 
 -- a line of a script
 abbrev pub line_fits : ℕ → Bool
@@ -19,7 +20,7 @@ line_fits line = nat_le 1 line && nat_le line 4096
 
 -- one of the registers r0 to r15
 abbrev pub reg_fits : ℕ → Bool
-reg_fits reg = nat_lt reg 16
+reg_fits reg = nat_lt reg register_count
 
 -- one of the objects that have these names
 abbrev pub place_fits : List (List ℕ) → ℕ → Bool

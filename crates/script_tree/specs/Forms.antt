@@ -8,7 +8,8 @@ use Rattle.pct_ask.specs.Tokens.{Token, Word, Number, Symbol}
 use Rattle.pct_ask.specs.declared.names.NameKind.{NameKind}
 use Rattle.pct_ask.specs.declared.names.NameKind.TheVariants as kinds
 use Rattle.script_tree.specs.Trees.{Expression}
-use Rattle.script_tree.specs.Expressions.{IsExpression, register_word}
+use Rattle.script_tree.specs.Expressions.{IsExpression}
+use Rattle.pct_ask.specs.Words.{register_word, register_count}
 
 -- the statements on one object
 pub data OnVerb : Type 0 where
@@ -228,14 +229,14 @@ IsFormOf version (Valued kind name value) =
 IsFormOf version (Thread name) = IsNameIn version name
 IsFormOf version (On verb object) = (on_since verb ≤ version) × IsNameIn version object
 IsFormOf version (Into verb register object) =
-    (into_since verb ≤ version) × (register < 16) × IsNameIn version object
+    (into_since verb ≤ version) × (register < register_count) × IsNameIn version object
 IsFormOf version (Write var value) = IsNameIn version var
-IsFormOf version (Add register var value) = (register < 16) × IsNameIn version var
-IsFormOf version (Cas register var old new) = (register < 16) × IsNameIn version var
+IsFormOf version (Add register var value) = (register < register_count) × IsNameIn version var
+IsFormOf version (Cas register var old new) = (register < register_count) × IsNameIn version var
 IsFormOf version (Wait cond mutex) = IsNameIn version cond × IsNameIn version mutex
 IsFormOf version Yield = Unit {0}
 IsFormOf version (Assert test) = Unit {0}
-IsFormOf version (Set register value) = register < 16
+IsFormOf version (Set register value) = register < register_count
 IsFormOf version (If test) = Unit {0}
 IsFormOf version (While test) = Unit {0}
 IsFormOf version End = Unit {0}

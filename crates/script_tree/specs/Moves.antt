@@ -2,6 +2,7 @@
 -- project).
 use Rattle.std.specs.Prelude.{ℕ, ℤ, pos, not, Bool, true, false, if◌then◌else◌, List, [], ◌∷◌, ◌++◌}
 use Rattle.std.specs.Prelude.{replicate, Ok, Err, slice_set}
+use Rattle.pct_ask.specs.Words.{register_count}
 use Rattle.pct_ask.specs.declared.ask.Ask.{Ask}
 use Rattle.pct_ask.specs.declared.ask.Ask.TheVariants as asks
 use Rattle.script_tree.specs.Trees.{Statement, Statements, Read, Write, Add, Cas, Lock, TryLock}
@@ -24,7 +25,7 @@ state_before rest registers = record { rest = rest; registers = registers; halfw
 
 -- a thread at its beginning: all its statements remain, and each register has 0
 abbrev pub at_start : Statements → State
-at_start body = state_before (statement_list body) (replicate 16 (pos 0))
+at_start body = state_before (statement_list body) (replicate register_count (pos 0))
 
 -- of a thread that has ended, no statement remains
 abbrev pub end_state : State

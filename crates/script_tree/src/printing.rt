@@ -15,10 +15,10 @@ ghost use Rattle.script_tree.specs.Renumbering.{renumbered_script, IsShort};
 ghost use Rattle.script_tree.specs.Printing.{printed_lines, are_ranged};
 
 use crate::printing_statements::push_statements;
-use crate::printing_words::{kind_word, name_at, push_last, push_spaced};
+use crate::printing_words::{kind_word, push_last, push_spaced};
 use crate::script::Script;
 use crate::stmt::ThreadText;
-use pct_ask::{NameKind, Names, NumberList, write_number};
+use pct_ask::{NameKind, Names, NumberList, name_at, write_number};
 use std::alloc::{AllocError as NoMemory, Global};
 
 /// The canonical layout of a script: each script has just one. Where that is no longer than a

@@ -5,16 +5,16 @@ ghost use Rattle.std.specs.List.{flat_map};
 ghost use Rattle.pct_ask.specs.NameLists.{list_of};
 ghost use Rattle.script_tree.specs.Trees.{has_no_block, statement_list};
 ghost use Rattle.script_tree.specs.Seen.{expression, statement, block};
-ghost use Rattle.script_tree.specs.Expressions.{register_word};
+ghost use Rattle.pct_ask.specs.Words.{register_word};
 ghost use Rattle.pct_ask.specs.TraceText.{name_at};
 ghost use Rattle.script_tree.specs.Grammar.{statement_lines};
 ghost use Rattle.script_tree.specs.Layout.{spaced_words, expression_text};
 ghost use Rattle.script_tree.specs.Printing.{printed_lines, are_ranged, is_ranged, names_one};
 
 use crate::expr::Expr;
-use crate::printing_words::{name_at, push_expression, push_last, push_spaced, register_word};
+use crate::printing_words::{push_expression, push_last, push_spaced};
 use crate::stmt::{Block, Stmt};
-use pct_ask::{NameKind, Names};
+use pct_ask::{NameKind, Names, name_at, register_word};
 use std::alloc::AllocError as NoMemory;
 
 #[cycle(printing)]

@@ -1,22 +1,16 @@
 //! The words of a script's canonical layout.
 
 ghost use Rattle.std.specs.Prelude.{◌≡◌, ◌++◌, [], ◌∷◌, true, OnOk};
-ghost use Rattle.pct_ask.specs.NameLists.{list_of};
 ghost use Rattle.script_tree.specs.Forms.{kind_word};
-ghost use Rattle.pct_ask.specs.TraceText.{name_at};
-ghost use Rattle.script_tree.specs.Expressions.{signs_of, register_word};
+ghost use Rattle.script_tree.specs.Expressions.{signs_of};
+ghost use Rattle.pct_ask.specs.Words.{register_word};
 ghost use Rattle.script_tree.specs.Seen.{expression};
 ghost use Rattle.script_tree.specs.Layout.{expression_text};
 ghost use Rattle.script_tree.specs.Printing.{is_ranged};
 
 use crate::expr::{Expr, Op};
-use pct_ask::{NameKind, Names, write_number};
+use pct_ask::{NameKind, register_word, write_number};
 use std::alloc::AllocError as NoMemory;
-
-const REGISTERS: [&[u8]; 16] = [
-    b"r0", b"r1", b"r2", b"r3", b"r4", b"r5", b"r6", b"r7", b"r8", b"r9", b"r10", b"r11", b"r12",
-    b"r13", b"r14", b"r15",
-];
 
 // A word and a space.
 pub(crate) fn push_spaced(word: &[u8], out: &mut Vec<u8>) -> Result<(), NoMemory>
@@ -32,20 +26,6 @@ pub(crate) fn push_last(word: &[u8], out: &mut Vec<u8>) -> Result<(), NoMemory>
 {
     out.extend_from_slice(word)?;
     Ok(out.push(b'\n')?)
-}
-
-// Nothing where there is no such name: a script names none of those.
-pub(crate) fn name_at(names: &Names, kind: NameKind, place: u32) -> &[u8]
-    ensures { result.now ≡ name_at (list_of kind names.now) place }
-{
-    names.name(kind, place).unwrap_or(b"")
-}
-
-// Nothing where there is no such register: a script has none of those.
-pub(crate) fn register_word(register: u32) -> &'static [u8]
-    ensures { result.now ≡ register_word register }
-{
-    REGISTERS.get(register as usize).copied().unwrap_or(b"")
 }
 
 pub(crate) fn kind_word(kind: NameKind) -> &'static [u8]
