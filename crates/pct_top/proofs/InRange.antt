@@ -15,14 +15,14 @@ use Rattle.script_tree.specs.DealOf.{IsDealOf}
 use Rattle.trace_text.specs.Lawful.{HasObjects, NamesKnown}
 
 -- what has a name in a trace of some version is one of those that have names
-named : (names : NameLists) (version : ℕ) (ask : Ask) → HasObjects names version ask
+in-range : (names : NameLists) (version : ℕ) (ask : Ask) → HasObjects names version ask
     → IsInRange (sizes_of_names names) ask
-named names version (RdLock l) h = h.0
-named names version (WrLock l) h = h.0
-named names version (TryRdLock l) h = h.0
-named names version (TryWrLock l) h = h.0
-named names version (RwUnlock l) h = h.0
-named names version ask h = h
+in-range names version (RdLock l) h = h.0
+in-range names version (WrLock l) h = h.0
+in-range names version (TryRdLock l) h = h.0
+in-range names version (TryWrLock l) h = h.0
+in-range names version (RwUnlock l) h = h.0
+in-range names version ask h = h
 
 module _ (script : ScriptText) (deal : Deal) (sound : IsScript script)
     (of : IsDealOf script deal) where
@@ -45,7 +45,7 @@ module _ (script : ScriptText) (deal : Deal) (sound : IsScript script)
       thread = omega (arith, known.thread, of.threads);
       ask =
           subst (λ (sizes : Sizes). IsInRange sizes event.ask) same_sizes
-          (named script.names version event.ask known.objects);
+          (in-range script.names version event.ask known.objects);
     }
 
     -- each step names only threads and objects of the deal

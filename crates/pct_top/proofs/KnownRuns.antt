@@ -54,17 +54,17 @@ module _ (script : ScriptText) (deal : Deal) (sound : IsScript script)
   version = trace_version script
 
   -- what is one of those that have names has a name in the trace of the script's version
-  named : (ask : Ask) → IsInRange (sizes_of_names names) ask → HasObjects names version ask
-  named (RdLock l) h = (h, second script l sound.known_rwlocks h)
-  named (WrLock l) h = (h, second script l sound.known_rwlocks h)
-  named (TryRdLock l) h = (h, second script l sound.known_rwlocks h)
-  named (TryWrLock l) h = (h, second script l sound.known_rwlocks h)
-  named (RwUnlock l) h = (h, second script l sound.known_rwlocks h)
-  named ask h = h
+  has-objects : (ask : Ask) → IsInRange (sizes_of_names names) ask → HasObjects names version ask
+  has-objects (RdLock l) h = (h, second script l sound.known_rwlocks h)
+  has-objects (WrLock l) h = (h, second script l sound.known_rwlocks h)
+  has-objects (TryRdLock l) h = (h, second script l sound.known_rwlocks h)
+  has-objects (TryWrLock l) h = (h, second script l sound.known_rwlocks h)
+  has-objects (RwUnlock l) h = (h, second script l sound.known_rwlocks h)
+  has-objects ask h = h
 
   objects : (ask : Ask) → IsInRange (sizes_of_deal deal) ask → HasObjects names version ask
   objects ask h =
-      named ask
+      has-objects ask
       (subst (λ (sizes : Sizes). IsInRange sizes ask) (sym (same_sizes script deal sound of)) h)
 
   abbrev bodies : List Pending

@@ -1,16 +1,10 @@
 -- Words behind spaces, joined to a line.
-use Rattle.std.proofs.Common.{◌≡◌, ℕ, List, [], ◌∷◌, ◌++◌, length, ◌≤◌, take, map, refl, sym, ap}
+use Rattle.std.proofs.Common.{◌≡◌, ℕ, List, [], ◌∷◌, ◌++◌, length, ◌≤◌, take, map, sym, ap}
 use Rattle.std.proofs.Common.{◌∙◌, append_assoc}
-use Rattle.std.specs.List.{join_with_byte}
-use Rattle.std.proofs.lemmas.List.{append-nil, take_all}
+use Rattle.std.proofs.lemmas.List.{take_all}
 use Rattle.pct_ask.specs.TraceText.{line_text}
 use Rattle.trace_text.specs.Spaced.{behind_spaces}
-
-join-spaced : (word : List ℕ) (words : List (List ℕ))
-    → join_with_byte 32 (word ∷ words) ≡ word ++ behind_spaces words
-join-spaced word [] = sym (append-nil word)
-join-spaced word (next ∷ words) =
-    ap (λ (rest : List ℕ). word ++ (32 ∷ rest)) (join-spaced next words)
+use Rattle.trace_text.proofs.laws.Spaced.{join-spaced, spaced-append}
 
 pub line-spaced : (old word : List ℕ) (words : List (List ℕ))
     → (old ++ (word ++ behind_spaces words)) ++ 10 ∷ [] ≡ old ++ line_text (word ∷ words)
@@ -42,13 +36,6 @@ line-of-all f old word now after xs i past is ends =
     ∙ line-spaced old word (map f xs)
 
 -- the words behind an order's names, joined to its line
-spaced-append : (words more : List (List ℕ))
-    → behind_spaces (words ++ more) ≡ behind_spaces words ++ behind_spaces more
-spaced-append [] more = refl
-spaced-append (word ∷ words) more =
-    ap (λ (rest : List ℕ). (32 ∷ word) ++ rest) (spaced-append words more)
-    ∙ sym (append_assoc (32 ∷ word) (behind_spaces words) (behind_spaces more))
-
 five-parts : (old word words head more : List ℕ)
     → (((old ++ word) ++ words) ++ 32 ∷ []) ++ ((head ++ more) ++ 10 ∷ [])
     ≡ (old ++ (word ++ (words ++ ((32 ∷ head) ++ more)))) ++ 10 ∷ []

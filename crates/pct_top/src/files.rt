@@ -14,12 +14,12 @@ use directive::{Directive, read_directive};
 use large_script::print_large;
 use pct_ask::Names;
 use pct_outside::Shelf;
-use script_parse::parse;
+use script_parse::{SCRIPT_BYTES, parse};
 use std::alloc::Global;
 use trace_text::{TraceFile, read_trace};
 
 /// One byte more than a script may have.
-const SCRIPT_BYTES: u64 = 1_048_577;
+const READ_BYTES: u64 = SCRIPT_BYTES as u64 + 1;
 
 /// One byte more than a trace may have.
 const TRACE_BYTES: u64 = 16_777_217;
@@ -35,7 +35,7 @@ pub fn read_test<H: Shelf>(alloc: Global, file: &str, shelf: &mut H) -> Result<T
     ensures keeps { KeepsNames (H.failed shelf.old) (H.failed shelf.new) }
     ensures files { H.files shelf.new ≡ H.files shelf.old }
 {
-    let bytes = shelf.read_up_to(file, SCRIPT_BYTES)?;
+    let bytes = shelf.read_up_to(file, READ_BYTES)?;
     let script = parse(alloc, &bytes)?;
     Ok(Test::of_script(alloc, script)?)
 }

@@ -3,10 +3,11 @@
 ghost use Rattle.std.specs.Prelude.{◌≡◌, [], ◌∷◌, ◌++◌, OnOk, decimal};
 ghost use Rattle.pct_ask.specs.VerdictText.{thread_name, named_verdict, verdict_words, HasNames};
 ghost use Rattle.pct_ask.specs.VerdictText.{IsWholeVerdict};
-ghost use Rattle.pct_ask.specs.NameLists.{list_of};
-ghost use Rattle.pct_ask.specs.TraceText.{name_at, line_text};
+ghost use Rattle.pct_ask.specs.TraceText.{line_text};
 
-use pct_ask::{NameKind, Names, Verdict, write_number, write_verdict};
+use pct_ask::{
+    NameKind, Names, Verdict, name_at, write_spaced_number, write_spaced_word, write_verdict,
+};
 use std::alloc::AllocError as NoMemory;
 
 /// A verdict behind a word.
@@ -40,8 +41,7 @@ pub fn push_thread(
         ≡ out.old.items ++ line_text (word.now ∷ thread_name names.now thread ∷ [])) }
 {
     out.extend_from_slice(word.as_bytes())?;
-    out.push(b' ')?;
-    out.extend_from_slice(name_of(names, NameKind::Thread, thread))?;
+    write_spaced_word(name_at(names, NameKind::Thread, thread), out)?;
     out.push(b'\n')?;
     Ok(())
 }
@@ -52,8 +52,7 @@ pub fn push_size(out: &mut Vec<u8>, word: &str, count: usize) -> Result<(), NoMe
         ≡ out.old.items ++ line_text (word.now ∷ decimal count ∷ [])) }
 {
     out.extend_from_slice(word.as_bytes())?;
-    out.push(b' ')?;
-    write_number(count as i128, out)?;
+    write_spaced_number(count as i128, out)?;
     out.push(b'\n')?;
     Ok(())
 }
@@ -66,28 +65,9 @@ pub fn push_count(out: &mut Vec<u8>, word: &str, count: u32) -> Result<(), NoMem
     push_size(out, word, count as usize)
 }
 
-/// A word behind a space.
-pub fn push_word(out: &mut Vec<u8>, word: &[u8]) -> Result<(), NoMemory>
-    ensures { OnOk result (out.new.items ≡ out.old.items ++ 32 ∷ word.now) }
-{
-    out.push(b' ')?;
-    out.extend_from_slice(word)
-}
-
 /// A number behind a space.
 pub fn push_number(out: &mut Vec<u8>, number: u32) -> Result<(), NoMemory>
     ensures { OnOk result (out.new.items ≡ out.old.items ++ 32 ∷ decimal number) }
 {
-    out.push(b' ')?;
-    write_number(i128::from(number), out)
-}
-
-/// The name of a thread or an object.
-pub fn name_of(names: &Names, kind: NameKind, id: u32) -> &[u8]
-    ensures { result.now ≡ name_at (list_of kind names.now) id }
-{
-    match names.name(kind, id) {
-        Some(name) => name,
-        None => &[],
-    }
+    write_spaced_number(i128::from(number), out)
 }

@@ -6,13 +6,14 @@ mod repeating;
 
 use pct_outside::{HostShelf, Shelf};
 use repeating::{Mode, steps_of};
+use script_parse::SCRIPT_BYTES;
 use std::process::ExitCode;
 use std::sync::Wait;
 use std::thread::Threads;
 use std::{env, io};
 
 /// One byte more than a script may have.
-const SCRIPT_BYTES: u64 = 1_048_577;
+const READ_BYTES: u64 = SCRIPT_BYTES as u64 + 1;
 
 /// How many steps so many runs of the file's script have in all. Nothing where one can't be made.
 fn counted<R: AllocGlobal + Threads + Wait + Sync, H: Shelf>(
@@ -24,7 +25,7 @@ fn counted<R: AllocGlobal + Threads + Wait + Sync, H: Shelf>(
 ) -> Option<u64> {
     let mode = Mode::of_word(mode)?;
     let times = times.parse::<u32>().ok()?;
-    let bytes = shelf.read_up_to(file, SCRIPT_BYTES).ok()?;
+    let bytes = shelf.read_up_to(file, READ_BYTES).ok()?;
     steps_of(rt, rt.alloc(), &bytes, mode, times).ok()?
 }
 

@@ -18,5 +18,5 @@ mod token;
 mod verb;
 
 pub use fault::ScriptError;
-pub use parsing::{one_answer, parse, print_is_read};
+pub use parsing::{SCRIPT_BYTES, one_answer, parse, print_is_read};
 pub use script_tree::ScriptFault;

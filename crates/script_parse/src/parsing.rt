@@ -26,6 +26,9 @@ use pct_ask::split_lines;
 use script_tree::{Script, ScriptFault};
 use std::alloc::{AllocError as NoMemory, Global};
 
+/// The most bytes that a script has.
+pub const SCRIPT_BYTES: usize = 1_048_576;
+
 /// How far a text was read.
 #[derive(Drop)]
 enum State {
@@ -244,7 +247,7 @@ fn blank_text_fault(bytes: &[u8]) -> ScriptFault
 fn read_text(alloc: Global, bytes: &[u8]) -> Result<Script, ScriptError>
     ensures { Gives result (reading.read_as_script bytes.now) }
 {
-    if bytes.len() > 1_048_576 {
+    if bytes.len() > SCRIPT_BYTES {
         return Err(ScriptError::Bad {
             line: 1,
             kind: ScriptFault::TooMany,

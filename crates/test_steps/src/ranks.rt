@@ -1,45 +1,50 @@
-ghost use Rattle.std.specs.Prelude.{◌≡◌, ◌<◌, ◌≤◌, length, IfOk};
-ghost use Rattle.std.specs.List.{All};
-ghost use Rattle.rank_now.specs.Rank.{ranks};
+ghost use Rattle.std.specs.Prelude.{◌≡◌, ◌≤◌, length, IfOk};
 
 use crate::samples::ORDERS;
-use crate::slow::{slow_by_points, slow_point};
+use crate::slow::{slow_indices, slow_ranks};
 use rank_now::{RankError, Ranks};
 use std::alloc::Global;
 use std::process::Abort;
 use std::test::Fail;
 
-/// The ranks after a whole schedule, kept step by step.
-fn ranks_after(
+/// The ranks after a whole schedule, kept step by step: a step lowers its thread to the index that
+/// it gives.
+fn kept_ranks(
+    rt: &impl Abort,
     alloc: Global,
     order: &[u32],
-    points: &[u32],
+    count: u32,
     schedule: &[u32],
+    given: &[u32],
 ) -> Result<Ranks, RankError>
     requires few_threads { length order.now ≤ 64 }
-    requires few_points { length points.now ≤ 7 }
-    requires short { length schedule.now ≤ 100 }
-    requires threads { All (λ t. t < length order.now) schedule.now }
-    ensures values { IfOk result (λ r. r.values ≡ ranks order.now points.now schedule.now) }
+    requires few_points { count ≤ 7 }
     ensures threads { IfOk result (λ r. length r.values ≡ length order.now) }
 {
-    let mut ranks = Ranks::new(alloc, order, points.len() as u32)?;
-    for (taken, thread) in schedule.iter().enumerate() {
-        let index = slow_point(points, taken as u32 + 1);
-        if index > 0 {
-            ranks.lower(*thread, index);
+    let mut ranks = Ranks::new(alloc, order, count)?;
+    for (place, index) in given.iter().enumerate() {
+        if *index > 0 {
+            assert!(rt; place < schedule.len());
+            let thread = schedule[place];
+            assert!(rt; (thread as usize) < order.len());
+            assert!(rt; *index <= count);
+            assert!(rt; ranks.holder(*index).is_none());
+            ranks.lower(thread, *index);
         }
     }
     Ok(ranks)
 }
 
-/// Compares the kept values with the wanted ones, and the walk with the values.
+/// Compares the kept values with the wanted ones, who has each of them, and the walk with the
+/// values.
 fn compare(rt: &impl Abort, ranks: &Ranks, want: &[u32])
     requires as_many { length want.now ≡ length ranks.now.values }
     requires few_threads { length want.now ≤ 64 }
 {
     for (thread, value) in want.iter().enumerate() {
         assert_eq!(rt; ranks.value(thread as u32), *value, "thread {thread}");
+        assert!(rt; *value >= 1 && *value <= ranks.greatest());
+        assert_eq!(rt; ranks.holder(*value), Some(thread as u32));
     }
     for place in 1..want.len() as u32 {
         let higher = ranks.value(ranks.walk(place - 1));
@@ -59,13 +64,10 @@ fn check_case(
     assert!(rt; order.len() <= 64);
     assert!(rt; points.len() <= 7);
     assert!(rt; schedule.len() <= 100);
-    assert!(rt;
-        schedule
-            .iter()
-            .all(|thread| (*thread as usize) < order.len())
-    );
-    let ranks = ranks_after(alloc, order, points, schedule)?;
-    let slow = slow_by_points(alloc, order, points, schedule)?;
+    let count = points.len() as u32;
+    let given = slow_indices(alloc, points, schedule)?;
+    let ranks = kept_ranks(rt, alloc, order, count, schedule, &given)?;
+    let slow = slow_ranks(alloc, &given, count, order, schedule)?;
     assert_eq!(rt; slow.len(), order.len());
     compare(rt, &ranks, &slow);
     if let Some(want) = want {
@@ -128,6 +130,18 @@ fn values_by_hand(rt: HostRuntime) -> Result<(), Fail> {
     for (order, points, schedule, want) in &BY_HAND {
         check_case(&rt, rt.alloc(), *order, *points, *schedule, Some(*want))?;
     }
+    Ok(())
+}
+
+/// The value that a thread had before it was lowered is nobody's.
+#[test]
+fn holders(rt: HostRuntime) -> Result<(), Fail> {
+    let ranks = kept_ranks(&rt, rt.alloc(), &[2, 0, 1], 1, &[2], &[1])?;
+    assert_eq!(rt; ranks.greatest(), 4);
+    assert_eq!(rt; ranks.holder(4), None);
+    assert_eq!(rt; ranks.holder(3), Some(0));
+    assert_eq!(rt; ranks.holder(2), Some(1));
+    assert_eq!(rt; ranks.holder(1), Some(2));
     Ok(())
 }
 

@@ -1,26 +1,22 @@
 //! Plain, slow programs, written from the definitions. That they are the definitions isn't proved:
 //! they stand beside what is.
-ghost use Rattle.std.specs.Prelude.{◌≡◌, ◌<◌, ◌≤◌, length, IfSome};
+ghost use Rattle.std.specs.Prelude.{◌≡◌, ◌<◌, ◌≤◌, length};
 ghost use Rattle.std.specs.List.{All};
-ghost use Rattle.rank_now.specs.Rank.{index_of_point};
 
 use policy_pick::{Chance, Pick};
 use rank_now::Moment;
 use std::alloc::{AllocError, Global};
 
-/// The greatest index, from 1, of a point that is the step, and 0 where none is. It is proved,
-/// since ranks are lowered by it.
-pub fn slow_point(points: &[u32], step: u32) -> u32
+/// The greatest index, from 1, of a point that is the step, and 0 where none is: the last point's,
+/// or else that of the points before it.
+fn slow_point(points: &[u32], step: u32) -> u32
     requires { length points.now ≤ 7 }
-    ensures { result ≡ index_of_point points.now step }
 {
-    let mut index = 0;
-    for (place, point) in points.iter().enumerate() {
-        if *point == step {
-            index = place as u32 + 1;
-        }
+    match points.split_last() {
+        None => 0,
+        Some((last, _)) if *last == step => points.len() as u32,
+        Some((_, earlier)) => slow_point(earlier, step),
     }
-    index
 }
 
 /// How many of the steps up to this place the thread took.
@@ -34,20 +30,24 @@ fn slow_own(schedule: &[u32], thread: u32, place: usize) -> u32 {
     own
 }
 
-/// The greatest index, from 1, of a moment that is the step at the place, and 0 where none is.
-fn slow_moment(events: &[Moment], schedule: &[u32], place: usize) -> u32
-    requires within { place < length schedule.now }
-    requires few_events { length events.now ≤ 7 }
+/// The greatest index, from 1, of a moment that is this own step of the thread, and 0 where none is.
+fn slow_moment(events: &[Moment], moment: Moment) -> u32
+    requires { length events.now ≤ 7 }
 {
-    let taker = schedule[place];
-    let number = slow_own(schedule, taker, place);
-    let mut index = 0;
-    for (earlier, event) in events.iter().enumerate() {
-        if event.thread == taker && event.number == number {
-            index = earlier as u32 + 1;
-        }
+    match events.split_last() {
+        None => 0,
+        Some((last, _)) if *last == moment => events.len() as u32,
+        Some((_, earlier)) => slow_moment(earlier, moment),
     }
-    index
+}
+
+/// The moment that the step at a place is.
+fn slow_step(schedule: &[u32], place: usize) -> Moment
+    requires { place < length schedule.now }
+{
+    let thread = schedule[place];
+    let number = slow_own(schedule, thread, place);
+    Moment { thread, number }
 }
 
 fn slow_place(order: &[u32], thread: u32) -> u32
@@ -78,7 +78,7 @@ fn slow_rank(given: &[u32], count: u32, order: &[u32], schedule: &[u32], thread:
 }
 
 /// The ranks of all threads.
-fn slow_ranks(
+pub fn slow_ranks(
     alloc: Global,
     given: &[u32],
     count: u32,
@@ -95,6 +95,18 @@ fn slow_ranks(
     Ok(values)
 }
 
+/// The index that each step gives by change points, and 0 where it gives none.
+pub fn slow_indices(alloc: Global, points: &[u32], schedule: &[u32]) -> Result<Vec<u32>, AllocError>
+    requires short { length schedule.now ≤ 100 }
+    requires few_points { length points.now ≤ 7 }
+{
+    let mut given = Vec::new(alloc);
+    for place in 0..schedule.len() {
+        given.push(slow_point(points, place as u32 + 1))?;
+    }
+    Ok(given)
+}
+
 /// The ranks by change points.
 pub fn slow_by_points(
     alloc: Global,
@@ -106,10 +118,7 @@ pub fn slow_by_points(
     requires few_threads { length order.now ≤ 64 }
     requires few_points { length points.now ≤ 7 }
 {
-    let mut given = Vec::new(alloc);
-    for place in 0..schedule.len() {
-        given.push(slow_point(points, place as u32 + 1))?;
-    }
+    let given = slow_indices(alloc, points, schedule)?;
     slow_ranks(alloc, &given, points.len() as u32, order, schedule)
 }
 
@@ -125,17 +134,14 @@ pub fn slow_by_events(
 {
     let mut given = Vec::new(alloc);
     for place in 0..schedule.len() {
-        given.push(slow_moment(events, schedule, place))?;
+        given.push(slow_moment(events, slow_step(schedule, place)))?;
     }
     slow_ranks(alloc, &given, events.len() as u32, order, schedule)
 }
 
 /// Whether a walk over the threads stops here.
 fn is_open(chance: Chance) -> bool {
-    match chance {
-        Chance::Away | Chance::Ready | Chance::Unknown { .. } => true,
-        Chance::Blocked | Chance::Ended => false,
-    }
+    !matches!(chance, Chance::Blocked | Chance::Ended)
 }
 
 /// What is picked at a thread, and `ready` where it is Ready.

@@ -12,19 +12,7 @@ use Rattle.pct_ask.specs.TraceText.{verdict_line_words, line_text, trace_text}
 use Rattle.pct_ask.specs.declared.event.Event.{Event}
 use Rattle.pct_ask.specs.declared.verdict.Verdict.{Verdict}
 use Rattle.trace_text.specs.Spaced.{behind_spaces}
-
--- the words after the first stand behind spaces
-pub join-spaced : (word : List ℕ) (words : List (List ℕ))
-    → join_with_byte 32 (word ∷ words) ≡ word ++ behind_spaces words
-join-spaced word [] = sym (append-nil word)
-join-spaced word (next ∷ words) = ap (λ (x : List ℕ). word ++ (32 ∷ x)) (join-spaced next words)
-
-pub spaced-append : (a b : List (List ℕ))
-    → behind_spaces (a ++ b) ≡ behind_spaces a ++ behind_spaces b
-spaced-append [] b = refl
-spaced-append (word ∷ a) b =
-    ap (λ (x : List ℕ). (32 ∷ word) ++ x) (spaced-append a b)
-    ∙ sym (append_assoc (32 ∷ word) (behind_spaces a) (behind_spaces b))
+use Rattle.trace_text.proofs.laws.Spaced.{join-spaced, spaced-append}
 
 regrouped : (old s n l a r end : List ℕ)
     → ((((old ++ s) ++ n) ++ l) ++ a) ++ (r ++ end) ≡ old ++ ((s ++ (n ++ (l ++ (a ++ r)))) ++ end)

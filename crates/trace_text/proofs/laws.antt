@@ -7,3 +7,5 @@ pub mod Faults
 pub mod Answers
 -- a verdict of a step that names what there is may be told by a trace
 pub mod KnownVerdicts
+-- the words of a line behind spaces
+pub mod Spaced

@@ -24,30 +24,30 @@ use crate::asks::{
 };
 use crate::fault::TraceError;
 use crate::file::{Header, TraceFile};
-use pct_ask::{Ask, Event, NameKind, Names, Verdict, fault_word, write_number, write_verdict};
+use pct_ask::{
+    Ask, Event, NameKind, Names, Verdict, fault_word, write_number, write_spaced_number,
+    write_spaced_word, write_verdict,
+};
 use std::alloc::{AllocError as NoMemory, Global};
 
 /// A word behind a space.
 fn push_word(out: &mut Vec<u8>, word: &[u8]) -> Result<(), NoMemory>
     ensures { OnOk result (out.new.items ≡ out.old.items ++ behind_spaces (word.now ∷ [])) }
 {
-    out.push(b' ')?;
-    out.extend_from_slice(word)
+    write_spaced_word(word, out)
 }
 
 fn push_value(out: &mut Vec<u8>, value: i64) -> Result<(), NoMemory>
     ensures { OnOk result
         (out.new.items ≡ out.old.items ++ behind_spaces (signed_decimal value ∷ [])) }
 {
-    out.push(b' ')?;
-    write_number(i128::from(value), out)
+    write_spaced_number(i128::from(value), out)
 }
 
 fn push_count(out: &mut Vec<u8>, count: u32) -> Result<(), NoMemory>
     ensures { OnOk result (out.new.items ≡ out.old.items ++ behind_spaces (decimal count ∷ [])) }
 {
-    out.push(b' ')?;
-    write_number(i128::from(count), out)
+    write_spaced_number(i128::from(count), out)
 }
 
 /// The name of a thread or an object.

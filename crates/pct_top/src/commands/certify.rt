@@ -20,14 +20,14 @@ ghost use Rattle.pct_top.specs.commands.Certify.{PrintsCertificate, OfCertify};
 ghost use Rattle.pct_top.specs.commands.KnownCertificate.{IsKnownCertificate};
 
 use crate::files::read_directed;
-use crate::lines::{name_of, push_count, push_number, push_verdict, push_word};
+use crate::lines::{push_count, push_number, push_verdict};
 use crate::outcome::Outcome;
 use crate::refusal::Refusal;
 use crate::test::Test;
 use directive::Directive;
 use directive_run::{Certified, CertifyRow, certify};
 use itoa::Buffer;
-use pct_ask::{NameKind, Names, Verdict};
+use pct_ask::{NameKind, Names, Verdict, name_at, write_spaced_word};
 use pct_outside::{Gate, Shelf};
 use std::alloc::{AllocError as NoMemory, Global};
 use std::sync::Wait;
@@ -39,7 +39,7 @@ fn push_names(out: &mut Vec<u8>, names: &Names, order: &[u32]) -> Result<(), NoM
         ≡ out.old.items ++ behind_spaces (map (thread_name names.now) order.now)) }
 {
     for thread in order {
-        push_word(out, name_of(names, NameKind::Thread, *thread))?;
+        write_spaced_word(name_at(names, NameKind::Thread, *thread), out)?;
     }
     Ok(())
 }

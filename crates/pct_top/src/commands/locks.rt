@@ -10,13 +10,13 @@ ghost use Rattle.pct_top.specs.Outcome.{printed_of};
 ghost use Rattle.pct_top.specs.commands.Locks.{nesting_words, lock_text, is_order as is_order_by};
 ghost use Rattle.pct_top.specs.commands.Locks.{PrintsLocks};
 
-use crate::lines::{name_of, push_number, push_size, push_word};
+use crate::lines::{push_number, push_size};
 use crate::outcome::Outcome;
 use crate::playing::play;
 use crate::priorities::Priorities;
 use crate::test::Test;
 use lock_order::{LockReport, Nesting, lock_order};
-use pct_ask::{NameKind, Names};
+use pct_ask::{NameKind, Names, name_at, write_spaced_word};
 use pct_outside::Gate;
 use std::alloc::{AllocError as NoMemory, Global};
 use std::sync::Wait;
@@ -29,9 +29,9 @@ fn push_nesting(out: &mut Vec<u8>, names: &Names, nesting: &Nesting) -> Result<(
 {
     out.extend_from_slice(b"nest")?;
     push_number(out, nesting.step)?;
-    push_word(out, name_of(names, NameKind::Thread, nesting.thread))?;
-    push_word(out, name_of(names, NameKind::Mutex, nesting.held))?;
-    push_word(out, name_of(names, NameKind::Mutex, nesting.taken))?;
+    write_spaced_word(name_at(names, NameKind::Thread, nesting.thread), out)?;
+    write_spaced_word(name_at(names, NameKind::Mutex, nesting.held), out)?;
+    write_spaced_word(name_at(names, NameKind::Mutex, nesting.taken), out)?;
     out.push(b'\n')?;
     Ok(())
 }
@@ -43,7 +43,7 @@ fn push_order(out: &mut Vec<u8>, names: &Names, mutexes: &[u32]) -> Result<(), N
 {
     out.extend_from_slice(b"order")?;
     for mutex in mutexes {
-        push_word(out, name_of(names, NameKind::Mutex, *mutex))?;
+        write_spaced_word(name_at(names, NameKind::Mutex, *mutex), out)?;
     }
     out.push(b'\n')?;
     Ok(())

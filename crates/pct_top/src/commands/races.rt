@@ -9,13 +9,13 @@ ghost use Rattle.pct_top.specs.Priorities.{ArePriorities};
 ghost use Rattle.pct_top.specs.Outcome.{printed_of};
 ghost use Rattle.pct_top.specs.commands.Races.{race_words, race_text, PrintsRaces};
 
-use crate::lines::{name_of, push_number, push_size, push_word};
+use crate::lines::{push_number, push_size};
 use crate::outcome::Outcome;
 use crate::playing::play;
 use crate::priorities::Priorities;
 use crate::test::Test;
 use hb_race::{Race, races};
-use pct_ask::{NameKind, Names};
+use pct_ask::{NameKind, Names, name_at, write_spaced_word};
 use pct_outside::Gate;
 use std::alloc::{AllocError as NoMemory, Global};
 use std::sync::Wait;
@@ -28,7 +28,7 @@ fn push_race(out: &mut Vec<u8>, names: &Names, race: &Race) -> Result<(), NoMemo
         ≡ out.old.items ++ line_text (race_words names.now race.now)) }
 {
     out.extend_from_slice(b"race")?;
-    push_word(out, name_of(names, NameKind::Var, race.var))?;
+    write_spaced_word(name_at(names, NameKind::Var, race.var), out)?;
     push_number(out, race.first)?;
     push_number(out, race.second)?;
     out.push(b'\n')?;

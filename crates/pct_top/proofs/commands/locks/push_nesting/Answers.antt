@@ -10,12 +10,12 @@ returns c =
     let nesting = c.args.nesting.now in
     rw (
       c.in_ok-push.ensures.items,
-      c.in_ok-push_word-3.ensures,
-      c.name_of-3.ensures,
-      c.in_ok-push_word-2.ensures,
-      c.name_of-2.ensures,
-      c.in_ok-push_word.ensures,
-      c.name_of.ensures,
+      c.in_ok-write_spaced_word-3.ensures.written,
+      c.name_at-3.ensures,
+      c.in_ok-write_spaced_word-2.ensures.written,
+      c.name_at-2.ensures,
+      c.in_ok-write_spaced_word.ensures.written,
+      c.name_at.ensures,
       c.in_ok-push_number.ensures,
       c.in_ok-extend_from_slice.ensures.items,
     )

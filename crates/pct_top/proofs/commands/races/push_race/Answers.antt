@@ -11,8 +11,8 @@ returns c =
       c.in_ok-push.ensures.items,
       c.in_ok-push_number-2.ensures,
       c.in_ok-push_number.ensures,
-      c.in_ok-push_word.ensures,
-      c.name_of.ensures,
+      c.in_ok-write_spaced_word.ensures.written,
+      c.name_at.ensures,
       c.in_ok-extend_from_slice.ensures.items,
     )
     (line-of-four c.args.out.now.items (codes "race") (name_at names.vars race.var)
