@@ -16,3 +16,5 @@ mod reports;
 mod samples;
 #[cfg(test)]
 mod traces;
+#[cfg(test)]
+mod words;
