@@ -3,7 +3,6 @@
 ghost use Rattle.std.specs.Prelude.{◌≡◌, ◌++◌, [], ◌∷◌, true, OnOk};
 ghost use Rattle.script_tree.specs.Forms.{kind_word};
 ghost use Rattle.script_tree.specs.Expressions.{signs_of};
-ghost use Rattle.pct_ask.specs.Words.{register_word};
 ghost use Rattle.script_tree.specs.Seen.{expression};
 ghost use Rattle.script_tree.specs.Layout.{expression_text};
 ghost use Rattle.script_tree.specs.Printing.{is_ranged};
