@@ -1,5 +1,7 @@
--- What those who write tests may cite: bodies in boxes that name only what there is, and seats that ports give back.
-use Rattle.std.proofs.Common.{◌≡◌, ℕ, zero, suc, Bool, List, [], ◌∷◌, map, sym, ap, subst, ◌∙◌, arith}
+-- What those who write tests may cite: bodies in boxes that name only what there is, and seats that
+-- ports give back.
+use Rattle.std.proofs.Common.{◌≡◌, ℕ, zero, suc, Bool, List, [], ◌∷◌, map, sym, ap, subst, ◌∙◌}
+use Rattle.std.proofs.Common.{arith}
 use Rattle.pct_ask.specs.declared.Deal.{Deal}
 use Rattle.pct_ask.specs.declared.event.Event.{Event}
 use Rattle.pct_ask.specs.declared.verdict.Outcome.{Outcome}
@@ -18,19 +20,30 @@ use Rattle.body_kit.specs.Asking.{SeatGoesOn}
 use Rattle.body_kit.specs.Ports.{IsBack}
 
 -- ---- bodies
-three-in-range : (sizes : Sizes) (one other last : Pending) → IsInRangeBody sizes one → IsInRangeBody sizes other → IsInRangeBody sizes last → AreInRange sizes (one ∷ other ∷ last ∷ [])
+three-in-range : (sizes : Sizes) (one other last : Pending) → IsInRangeBody sizes one
+    → IsInRangeBody sizes other → IsInRangeBody sizes last
+    → AreInRange sizes (one ∷ other ∷ last ∷ [])
 three-in-range sizes one other last a b c zero = a
 three-in-range sizes one other last a b c (suc zero) = b
 three-in-range sizes one other last a b c (suc (suc zero)) = c
 three-in-range sizes one other last a b c (suc (suc (suc t))) = λ answers. tt
 
-pub boxed-in-range : {X : Type 0} (sizes : Sizes) (pending : X → Pending) (items : List X) (one other last : X) → items ≡ one ∷ other ∷ last ∷ []
-    → IsInRangeBody sizes (pending one) → IsInRangeBody sizes (pending other) → IsInRangeBody sizes (pending last) → AreInRange sizes (map pending items)
-boxed-in-range sizes pending items one other last is a b c = subst (AreInRange sizes) (sym (ap (map pending) is)) (three-in-range sizes (pending one) (pending other) (pending last) a b c)
+pub boxed-in-range : {X : Type 0} (sizes : Sizes) (pending : X → Pending) (items : List X)
+    (one other last : X) → items ≡ one ∷ other ∷ last ∷ []
+    → IsInRangeBody sizes (pending one) → IsInRangeBody sizes (pending other)
+    → IsInRangeBody sizes (pending last) → AreInRange sizes (map pending items)
+boxed-in-range sizes pending items one other last is a b c =
+    subst (AreInRange sizes) (sym (ap (map pending) is))
+    (three-in-range sizes (pending one) (pending other) (pending last) a b c)
 
 -- what was played, by its parts
-pub boxed-played : {plan other : Plan} {bodies : List Pending} {events steps : List Event} {outcome end : Outcome} (deal : Deal) (limit : ℕ) → plan ≡ other → events ≡ steps → outcome ≡ end → IsPlayed plan deal bodies limit events outcome → IsPlayed other deal bodies limit steps end
-boxed-played {bodies = bodies} deal limit p e o played = subst (λ (x : Plan × List Event × Outcome). IsPlayed x.0 deal bodies limit x.1 x.2) (λ i. (p i, e i, o i)) played
+pub boxed-played : {plan other : Plan} {bodies : List Pending} {events steps : List Event}
+    {outcome end : Outcome} (deal : Deal) (limit : ℕ) → plan ≡ other → events ≡ steps
+    → outcome ≡ end → IsPlayed plan deal bodies limit events outcome
+    → IsPlayed other deal bodies limit steps end
+boxed-played {bodies = bodies} deal limit p e o played =
+    subst (λ (x : Plan × List Event × Outcome). IsPlayed x.0 deal bodies limit x.1 x.2)
+    (λ i. (p i, e i, o i)) played
 
 -- ---- seats
 -- a seat that went on serves what it served
@@ -38,14 +51,23 @@ pub still-serves : (v w : View) (t : ℕ) → SeatGoesOn v w → Serves v t → 
 still-serves v w t on here = subst (λ (l : List Bool). HasFlag l t) (sym on.serves) here
 
 pub goes-along : (u v w : View) → SeatGoesOn u v → SeatGoesOn v w → SeatGoesOn u w
-goes-along u v w one other = record { within = within-along u.seen v.seen w.seen one.within other.within; lawful = other.lawful; serves = other.serves ∙ one.serves }
+goes-along u v w one other = record {
+  within = within-along u.seen v.seen w.seen one.within other.within;
+  lawful = other.lawful;
+  serves = other.serves ∙ one.serves;
+}
 
 -- what came of a port, and what came of that
-pub back-along : {P : Type 0} {policy : Ghosts P} (first second third : Seat P policy) → IsBack first second → IsBack second third → IsBack first third
-back-along first second third one other = record { of = λ lock its. other.of lock (one.of lock its); on = goes-along (view first) (view second) (view third) one.on other.on }
+pub back-along : {P : Type 0} {policy : Ghosts P} (first second third : Seat P policy)
+    → IsBack first second → IsBack second third → IsBack first third
+back-along first second third one other = record {
+  of = λ lock its. other.of lock (one.of lock its);
+  on = goes-along (view first) (view second) (view third) one.on other.on;
+}
 
 -- the threads of a test with three
-pub three-served : (v : View) → (v.seen).deal.threads ≡ 3 → Serves v 0 → Serves v 1 → Serves v 2 → ServesAll v
+pub three-served : (v : View) → (v.seen).deal.threads ≡ 3 → Serves v 0 → Serves v 1 → Serves v 2
+    → ServesAll v
 three-served v three zeroth first second zero below = zeroth
 three-served v three zeroth first second (suc zero) below = first
 three-served v three zeroth first second (suc (suc zero)) below = second

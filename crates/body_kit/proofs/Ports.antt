@@ -1,5 +1,7 @@
--- A port between its calls: a seat that was split off, one that has gone on, and one that has seen how the run ended.
-use Rattle.std.proofs.Common.{◌≡◌, ℕ, ◌<◌, Bool, true, Some, None, Option, List, [], ◌∷◌, ◌++◌, length, refl, sym, ap, subst, ◌∙◌, arith}
+-- A port between its calls: a seat that was split off, one that has gone on, and one that has seen
+-- how the run ended.
+use Rattle.std.proofs.Common.{◌≡◌, ℕ, ◌<◌, Bool, true, Some, None, Option, List, [], ◌∷◌, ◌++◌}
+use Rattle.std.proofs.Common.{length, refl, sym, ap, subst, ◌∙◌, arith}
 use Rattle.std.specs.Prelude.{is_some}
 use Rattle.std.proofs.lemmas.List.{length-append}
 use Rattle.pct_ask.specs.declared.ask.Ask.{Ask}
@@ -24,11 +26,13 @@ use Rattle.worker_run.proofs.laws.RunsOver.{same-trace, later-ends}
 use Rattle.turn_lock.proofs.laws.Serving.{alone-has}
 use Rattle.body_kit.specs.declared.asked.Asked.{Asked}
 use Rattle.body_kit.specs.declared.asked.Asked.TheVariants.{Answer, Over}
-use Rattle.body_kit.specs.Asking.{event_of_ask, end_post, IsGivenPost, IsToldOver, AskTells, IsEnded, SeatGoesOn, over_of}
+use Rattle.body_kit.specs.Asking.{event_of_ask, end_post, IsGivenPost, IsToldOver, AskTells}
+use Rattle.body_kit.specs.Asking.{IsEnded, SeatGoesOn, over_of}
 use Rattle.body_kit.specs.Ports.{IsPortSeat, IsBack}
 use Rattle.body_kit.proofs.Answered.{answered-owes}
 
-pub split-off : (v : View) (t : ℕ) → t < 64 → owes_of v.seen t ≡ true → IsPortSeat (seat_of_one v t) t None
+pub split-off : (v : View) (t : ℕ) → t < 64 → owes_of v.seen t ≡ true
+    → IsPortSeat (seat_of_one v t) t None
 split-off v t below owes = record {
   only = record { serves = alone-has v t below; alone = alone-one v t };
   owes = λ _. owes;
@@ -57,11 +61,18 @@ module _ (v : View) (t : ℕ) (outcome : Outcome) (stands : v.seen.outcome ≡ S
 
 -- ---- and what it is told afterwards
 module _ (v w : View) (t : ℕ) (ask : Ask) (line : ℕ) (on : SeatGoesOn v w) where
-  module _ (outcome : Outcome) (lawful : IsLawful v.seen) (stands : v.seen.outcome ≡ Some outcome) where
+  module _ (outcome : Outcome) (lawful : IsLawful v.seen)
+      (stands : v.seen.outcome ≡ Some outcome) where
     over : IsOver v.seen
-    over = record { speaks = lawful.speaks; obeys = lawful.obeys; outcome = outcome; ends = sym lawful.outcome ∙ stands }
+    over = record {
+      speaks = lawful.speaks;
+      obeys = lawful.obeys;
+      outcome = outcome;
+      ends = sym lawful.outcome ∙ stands;
+    }
 
-    ends : outcome_after w.seen.plan w.seen.deal (source_of w.seen.posts) w.seen.limit w.seen.trace ≡ Some outcome
+    ends : outcome_after w.seen.plan w.seen.deal (source_of w.seen.posts) w.seen.limit w.seen.trace
+        ≡ Some outcome
     unfolding over
     ends = later-ends v.seen w.seen on.within (on.lawful).obeys over
 
@@ -69,7 +80,12 @@ module _ (v w : View) (t : ℕ) (ask : Ask) (line : ℕ) (on : SeatGoesOn v w) w
     no-step : (event : Event) → pairs_of w.seen t ≡ pairs_of v.seen t ++ event ∷ [] → ⊥
     no-step event more =
         let same = ap (own_events t) (same-trace v.seen w.seen on.within (on.lawful).obeys over) in
-        absurd (omega (arith, ap length same, ap length more, length-append (pairs_of v.seen t) (event ∷ [])))
+        absurd (omega (
+          arith,
+          ap length same,
+          ap length more,
+          length-append (pairs_of v.seen t) (event ∷ []),
+        ))
 
     pub later-over : (asked : Asked) → AskTells v t ask line asked w → asked ≡ Over outcome
     later-over (Answer answer) told = absurd (no-step (event_of_ask t ask line answer) told.pairs)
@@ -79,34 +95,46 @@ module _ (v w : View) (t : ℕ) (ask : Ask) (line : ℕ) (on : SeatGoesOn v w) w
         ap Over same
 
   -- it is a port still
-  pub still-port : IsPortSeat v t None → (asked : Asked) → AskTells v t ask line asked w → IsPortSeat w t (over_of asked)
+  pub still-port : IsPortSeat v t None → (asked : Asked) → AskTells v t ask line asked w
+      → IsPortSeat w t (over_of asked)
   still-port p asked told = record {
-    only = (let S : List Bool → Type 0 = λ l. HasFlag l t × ((u : ℕ) → HasFlag l u → u ≡ t) in let both = subst S (sym on.serves) ((p.only).serves, (p.only).alone) in record { serves = both.0; alone = both.1 });
+    only =
+        (let S : List Bool → Type 0 = λ l. HasFlag l t × ((u : ℕ) → HasFlag l u → u ≡ t) in
+        let both = subst S (sym on.serves) ((p.only).serves, (p.only).alone) in
+        record { serves = both.0; alone = both.1 });
     owes = owed asked told;
     told = stands asked told;
   } where
-    owed : (asked : Asked) → AskTells v t ask line asked w → over_of asked ≡ None → owes_of w.seen t ≡ true
+    owed : (asked : Asked) → AskTells v t ask line asked w → over_of asked ≡ None
+        → owes_of w.seen t ≡ true
     owed (Answer answer) told none = answered-owes v w t ask line answer (p.owes refl) told
     owed (Over outcome) told none = absurd cc
 
-    stands : (asked : Asked) → AskTells v t ask line asked w → (outcome : Outcome) → over_of asked ≡ Some outcome → (w.seen.outcome ≡ Some outcome) × IsLawful w.seen
+    stands : (asked : Asked) → AskTells v t ask line asked w → (outcome : Outcome)
+        → over_of asked ≡ Some outcome → (w.seen.outcome ≡ Some outcome) × IsLawful w.seen
     stands (Answer answer) told outcome is = absurd cc
     stands (Over other) told outcome is = (told.stands ∙ is, on.lawful)
 
 -- ---- what is given back
 -- what is of one lock before and after is of the same locks
-pub goes-back : {P : Type 0} {policy : Ghosts P} (own : TurnLock P) (old new : Seat P policy) → HasSeat own old → HasSeat own new → SeatGoesOn (view old) (view new) → IsBack old new
+pub goes-back : {P : Type 0} {policy : Ghosts P} (own : TurnLock P) (old new : Seat P policy)
+    → HasSeat own old → HasSeat own new → SeatGoesOn (view old) (view new) → IsBack old new
 goes-back own old new was is on = record {
   of = λ lock its.
       let one = its.1 in
       let other = (on.within).making in (
         is.0 ∙ sym was.0 ∙ its.0,
-        record { deal = other.deal ∙ one.deal; limit = other.limit ∙ one.limit; plan = other.plan ∙ one.plan },
+        record {
+          deal = other.deal ∙ one.deal;
+          limit = other.limit ∙ one.limit;
+          plan = other.plan ∙ one.plan;
+        },
       );
   on = on;
 }
 
-pub back-self : {P : Type 0} {policy : Ghosts P} (seat : Seat P policy) → IsLawful (view seat).seen → IsBack seat seat
+pub back-self : {P : Type 0} {policy : Ghosts P} (seat : Seat P policy) → IsLawful (view seat).seen
+    → IsBack seat seat
 back-self seat lawful = record { of = λ lock its. its; on = stays-on (view seat) lawful }
 
 -- an option with something in it

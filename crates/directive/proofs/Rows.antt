@@ -49,7 +49,8 @@ low-by : (b c : Bool) (head name other : List ℕ) → bytes_eq head (codes "low
     → (head ∷ name ∷ [] ≡ codes "low" ∷ other ∷ []) × (is_name 1 other ≡ true)
 low-by true true head name other e f h =
     let same : name ≡ other = cc in (
-      ap (λ w. w ∷ name ∷ []) (same-word head (codes "low") e) ∙ ap (λ w. codes "low" ∷ w ∷ []) same,
+      ap (λ w. w ∷ name ∷ []) (same-word head (codes "low") e)
+          ∙ ap (λ w. codes "low" ∷ w ∷ []) same,
       ap (is_name 1) (sym same) ∙ f,
     )
 low-by true false head name other e f h = absurd cc

@@ -1,7 +1,8 @@
 -- The answers of certifying a directive are what is said of them.
 use Rattle.std.specs.Prelude.{slice_get}
 use Rattle.std.specs.List.{All}
-use Rattle.std.proofs.Common.{◌≡◌, ◌≢◌, ℕ, zero, suc, ◌+◌, ◌-◌, ◌*◌, ◌^◌, ◌<◌, ◌≤◌, Some, List, [], ◌∷◌, ◌++◌, length, take, drop, refl, sym, ap, subst, ◌∙◌, arith}
+use Rattle.std.proofs.Common.{◌≡◌, ◌≢◌, ℕ, zero, suc, ◌+◌, ◌-◌, ◌*◌, ◌^◌, ◌<◌, ◌≤◌, Some, List, []}
+use Rattle.std.proofs.Common.{◌∷◌, ◌++◌, length, take, drop, refl, sym, ap, subst, ◌∙◌, arith}
 use Rattle.std.proofs.Math.Nat.{pow-suc, pow-le-pow_left, pow-le-pow_right, mul-le-mul_left}
 use Rattle.std.proofs.lemmas.List.{length-append, length-map}
 use Rattle.std.proofs.lemmas.List.Elements.{All-nil, All-cons, All-head, All-tail}
@@ -18,64 +19,94 @@ use Rattle.directive_run.specs.Exposing.{IsWithin}
 use Rattle.directive_run.specs.Orders.{factorial, low_orders}
 use Rattle.directive_run.specs.Counting.{pointlists, hits_under}
 use Rattle.directive_run.specs.Guarantees.{IsLed}
-use Rattle.directive_run.specs.Certifying.{IsPointed, AreRows, IsCertified, IsFirstOther, IsRefuted, IsTooLongUnder}
+use Rattle.directive_run.specs.Certifying.{IsPointed, AreRows, IsCertified, IsFirstOther, IsRefuted}
+use Rattle.directive_run.specs.Certifying.{IsTooLongUnder}
 use Rattle.directive_run.specs.Tested.{DirectedSetup, IsOther, Tells}
 use Rattle.directive_run.specs.declared.judging.Tested.{Tested}
 use Rattle.directive_run.specs.declared.judging.Tested.TheVariants.{Led, Other, TooLong}
 use Rattle.directive_run.specs.declared.answers.CertifyRow.{CertifyRow}
 use Rattle.directive_run.proofs.laws.ExposedPoints.{exposed-run, points-within}
-use Rattle.directive_run.proofs.laws.OrderLists.{IsLowOrder, low-orders-all, low-order-listed, length-low-orders}
+use Rattle.directive_run.proofs.laws.OrderLists.{IsLowOrder, low-orders-all, low-order-listed}
+use Rattle.directive_run.proofs.laws.OrderLists.{length-low-orders}
 use Rattle.directive_run.proofs.laws.Counts.{order-hits, count-holds}
 
 -- ---- one order
 
-pub pointed : (deal : Deal) (bodies : List Pending) (order : List ℕ) (moments events : List Moment) (verdict last : Verdict) (steps limit : ℕ) (made : List Event) (points : List ℕ) → moments ≡ events → directed_run deal bodies order moments limit ≡ Some (made, last) → last ≡ verdict → length made ≤ steps → points ≡ points_of (schedule_of made) steps moments → IsPointed deal bodies order events verdict steps limit points
-pointed deal bodies order moments events verdict last steps limit made points same is ends short as_points =
-    let room : length (schedule_of made) ≤ steps = omega (arith, length-map made (λ (e : Event). e.thread)) in
+pub pointed : (deal : Deal) (bodies : List Pending) (order : List ℕ) (moments events : List Moment)
+    (verdict last : Verdict) (steps limit : ℕ) (made : List Event) (points : List ℕ)
+    → moments ≡ events → directed_run deal bodies order moments limit ≡ Some (made, last)
+    → last ≡ verdict → length made ≤ steps → points ≡ points_of (schedule_of made) steps moments
+    → IsPointed deal bodies order events verdict steps limit points
+pointed deal bodies order moments events verdict last steps limit made points same is ends short
+    as_points =
+    let room : length (schedule_of made) ≤ steps =
+    omega (arith, length-map made (λ (e : Event). e.thread)) in
     let runs = exposed-run deal bodies order moments limit steps made last room is in
     record {
       made = made;
-      is_directed = ap (λ es. directed_run deal bodies order es limit) (sym same) ∙ (is ∙ ap (λ v. Some (made, v)) ends);
+      is_directed =
+          ap (λ es. directed_run deal bodies order es limit) (sym same)
+          ∙ (is ∙ ap (λ v. Some (made, v)) ends);
       short = short;
       points_are = as_points ∙ ap (points_of (schedule_of made) steps) same;
-      is_run = ap (λ ps. run deal bodies order ps limit) as_points ∙ (runs ∙ ap (λ v. Some (made, v)) ends);
+      is_run =
+          ap (λ ps. run deal bodies order ps limit) as_points
+          ∙ (runs ∙ ap (λ v. Some (made, v)) ends);
     }
 
-pub other : (deal : Deal) (bodies : List Pending) (order : List ℕ) (moments events : List Moment) (verdict last : Verdict) (steps limit : ℕ) (made : List Event) → moments ≡ events → directed_run deal bodies order moments limit ≡ Some (made, last) → last ≢ verdict → length made ≤ steps → IsOther deal bodies order events verdict steps limit last
+pub other : (deal : Deal) (bodies : List Pending) (order : List ℕ) (moments events : List Moment)
+    (verdict last : Verdict) (steps limit : ℕ) (made : List Event) → moments ≡ events
+    → directed_run deal bodies order moments limit ≡ Some (made, last) → last ≢ verdict
+    → length made ≤ steps → IsOther deal bodies order events verdict steps limit last
 other deal bodies order moments events verdict last steps limit made same is apart short =
-    record { made = made; is_directed = ap (λ es. directed_run deal bodies order es limit) (sym same) ∙ is; short = short; apart = apart }
+    record {
+      made = made;
+      is_directed = ap (λ es. directed_run deal bodies order es limit) (sym same)
+          ∙ is;
+      short = short;
+      apart = apart;
+    }
 
 -- ---- the bound
 
-pub bound-small : (threads steps points i bound : ℕ) → threads ≤ 7 → steps ≤ 100000 → points ≤ 7 → i < points → bound ≡ threads * steps ^ i → bound * steps < 2 ^ 128
+pub bound-small : (threads steps points i bound : ℕ) → threads ≤ 7 → steps ≤ 100000 → points ≤ 7
+    → i < points → bound ≡ threads * steps ^ i → bound * steps < 2 ^ 128
 bound-small threads steps points i bound few small short within is =
     let power : steps ^ i ≤ 100000 ^ i = pow-le-pow_left small i in
-    let most : 100000 ^ i ≤ 100000 ^ 6 = pow-le-pow_right {n = 100000} (omega arith) {i = i} {j = 6} (omega arith) in
+    let most : 100000 ^ i ≤ 100000 ^ 6 =
+    pow-le-pow_right {n = 100000} (omega arith) {i = i} {j = 6} (omega arith) in
     let less : threads * steps ^ i ≤ threads * 100000 ^ 6 = mul-le-mul_left threads (omega arith) in
     let lesser : bound ≤ 7 * 100000 ^ 6 = omega arith in
     let product : bound * steps ≤ bound * 100000 = mul-le-mul_left bound small in
     omega arith
 
-pub bound-more : (threads steps i bound : ℕ) → bound ≡ threads * steps ^ i → bound * steps ≡ threads * steps ^ (i + 1)
+pub bound-more : (threads steps i bound : ℕ) → bound ≡ threads * steps ^ i
+    → bound * steps ≡ threads * steps ^ (i + 1)
 bound-more threads steps i bound is =
     ap (λ b. b * steps) is
     ∙ regrouped (steps ^ i)
-    ∙ ap (λ p. threads * p) (sym (pow-suc steps i) ∙ ap (λ n. steps ^ n) (let e : suc i ≡ i + 1 = omega arith in e))
+    ∙ ap (λ p. threads * p) (sym (pow-suc steps i)
+    ∙ ap (λ n. steps ^ n) (let e : suc i ≡ i + 1 = omega arith in e))
   where
     regrouped : (p : ℕ) → threads * p * steps ≡ threads * (p * steps)
     regrouped p = grind arith
 
 -- ---- the order at a place is an order
 
-pub listed-all : {X : Type 0} (P : X → Type 0) (xs : List X) (k : ℕ) (x : X) → All P xs → slice_get xs k ≡ Some x → P x
+pub listed-all : {X : Type 0} (P : X → Type 0) (xs : List X) (k : ℕ) (x : X) → All P xs
+    → slice_get xs k ≡ Some x → P x
 listed-all P [] k x all at = absurd cc
 listed-all P (y ∷ xs) zero x all at = subst P (let same : y ≡ x = cc in same) (All-head P y xs all)
 listed-all P (y ∷ xs) (suc k) x all at = listed-all P xs k x (All-tail P y xs all) at
 
-pub low-at : (threads low place : ℕ) (order : List ℕ) → low < threads → slice_get (low_orders threads low) place ≡ Some order → IsLowOrder threads low order
-low-at threads low place order within at = listed-all (IsLowOrder threads low) (low_orders threads low) place order (low-orders-all threads low within) at
+pub low-at : (threads low place : ℕ) (order : List ℕ) → low < threads
+    → slice_get (low_orders threads low) place ≡ Some order → IsLowOrder threads low order
+low-at threads low place order within at =
+    listed-all (IsLowOrder threads low) (low_orders threads low) place order
+    (low-orders-all threads low within) at
 
-pub take-next : {X : Type 0} (xs : List X) (k : ℕ) (x : X) → slice_get xs k ≡ Some x → take (k + 1) xs ≡ take k xs ++ x ∷ []
+pub take-next : {X : Type 0} (xs : List X) (k : ℕ) (x : X) → slice_get xs k ≡ Some x
+    → take (k + 1) xs ≡ take k xs ++ x ∷ []
 take-next xs k x at = ap (λ n. take n xs) (let e : k + 1 ≡ suc k = omega arith in e) ∙ next xs k at
   where
     next : (ys : List _) (k : ℕ) → slice_get ys k ≡ Some x → take (suc k) ys ≡ take k ys ++ x ∷ []
@@ -96,64 +127,96 @@ module _ (deal : Deal) (bodies : List Pending) (directive : Directive) (steps li
   Rows orders rows = AreRows deal bodies directive steps limit orders rows
 
   abbrev Pointed : List ℕ → List ℕ → Type 0
-  Pointed order points = IsPointed deal bodies order directive.events directive.verdict steps limit points
+  Pointed order points =
+      IsPointed deal bodies order directive.events directive.verdict steps limit points
 
   abbrev IsLedHere : List ℕ → Type 0
   IsLedHere order = IsLed deal bodies order directive.events directive.verdict steps limit
 
-  pub rows-push : (orders : List (List ℕ)) (rows : List CertifyRow) (order : List ℕ) (row : CertifyRow) → Rows orders rows → row.order ≡ order → Pointed order row.points → Rows (orders ++ order ∷ []) (rows ++ row ∷ [])
+  pub rows-push : (orders : List (List ℕ)) (rows : List CertifyRow) (order : List ℕ)
+      (row : CertifyRow) → Rows orders rows → row.order ≡ order → Pointed order row.points
+      → Rows (orders ++ order ∷ []) (rows ++ row ∷ [])
   rows-push [] [] order row before same is = (same, is, tt)
   rows-push [] (r ∷ rows) order row before same is = absurd before
   rows-push (o ∷ orders) [] order row before same is = absurd before
-  rows-push (o ∷ orders) (r ∷ rows) order row before same is = (before.0, before.1, rows-push orders rows order row before.2 same is)
+  rows-push (o ∷ orders) (r ∷ rows) order row before same is =
+      (before.0, before.1, rows-push orders rows order row before.2 same is)
 
   pointed-led : (order points : List ℕ) → Pointed order points → IsLedHere order
-  pointed-led order points is = record { made = is.made; directed_is = is.is_directed; short = is.short }
+  pointed-led order points is = record {
+    made = is.made;
+    directed_is = is.is_directed;
+    short = is.short;
+  }
 
   -- each order that has a row is led to the verdict
-  pub row-led : (orders : List (List ℕ)) (rows : List CertifyRow) (k : ℕ) (order : List ℕ) → Rows orders rows → slice_get orders k ≡ Some order → IsLedHere order
+  pub row-led : (orders : List (List ℕ)) (rows : List CertifyRow) (k : ℕ) (order : List ℕ)
+      → Rows orders rows → slice_get orders k ≡ Some order → IsLedHere order
   row-led [] rows k order are at = absurd cc
   row-led (o ∷ orders) [] k order are at = absurd are
-  row-led (o ∷ orders) (r ∷ rows) zero order are at = subst IsLedHere (let same : o ≡ order = cc in same) (pointed-led o r.points are.1)
+  row-led (o ∷ orders) (r ∷ rows) zero order are at =
+      subst IsLedHere (let same : o ≡ order = cc in same) (pointed-led o r.points are.1)
   row-led (o ∷ orders) (r ∷ rows) (suc k) order are at = row-led orders rows k order are.2 at
 
-  pub front-led : (orders : List (List ℕ)) (rows : List CertifyRow) → Rows orders rows → (order : List ℕ) (front back : List (List ℕ)) → orders ≡ front ++ order ∷ back → IsLedHere order
-  front-led orders rows are order front back cut = row-led orders rows (length front) order are (ap (λ os. slice_get os (length front)) cut ∙ at front)
+  pub front-led : (orders : List (List ℕ)) (rows : List CertifyRow) → Rows orders rows
+      → (order : List ℕ) (front back : List (List ℕ)) → orders ≡ front ++ order ∷ back
+      → IsLedHere order
+  front-led orders rows are order front back cut =
+      row-led orders rows (length front) order are
+      (ap (λ os. slice_get os (length front)) cut ∙ at front)
     where
       at : (front : List (List ℕ)) → slice_get (front ++ order ∷ back) (length front) ≡ Some order
       at [] = refl
       at (o ∷ front) = at front
 
   abbrev Hit : List ℕ → Type 0
-  Hit order = 1 ≤ hits_under deal bodies order (pointlists steps (length directive.events)) directive.verdict limit
+  Hit order =
+      1 ≤ hits_under deal bodies order (pointlists steps (length directive.events))
+      directive.verdict limit
 
   -- and is led to it by some listed points
-  pub rows-hit : (orders : List (List ℕ)) (rows : List CertifyRow) → 1 ≤ steps → Rows orders rows → All Hit orders
+  pub rows-hit : (orders : List (List ℕ)) (rows : List CertifyRow) → 1 ≤ steps → Rows orders rows
+      → All Hit orders
   rows-hit [] rows some are = All-nil Hit
   rows-hit (o ∷ orders) [] some are = absurd are
   rows-hit (o ∷ orders) (r ∷ rows) some are =
       let is = are.1 in
-      let room : length (schedule_of is.made) ≤ steps = omega (arith, is.short, length-map is.made (λ (e : Event). e.thread)) in
+      let room : length (schedule_of is.made) ≤ steps =
+      omega (arith, is.short, length-map is.made (λ (e : Event). e.thread)) in
       let W : List ℕ → Type 0 = All (IsWithin steps) in
-      let within = subst W (sym is.points_are) (points-within (schedule_of is.made) steps directive.events room some) in
-      let long : length r.points ≡ length directive.events = ap length is.points_are ∙ length-map directive.events (point_of_moment (schedule_of is.made) steps) in
-      All-cons Hit o orders (order-hits deal bodies o r.points is.made directive.verdict steps (length directive.events) limit long within is.is_run) (rows-hit orders rows some are.2)
+      let within = subst W (sym is.points_are)
+      (points-within (schedule_of is.made) steps directive.events room some) in
+      let long : length r.points ≡ length directive.events =
+      ap length is.points_are ∙ length-map directive.events
+      (point_of_moment (schedule_of is.made) steps) in
+      All-cons Hit o orders (order-hits deal bodies o r.points is.made directive.verdict steps
+      (length directive.events) limit long within is.is_run) (rows-hit orders rows some are.2)
 
   -- ---- the answers
 
-  pub certified : (low : directive.low < deal.threads) (rows : List CertifyRow) (bound : ℕ) → 1 ≤ steps → deal.threads ≤ 7 → Rows (low_orders deal.threads directive.low) rows → bound ≡ deal.threads * steps ^ length directive.events → IsCertified deal bodies directive steps limit bound rows
+  pub certified : (low : directive.low < deal.threads) (rows : List CertifyRow) (bound : ℕ)
+      → 1 ≤ steps → deal.threads ≤ 7 → Rows (low_orders deal.threads directive.low) rows
+      → bound ≡ deal.threads * steps ^ length directive.events
+      → IsCertified deal bodies directive steps limit bound rows
   certified low rows bound some few are is = record {
     few = few;
     guarantees = λ order ordered whole last.
-        let at = low-order-listed deal.threads directive.low order low (record { is_order = ordered; whole = whole; last = last }) in
+        let at = low-order-listed deal.threads directive.low order low
+        (record { is_order = ordered; whole = whole; last = last }) in
         row-led (low_orders deal.threads directive.low) rows at.0 order are at.2;
     bound_is = is;
     rows_are = are;
-    counted = count-holds deal bodies deal.threads directive.low steps (length directive.events) limit bound directive.verdict low (rows-hit (low_orders deal.threads directive.low) rows some are) is;
+    counted =
+        count-holds deal bodies deal.threads directive.low steps (length directive.events) limit
+        bound directive.verdict low (rows-hit (low_orders deal.threads directive.low) rows some are)
+        is;
   }
 
   -- the order at a place, with those before it led
-  pub first-other : (rows : List CertifyRow) (place : ℕ) (order : List ℕ) → deal.threads ≤ 7 → slice_get (low_orders deal.threads directive.low) place ≡ Some order → Rows (take place (low_orders deal.threads directive.low)) rows → IsFirstOther deal bodies directive steps limit order
+  pub first-other : (rows : List CertifyRow) (place : ℕ) (order : List ℕ) → deal.threads ≤ 7
+      → slice_get (low_orders deal.threads directive.low) place ≡ Some order
+      → Rows (take place (low_orders deal.threads directive.low)) rows
+      → IsFirstOther deal bodies directive steps limit order
   first-other rows place order few at are = record {
     few = few;
     before = take place (low_orders deal.threads directive.low);
@@ -162,7 +225,8 @@ module _ (deal : Deal) (bodies : List Pending) (directive : Directive) (steps li
     led = front-led (take place (low_orders deal.threads directive.low)) rows are;
   }
     where
-      cut : (orders : List (List ℕ)) (k : ℕ) → slice_get orders k ≡ Some order → orders ≡ take k orders ++ order ∷ drop (suc k) orders
+      cut : (orders : List (List ℕ)) (k : ℕ) → slice_get orders k ≡ Some order
+          → orders ≡ take k orders ++ order ∷ drop (suc k) orders
       cut [] k at = absurd cc
       cut (o ∷ orders) zero at = ap (λ z. z ∷ orders) (let same : o ≡ order = cc in same)
       cut (o ∷ orders) (suc k) at = ap (λ z. o ∷ z) (cut orders k at)

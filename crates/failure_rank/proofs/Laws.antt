@@ -10,18 +10,30 @@ use Rattle.failure_rank.specs.declared.group.Group.{Group}
 use Rattle.failure_rank.proofs.RowLemmas.{equal}
 use Rattle.failure_rank.proofs.Unique.{not_both, same_lists}
 
-group_has : (P : Verdict → Type 0) (rows : List Row) (g : Group) → IsGroup rows g → All (λ row. P row.verdict) rows → P g.verdict
+group_has : (P : Verdict → Type 0) (rows : List Row) (g : Group) → IsGroup rows g
+    → All (λ row. P row.verdict) rows → P g.verdict
 group_has P rows g is each =
     let own = rows_with g.verdict rows in
     let some = is.sums.reached in
-    let its : P (get_or own some.0 some.1).verdict = All-filter (λ (r : Row). same_verdict g.verdict r.verdict) (λ (r : Row). P r.verdict) rows each some.0 some.1 some.2 in
-    subst P (sym (equal g.verdict (get_or own some.0 some.1).verdict (filter_passes (λ (r : Row). same_verdict g.verdict r.verdict) rows some.0 some.1 some.2))) its
+    let its : P (get_or own some.0 some.1).verdict =
+    All-filter (λ (r : Row). same_verdict g.verdict r.verdict) (λ (r : Row). P r.verdict) rows
+    each some.0 some.1 some.2 in
+    subst P (sym (equal g.verdict (get_or own some.0 some.1).verdict
+    (filter_passes (λ (r : Row). same_verdict g.verdict r.verdict) rows some.0 some.1 some.2)))
+    its
 
 -- what holds of each row's verdict holds of each group's
-pub groups_have : (P : Verdict → Type 0) (rows : List Row) (groups : List Group) → IsRanking rows groups → All (λ row. P row.verdict) rows → All (λ group. P group.verdict) groups
-groups_have P rows groups is each k d inside = group_has P rows (get_or groups k d) ((is.members (get_or groups k d)).0 (Contains-get_or groups k d inside)) each
+pub groups_have : (P : Verdict → Type 0) (rows : List Row) (groups : List Group)
+    → IsRanking rows groups → All (λ row. P row.verdict) rows
+    → All (λ group. P group.verdict) groups
+groups_have P rows groups is each k d inside =
+    group_has P rows (get_or groups k d)
+    ((is.members (get_or groups k d)).0 (Contains-get_or groups k d inside)) each
 
 -- there is one ranking of the rows
-pub one_ranking : (rows : List Row) (groups other : List Group) → IsRanking rows groups → IsRanking rows other → other ≡ groups
+pub one_ranking : (rows : List Row) (groups other : List Group) → IsRanking rows groups
+    → IsRanking rows other → other ≡ groups
 one_ranking rows groups other is too =
-    same_lists (RanksBefore rows) (not_both rows) other groups too.order is.order (λ g h. (is.members g).1 ((too.members g).0 h)) (λ g h. (too.members g).1 ((is.members g).0 h))
+    same_lists (RanksBefore rows) (not_both rows) other groups too.order is.order
+    (λ g h. (is.members g).1 ((too.members g).0 h))
+    (λ g h. (too.members g).1 ((is.members g).0 h))

@@ -22,7 +22,10 @@ one_group = record {
   sums = record {
     count = refl;
     reached = (0, failing, omega arith, refl, refl);
-    least = All-cons (λ row. 1 ≤ row.steps) failing (again ∷ []) (omega arith) (All-cons (λ row. 1 ≤ row.steps) again [] (omega arith) (All-nil (λ (row : Row). 1 ≤ row.steps)));
+    least =
+        All-cons (λ row. 1 ≤ row.steps) failing (again ∷ []) (omega arith)
+        (All-cons (λ row. 1 ≤ row.steps) again [] (omega arith)
+        (All-nil (λ (row : Row). 1 ≤ row.steps)));
     first = refl;
   };
 }

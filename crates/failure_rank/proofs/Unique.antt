@@ -1,5 +1,6 @@
 -- There is one ranking.
-use Rattle.std.proofs.Common.{◌≡◌, ℕ, suc, zero, ◌<◌, ◌⊎◌, inl, inr, ⊎_elim, List, [], ◌∷◌, length, get_or, refl, sym, subst, ◌∙◌, arith}
+use Rattle.std.proofs.Common.{◌≡◌, ℕ, suc, zero, ◌<◌, ◌⊎◌, inl, inr, ⊎_elim, List, [], ◌∷◌, length}
+use Rattle.std.proofs.Common.{get_or, refl, sym, subst, ◌∙◌, arith}
 use Rattle.std.specs.List.{All, AllPairs, Contains}
 use Rattle.std.proofs.lemmas.List.Elements.{All-contains}
 use Rattle.pct_ask.specs.declared.event.Row.{Row}
@@ -43,21 +44,34 @@ none y h = omega (arith, h.1)
 
 module _ {X : Type 0} (R : X → X → Type 0) (one_way : (a b : X) → R a b → R b a → ⊥) where
   -- what stands in two lists, each of which is in order, comes first in both
-  same_head : (a : X) (xs : List X) (b : X) (ys : List X) → All (R a) xs → All (R b) ys → Contains (b ∷ ys) a → Contains (a ∷ xs) b → a ≡ b
+  same_head : (a : X) (xs : List X) (b : X) (ys : List X) → All (R a) xs → All (R b) ys
+      → Contains (b ∷ ys) a → Contains (a ∷ xs) b → a ≡ b
   same_head a xs b ys before_xs before_ys has_a has_b =
       ⊎_elim (λ (e : b ≡ a). sym e)
-      (λ in_ys. ⊎_elim (λ (e : a ≡ b). e) (λ in_xs. absurd (one_way a b (All-contains (R a) xs b before_xs in_xs) (All-contains (R b) ys a before_ys in_ys))) (cases a xs b has_b))
+      (λ in_ys. ⊎_elim (λ (e : a ≡ b). e)
+      (λ in_xs. absurd (one_way a b (All-contains (R a) xs b before_xs in_xs)
+      (All-contains (R b) ys a before_ys in_ys))) (cases a xs b has_b))
       (cases b ys a has_a)
 
-  rest_has : (a : X) (xs : List X) (b : X) (ys : List X) → a ≡ b → All (R a) xs → ((x : X) → Contains (a ∷ xs) x → Contains (b ∷ ys) x) → (x : X) → Contains xs x → Contains ys x
+  rest_has : (a : X) (xs : List X) (b : X) (ys : List X) → a ≡ b → All (R a) xs
+      → ((x : X) → Contains (a ∷ xs) x → Contains (b ∷ ys) x) → (x : X) → Contains xs x
+      → Contains ys x
   rest_has a xs b ys e before has x in_xs =
-      ⊎_elim (λ (is : b ≡ x). let self = subst (R a) (sym (e ∙ is)) (All-contains (R a) xs x before in_xs) in absurd (one_way a a self self)) (λ in_ys. in_ys) (cases b ys x (has x (later a xs x in_xs)))
+      ⊎_elim (λ (is : b ≡ x). let self =
+      subst (R a) (sym (e ∙ is)) (All-contains (R a) xs x before in_xs) in
+      absurd (one_way a a self self)) (λ in_ys. in_ys)
+      (cases b ys x (has x (later a xs x in_xs)))
 
-  pub same_lists : (xs ys : List X) → AllPairs R xs → AllPairs R ys → ((x : X) → Contains xs x → Contains ys x) → ((x : X) → Contains ys x → Contains xs x) → xs ≡ ys
+  pub same_lists : (xs ys : List X) → AllPairs R xs → AllPairs R ys
+      → ((x : X) → Contains xs x → Contains ys x) → ((x : X) → Contains ys x → Contains xs x)
+      → xs ≡ ys
   same_lists [] [] p q to from = refl
   same_lists [] (b ∷ ys) p q to from = absurd (none b (from b (here b ys)))
   same_lists (a ∷ xs) [] p q to from = absurd (none a (to a (here a xs)))
   same_lists (a ∷ xs) (b ∷ ys) p q to from =
-      let e : a ≡ b = same_head a xs b ys (pair_head R a xs p) (pair_head R b ys q) (to a (here a xs)) (from b (here b ys)) in
-      let rest : xs ≡ ys = same_lists xs ys (pair_tail R a xs p) (pair_tail R b ys q) (rest_has a xs b ys e (pair_head R a xs p) to) (rest_has b ys a xs (sym e) (pair_head R b ys q) from) in
+      let e : a ≡ b = same_head a xs b ys (pair_head R a xs p) (pair_head R b ys q)
+      (to a (here a xs)) (from b (here b ys)) in
+      let rest : xs ≡ ys = same_lists xs ys (pair_tail R a xs p) (pair_tail R b ys q)
+      (rest_has a xs b ys e (pair_head R a xs p) to)
+      (rest_has b ys a xs (sym e) (pair_head R b ys q) from) in
       cc

@@ -1,10 +1,12 @@
 -- What there is in a test is within the most that a test may have.
 use Rattle.std.proofs.Common.{◌≡◌, ℕ, ◌<◌, ◌≤◌, List, [], ◌∷◌, length, get_or, All, arith}
 use Rattle.pct_ask.specs.declared.names.NameKind.{NameKind}
-use Rattle.pct_ask.specs.declared.names.NameKind.TheVariants.{Thread, Var, Mutex, Cond, Sem, Barrier, RwLock}
+use Rattle.pct_ask.specs.declared.names.NameKind.TheVariants.{Thread, Var, Mutex, Cond, Sem}
+use Rattle.pct_ask.specs.declared.names.NameKind.TheVariants.{Barrier, RwLock}
 use Rattle.pct_ask.specs.declared.deal.Deal.{Deal}
 use Rattle.pct_ask.specs.declared.event.Event.{Event}
-use Rattle.pct_ask.specs.Objects.{Sizes, TestObject, count_of, sizes_of_deal, objects_of, AreThere, EventIsInRange}
+use Rattle.pct_ask.specs.Objects.{Sizes, TestObject, count_of, sizes_of_deal, objects_of, AreThere}
+use Rattle.pct_ask.specs.Objects.{EventIsInRange}
 use Rattle.hb_race.specs.Ranges.{most_with}
 
 record IsWithin (a b : Sizes) : Type 0 where
@@ -36,7 +38,9 @@ wider a b (o ∷ []) within low = one-wider a b o within low
 wider a b (o ∷ p ∷ others) within low =
     (one-wider a b o within low.0, wider a b (p ∷ others) within low.1)
 
-pub all-wider : (deal : Deal) (vars : ℕ) (events : List Event) → vars ≡ length deal.vars → All (EventIsInRange (sizes_of_deal deal)) events → All (EventIsInRange (most_with vars)) events
+pub all-wider : (deal : Deal) (vars : ℕ) (events : List Event) → vars ≡ length deal.vars
+    → All (EventIsInRange (sizes_of_deal deal)) events
+    → All (EventIsInRange (most_with vars)) events
 all-wider deal vars events same range = λ k d low.
     let within : IsWithin (sizes_of_deal deal) (most_with vars) = record {
       threads = deal.few_threads;
@@ -50,5 +54,7 @@ all-wider deal vars events same range = λ k d low.
     let at = range k d low in
     record {
       thread = let few = deal.few_threads in let thread = at.thread in omega arith;
-      ask = wider (sizes_of_deal deal) (most_with vars) (objects_of (get_or events k d).ask) within at.ask;
+      ask =
+          wider (sizes_of_deal deal) (most_with vars) (objects_of (get_or events k d).ask) within
+          at.ask;
     }

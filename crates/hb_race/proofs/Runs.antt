@@ -8,7 +8,8 @@ zeros (suc n) zero = refl
 zeros (suc n) (suc u) = zeros n u
 
 -- one more row of zeros
-pub pushed : (table : List (List ℕ)) → ((row u : ℕ) → clock_entry table row u ≡ zero) → (row u : ℕ) → clock_entry (table ++ replicate 64 zero ∷ []) row u ≡ zero
+pub pushed : (table : List (List ℕ)) → ((row u : ℕ) → clock_entry table row u ≡ zero) → (row u : ℕ)
+    → clock_entry (table ++ replicate 64 zero ∷ []) row u ≡ zero
 pushed [] empty zero u = zeros 64 u
 pushed [] empty (suc row) u = refl
 pushed (line ∷ table) empty zero u = empty zero u

@@ -1,4 +1,5 @@
--- Small theorems that read the definitions on a run of two threads which take two mutexes, each in an
+-- Small theorems that read the definitions on a run of two threads which take two mutexes, each in
+-- an
 -- order of its own.
 use Rattle.std.proofs.Common.{◌≡◌, ◌≢◌, ℕ, suc, pos, List, [], ◌∷◌, refl, arith}
 use Rattle.pct_ask.specs.declared.ask.Ask.{Ask}
@@ -13,7 +14,8 @@ step thread line ask = record { thread = thread; line = line; ask = ask; answer 
 
 abbrev pub opposed : List Event
 opposed =
-    step 0 5 (Lock 0) ∷ step 0 6 (Lock 1) ∷ step 0 7 (Unlock 1) ∷ step 0 8 (Unlock 0) ∷ step 1 11 (Lock 1)
+    step 0 5 (Lock 0) ∷ step 0 6 (Lock 1) ∷ step 0 7 (Unlock 1) ∷ step 0 8 (Unlock 0)
+    ∷ step 1 11 (Lock 1)
     ∷ step 1 12 (Lock 0) ∷ step 1 13 (Unlock 0) ∷ step 1 14 (Unlock 1) ∷ []
 
 abbrev pub first : Nesting

@@ -52,8 +52,8 @@ pub fn number_in(low: u64, high: u64, text: &[u8]) -> Option<u64>
     in_range(low, high, number)
 }
 
-/// The number from 1 to 100,000 that a word spells: a limit, a count of steps or of runs, or the step
-/// of a change point or of a moment.
+/// The number from 1 to 100,000 that a word spells: a limit, a count of steps or of runs, or the
+/// step of a change point or of a moment.
 pub fn step_count(word: &[u8]) -> Option<u32>
     ensures { result ≡ numbers.step_count word.now }
 {

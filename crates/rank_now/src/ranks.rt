@@ -1,5 +1,6 @@
 ghost use Rattle.std.specs.Prelude.{◌≡◌, ◌≢◌, ℕ, ◌+◌, ◌-◌, ◌<◌, ◌≤◌, ◌↔◌, [], ◌∷◌, ◌++◌, List};
-ghost use Rattle.std.specs.Prelude.{length, map, slice_set, slice_index, IfOk, OnOk, IfSome, IsNone};
+ghost use Rattle.std.specs.Prelude.{length, map, slice_set, slice_index, IfOk, OnOk, IfSome};
+ghost use Rattle.std.specs.Prelude.{IsNone};
 ghost use Rattle.rank_now.specs.Rank.{place_in_order, threads_of, ranks, ranks_by_events};
 ghost use Rattle.rank_now.specs.Rank.{index_of_point};
 ghost use Rattle.rank_now.specs.Rank.{index_of_moment};

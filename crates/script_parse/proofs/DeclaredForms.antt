@@ -255,7 +255,8 @@ form_adds version part find n lines h =
           (said_declared part (reading.statement_on part.names find n Yield)) h;
       assert =
           λ test tree of. quiet_adds part (with_form part find n (Assert tree)) lines
-          (codes "assert") test refl (said_declared part (reading.statement_on part.names find n (Assert tree))) h;
+          (codes "assert") test refl (said_declared part
+          (reading.statement_on part.names find n (Assert tree))) h;
       set =
           λ reg value tree of. quiet_adds part (with_form part find n (Set reg tree)) lines
           (codes "set") (Word (register_word reg) ∷ value) refl

@@ -47,7 +47,8 @@ seen_form (forms.On verb object) = language.On (seen_on verb) object.now
 seen_form (forms.Into verb reg object) = language.Into (seen_into verb) reg object.now
 seen_form (forms.Write var value) = language.Write var.now (spelled_tree value)
 seen_form (forms.Add reg var value) = language.Add reg var.now (spelled_tree value)
-seen_form (forms.Cas reg var old new) = language.Cas reg var.now (spelled_tree old) (spelled_tree new)
+seen_form (forms.Cas reg var old new) =
+    language.Cas reg var.now (spelled_tree old) (spelled_tree new)
 seen_form (forms.Wait cond mutex) = language.Wait cond.now mutex.now
 seen_form forms.Yield = language.Yield
 seen_form (forms.Assert test) = language.Assert (spelled_tree test)

@@ -30,7 +30,7 @@ fn slow_own(schedule: &[u32], thread: u32, place: usize) -> u32 {
     own
 }
 
-/// The greatest index, from 1, of a moment that is this own step of the thread, and 0 where none is.
+/// The greatest index, from 1, of a moment that is this one, and 0 where none is.
 fn slow_moment(events: &[Moment], moment: Moment) -> u32
     requires { length events.now ≤ 7 }
 {

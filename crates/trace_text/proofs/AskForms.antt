@@ -135,7 +135,8 @@ kind-second : (version : ℕ) (verb : Verb) → (version ≡ 1) ⊎ (version ≡
 kind-second version verb which h k =
     second version (verb_word verb) (Some (verb_kind verb)) (not-first version which h) k
 
-pub kind-verb : (version : ℕ) (verb : Verb) → (version ≡ 1) ⊎ (version ≡ 2) → verb_since verb ≤ version
+pub kind-verb : (version : ℕ) (verb : Verb) → (version ≡ 1) ⊎ (version ≡ 2)
+    → verb_since verb ≤ version
     → kind_of version (verb_word verb) ≡ Some (verb_kind verb)
 kind-verb version forms.Read which h = refl
 kind-verb version forms.Lock which h = refl

@@ -85,17 +85,24 @@ module _ (names : NameLists) (sound : AreNames names) (size : ℕ) (pieces : Lis
   step-line : (k n : ℕ) (event : Option Event) → IsStepFound k n event → IsStepLine names pieces k n
   step-line k n event f = (f.thread, f.line, f.ask, f.answer, f.form)
 
-  step-row : (k n : ℕ) (thread : List ℕ) (line : ℕ) (ask : AskForm) (answer : ℤ) → HasForm names pieces k (forms.Step n thread line ask answer) → (event : Option Event) × (row_at names pieces k ≡ Some (Step n event)) × (HasUnknown names (forms.Step n thread line ask answer) → event ≡ None)
+  step-row : (k n : ℕ) (thread : List ℕ) (line : ℕ) (ask : AskForm) (answer : ℤ)
+      → HasForm names pieces k (forms.Step n thread line ask answer)
+      → (event : Option Event) × (row_at names pieces k ≡ Some (Step n event))
+      × (HasUnknown names (forms.Step n thread line ask answer) → event ≡ None)
   step-row k n thread line ask answer form =
       let read = step-read names (version_of pieces) (text_at pieces k) n thread line ask answer which form.spelled form.of in
       (read.event, row-is k ∙ read.is, read.unknown)
 
-  end-found : (k : ℕ) (read : Option Verdict) → 5 ≤ k → row_at names pieces k ≡ Some (End read) → (verdict : NamedVerdict) × HasForm names pieces k (forms.End verdict) × (read ≡ None → HasUnknown names (forms.End verdict))
+  end-found : (k : ℕ) (read : Option Verdict) → 5 ≤ k → row_at names pieces k ≡ Some (End read)
+      → (verdict : NamedVerdict) × HasForm names pieces k (forms.End verdict)
+      × (read ≡ None → HasUnknown names (forms.End verdict))
   end-found k read low h =
       let told = end-form names (version_of pieces) (text_at pieces k) read which (sym (row-is k) ∙ h) in
       (told.verdict, record { stands = low; spelled = told.words_are; of = told.of }, told.unknown)
 
-  end-row : (k : ℕ) (verdict : NamedVerdict) → HasForm names pieces k (forms.End verdict) → (read : Option Verdict) × (row_at names pieces k ≡ Some (End read)) × (HasUnknown names (forms.End verdict) → read ≡ None)
+  end-row : (k : ℕ) (verdict : NamedVerdict) → HasForm names pieces k (forms.End verdict)
+      → (read : Option Verdict) × (row_at names pieces k ≡ Some (End read))
+      × (HasUnknown names (forms.End verdict) → read ≡ None)
   end-row k verdict form =
       let read = end-read names (version_of pieces) (text_at pieces k) verdict sound which form.spelled form.of in
       (read.read, row-is k ∙ read.is, read.unknown)
@@ -119,13 +126,18 @@ module _ (names : NameLists) (sound : AreNames names) (size : ℕ) (pieces : Lis
     where
       by : (b : Bool) → nat_lt i n ≡ b → (i < n → is_verdict (row_at names pieces (i + 5)) ≡ false) → is_verdict (row_at names pieces (i + 5)) ≡ false
       by true e before = before (grind (arith, nat_tests))
-      by false e before = let same : i ≡ n = grind (arith, nat_tests) in ap (λ j. is_verdict (row_at names pieces (j + 5))) same ∙ (or_parts (has_verdict names pieces n) (is_verdict (row_at names pieces (n + 5))) h).1
+      by false e before = let same : i ≡ n = grind (arith, nat_tests) in
+          ap (λ j. is_verdict (row_at names pieces (j + 5))) same
+          ∙ (or_parts (has_verdict names pieces n) (is_verdict (row_at names pieces (n + 5))) h).1
 
   some-verdict : (n : ℕ) → has_verdict names pieces n ≡ true → (i : ℕ) × (i < n) × (is_verdict (row_at names pieces (i + 5)) ≡ true)
   some-verdict zero h = absurd cc
   some-verdict (suc n) h = by (or_cases (has_verdict names pieces n) (is_verdict (row_at names pieces (n + 5))) h) (λ e. some-verdict n e)
     where
-      by : (has_verdict names pieces n ≡ true) ⊎ (is_verdict (row_at names pieces (n + 5)) ≡ true) → (has_verdict names pieces n ≡ true → (i : ℕ) × (i < n) × (is_verdict (row_at names pieces (i + 5)) ≡ true)) → (i : ℕ) × (i < suc n) × (is_verdict (row_at names pieces (i + 5)) ≡ true)
+      by : (has_verdict names pieces n ≡ true) ⊎ (is_verdict (row_at names pieces (n + 5)) ≡ true)
+          → (has_verdict names pieces n ≡ true
+          → (i : ℕ) × (i < n) × (is_verdict (row_at names pieces (i + 5)) ≡ true))
+          → (i : ℕ) × (i < suc n) × (is_verdict (row_at names pieces (i + 5)) ≡ true)
       by (inl e) before = let b = before e in (b.0, let low = b.1 in omega arith, b.2)
       by (inr e) before = (n, omega arith, e)
 
@@ -144,7 +156,10 @@ module _ (names : NameLists) (sound : AreNames names) (size : ℕ) (pieces : Lis
   body-test : (k : ℕ) → IsInBody names pieces k → is_in_body names pieces k ≡ true
   body-test k body =
       let low : nat_le 5 k ≡ true = let l = body.0 in grind (arith, nat_tests) in
-      let free = never (has_verdict names pieces (k - 5)) (λ h. let some = some-verdict (k - 5) h in body.1 (some.0 + 5) (let l = some.1 in let b = body.0 in omega arith) (verdict-found (some.0 + 5) (omega arith) some.2)) in
+      let free = never (has_verdict names pieces (k - 5))
+      (λ h. let some = some-verdict (k - 5) h in
+      body.1 (some.0 + 5) (let l = some.1 in let b = body.0 in omega arith)
+      (verdict-found (some.0 + 5) (omega arith) some.2)) in
       and_from (nat_le 5 k) (not (has_verdict names pieces (k - 5))) low (ap not free)
 
   -- ---- the head
@@ -205,29 +220,56 @@ module _ (names : NameLists) (sound : AreNames names) (size : ℕ) (pieces : Lis
       let read = step-row k far.2 step.0 step.1 step.2 step.3 step.4 in
       let past : nat_lt far.1 far.2 ≡ true = let e = far.5 in grind (arith, nat_tests) in
       or_right ((k == 1) && nat_lt 16777216 size) (is_in_body names pieces k && is_past (limit_of pieces) (row_at names pieces k))
-      (and_from (is_in_body names pieces k) (is_past (limit_of pieces) (row_at names pieces k)) (body-test k far.0) (ap (λ l. is_past l (row_at names pieces k)) (limit-test far.1 far.3) ∙ ap (is_past far.1) read.1 ∙ past))
+      (and_from (is_in_body names pieces k) (is_past (limit_of pieces) (row_at names pieces k))
+      (body-test k far.0) (ap (λ l. is_past l (row_at names pieces k)) (limit-test far.1 far.3)
+      ∙ ap (is_past far.1) read.1 ∙ past))
 
   bad_header-test : (k : ℕ) → IsFaulty size names pieces k BadHeader → is_faulty size names pieces k BadHeader ≡ true
   bad_header-test k bad =
       let low : nat_le 1 k ≡ true = let e = bad.0 in grind (arith, nat_tests) in
       let high : nat_le k 4 ≡ true = let e = bad.1 in grind (arith, nat_tests) in
-      let lost = never (is_whole (line_at pieces k) && is_head_line names pieces k) (λ h. let f = head-found k bad.0 bad.1 (and_parts (is_whole (line_at pieces k)) (is_head_line names pieces k) h).1 in bad.2 ((and_parts (is_whole (line_at pieces k)) (is_head_line names pieces k) h).0, f.0, f.1)) in
+      let lost = never (is_whole (line_at pieces k) && is_head_line names pieces k)
+      (λ h. let f = head-found k bad.0 bad.1
+      (and_parts (is_whole (line_at pieces k)) (is_head_line names pieces k) h).1 in
+      bad.2 (
+        (and_parts (is_whole (line_at pieces k)) (is_head_line names pieces k) h).0,
+        f.0,
+        f.1,
+      )) in
       all-three (nat_le 1 k) (nat_le k 4) (not (is_whole (line_at pieces k) && is_head_line names pieces k)) low high (ap not lost)
 
   bad_line-test : (k : ℕ) → IsFaulty size names pieces k BadLine → is_faulty size names pieces k BadLine ≡ true
   bad_line-test k bad =
-      let lost = never (is_whole (line_at pieces k) && is_some (row_at names pieces k)) (λ h. let f = row-found k bad.0.0 (and_parts (is_whole (line_at pieces k)) (is_some (row_at names pieces k)) h).1 in bad.2 ((and_parts (is_whole (line_at pieces k)) (is_some (row_at names pieces k)) h).0, f.0, f.1)) in
+      let lost = never (is_whole (line_at pieces k) && is_some (row_at names pieces k))
+      (λ h. let f = row-found k bad.0.0
+      (and_parts (is_whole (line_at pieces k)) (is_some (row_at names pieces k)) h).1 in
+      bad.2 (
+        (and_parts (is_whole (line_at pieces k)) (is_some (row_at names pieces k)) h).0,
+        f.0,
+        f.1,
+      )) in
       all-three (is_in_body names pieces k) (has_byte pieces k) (not (is_whole (line_at pieces k) && is_some (row_at names pieces k))) (body-test k bad.0) bad.1 (ap not lost)
 
   late-unknown : (k : ℕ) → 5 ≤ k → IsOpen names pieces k → has_unknown (row_at names pieces k) ≡ true → is_faulty size names pieces k UnknownName ≡ true
   late-unknown k low free h =
-      or_right ((k == 2) && has_unknown_thread names (order_on_line names (text_in (line_at pieces k)))) (is_in_body names pieces k && has_unknown (row_at names pieces k)) (and_from (is_in_body names pieces k) (has_unknown (row_at names pieces k)) (body-test k (low, free)) h)
+      or_right ((k == 2) && has_unknown_thread names
+      (order_on_line names (text_in (line_at pieces k))))
+      (is_in_body names pieces k && has_unknown (row_at names pieces k))
+      (and_from (is_in_body names pieces k) (has_unknown (row_at names pieces k))
+      (body-test k (low, free)) h)
 
   order-unknown : (k : ℕ) (threads : List (List ℕ)) → HasForm names pieces k (forms.Order threads) → HasUnknown names (forms.Order threads) → is_faulty size names pieces k UnknownName ≡ true
   order-unknown k threads form unknown =
       let two : (k == 2) ≡ true = let e = form.stands in grind (arith, nat_tests) in
-      let lost : has_unknown_thread names (order_on_line names (text_in (line_at pieces k))) ≡ true = ap (has_unknown_thread names) (order-read names (version_of pieces) (text_at pieces k) threads form.spelled form.of) ∙ unknown-read names threads unknown in
-      or_left ((k == 2) && has_unknown_thread names (order_on_line names (text_in (line_at pieces k)))) (is_in_body names pieces k && has_unknown (row_at names pieces k)) (and_from (k == 2) (has_unknown_thread names (order_on_line names (text_in (line_at pieces k)))) two lost)
+      let lost : has_unknown_thread names (order_on_line names (text_in (line_at pieces k)))
+      ≡ true = ap (has_unknown_thread names)
+      (order-read names (version_of pieces) (text_at pieces k) threads form.spelled form.of)
+      ∙ unknown-read names threads unknown in
+      or_left ((k == 2) && has_unknown_thread names
+      (order_on_line names (text_in (line_at pieces k))))
+      (is_in_body names pieces k && has_unknown (row_at names pieces k))
+      (and_from (k == 2) (has_unknown_thread names
+      (order_on_line names (text_in (line_at pieces k)))) two lost)
 
   unknown-test : (k : ℕ) (form : Form) → IsOpen names pieces k → HasForm names pieces k form → HasUnknown names form → is_faulty size names pieces k UnknownName ≡ true
   unknown-test k (forms.Version v) at form unknown = absurd unknown
@@ -277,7 +319,9 @@ module _ (names : NameLists) (sound : AreNames names) (size : ℕ) (pieces : Lis
   abbrev IsClean : ℕ → Type 0
   IsClean k = (j : ℕ) (kind : TraceFault) → j < k → is_faulty size names pieces j kind ≡ false
 
-  step-past : (k : ℕ) (limit : ℕ) (row : Option Row) → row_at names pieces k ≡ row → is_past limit row ≡ true → (n : ℕ) × (event : Option Event) × (row_at names pieces k ≡ Some (Step n event)) × (limit < n)
+  step-past : (k : ℕ) (limit : ℕ) (row : Option Row) → row_at names pieces k ≡ row
+      → is_past limit row ≡ true → (n : ℕ) × (event : Option Event)
+      × (row_at names pieces k ≡ Some (Step n event)) × (limit < n)
   step-past k limit None e h = absurd cc
   step-past k limit (Some (Step n event)) e h = (n, event, e, grind (arith, nat_tests))
   step-past k limit (Some (End read)) e h = absurd cc
@@ -309,15 +353,26 @@ module _ (names : NameLists) (sound : AreNames names) (size : ℕ) (pieces : Lis
       let parts = three (nat_le 1 k) (nat_le k 4) (not (is_whole (line_at pieces k) && is_head_line names pieces k)) h in
       let lost = not-true (is_whole (line_at pieces k) && is_head_line names pieces k) parts.2 in
       let low : 1 ≤ k = let t = parts.0 in grind (arith, nat_tests) in
-      let high : k ≤ 4 = let t = parts.1 in grind (arith, nat_tests) in
-      (low, high, λ line. unequal (is_whole (line_at pieces k) && is_head_line names pieces k) (and_from (is_whole (line_at pieces k)) (is_head_line names pieces k) line.0 (head-test k line.1 high line.2)) lost)
+      let high : k ≤ 4 = let t = parts.1 in grind (arith, nat_tests) in (
+        low,
+        high,
+        λ line. unequal (is_whole (line_at pieces k) && is_head_line names pieces k)
+            (and_from (is_whole (line_at pieces k)) (is_head_line names pieces k) line.0
+            (head-test k line.1 high line.2)) lost,
+      )
 
   bad_line-found : (k : ℕ) → is_faulty size names pieces k BadLine ≡ true → IsFaulty size names pieces k BadLine
   bad_line-found k h =
       let parts = three (is_in_body names pieces k) (has_byte pieces k) (not (is_whole (line_at pieces k) && is_some (row_at names pieces k))) h in
       let lost = not-true (is_whole (line_at pieces k) && is_some (row_at names pieces k)) parts.2 in
-      let body = body-found k parts.0 in
-      (body, parts.1, λ line. unequal (is_whole (line_at pieces k) && is_some (row_at names pieces k)) (and_from (is_whole (line_at pieces k)) (is_some (row_at names pieces k)) line.0 (body-row k line.1 body.0 line.2)) lost)
+      let body = body-found k parts.0 in (
+        body,
+        parts.1,
+        λ line. unequal (is_whole (line_at pieces k)
+            && is_some (row_at names pieces k))
+            (and_from (is_whole (line_at pieces k)) (is_some (row_at names pieces k)) line.0
+            (body-row k line.1 body.0 line.2)) lost,
+      )
 
   order-found : (k : ℕ) (order : Option (List (List ℕ))) → k ≡ 2 → order_on_line names (text_at pieces 2) ≡ order → has_unknown_thread names order ≡ true → IsFaulty size names pieces k UnknownName
   order-found k None two e h = absurd cc
@@ -337,12 +392,21 @@ module _ (names : NameLists) (sound : AreNames names) (size : ℕ) (pieces : Lis
   unknown-found : (k : ℕ) → is_faulty size names pieces k UnknownName ≡ true → IsFaulty size names pieces k UnknownName
   unknown-found k h = by (or_cases ((k == 2) && has_unknown_thread names (order_on_line names (text_in (line_at pieces k)))) (is_in_body names pieces k && has_unknown (row_at names pieces k)) h)
     where
-      by : (((k == 2) && has_unknown_thread names (order_on_line names (text_in (line_at pieces k)))) ≡ true) ⊎ ((is_in_body names pieces k && has_unknown (row_at names pieces k)) ≡ true) → IsFaulty size names pieces k UnknownName
+      by : (((k == 2) && has_unknown_thread names
+          (order_on_line names (text_in (line_at pieces k)))) ≡ true)
+          ⊎ ((is_in_body names pieces k && has_unknown (row_at names pieces k)) ≡ true)
+          → IsFaulty size names pieces k UnknownName
       by (inl e) =
           let two : k ≡ 2 = let t = (and_parts (k == 2) (has_unknown_thread names (order_on_line names (text_in (line_at pieces k)))) e).0 in grind (arith, nat_tests) in
-          order-found k (order_on_line names (text_at pieces 2)) two refl (ap (λ j. has_unknown_thread names (order_on_line names (text_at pieces j))) (sym two) ∙ (and_parts (k == 2) (has_unknown_thread names (order_on_line names (text_in (line_at pieces k)))) e).1)
+          order-found k (order_on_line names (text_at pieces 2)) two refl
+          (ap (λ j. has_unknown_thread names (order_on_line names (text_at pieces j))) (sym two)
+          ∙ (and_parts (k == 2) (has_unknown_thread names
+          (order_on_line names (text_in (line_at pieces k)))) e).1)
       by (inr e) =
-          row-unknown k (row_at names pieces k) (body-found k (and_parts (is_in_body names pieces k) (has_unknown (row_at names pieces k)) e).0) refl (and_parts (is_in_body names pieces k) (has_unknown (row_at names pieces k)) e).1
+          row-unknown k (row_at names pieces k)
+          (body-found k (and_parts (is_in_body names pieces k)
+          (has_unknown (row_at names pieces k)) e).0) refl
+          (and_parts (is_in_body names pieces k) (has_unknown (row_at names pieces k)) e).1
 
   earlier : (k : ℕ) → IsInBody names pieces k → 6 ≤ k → IsInBody names pieces (k - 1)
   earlier k body low = (omega arith, λ j before line. body.1 j (omega arith) line)
@@ -353,7 +417,9 @@ module _ (names : NameLists) (sound : AreNames names) (size : ℕ) (pieces : Lis
       let before = earlier k body low in
       let test = body-test (k - 1) before in
       let there = guarded-not (is_in_body names pieces (k - 1)) (has_byte pieces (k - 1)) (clean (k - 1) NoVerdict (omega arith)) test in
-      let line = whole (is_in_body names pieces (k - 1)) (has_byte pieces (k - 1)) (is_whole (line_at pieces (k - 1)) && is_some (row_at names pieces (k - 1))) (clean (k - 1) BadLine (omega arith)) test there in
+      let line = whole (is_in_body names pieces (k - 1)) (has_byte pieces (k - 1))
+      (is_whole (line_at pieces (k - 1)) && is_some (row_at names pieces (k - 1)))
+      (clean (k - 1) BadLine (omega arith)) test there in
       by (row_at names pieces (k - 1)) refl (and_parts (is_whole (line_at pieces (k - 1))) (is_some (row_at names pieces (k - 1))) line).1 before.0
     where
       whole : (a b c : Bool) → (a && b && not c) ≡ false → a ≡ true → b ≡ true → c ≡ true
@@ -378,7 +444,10 @@ module _ (names : NameLists) (sound : AreNames names) (size : ℕ) (pieces : Lis
           let low : 5 ≤ k - 1 = omega arith in
           inr (step.0, step-line (k - 1) step.0 step.1 (step-found (k - 1) step.0 step.1 low step.2), ap (λ r. number_in r + 1) step.2)
 
-  step-other : (k next : ℕ) (row : Option Row) → row_at names pieces k ≡ row → is_other_number next row ≡ true → (n : ℕ) × (event : Option Event) × (row_at names pieces k ≡ Some (Step n event)) × (n ≢ next)
+  step-other : (k next : ℕ) (row : Option Row) → row_at names pieces k ≡ row
+      → is_other_number next row ≡ true
+      → (n : ℕ) × (event : Option Event) × (row_at names pieces k ≡ Some (Step n event))
+      × (n ≢ next)
   step-other k next None e h = absurd cc
   step-other k next (Some (Step n event)) e h = let other = not-true (n == next) h in (n, event, e, grind (arith, nat_tests))
   step-other k next (Some (End read)) e h = absurd cc

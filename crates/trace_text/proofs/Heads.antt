@@ -276,7 +276,11 @@ order-known names order sound is long =
     let l : length (map (thread_name names) order) ≡ length names.threads =
     length-map order (thread_name names) ∙ long in grind (arith, nat_tests) in (
       ap (names_after_order names) cut
-          ∙ rw (same, lawful-known names order sound all, different-known names order sound all once),
+          ∙ rw (
+            same,
+            lawful-known names order sound all,
+            different-known names order sound all once,
+          ),
       all-known (λ word. place_of word names.threads) (thread_name names) (HasName names) order
           (thread-known names sound) all,
     )

@@ -1,4 +1,5 @@
--- The steps of a book begin every whole run over its posts, and are that run once an outcome stands.
+-- The steps of a book begin every whole run over its posts, and are that run once an outcome
+-- stands.
 use Rattle.std.proofs.Common.{◌≡◌, Option, Some, None, List, ◌++◌, sym, ◌∙◌}
 use Rattle.std.specs.Prelude.{IsSome}
 use Rattle.std.proofs.lemmas.Bool.{false≢true}
@@ -14,9 +15,13 @@ some-outcome : (o : Option Outcome) → IsSome o → (outcome : Outcome) × (o �
 some-outcome None is = absurd (false≢true is)
 some-outcome (Some outcome) is = (outcome, λ j. Some outcome)
 
-module _ (book : BookState) (lawful : IsLawful book) (posts : List (List Post)) (events : List Event) (run : IsRunOver book posts events) where
+module _ (book : BookState) (lawful : IsLawful book) (posts : List (List Post))
+    (events : List Event) (run : IsRunOver book posts events) where
   front : IsFrontOf book.plan book.deal (source_of book.posts) book.limit book.trace events
-  front = front-of book.plan book.deal (source_of book.posts) (source_of posts) book.limit book.trace events run.outcome lawful.speaks (more-keeps book.trace book.posts posts run.more) lawful.obeys run.obeys run.ends
+  front =
+      front-of book.plan book.deal (source_of book.posts) (source_of posts) book.limit book.trace
+      events run.outcome lawful.speaks (more-keeps book.trace book.posts posts run.more)
+      lawful.obeys run.obeys run.ends
 
   pub begins-runs : (rest : List Event) × (events ≡ book.trace ++ rest)
   begins-runs = front.prefix

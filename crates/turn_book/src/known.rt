@@ -2,7 +2,6 @@ ghost use Rattle.std.specs.Prelude.{◌≡◌, ◌<◌, ◌≤◌, ℕ, true, fa
 ghost use Rattle.std.specs.Prelude.{slice_set, slice_index_or};
 ghost use Rattle.std.specs.Prelude.{MatchOption};
 ghost use Rattle.std.specs.Option.{option_map};
-ghost use Rattle.pct_ask.specs.declared.ask.Post.{Post};
 ghost use Rattle.pct_ask.specs.Objects.{PostIsInRange};
 ghost use Rattle.sync_store.specs.Store.{sizes_of};
 ghost use Rattle.sync_store.specs.Effect.{Effect, applied_of};

@@ -1,8 +1,12 @@
--- Runners and the seat that serves them: what a move of one thread leaves, and what was served by the end.
-use Rattle.std.proofs.Common.{◌≡◌, ◌≢◌, ℕ, zero, suc, ◌+◌, ◌<◌, ◌≤◌, true, false, Option, Some, None, List, [], ◌∷◌, length, get_or, set, refl, sym, ap, subst, ◌∙◌, arith, ◌⊎◌, inl, inr}
+-- Runners and the seat that serves them: what a move of one thread leaves, and what was served by
+-- the end.
+use Rattle.std.proofs.Common.{◌≡◌, ◌≢◌, ℕ, zero, suc, ◌+◌, ◌<◌, ◌≤◌, true, false, Option, Some}
+use Rattle.std.proofs.Common.{None, List, [], ◌∷◌, length, get_or, set, refl, sym, ap, subst, ◌∙◌}
+use Rattle.std.proofs.Common.{arith, ◌⊎◌, inl, inr}
 use Rattle.std.specs.Prelude.{slice_get, is_some}
 use Rattle.std.proofs.lemmas.Bool.{cases_eq, false≢true}
-use Rattle.std.proofs.lemmas.List.{length-set, get_or-set_same, get_or-set_other, get_or_past, get_or_default}
+use Rattle.std.proofs.lemmas.List.{length-set, get_or-set_same, get_or-set_other, get_or_past}
+use Rattle.std.proofs.lemmas.List.{get_or_default}
 use Rattle.pct_ask.specs.declared.Deal.{Deal}
 use Rattle.pct_ask.specs.declared.event.Standing.TheVariants.{Ended as HasEnded}
 use Rattle.pct_ask.specs.Bodies.{Pending}
@@ -14,7 +18,8 @@ use Rattle.turn_lock.proofs.laws.Serving.{serves-along}
 use Rattle.turn_lock.proofs.laws.Standings.{same-owes}
 use Rattle.turn_lock.proofs.laws.SeenBooks.{within-self, within-along, same-self, same-along}
 use Rattle.worker_run.specs.declared.runner.Runner.{Runner}
-use Rattle.worker_run.specs.Served.{Follows, IsRunning, runner_at, IsCrew, AllOwe, GoesOn, Moves, IsOver, StaysOutside, IsServed}
+use Rattle.worker_run.specs.Served.{Follows, IsRunning, runner_at, IsCrew, AllOwe, GoesOn, Moves}
+use Rattle.worker_run.specs.Served.{IsOver, StaysOutside, IsServed}
 use Rattle.worker_run.proofs.Running.{running-same}
 
 -- ---- the seat goes on
@@ -22,7 +27,10 @@ pub on-self : (v : View) → GoesOn v v
 on-self v = record { within = within-self v.seen; serves = refl }
 
 pub on-along : (u v w : View) → GoesOn u v → GoesOn v w → GoesOn u w
-on-along u v w p q = record { within = within-along u.seen v.seen w.seen p.within q.within; serves = q.serves ∙ p.serves }
+on-along u v w p q = record {
+  within = within-along u.seen v.seen w.seen p.within q.within;
+  serves = q.serves ∙ p.serves;
+}
 
 pub serves-on : (v w : View) (t : ℕ) → GoesOn v w → Serves v t → Serves w t
 serves-on v w t on = serves-along t v w (sym on.serves)
@@ -36,22 +44,29 @@ moves-self t v = record { on = on-self v; others = λ u here apart. same-self u 
 pub moves-along : (t : ℕ) (u v w : View) → Moves t u v → Moves t v w → Moves t u w
 moves-along t u v w p q = record {
   on = on-along u v w p.on q.on;
-  others = λ x here apart. same-along x u.seen v.seen w.seen (p.others x here apart) (q.others x (serves-on u v x p.on here) apart);
+  others =
+      λ x here apart. same-along x u.seen v.seen w.seen (p.others x here apart)
+      (q.others x (serves-on u v x p.on here) apart);
 }
 
 -- ---- runners
 no-runner : {X : Type 0} (x : X) → None ≡ Some x → ⊥
 no-runner x e = cc
 
-pub runner-within : {B : Type 0} (runners : List (Option (Runner B))) (place : ℕ) (r : Runner B) → runner_at runners place ≡ Some r → place < length runners
+pub runner-within : {B : Type 0} (runners : List (Option (Runner B))) (place : ℕ) (r : Runner B)
+    → runner_at runners place ≡ Some r → place < length runners
 runner-within [] place r e = absurd (no-runner r e)
 runner-within (x ∷ runners) zero r e = omega arith
-runner-within (x ∷ runners) (suc place) r e = let there = runner-within runners place r e in omega arith
+runner-within (x ∷ runners) (suc place) r e = let there = runner-within runners place r e in
+    omega arith
 
 module _ {B : Type 0} (pending : B → Pending) (start : ℕ → Pending) (base : ℕ) where
   -- after a move of one thread
-  module _ (runners : List (Option (Runner B))) (v w : View) (crew : IsCrew pending start base runners v) (t place : ℕ) (at_place : t ≡ base + place) (r : Runner B) (at : runner_at runners place ≡ Some r) (moves : Moves t v w)
-      (then : Runner B) (running : IsRunning (start t) (pending then.body) then.answered t w.seen) where
+  module _ (runners : List (Option (Runner B))) (v w : View)
+      (crew : IsCrew pending start base runners v) (t place : ℕ) (at_place : t ≡ base + place)
+      (r : Runner B) (at : runner_at runners place ≡ Some r) (moves : Moves t v w)
+      (then : Runner B) (running : IsRunning (start t) (pending then.body) then.answered t
+      w.seen) where
     abbrev after : List (Option (Runner B))
     after = set runners place (Some then)
 
@@ -72,19 +87,30 @@ module _ {B : Type 0} (pending : B → Pending) (start : ℕ → Pending) (base 
       running = λ u p runner of is. elim (cases_eq p place) [
         | inl same ↦
             let own : t ≡ u = omega (arith, same, of, at_place) in
-            let mine : then ≡ runner = let both = sym at-own ∙ ap (runner_at after) (sym same) ∙ is in cc in
-            let R : ℕ → Type 0 = λ x. Serves w x × IsRunning (start x) (pending runner.body) runner.answered x w.seen in
-            let S : Runner B → Type 0 = λ x. IsRunning (start t) (pending x.body) x.answered t w.seen in
-            subst R own (serves-on v w t moves.on (crew.running t place r at_place at).0, subst S mine running)
+            let mine : then ≡ runner = let both = sym at-own ∙ ap (runner_at after) (sym same)
+            ∙ is in cc in
+            let R : ℕ → Type 0 = λ x. Serves w x
+            × IsRunning (start x) (pending runner.body) runner.answered x w.seen in
+            let S : Runner B → Type 0 = λ x.
+            IsRunning (start t) (pending x.body) x.answered t w.seen in
+            subst R own (
+              serves-on v w t moves.on (crew.running t place r at_place at).0,
+              subst S mine running,
+            )
         | inr apart ↦
-            let was = crew.running u p runner of (sym (at-other p apart) ∙ is) in
-            (serves-on v w u moves.on was.0, running-same (start u) (pending runner.body) runner.answered u v.seen w.seen (moves.others u was.0 (λ e. apart (omega (arith, e, of, at_place)))) was.1)
+            let was = crew.running u p runner of (sym (at-other p apart) ∙ is) in (
+              serves-on v w u moves.on was.0,
+              running-same (start u) (pending runner.body) runner.answered u v.seen w.seen
+                  (moves.others u was.0 (λ e. apart (omega (arith, e, of, at_place)))) was.1,
+            )
       ];
     }
 
   -- each thread of the seat follows its body
-  pub crew-follows : (runners : List (Option (Runner B))) (v : View) → IsCrew pending start base runners v → (t : ℕ) → Serves v t → Follows (start t) t v.seen
-  crew-follows runners v crew t here = let was = crew.place t here in ((crew.running t was.0 was.1 was.2 was.3).1).follows
+  pub crew-follows : (runners : List (Option (Runner B))) (v : View)
+      → IsCrew pending start base runners v → (t : ℕ) → Serves v t → Follows (start t) t v.seen
+  crew-follows runners v crew t here = let was = crew.place t here in
+      ((crew.running t was.0 was.1 was.2 was.3).1).follows
 
 -- ---- what was served by the end
 past : (book : BookState) → IsLawful book → (t : ℕ) → book.deal.threads ≤ t → posts_seen book t ≡ []
@@ -94,7 +120,8 @@ pub lawful-outside : (earlier later : BookState) → IsLawful later → StaysOut
 lawful-outside earlier later lawful t beyond none = past later lawful t beyond
 
 -- a seat that serves nobody
-pub served-nobody : (start : ℕ → Pending) (v : View) → ((t : ℕ) → Serves v t → ⊥) → IsServed start v v
+pub served-nobody : (start : ℕ → Pending) (v : View) → ((t : ℕ) → Serves v t → ⊥)
+    → IsServed start v v
 served-nobody start v nobody = record {
   within = within-self v.seen;
   serves = λ t here. here;
@@ -106,24 +133,32 @@ served-nobody start v nobody = record {
 
 module _ (start : ℕ → Pending) (v u w : View) (served : IsServed start u w) where
   -- the seat had gone on before
-  pub served-wider : Within v.seen u.seen → ((t : ℕ) → Serves v t → Serves u t) → StaysOutside v.seen u.seen → IsServed start v w
+  pub served-wider : Within v.seen u.seen → ((t : ℕ) → Serves v t → Serves u t)
+      → StaysOutside v.seen u.seen → IsServed start v w
   served-wider within serves outside = record {
     within = within-along v.seen u.seen w.seen within served.within;
     serves = λ t here. served.serves t (serves t here);
     follows = λ t here. served.follows t (serves t here);
     speaks = λ t here. served.speaks t (serves t here);
-    outside = λ t beyond none. served.outside t beyond (outside t (let same = ap (λ (d : Deal). d.threads) ((served.within).making).deal in omega (arith, same)) none);
+    outside =
+        λ t beyond none. served.outside t beyond
+        (outside t (let same = ap (λ (d : Deal). d.threads) ((served.within).making).deal in
+        omega (arith, same)) none);
     done = elim served.done [
       | inl over ↦ inl over
       | inr ended ↦ inr (λ t here. ended t (serves t here))
     ];
   }
 
-pub same-standing : (t : ℕ) (one other : BookState) → SameOf t one other → standing_of other t ≡ standing_of one t
-same-standing t one other same = ap standing_by (ap (λ ps. slice_get ps (length (pairs_of other t))) same.posts ∙ ap (λ (es : List _). slice_get (posts_seen one t) (length es)) same.pairs)
+pub same-standing : (t : ℕ) (one other : BookState) → SameOf t one other
+    → standing_of other t ≡ standing_of one t
+same-standing t one other same =
+    ap standing_by (ap (λ ps. slice_get ps (length (pairs_of other t))) same.posts
+    ∙ ap (λ (es : List _). slice_get (posts_seen one t) (length es)) same.pairs)
 
 -- ---- one runner
-module _ {B : Type 0} (pending : B → Pending) (start : ℕ → Pending) (t : ℕ) (runner : Runner B) (v : View) (own : IsCrew pending start t (Some runner ∷ []) v) where
+module _ {B : Type 0} (pending : B → Pending) (start : ℕ → Pending) (t : ℕ) (runner : Runner B)
+    (v : View) (own : IsCrew pending start t (Some runner ∷ []) v) where
   pub own-serves : Serves v t
   own-serves = (own.running t 0 runner (omega arith) refl).0
 
@@ -132,24 +167,32 @@ module _ {B : Type 0} (pending : B → Pending) (start : ℕ → Pending) (t : �
 
   pub own-thread : (u : ℕ) → Serves v u → u ≡ t
   own-thread u here = by (own.place u here) where
-    by : ((q : ℕ) × (r : Runner B) × (u ≡ t + q) × (runner_at (Some runner ∷ []) q ≡ Some r)) → u ≡ t
+    by : ((q : ℕ) × (r : Runner B) × (u ≡ t + q) × (runner_at (Some runner ∷ []) q ≡ Some r))
+        → u ≡ t
     by (zero, r, is, at) = omega (arith, is)
     by (suc q, r, is, at) = absurd cc
 
   -- it was served until the run was over or it had ended
-  pub own-served : (w : View) (now : Pending) (answered : ℕ) → GoesOn v w → IsLawful w.seen → IsRunning (start t) now answered t w.seen → IsOver w.seen ⊎ ((u : ℕ) → Serves v u → standing_of w.seen u ≡ HasEnded) → IsServed start v w
+  pub own-served : (w : View) (now : Pending) (answered : ℕ) → GoesOn v w → IsLawful w.seen
+      → IsRunning (start t) now answered t w.seen
+      → IsOver w.seen ⊎ ((u : ℕ) → Serves v u → standing_of w.seen u ≡ HasEnded)
+      → IsServed start v w
   own-served w now answered on lawful running done = record {
     within = on.within;
     serves = λ u here. serves-on v w u on here;
-    follows = λ u here. let F : ℕ → Type 0 = λ x. Follows (start x) x w.seen in subst F (sym (own-thread u here)) running.follows;
+    follows = λ u here. let F : ℕ → Type 0 = λ x. Follows (start x) x w.seen in
+        subst F (sym (own-thread u here)) running.follows;
     speaks = λ u here. lawful.speaks;
     outside = lawful-outside v.seen w.seen lawful;
     done = done;
   }
 
 -- ---- some runners
-module _ {B : Type 0} (pending : B → Pending) (start : ℕ → Pending) (after : List (Option (Runner B))) (v w : View) (on : GoesOn v w) (lawful : IsLawful w.seen) (crew : IsCrew pending start 0 after w) where
-  pub crew-served : IsOver w.seen ⊎ ((u : ℕ) → Serves w u → standing_of w.seen u ≡ HasEnded) → IsServed start v w
+module _ {B : Type 0} (pending : B → Pending) (start : ℕ → Pending)
+    (after : List (Option (Runner B))) (v w : View) (on : GoesOn v w) (lawful : IsLawful w.seen)
+    (crew : IsCrew pending start 0 after w) where
+  pub crew-served : IsOver w.seen ⊎ ((u : ℕ) → Serves w u → standing_of w.seen u ≡ HasEnded)
+      → IsServed start v w
   crew-served done = record {
     within = on.within;
     serves = λ u here. serves-on v w u on here;
@@ -163,46 +206,62 @@ module _ {B : Type 0} (pending : B → Pending) (start : ℕ → Pending) (after
   }
 
 -- a place that has a runner
-pub some-at : {B : Type 0} (runners : List (Option (Runner B))) (place : ℕ) (o : Option (Runner B)) → place < length runners → o ≡ get_or runners place o → is_some o ≡ true → (p : ℕ) × (r : Runner B) × (runner_at runners p ≡ Some r)
+pub some-at : {B : Type 0} (runners : List (Option (Runner B))) (place : ℕ) (o : Option (Runner B))
+    → place < length runners → o ≡ get_or runners place o → is_some o ≡ true
+    → (p : ℕ) × (r : Runner B) × (runner_at runners p ≡ Some r)
 some-at runners place None within is e = absurd (false≢true e)
-some-at runners place (Some r) within is e = (place, r, get_or_default runners place None (Some r) within ∙ sym is)
+some-at runners place (Some r) within is e =
+    (place, r, get_or_default runners place None (Some r) within ∙ sym is)
 
 -- what is read of a place and put there again changes nothing
-pub set-read : {X : Type 0} (items : List X) (place : ℕ) (x : X) → set items place (get_or items place x) ≡ items
+pub set-read : {X : Type 0} (items : List X) (place : ℕ) (x : X)
+    → set items place (get_or items place x) ≡ items
 set-read [] place x = refl
 set-read (y ∷ items) zero x = refl
 set-read (y ∷ items) (suc place) x = ap (λ l. y ∷ l) (set-read items place x)
 
 -- what was read of a place
-pub runner-read : {B : Type 0} (runners : List (Option (Runner B))) (place : ℕ) (o : Option (Runner B)) (r : Runner B) → place < length runners → get_or runners place o ≡ Some r → runner_at runners place ≡ Some r
+pub runner-read : {B : Type 0} (runners : List (Option (Runner B))) (place : ℕ)
+    (o : Option (Runner B)) (r : Runner B) → place < length runners
+    → get_or runners place o ≡ Some r → runner_at runners place ≡ Some r
 runner-read runners place o r within is = get_or_default runners place None o within ∙ is
 
-pub none-read : {B : Type 0} (runners : List (Option (Runner B))) (place : ℕ) (o : Option (Runner B)) → place < length runners → ((r : Runner B) → get_or runners place o ≡ Some r → ⊥) → runner_at runners place ≡ None
+pub none-read : {B : Type 0} (runners : List (Option (Runner B))) (place : ℕ)
+    (o : Option (Runner B)) → place < length runners
+    → ((r : Runner B) → get_or runners place o ≡ Some r → ⊥) → runner_at runners place ≡ None
 none-read runners place o within not = by (get_or runners place o) refl where
   by : (x : Option (Runner _)) → get_or runners place o ≡ x → runner_at runners place ≡ None
   by None is = get_or_default runners place None o within ∙ is
   by (Some r) is = absurd (not r is)
 
 -- a place without a runner may be emptied
-pub crew-emptied : {B : Type 0} (pending : B → Pending) (start : ℕ → Pending) (runners : List (Option (Runner B))) (place : ℕ) (v : View) → runner_at runners place ≡ None → IsCrew pending start 0 runners v → IsCrew pending start 0 (set runners place None) v
+pub crew-emptied : {B : Type 0} (pending : B → Pending) (start : ℕ → Pending)
+    (runners : List (Option (Runner B))) (place : ℕ) (v : View) → runner_at runners place ≡ None
+    → IsCrew pending start 0 runners v → IsCrew pending start 0 (set runners place None) v
 crew-emptied pending start runners place v none crew = record {
   place = λ t here.
       let was = crew.place t here in
-      let apart : was.0 ≢ place = λ e. (let both = sym none ∙ ap (runner_at runners) (sym e) ∙ was.3 in cc) in
+      let apart : was.0 ≢ place = λ e.
+      (let both = sym none ∙ ap (runner_at runners) (sym e) ∙ was.3 in cc) in
       (was.0, was.1, was.2, get_or-set_other runners place was.0 None None apart ∙ was.3);
   running = λ t p r of is. elim (cases_eq p place) [
-    | inl same ↦ absurd (let both = sym (emptied runners place none) ∙ ap (runner_at (set runners place None)) (sym same) ∙ is in cc)
-    | inr apart ↦ crew.running t p r of (sym (get_or-set_other runners place p None None apart) ∙ is)
+    | inl same ↦ absurd (let both = sym (emptied runners place none)
+        ∙ ap (runner_at (set runners place None)) (sym same) ∙ is in cc)
+    | inr apart ↦ crew.running t p r of
+        (sym (get_or-set_other runners place p None None apart) ∙ is)
   ];
 } where
-  emptied : {B : Type 0} (runners : List (Option (Runner B))) (place : ℕ) → runner_at runners place ≡ None → runner_at (set runners place None) place ≡ None
+  emptied : {B : Type 0} (runners : List (Option (Runner B))) (place : ℕ)
+      → runner_at runners place ≡ None → runner_at (set runners place None) place ≡ None
   emptied [] place none = none
   emptied (x ∷ runners) zero none = refl
   emptied (x ∷ runners) (suc place) none = emptied runners place none
 
 -- ---- the first posts, one place after another
-pub record IsBegun {B : Type 0} (pending : B → Pending) (first : List (Option (Runner B))) (v : View) (place : ℕ) (runners : List (Option (Runner B))) (w : View) : Type 0 where
-  pub crew : (start : ℕ → Pending) → IsCrew pending start 0 first v → IsCrew pending start 0 runners w
+pub record IsBegun {B : Type 0} (pending : B → Pending) (first : List (Option (Runner B)))
+    (v : View) (place : ℕ) (runners : List (Option (Runner B))) (w : View) : Type 0 where
+  pub crew : (start : ℕ → Pending) → IsCrew pending start 0 first v
+      → IsCrew pending start 0 runners w
   pub on : GoesOn v w
   pub long : length runners ≡ length first
   pub posted : (t : ℕ) → Serves w t → t < place → owes_of w.seen t ≡ false
@@ -211,17 +270,27 @@ pub record IsBegun {B : Type 0} (pending : B → Pending) (first : List (Option 
 
 module _ {B : Type 0} (pending : B → Pending) (first : List (Option (Runner B))) (v : View) where
   pub begun-first : AllOwe v → IsBegun pending first v 0 first v
-  begun-first owe = record { crew = λ start crew. crew; on = on-self v; long = refl; posted = λ t here below. absurd (omega arith); owe = λ t here from. owe t here; lawful = λ t here below. absurd (omega arith) }
+  begun-first owe = record {
+    crew = λ start crew. crew;
+    on = on-self v;
+    long = refl;
+    posted = λ t here below. absurd (omega arith);
+    owe = λ t here from. owe t here;
+    lawful = λ t here below. absurd (omega arith);
+  }
 
-  module _ (place : ℕ) (runners : List (Option (Runner B))) (w : View) (begun : IsBegun pending first v place runners w) where
+  module _ (place : ℕ) (runners : List (Option (Runner B))) (w : View)
+      (begun : IsBegun pending first v place runners w) where
     -- no runner here
-    pub begun-none : (start : ℕ → Pending) → IsCrew pending start 0 first v → runner_at runners place ≡ None → IsBegun pending first v (place + 1) runners w
+    pub begun-none : (start : ℕ → Pending) → IsCrew pending start 0 first v
+        → runner_at runners place ≡ None → IsBegun pending first v (place + 1) runners w
     begun-none start crew none =
         let nobody : Serves w place → ⊥ = λ here.
         let was = (begun.crew start crew).place place here in
         let same : was.0 ≡ place = (let e = was.2 in omega (arith, e)) in
         (let both = sym none ∙ ap (runner_at runners) (sym same) ∙ was.3 in cc) in
-        let below : (t : ℕ) → Serves w t → t < place + 1 → t < place = λ t here under. elim (cases_eq t place) [
+        let below : (t : ℕ) → Serves w t → t < place + 1 → t < place =
+        λ t here under. elim (cases_eq t place) [
           | inl same ↦ absurd (nobody (subst (Serves w) same here))
           | inr apart ↦ omega (arith, apart)
         ] in
@@ -235,14 +304,19 @@ module _ {B : Type 0} (pending : B → Pending) (first : List (Option (Runner B)
         }
 
     -- the runner here has posted
-    module _ (x : View) (r then : Runner B) (at : runner_at runners place ≡ Some r) (moves : Moves place w x)
-        (runs : (start : Pending) → IsRunning start (pending r.body) r.answered place w.seen → IsRunning start (pending then.body) then.answered place x.seen) where
-      pub begun-crew : (start : ℕ → Pending) → IsCrew pending start 0 first v → IsCrew pending start 0 (set runners place (Some then)) x
+    module _ (x : View) (r then : Runner B) (at : runner_at runners place ≡ Some r)
+        (moves : Moves place w x)
+        (runs : (start : Pending) → IsRunning start (pending r.body) r.answered place w.seen
+        → IsRunning start (pending then.body) then.answered place x.seen) where
+      pub begun-crew : (start : ℕ → Pending) → IsCrew pending start 0 first v
+          → IsCrew pending start 0 (set runners place (Some then)) x
       begun-crew start crew =
           let here = begun.crew start crew in
-          crew-moved pending start 0 runners w x here place place (omega arith) r at moves then (runs (start place) (here.running place place r (omega arith) at).1)
+          crew-moved pending start 0 runners w x here place place (omega arith) r at moves then
+          (runs (start place) (here.running place place r (omega arith) at).1)
 
-      pub begun-more : IsLawful x.seen → owes_of x.seen place ≡ false → IsBegun pending first v (place + 1) (set runners place (Some then)) x
+      pub begun-more : IsLawful x.seen → owes_of x.seen place ≡ false
+          → IsBegun pending first v (place + 1) (set runners place (Some then)) x
       begun-more lawful posted = record {
         crew = begun-crew;
         on = on-along v w x begun.on moves.on;
@@ -251,23 +325,28 @@ module _ {B : Type 0} (pending : B → Pending) (first : List (Option (Runner B)
           | inl same ↦ ap (owes_of x.seen) same ∙ posted
           | inr apart ↦
               let before = serves-back w x t moves.on here in
-              same-owes t w.seen x.seen (moves.others t before apart) ∙ begun.posted t before (omega (arith, apart))
+              same-owes t w.seen x.seen (moves.others t before apart)
+              ∙ begun.posted t before (omega (arith, apart))
         ];
         owe = λ t here from.
             let before = serves-back w x t moves.on here in
-            same-owes t w.seen x.seen (moves.others t before (λ e. omega (arith, e))) ∙ begun.owe t before (omega arith);
+            same-owes t w.seen x.seen (moves.others t before (λ e. omega (arith, e)))
+            ∙ begun.owe t before (omega arith);
         lawful = λ t here under. lawful;
       }
 
     -- every place was tried
-    pub begun-all : (start : ℕ → Pending) → IsCrew pending start 0 first v → length first ≤ place → (t : ℕ) → Serves w t → t < place
+    pub begun-all : (start : ℕ → Pending) → IsCrew pending start 0 first v → length first ≤ place
+        → (t : ℕ) → Serves w t → t < place
     begun-all start crew past t here =
         let was = (begun.crew start crew).place t here in
         let there = runner-within runners was.0 was.1 was.3 in
         omega (arith, was.2, begun.long, there)
 
 -- ---- a thread of the seat and its runner
-pub place-read : {B : Type 0} (pending : B → Pending) (start : ℕ → Pending) (runners : List (Option (Runner B))) (v : View) → IsCrew pending start 0 runners v → (t : ℕ) → Serves v t → (o : Option (Runner B)) (r : Runner B) → get_or runners t o ≡ Some r
+pub place-read : {B : Type 0} (pending : B → Pending) (start : ℕ → Pending)
+    (runners : List (Option (Runner B))) (v : View) → IsCrew pending start 0 runners v → (t : ℕ)
+    → Serves v t → (o : Option (Runner B)) (r : Runner B) → get_or runners t o ≡ Some r
     → (runner_at runners t ≡ Some r) × IsRunning (start t) (pending r.body) r.answered t v.seen
 place-read pending start runners v crew t here o r is =
     let was = crew.place t here in
@@ -276,9 +355,15 @@ place-read pending start runners v crew t here o r is =
     (at, (crew.running t t r (omega arith) at).1)
 
 -- without a runner the seat serves nobody
-pub nobody-serves : {B : Type 0} (pending : B → Pending) (start : ℕ → Pending) (runners : List (Option (Runner B))) (v : View) → IsCrew pending start 0 runners v → ((place : ℕ) → runner_at runners place ≡ None) → (t : ℕ) → Serves v t → ⊥
-nobody-serves pending start runners v crew none t here = let was = crew.place t here in let both = sym (none was.0) ∙ was.3 in cc
+pub nobody-serves : {B : Type 0} (pending : B → Pending) (start : ℕ → Pending)
+    (runners : List (Option (Runner B))) (v : View) → IsCrew pending start 0 runners v
+    → ((place : ℕ) → runner_at runners place ≡ None) → (t : ℕ) → Serves v t → ⊥
+nobody-serves pending start runners v crew none t here = let was = crew.place t here in
+    let both = sym (none was.0) ∙ was.3 in cc
 
 -- what was served after the seat went on
-pub served-on : (start : ℕ → Pending) (v u w : View) → GoesOn v u → IsLawful u.seen → IsServed start u w → IsServed start v w
-served-on start v u w on lawful served = served-wider start v u w served on.within (λ t here. serves-on v u t on here) (lawful-outside v.seen u.seen lawful)
+pub served-on : (start : ℕ → Pending) (v u w : View) → GoesOn v u → IsLawful u.seen
+    → IsServed start u w → IsServed start v w
+served-on start v u w on lawful served =
+    served-wider start v u w served on.within (λ t here. serves-on v u t on here)
+    (lawful-outside v.seen u.seen lawful)

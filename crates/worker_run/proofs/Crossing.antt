@@ -21,5 +21,8 @@ module _ (P B : RattleType) (policy : Ghosts P.Denot) (p : IsSend P) (b : IsSend
   part-send = search (sendable, crosses, seat-send) depth 40 fits 20000
 
 -- what a closure captures may go to a thread, each by itself
-pub captures-send : (name : Sym) (rows : List RattleType) → AllSend (shape (type_at name rows)).fields → IsSend (TupleAt name rows)
-captures-send name rows all = recorded_send (Struct (shape (type_at name rows))) _ _ (type_at name rows).to_one (struct_send (shape (type_at name rows)) all)
+pub captures-send : (name : Sym) (rows : List RattleType)
+    → AllSend (shape (type_at name rows)).fields → IsSend (TupleAt name rows)
+captures-send name rows all =
+    recorded_send (Struct (shape (type_at name rows))) _ _ (type_at name rows).to_one
+    (struct_send (shape (type_at name rows)) all)

@@ -20,8 +20,12 @@ use Rattle.worker_run.specs.declared.batch.Stage.{Stage}
 use Rattle.worker_run.proofs.Eachs.{get-more-new, get-within, each-more}
 use Rattle.worker_run.proofs.Finals.{cast-serves, cast-bodies, cast-crew}
 
-pub no-items : {X Y : Type 0} (R : X → Y → Type 0) (xs : List X) (ys : List Y) → xs ≡ [] → ys ≡ [] → Each R xs ys
-no-items R xs ys none nothing = record { long = ap length nothing ∙ sym (ap length none); each = λ i x y here there. absurd (let both = sym (ap (λ l. slice_get l i) none) ∙ here in cc) }
+pub no-items : {X Y : Type 0} (R : X → Y → Type 0) (xs : List X) (ys : List Y) → xs ≡ [] → ys ≡ []
+    → Each R xs ys
+no-items R xs ys none nothing = record {
+  long = ap length nothing ∙ sym (ap length none);
+  each = λ i x y here there. absurd (let both = sym (ap (λ l. slice_get l i) none) ∙ here in cc);
+}
 
 -- lists of one item each
 pub each-alone : {X Y : Type 0} (R : X → Y → Type 0) (no-xs xs : List X) (no-ys ys : List Y) (x : X)
@@ -49,8 +53,11 @@ alone-last all front x long is =
     ∙ get-more-new front x
 
 -- what a call wrote into a list through its slice
-pub written : {A : Type 0} (k : ℕ) (new old : List A) → length new ≡ k → take k (new ++ drop (length new) old) ≡ new
-written k new old long = ap (λ n. take n (new ++ drop (length new) old)) (sym long) ∙ take-append_seam new (drop (length new) old)
+pub written : {A : Type 0} (k : ℕ) (new old : List A) → length new ≡ k
+    → take k (new ++ drop (length new) old) ≡ new
+written k new old long =
+    ap (λ n. take n (new ++ drop (length new) old)) (sym long)
+    ∙ take-append_seam new (drop (length new) old)
 
 -- ---- all tests of a batch, on their locks
 module _ {P : Type 0} {policy : Ghosts P} {B : Type 0} (pending : B → Pending) (plan : P → Plan)

@@ -134,9 +134,14 @@ module _ {P : Type 0} {policy : Ghosts P} {B : Type 0} (pending : B → Pending)
       let whole : IsPlayed (plan test.policy) test.deal bodies test.limit played.events
       played.outcome = subst M made_is by in
       let S : Plan → Type 0 = λ p. SpeaksOf p test.deal.threads in
-      let W : Plan → Type 0 = λ p. IsPlayed p test.deal bodies test.limit played.events played.outcome in
+      let W : Plan → Type 0 = λ p. IsPlayed p test.deal bodies test.limit played.events
+      played.outcome in
       record {
         played = whole;
-        by_points = λ order points e. points-run test.deal bodies order points test.limit played.events played.outcome (subst S e asked.speaks) (subst W e whole);
-        by_events = λ order events e. events-run test.deal bodies order events test.limit played.events played.outcome (subst S e asked.speaks) (subst W e whole);
+        by_points =
+            λ order points e. points-run test.deal bodies order points test.limit played.events
+            played.outcome (subst S e asked.speaks) (subst W e whole);
+        by_events =
+            λ order events e. events-run test.deal bodies order events test.limit played.events
+            played.outcome (subst S e asked.speaks) (subst W e whole);
       }

@@ -1,5 +1,6 @@
 -- Threads of a batch are started one place after another: what was served in the end.
-use Rattle.std.proofs.Common.{◌≡◌, ℕ, List, [], ◌∷◌, ◌++◌, length, map, sym, ap, subst, ◌∙◌, ◌⊎◌, inl, inr}
+use Rattle.std.proofs.Common.{◌≡◌, ℕ, List, [], ◌∷◌, ◌++◌, length, map, sym, ap, subst, ◌∙◌, ◌⊎◌}
+use Rattle.std.proofs.Common.{inl, inr}
 use Rattle.std.specs.Prelude.{slice_get, Vec}
 use Rattle.policy_pick.specs.declared.policy.Policy.{Ghosts}
 use Rattle.pct_ask.specs.Bodies.{Pending}
@@ -10,9 +11,14 @@ use Rattle.worker_run.specs.declared.batch.Crew.{Crew}
 use Rattle.worker_run.specs.declared.batch.Part.{Part}
 use Rattle.worker_run.proofs.Loops.{placed-either}
 
-module _ {P : Type 0} {policy : Ghosts P} {B : Type 0} {A : Type 0} (pending : B → Pending) (stages : List (Stage P B)) (crews : List (Crew P B policy)) (places : List (Vec (Part P B policy) A)) where
+module _ {P : Type 0} {policy : Ghosts P} {B : Type 0} {A : Type 0} (pending : B → Pending)
+    (stages : List (Stage P B)) (crews : List (Crew P B policy))
+    (places : List (Vec (Part P B policy) A)) where
   -- the last place's thread, and those before it
-  pub told-last : (parts : Vec (Part P B policy) A) (all : List (Vec (Part P B policy) A)) (after : List (Crew P B policy)) (t : ℕ) → t ≡ length places → all ≡ places ++ parts ∷ [] → AreToldBeside pending stages crews places t parts.items after → AreTold pending stages crews all after
+  pub told-last : (parts : Vec (Part P B policy) A) (all : List (Vec (Part P B policy) A))
+      (after : List (Crew P B policy)) (t : ℕ) → t ≡ length places → all ≡ places ++ parts ∷ []
+      → AreToldBeside pending stages crews places t parts.items after
+      → AreTold pending stages crews all after
   told-last parts all after n last is b =
       let T : List (Vec (Part P B policy) A) → Type 0 = λ x. AreTold pending stages crews x after in
       subst T (sym is) (record {
@@ -27,8 +33,11 @@ module _ {P : Type 0} {policy : Ghosts P} {B : Type 0} {A : Type 0} (pending : B
       })
 
   -- the thread was started, and joined after the others
-  pub told-joined : (t : ℕ) (parts back : List (Part P B policy)) (mid after : List (Crew P B policy)) → map is_there back ≡ map is_there parts → AreTold pending stages crews places mid → AreSeats stages after
-      → ((i u : ℕ) → ToldAt pending stages mid i u → ToldAt pending stages after i u) → ((i : ℕ) → IsThere back i → ToldAt pending stages after i t)
+  pub told-joined : (t : ℕ) (parts back : List (Part P B policy))
+      (mid after : List (Crew P B policy)) → map is_there back ≡ map is_there parts
+      → AreTold pending stages crews places mid → AreSeats stages after
+      → ((i u : ℕ) → ToldAt pending stages mid i u → ToldAt pending stages after i u)
+      → ((i : ℕ) → IsThere back i → ToldAt pending stages after i t)
       → AreToldBeside pending stages crews places t parts after
   told-joined t parts back mid after same told seats kept joined = record {
     told = record {
@@ -40,10 +49,13 @@ module _ {P : Type 0} {policy : Ghosts P} {B : Type 0} {A : Type 0} (pending : B
   }
 
   -- it couldn't be started: its parts were taken in by the crews, but for those that were served
-  pub told-without : (t : ℕ) (parts back : List (Part P B policy)) (taken mid after : List (Crew P B policy))
-      → ((i u : ℕ) → Holds crews i u → Holds taken i u) → ((i : ℕ) → IsThere parts i → Holds taken i t ⊎ IsThere back i)
+  pub told-without : (t : ℕ) (parts back : List (Part P B policy))
+      (taken mid after : List (Crew P B policy))
+      → ((i u : ℕ) → Holds crews i u → Holds taken i u)
+      → ((i : ℕ) → IsThere parts i → Holds taken i t ⊎ IsThere back i)
       → AreTold pending stages taken places mid → AreSeats stages after
-      → ((i u : ℕ) → ToldAt pending stages mid i u → ToldAt pending stages after i u) → ((i : ℕ) → IsThere back i → ToldAt pending stages after i t)
+      → ((i u : ℕ) → ToldAt pending stages mid i u → ToldAt pending stages after i u)
+      → ((i : ℕ) → IsThere back i → ToldAt pending stages after i t)
       → AreToldBeside pending stages crews places t parts after
   told-without t parts back taken mid after kept took told seats later joined = record {
     told = record {
@@ -58,5 +70,12 @@ module _ {P : Type 0} {policy : Ghosts P} {B : Type 0} {A : Type 0} (pending : B
   }
 
   -- the same parts, told of by another list
-  pub beside-same : (t : ℕ) (parts back : List (Part P B policy)) (after : List (Crew P B policy)) → map is_there back ≡ map is_there parts → AreToldBeside pending stages crews places t back after → AreToldBeside pending stages crews places t parts after
-  beside-same t parts back after same b = record { told = b.told; beside = λ i there. b.beside i (ap (λ (l : List _). slice_get l i) same ∙ there) }
+  pub beside-same : (t : ℕ) (parts back : List (Part P B policy)) (after : List (Crew P B policy))
+      → map is_there back ≡ map is_there parts
+      → AreToldBeside pending stages crews places t back after
+      → AreToldBeside pending stages crews places t parts after
+  beside-same t parts back after same b = record {
+    told = b.told;
+    beside = λ i there.
+        b.beside i (ap (λ (l : List _). slice_get l i) same ∙ there);
+  }

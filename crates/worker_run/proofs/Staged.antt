@@ -70,7 +70,9 @@ module _ (bodies : List Pending) where
   pub told-left : (t : ℕ) (a b w : View) → IsJoin a b w → IsThreadServed bodies t a
       → IsThreadTold bodies t w
   told-left t a b w j served = record {
-    served = thread-later t a w served j.seen.0 (j.own t served.serves) (joined-left a b w t j.is served.serves) j.obeys;
+    served =
+        thread-later t a w served j.seen.0 (j.own t served.serves)
+        (joined-left a b w t j.is served.serves) j.obeys;
     obeys = j.obeys;
     told = joined-outcome a b w j.is;
   }
@@ -78,18 +80,27 @@ module _ (bodies : List Pending) where
   pub told-right : (t : ℕ) (a b w : View) → IsJoin a b w → IsThreadServed bodies t b
       → IsThreadTold bodies t w
   told-right t a b w j served = record {
-    served = thread-later t b w served j.seen.1 (j.theirs t served.serves) (joined-right a b w t j.is served.serves) j.obeys;
+    served =
+        thread-later t b w served j.seen.1 (j.theirs t served.serves)
+        (joined-right a b w t j.is served.serves) j.obeys;
     obeys = j.obeys;
     told = joined-outcome a b w j.is;
   }
 
   pub told-crew : (t : ℕ) (v w : View) → IsServed (pending_of bodies) v w → IsLawful w.seen
       → Serves v t → IsThreadTold bodies t w
-  told-crew t v w served lawful here = record { served = served-thread t v w served here; obeys = lawful.obeys; told = lawful.outcome }
+  told-crew t v w served lawful here = record {
+    served = served-thread t v w served here;
+    obeys = lawful.obeys;
+    told = lawful.outcome;
+  }
 
 -- ---- a part is taken in again
-module _ {B : Type 0} (pending : B → Pending) (start : ℕ → Pending) (runners : List (Option (Runner B))) (t : ℕ) (runner : Runner B) (v mine w : View) (within : t < length runners) (j : IsJoin v mine w)
-    (crew : IsCrew pending start 0 runners v) (own : IsCrew pending start t (Some runner ∷ []) mine) where
+module _ {B : Type 0} (pending : B → Pending) (start : ℕ → Pending)
+    (runners : List (Option (Runner B))) (t : ℕ) (runner : Runner B) (v mine w : View)
+    (within : t < length runners) (j : IsJoin v mine w)
+    (crew : IsCrew pending start 0 runners v)
+    (own : IsCrew pending start t (Some runner ∷ []) mine) where
   abbrev back : List (Option (Runner B))
   back = set runners t (Some runner)
 
@@ -108,17 +119,31 @@ module _ {B : Type 0} (pending : B → Pending) (start : ℕ → Pending) (runne
             | inl same ↦ (t, runner, (let e = was.2 in omega (arith, e, same)), back-own)
             | inr apart ↦ (was.0, was.1, was.2, back-other was.0 apart ∙ was.3)
           ]
-      | inr right ↦ (t, runner, (let e = own-thread pending start t runner mine own u right in omega (arith, e)), back-own)
+      | inr right ↦ (
+        t,
+        runner,
+        (let e = own-thread pending start t runner mine own u right in
+            omega (arith, e)),
+        back-own,
+      )
     ];
     running = λ u q r of is. elim (cases_eq q t) [
       | inl same ↦
-          let x : runner ≡ r = let both = sym back-own ∙ ap (runner_at back) (sym same) ∙ is in cc in
+          let x : runner ≡ r = let both = sym back-own ∙ ap (runner_at back) (sym same) ∙ is in
+          cc in
           let was = own.running u 0 runner (omega (arith, of, same)) refl in
-          let R : Runner B → Type 0 = λ y. IsRunning (start u) (pending y.body) y.answered u w.seen in
-          (joined-right v mine w u j.is was.0, subst R x (running-same (start u) (pending runner.body) runner.answered u mine.seen w.seen (j.theirs u was.0) was.1))
+          let R : Runner B → Type 0 = λ y.
+          IsRunning (start u) (pending y.body) y.answered u w.seen in (
+            joined-right v mine w u j.is was.0,
+            subst R x (running-same (start u) (pending runner.body) runner.answered u mine.seen
+                w.seen (j.theirs u was.0) was.1),
+          )
       | inr apart ↦
-          let was = crew.running u q r of (sym (back-other q apart) ∙ is) in
-          (joined-left v mine w u j.is was.0, running-same (start u) (pending r.body) r.answered u v.seen w.seen (j.own u was.0) was.1)
+          let was = crew.running u q r of (sym (back-other q apart) ∙ is) in (
+            joined-left v mine w u j.is was.0,
+            running-same (start u) (pending r.body) r.answered u v.seen w.seen (j.own u was.0)
+                was.1,
+          )
     ];
   }
 
@@ -129,7 +154,9 @@ taken-owe v mine w j owe owes u here = elim (joined-either v mine w u j.is here)
 ]
 
 -- ---- by the end
-all-ended : (seen : BookState) (n : ℕ) → ((t : ℕ) → t < n → IsOver seen ⊎ (standing_of seen t ≡ HasEnded)) → IsOver seen ⊎ ((t : ℕ) → t < n → standing_of seen t ≡ HasEnded)
+all-ended : (seen : BookState) (n : ℕ)
+    → ((t : ℕ) → t < n → IsOver seen ⊎ (standing_of seen t ≡ HasEnded))
+    → IsOver seen ⊎ ((t : ℕ) → t < n → standing_of seen t ≡ HasEnded)
 all-ended seen zero each = inr (λ t below. absurd (omega arith))
 all-ended seen (suc n) each = elim (all-ended seen n (λ t below. each t (omega arith))) [
   | inl over ↦ inl over

@@ -11,23 +11,51 @@ use Rattle.pct_top.specs.Saying.{SaysLine}
 use Rattle.pct_main.specs.Own.{IsPut}
 use Rattle.pct_main.proofs.put_answer.Goals as goal
 
-module _ (text : List ℕ) (out out' err err' : StreamTold) (part : IsPartAppended text out.written out'.written) where
+module _ (text : List ℕ) (out out' err err' : StreamTold)
+    (part : IsPartAppended text out.written out'.written) where
   abbrev Is : Refusal → Type 0
-  Is refusal = SaysLine (refusal_line refusal) err err' → IsPut text out out' err err' (status_of_refusal refusal)
+  Is refusal = SaysLine (refusal_line refusal) err err'
+      → IsPut text out out' err err' (status_of_refusal refusal)
 
-  by_error : (error : SinkError) (refusal : Refusal) → IsOfSink error refusal → (error ≡ Failed → Rose out.faults out'.faults) → (error ≡ NoMemory → Rose out.shorts out'.shorts) → Is refusal
+  by_error : (error : SinkError) (refusal : Refusal) → IsOfSink error refusal
+      → (error ≡ Failed → Rose out.faults out'.faults)
+      → (error ≡ NoMemory → Rose out.shorts out'.shorts) → Is refusal
   by_error Failed refusal is failed short = subst Is (sym is) (λ says. (failed refl, part, says))
   by_error NoMemory refusal is failed short = subst Is (sym is) (λ says. (short refl, part, says))
 
-  refused : (error : SinkError) (refusal : Refusal) (status : Status) → IsOfSink error refusal → (error ≡ Failed → Rose out.faults out'.faults) → (error ≡ NoMemory → Rose out.shorts out'.shorts) → status ≡ status_of_refusal refusal → SaysLine (refusal_line refusal) err err'
+  refused : (error : SinkError) (refusal : Refusal) (status : Status) → IsOfSink error refusal
+      → (error ≡ Failed → Rose out.faults out'.faults)
+      → (error ≡ NoMemory → Rose out.shorts out'.shorts) → status ≡ status_of_refusal refusal
+      → SaysLine (refusal_line refusal) err err'
       → IsPut text out out' err err' status
-  refused error refusal status is failed short ends says = subst (IsPut text out out' err err') (sym ends) (by_error error refusal is failed short says)
+  refused error refusal status is failed short ends says =
+      subst (IsPut text out out' err err') (sym ends) (by_error error refusal is failed short says)
 
 pub returns-in-Err : goal.returns-in-Err
 returns-in-Err g c =
-    let out : StreamTold = record { written = g.O.Sink.written c.args.out.now; faults = g.O.Sink.faults c.args.out.now; shorts = g.O.Sink.shorts c.args.out.now } in
-    let out' : StreamTold = record { written = g.O.Sink.written c.put.new.self; faults = g.O.Sink.faults c.put.new.self; shorts = g.O.Sink.shorts c.put.new.self } in
-    let err : StreamTold = record { written = g.E.Sink.written c.args.err.now; faults = g.E.Sink.faults c.args.err.now; shorts = g.E.Sink.shorts c.args.err.now } in
-    let err' : StreamTold = record { written = g.E.Sink.written c.refuse.new.err; faults = g.E.Sink.faults c.refuse.new.err; shorts = g.E.Sink.shorts c.refuse.new.err } in
-    refused c.args.text.now out out' err err' (subst (λ piece. IsPartAppended piece out.written out'.written) c.as_bytes.ensures.value c.in-Err.ensures.part) c.in-Err.error c.from.result c.refuse.result c.from.ensures
-    (λ failed. c.in-Err.ensures.failed (ap Err failed)) (λ short. c.in-Err.ensures.short (ap Err short)) c.refuse.ensures.status c.refuse.ensures.said
+    let out : StreamTold = record {
+      written = g.O.Sink.written c.args.out.now;
+      faults = g.O.Sink.faults c.args.out.now;
+      shorts = g.O.Sink.shorts c.args.out.now;
+    } in
+    let out' : StreamTold = record {
+      written = g.O.Sink.written c.put.new.self;
+      faults = g.O.Sink.faults c.put.new.self;
+      shorts = g.O.Sink.shorts c.put.new.self;
+    } in
+    let err : StreamTold = record {
+      written = g.E.Sink.written c.args.err.now;
+      faults = g.E.Sink.faults c.args.err.now;
+      shorts = g.E.Sink.shorts c.args.err.now;
+    } in
+    let err' : StreamTold = record {
+      written = g.E.Sink.written c.refuse.new.err;
+      faults = g.E.Sink.faults c.refuse.new.err;
+      shorts = g.E.Sink.shorts c.refuse.new.err;
+    } in
+    refused c.args.text.now out out' err err'
+    (subst (λ piece. IsPartAppended piece out.written out'.written) c.as_bytes.ensures.value
+    c.in-Err.ensures.part) c.in-Err.error c.from.result c.refuse.result c.from.ensures
+    (λ failed. c.in-Err.ensures.failed (ap Err failed))
+    (λ short. c.in-Err.ensures.short (ap Err short)) c.refuse.ensures.status
+    c.refuse.ensures.said

@@ -1,5 +1,6 @@
 -- Lists that are whole orders.
-use Rattle.std.proofs.Common.{◌≡◌, ◌≢◌, ℕ, zero, suc, ◌<◌, List, ◌∷◌, length, get_or, true, false, eqb}
+use Rattle.std.proofs.Common.{◌≡◌, ◌≢◌, ℕ, zero, suc, ◌<◌, List, ◌∷◌, length, get_or, true, false}
+use Rattle.std.proofs.Common.{eqb}
 use Rattle.std.proofs.Common.{ne_eqb, eqb-true, sym, ◌∙◌, arith, inl, inr}
 use Rattle.std.specs.List.{list_any}
 use Rattle.std.proofs.lemmas.List.{get_or_default}

@@ -38,14 +38,16 @@ board-send = search (sendable, crosses, store-send) depth 60 fits 20000
 module _ (P : RattleType) (policy : Ghosts P.Denot) (p : IsSend P) where
   book-send : IsSend (book.the_row P policy)
   book-send =
-      search (sendable, crosses, deal-send, event-send, outcome-send, pick-send, board-send) depth 40 fits 20000
+      search (sendable, crosses, deal-send, event-send, outcome-send, pick-send, board-send) depth
+      40 fits 20000
 
   slot-send : IsSend (slot.the_row P policy)
   slot-send = search (sendable, crosses, book-send) depth 40 fits 20000
 
   -- each as a field of another type has it
   pub lock-sync : IsSync (lock.the_field P policy).row
-  lock-sync = search (sendable, crosses, slot-send, table.the_sync, lease.the_sync) depth 40 fits 20000
+  lock-sync =
+      search (sendable, crosses, slot-send, table.the_sync, lease.the_sync) depth 40 fits 20000
 
   pub seat-send : IsSend (seat.the_field P policy).row
   seat-send = search (sendable, crosses, slot-send, place.the_send) depth 40 fits 20000

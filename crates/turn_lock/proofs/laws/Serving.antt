@@ -1,5 +1,7 @@
 -- Which threads a seat serves, after a cut and after a join.
-use Rattle.std.proofs.Common.{◌≡◌, ℕ, ◌<◌, Bool, true, false, List, [], sym, refl, ◌∙◌, subst, ◌≢◌, zero, suc, ◌⊎◌, ◌∷◌, get_or, set, replicate, ap, inl, inr, arith, get_or-set_other}
+use Rattle.std.proofs.Common.{◌≡◌, ℕ, ◌<◌, Bool, true, false, List, [], sym, refl, ◌∙◌, subst, ◌≢◌}
+use Rattle.std.proofs.Common.{zero, suc, ◌⊎◌, ◌∷◌, get_or, set, replicate, ap, inl, inr, arith}
+use Rattle.std.proofs.Common.{get_or-set_other}
 use Rattle.std.proofs.lemmas.List.{get_or-set_same, length-replicate}
 use Rattle.turn_lock.specs.Rule.{HasFlag, Serves}
 use Rattle.turn_lock.specs.declared.view.View.{View}
@@ -26,7 +28,10 @@ none-true (suc n) (suc i) = none-true n i
 
 -- a seat cut off for a thread serves that thread alone
 pub alone-one : (v : View) (t u : ℕ) → Serves (seat_of_one v t) u → u ≡ t
-alone-one v t u h = dite (ℕ_discrete u t) (λ e. e) (λ ne. let other = get_or-set_other (replicate 64 false) t u true false ne in absurd (not_both (get_or (seat_of_one v t).serves u false) h (other ∙ none-true 64 u)))
+alone-one v t u h =
+    dite (ℕ_discrete u t) (λ e. e) (λ ne. let other =
+    get_or-set_other (replicate 64 false) t u true false ne in
+    absurd (not_both (get_or (seat_of_one v t).serves u false) h (other ∙ none-true 64 u)))
 
 unset : (l : List Bool) (i : ℕ) → get_or (set l i false) i false ≡ false
 unset [] i = refl
@@ -35,13 +40,16 @@ unset (x ∷ l) (suc i) = unset l i
 
 -- the rest of the seat serves each thread that it had, but that one
 pub without-not : (v : View) (t u : ℕ) → Serves (seat_without v t) u → u ≢ t
-without-not v t u h e = not_both (get_or (set v.serves t false) u false) h (ap (λ (n : ℕ). get_or (set v.serves t false) n false) e ∙ unset v.serves t)
+without-not v t u h e =
+    not_both (get_or (set v.serves t false) u false) h
+    (ap (λ (n : ℕ). get_or (set v.serves t false) n false) e ∙ unset v.serves t)
 
 pub without-had : (v : View) (t u : ℕ) → Serves (seat_without v t) u → Serves v u
 without-had v t u h = sym (get_or-set_other v.serves t u false false (without-not v t u h)) ∙ h
 
 pub alone-has : (v : View) (t : ℕ) → t < 64 → Serves (seat_of_one v t) t
-alone-has v t below = get_or-set_same (replicate 64 false) t true false (omega (arith, length-replicate 64 false))
+alone-has v t below =
+    get_or-set_same (replicate 64 false) t true false (omega (arith, length-replicate 64 false))
 
 pub without-has : (v : View) (t u : ℕ) → u ≢ t → Serves v u → Serves (seat_without v t) u
 without-has v t u apart here = get_or-set_other v.serves t u false false apart ∙ here
@@ -72,11 +80,14 @@ serves-right (x ∷ xs) (y ∷ ys) (suc t) h = serves-right xs ys t h
 
 -- the joined seat serves the threads of both, and no other
 pub joined-left : (a b w : View) (t : ℕ) → w ≡ joined_seat a b → Serves a t → Serves w t
-joined-left a b w t is here = subst (λ (u : View). Serves u t) (sym is) (serves-left a.serves b.serves t here)
+joined-left a b w t is here =
+    subst (λ (u : View). Serves u t) (sym is) (serves-left a.serves b.serves t here)
 
 pub joined-right : (a b w : View) (t : ℕ) → w ≡ joined_seat a b → Serves b t → Serves w t
-joined-right a b w t is here = subst (λ (u : View). Serves u t) (sym is) (serves-right a.serves b.serves t here)
+joined-right a b w t is here =
+    subst (λ (u : View). Serves u t) (sym is) (serves-right a.serves b.serves t here)
 
 pub joined-either : (a b w : View) (t : ℕ) → w ≡ joined_seat a b → Serves w t → Serves a t
     ⊎ Serves b t
-joined-either a b w t is here = either-serves a.serves b.serves t (subst (λ (u : View). Serves u t) is here)
+joined-either a b w t is here =
+    either-serves a.serves b.serves t (subst (λ (u : View). Serves u t) is here)

@@ -18,12 +18,16 @@ module _ (sizes : Sizes) (vars : 1 ≤ sizes.vars) (threads : 2 ≤ sizes.thread
   post-within (suc (suc t)) (suc (suc (suc zero))) seen = tt
   post-within (suc (suc t)) (suc (suc (suc (suc steps)))) seen = tt
 
-  sample-within : (t steps : ℕ) (seen : ℤ) (answers : List ℤ) → PostIsInRange sizes (sample_pending t steps seen answers).ask
+  sample-within : (t steps : ℕ) (seen : ℤ) (answers : List ℤ)
+      → PostIsInRange sizes (sample_pending t steps seen answers).ask
   sample-within t steps seen [] = post-within t steps seen
   sample-within t steps seen (answer ∷ answers) = sample-within t (steps + 1) answer answers
 
   -- so do bodies that each post as a sample thread does
-  pub samples-within : {X : Type 0} (thread steps : X → ℕ) (seen : X → ℤ) (items : List X) → AreInRange sizes (map (λ b. sample_pending (thread b) (steps b) (seen b)) items)
+  pub samples-within : {X : Type 0} (thread steps : X → ℕ) (seen : X → ℤ) (items : List X)
+      → AreInRange sizes (map (λ b. sample_pending (thread b) (steps b) (seen b)) items)
   samples-within thread steps seen [] t answers = tt
-  samples-within thread steps seen (b ∷ items) zero answers = sample-within (thread b) (steps b) (seen b) answers
-  samples-within thread steps seen (b ∷ items) (suc t) answers = samples-within thread steps seen items t answers
+  samples-within thread steps seen (b ∷ items) zero answers =
+      sample-within (thread b) (steps b) (seen b) answers
+  samples-within thread steps seen (b ∷ items) (suc t) answers =
+      samples-within thread steps seen items t answers

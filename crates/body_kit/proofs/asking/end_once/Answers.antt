@@ -10,4 +10,5 @@ returns-clause-ended g c =
     let w = view c.post_wait.new.seat in
     let turn = c.post_wait.result in
     let took = c.post_wait.ensures.turn.took in
-    posted-end v w c.args.thread c.requires.serves (end_post c.args.line) c.args.line turn refl (end-not v w c.args.thread c.requires.serves c.requires.owes c.args.line turn took) took
+    posted-end v w c.args.thread c.requires.serves (end_post c.args.line) c.args.line turn refl
+    (end-not v w c.args.thread c.requires.serves c.requires.owes c.args.line turn took) took

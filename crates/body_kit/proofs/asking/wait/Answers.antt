@@ -11,12 +11,15 @@ returns-in-Answer-clause-took g c =
     let v = view c.args.seat.now in
     let w = view c.turn_any-turn.new.seat in
     let same = c.requires.only.alone c.turn_any-turn.result.0 c.turn_any-turn.ensures.serves in
-    let took = subst (λ (x : ℕ × Turn). TookAtLast v x.0 None x.1 w) (λ i. (same i, c.in-Answer.is i)) c.turn_any-turn.ensures.turn in
-    subst (λ (a : ℤ). TookAtLast v c.args.thread None (Answer a) w) (sym (to_z-of_z w64 c.in-Answer.answer (search rules))) took
+    let took = subst (λ (x : ℕ × Turn). TookAtLast v x.0 None x.1 w)
+    (λ i. (same i, c.in-Answer.is i)) c.turn_any-turn.ensures.turn in
+    subst (λ (a : ℤ). TookAtLast v c.args.thread None (Answer a) w)
+    (sym (to_z-of_z w64 c.in-Answer.answer (search rules))) took
 
 pub returns-in-Over-clause-took : goal.returns-in-Over-clause-took
 returns-in-Over-clause-took g c =
     let v = view c.args.seat.now in
     let w = view c.turn_any-turn.new.seat in
     let same = c.requires.only.alone c.turn_any-turn.result.0 c.turn_any-turn.ensures.serves in
-    subst (λ (x : ℕ × Turn). TookAtLast v x.0 None x.1 w) (λ i. (same i, c.in-Over.is i)) c.turn_any-turn.ensures.turn
+    subst (λ (x : ℕ × Turn). TookAtLast v x.0 None x.1 w) (λ i. (same i, c.in-Over.is i))
+    c.turn_any-turn.ensures.turn

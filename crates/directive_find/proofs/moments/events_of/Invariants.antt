@@ -5,4 +5,6 @@ use Rattle.directive_find.proofs.moments.events_of.Given as goal
 
 -- the moments so far, and those of the points that are left
 abbrev pub invariant-loop-place : goal.invariant-loop-place
-invariant-loop-place l = l.moments ++ events_of (schedule_of l.events) (drop l.place l.points) ≡ events_of (schedule_of l.events) l.points
+invariant-loop-place l =
+    l.moments ++ events_of (schedule_of l.events) (drop l.place l.points)
+    ≡ events_of (schedule_of l.events) l.points

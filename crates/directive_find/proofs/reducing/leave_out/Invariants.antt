@@ -6,4 +6,5 @@ use Rattle.directive_find.proofs.reducing.leave_out.Given as goal
 
 -- each moment so far is needed
 abbrev pub invariant-loop-place : goal.invariant-loop-place
-invariant-loop-place g l = (script : ScriptText) → AreOf script (listing l.code) l.deal → NeedsFirst (HasVerdict l.deal (bodies_of script) l.order l.limit l.verdict) l.events l.place
+invariant-loop-place g l = (script : ScriptText) → AreOf script (listing l.code) l.deal
+    → NeedsFirst (HasVerdict l.deal (bodies_of script) l.order l.limit l.verdict) l.events l.place

@@ -10,10 +10,12 @@ use Rattle.directive_find.proofs.reducing.reduce.Given as goal
 abbrev pub invariant-rounds : goal.invariant-rounds
 invariant-rounds g l = record {
   few : length l.short.events ≤ 7;
-  leads : (script : ScriptText) → AreOf script (listing l.code) l.deal → LeadsTo l.deal (bodies_of script) l.order l.limit l.verdict l.short.events l.short.steps;
+  leads : (script : ScriptText) → AreOf script (listing l.code) l.deal
+      → LeadsTo l.deal (bodies_of script) l.order l.limit l.verdict l.short.events l.short.steps;
   rest : (script : ScriptText) → AreOf script (listing l.code) l.deal → (left : List Moment)
       → Reduces (HasVerdict l.deal (bodies_of script) l.order l.limit l.verdict) l.short.events left
-      → Reduces (HasVerdict l.deal (bodies_of script) l.order l.limit l.verdict) l.fn.whole.events left;
+      → Reduces (HasVerdict l.deal (bodies_of script) l.order l.limit l.verdict) l.fn.whole.events
+      left;
 }
 
 abbrev pub decreases-rounds : goal.decreases-rounds

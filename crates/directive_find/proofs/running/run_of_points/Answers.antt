@@ -8,5 +8,7 @@ use Rattle.directive_find.proofs.running.run_of_points.Goals as goal
 
 pub run_by_points-requires-clause-in_range : goal.run_by_points-requires-clause-in_range
 run_by_points-requires-clause-in_range g c κs within =
-    let D : Deal → Type 0 = λ d. AreInRange (sizes_of_deal d) (map pending_of_body c.in_ok-bodies.bodies.items) in
-    subst D (sym c.in_ok-own.ensures) (c.in_ok-bodies.ensures.in_range c.requires.script.0 c.args.deal.now c.requires.script.1)
+    let D : Deal → Type 0 = λ d. AreInRange (sizes_of_deal d)
+    (map pending_of_body c.in_ok-bodies.bodies.items) in
+    subst D (sym c.in_ok-own.ensures)
+    (c.in_ok-bodies.ensures.in_range c.requires.script.0 c.args.deal.now c.requires.script.1)

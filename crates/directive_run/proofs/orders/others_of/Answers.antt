@@ -9,10 +9,21 @@ pub loop-thread-preserved : goal.loop-thread-preserved
 loop-thread-preserved c =
     let thread = c.loop-thread.thread in
     c.in_ok-push.ensures.items ∙ ap (λ items. items ++ thread ∷ []) c.loop-thread.invariant
-    ∙ ap (λ t. threads_below thread ++ t ∷ []) (let e : thread ≡ 0 + thread = omega arith in e) ∙ sym (range-more 0 thread)
+    ∙ ap (λ t. threads_below thread ++ t ∷ []) (let e : thread ≡ 0 + thread = omega arith in e)
+    ∙ sym (range-more 0 thread)
 
 pub remove-requires : goal.remove-requires
-remove-requires c = omega (arith, ap length c.loop-thread.invariant, length-threads c.loop-thread.thread, c.loop-thread-test.false, c.requires.low)
+remove-requires c =
+    omega (
+      arith,
+      ap length c.loop-thread.invariant,
+      length-threads c.loop-thread.thread,
+      c.loop-thread-test.false,
+      c.requires.low,
+    )
 
 pub returns : goal.returns
-returns c = all-others c.args.threads c.args.low c.loop-thread.thread c.loop-thread.others.items _ c.loop-thread.auto.thread-end c.loop-thread-test.false c.loop-thread.invariant c.remove.ensures.items
+returns c =
+    all-others c.args.threads c.args.low c.loop-thread.thread c.loop-thread.others.items _
+    c.loop-thread.auto.thread-end c.loop-thread-test.false c.loop-thread.invariant
+    c.remove.ensures.items

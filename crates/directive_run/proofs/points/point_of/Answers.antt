@@ -3,9 +3,12 @@ use Rattle.std.specs.Prelude.{pos}
 use Rattle.std.proofs.Common.{◌≡◌, ◌+◌, suc, arith, eq-eqb, ne_eqb, ◌∙◌}
 use Rattle.pct_ask.specs.declared.event.Event.{Event}
 use Rattle.pct_ask.specs.declared.ask.Ask.TheVariants.{Yield}
-use Rattle.directive_run.proofs.Walk.{other-own, other-point, same-own, same-point, here-point, to-own, to-point}
+use Rattle.directive_run.proofs.Walk.{other-own, other-point, same-own, same-point, here-point}
+use Rattle.directive_run.proofs.Walk.{to-own, to-point}
 use Rattle.directive_run.proofs.points.point_of.Goals as goal
-use Rattle.directive_run.proofs.points.point_of.Goals.{then-event-moment+then-own-moment, then-event-moment+else-own-moment, else-event-moment}
+use Rattle.directive_run.proofs.points.point_of.Goals.{then-event-moment+then-own-moment}
+use Rattle.directive_run.proofs.points.point_of.Goals.{then-event-moment+else-own-moment}
+use Rattle.directive_run.proofs.points.point_of.Goals.{else-event-moment}
 
 pub loop-place-preserved : goal.loop-place-preserved
 loop-place-preserved c =
@@ -26,22 +29,35 @@ loop-place-preserved c =
       | then-event-moment+then-own-moment w ↦
           let same = eq-eqb _ _ w.if-event-moment.true in
           record {
-            own = w.own-is ∙ (same-own events moment steps place _ within many point own at same ∙ to_own);
+            own =
+                w.own-is ∙ (same-own events moment steps place _ within many point own at same
+                ∙ to_own);
             few = omega (arith, w.own-is, few);
-            point = w.point-is ∙ ((let e : place + 1 ≡ suc place = omega arith in e) ∙ (here-point events moment steps place _ within many point own at same (eq-eqb _ _ w.if-own-moment.true) ∙ to_point));
+            point =
+                w.point-is ∙ ((let e : place + 1 ≡ suc place = omega arith in e)
+                ∙ (here-point events moment steps place _ within many point own at same
+                (eq-eqb _ _ w.if-own-moment.true) ∙ to_point));
           }
       | then-event-moment+else-own-moment w ↦
           let same = eq-eqb _ _ w.if-event-moment.true in
           record {
-            own = w.own-is ∙ (same-own events moment steps place _ within many point own at same ∙ to_own);
+            own =
+                w.own-is ∙ (same-own events moment steps place _ within many point own at same
+                ∙ to_own);
             few = omega (arith, w.own-is, few);
-            point = w.point-is ∙ (same-point events moment steps place _ within many point own at same (ne_eqb _ _ w.if-own-moment.false) ∙ to_point);
+            point =
+                w.point-is ∙ (same-point events moment steps place _ within many point own at same
+                (ne_eqb _ _ w.if-own-moment.false) ∙ to_point);
           }
       | else-event-moment w ↦
           let other = ne_eqb _ _ w.if-event-moment.false in
           record {
-            own = w.own-is ∙ (other-own events moment steps place _ within many point own at other ∙ to_own);
+            own =
+                w.own-is ∙ (other-own events moment steps place _ within many point own at other
+                ∙ to_own);
             few = omega (arith, w.own-is, few);
-            point = w.point-is ∙ (other-point events moment steps place _ within many point own at other ∙ to_point);
+            point =
+                w.point-is ∙ (other-point events moment steps place _ within many point own at other
+                ∙ to_point);
           }
     ]

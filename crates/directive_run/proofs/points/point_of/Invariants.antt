@@ -10,5 +10,6 @@ abbrev pub invariant-loop-place : goal.invariant-loop-place
 invariant-loop-place l = record {
   own : l.own ≡ own_steps (schedule_of l.events) l.moment.thread l.place;
   few : l.own ≤ l.place;
-  point : l.point ≡ point_at l.steps (greatest_where (λ step. is_moment (schedule_of l.events) step l.moment) l.place);
+  point : l.point ≡ point_at l.steps
+      (greatest_where (λ step. is_moment (schedule_of l.events) step l.moment) l.place);
 }

@@ -10,4 +10,6 @@ use Rattle.failure_rank.proofs.ranking.add_row.Goals as goal
 pub with-group-requires : goal.with-group-requires
 with-group-requires c =
     let Fits : Group → Type 0 = λ g. g.count + 1 < 2 ^ 32 in
-    MatchOption-at_some ⊤ Fits c.in-Some.group.now (sym c.in-Some.ensures.value) (All-lookup Fits (same_verdict c.args.row.now.verdict) c.args.failures.now.entries c.requires)
+    MatchOption-at_some ⊤ Fits c.in-Some.group.now (sym c.in-Some.ensures.value)
+    (All-lookup Fits (same_verdict c.args.row.now.verdict) c.args.failures.now.entries
+    c.requires)

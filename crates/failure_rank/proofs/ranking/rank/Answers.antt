@@ -18,9 +18,17 @@ returns c =
     let entries = c.in_ok-failures.failures.entries in
     let collected : c.in_ok-groups.groups.items ≡ values_of entries = search rules in
     let is : IsRanking c.args.rows.now c.from_vec.result =
-    let computes = answers_always _ (λ a r. r ≡ key_of a.0.now) _ (λ f a r g called. search rules) in
-    rw (c.from_vec.ensures) (ranking c.args.rows.now entries (rw c.as_slice.ensures at c.in_ok-failures.ensures) c.sort_by_key.new.self.items
-    (subst (λ groups. IsPermutation groups c.sort_by_key.new.self.items) collected c.in_ok-sort_by_key.ensures.permutation)
+    let computes = answers_always _ (λ a r. r ≡ key_of a.0.now) _
+    (λ f a r g called. search rules) in
+    rw (c.from_vec.ensures) (ranking c.args.rows.now entries
+    (rw c.as_slice.ensures at c.in_ok-failures.ensures) c.sort_by_key.new.self.items
+    (subst (λ groups. IsPermutation groups c.sort_by_key.new.self.items) collected
+    c.in_ok-sort_by_key.ensures.permutation)
     (c.in_ok-sort_by_key.ensures.sorted key_of computes)
-    (subst (λ groups. IsStableBy comes_first groups c.sort_by_key.new.self.items) collected (c.in_ok-sort_by_key.ensures.stable key_of computes))) in
-    record { ranking = is; only = λ other too. one_ranking c.args.rows.now c.from_vec.result other is too }
+    (subst (λ groups. IsStableBy comes_first groups c.sort_by_key.new.self.items) collected
+    (c.in_ok-sort_by_key.ensures.stable key_of computes))) in
+    record {
+      ranking = is;
+      only = λ other too.
+          one_ranking c.args.rows.now c.from_vec.result other is too;
+    }

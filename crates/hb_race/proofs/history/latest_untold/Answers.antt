@@ -10,14 +10,19 @@ loop-u-preserved c =
     let Next = IsLatest c.args.lasts.now c.args.thread c.args.clock.now (c.loop-u.u + 1) in
     elim c.if-u-thread.branch [
       | then-u-thread w ↦
-          subst Next (sym (w.latest-is ∙ w.later-latest.ensures ∙ ap (later c.loop-u.latest) w.untold_step.ensures))
-          (latest-next c.args.lasts.now c.args.thread c.args.clock.now c.loop-u.u c.loop-u.latest w.if-u-thread.true c.loop-u.invariant)
+          subst Next (sym (w.latest-is ∙ w.later-latest.ensures
+          ∙ ap (later c.loop-u.latest) w.untold_step.ensures))
+          (latest-next c.args.lasts.now c.args.thread c.args.clock.now c.loop-u.u c.loop-u.latest
+          w.if-u-thread.true c.loop-u.invariant)
       | else-u-thread w ↦
           subst Next (sym w.latest-is)
-          (latest-own c.args.lasts.now c.args.thread c.args.clock.now c.loop-u.u c.loop-u.latest w.if-u-thread.false c.loop-u.invariant)
+          (latest-own c.args.lasts.now c.args.thread c.args.clock.now c.loop-u.u c.loop-u.latest
+          w.if-u-thread.false c.loop-u.invariant)
     ]
 
 pub returns : goal.returns
 returns c =
-    let at : c.loop-u.u ≡ 64 = (let a = c.loop-u-test.false in let b = c.loop-u.auto.u-end in omega arith) in
-    subst (λ k. IsLatest c.args.lasts.now c.args.thread c.args.clock.now k c.loop-u.latest) at c.loop-u.invariant
+    let at : c.loop-u.u ≡ 64 = (let a = c.loop-u-test.false in let b = c.loop-u.auto.u-end in
+    omega arith) in
+    subst (λ k. IsLatest c.args.lasts.now c.args.thread c.args.clock.now k c.loop-u.latest) at
+    c.loop-u.invariant

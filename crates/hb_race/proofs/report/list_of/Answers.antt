@@ -9,5 +9,6 @@ loop-history-preserved c =
     let histories = c.args.histories.now in
     let i = c.loop-history.history-index in
     c.in_ok-push_race.ensures.ok
-    ∙ ap (λ races. races ++ option_to_list (get_or histories i no_history).race) c.loop-history.invariant
+    ∙ ap (λ races. races ++ option_to_list (get_or histories i no_history).race)
+    c.loop-history.invariant
     ∙ sym (filter_map-more histories i c.loop-history-test.true)

@@ -16,10 +16,14 @@ returns-then-nests c =
     let event = get_or events place no_event in
     let at = event-at events place c.loop-place-test.true in
     let held = get_or c.args.sets.now place none in
-    let at_held = slice_get-get_or c.args.sets.now place none (let whole = c.requires.sets.whole in let within = c.loop-place-test.true in omega arith) in
+    let at_held = slice_get-get_or c.args.sets.now place none
+    (let whole = c.requires.sets.whole in let within = c.loop-place-test.true in omega arith) in
     let is = c.if-nests.ensures.0 refl in
     record {
-      nested = pair-here events place event at c.args.held c.args.mutex is.0 ((c.requires.sets.each place event held at at_held c.args.held).0 is.1) (c.loop-place.place + 1) event.thread (add-one c.loop-place.place) refl;
+      nested =
+          pair-here events place event at c.args.held c.args.mutex is.0
+          ((c.requires.sets.each place event held at at_held c.args.held).0 is.1)
+          (c.loop-place.place + 1) event.thread (add-one c.loop-place.place) refl;
       least = λ other pair. let later = c.loop-place.invariant other pair in omega arith;
     }
 
@@ -30,12 +34,16 @@ loop-place-preserved c = λ nesting pair.
     let event = get_or events place no_event in
     let at = event-at events place c.loop-place-test.true in
     let held = get_or c.args.sets.now place none in
-    let at_held = slice_get-get_or c.args.sets.now place none (let whole = c.requires.sets.whole in let within = c.loop-place-test.true in omega arith) in
+    let at_held = slice_get-get_or c.args.sets.now place none
+    (let whole = c.requires.sets.whole in let within = c.loop-place-test.true in omega arith) in
     let later = c.loop-place.invariant nesting pair in
     elim (cases_eq nesting.step (suc place)) [
       | inl here ↦
           let found = pair-there events place event at c.args.held c.args.mutex nesting here pair in
-          let no = c.if-nests.ensures.1 (found.0, (c.requires.sets.each place event held at at_held c.args.held).1 found.1) in
+          let no = c.if-nests.ensures.1 (
+            found.0,
+            (c.requires.sets.each place event held at at_held c.args.held).1 found.1,
+          ) in
           absurd cc
       | inr ne ↦ omega arith
     ]

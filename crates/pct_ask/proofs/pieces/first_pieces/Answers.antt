@@ -9,7 +9,8 @@ use Rattle.pct_ask.proofs.pieces.first_pieces.Goals as goal
 
 pub returns : goal.returns
 returns c =
-    let s = rw (← c.into_iter-piece-iterator.ensures.into_iter_gives) at c.take-piece-items.ensures in
+    let s = rw (← c.into_iter-piece-iterator.ensures.into_iter_gives) at
+    c.take-piece-items.ensures in
     let t = YieldsList-end (YieldsList-from_take c.args.most
     (YieldsList-from_slice_split _ (λ b. b == c.args.separator) {f = c.split.result.pred}
     c.args.text.now (search rules) (search rules) (search rules)

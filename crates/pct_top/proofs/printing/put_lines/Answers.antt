@@ -2,7 +2,8 @@ use Rattle.std.proofs.Common.{◌≡◌, List, ℕ, ◌++◌, take, drop, ap, sy
 use Rattle.std.proofs.Common.{arith}
 use Rattle.std.proofs.lemmas.List.{take-append-drop}
 use Rattle.pct_outside.specs.Piece.{IsPartAppended}
-use Rattle.pct_outside.proofs.laws.Pieces.{IsAppended-then, IsPartAppended-then, IsPartAppended-longer}
+use Rattle.pct_outside.proofs.laws.Pieces.{IsAppended-then, IsPartAppended-then}
+use Rattle.pct_outside.proofs.laws.Pieces.{IsPartAppended-longer}
 use Rattle.pct_top.proofs.printing.put_lines.Goals as goal
 
 -- what is left is the line and what follows it

@@ -1,5 +1,6 @@
 -- A value with at most seven items has no more than its first eight.
-use Rattle.std.proofs.Common.{◌≡◌, ℕ, ◌≤◌, true, nat_le, inl, inr, List, length, take, None, sym, ap}
+use Rattle.std.proofs.Common.{◌≡◌, ℕ, ◌≤◌, true, nat_le, inl, inr, List, length, take, None, sym}
+use Rattle.std.proofs.Common.{ap}
 use Rattle.std.proofs.Common.{subst, ◌∙◌, arith}
 use Rattle.std.specs.Prelude.{IfOk, if◌then◌else◌, Option}
 use Rattle.std.proofs.lemmas.Bool.{cases_lt}

@@ -12,7 +12,8 @@ returns-in-Some-get c =
     let A : List Event → Type 0 = λ l. IsAgreed l c.as_slice-2.result.now c.agreed-many.result in
     let B : List Event → Type 0 = λ l. IsAgreed made l c.agreed-many.result in
     let agreed = subst B c.as_slice-2.ensures (subst A c.as_slice.ensures c.agreed-many.ensures) in
-    differ_at made told c.agreed-many.result agreed c.in-Some-get.event c.in-Some.written (sym c.get-2.ensures ∙ c.in-Some-get.is) (sym c.get.ensures ∙ c.in-Some.is)
+    differ_at made told c.agreed-many.result agreed c.in-Some-get.event c.in-Some.written
+    (sym c.get-2.ensures ∙ c.in-Some-get.is) (sym c.get.ensures ∙ c.in-Some.is)
 
 pub returns-in-None : goal.returns-in-None
 returns-in-None c =
@@ -21,4 +22,6 @@ returns-in-None c =
     let A : List Event → Type 0 = λ l. IsAgreed l c.as_slice-2.result.now c.agreed-many.result in
     let B : List Event → Type 0 = λ l. IsAgreed made l c.agreed-many.result in
     let agreed = subst B c.as_slice-2.ensures (subst A c.as_slice.ensures c.agreed-many.ensures) in
-    c.stopped.ensures made told c.args.file.now.verdict (ends_before made told c.agreed-many.result agreed c.in-Some.written (sym c.get-2.ensures ∙ c.in-None.is) (sym c.get.ensures ∙ c.in-Some.is))
+    c.stopped.ensures made told c.args.file.now.verdict
+    (ends_before made told c.agreed-many.result agreed c.in-Some.written
+    (sym c.get-2.ensures ∙ c.in-None.is) (sym c.get.ensures ∙ c.in-Some.is))

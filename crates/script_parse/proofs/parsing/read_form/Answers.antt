@@ -45,7 +45,8 @@ returns-in-Some c =
 pub returns-in_ok-take-in-None : goal.returns-in_ok-take-in-None
 returns-in_ok-take-in-None c =
     below_taken c.args.reader.version (seen_reader c.args.reader)
-    (seen_reader c.in_ok-take-in-None.field-0) (place_ahead c.args.ahead.now) c.args.number c.args.last
+    (seen_reader c.in_ok-take-in-None.field-0) (place_ahead c.args.ahead.now) c.args.number
+    c.args.last
     (all_seen c.args.tokens.now) (seen_form c.args.form.now) refl c.requires
     (sym c.fault_of.ensures ∙ c.in-None.is) c.in_ok-take-in-None.ensures
 

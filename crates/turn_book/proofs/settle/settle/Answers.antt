@@ -8,4 +8,5 @@ pub pick-next-requires-clause-threads : goal.pick-next-requires-clause-threads
 pick-next-requires-clause-threads g c =
     let board = c.args.board.now in
     let Speaks : ℕ → Type 0 = SpeaksOf (g.P.Policy.plan c.args.policy.now) in
-    subst Speaks (sym (ap length c.chances.ensures.chances ∙ length-chances (board.store).threads board.store (next_posts_of board.posts))) c.requires
+    subst Speaks (sym (ap length c.chances.ensures.chances
+    ∙ length-chances (board.store).threads board.store (next_posts_of board.posts))) c.requires

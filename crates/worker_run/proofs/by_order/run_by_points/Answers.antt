@@ -6,16 +6,24 @@ use Rattle.worker_run.proofs.Wholes.{told-run, told-played}
 use Rattle.worker_run.proofs.by_order.run_by_points.Goals as goal
 
 pub into_whole-requires : goal.into_whole-requires
-into_whole-requires g c = let is = c.in_ok-played.ensures.run c.args.order.now c.args.points.now c.in_ok-policy.ensures.plan in (is.verdict, is.ends)
+into_whole-requires g c =
+    let is = c.in_ok-played.ensures.run c.args.order.now c.args.points.now
+    c.in_ok-policy.ensures.plan in (is.verdict, is.ends)
 
 pub returns-clause-run : goal.returns-clause-run
 returns-clause-run g c =
     let start = map g.B.Body.pending c.args.bodies.items in
-    told-run (run c.args.deal start c.args.order.now c.args.points.now c.args.limit) c.in_ok-played.played.events c.into_whole.result.events c.in_ok-played.played.outcome c.into_whole.result.verdict
-    (c.in_ok-played.ensures.run c.args.order.now c.args.points.now c.in_ok-policy.ensures.plan) c.into_whole.ensures.events c.into_whole.ensures.verdict
+    told-run (run c.args.deal start c.args.order.now c.args.points.now c.args.limit)
+    c.in_ok-played.played.events c.into_whole.result.events c.in_ok-played.played.outcome
+    c.into_whole.result.verdict
+    (c.in_ok-played.ensures.run c.args.order.now c.args.points.now c.in_ok-policy.ensures.plan)
+    c.into_whole.ensures.events c.into_whole.ensures.verdict
 
 pub returns-clause-played : goal.returns-clause-played
 returns-clause-played g c =
     let start = map g.B.Body.pending c.args.bodies.items in
-    told-played (points_plan c.in_ok-policy.policy) (ByPoints c.args.order.now c.args.points.now) c.args.deal start c.args.limit c.in_ok-played.played.events c.into_whole.result.events c.in_ok-played.played.outcome c.into_whole.result.verdict
-    c.in_ok-policy.ensures.plan c.into_whole.ensures.events c.into_whole.ensures.verdict c.in_ok-played.ensures.played
+    told-played (points_plan c.in_ok-policy.policy) (ByPoints c.args.order.now c.args.points.now)
+    c.args.deal start c.args.limit c.in_ok-played.played.events c.into_whole.result.events
+    c.in_ok-played.played.outcome c.into_whole.result.verdict
+    c.in_ok-policy.ensures.plan c.into_whole.ensures.events c.into_whole.ensures.verdict
+    c.in_ok-played.ensures.played

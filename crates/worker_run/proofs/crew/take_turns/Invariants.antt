@@ -7,7 +7,8 @@ use Rattle.worker_run.proofs.crew.take_turns.Given as goal
 abbrev pub invariant-loop : goal.invariant-loop
 invariant-loop g l = record {
   of : HasSeat l.lock l.seat;
-  crew : (start : ℕ → Pending) → IsCrew g.B.Body.pending start 0 l.fn.runners (view l.fn.seat) → IsCrew g.B.Body.pending start 0 l.runners (view l.seat);
+  crew : (start : ℕ → Pending) → IsCrew g.B.Body.pending start 0 l.fn.runners (view l.fn.seat)
+      → IsCrew g.B.Body.pending start 0 l.runners (view l.seat);
   on : GoesOn (view l.fn.seat) (view l.seat);
   long : length l.runners ≡ length l.fn.runners;
   posted : NoneOwes (view l.seat);

@@ -1,4 +1,5 @@
-use Rattle.std.proofs.Common.{◌≡◌, ◌<◌, ◌++◌, ◌∷◌, [], ℕ, List, length, sym, ap, subst, ◌∙◌, append_assoc, arith}
+use Rattle.std.proofs.Common.{◌≡◌, ◌<◌, ◌++◌, ◌∷◌, [], ℕ, List, length, sym, ap, subst, ◌∙◌}
+use Rattle.std.proofs.Common.{append_assoc, arith}
 use Rattle.std.specs.Prelude.{slice_get}
 use Rattle.std.specs.Vec.Iter.{into_iter_items}
 use Rattle.std.proofs.lemmas.List.{length-append}
@@ -105,7 +106,9 @@ loop-lock-preserved g c =
     let at_lock = ap (λ l. slice_get l k) (sym whole) ∙ get-middle at.yielded lock rest in
     let csteps : into_iter_items at.others ≡ crew ∷ others = c.in-Some-next.ensures.items in
     let cwhole = ap (λ l. i.crews.0 ++ l) (sym csteps) ∙ i.crews.1 in
-    let at_crew = ap (λ n. slice_get c.args.crews.items n) (sym i.crews.2) ∙ ap (λ l. slice_get l (length i.crews.0)) (sym cwhole) ∙ get-middle i.crews.0 crew others in
+    let at_crew = ap (λ n. slice_get c.args.crews.items n) (sym i.crews.2)
+    ∙ ap (λ l. slice_get l (length i.crews.0)) (sym cwhole)
+    ∙ get-middle i.crews.0 crew others in
     let tests = c.args.tests.value.items in
     let found =
     get-within tests k (let under = slice_get_within c.args.locks.items k lock at_lock in
@@ -125,7 +128,9 @@ loop-lock-preserved g c =
     record {
       locks = append_assoc at.yielded (lock ∷ []) rest ∙ ap (λ l. at.yielded ++ l) (sym steps)
           ∙ i.locks;
-      left = (let was = i.left in let gone = c.in-Some.ensures.steps.1 in let short = ap length steps in omega arith);
+      left =
+          (let was = i.left in let gone = c.in-Some.ensures.steps.1 in
+          let short = ap length steps in omega arith);
       crews = (
         i.crews.0 ++ crew ∷ [],
         append_assoc i.crews.0 (crew ∷ []) others ∙ cwhole,
@@ -143,5 +148,8 @@ loop-lock-preserved g c =
         length-append at.yielded (lock ∷ []),
       );
       room = c.push_reserved.ensures.capacity ∙ i.room;
-      runs = subst R (sym c.push_reserved.ensures.items) (along-more (IsRunOf f plan) tests runs test c.finish.result (ap (λ n. slice_get tests n) (sym long) ∙ found.1) run i.runs);
+      runs =
+          subst R (sym c.push_reserved.ensures.items)
+          (along-more (IsRunOf f plan) tests runs test c.finish.result
+          (ap (λ n. slice_get tests n) (sym long) ∙ found.1) run i.runs);
     }

@@ -11,7 +11,8 @@ abbrev pub invariant-loop-lock : goal.invariant-loop-lock
 invariant-loop-lock g l = record {
   locks : l.yielded ++ into_iter_items l.lock-iterator ≡ into_iter_items l.initial.lock-iterator;
   left : into_iter_len l.lock-iterator ≡ length (into_iter_items l.lock-iterator);
-  crews : (done : List (Crew g.row.P.Denot g.row.B.Denot g.P.Policy)) × (done ++ into_iter_items l.others ≡ l.fn.crews.items) × (length done ≡ length l.yielded);
+  crews : (done : List (Crew g.row.P.Denot g.row.B.Denot g.P.Policy))
+      × (done ++ into_iter_items l.others ≡ l.fn.crews.items) × (length done ≡ length l.yielded);
   long : vec_len l.runs ≡ length l.yielded;
   room : vec_capacity l.runs ≡ length l.fn.locks.items;
   runs : Along (IsRunOf g.B.Body.pending g.P.Policy.plan) l.tests.value.items l.runs.items;

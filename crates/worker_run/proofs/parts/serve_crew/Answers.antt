@@ -12,8 +12,12 @@ pub serve_all-requires-clause-crew : goal.serve_all-requires-clause-crew
 serve_all-requires-clause-crew g c = λ κs lives.
     let f = g.B.Body.pending in
     let start = pending_of (bodies_on f c.args.stage.now) in
-    let C : List (Option (Runner g.row.B.Denot)) → Type 0 = λ l. IsCrew f start 0 l (view c.args.crew.now.seat) in
-    (start, c.requires.crew.stage_is.in_range, subst C (sym c.as_mut_slice.ensures.value) c.requires.crew.runs)
+    let C : List (Option (Runner g.row.B.Denot)) → Type 0 =
+    λ l. IsCrew f start 0 l (view c.args.crew.now.seat) in (
+      start,
+      c.requires.crew.stage_is.in_range,
+      subst C (sym c.as_mut_slice.ensures.value) c.requires.crew.runs,
+    )
 
 pub serve_all-requires-clause-few : goal.serve_all-requires-clause-few
 serve_all-requires-clause-few g c = λ κs lives.
@@ -24,7 +28,8 @@ pub returns-clause-seat : goal.returns-clause-seat
 returns-clause-seat g c =
     let f = g.B.Body.pending in
     let start = pending_of (bodies_on f c.args.stage.now) in
-    let C : List (Option (Runner g.row.B.Denot)) → Type 0 = λ l. IsCrew f start 0 l (view c.args.crew.now.seat) in
+    let C : List (Option (Runner g.row.B.Denot)) → Type 0 =
+    λ l. IsCrew f start 0 l (view c.args.crew.now.seat) in
     let crew = subst C (sym c.as_mut_slice.ensures.value) c.requires.crew.runs in
     record {
       of = c.serve_all.ensures.of;
@@ -37,7 +42,8 @@ pub returns-clause-told : goal.returns-clause-told
 returns-clause-told g c = λ t here.
     let f = g.B.Body.pending in
     let start = pending_of (bodies_on f c.args.stage.now) in
-    let C : List (Option (Runner g.row.B.Denot)) → Type 0 = λ l. IsCrew f start 0 l (view c.args.crew.now.seat) in
+    let C : List (Option (Runner g.row.B.Denot)) → Type 0 =
+    λ l. IsCrew f start 0 l (view c.args.crew.now.seat) in
     let crew = subst C (sym c.as_mut_slice.ensures.value) c.requires.crew.runs in
     told-crew (bodies_on f c.args.stage.now) t (view c.args.crew.now.seat)
     (view c.serve_all.new.seat) (c.serve_all.ensures.served start crew)

@@ -11,24 +11,30 @@ pub serve-requires-clause-of : goal.serve-requires-clause-of
 serve-requires-clause-of g c = λ κs lives.
     let f = g.B.Body.pending in
     let stage = c.args.stage.now in
-    let I : Part g.row.P.Denot g.row.B.Denot g.P.Policy → Type 0 = λ p. IsPart f stage c.args.thread p in
-    let waits : IsWaiting f stage c.args.thread c.in-Waiting.seat c.in-Waiting.runner = subst I (sym c.replace.ensures.value ∙ c.in-Waiting.is) c.requires.part in
+    let I : Part g.row.P.Denot g.row.B.Denot g.P.Policy → Type 0 =
+    λ p. IsPart f stage c.args.thread p in
+    let waits : IsWaiting f stage c.args.thread c.in-Waiting.seat c.in-Waiting.runner =
+    subst I (sym c.replace.ensures.value ∙ c.in-Waiting.is) c.requires.part in
     waits.seat_is.of
 
 pub serve-requires-clause-crew : goal.serve-requires-clause-crew
 serve-requires-clause-crew g c = λ κs lives.
     let f = g.B.Body.pending in
     let stage = c.args.stage.now in
-    let I : Part g.row.P.Denot g.row.B.Denot g.P.Policy → Type 0 = λ p. IsPart f stage c.args.thread p in
-    let waits : IsWaiting f stage c.args.thread c.in-Waiting.seat c.in-Waiting.runner = subst I (sym c.replace.ensures.value ∙ c.in-Waiting.is) c.requires.part in
+    let I : Part g.row.P.Denot g.row.B.Denot g.P.Policy → Type 0 =
+    λ p. IsPart f stage c.args.thread p in
+    let waits : IsWaiting f stage c.args.thread c.in-Waiting.seat c.in-Waiting.runner =
+    subst I (sym c.replace.ensures.value ∙ c.in-Waiting.is) c.requires.part in
     (pending_of (bodies_on f stage), waits.stage_is.in_range, waits.runs)
 
 pub serve-requires-clause-owe : goal.serve-requires-clause-owe
 serve-requires-clause-owe g c = λ κs lives.
     let f = g.B.Body.pending in
     let stage = c.args.stage.now in
-    let I : Part g.row.P.Denot g.row.B.Denot g.P.Policy → Type 0 = λ p. IsPart f stage c.args.thread p in
-    let waits : IsWaiting f stage c.args.thread c.in-Waiting.seat c.in-Waiting.runner = subst I (sym c.replace.ensures.value ∙ c.in-Waiting.is) c.requires.part in
+    let I : Part g.row.P.Denot g.row.B.Denot g.P.Policy → Type 0 =
+    λ p. IsPart f stage c.args.thread p in
+    let waits : IsWaiting f stage c.args.thread c.in-Waiting.seat c.in-Waiting.runner =
+    subst I (sym c.replace.ensures.value ∙ c.in-Waiting.is) c.requires.part in
     waits.owe
 
 pub returns-in-Waiting-clause-served : goal.returns-in-Waiting-clause-served
@@ -38,8 +44,10 @@ returns-in-Waiting-clause-served g c =
     let start = pending_of (bodies_on f stage) in
     let v = view c.in-Waiting.seat in
     let w = view c.serve.result in
-    let I : Part g.row.P.Denot g.row.B.Denot g.P.Policy → Type 0 = λ p. IsPart f stage c.args.thread p in
-    let waits : IsWaiting f stage c.args.thread c.in-Waiting.seat c.in-Waiting.runner = subst I (sym c.replace.ensures.value ∙ c.in-Waiting.is) c.requires.part in
+    let I : Part g.row.P.Denot g.row.B.Denot g.P.Policy → Type 0 =
+    λ p. IsPart f stage c.args.thread p in
+    let waits : IsWaiting f stage c.args.thread c.in-Waiting.seat c.in-Waiting.runner =
+    subst I (sym c.replace.ensures.value ∙ c.in-Waiting.is) c.requires.part in
     let served = c.serve.ensures.served start waits.runs in (
       record {
         of = c.serve.ensures.of;

@@ -13,19 +13,35 @@ pub returns-in-Waiting-clause-crew : goal.returns-in-Waiting-clause-crew
 returns-in-Waiting-clause-crew g c =
     let f = g.B.Body.pending in
     let stage = c.args.stage.now in
-    let I : Part g.row.P.Denot g.row.B.Denot g.P.Policy → Type 0 = λ p. IsPart f stage c.args.thread p in
-    let waits : IsWaiting f stage c.args.thread c.in-Waiting.seat c.in-Waiting.runner = subst I (sym c.replace.ensures.value ∙ c.in-Waiting.is) c.requires.part in
-    let j : IsJoin (view c.args.crew.now.seat) (view c.in-Waiting.seat) (view c.join.new.seat) = record { is = c.join.ensures.view; seen = c.join.ensures.seen; own = c.join.ensures.own; theirs = c.join.ensures.theirs; obeys = c.join.ensures.obeys } in
-    taken-in f stage c.args.crew.now c.requires.crew c.args.thread c.in-Waiting.runner c.in-Waiting.seat waits _ c.join.ensures.of j refl
+    let I : Part g.row.P.Denot g.row.B.Denot g.P.Policy → Type 0 =
+    λ p. IsPart f stage c.args.thread p in
+    let waits : IsWaiting f stage c.args.thread c.in-Waiting.seat c.in-Waiting.runner =
+    subst I (sym c.replace.ensures.value ∙ c.in-Waiting.is) c.requires.part in
+    let j : IsJoin (view c.args.crew.now.seat) (view c.in-Waiting.seat) (view c.join.new.seat) =
+    record {
+      is = c.join.ensures.view;
+      seen = c.join.ensures.seen;
+      own = c.join.ensures.own;
+      theirs = c.join.ensures.theirs;
+      obeys = c.join.ensures.obeys;
+    } in
+    taken-in f stage c.args.crew.now c.requires.crew c.args.thread c.in-Waiting.runner
+    c.in-Waiting.seat waits _ c.join.ensures.of j refl
 
 pub returns-in-Waiting-clause-kept : goal.returns-in-Waiting-clause-kept
-returns-in-Waiting-clause-kept g c = λ t here. joined-left (view c.args.crew.now.seat) (view c.in-Waiting.seat) (view c.join.new.seat) t c.join.ensures.view here
+returns-in-Waiting-clause-kept g c =
+    λ t here. joined-left (view c.args.crew.now.seat) (view c.in-Waiting.seat)
+    (view c.join.new.seat) t c.join.ensures.view here
 
 pub returns-in-Waiting-clause-taken : goal.returns-in-Waiting-clause-taken
 returns-in-Waiting-clause-taken g c = λ there.
     let f = g.B.Body.pending in
     let stage = c.args.stage.now in
-    let I : Part g.row.P.Denot g.row.B.Denot g.P.Policy → Type 0 = λ p. IsPart f stage c.args.thread p in
-    let waits : IsWaiting f stage c.args.thread c.in-Waiting.seat c.in-Waiting.runner = subst I (sym c.replace.ensures.value ∙ c.in-Waiting.is) c.requires.part in
-    inl (joined-right (view c.args.crew.now.seat) (view c.in-Waiting.seat) (view c.join.new.seat) c.args.thread c.join.ensures.view
-    (own-serves f (pending_of (bodies_on f stage)) c.args.thread c.in-Waiting.runner (view c.in-Waiting.seat) waits.runs))
+    let I : Part g.row.P.Denot g.row.B.Denot g.P.Policy → Type 0 =
+    λ p. IsPart f stage c.args.thread p in
+    let waits : IsWaiting f stage c.args.thread c.in-Waiting.seat c.in-Waiting.runner =
+    subst I (sym c.replace.ensures.value ∙ c.in-Waiting.is) c.requires.part in
+    inl (joined-right (view c.args.crew.now.seat) (view c.in-Waiting.seat) (view c.join.new.seat)
+    c.args.thread c.join.ensures.view
+    (own-serves f (pending_of (bodies_on f stage)) c.args.thread c.in-Waiting.runner
+    (view c.in-Waiting.seat) waits.runs))

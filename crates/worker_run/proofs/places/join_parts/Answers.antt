@@ -27,7 +27,8 @@ join_part-requires-clause-seat g c = λ κs lives.
     let crew = get_or crews k c.index-crews-place.result in
     let under : k < length stages = c.loop-place-test.true in
     let here = slice_get_read stages (length stages) k stage refl under c.index-stages-place.is in
-    let at_crew = slice_get-get_or crews k c.index-crews-place.result (omega (arith, i.seats.long)) in
+    let at_crew = slice_get-get_or crews k c.index-crews-place.result
+    (omega (arith, i.seats.long)) in
     i.seats.each k stage crew here at_crew
 
 pub join_part-requires-clause-part : goal.join_part-requires-clause-part
@@ -40,8 +41,12 @@ join_part-requires-clause-part g c = λ κs lives.
     let part = get_or parts k c.index-parts-place.result in
     let under : k < length stages = c.loop-place-test.true in
     let here = slice_get_read stages (length stages) k stage refl under c.index-stages-place.is in
-    let at_part = slice_get-get_or parts k c.index-parts-place.result (omega (arith, i.long, c.requires.parts.1.long)) in
-    (c.requires.parts.0, c.requires.parts.1.each k stage part here (sym (i.rest k (omega arith)) ∙ at_part))
+    let at_part = slice_get-get_or parts k c.index-parts-place.result
+    (omega (arith, i.long, c.requires.parts.1.long)) in (
+      c.requires.parts.0,
+      c.requires.parts.1.each k stage part here
+          (sym (i.rest k (omega arith)) ∙ at_part),
+    )
 
 pub loop-place-preserved : goal.loop-place-preserved
 loop-place-preserved g c =
@@ -61,7 +66,8 @@ loop-place-preserved g c =
     let in_crews : k < length crews = omega (arith, i.seats.long) in
     let here = slice_get_read stages (length stages) k stage refl under c.index-stages-place.is in
     let at_crew = slice_get-get_or crews k c.index-crews-place.result in_crews in
-    let at_part = slice_get-get_or parts k c.index-parts-place.result (omega (arith, i.long, c.requires.parts.1.long)) in
+    let at_part = slice_get-get_or parts k c.index-parts-place.result
+    (omega (arith, i.long, c.requires.parts.1.long)) in
     let at_first = sym (i.rest k (omega arith)) ∙ at_part in
     let s = c.join_part.ensures in
     record {
@@ -69,13 +75,18 @@ loop-place-preserved g c =
           in_crews here s.seat;
       long = length-set parts k new_part ∙ i.long;
       rest = rest-set first parts k new_part i.rest;
-      kept = λ j t told. told-kept crews k crew new_crew at_crew f stages stage here s.kept j t (i.kept j t told);
+      kept =
+          λ j t told. told-kept crews k crew new_crew at_crew f stages stage here s.kept j t
+          (i.kept j t told);
       joined = λ j t are below there. elim (cases_eq j k) [
         | inl same ↦
             let I : ℕ → Type 0 = λ n. IsThere first n in
             let T : ℕ → Type 0 = λ n. ToldAt f stages (set crews k new_crew) n t in
-            subst T (sym same) (told-new crews k crew new_crew at_crew f stages stage here t (s.joined t (are.each k stage part here at_first) (there-at first k part at_first (subst I same there))))
-        | inr apart ↦ told-other crews k crew new_crew at_crew f stages stage here j t apart (i.joined j t are (omega (arith, apart)) there)
+            subst T (sym same) (told-new crews k crew new_crew at_crew f stages stage here t
+            (s.joined t (are.each k stage part here at_first)
+            (there-at first k part at_first (subst I same there))))
+        | inr apart ↦ told-other crews k crew new_crew at_crew f stages stage here j t apart
+            (i.joined j t are (omega (arith, apart)) there)
       ];
     }
 
@@ -87,5 +98,6 @@ returns g c =
       kept = i.kept;
       joined = λ j t are there.
           let at = map-get is_there c.args.parts.now j _ there in
-          i.joined j t are (let under = slice_get_within c.args.parts.now j at.0 at.1 in omega (arith, c.loop-place-test.false, are.long, under)) there;
+          i.joined j t are (let under = slice_get_within c.args.parts.now j at.0 at.1 in
+          omega (arith, c.loop-place-test.false, are.long, under)) there;
     }

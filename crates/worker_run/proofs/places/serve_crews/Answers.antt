@@ -1,4 +1,5 @@
-use Rattle.std.proofs.Common.{◌≡◌, ◌<◌, ◌≤◌, ℕ, length, set, get_or, refl, sym, ap, subst, ◌∙◌, arith, inl, inr}
+use Rattle.std.proofs.Common.{◌≡◌, ◌<◌, ◌≤◌, ℕ, length, set, get_or, refl, sym, ap, subst, ◌∙◌}
+use Rattle.std.proofs.Common.{arith, inl, inr}
 use Rattle.std.specs.Prelude.{slice_get}
 use Rattle.std.proofs.lemmas.Bool.{cases_eq}
 use Rattle.std.proofs.lemmas.List.{length-set}
@@ -13,7 +14,12 @@ use Rattle.worker_run.proofs.Loops.{below-set, below-all, rest-set, told-new, to
 use Rattle.worker_run.proofs.places.serve_crews.Goals as goal
 
 pub loop-place-init : goal.loop-place-init
-loop-place-init g c = record { long = refl; rest = λ i above. refl; seats = λ i s w below here there. absurd (omega arith); told = λ i t below h. absurd (omega arith) }
+loop-place-init g c = record {
+  long = refl;
+  rest = λ i above. refl;
+  seats = λ i s w below here there. absurd (omega arith);
+  told = λ i t below h. absurd (omega arith);
+}
 
 pub serve_crew-requires-clause-crew : goal.serve_crew-requires-clause-crew
 serve_crew-requires-clause-crew g c = λ κs lives.
@@ -24,9 +30,11 @@ serve_crew-requires-clause-crew g c = λ κs lives.
     let crew = get_or crews k c.index-crews-place.result in
     let under : k < length stages = c.loop-place-test.true in
     let here = slice_get_read stages (length stages) k stage refl under c.index-stages-place.is in
-    let within : k < length crews = omega (arith, c.loop-place.invariant.long, c.requires.crews.long) in
+    let within : k < length crews = omega
+    (arith, c.loop-place.invariant.long, c.requires.crews.long) in
     let there = slice_get-get_or crews k c.index-crews-place.result within in
-    c.requires.crews.each k stage crew here (sym (c.loop-place.invariant.rest k (omega arith)) ∙ there)
+    c.requires.crews.each k stage crew here
+    (sym (c.loop-place.invariant.rest k (omega arith)) ∙ there)
 
 pub loop-place-preserved : goal.loop-place-preserved
 loop-place-preserved g c =
@@ -50,11 +58,15 @@ loop-place-preserved g c =
           c.serve_crew.ensures.seat i.seats;
       told = λ j t below h. elim (cases_eq j k) [
         | inl same ↦
-            let mine : h.crew ≡ crew = one-item first k h.crew crew (ap (slice_get first) (sym same) ∙ h.at) (sym (i.rest k (omega arith)) ∙ there) in
-            let S : Crew g.row.P.Denot g.row.B.Denot g.P.Policy → Type 0 = λ w. Serves (view w.seat) t in
+            let mine : h.crew ≡ crew = one-item first k h.crew crew
+            (ap (slice_get first) (sym same) ∙ h.at) (sym (i.rest k (omega arith)) ∙ there) in
+            let S : Crew g.row.P.Denot g.row.B.Denot g.P.Policy → Type 0 =
+            λ w. Serves (view w.seat) t in
             let T : ℕ → Type 0 = λ n. ToldAt f stages (set crews k new) n t in
-            subst T (sym same) (told-new crews k crew new there f stages stage here t (c.serve_crew.ensures.told t (subst S mine h.serves)))
-        | inr apart ↦ told-other crews k crew new there f stages stage here j t apart (i.told j t (omega (arith, apart)) h)
+            subst T (sym same) (told-new crews k crew new there f stages stage here t
+            (c.serve_crew.ensures.told t (subst S mine h.serves)))
+        | inr apart ↦ told-other crews k crew new there f stages stage here j t apart
+            (i.told j t (omega (arith, apart)) h)
       ];
     }
 
@@ -66,5 +78,7 @@ returns g c =
     record {
       seats = below-all (λ s w. IsSeatOf s.lock.now w.seat) stages c.loop-place.crews
           c.loop-place.place all i.seats (i.long ∙ c.requires.crews.long);
-      told = λ j t h. i.told j t (let under = slice_get_within c.args.crews.now j h.crew h.at in omega (arith, all, c.requires.crews.long, under)) h;
+      told =
+          λ j t h. i.told j t (let under = slice_get_within c.args.crews.now j h.crew h.at in
+          omega (arith, all, c.requires.crews.long, under)) h;
     }

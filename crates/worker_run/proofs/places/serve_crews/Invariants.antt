@@ -10,5 +10,6 @@ invariant-loop-place g l = record {
   long : length l.crews ≡ length l.fn.crews;
   rest : (i : ℕ) → l.place ≤ i → slice_get l.crews i ≡ slice_get l.fn.crews i;
   seats : Below l.place (λ stage crew. IsSeatOf stage.lock.now crew.seat) l.stages l.crews;
-  told : (i t : ℕ) → i < l.place → Holds l.fn.crews i t → ToldAt g.B.Body.pending l.stages l.crews i t;
+  told : (i t : ℕ) → i < l.place → Holds l.fn.crews i t
+      → ToldAt g.B.Body.pending l.stages l.crews i t;
 }

@@ -46,8 +46,12 @@ loop-place-preserved g c =
     let old = get-within first k (omega (arith, i.back.long, within)) in
     let s = c.serve_part.ensures in
     record {
-      parts = each-set (λ s p. IsPart f s c.args.thread p) stages parts i.parts k stage new within here (served-is f stage c.args.thread new s.served);
-      done = below-set (λ s p. IsServedPart f s c.args.thread p) stages parts k stage new within here s.served i.done;
+      parts =
+          each-set (λ s p. IsPart f s c.args.thread p) stages parts i.parts k stage new within here
+          (served-is f stage c.args.thread new s.served);
+      done =
+          below-set (λ s p. IsServedPart f s c.args.thread p) stages parts k stage new within here
+          s.served i.done;
       back = each-set
           (λ one other. IsPartBack f c.args.thread one other) first parts i.back k old.0 new
           within old.1
@@ -59,6 +63,8 @@ returns g c =
     let f = g.B.Body.pending in
     let i = c.loop-place.invariant in
     record {
-      served = below-all (λ s p. IsServedPart f s c.args.thread p) c.args.stages.now c.loop-place.parts c.loop-place.place c.loop-place-test.false i.done i.parts.long;
+      served =
+          below-all (λ s p. IsServedPart f s c.args.thread p) c.args.stages.now c.loop-place.parts
+          c.loop-place.place c.loop-place-test.false i.done i.parts.long;
       back = i.back;
     }

@@ -8,7 +8,8 @@ abbrev pub invariant-loop-place : goal.invariant-loop-place
 invariant-loop-place g l = record {
   crews : AreCrews g.B.Body.pending l.stages l.crews;
   parts : AreParts g.B.Body.pending l.stages l.thread l.parts;
-  done : Below l.place (λ stage part. IsServedPart g.B.Body.pending stage l.thread part) l.stages l.parts;
+  done : Below l.place (λ stage part. IsServedPart g.B.Body.pending stage l.thread part) l.stages
+      l.parts;
   kept : (i t : ℕ) → Holds l.fn.crews i t → Holds l.crews i t;
   taken : (i : ℕ) → IsThere l.fn.parts i → Holds l.crews i l.thread ⊎ IsThere l.parts i;
 }

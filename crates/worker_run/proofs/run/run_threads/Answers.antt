@@ -13,18 +13,27 @@ returns-clause-played g c =
     let plan = g.P.Policy.plan c.args.policy in
     let lock = first_book c.in_ok-lock.lock in
     let v = view c.in_ok-lock.seat in
-    here-played g.B.Body.pending c.args.bodies.items c.args.deal c.args.limit plan lock v c.in_ok-lock.ensures.made c.in_ok-lock.ensures.view c.requires.bodies start c.finish.result.events c.finish.result.outcome (c.finish.ensures start c.in_ok-run_on.ensures.played)
+    here-played g.B.Body.pending c.args.bodies.items c.args.deal c.args.limit plan lock v
+    c.in_ok-lock.ensures.made c.in_ok-lock.ensures.view c.requires.bodies start
+    c.finish.result.events c.finish.result.outcome
+    (c.finish.ensures start c.in_ok-run_on.ensures.played)
 
 pub returns-clause-run : goal.returns-clause-run
 returns-clause-run g c = λ order points is.
     let start = map g.B.Body.pending c.args.bodies.items in
     let Speaks : Plan → Type 0 = λ p. SpeaksOf p c.args.deal.threads in
-    let P : Plan → Type 0 = λ p. IsPlayed p c.args.deal start c.args.limit c.finish.result.events c.finish.result.outcome in
-    points-run c.args.deal start order points c.args.limit c.finish.result.events c.finish.result.outcome (subst Speaks is c.requires.speaks) (subst P is (returns-clause-played g c))
+    let P : Plan → Type 0 = λ p. IsPlayed p c.args.deal start c.args.limit c.finish.result.events
+    c.finish.result.outcome in
+    points-run c.args.deal start order points c.args.limit c.finish.result.events
+    c.finish.result.outcome (subst Speaks is c.requires.speaks)
+    (subst P is (returns-clause-played g c))
 
 pub returns-clause-directed : goal.returns-clause-directed
 returns-clause-directed g c = λ order events is.
     let start = map g.B.Body.pending c.args.bodies.items in
     let Speaks : Plan → Type 0 = λ p. SpeaksOf p c.args.deal.threads in
-    let P : Plan → Type 0 = λ p. IsPlayed p c.args.deal start c.args.limit c.finish.result.events c.finish.result.outcome in
-    events-run c.args.deal start order events c.args.limit c.finish.result.events c.finish.result.outcome (subst Speaks is c.requires.speaks) (subst P is (returns-clause-played g c))
+    let P : Plan → Type 0 = λ p. IsPlayed p c.args.deal start c.args.limit c.finish.result.events
+    c.finish.result.outcome in
+    events-run c.args.deal start order events c.args.limit c.finish.result.events
+    c.finish.result.outcome (subst Speaks is c.requires.speaks)
+    (subst P is (returns-clause-played g c))

@@ -38,8 +38,11 @@ start_place-scope-spawn_with-requires-send-F g t c = λ κs lives.
     let gate_lft : NamedLft = record { mir = named 10; lft = κs.1.1.1.1.1.1.1.1.1.1.0 } in
     let stages : IsSync (vec.the_row (stage.the_row lock_lft P B g.P.Policy) heap.the_row ghosts) =
     Vec-sync _ (stage-sync P B g.P.Policy policy body lock_lft) in
-    let parts : IsSend (vec.the_row (part.the_row P B g.P.Policy) heap.the_row ghosts) = Vec-send _ (part-send P B g.P.Policy policy body) in
-    param_send 2 (scope.arg-1-2 g.row.R g.row.P g.row.B g.row.G g.R.laws g.P.laws g.B.laws g.G.laws g.R.Threads g.R.Threads-dict g.R.Wait g.R.Wait-dict g.P.Policy g.P.Policy-dict g.B.Body g.B.Body-dict g.G.Gate g.G.Gate-dict g.P.Destruct-dict g.B.Destruct-dict κs)
+    let parts : IsSend (vec.the_row (part.the_row P B g.P.Policy) heap.the_row ghosts) =
+    Vec-send _ (part-send P B g.P.Policy policy body) in
+    param_send 2 (scope.arg-1-2 g.row.R g.row.P g.row.B g.row.G g.R.laws g.P.laws g.B.laws g.G.laws
+    g.R.Threads g.R.Threads-dict g.R.Wait g.R.Wait-dict g.P.Policy g.P.Policy-dict g.B.Body
+    g.B.Body-dict g.G.Gate g.G.Gate-dict g.P.Destruct-dict g.B.Destruct-dict κs)
     (arg_send _ no
     (scope.of-22 g.row.R g.row.P g.row.B g.row.G g.R.laws g.P.laws g.B.laws g.G.laws g.R.Threads
     g.R.Threads-dict g.R.Wait g.R.Wait-dict g.P.Policy g.P.Policy-dict g.B.Body g.B.Body-dict
@@ -118,41 +121,93 @@ go_without-returns g t c =
     let last = c.join_parts.new.crews in
     let seen = c.as_slice.ensures.value in
     let again = c.as_slice-2.ensures.value in
-    let w = written c.args.crews.len taken c.args.crews.items (omega (arith, c.take_parts.ensures.crews.long, ap length seen, c.requires.crews.long, c.args.crews.ok.0)) in
-    let wp = written c.args.parts.len back c.args.parts.items (omega (arith, c.take_parts.ensures.served.long, ap length seen, c.requires.parts.long, c.args.parts.ok.0)) in
-    let Q : List (Crew g.row.P.Denot g.row.B.Denot g.P.Policy) → Type 0 = λ l. AreTold f stages l c.args.places.items all.items in
+    let w = written c.args.crews.len taken c.args.crews.items
+    (omega (
+      arith,
+      c.take_parts.ensures.crews.long,
+      ap length seen,
+      c.requires.crews.long,
+      c.args.crews.ok.0,
+    )) in
+    let wp = written c.args.parts.len back c.args.parts.items
+    (omega (
+      arith,
+      c.take_parts.ensures.served.long,
+      ap length seen,
+      c.requires.parts.long,
+      c.args.parts.ok.0,
+    )) in
+    let Q : List (Crew g.row.P.Denot g.row.B.Denot g.P.Policy) → Type 0 =
+    λ l. AreTold f stages l c.args.places.items all.items in
     let told = subst Q w c.start_places-all.ensures in
-    let wl = written all.len last all.items (omega (arith, c.join_parts.ensures.seats.long, ap length again, told.seats.long, all.ok.0)) in
+    let wl = written all.len last all.items
+    (omega (
+      arith,
+      c.join_parts.ensures.seats.long,
+      ap length again,
+      told.seats.long,
+      all.ok.0,
+    )) in
     let same = c.as_mut_slice-4.ensures.value ∙ wp in
-    let S : List (Stage g.row.P.Denot g.row.B.Denot) × List (Crew g.row.P.Denot g.row.B.Denot g.P.Policy) → Type 0 = λ p. AreSeats p.0 p.1 in
-    let A : List (Stage g.row.P.Denot g.row.B.Denot) × List (Part g.row.P.Denot g.row.B.Denot g.P.Policy) → Type 0 = λ p. AreServedParts f p.0 u p.1 in
+    let S : List (Stage g.row.P.Denot g.row.B.Denot)
+    × List (Crew g.row.P.Denot g.row.B.Denot g.P.Policy) → Type 0 = λ p. AreSeats p.0 p.1 in
+    let A : List (Stage g.row.P.Denot g.row.B.Denot)
+    × List (Part g.row.P.Denot g.row.B.Denot g.P.Policy) → Type 0 =
+    λ p. AreServedParts f p.0 u p.1 in
     let served = subst A (λ j. ((seen ∙ sym again) j, sym same j)) c.take_parts.ensures.served in
-    told-without f stages c.args.crews.items c.args.places.items u c.args.parts.items back taken all.items _
-    (λ i n h. let H : List (Crew g.row.P.Denot g.row.B.Denot g.P.Policy) → Type 0 = λ l. Holds l i n in c.take_parts.ensures.kept i n (subst H (sym c.as_mut_slice.ensures.value) h))
-    (λ i there. let I : List (Part g.row.P.Denot g.row.B.Denot g.P.Policy) → Type 0 = λ l. IsThere l i in c.take_parts.ensures.taken i (subst I (sym c.as_mut_slice-2.ensures.value) there))
+    told-without f stages c.args.crews.items c.args.places.items u c.args.parts.items back taken
+    all.items _
+    (λ i n h. let H : List (Crew g.row.P.Denot g.row.B.Denot g.P.Policy) → Type 0 =
+    λ l. Holds l i n in c.take_parts.ensures.kept i n
+    (subst H (sym c.as_mut_slice.ensures.value) h))
+    (λ i there. let I : List (Part g.row.P.Denot g.row.B.Denot g.P.Policy) → Type 0 =
+    λ l. IsThere l i in c.take_parts.ensures.taken i
+    (subst I (sym c.as_mut_slice-2.ensures.value) there))
     told
     (subst S (λ j. (again j, sym wl j)) c.join_parts.ensures.seats)
-    (λ i n was. let T : List (Stage g.row.P.Denot g.row.B.Denot) × List (Crew g.row.P.Denot g.row.B.Denot g.P.Policy) → Type 0 = λ p. ToldAt f p.0 p.1 i n in subst T (λ j. (again j, sym wl j)) (c.join_parts.ensures.kept i n (subst T (λ j. (sym again j, sym c.as_mut_slice-3.ensures.value j)) was)))
+    (λ i n was. let T : List (Stage g.row.P.Denot g.row.B.Denot)
+    × List (Crew g.row.P.Denot g.row.B.Denot g.P.Policy) → Type 0 = λ p. ToldAt f p.0 p.1 i n in
+    subst T (λ j. (again j, sym wl j))
+    (c.join_parts.ensures.kept i n (subst T
+    (λ j. (sym again j, sym c.as_mut_slice-3.ensures.value j)) was)))
     (λ i there.
-    let T : List (Stage g.row.P.Denot g.row.B.Denot) × List (Crew g.row.P.Denot g.row.B.Denot g.P.Policy) → Type 0 = λ p. ToldAt f p.0 p.1 i u in
+    let T : List (Stage g.row.P.Denot g.row.B.Denot)
+    × List (Crew g.row.P.Denot g.row.B.Denot g.P.Policy) → Type 0 = λ p. ToldAt f p.0 p.1 i u in
     let I : List (Part g.row.P.Denot g.row.B.Denot g.P.Policy) → Type 0 = λ l. IsThere l i in
-    subst T (λ j. (again j, sym wl j)) (c.join_parts.ensures.joined i u served (subst I (sym same) there)))
+    subst T (λ j. (again j, sym wl j))
+    (c.join_parts.ensures.joined i u served (subst I (sym same) there)))
 
 pub start_places-returns-in-None : goal.start_places-returns-in-None
 start_places-returns-in-None g t c =
     let f = g.B.Body.pending in
     let new = c.serve_crews.new.crews in
-    let w = written c.args.crews.len new c.args.crews.items (omega (arith, c.serve_crews.ensures.seats.long, ap length c.as_slice.ensures.value, c.requires.crews.long, c.args.crews.ok.0)) in
-    let S : List (Stage g.row.P.Denot g.row.B.Denot) × List (Crew g.row.P.Denot g.row.B.Denot g.P.Policy) → Type 0 = λ p. AreSeats p.0 p.1 in
+    let w = written c.args.crews.len new c.args.crews.items
+    (omega (
+      arith,
+      c.serve_crews.ensures.seats.long,
+      ap length c.as_slice.ensures.value,
+      c.requires.crews.long,
+      c.args.crews.ok.0,
+    )) in
+    let S : List (Stage g.row.P.Denot g.row.B.Denot)
+    × List (Crew g.row.P.Denot g.row.B.Denot g.P.Policy) → Type 0 = λ p. AreSeats p.0 p.1 in
     record {
       seats = subst S (λ j. (c.as_slice.ensures.value j, sym w j)) c.serve_crews.ensures.seats;
       held = λ i u h.
-          let T : List (Stage g.row.P.Denot g.row.B.Denot) × List (Crew g.row.P.Denot g.row.B.Denot g.P.Policy) → Type 0 = λ p. ToldAt f p.0 p.1 i u in
+          let T : List (Stage g.row.P.Denot g.row.B.Denot)
+          × List (Crew g.row.P.Denot g.row.B.Denot g.P.Policy) → Type 0 =
+          λ p. ToldAt f p.0 p.1 i u in
           let H : List (Crew g.row.P.Denot g.row.B.Denot g.P.Policy) → Type 0 = λ l. Holds l i u in
-          subst T (λ j. (c.as_slice.ensures.value j, sym w j)) (c.serve_crews.ensures.told i u (subst H (sym c.as_mut_slice.ensures.value) h));
-      placed = λ i u p. absurd (let under = slice_get_within c.args.places.items u p.parts p.at in omega (arith, under, c.in-None.ensures.cases.0, c.args.places.ok.0));
+          subst T (λ j. (c.as_slice.ensures.value j, sym w j))
+          (c.serve_crews.ensures.told i u (subst H (sym c.as_mut_slice.ensures.value) h));
+      placed =
+          λ i u p. absurd (let under = slice_get_within c.args.places.items u p.parts p.at in
+          omega (arith, under, c.in-None.ensures.cases.0, c.args.places.ok.0));
     }
 
 pub start_places-returns-in-Some : goal.start_places-returns-in-Some
 start_places-returns-in-Some g t c =
-    told-last g.B.Body.pending c.args.stages.now.items c.args.crews.items c.pop.new.self.items c.in-Some.parts c.args.places.items c.start_place.result.items _ (omega (arith, c.len-thread.ensures, c.pop.new.self.ok.0)) c.in-Some.ensures.items c.start_place.ensures
+    told-last g.B.Body.pending c.args.stages.now.items c.args.crews.items c.pop.new.self.items
+    c.in-Some.parts c.args.places.items c.start_place.result.items _
+    (omega (arith, c.len-thread.ensures, c.pop.new.self.ok.0)) c.in-Some.ensures.items
+    c.start_place.ensures

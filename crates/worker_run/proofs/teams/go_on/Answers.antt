@@ -11,25 +11,57 @@ use Rattle.worker_run.proofs.teams.go_on.Goals as goal
 pub returns-clause-kept : goal.returns-clause-kept
 returns-clause-kept g c = λ i t told.
     let new = c.join_parts.new.crews in
-    let w = written c.args.crews.len new c.args.crews.items (omega (arith, c.join_parts.ensures.seats.long, ap length c.as_slice-2.ensures.value, c.requires.seats.long, c.args.crews.ok.0)) in
-    let T : List (Stage g.row.P.Denot g.row.B.Denot) × List (Crew g.row.P.Denot g.row.B.Denot g.P.Policy) → Type 0 = λ p. ToldAt g.B.Body.pending p.0 p.1 i t in
-    subst T (λ j. (c.as_slice-2.ensures.value j, sym w j)) (c.join_parts.ensures.kept i t (subst T (λ j. (sym c.as_slice-2.ensures.value j, sym c.as_mut_slice-2.ensures.value j)) told))
+    let w = written c.args.crews.len new c.args.crews.items
+    (omega (
+      arith,
+      c.join_parts.ensures.seats.long,
+      ap length c.as_slice-2.ensures.value,
+      c.requires.seats.long,
+      c.args.crews.ok.0,
+    )) in
+    let T : List (Stage g.row.P.Denot g.row.B.Denot)
+    × List (Crew g.row.P.Denot g.row.B.Denot g.P.Policy) → Type 0 =
+    λ p. ToldAt g.B.Body.pending p.0 p.1 i t in
+    subst T (λ j. (c.as_slice-2.ensures.value j, sym w j))
+    (c.join_parts.ensures.kept i t (subst T
+    (λ j. (sym c.as_slice-2.ensures.value j, sym c.as_mut_slice-2.ensures.value j)) told))
 
 pub returns-clause-joined : goal.returns-clause-joined
 returns-clause-joined g c = λ i there.
     let f = g.B.Body.pending in
     let t = c.args.thread in
     let new = c.join_parts.new.crews in
-    let w = written c.args.crews.len new c.args.crews.items (omega (arith, c.join_parts.ensures.seats.long, ap length c.as_slice-2.ensures.value, c.requires.seats.long, c.args.crews.ok.0)) in
+    let w = written c.args.crews.len new c.args.crews.items
+    (omega (
+      arith,
+      c.join_parts.ensures.seats.long,
+      ap length c.as_slice-2.ensures.value,
+      c.requires.seats.long,
+      c.args.crews.ok.0,
+    )) in
     let back = c.serve_parts.new.parts in
-    let wp = written c.args.parts.len back c.args.parts.items (omega (arith, c.serve_parts.ensures.served.long, ap length c.as_slice.ensures.value, c.requires.parts.long, c.args.parts.ok.0)) in
+    let wp = written c.args.parts.len back c.args.parts.items
+    (omega (
+      arith,
+      c.serve_parts.ensures.served.long,
+      ap length c.as_slice.ensures.value,
+      c.requires.parts.long,
+      c.args.parts.ok.0,
+    )) in
     let same : c.as_mut_slice-3.result.now ≡ back = c.as_mut_slice-3.ensures.value ∙ wp in
-    let T : List (Stage g.row.P.Denot g.row.B.Denot) × List (Crew g.row.P.Denot g.row.B.Denot g.P.Policy) → Type 0 = λ p. ToldAt f p.0 p.1 i t in
-    let S : List (Stage g.row.P.Denot g.row.B.Denot) × List (Part g.row.P.Denot g.row.B.Denot g.P.Policy) → Type 0 = λ p. AreServedParts f p.0 t p.1 in
+    let T : List (Stage g.row.P.Denot g.row.B.Denot)
+    × List (Crew g.row.P.Denot g.row.B.Denot g.P.Policy) → Type 0 = λ p. ToldAt f p.0 p.1 i t in
+    let S : List (Stage g.row.P.Denot g.row.B.Denot)
+    × List (Part g.row.P.Denot g.row.B.Denot g.P.Policy) → Type 0 =
+    λ p. AreServedParts f p.0 t p.1 in
     let I : List (Part g.row.P.Denot g.row.B.Denot g.P.Policy) → Type 0 = λ l. IsThere l i in
-    let served = subst S (λ j. ((c.as_slice.ensures.value ∙ sym c.as_slice-2.ensures.value) j, sym same j)) c.serve_parts.ensures.served in
+    let served = subst S (λ j. (
+      (c.as_slice.ensures.value ∙ sym c.as_slice-2.ensures.value) j,
+      sym same j,
+    )) c.serve_parts.ensures.served in
     let first = subst I (sym c.as_mut_slice.ensures.value) there in
     let left =
     subst I (sym same)
     (ap (λ l. slice_get l i) (back-all-there f t _ back c.serve_parts.ensures.back) ∙ first) in
-    subst T (λ j. (c.as_slice-2.ensures.value j, sym w j)) (c.join_parts.ensures.joined i t served left)
+    subst T (λ j. (c.as_slice-2.ensures.value j, sym w j))
+    (c.join_parts.ensures.joined i t served left)

@@ -8,7 +8,14 @@ use Rattle.worker_run.proofs.teams.serve_if.Goals as goal
 pub returns-then-load : goal.returns-then-load
 returns-then-load g c =
     let new = c.serve_parts.new.parts in
-    let w = written c.args.parts.len new c.args.parts.items (omega (arith, c.serve_parts.ensures.served.long, ap length c.as_slice.ensures.value, c.requires.long, c.args.parts.ok.0)) in
+    let w = written c.args.parts.len new c.args.parts.items
+    (omega (
+      arith,
+      c.serve_parts.ensures.served.long,
+      ap length c.as_slice.ensures.value,
+      c.requires.long,
+      c.args.parts.ok.0,
+    )) in
     let A : List (Part g.row.P.Denot g.row.B.Denot g.P.Policy)
     × List (Part g.row.P.Denot g.row.B.Denot g.P.Policy) → Type 0 =
     λ p. AreBack g.B.Body.pending c.args.thread p.0 p.1 in

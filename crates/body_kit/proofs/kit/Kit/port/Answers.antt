@@ -27,4 +27,5 @@ returns-clause-own c =
     let there = inside seat t c.requires.serves in
     let few = v.seen.deal.few_threads in
     let Its : View → Type 0 = λ w. Serves w t in
-    subst Its (sym (ap view c.new.ensures ∙ c.split-own.ensures.right)) (alone-has v t (omega arith))
+    subst Its (sym (ap view c.new.ensures ∙ c.split-own.ensures.right))
+    (alone-has v t (omega arith))

@@ -12,7 +12,8 @@ pub returns-in-Some-clause-row : goal.returns-in-Some-clause-row
 returns-in-Some-clause-row g c = λ t serves.
     let stands = c.self.invariant.1.told c.in-Some.outcome c.in-Some.is in
     let post = ask_post c.args.ask c.args.line in
-    subst (λ (v : View). IsToldOver v t post c.in-Some.outcome v) (ap view c.self.view_is) (told-again (view c.self.inside.seat) t c.in-Some.outcome stands.0 post)
+    subst (λ (v : View). IsToldOver v t post c.in-Some.outcome v) (ap view c.self.view_is)
+    (told-again (view c.self.inside.seat) t c.in-Some.outcome stands.0 post)
 
 pub invariant_of-self : goal.invariant_of-self
 invariant_of-self g c =
@@ -23,7 +24,9 @@ invariant_of-self g c =
     let P : Option Outcome → Type 0 = IsPortSeat v t in
     let Q : Option Outcome → Type 0 = IsPortSeat w t in (
       told.of,
-      subst Q (sym c.over_of-self-inside.ensures) (still-port v w t c.args.ask c.args.line told.on (subst P c.in_default.is c.self.invariant.1) c.ask_once-asked.result told.row),
+      subst Q (sym c.over_of-self-inside.ensures)
+          (still-port v w t c.args.ask c.args.line told.on
+          (subst P c.in_default.is c.self.invariant.1) c.ask_once-asked.result told.row),
     )
 
 pub returns-clause-later : goal.returns-clause-later
@@ -33,7 +36,8 @@ returns-clause-later g c = λ o lawful stands.
     let told = c.ask_once-asked.ensures in
     let Over : View → Type 0 = λ x. IsLawful x.seen × (x.seen.outcome ≡ Some o) in
     let was = subst Over (sym (ap view c.self.view_is)) (lawful, stands) in
-    later-over v w c.self.inside.thread c.args.ask c.args.line told.on o was.0 was.1 c.ask_once-asked.result told.row
+    later-over v w c.self.inside.thread c.args.ask c.args.line told.on o was.0 was.1
+    c.ask_once-asked.result told.row
 
 pub returns-in-Some-clause-back : goal.returns-in-Some-clause-back
 returns-in-Some-clause-back g c =
@@ -41,4 +45,7 @@ returns-in-Some-clause-back g c =
     rw (sym c.self.view_is) (back-self c.self.inside.seat stands.1)
 
 pub returns-clause-back : goal.returns-clause-back
-returns-clause-back g c = rw (sym c.self.view_is) (goes-back c.self.inside.lock.now c.self.inside.seat c.ask_once-asked.new.seat c.self.invariant.0 c.ask_once-asked.ensures.of c.ask_once-asked.ensures.on)
+returns-clause-back g c =
+    rw (sym c.self.view_is) (goes-back c.self.inside.lock.now c.self.inside.seat
+    c.ask_once-asked.new.seat c.self.invariant.0 c.ask_once-asked.ensures.of
+    c.ask_once-asked.ensures.on)

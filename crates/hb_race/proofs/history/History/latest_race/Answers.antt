@@ -11,7 +11,10 @@ returns c = λ s access n current has.
     let d = c.latest_of-atomic_read.result in
     let e = c.latest_of-atomic_write.result in
     let P : Option ℕ → Type 0 = IsGreatest (NumbersRace s access n) in
-    subst P (sym (c.later-3.ensures ∙ ap (λ x. later x c.later-2.result) c.later.ensures ∙ ap (later (later a b)) c.later-2.ensures))
+    subst P (sym (c.later-3.ensures ∙ ap (λ x. later x c.later-2.result) c.later.ensures
+    ∙ ap (later (later a b)) c.later-2.ensures))
     (latest-race s current.lines access n c.args.kind current.accesses a b d e
-    (c.latest_of-plain_read.ensures s access n current has) (c.latest_of-plain_write.ensures s access n current has)
-    (c.latest_of-atomic_read.ensures s access n current has) (c.latest_of-atomic_write.ensures s access n current has))
+    (c.latest_of-plain_read.ensures s access n current has)
+    (c.latest_of-plain_write.ensures s access n current has)
+    (c.latest_of-atomic_read.ensures s access n current has)
+    (c.latest_of-atomic_write.ensures s access n current has))

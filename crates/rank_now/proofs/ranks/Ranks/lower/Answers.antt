@@ -1,4 +1,5 @@
-use Rattle.std.proofs.Common.{◌≡◌, ◌<◌, ◌-◌, List, Option, Some, ℕ, length, ap, sym, subst, ◌∙◌, set}
+use Rattle.std.proofs.Common.{◌≡◌, ◌<◌, ◌-◌, List, Option, Some, ℕ, length, ap, sym, subst, ◌∙◌}
+use Rattle.std.proofs.Common.{set}
 use Rattle.std.proofs.Common.{arith}
 use Rattle.std.proofs.lemmas.List.{get_or_read, with_items_is}
 use Rattle.rank_now.specs.Ranking.{Ranking, AreLowered}

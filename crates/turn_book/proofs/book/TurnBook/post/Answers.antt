@@ -13,10 +13,20 @@ invariant_of-self g c =
     let f = c.self.inside in
     let kept = c.self.invariant.0 in
     let running : f.outcome ≡ None = none-from f.outcome c.if-is_none.ensures in
-    let within : c.args.thread < (f.deal).threads = omega (arith, c.requires.thread, ap (λ (b : BookState). (b.deal).threads) c.self.view_is) in
-    let away : next_posts_of (f.board).posts c.args.thread ≡ None = away-none (next_posts_of (f.board).posts c.args.thread) (sym (standing-told f.deal f.limit (g.P.Policy.plan f.policy) f.board f.trace.items f.next f.outcome (vec_capacity f.trace) kept c.args.thread) ∙ ap (λ (b : BookState). standing_of b c.args.thread) c.self.view_is ∙ c.requires.away) in (
-      kept-post f.deal f.limit (g.P.Policy.plan f.policy) f.board f.trace.items f.next f.outcome (vec_capacity f.trace) kept running c.args.thread c.args.post c.post.new.self within away c.post.ensures.store c.post.ensures.posts (eqb c.len.result f.limit) c.settle-self-inside.result c.settle-self-inside.new.outcome
-          (ap (λ n. eqb n f.limit) (c.len.ensures ∙ f.trace.ok.0)) (c.settle-self-inside.ensures.pick (schedule_of f.trace.items) c.self.invariant.1) (c.settle-self-inside.ensures.outcome None running),
+    let within : c.args.thread < (f.deal).threads =
+    omega (arith, c.requires.thread, ap (λ (b : BookState). (b.deal).threads) c.self.view_is) in
+    let away : next_posts_of (f.board).posts c.args.thread ≡ None =
+    away-none (next_posts_of (f.board).posts c.args.thread)
+    (sym (standing-told f.deal f.limit (g.P.Policy.plan f.policy) f.board f.trace.items f.next
+    f.outcome (vec_capacity f.trace) kept c.args.thread)
+    ∙ ap (λ (b : BookState). standing_of b c.args.thread) c.self.view_is ∙ c.requires.away) in (
+      kept-post f.deal f.limit (g.P.Policy.plan f.policy) f.board f.trace.items f.next f.outcome
+          (vec_capacity f.trace) kept running c.args.thread c.args.post c.post.new.self within away
+          c.post.ensures.store c.post.ensures.posts (eqb c.len.result f.limit)
+          c.settle-self-inside.result c.settle-self-inside.new.outcome
+          (ap (λ n. eqb n f.limit) (c.len.ensures ∙ f.trace.ok.0))
+          (c.settle-self-inside.ensures.pick (schedule_of f.trace.items) c.self.invariant.1)
+          (c.settle-self-inside.ensures.outcome None running),
       c.self.invariant.1,
     )
 
@@ -25,22 +35,36 @@ returns-then-is_none-clause-posted g c = λ open_now.
     let f = c.self.inside in
     let kept = c.self.invariant.0 in
     let running : f.outcome ≡ None = none-from f.outcome c.if-is_none.ensures in
-    let within : c.args.thread < (f.deal).threads = omega (arith, c.requires.thread, ap (λ (b : BookState). (b.deal).threads) c.self.view_is) in
-    let away : next_posts_of (f.board).posts c.args.thread ≡ None = away-none (next_posts_of (f.board).posts c.args.thread) (sym (standing-told f.deal f.limit (g.P.Policy.plan f.policy) f.board f.trace.items f.next f.outcome (vec_capacity f.trace) kept c.args.thread) ∙ ap (λ (b : BookState). standing_of b c.args.thread) c.self.view_is ∙ c.requires.away) in
-    let P : BookState → Type 0 = λ b. IsPosted b c.args.thread c.args.post (book_of_parts f.deal f.limit (g.P.Policy.plan f.policy) (c.post.new.self).posts f.trace.items c.settle-self-inside.new.outcome) in
+    let within : c.args.thread < (f.deal).threads =
+    omega (arith, c.requires.thread, ap (λ (b : BookState). (b.deal).threads) c.self.view_is) in
+    let away : next_posts_of (f.board).posts c.args.thread ≡ None =
+    away-none (next_posts_of (f.board).posts c.args.thread)
+    (sym (standing-told f.deal f.limit (g.P.Policy.plan f.policy) f.board f.trace.items f.next
+    f.outcome (vec_capacity f.trace) kept c.args.thread)
+    ∙ ap (λ (b : BookState). standing_of b c.args.thread) c.self.view_is ∙ c.requires.away) in
+    let P : BookState → Type 0 = λ b.
+    IsPosted b c.args.thread c.args.post
+    (book_of_parts f.deal f.limit (g.P.Policy.plan f.policy) (c.post.new.self).posts
+    f.trace.items c.settle-self-inside.new.outcome) in
     subst P c.self.view_is (record {
       making = record { deal = refl; limit = refl; plan = refl };
       trace = refl;
-      posts = posts-after f.deal f.limit (g.P.Policy.plan f.policy) f.board f.trace.items f.next f.outcome (vec_capacity f.trace) kept running c.args.thread c.args.post c.post.new.self within away c.post.ensures.store c.post.ensures.posts;
+      posts =
+          posts-after f.deal f.limit (g.P.Policy.plan f.policy) f.board f.trace.items f.next
+          f.outcome (vec_capacity f.trace) kept running c.args.thread c.args.post c.post.new.self
+          within away c.post.ensures.store c.post.ensures.posts;
     })
 
 pub returns-then-is_none-clause-lawful : goal.returns-then-is_none-clause-lawful
 returns-then-is_none-clause-lawful g c =
     let f = c.self.inside in
-    lawful-told f.deal f.limit (g.P.Policy.plan f.policy) c.post.new.self f.trace.items c.settle-self-inside.result c.settle-self-inside.new.outcome (vec_capacity f.trace) (invariant_of-self g c).0
+    lawful-told f.deal f.limit (g.P.Policy.plan f.policy) c.post.new.self f.trace.items
+    c.settle-self-inside.result c.settle-self-inside.new.outcome (vec_capacity f.trace)
+    (invariant_of-self g c).0
 
 pub returns-else-is_none-clause-lawful : goal.returns-else-is_none-clause-lawful
 returns-else-is_none-clause-lawful g c =
     let f = c.self.inside in
     let P : BookState → Type 0 = IsLawful in
-    subst P c.self.view_is (lawful-told f.deal f.limit (g.P.Policy.plan f.policy) f.board f.trace.items f.next f.outcome (vec_capacity f.trace) c.self.invariant.0)
+    subst P c.self.view_is (lawful-told f.deal f.limit (g.P.Policy.plan f.policy) f.board
+    f.trace.items f.next f.outcome (vec_capacity f.trace) c.self.invariant.0)

@@ -14,6 +14,7 @@ invariant_of-seat g c =
       none = ap (λ (x : SeatWithSlots). x.1) me ∙ old.none;
       served = old.served ∙ sym (ap (λ (x : SeatWithSlots). x.0.serves) me);
       threads =
-          λ t h. subst (λ (x : SeatWithSlots). t < x.0.seen.deal.threads) (sym me) (old.threads t h);
+          λ t h. subst (λ (x : SeatWithSlots). t < x.0.seen.deal.threads) (sym me)
+          (old.threads t h);
       owed = λ t h. old.owed t h ∙ sym (ap (λ (x : SeatWithSlots). owes_of x.0.seen t) me);
     }

@@ -18,6 +18,10 @@ invariant_of-result g c =
       idle = ap (λ (x : SeatWithSlots). x.0.held) right;
       none = ap (λ (x : SeatWithSlots). x.1) right;
       served = sym (ap (λ (x : SeatWithSlots). x.0.serves) right);
-      threads = λ u h. subst (λ (x : SeatWithSlots). u < x.0.seen.deal.threads) (sym right) (threads-alone v t v.seen.deal.threads (inside old t c.requires.serves) u h);
-      owed = λ u h. owed-alone v t old.owes v.seen (old.owed t (to-flag old t c.requires.serves)) u h ∙ ap (λ (x : SeatWithSlots). owes_of x.0.seen u) (sym right);
+      threads =
+          λ u h. subst (λ (x : SeatWithSlots). u < x.0.seen.deal.threads) (sym right)
+          (threads-alone v t v.seen.deal.threads (inside old t c.requires.serves) u h);
+      owed =
+          λ u h. owed-alone v t old.owes v.seen (old.owed t (to-flag old t c.requires.serves)) u h
+          ∙ ap (λ (x : SeatWithSlots). owes_of x.0.seen u) (sym right);
     }

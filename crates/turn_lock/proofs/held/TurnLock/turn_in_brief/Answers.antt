@@ -12,7 +12,12 @@ pub loop-init : goal.loop-init
 loop-init g c = (c.wait_noted.ensures.of, stays-self (view c.wait_noted.new.seat))
 
 pub loop-preserved-in-Busy : goal.loop-preserved-in-Busy
-loop-preserved-in-Busy g c = (c.round.ensures.of, stays-along _ _ _ c.loop.invariant.1 (subst (λ (x : Round). RoundTells (view c.loop.seat) x (view c.round.new.seat)) c.in-Busy.is c.round.ensures.round))
+loop-preserved-in-Busy g c = (
+  c.round.ensures.of,
+  stays-along _ _ _ c.loop.invariant.1
+      (subst (λ (x : Round). RoundTells (view c.loop.seat) x (view c.round.new.seat)) c.in-Busy.is
+      c.round.ensures.round),
+)
 
 pub loop-preserved : goal.loop-preserved
 loop-preserved g c =
@@ -25,14 +30,16 @@ loop-preserved g c =
 
 pub returns-in-Found-clause-serves : goal.returns-in-Found-clause-serves
 returns-in-Found-clause-serves g c =
-    let found = subst (λ (x : Round). RoundTells (view c.loop.seat) x (view c.round.new.seat)) c.in-Found.is c.round.ensures.round in
+    let found = subst (λ (x : Round). RoundTells (view c.loop.seat) x (view c.round.new.seat))
+    c.in-Found.is c.round.ensures.round in
     let Stay : View → Type 0 = λ v. Stays v (view c.loop.seat) in
     let stays = subst Stay c.wait_noted.ensures.view c.loop.invariant.1 in
     serves-back _ _ _ stays found.said.serves
 
 pub returns-in-Found-clause-turn : goal.returns-in-Found-clause-turn
 returns-in-Found-clause-turn g c =
-    let found = subst (λ (x : Round). RoundTells (view c.loop.seat) x (view c.round.new.seat)) c.in-Found.is c.round.ensures.round in
+    let found = subst (λ (x : Round). RoundTells (view c.loop.seat) x (view c.round.new.seat))
+    c.in-Found.is c.round.ensures.round in
     let Stay : View → Type 0 = λ v. Stays v (view c.loop.seat) in
     let stays = subst Stay c.wait_noted.ensures.view c.loop.invariant.1 in
     record {
@@ -45,4 +52,6 @@ returns-in-Found-clause-turn g c =
     }
 
 pub returns-in-Found-clause-kept : goal.returns-in-Found-clause-kept
-returns-in-Found-clause-kept g c = λ over. c.round.ensures.kept c.in-Found.thread (c.in-Found.is ∙ ap (Found c.in-Found.thread) over)
+returns-in-Found-clause-kept g c =
+    λ over. c.round.ensures.kept c.in-Found.thread
+    (c.in-Found.is ∙ ap (Found c.in-Found.thread) over)

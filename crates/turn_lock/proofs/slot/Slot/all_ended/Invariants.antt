@@ -5,4 +5,5 @@ use Rattle.pct_ask.specs.declared.event.Standing.TheVariants as standings
 use Rattle.turn_lock.proofs.slot.Slot.all_ended.Given as goal
 
 abbrev pub invariant-loop-thread : goal.invariant-loop-thread
-invariant-loop-thread g l = (t : ℕ) → t < l.thread → HasFlag l.serves t → standing_of l.self.book t ≡ standings.Ended
+invariant-loop-thread g l = (t : ℕ) → t < l.thread → HasFlag l.serves t
+    → standing_of l.self.book t ≡ standings.Ended

@@ -9,6 +9,13 @@ returns-clause-turn g c =
     record {
       turn = row.turn;
       brief = row.brief;
-      said = subst (λ (s : Slot). TurnsTo s.book c.args.thread c.args.post row.turn c.answer.new.book) c.self.view_is
-          record { asked = c.ask.new.book; posted = c.ask.ensures.asked; row = row.said; lawful = c.answer.ensures.lawful };
+      said =
+          subst (λ (s : Slot). TurnsTo s.book c.args.thread c.args.post row.turn c.answer.new.book)
+          c.self.view_is
+          record {
+            asked = c.ask.new.book;
+            posted = c.ask.ensures.asked;
+            row = row.said;
+            lawful = c.answer.ensures.lawful;
+          };
     }

@@ -10,7 +10,8 @@ use Rattle.turn_lock.proofs.slot.Slot.work.Goals as goal
 
 pub returns-clause-work : goal.returns-clause-work
 returns-clause-work g c =
-    let away = subst (λ (s : Slot). (c.is_away.result ≡ true) ↔ (standing_of s.book c.args.thread ≡ standings.Away)) c.self.view_is c.is_away.ensures in
+    let away = subst (λ (s : Slot). (c.is_away.result ≡ true)
+    ↔ (standing_of s.book c.args.thread ≡ standings.Away)) c.self.view_is c.is_away.ensures in
     let old = c.args.self.now.book in
     let t = c.args.thread in
     let post = c.args.post in

@@ -1,4 +1,5 @@
-use Rattle.std.proofs.Common.{◌≡◌, ◌+◌, ℕ, ℤ, List, true, [], ◌∷◌, ◌++◌, Some, sym, ap, subst, ◌∙◌, arith, rules, w64, to_z, of_z}
+use Rattle.std.proofs.Common.{◌≡◌, ◌+◌, ℕ, ℤ, List, true, [], ◌∷◌, ◌++◌, Some, sym, ap, subst, ◌∙◌}
+use Rattle.std.proofs.Common.{arith, rules, w64, to_z, of_z}
 use Rattle.std.proofs.lemmas.Int.{to_z-of_z}
 use Rattle.pct_ask.specs.declared.ask.Post.{Post}
 use Rattle.pct_ask.specs.Objects.{sizes_of_deal, PostIsInRange}
@@ -10,13 +11,19 @@ use Rattle.turn_lock.specs.Briefs.{brief}
 use Rattle.turn_lock.specs.Views.{view}
 use Rattle.turn_lock.specs.declared.turn.Turn.{Turn}
 use Rattle.worker_run.specs.Served.{IsRunning}
-use Rattle.worker_run.proofs.Running.{answer-asks, answer-counts, answer-running, answer-owes, other-running, moves-is, over-told, posted-told, answers-few}
+use Rattle.worker_run.proofs.Running.{answer-asks, answer-counts, answer-running, answer-owes}
+use Rattle.worker_run.proofs.Running.{other-running, moves-is, over-told, posted-told, answers-few}
 use Rattle.worker_run.proofs.Words.{answer-turn}
 use Rattle.worker_run.proofs.Crews.{serves-on, moves-self, moves-along}
 use Rattle.worker_run.proofs.runner.Runner.speak.Goals as goal
 
 pub loop-init : goal.loop-init
-loop-init g c = record { of = c.requires.of; runs = λ start r. r; moves = moves-self c.args.thread (view c.args.seat.now); owes = c.requires.owes }
+loop-init g c = record {
+  of = c.requires.of;
+  runs = λ start r. r;
+  moves = moves-self c.args.thread (view c.args.seat.now);
+  owes = c.requires.owes;
+}
 
 pub post_brief-requires-clause-in_range : goal.post_brief-requires-clause-in_range
 post_brief-requires-clause-in_range g c = λ κs lives.
@@ -24,7 +31,8 @@ post_brief-requires-clause-in_range g c = λ κs lives.
     let r = c.loop.invariant.runs start c.requires.runs.2 in
     let P : Post → Type 0 =
     λ p. PostIsInRange (sizes_of_deal (first_book c.args.lock.now).deal) p.ask in
-    subst P (sym (c.post-post.ensures ∙ r.next [])) (c.requires.runs.1 (answers_of c.args.thread (view c.loop.seat).seen.trace ++ []))
+    subst P (sym (c.post-post.ensures ∙ r.next []))
+    (c.requires.runs.1 (answers_of c.args.thread (view c.loop.seat).seen.trace ++ []))
 
 pub hear-requires-clause-asks : goal.hear-requires-clause-asks
 hear-requires-clause-asks g c = λ κs lives.
@@ -33,9 +41,18 @@ hear-requires-clause-asks g c = λ κs lives.
     let post = c.post-post.result in
     let start = c.requires.runs.0 in
     let now = g.B.Body.pending c.loop.self.body in
-    let mine = serves-on (view c.args.seat.now) v c.args.thread c.loop.invariant.moves.on c.requires.serves in
-    let took = subst (λ (x : Turn). TookTurn v c.args.thread (Some post) x w) (answer-turn c.post_brief.ensures.turn.turn c.in-Answer.value (sym c.post_brief.ensures.turn.brief ∙ c.in-Answer.is)) c.post_brief.ensures.turn.said.took in
-    answer-asks v w c.args.thread mine (Some post) c.in-Answer.value took start now c.loop.self.answered (c.loop.invariant.runs start c.requires.runs.2) (λ q is. (c.loop.invariant.owes, (let same : post ≡ q = cc in sym same ∙ c.post-post.ensures)))
+    let mine = serves-on (view c.args.seat.now) v c.args.thread c.loop.invariant.moves.on
+    c.requires.serves in
+    let took = subst (λ (x : Turn). TookTurn v c.args.thread (Some post) x w)
+    (answer-turn c.post_brief.ensures.turn.turn c.in-Answer.value
+    (sym c.post_brief.ensures.turn.brief ∙ c.in-Answer.is))
+    c.post_brief.ensures.turn.said.took in
+    answer-asks v w c.args.thread mine (Some post) c.in-Answer.value took start now
+    c.loop.self.answered (c.loop.invariant.runs start c.requires.runs.2)
+    (λ q is. (
+      c.loop.invariant.owes,
+      (let same : post ≡ q = cc in sym same ∙ c.post-post.ensures),
+    ))
 
 pub hear-requires-clause-few : goal.hear-requires-clause-few
 hear-requires-clause-few g c = λ κs lives.
@@ -44,9 +61,18 @@ hear-requires-clause-few g c = λ κs lives.
     let post = c.post-post.result in
     let start = c.requires.runs.0 in
     let now = g.B.Body.pending c.loop.self.body in
-    let mine = serves-on (view c.args.seat.now) v c.args.thread c.loop.invariant.moves.on c.requires.serves in
-    let took = subst (λ (x : Turn). TookTurn v c.args.thread (Some post) x w) (answer-turn c.post_brief.ensures.turn.turn c.in-Answer.value (sym c.post_brief.ensures.turn.brief ∙ c.in-Answer.is)) c.post_brief.ensures.turn.said.took in
-    let counts = answer-counts v w c.args.thread mine (Some post) c.in-Answer.value took start now c.loop.self.answered (c.loop.invariant.runs start c.requires.runs.2) (λ q is. (c.loop.invariant.owes, (let same : post ≡ q = cc in sym same ∙ c.post-post.ensures))) in
+    let mine = serves-on (view c.args.seat.now) v c.args.thread c.loop.invariant.moves.on
+    c.requires.serves in
+    let took = subst (λ (x : Turn). TookTurn v c.args.thread (Some post) x w)
+    (answer-turn c.post_brief.ensures.turn.turn c.in-Answer.value
+    (sym c.post_brief.ensures.turn.brief ∙ c.in-Answer.is))
+    c.post_brief.ensures.turn.said.took in
+    let counts = answer-counts v w c.args.thread mine (Some post) c.in-Answer.value took start now
+    c.loop.self.answered (c.loop.invariant.runs start c.requires.runs.2)
+    (λ q is. (
+      c.loop.invariant.owes,
+      (let same : post ≡ q = cc in sym same ∙ c.post-post.ensures),
+    )) in
     let few = answers-few w.seen c.args.thread (c.loop.self.answered + 1) took.turn.lawful counts in
     omega arith
 
@@ -57,17 +83,37 @@ loop-preserved g c =
     let post = c.post-post.result in
     let now = g.B.Body.pending c.loop.self.body in
     let then = g.B.Body.pending c.hear.new.self.body in
-    let mine = serves-on (view c.args.seat.now) v c.args.thread c.loop.invariant.moves.on c.requires.serves in
-    let took = subst (λ (x : Turn). TookTurn v c.args.thread (Some post) x w) (answer-turn c.post_brief.ensures.turn.turn c.in-Answer.value (sym c.post_brief.ensures.turn.brief ∙ c.in-Answer.is)) c.post_brief.ensures.turn.said.took in
-    let owed : (q : Post) → Some post ≡ Some q → (owes_of v.seen c.args.thread ≡ true) × (q ≡ now []) = λ q is. (c.loop.invariant.owes, (let same : post ≡ q = cc in sym same ∙ c.post-post.ensures)) in
-    let next : (answers : List ℤ) → then answers ≡ now (c.in-Answer.value ∷ answers) = λ answers. ◌∙◌ {b = now (to_z w64 (of_z w64 c.in-Answer.value) ∷ answers)} (c.hear.ensures.body answers) (ap (λ a. now (a ∷ answers)) (to_z-of_z w64 c.in-Answer.value (search rules))) in
+    let mine = serves-on (view c.args.seat.now) v c.args.thread c.loop.invariant.moves.on
+    c.requires.serves in
+    let took = subst (λ (x : Turn). TookTurn v c.args.thread (Some post) x w)
+    (answer-turn c.post_brief.ensures.turn.turn c.in-Answer.value
+    (sym c.post_brief.ensures.turn.brief ∙ c.in-Answer.is))
+    c.post_brief.ensures.turn.said.took in
+    let owed : (q : Post) → Some post ≡ Some q
+    → (owes_of v.seen c.args.thread ≡ true) × (q ≡ now []) =
+    λ q is. (
+      c.loop.invariant.owes,
+      (let same : post ≡ q = cc in
+          sym same ∙ c.post-post.ensures),
+    ) in
+    let next : (answers : List ℤ) → then answers ≡ now (c.in-Answer.value ∷ answers) =
+    λ answers. ◌∙◌ {b = now (to_z w64 (of_z w64 c.in-Answer.value) ∷ answers)}
+    (c.hear.ensures.body answers) (ap (λ a. now (a ∷ answers))
+    (to_z-of_z w64 c.in-Answer.value (search rules))) in
     record {
       of = c.post_brief.ensures.of;
       runs = λ start r.
           let N : ℕ → Type 0 = λ n. IsRunning start then n c.args.thread w.seen in
-          subst N (sym c.hear.ensures.answered) (answer-running v w c.args.thread mine (Some post) c.in-Answer.value took start now c.loop.self.answered (c.loop.invariant.runs start r) owed then next);
-      moves = moves-along c.args.thread (view c.args.seat.now) v w c.loop.invariant.moves (moves-is v w c.args.thread mine (Some post) c.post_brief.ensures.turn.turn c.post_brief.ensures.turn.said.took);
-      owes = answer-owes v w c.args.thread mine (Some post) c.in-Answer.value took c.requires.runs.0 now c.loop.self.answered (c.loop.invariant.runs c.requires.runs.0 c.requires.runs.2) owed;
+          subst N (sym c.hear.ensures.answered)
+          (answer-running v w c.args.thread mine (Some post) c.in-Answer.value took start now
+          c.loop.self.answered (c.loop.invariant.runs start r) owed then next);
+      moves =
+          moves-along c.args.thread (view c.args.seat.now) v w c.loop.invariant.moves
+          (moves-is v w c.args.thread mine (Some post) c.post_brief.ensures.turn.turn
+          c.post_brief.ensures.turn.said.took);
+      owes =
+          answer-owes v w c.args.thread mine (Some post) c.in-Answer.value took c.requires.runs.0
+          now c.loop.self.answered (c.loop.invariant.runs c.requires.runs.0 c.requires.runs.2) owed;
     }
 
 pub returns-in_default : goal.returns-in_default
@@ -78,13 +124,32 @@ returns-in_default g c =
     let turn = c.post_brief.ensures.turn.turn in
     let took = c.post_brief.ensures.turn.said.took in
     let now = g.B.Body.pending c.loop.self.body in
-    let mine = serves-on (view c.args.seat.now) v c.args.thread c.loop.invariant.moves.on c.requires.serves in
-    let owed : (q : Post) → Some post ≡ Some q → (owes_of v.seen c.args.thread ≡ true) × (q ≡ now []) = λ q is. (c.loop.invariant.owes, (let same : post ≡ q = cc in sym same ∙ c.post-post.ensures)) in
+    let mine = serves-on (view c.args.seat.now) v c.args.thread c.loop.invariant.moves.on
+    c.requires.serves in
+    let owed : (q : Post) → Some post ≡ Some q
+    → (owes_of v.seen c.args.thread ≡ true) × (q ≡ now []) =
+    λ q is. (
+      c.loop.invariant.owes,
+      (let same : post ≡ q = cc in
+          sym same ∙ c.post-post.ensures),
+    ) in
     record {
       of = c.post_brief.ensures.of;
-      runs = λ start r. other-running v w c.args.thread mine (Some post) turn (λ value is. c.in_default.not-Answer value (c.post_brief.ensures.turn.brief ∙ ap brief is)) took start now c.loop.self.answered (c.loop.invariant.runs start r) owed;
-      moves = moves-along c.args.thread (view c.args.seat.now) v w c.loop.invariant.moves (moves-is v w c.args.thread mine (Some post) turn took);
+      runs =
+          λ start r. other-running v w c.args.thread mine (Some post) turn
+          (λ value is. c.in_default.not-Answer value
+          (c.post_brief.ensures.turn.brief ∙ ap brief is)) took start now c.loop.self.answered
+          (c.loop.invariant.runs start r) owed;
+      moves =
+          moves-along c.args.thread (view c.args.seat.now) v w c.loop.invariant.moves
+          (moves-is v w c.args.thread mine (Some post) turn took);
       lawful = took.turn.lawful;
-      over = λ e. over-told v w c.args.thread mine (Some post) turn (sym (c.is_over.ensures turn c.post_brief.ensures.turn.brief) ∙ e) took;
-      posted = λ e. posted-told v w c.args.thread mine (Some post) turn (λ value is. c.in_default.not-Answer value (c.post_brief.ensures.turn.brief ∙ ap brief is)) (sym (c.is_over.ensures turn c.post_brief.ensures.turn.brief) ∙ e) took;
+      over =
+          λ e. over-told v w c.args.thread mine (Some post) turn
+          (sym (c.is_over.ensures turn c.post_brief.ensures.turn.brief) ∙ e) took;
+      posted =
+          λ e. posted-told v w c.args.thread mine (Some post) turn
+          (λ value is. c.in_default.not-Answer value
+          (c.post_brief.ensures.turn.brief ∙ ap brief is))
+          (sym (c.is_over.ensures turn c.post_brief.ensures.turn.brief) ∙ e) took;
     }
