@@ -15,7 +15,7 @@ use Rattle.pct_ask.proofs.laws.Names.{place_of-Some, place_of-thread, thread-law
 use Rattle.rank_now.specs.declared.moment.Moment.{Moment}
 use Rattle.directive.specs.DirectiveText.{DirectiveText, low_line, moment_line, verdict_line}
 use Rattle.directive.specs.DirectiveText.{directive_lines}
-use Rattle.directive.specs.Forms.{IsLow, HasUnknownLow}
+use Rattle.directive.specs.Forms.{IsLowLine, HasUnknownLow}
 use Rattle.pct_ask.specs.Pieces.{pieces_of}
 use Rattle.directive.specs.Lines.{first_line as line_of, line_at}
 use Rattle.directive.specs.Directive.{IsMoment, IsSound, IsDirective}
@@ -33,7 +33,8 @@ use Rattle.directive.specs.declared.fault.DirectiveFault.{DirectiveFault}
 use Rattle.directive.specs.declared.fault.DirectiveFault.TheVariants.{TooLong, BadHeader}
 use Rattle.directive.specs.declared.fault.DirectiveError.{DirectiveError}
 use Rattle.directive.specs.declared.fault.DirectiveError.TheVariants.{Bad, NoMemory}
-use Rattle.directive.proofs.Rows.{Told, low_in-IsLow, IsLow-low_in, low-name, row_of-IsAfter}
+use Rattle.directive.proofs.Rows.{Told, low_in-IsLowLine, IsLowLine-low_in, low-name}
+use Rattle.directive.proofs.Rows.{row_of-IsAfter}
 use Rattle.directive.proofs.Rows.{row_of-Told}
 use Rattle.directive.proofs.Places.{line-here, drop-next}
 use Rattle.directive.proofs.Faultless.{SoundTo, sound-one, sound-next, line-one, line-two}
@@ -94,7 +95,7 @@ module _ (size : ℕ) (names : NameLists) (valid : AreNames names) (all : List (
       here : line_at all 2 ≡ made piece true
       here = line-here all (piece ∷ after ∷ pieces) 1 left
 
-      unknown-by : (name : List ℕ) → IsLow piece name → (place : Option ℕ)
+      unknown-by : (name : List ℕ) → IsLowLine piece name → (place : Option ℕ)
           → place_of name names.threads ≡ place
           → ToldBy size names all (low_known names place (after ∷ pieces))
       unknown-by name low None found =
@@ -121,9 +122,9 @@ module _ (size : ℕ) (names : NameLists) (valid : AreNames names) (all : List (
       by None e =
           first-low size names all sound_to
           (rw here (λ second. (let there : None ≡ Some second.name = sym e
-          ∙ low_in-IsLow piece second.name second.text in cc)))
+          ∙ low_in-IsLowLine piece second.name second.text in cc)))
       by (Some name) e =
-          unknown-by name (IsLow-low_in piece name e) (place_of name names.threads) refl
+          unknown-by name (IsLowLine-low_in piece name e) (place_of name names.threads) refl
 
   low-unended : (rest : List (List ℕ)) → drop 1 all ≡ rest → (line_of rest).whole ≡ false
       → SoundTo size names all 2 → IsFirstFault size names all 2 BadHeader
@@ -252,7 +253,7 @@ read-directive bytes names text valid is =
     let low = low_line (thread_name names text.low) in
     let lines : pieces_of bytes ≡ codes "directive 1" ∷ low ∷ pieces_of_lines body =
     ap pieces_of is.text ∙ pieces-directive names text valid is.sound in
-    let name = low_in-IsLow low (thread_name names text.low)
+    let name = low_in-IsLowLine low (thread_name names text.low)
     (record { lawful = thread-lawful names text.low valid is.sound.low; spelled = refl }) in
     let found = place_of-thread names text.low valid is.sound.low in
     let told = body-lines names 3 text.events text.verdict valid is.sound.events

@@ -19,7 +19,8 @@ use Rattle.pct_ask.proofs.laws.SplitWords.{joined-words}
 use Rattle.pct_ask.proofs.laws.TextBytes.{words_of-high, high-by, name-high, decimal-high}
 use Rattle.pct_ask.proofs.laws.VerdictsRead.{ReadsAs-words, ReadsAs-only}
 use Rattle.directive.specs.DirectiveText.{verdict_line}
-use Rattle.directive.specs.Forms.{IsNumber, IsLow, IsAfter, IsVerdict, IsAfterText, IsVerdictText}
+use Rattle.directive.specs.Forms.{IsNumber, IsLowLine, IsAfter, IsVerdict, IsAfterText}
+use Rattle.directive.specs.Forms.{IsVerdictText}
 use Rattle.directive.specs.Forms.{HasUnknownVerdict}
 use Rattle.directive.specs.Reading.{low_words, low_in, moment_row, after_words, end_of, row_of}
 use Rattle.directive.specs.declared.row.Row.{Row}
@@ -30,14 +31,14 @@ use Rattle.directive.proofs.Bodies.{row-after}
 
 -- ---- the line of the lowest thread
 
-low-cut : (text name : List ℕ) → IsLow text name → words_of text ≡ codes "low" ∷ name ∷ []
+low-cut : (text name : List ℕ) → IsLowLine text name → words_of text ≡ codes "low" ∷ name ∷ []
 low-cut text name is =
     ap words_of is.spelled ∙ words_of-high (codes "low") (name ∷ [])
     (high-by (codes "low") refl, (name-high name is.lawful, tt))
 
-pub low_in-IsLow : (text name : List ℕ) → IsLow text name → low_in text ≡ Some name
+pub low_in-IsLowLine : (text name : List ℕ) → IsLowLine text name → low_in text ≡ Some name
 unfolding low_in
-low_in-IsLow text name is = rw (low-cut text name is, is.lawful)
+low_in-IsLowLine text name is = rw (low-cut text name is, is.lawful)
 
 lawful-Some : (b : Bool) (name other : List ℕ) → (if b then Some name else None) ≡ Some other
     → (b ≡ true) × (name ≡ other)
@@ -64,9 +65,9 @@ low-spelled (head ∷ word ∷ []) name h =
     low-by (bytes_eq head (codes "low")) (is_name 1 word) head word name refl refl h
 low-spelled (a ∷ b ∷ c ∷ words) name h = absurd cc
 
-pub IsLow-low_in : (text name : List ℕ) → low_in text ≡ Some name → IsLow text name
+pub IsLowLine-low_in : (text name : List ℕ) → low_in text ≡ Some name → IsLowLine text name
 unfolding low_in
-IsLow-low_in text name h =
+IsLowLine-low_in text name h =
     let k = low-spelled (words_of text) name h in
     record { lawful = k.1; spelled = joined-words text _ k.0 }
 
@@ -263,7 +264,7 @@ row-told names text = by (bytes_eq (take 8 text) (codes "verdict ")) refl
     by false e = after-told names text (after_words names (words_of text)) e refl
 
 -- there is one name on the line of the lowest thread
-pub low-name : (text a b : List ℕ) → IsLow text a → IsLow text b → a ≡ b
+pub low-name : (text a b : List ℕ) → IsLowLine text a → IsLowLine text b → a ≡ b
 low-name text a b is other =
     let e : codes "low" ∷ a ∷ [] ≡ codes "low" ∷ b ∷ [] =
     sym (low-cut text a is) ∙ low-cut text b other in

@@ -3,7 +3,8 @@
 use Rattle.std.specs.Prelude.{◌≡◌, ℕ, ◌-◌, ◌<◌, ◌≤◌, ◌⊎◌, true, List, length, codes}
 use Rattle.pct_ask.specs.FirstFaults as texts
 use Rattle.pct_ask.specs.NameLists.{NameLists}
-use Rattle.directive.specs.Forms.{IsLow, IsAfterText, IsVerdictText, HasUnknownLow, HasUnknownAfter}
+use Rattle.directive.specs.Forms.{IsLowLine, IsAfterText, IsVerdictText, HasUnknownLow}
+use Rattle.directive.specs.Forms.{HasUnknownAfter}
 use Rattle.directive.specs.Forms.{HasUnknownVerdict}
 use Rattle.pct_ask.specs.Pieces.{pieces_of}
 use Rattle.directive.specs.Lines.{LineBytes, line_at, HasByte}
@@ -21,7 +22,7 @@ pub record IsTitleLine (line : LineBytes) : Type 0 where
 pub record IsSecondLine (line : LineBytes) : Type 0 where
   pub whole : line.whole ≡ true
   pub name : List ℕ
-  pub text : IsLow line.text name
+  pub text : IsLowLine line.text name
 
 -- an `after` line or a verdict line by form, with its LF
 pub record IsLaterLine (names : NameLists) (line : LineBytes) : Type 0 where

@@ -11,7 +11,7 @@ abbrev pub IsNumber : ℕ → Type 0
 IsNumber number = (1 ≤ number) × (number ≤ 100000)
 
 -- low NAME: a lawful name by the first version's keywords
-pub record IsLow (text name : List ℕ) : Type 0 where
+pub record IsLowLine (text name : List ℕ) : Type 0 where
   pub lawful : is_name 1 name ≡ true
   pub spelled : text ≡ low_line name
 
@@ -38,7 +38,7 @@ IsVerdictText names text = (verdict : NamedVerdict) × IsVerdict names text verd
 
 -- a `low` line by form, and no thread has its name
 abbrev pub HasUnknownLow : NameLists → List ℕ → Type 0
-HasUnknownLow names text = (name : List ℕ) × IsLow text name × IsNobody names name
+HasUnknownLow names text = (name : List ℕ) × IsLowLine text name × IsNobody names name
 
 -- an `after` line by form, and no thread has its name
 abbrev pub HasUnknownAfter : NameLists → List ℕ → Type 0

@@ -4,7 +4,7 @@ use Rattle.std.specs.Fmt.{digits}
 use Rattle.pct_ask.specs.NameLists.{NameLists}
 use Rattle.pct_ask.specs.declared.verdict.Verdict.TheVariants.{Failed}
 use Rattle.directive.specs.DirectiveText.{directive_text, after_line}
-use Rattle.directive.specs.Forms.{IsLow}
+use Rattle.directive.specs.Forms.{IsLowLine}
 use Rattle.pct_ask.specs.Pieces.{pieces_of}
 use Rattle.directive.specs.Lines.{line_at}
 
@@ -35,7 +35,7 @@ pub latest : after_line (codes "B") 100000 ≡ codes "after B 100000"
 unfolding digits
 latest = refl
 
-pub low_b : IsLow (codes "low B") (codes "B")
+pub low_b : IsLowLine (codes "low B") (codes "B")
 low_b = record { lawful = refl; spelled = refl }
 
 -- a line with its LF, and what stands after the last LF
