@@ -79,6 +79,8 @@ enum Move {
     Takes(u32, Taken),
     /// Whose turn it is, where that is known.
     Granted(Option<u32>),
+    /// For whose post the book waits, if it does.
+    Awaited(Option<u32>),
 }
 
 macro_rules! not_yet {
@@ -95,6 +97,7 @@ fn expect_move(rt: &impl Abort, book: &mut TurnBook<Pct>, made: &Move) {
         Move::Asks(thread, line, asked) => ask(rt, book, thread, line, asked),
         Move::Takes(thread, want) => assert_eq!(rt; take(rt, book, thread), want, "{thread}"),
         Move::Granted(want) => assert_eq!(rt; book.granted(), want),
+        Move::Awaited(want) => assert_eq!(rt; book.awaited(), want),
     }
 }
 
@@ -138,20 +141,22 @@ fn answers_of_a_book(rt: HostRuntime) -> Result<(), Fail> {
     expect_moves(&rt, rt.alloc(), &[2, 1, 0], &ANSWERS_BY_A_JOIN)
 }
 
-const GRANTS: [Move; 10] = [
+const GRANTS: [Move; 12] = [
     Move::Asks(2, 12, JOIN_A),
     Move::Asks(0, 4, READ),
     Move::Asks(1, 8, READ),
     Move::Takes(2, not_yet!(0, Because::Turn(0))),
     Move::Takes(0, Taken::Answer(0)),
     Move::Granted(None),
+    Move::Awaited(Some(0)),
     Move::Takes(2, not_yet!(1, Because::Away(0))),
     Move::Asks(0, 5, WRITE),
     Move::Granted(Some(0)),
+    Move::Awaited(None),
     Move::Takes(2, not_yet!(1, Because::Turn(0))),
 ];
 
-/// Whose turn it is, where that is known.
+/// Whose turn it is, where that is known, and else for whose post the book waits.
 #[test]
 fn grants_of_a_book(rt: HostRuntime) -> Result<(), Fail> {
     expect_moves(&rt, rt.alloc(), &[0, 1, 2], &GRANTS)

@@ -179,6 +179,20 @@ impl<P: Policy> TurnBook<P> {
         }
     }
 
+    /// The thread for whose next post the book waits, if it waits for one.
+    pub fn awaited(&self) -> Option<u32>
+        ensures { (u : ℕ) → (result ≡ Some u)
+            ↔ ((self.now.outcome ≡ None) × (choice_of self.now ≡ Some (Pick.Waits u))) }
+    {
+        if self.outcome.is_some() {
+            return None;
+        }
+        match self.next {
+            Pick::Waits(thread) => Some(thread),
+            _ => None,
+        }
+    }
+
     /// The steps so far, which obey the plan over the posts. Whatever the threads may post besides,
     /// they begin every whole run over it, and once an outcome stands they are that run.
     pub fn trace(&self) -> &[Event]
