@@ -1,0 +1,5 @@
+pub mod Asks
+pub mod Deals
+pub mod Events
+pub mod NamesText
+pub mod Outcomes

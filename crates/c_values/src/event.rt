@@ -1,0 +1,61 @@
+//! A step as numbers.
+
+ghost use Rattle.std.specs.Prelude.{◌≡◌, Some, None, IfOk, IfSome};
+ghost use Rattle.pct_ask.specs.declared.event.Event.{Event};
+ghost use Rattle.c_values.specs.Events.{SaysEvent, SayEvents};
+
+use crate::ask::{PctAsk, ask_of, numbers_of_ask};
+use pct_ask::{Event, EventList};
+use std::alloc::{AllocError as NoMemory, Global};
+
+/// A step as numbers.
+#[repr(C)]
+#[derive(Clone, Copy, Debug, PartialEq, Eq)]
+pub struct PctEvent {
+    pub thread: u32,
+    pub line: u32,
+    pub ask: PctAsk,
+    pub answer: i64,
+}
+
+/// The numbers that say a step.
+pub fn numbers_of_event(event: &Event) -> PctEvent
+    ensures { SaysEvent result event.now }
+{
+    PctEvent {
+        thread: event.thread,
+        line: event.line,
+        ask: numbers_of_ask(&event.ask),
+        answer: event.answer,
+    }
+}
+
+/// The step that the numbers say. `None` where they say no ask.
+pub fn event_of(numbers: &PctEvent) -> Option<Event>
+    ensures says { IfSome result (SaysEvent numbers.now) }
+    ensures none { (event : Event) → SaysEvent numbers.now event → result ≡ Some event }
+{
+    match ask_of(&numbers.ask) {
+        Some(Some(ask)) => Some(Event {
+            thread: numbers.thread,
+            line: numbers.line,
+            ask,
+            answer: numbers.answer,
+        }),
+        Some(None) | None => None,
+    }
+}
+
+/// The steps that the numbers say, in their order. `None` where some say no step.
+pub fn events_of(alloc: Global, numbers: &[PctEvent]) -> Result<Option<EventList>, NoMemory>
+    ensures { IfOk result (λ events. IfSome events (SayEvents numbers.now)) }
+{
+    let mut events = Vec::with_capacity(alloc, numbers.len())?;
+    for one in numbers {
+        match event_of(one) {
+            Some(event) => events.push(event)?,
+            None => return Ok(None),
+        }
+    }
+    Ok(Some(EventList::from_vec(events)))
+}

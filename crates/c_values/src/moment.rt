@@ -1,0 +1,41 @@
+//! A moment as numbers.
+
+ghost use Rattle.std.specs.Prelude.{◌≡◌, IfOk, map};
+ghost use Rattle.rank_now.specs.declared.moment.Moment.{Moment};
+ghost use Rattle.c_values.specs.declared.moment.PctMoment.{PctMoment};
+
+use rank_now::Moment;
+use std::alloc::{AllocError as NoMemory, Global};
+
+/// Right after its own step of this number, from 1, a thread is lowered.
+#[repr(C)]
+#[derive(Clone, Copy, Debug, PartialEq, Eq)]
+pub struct PctMoment {
+    pub thread: u32,
+    pub number: u32,
+}
+
+/// The numbers of a moment.
+pub fn numbers_of_moment(moment: Moment) -> PctMoment
+    ensures thread { result.thread ≡ moment.thread }
+    ensures number { result.number ≡ moment.number }
+{
+    PctMoment {
+        thread: moment.thread,
+        number: moment.number,
+    }
+}
+
+/// The moments that the numbers say.
+pub fn moments_of(alloc: Global, numbers: &[PctMoment]) -> Result<Vec<Moment>, NoMemory>
+    ensures { IfOk result (λ moments. moments.items
+        ≡ map (λ (n : PctMoment). record { thread = n.thread; number = n.number }) numbers.now) }
+{
+    numbers
+        .iter()
+        .map(|one| Moment {
+            thread: one.thread,
+            number: one.number,
+        })
+        .collect(alloc)
+}
