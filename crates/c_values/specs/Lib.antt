@@ -1,5 +1,6 @@
 pub mod Asks
 pub mod Deals
 pub mod Events
+pub mod Moments
 pub mod NamesText
 pub mod Outcomes

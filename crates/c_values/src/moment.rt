@@ -1,8 +1,7 @@
 //! A moment as numbers.
 
 ghost use Rattle.std.specs.Prelude.{◌≡◌, IfOk, map};
-ghost use Rattle.rank_now.specs.declared.moment.Moment.{Moment};
-ghost use Rattle.c_values.specs.declared.moment.PctMoment.{PctMoment};
+ghost use Rattle.c_values.specs.Moments.{moment_said};
 
 use rank_now::Moment;
 use std::alloc::{AllocError as NoMemory, Global};
@@ -17,8 +16,7 @@ pub struct PctMoment {
 
 /// The numbers of a moment.
 pub fn numbers_of_moment(moment: Moment) -> PctMoment
-    ensures thread { result.thread ≡ moment.thread }
-    ensures number { result.number ≡ moment.number }
+    ensures { moment_said result ≡ moment }
 {
     PctMoment {
         thread: moment.thread,
@@ -28,8 +26,7 @@ pub fn numbers_of_moment(moment: Moment) -> PctMoment
 
 /// The moments that the numbers say.
 pub fn moments_of(alloc: Global, numbers: &[PctMoment]) -> Result<Vec<Moment>, NoMemory>
-    ensures { IfOk result (λ moments. moments.items
-        ≡ map (λ (n : PctMoment). record { thread = n.thread; number = n.number }) numbers.now) }
+    ensures { IfOk result (λ moments. moments.items ≡ map moment_said numbers.now) }
 {
     numbers
         .iter()
