@@ -3,3 +3,5 @@
 pub mod OrderLists
 -- where every order that places a thread last is led to a verdict, so many choices lead to it
 pub mod Counts
+-- each order, and each list of points, stands at one place of its list
+pub mod ListedOnce

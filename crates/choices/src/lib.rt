@@ -4,11 +4,16 @@
 #![tactic(auto)]
 
 mod bound;
+mod law;
 mod moments;
 mod orders;
 mod points;
 
 pub use bound::bound_of;
+pub use law::each_choice_once;
 pub use moments::moments_of;
 pub use orders::{low_order_at, order_at, order_count};
 pub use points::points_of;
+
+#[cfg(test)]
+mod tests;

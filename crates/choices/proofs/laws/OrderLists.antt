@@ -137,7 +137,7 @@ count-range-in x from (suc many) low high = elim (cases_eq from x) [
   )
 ]
 
-range-at : (from many k : ℕ) → k < many → slice_index (range_with_len from many) k ≡ from + k
+pub range-at : (from many k : ℕ) → k < many → slice_index (range_with_len from many) k ≡ from + k
 range-at from zero k within = absurd (omega arith)
 range-at from (suc many) zero within = omega arith
 range-at from (suc many) (suc k) within = omega (arith, range-at (from + 1) many k (omega arith))
