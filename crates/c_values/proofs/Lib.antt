@@ -1,0 +1,3 @@
+mod BlockedPlaces
+mod EventSteps
+mod NameSteps

@@ -1,19 +1,33 @@
 -- A step as numbers (this project's coding).
-use Rattle.std.specs.Prelude.{◌≡◌, ℕ, Option, Some, None, List, length, slice_get}
+use Rattle.std.specs.Prelude.{◌≡◌, Option, Some, None, List, [], ◌∷◌}
+use Rattle.std.specs.Option.{option_map, option_and_then}
 use Rattle.pct_ask.specs.declared.ask.Ask.{Ask}
 use Rattle.pct_ask.specs.declared.event.Event.{Event}
 use Rattle.c_values.specs.declared.event.PctEvent.{PctEvent}
 use Rattle.c_values.specs.Asks.{ask_said}
 
--- the numbers say the step: its thread, its line, its ask and its answer
-pub record SaysEvent (numbers : PctEvent) (event : Event) : Type 0 where
-  pub thread : numbers.thread ≡ event.thread
-  pub line : numbers.line ≡ event.line
-  pub ask : ask_said numbers.ask ≡ Some (Some event.ask)
-  pub answer : numbers.answer ≡ event.answer
+-- the step of an ask, if there is one, with the thread, the line and the answer of these numbers
+abbrev pub event_with : PctEvent → Option (Option Ask) → Option Event
+event_with n None = None
+event_with n (Some None) = None
+event_with n (Some (Some ask)) =
+    Some (record { thread = n.thread; line = n.line; ask = ask; answer = n.answer })
 
--- each says the step at its place, and there are as many
-pub record SayEvents (numbers : List PctEvent) (events : List Event) : Type 0 where
-  pub many : length numbers ≡ length events
-  pub each : (place : ℕ) (one : PctEvent) → slice_get numbers place ≡ Some one
-      → (event : Event) × (slice_get events place ≡ Some event) × SaysEvent one event
+-- the step that the numbers say; where they say nothing, or that there is no ask, they say no step
+abbrev pub event_said : PctEvent → Option Event
+event_said n = event_with n (ask_said n.ask)
+
+-- the steps that they say, one after another, if each says one
+abbrev pub events_said : List PctEvent → Option (List Event)
+events_said [] = Some []
+events_said (one ∷ others) =
+    option_and_then (λ event. option_map (λ events. event ∷ events) (events_said others))
+    (event_said one)
+
+-- the numbers say this step
+abbrev pub SaysEvent : PctEvent → Event → Type 0
+SaysEvent numbers event = event_said numbers ≡ Some event
+
+-- the numbers say these steps
+abbrev pub SayEvents : List PctEvent → List Event → Type 0
+SayEvents numbers events = events_said numbers ≡ Some events

@@ -1,6 +1,6 @@
 -- The names of a test as a text (this project): a line for each, its kind's word and the name. Those
 -- of one kind stand in the order of their places.
-use Rattle.std.specs.Prelude.{◌≡◌, ℕ, Bool, ◌&&◌, not, nat_lt, if◌then◌else◌, codes, bytes_eq}
+use Rattle.std.specs.Prelude.{ℕ, Bool, ◌&&◌, not, nat_lt, if◌then◌else◌, codes, bytes_eq}
 use Rattle.std.specs.Prelude.{List, [], ◌∷◌, length, Option, Some, None}
 use Rattle.std.specs.Option.{option_and_then}
 use Rattle.pct_ask.specs.NameLists.{NameLists, no_names, with_name, list_of, all_names}

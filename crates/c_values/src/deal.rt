@@ -1,6 +1,7 @@
 //! What the threads share, as numbers.
 
-ghost use Rattle.std.specs.Prelude.{◌≡◌, ◌↔◌, All, IfOk, IfSome, IsSome, IsTrue, replicate};
+ghost use Rattle.std.specs.Prelude.{◌≡◌, ◌≤◌, ◌↔◌, All, IfOk, IfSome, IsSome, IsTrue, length};
+ghost use Rattle.std.specs.Prelude.{replicate};
 ghost use Rattle.pct_ask.specs.declared.deal.Deal.{Deal};
 ghost use Rattle.pct_ask.specs.Objects.{sizes_of_deal, sizes_of_names};
 ghost use Rattle.pct_ask.specs.Ranges.{IsSemValue, IsBarrierCount};
@@ -90,8 +91,9 @@ fn several(alloc: Global, value: i64, count: u32) -> Result<NumberList, NoMemory
 
 /// A deal of as many threads and objects of each kind as have names. `None` where no thread has.
 pub fn deal_of_names(alloc: Global, names: &Names) -> Result<Option<Deal>, NoMemory>
-    ensures { IfOk result (λ deal.
+    ensures deal { IfOk result (λ deal.
         IfSome deal (λ (d : Deal). sizes_of_deal d ≡ sizes_of_names names.now)) }
+    ensures some { IfOk result (λ deal. IsSome deal ↔ 1 ≤ length names.now.threads) }
 {
     let threads = names.count(NameKind::Thread);
     if threads == 0 {

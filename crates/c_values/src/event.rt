@@ -1,8 +1,7 @@
 //! A step as numbers.
 
-ghost use Rattle.std.specs.Prelude.{◌≡◌, Some, None, IfOk, IfSome};
-ghost use Rattle.pct_ask.specs.declared.event.Event.{Event};
-ghost use Rattle.c_values.specs.Events.{SaysEvent, SayEvents};
+ghost use Rattle.std.specs.Prelude.{◌≡◌, IfOk};
+ghost use Rattle.c_values.specs.Events.{SaysEvent, event_said, events_said};
 
 use crate::ask::{PctAsk, ask_of, numbers_of_ask};
 use pct_ask::{Event, EventList};
@@ -32,8 +31,7 @@ pub fn numbers_of_event(event: &Event) -> PctEvent
 
 /// The step that the numbers say. `None` where they say no ask.
 pub fn event_of(numbers: &PctEvent) -> Option<Event>
-    ensures says { IfSome result (SaysEvent numbers.now) }
-    ensures none { (event : Event) → SaysEvent numbers.now event → result ≡ Some event }
+    ensures { result ≡ event_said numbers.now }
 {
     match ask_of(&numbers.ask) {
         Some(Some(ask)) => Some(Event {
@@ -48,7 +46,7 @@ pub fn event_of(numbers: &PctEvent) -> Option<Event>
 
 /// The steps that the numbers say, in their order. `None` where some say no step.
 pub fn events_of(alloc: Global, numbers: &[PctEvent]) -> Result<Option<EventList>, NoMemory>
-    ensures { IfOk result (λ events. IfSome events (SayEvents numbers.now)) }
+    ensures { IfOk result (λ events. events ≡ events_said numbers.now) }
 {
     let mut events = Vec::with_capacity(alloc, numbers.len())?;
     for one in numbers {

@@ -14,10 +14,10 @@ use Rattle.rank_now.specs.declared.moment.Moment.{Moment}
 use Rattle.turn_book.specs.Posts.{schedule_of}
 use Rattle.worker_run.specs.Run.{run, directed_run}
 use Rattle.directive.specs.declared.directive.Directive.{Directive}
-use Rattle.directive_run.specs.Points.{point_of_moment, points_of}
+use Rattle.choices.specs.Points.{point_of_moment, points_of}
 use Rattle.directive_run.specs.Exposing.{IsWithin}
-use Rattle.directive_run.specs.Orders.{factorial, low_orders}
-use Rattle.directive_run.specs.Counting.{pointlists, hits_under}
+use Rattle.choices.specs.Orders.{factorial, low_orders}
+use Rattle.choices.specs.Counting.{pointlists, hits_under}
 use Rattle.directive_run.specs.Guarantees.{IsLed}
 use Rattle.directive_run.specs.Certifying.{IsPointed, AreRows, IsCertified, IsFirstOther, IsRefuted}
 use Rattle.directive_run.specs.Certifying.{IsTooLongUnder}
@@ -26,9 +26,9 @@ use Rattle.directive_run.specs.declared.judging.Tested.{Tested}
 use Rattle.directive_run.specs.declared.judging.Tested.TheVariants.{Led, Other, TooLong}
 use Rattle.directive_run.specs.declared.answers.CertifyRow.{CertifyRow}
 use Rattle.directive_run.proofs.laws.ExposedPoints.{exposed-run, points-within}
-use Rattle.directive_run.proofs.laws.OrderLists.{IsLowOrder, low-orders-all, low-order-listed}
-use Rattle.directive_run.proofs.laws.OrderLists.{length-low-orders}
-use Rattle.directive_run.proofs.laws.Counts.{order-hits, count-holds}
+use Rattle.choices.proofs.laws.OrderLists.{IsLowOrder, low-orders-all, low-order-listed}
+use Rattle.choices.proofs.laws.OrderLists.{length-low-orders}
+use Rattle.choices.proofs.laws.Counts.{order-hits, count-holds}
 
 -- ---- one order
 

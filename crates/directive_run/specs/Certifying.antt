@@ -9,10 +9,10 @@ use Rattle.rank_now.specs.Order.{IsOrder}
 use Rattle.turn_book.specs.Posts.{schedule_of}
 use Rattle.worker_run.specs.Run.{run, directed_run}
 use Rattle.directive.specs.declared.directive.Directive.{Directive}
-use Rattle.directive_run.specs.Points.{points_of}
+use Rattle.choices.specs.Points.{points_of}
 use Rattle.directive_run.specs.Exposing.{RunsTooLong}
-use Rattle.directive_run.specs.Orders.{factorial, low_orders}
-use Rattle.directive_run.specs.Counting.{hits}
+use Rattle.choices.specs.Orders.{factorial, low_orders}
+use Rattle.choices.specs.Counting.{hits}
 use Rattle.directive_run.specs.Guarantees.{EndsIn, IsLed, Guarantees}
 use Rattle.directive_run.specs.declared.answers.CertifyRow.{CertifyRow}
 use Rattle.directive_run.specs.declared.answers.Certified.{Certified}

@@ -9,7 +9,7 @@ use Rattle.rank_now.specs.declared.moment.Moment.{Moment}
 use Rattle.turn_book.specs.Posts.{schedule_of}
 use Rattle.worker_run.specs.Run.{run, directed_run}
 use Rattle.worker_run.specs.declared.played.Played.{Played}
-use Rattle.directive_run.specs.Points.{points_of}
+use Rattle.choices.specs.Points.{points_of}
 use Rattle.directive_run.specs.declared.answers.Exposed.{Exposed}
 use Rattle.directive_run.specs.declared.answers.Exposed.TheVariants.{Points, TooLong}
 

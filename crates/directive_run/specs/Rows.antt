@@ -7,10 +7,10 @@ use Rattle.pct_ask.specs.declared.verdict.Verdict.TheVariants.{Failed}
 use Rattle.rank_now.specs.declared.moment.Moment.{Moment}
 use Rattle.rank_now.specs.Rank.{rank_by}
 use Rattle.worker_run.specs.Samples.{sample_threads}
-use Rattle.directive_run.specs.Points.{points_of}
+use Rattle.choices.specs.Points.{points_of}
 use Rattle.turn_book.specs.Chances.{threads_below}
-use Rattle.directive_run.specs.Orders.{orders, low_orders}
-use Rattle.directive_run.specs.Counting.{pointlists, hits}
+use Rattle.choices.specs.Orders.{orders, low_orders}
+use Rattle.choices.specs.Counting.{pointlists, hits}
 
 abbrev pub at : ℕ → ℕ → Moment
 at thread number = record { thread = thread; number = number }

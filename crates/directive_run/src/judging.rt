@@ -1,7 +1,7 @@
 // What the run of an order says: a row of the certificate, or the answer.
 ghost use Rattle.std.specs.Prelude.{◌≡◌, ◌≤◌, ◌<◌, ◌+◌, ◌-◌, length, IfOk, List, ℕ};
 ghost use Rattle.script_tree.specs.ScriptText.{ScriptText};
-ghost use Rattle.directive_run.specs.Orders.{factorial};
+ghost use Rattle.choices.specs.Orders.{factorial};
 ghost use Rattle.directive_run.specs.Tested.{directed_setup, IsDirectedTask};
 ghost use Rattle.directive_run.specs.Tested.{Tells, IsOrderRun, IsRunAt};
 ghost use Rattle.directive_run.specs.Tested.{AreFirstCertifyRows, IsDecided};

@@ -4,7 +4,7 @@ ghost use Rattle.script_tree.specs.ScriptText.{ScriptText};
 ghost use Rattle.script_body.specs.BodyPosts.{pending_of_body};
 ghost use Rattle.policy_pick.specs.Kept.{events_plan, EventsStand};
 ghost use Rattle.worker_run.specs.Tests.{IsTest, AreTests};
-ghost use Rattle.directive_run.specs.Orders.{factorial};
+ghost use Rattle.choices.specs.Orders.{factorial};
 ghost use Rattle.directive_run.specs.Tested.{directed_setup, IsDirectedTask};
 ghost use Rattle.directive_run.specs.Tested.{IsTestAt, AreOrderTests};
 

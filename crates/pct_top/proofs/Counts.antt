@@ -7,8 +7,8 @@ use Rattle.script_tree.specs.DealOf.{IsDealOf}
 use Rattle.script_body.specs.Bodies.{bodies_of}
 use Rattle.directive.specs.declared.directive.Directive.{Directive}
 use Rattle.directive.specs.Answers.{plain_directive as plain}
-use Rattle.directive_run.specs.Orders.{factorial}
-use Rattle.directive_run.specs.Counting.{hits}
+use Rattle.choices.specs.Orders.{factorial}
+use Rattle.choices.specs.Counting.{hits}
 use Rattle.directive_run.specs.Certifying.{Certifies}
 use Rattle.directive_run.specs.declared.answers.Certified.{Certified}
 use Rattle.directive_run.specs.declared.answers.Certified.TheVariants.{Yes, Refuted, TooLong}

@@ -8,8 +8,8 @@ use Rattle.script_tree.specs.Grammar.{Spells}
 use Rattle.script_body.specs.Bodies.{bodies_of}
 use Rattle.directive.specs.DirectiveText.{DirectiveText}
 use Rattle.directive.specs.Directive.{IsDirective}
-use Rattle.directive_run.specs.Orders.{factorial}
-use Rattle.directive_run.specs.Counting.{hits}
+use Rattle.choices.specs.Orders.{factorial}
+use Rattle.choices.specs.Counting.{hits}
 use Rattle.pct_top.specs.declared.settings.Settings.TheVariants.{Certify}
 use Rattle.pct_top.specs.declared.status.Status.TheVariants.{Done}
 use Rattle.pct_top.specs.Settings.{SettingsOrWord, settings}

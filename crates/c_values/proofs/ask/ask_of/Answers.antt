@@ -1,7 +1,9 @@
-use Rattle.std.proofs.Common.{rules, ◌≡◌, Some, ℕ, ◌+◌, ◌-◌, ◌*◌, ◌<◌, ◌≤◌, length, ◌/◌, ◌%◌, Bool, true, false, nat_eq, nat_lt, List, [], ◌∷◌, ◌++◌, slice_index_or, slice_set, bit_and, bit_or, Fits, w8, w32, w64, Bor, MutBor}
-use Rattle.c_values.specs.Asks.{ask_said, fault_ask}
+use Rattle.std.proofs.Common.{arith, sym}
+use Rattle.std.proofs.lemmas.Option.{slice_get_past}
+use Rattle.c_values.specs.Asks.{asks_by}
 use Rattle.c_values.proofs.ask.ask_of.Goals as goal
 
--- src/ask.rt:24:9
 pub returns-then-numbers-gt30 : goal.returns-then-numbers-gt30
-returns-then-numbers-gt30 c = ?
+returns-then-numbers-gt30 c =
+    let n = c.args.numbers.now in
+    sym (slice_get_past (asks_by n.a n.b n.x n.y) n.kind (omega (arith, c.if-numbers-gt30.true)))

@@ -1,20 +1,28 @@
-use Rattle.std.proofs.Common.{rules, ◌≡◌, true, false, None, Some, IfOk, bytes_eq, ℕ, ◌+◌, ◌-◌, ◌*◌, ◌<◌, ◌≤◌, length, ◌/◌, ◌%◌, Bool, nat_eq, nat_lt, List, [], ◌∷◌, ◌++◌, slice_index_or, slice_set, bit_and, bit_or, Fits, w8, w32, w64, Bor, MutBor}
-use Rattle.pct_ask.specs.VerdictWords.{words_of}
-use Rattle.c_values.specs.NamesText.{kind_in, with_words, joined_by, names_of_text}
+use Rattle.pct_ask.specs.Lines.{lines_of}
+use Rattle.c_values.specs.NamesText.{names_of_text}
+use Rattle.c_values.proofs.NameSteps.{begins, goes_on, stops, ends}
 use Rattle.c_values.proofs.names.names_of.Goals as goal
 
--- src/names.rt:78:5
 pub loop-line-init : goal.loop-line-init
-loop-line-init c = ?
+loop-line-init c =
+    begins c.args.text.now c.into_iter-line-iterator.result c.split_lines-line-items.result
+    c.new-names.result c.new-names.ensures c.into_iter-line-iterator.ensures.into_iter_gives
+    c.split_lines-line-items.ensures
 
--- src/names.rt:80:13
 pub returns-then-not-branch : goal.returns-then-not-branch
-returns-then-not-branch c = ?
+returns-then-not-branch c =
+    stops (names_of_text c.args.text.now) c.loop-line.names (lines_of c.loop-line.line-iterator)
+    c.in-Some.line.now (lines_of c.next.new.self) c.loop-line.invariant c.in-Some.ensures.steps
+    (c.in_ok-join_line.ensures.1 c.if-not-branch.true)
 
--- src/names.rt:78:5
 pub loop-line-preserved : goal.loop-line-preserved
-loop-line-preserved c = ?
+loop-line-preserved c =
+    goes_on (names_of_text c.args.text.now) c.loop-line.names c.join_line.new.names
+    (lines_of c.loop-line.line-iterator) c.in-Some.line.now (lines_of c.next.new.self)
+    c.loop-line.invariant c.in-Some.ensures.steps
+    (c.in_ok-join_line.ensures.0 c.if-not-branch.false)
 
--- src/names.rt:74:1
 pub returns : goal.returns
-returns c = ?
+returns c =
+    ends (names_of_text c.args.text.now) c.loop-line.names (lines_of c.loop-line.line-iterator)
+    c.loop-line.invariant c.in-None.ensures.steps.0
