@@ -1,6 +1,6 @@
 //! Whose turn it is, as numbers.
 
-ghost use Rattle.std.specs.Prelude.{◌≡◌};
+ghost use Rattle.std.specs.Prelude.{◌≡◌, pos};
 ghost use Rattle.pct_c.specs.Books.{state_of};
 ghost use Rattle.pct_c.specs.Turns.{SaysChoice};
 
@@ -41,7 +41,7 @@ fn turn(status: u32, answer: i64, choice: u32, thread: u32) -> PctTurn
 pub fn no_book() -> PctTurn
     ensures status { result.status ≡ 7 }
     ensures choice { result.choice ≡ 0 }
-    ensures answer { result.answer ≡ 0 }
+    ensures answer { result.answer ≡ pos 0 }
 {
     turn(NO_BOOK, 0, 0, 0)
 }
