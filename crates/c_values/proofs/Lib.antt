@@ -1,3 +1,3 @@
 mod BlockedPlaces
-mod EventSteps
 mod NameSteps
+mod SaidSteps

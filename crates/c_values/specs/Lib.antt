@@ -4,3 +4,5 @@ pub mod Events
 pub mod Moments
 pub mod NamesText
 pub mod Outcomes
+pub mod Rows
+pub mod Told

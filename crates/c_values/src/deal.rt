@@ -6,7 +6,9 @@ ghost use Rattle.pct_ask.specs.declared.deal.Deal.{Deal};
 ghost use Rattle.pct_ask.specs.Objects.{sizes_of_deal, sizes_of_names};
 ghost use Rattle.pct_ask.specs.Ranges.{IsSemValue, IsBarrierCount};
 ghost use Rattle.c_values.specs.Deals.{SaysDeal, AreLawfulCounts};
+ghost use Rattle.c_values.specs.Told.{Answers};
 
+use crate::refused::Refused;
 use pct_ask::{Deal, NameKind, Names, NumberList};
 use std::alloc::{AllocError as NoMemory, Global};
 
@@ -80,6 +82,22 @@ pub fn deal_of(
         barriers: list_of(alloc, barriers)?,
         rwlocks: counts.rwlocks,
     }))
+}
+
+/// The deal that the numbers say.
+pub fn deal_said(
+    alloc: Global,
+    counts: &PctDeal,
+    vars: &[i64],
+    sems: &[i64],
+    barriers: &[i64],
+) -> Result<Deal, Refused>
+    ensures { Answers (SaysDeal counts.now vars.now sems.now barriers.now) result }
+{
+    match deal_of(alloc, counts, vars, sems, barriers)? {
+        Some(deal) => Ok(deal),
+        None => Err(Refused::Bad),
+    }
 }
 
 /// As many equal numbers.

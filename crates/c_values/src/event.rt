@@ -1,9 +1,11 @@
 //! A step as numbers.
 
 ghost use Rattle.std.specs.Prelude.{◌≡◌, IfOk};
-ghost use Rattle.c_values.specs.Events.{SaysEvent, event_said, events_said};
+ghost use Rattle.c_values.specs.Events.{SaysEvent, event_said, events_said, AreSteps};
+ghost use Rattle.c_values.specs.Told.{Answers};
 
 use crate::ask::{PctAsk, ask_of, numbers_of_ask};
+use crate::refused::Refused;
 use pct_ask::{Event, EventList};
 use std::alloc::{AllocError as NoMemory, Global};
 
@@ -56,4 +58,17 @@ pub fn events_of(alloc: Global, numbers: &[PctEvent]) -> Result<Option<EventList
         }
     }
     Ok(Some(EventList::from_vec(events)))
+}
+
+/// The steps of a run that the numbers say.
+pub fn steps_of(alloc: Global, numbers: &[PctEvent]) -> Result<EventList, Refused>
+    ensures { Answers (AreSteps numbers.now) result }
+{
+    if numbers.len() > 100_000 {
+        return Err(Refused::Bad);
+    }
+    match events_of(alloc, numbers)? {
+        Some(events) => Ok(events),
+        None => Err(Refused::Bad),
+    }
 }

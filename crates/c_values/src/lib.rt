@@ -8,10 +8,14 @@ mod event;
 mod moment;
 mod names;
 mod outcome;
+mod refused;
+mod row;
 
 pub use ask::{PctAsk, ask_of, numbers_of_ask};
-pub use deal::{PctDeal, deal_of, deal_of_names};
-pub use event::{PctEvent, event_of, events_of, numbers_of_event};
+pub use deal::{PctDeal, deal_of, deal_of_names, deal_said};
+pub use event::{PctEvent, event_of, events_of, numbers_of_event, steps_of};
 pub use moment::{PctMoment, moments_of, numbers_of_moment};
-pub use names::{kind_of, names_of};
+pub use names::{kind_of, names_of, names_said};
 pub use outcome::{PctOutcome, numbers_of_outcome, verdict_of};
+pub use refused::Refused;
+pub use row::{PctRow, rows_of};

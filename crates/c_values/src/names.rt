@@ -3,7 +3,9 @@
 ghost use Rattle.std.specs.Prelude.{◌≡◌, true, false, None, Some, IfOk, bytes_eq};
 ghost use Rattle.pct_ask.specs.VerdictWords.{words_of};
 ghost use Rattle.c_values.specs.NamesText.{kind_in, with_words, joined_by, names_of_text};
+ghost use Rattle.c_values.specs.Told.{Answers};
 
+use crate::refused::Refused;
 use pct_ask::{NameKind, Names, first_words, is_lawful_name, split_lines};
 use std::alloc::{AllocError as NoMemory, Global};
 
@@ -81,4 +83,14 @@ pub fn names_of(alloc: Global, text: &[u8]) -> Result<Option<Names>, NoMemory>
         }
     }
     Ok(Some(names))
+}
+
+/// The names that a text says, where it says some.
+pub fn names_said(alloc: Global, text: &[u8]) -> Result<Names, Refused>
+    ensures { Answers (λ names. names_of_text text.now ≡ Some names) result }
+{
+    match names_of(alloc, text)? {
+        Some(names) => Ok(names),
+        None => Err(Refused::Bad),
+    }
 }
