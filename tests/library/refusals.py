@@ -3,7 +3,6 @@ book or a trace, by what they tell."""
 
 import copy
 import ctypes
-import re
 from ctypes import byref
 from typing import Any, Iterator
 
@@ -50,7 +49,7 @@ def of_outcomes() -> Iterator[Outcome]:
     yield from (Outcome(FAULT, reason, 0, 5) for reason in (0, 4, MOST))
     beyond, without_line = Outcome(STUCK, 0, 0, 0, 4), Outcome(STUCK, 0, 0, 0, 1)
     beyond.lines[2] = 5
-    yield from (beyond, without_line)
+    yield from (beyond, without_line, Outcome(STUCK))
 
 
 def of_steps() -> Iterator[list[Event]]:
@@ -84,7 +83,12 @@ LONG = [Moment(0, 1)] * 8
 FOUND = Directive(1, 1, (Moment * 7)(Moment(0, 1)), FAILED_B)
 ROWS = [Row(1, 2, FAILED_B), Row(2, 2, Outcome(1))]
 REPORT = {"names": NAMES, "frame": Frame(2, 2, 2, 9), "rows": ROWS, "text": room(ctypes.c_uint8, 512)}
-BAD_REPORT = [*BAD_NAMES, *(("rows", [ROWS[1], Row(1, 2, outcome)]) for outcome in of_outcomes())]
+BAD_REPORT = [*BAD_NAMES, ("rows", [ROWS[1]] * 100001), *(("rows", [ROWS[1], Row(1, 2, outcome)]) for outcome in of_outcomes())]
+# Of these reports and lists no names are asked: any thread and any line will do.
+BAD_ROWS = [("rows", [ROWS[1]] * 100001)] + [
+    ("rows", [ROWS[1], Row(1, 2, outcome)]) for outcome in of_outcomes()
+    if outcome.kind not in (FAILED, STUCK) and not (outcome.kind in (MISUSE, FAULT) and outcome.reason == 1)]
+NO_STEPS = [("steps", [STEPS[0], Event(1, 4, Ask(0))]), ("steps", [Event(0, 3, Ask(31)), STEPS[1]]), ("steps", [STEPS[0]] * 100001)]
 # By call, what it takes well, and the arguments that are bad, by their names in the header.
 GIVEN: dict[str, tuple[dict[str, Any], list[tuple[str, Any]]]] = {
     "pct_draw": (
@@ -119,22 +123,19 @@ GIVEN: dict[str, tuple[dict[str, Any], list[tuple[str, Any]]]] = {
     "pct_text_report": (REPORT, BAD_REPORT),
     "pct_text_report_json": (REPORT, BAD_REPORT),
     "pct_tell_moments": ({"steps": STEPS, "points": [1], "moments": room(Moment, 7)},
-                         [("points", [1] * 8), ("points", [0]), ("steps", [STEPS[0], Event(1, 4, Ask(0))]),
-                          ("steps", [Event(0, 3, Ask(31)), STEPS[1]])]),
+                         [("points", [1] * 8), ("points", [0]), *NO_STEPS]),
     "pct_tell_points": ({"steps": STEPS, "most": 9, "moments": [Moment(0, 1)], "points": room(ctypes.c_uint32, 1)},
-                        [("moments", LONG), ("point_count", 0), ("points", room(ctypes.c_uint32, 2)),
-                         ("steps", [STEPS[0], Event(1, 4, Ask(0))]), ("steps", [Event(0, 3, Ask(31)), STEPS[1]])]),
+                        [("moments", LONG), ("most", 0), ("most", 100001), ("point_count", 0),
+                         ("points", room(ctypes.c_uint32, 2)), *NO_STEPS]),
     "pct_tell_order_count": ({"threads": 3}, [("threads", 0), ("threads", 8), ("threads", MOST)]),
     "pct_tell_order": ({"threads": 3, "low": 2, "place": 1, "order": room(ctypes.c_uint32, 3)},
                        [("threads", 0), ("threads", 2), ("threads", 8), ("low", 3), ("low", MOST), ("place", 2), ("place", MOST),
                         ("order_count", 2)]),
-    "pct_tell_bound": ({"threads": 3, "steps": 8, "points": 2}, [("threads", 0), ("threads", 8), ("steps", 100001), ("points", 8)]),
+    "pct_tell_bound": ({"threads": 3, "steps": 8, "points": 2}, [("threads", 0), ("threads", 8), ("steps", 0), ("steps", 100001), ("points", 8)]),
     "pct_tell_races": ({**DEAL, "steps": STEPS, "races": room(Race, 2)}, [*BAD_DEAL, *BAD_STEPS]),
     "pct_tell_lock_order": ({**DEAL, "steps": STEPS, "mutexes": room(ctypes.c_uint32, 1), "nestings": room(Nesting, 1)},
                             [*BAD_DEAL, *BAD_STEPS]),
-    "pct_tell_groups": ({"rows": ROWS, "groups": room(bound.Group, 2)},
-                        [("rows", [ROWS[1], Row(1, 2, outcome)]) for outcome in of_outcomes() if outcome.kind not in (FAILED, STUCK)
-                         and not (outcome.kind in (MISUSE, FAULT) and outcome.reason == 1)]),
+    "pct_tell_groups": ({"rows": ROWS, "groups": room(bound.Group, 2)}, BAD_ROWS),
 }
 
 
@@ -210,6 +211,14 @@ def of_turns(calls: Any) -> Iterator[tuple[str, bool]]:
     calls.pct_book_free(byref(book))
 
 
+def shown(value: Any) -> str:
+    """A bad argument, in few words."""
+    if isinstance(value, list):
+        return f"[{', '.join(map(shown, value[-2:]))}] of {len(value)}"
+    fields = getattr(value, "_fields_", None)
+    return f"{type(value).__name__} {bytes(value)[:40].hex()}" if fields else repr(value)[-60:]
+
+
 def of_call(calls: Any, declared: dict[str, tuple[str, list[str]]], name: str) -> Iterator[tuple[str, bool]]:
     """A call with each of its bad arguments. Its handle has a book, or a trace."""
     well, bad = GIVEN[name]
@@ -221,9 +230,8 @@ def of_call(calls: Any, declared: dict[str, tuple[str, list[str]]], name: str) -
         call = Call(calls, parameters, name, {**given, parameter: value})
         memory, told = call.memory(), told_by_book(calls, book)
         status = call.status()
-        shown = re.sub(r"\s+", " ", repr(bytes(value) if isinstance(value, ctypes.Structure) else value))[:90]
-        yield f"{name}, {parameter} {shown}: status {status}", status == BAD and call.memory() == memory and \
-            told_by_book(calls, book) == told
+        is_kept = call.memory() == memory and told_by_book(calls, book) == told
+        yield f"{name}, {parameter} {shown(value)}: status {status}", status == BAD and is_kept
     call = Call(calls, parameters, name, given)
     yield f"{name} as it is well: {call.status()}", read.status == DONE and call.status() in (DONE, NO_ROOM)
     calls.pct_book_free(byref(book))
