@@ -1,7 +1,7 @@
 -- What makes a book, and what doesn't.
 use Rattle.std.proofs.Common.{◌≡◌, ◌<◌, ℕ, Some, None, Option, refl, sym, subst, ◌∙◌, arith, inl, inr}
-use Rattle.std.proofs.Common.{List, ◌⊎◌}
-use Rattle.std.specs.Prelude.{slice_index, Result, Ok, Err, IfOk, MatchOption}
+use Rattle.std.proofs.Common.{List, ◌⊎◌, ap}
+use Rattle.std.specs.Prelude.{◌↔◌, slice_index, Result, Ok, Err, IfOk, MatchOption}
 use Rattle.std.proofs.lemmas.List.{get_or-take, get_or_default, length-take}
 use Rattle.std.specs.declared.alloc.AllocError.{AllocError}
 use Rattle.rank_now.specs.Order.{IsOrder, IsFirstWrong}
@@ -25,6 +25,15 @@ wrong_is_no_order order at wrong whole =
           ∙ (sym (get_or-take at order k d early) ∙ named.2) in
           whole.once k at early wrong.within same
     ]
+
+-- The policy's refusal of an order, passed on.
+pub refused : {X Y : Type 0} (order : List ℕ) (error : RankError)
+    → ((at : ℕ) → (◌≡◌ {A = Result X RankError} (Err error) (Err (RankError.NotAnOrder at)))
+    ↔ IsFirstWrong order at) → (at : ℕ)
+    → ◌≡◌ {A = Result Y RankError} (Err error) (Err (RankError.NotAnOrder at))
+    → IsFirstWrong order at
+refused order error told at e =
+    let same : error ≡ RankError.NotAnOrder at = cc in (told at).0 (ap (λ r. Err r) same)
 
 -- A book by an order was made, or the order is none.
 pub ordered : (result : Result (Option Book) AllocError) (made : Result Book RankError)
