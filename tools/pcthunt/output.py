@@ -36,20 +36,21 @@ def put(text: str) -> None:
         raise Refused(WRITE_FAULT, f"standard output can't be written: {error.strerror}") from None
 
 
-def keep(name: str, text: str) -> None:
+def keep(name: str, text: str | bytes) -> None:
     """The text in the file of that name: all of it, or the file is as it was."""
+    data = text if isinstance(text, bytes) else text.encode(errors="backslashreplace")
     folder = os.path.dirname(os.path.abspath(name))
     try:
         if os.path.exists(name) and not os.path.isfile(name):  # a pipe or a device is written to in its place
-            with open(name, "w", encoding="utf-8", errors="backslashreplace") as file:
-                file.write(text)
+            with open(name, "wb") as file:
+                file.write(data)
             return
         handle, room = tempfile.mkstemp(dir=folder, prefix=".pct-")
     except OSError as error:
         raise Refused(WRITE_FAULT, f"{name} can't be written: {error.strerror}") from None
     try:
-        with open(handle, "w", encoding="utf-8", errors="backslashreplace") as file:
-            file.write(text)
+        with open(handle, "wb") as file:
+            file.write(data)
         os.chmod(room, 0o666 & ~umask())
         os.replace(room, name)
     except OSError as error:

@@ -61,7 +61,8 @@ class Program:
                 if self.is_stopped:
                     return Answer(-1, "", "")
                 call = subprocess.Popen([*self.words, *words], stdin=subprocess.DEVNULL, stdout=subprocess.PIPE,
-                                        stderr=subprocess.PIPE, text=True, errors="replace")
+                                        stderr=subprocess.PIPE, text=True, errors="replace",
+                                        start_new_session=True)
                 self.running.add(call)
         except OSError as error:
             raise Refused(USAGE, f"{self.words[0]} can't be started: {error.strerror}") from None
