@@ -17,7 +17,8 @@ from pcthunt.hunting import Hunt
 from pcthunt.machine_forms import Outcome, annotations, junit, line_of
 from pcthunt.output import BAD_SCRIPT, DONE, FOUND, USAGE, WRITE_FAULT, Refused, keep, put, read, say, shown
 from pcthunt.program import Program
-from pcthunt.refusals import script_refusal, why_words
+from pcthunt.refusals import script_refusal
+from pcthunt.why import why_words
 from pcthunt.report import Result, text_of
 from pcthunt.rounds import Crew, Parts
 from pcthunt.settings import Settings, processors
@@ -79,7 +80,7 @@ def parser() -> argparse.ArgumentParser:
     said.add_argument("--json", action="store_true", dest="is_json", help="one JSON document (docs/document.md)")
     said.add_argument("--junit", metavar="FILE", help="writes a JUnit report there, too")
     said.add_argument("--quiet", action="store_true", dest="is_quiet", help="no lines on how far it is")
-    said.add_argument("--help", action="help", help="writes this")
+    said.add_argument("--help", action="store_true", dest="is_help", help="writes this")
     return it
 
 
@@ -91,10 +92,7 @@ def parsed(words: list[str]) -> argparse.Namespace:
         raise Refused(USAGE, f"{shown(message)} ('pct-hunt --help' says which words there are)")
 
     it.error = refuse  # type: ignore[assignment,method-assign]
-    try:
-        return it.parse_args(words)
-    except SystemExit:
-        raise Refused(DONE, "") from None
+    return it.parse_args(words)
 
 
 def settings_of(given: argparse.Namespace, words: list[str]) -> Settings:
@@ -207,7 +205,7 @@ def main() -> int:
     sys.setrecursionlimit(10000)
     if words[:1] == ["--why"]:
         return why_words(Program.here(), words[1:])
-    if words == ["--help"]:
+    if "--help" in words:
         put(parser().format_help())
         return DONE
     given = parsed(words)
