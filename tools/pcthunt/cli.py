@@ -96,10 +96,24 @@ def parsed(words: list[str]) -> argparse.Namespace:
 
 
 def settings_of(given: argparse.Namespace, words: list[str]) -> Settings:
-    rest = list(words)
-    rest.remove(given.script)
+    rest = searching(words, given.script)
     return Settings(given.depth, given.seeds, given.first, given.limit, given.time, given.is_first_enough,
                     given.jobs or len(processors()), given.is_quiet, given.certify, given.sshlogin, rest)
+
+
+def searching(words: list[str], script: str) -> list[str]:
+    """The words that say what is searched, without where it runs and what it says."""
+    rest: list[str] = []
+    left = list(words)
+    left.remove(script)
+    while left:
+        word = left.pop(0)
+        name = word.split("=")[0]
+        has_value = "=" not in word and name not in ("--first", "--json", "--quiet")
+        value = [left.pop(0)] if has_value and left else []
+        if name not in ("--jobs", "--quiet", "--json", "--junit", "--sshlogin"):
+            rest += [word, *value]
+    return rest
 
 
 class Session:

@@ -78,8 +78,18 @@ def shown(text: str) -> str:
     return "".join(it if it.isprintable() else it.encode("unicode_escape").decode() for it in text)
 
 
+def hold_streams() -> None:
+    """Where a standard stream is closed, its number is taken, so that no file of the tool gets it; a write there fails."""
+    for number in range(3):
+        try:
+            os.fstat(number)
+        except OSError:
+            os.open(os.devnull, os.O_RDONLY)
+
+
 def ends_well(tool: str, main) -> int:  # type: ignore[no-untyped-def]
     """The status of a tool's main, whatever comes of it."""
+    hold_streams()
     try:
         return main()
     except Refused as refused:
