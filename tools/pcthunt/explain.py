@@ -2,13 +2,23 @@
 
 from __future__ import annotations
 
+from collections.abc import Iterator
+
 from pcthunt.states import Json, listed
-from pcthunt.watch import Watched, watched
+from pcthunt.watch import CHANGES, Watched, watched
 from pctmodel.run import Event
-from pctmodel.script import Script
+from pctmodel.script import Script, Statement
 
 MOST_SENTENCES = 12
 WAKES = ("signal", "broadcast")
+
+
+def statements_in(block: list[Statement]) -> Iterator[Statement]:
+    """All statements of a block, those within others too."""
+    for statement in block:
+        yield statement
+        yield from statements_in(statement.block)
+        yield from statements_in(statement.otherwise or [])
 
 
 class Story:
@@ -20,6 +30,7 @@ class Story:
         self.told: list[str] = []
         self.told_steps: set[int] = set()
         self.is_answer_told: set[int] = set()
+        self.told_holds: set[tuple[str, int]] = set()  # threads and the steps since which they hold something
 
     def tell(self, sentence: str) -> None:
         if sentence not in self.told:
@@ -84,12 +95,19 @@ class Story:
         return f", as {self.events[writer - 1].thread} left it {self.at(writer)}"
 
     def to_be_written(self, event: Event) -> str:
-        """Who comes to write the variable only now."""
+        """Who comes to write the variable only now, or hasn't come to it."""
+        var = event.ask[1]
         for asking in self.run["asking"]:
             words = asking["ask"].split()
-            if words[0] in ("write", "add", "cas") and words[1] == event.ask[1] and asking["thread"] != event.thread:
+            if words[0] in CHANGES and words[1] == var and asking["thread"] != event.thread:
                 return f"; {asking['thread']} is about to change it in line {asking['line']}"
-        return ""
+        late: list[str] = []
+        for name, thread in self.script.threads.items():
+            lines = [it.line for it in statements_in(thread.block) if it.word in CHANGES and it.names[0][1] == var]
+            taken = {it.line for it in self.events if it.thread == name}
+            if lines and name != event.thread and name not in self.run["ended"] and not taken & set(lines):
+                late.append(f"{name} in line {lines[0]}")
+        return f"; not yet changed by {listed(late)}" if late else ""
 
     def of_staleness(self, step: int, used: int) -> None:
         change = self.seen.change_after(step, used)
@@ -139,11 +157,17 @@ class Story:
     def of_wait(self, core: Json) -> None:
         thread, ask = core["thread"], self.asked(core["thread"]).split()
         self.tell(f"{thread}, in line {core['line']}, waits for {core['waits']}{self.since(core)}")
+        if core["since"]:
+            self.told_holds.add((core["for"], core["since"]))
         teller = {"regain": self.of_signals, "down": self.of_semaphore, "leave": self.of_barrier}.get(ask[0])
         if teller:
             teller(thread, ask[1])
+
+    def of_holds(self, thread: str) -> None:
+        """What the thread holds and nobody was told to wait for."""
         for held, number in self.held_by(thread):
-            self.tell(f"{thread} holds {held} since step {number} ({self.line(number)})")
+            if (thread, number) not in self.told_holds:
+                self.tell(f"{thread} holds {held} since step {number} ({self.line(number)})")
 
     def asked(self, thread: str) -> str:
         return next(it["ask"] for it in self.run["asking"] if it["thread"] == thread)
@@ -235,6 +259,7 @@ def sentences_of(script: Script, run: Json, events: list[Event], races: list[Jso
         for core in run["core"]:
             story.of_wait(core)
         for core in run["core"]:
+            story.of_holds(core["thread"])
             story.of_reads(core["thread"])
     elif kind == "cut":
         of_loop(story)

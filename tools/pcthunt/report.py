@@ -118,7 +118,7 @@ def finding_lines(case: Case, best: Failure) -> list[str]:
     if case.locks.get("cycle"):
         nests = [f"{it['thread']} takes {it['taken']} while it holds {it['held']} (step {it['step']})" for it in case.locks["cycle"]]
         lines += folded("a cycle of mutexes: " + "; ".join(nests), "   - ", "     ")
-    elif len(case.locks.get("order", [])) > 1:
+    elif len(case.locks.get("order", [])) > 1 and case.heading.kind() != "stuck":
         lines += folded("the run takes its mutexes in the order " + ", ".join(case.locks["order"]), "   - ", "     ")
     if case.found:
         lines += folded(f"what the failure needs, by find: {directive_words(case.found, best)}", "   - ", "     ")
