@@ -49,7 +49,8 @@ def fresh(name: str, taken: set[str]) -> str:
 
 
 def loose_tokens(line: str) -> list[str]:
-    return cut_tokens(line) or line.split()
+    tokens = cut_tokens(line)
+    return line.split() if tokens is None else tokens
 
 
 @dataclass

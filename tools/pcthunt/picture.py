@@ -138,7 +138,7 @@ def rows_of(picture: Picture) -> Iterator[list[str]]:
         yield row
 
 
-def wide_lines(picture: Picture) -> Iterator[str]:
+def wide_lines(picture: Picture, columns: int) -> Iterator[str]:
     """A column for each thread, with what it does."""
     rows = list(rows_of(picture))
     last = [f"! {picture.stuck[name]}" if name in picture.stuck else "" for name in picture.threads]
@@ -148,7 +148,7 @@ def wide_lines(picture: Picture) -> Iterator[str]:
     yield f"{'step':>{margin}}  {put(picture.threads)}  line"
     for step, row in zip(picture.steps, rows):
         begin = f"{step.number:>{margin}}  {put(row)}  {step.line}: "
-        yield begin + cut_comment(picture.text[step.line - 1], MOST_COLUMNS - len(begin))
+        yield begin + cut_comment(picture.text[step.line - 1], columns - len(begin))
     if picture.stuck:
         yield f"{'':>{margin}}  {put(last)}".rstrip()
 
@@ -166,18 +166,28 @@ def cut_comment(text: str, width: int) -> str:
     return text if len(text) <= width else text.split("#")[0].rstrip()
 
 
-def narrow_lines(picture: Picture) -> Iterator[str]:
+def name_lines(threads: list[str], margin: int, columns: int) -> Iterator[str]:
+    """The threads with their numbers."""
+    line = ""
+    for place, name in enumerate(threads, 1):
+        told = f"  {place} {name}"
+        if line and margin + len(line) + len(told) > columns:
+            yield f"{'':>{margin}}{line}"
+            line = ""
+        line += told
+    yield f"{'':>{margin}}{line}"
+
+
+def narrow_lines(picture: Picture, columns: int) -> Iterator[str]:
     """A sign for each thread, and behind them what the step does: `*` takes the step, `:` is blocked, `|` can go on."""
     margin, many = margin_of(picture), len(picture.threads)
     between = " " if many <= 16 else ""
     numbers = [str(place % 10) for place in range(1, many + 1)]
-    for begin in range(0, many, 6):
-        names = "  ".join(f"{begin + place} {cut(name, 12)}" for place, name in enumerate(picture.threads[begin:begin + 6], 1))
-        yield f"{'':>{margin}}  {names}"
+    yield from name_lines(picture.threads, margin, columns)
     yield f"{'step':>{margin}}  {between.join(numbers)}"
     told = {step.number: f"{step.thread}: {cell_of(step)}" for step in picture.steps}
     stuck = [f"{name}: ! {ask}" for name, ask in picture.stuck.items()]
-    room = MOST_COLUMNS - margin - 4 - len(between.join(numbers))
+    room = columns - margin - 4 - len(between.join(numbers))
     longest = min(max(map(len, [*told.values(), *stuck]), default=0), room * 2 // 3)
     for step in picture.steps:
         signs = ["*" if name == step.thread else ":" if name in step.blocked else " " if name in step.ended else "|"
@@ -189,11 +199,11 @@ def narrow_lines(picture: Picture) -> Iterator[str]:
         yield f"{'':>{margin}}  {between.join(signs)}  {cut(f'{name}: ! {ask}', room)}"
 
 
-def text_lines(picture: Picture) -> Iterator[str]:
-    """The picture in columns, of which no line has 100."""
-    lines = list(wide_lines(picture))
-    if max(map(len, lines)) > MOST_COLUMNS:
-        lines = list(narrow_lines(picture))
+def text_lines(picture: Picture, columns: int = MOST_COLUMNS) -> Iterator[str]:
+    """The picture in so many columns at most."""
+    lines = list(wide_lines(picture, columns))
+    if max(map(len, lines)) > columns:
+        lines = list(narrow_lines(picture, columns))
     before, after = picture.left_out
     if before:
         lines.insert(1, f"..    {before} steps before are left out")

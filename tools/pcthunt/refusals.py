@@ -76,7 +76,7 @@ def of_bytes(kind: str, data: bytes, number: int) -> Mend:
     if kind == "LineTooLong":
         code = raw.split(b"#")[0].decode().rstrip()
         short = (code,) if len(code.encode()) <= 256 else None
-        how = f"shorten its comment, or write `{code.strip()}`" if short else "put a part of the expression into a register before it by `set`"
+        how = f"shorten its comment, or write `{code.strip()}`" if code.strip() and short else "shorten the comment" if short else "put a part of the expression into a register before it by `set`"
         return Mend("", f"the line has {len(raw)} bytes, and at most 256 are taken; {how}", short)
     return Mend("", f"a script has at most 4,096 lines, and this is line {number}; leave out comments or blank lines, or make the "
                 "model smaller")

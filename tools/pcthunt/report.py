@@ -102,7 +102,7 @@ def case_lines(number: int, case: Case, result: Result) -> list[str]:
         lines += folded("Verdicts: " + "; ".join(verdicts[:6]) + (f"; and {len(verdicts) - 6} more" if len(verdicts) > 6 else ""),
                         "   ", "     ")
     lines += ["", f"   The shortest run, {len(best.run['steps'])} steps ({' '.join(best.schedule.options)}):", ""]
-    lines += [f"   {line}".rstrip() for line in text_lines(case.picture)]
+    lines += [f"   {line}".rstrip() for line in text_lines(case.picture, MOST_COLUMNS - 3)]
     lines.append("")
     for sentence in case.told:
         lines += folded(sentence, "   - ", "     ")

@@ -217,7 +217,10 @@ def of_trace(fault: Faulty, line: str, lines: list[str], script: Script) -> str:
 def step_form(line: str, script: Script) -> str:
     words = line.split(" ")
     if words[0] == "verdict":
-        return f"a verdict is passed, cut, failed THREAD LINE, stuck THREAD LINE .., misuse THREAD LINE KIND or fault THREAD LINE KIND; write `verdict passed`"
+        near = nearest(words[1] if len(words) > 1 else "", ["passed", "cut", "failed", "stuck", "misuse", "fault"])
+        form = " ".join(["verdict", near, *words[2:]]) if near and near != words[1] else "verdict passed"
+        return ("a verdict is passed, cut, failed THREAD LINE, stuck THREAD LINE .., misuse THREAD LINE KIND or fault THREAD LINE KIND; "
+                f"write `{form}`")
     asks = ASKS | ASKS_OF_2
     if "=" not in words:
         return f"a step is NUMBER THREAD LINE ASK = ANSWER, and it has no ` = `; write `{line} = 0`"
@@ -242,7 +245,7 @@ def of_directive(fault: Faulty, line: str, lines: list[str], script: Script) -> 
             thread = words[1] if len(words) > 1 and is_name(words[1]) else next(iter(script.threads))
             number = next((it for it in words[2:] if it.isdecimal() and it != "0"), "1").lstrip("0")
             return spaces(line) or f"a moment is `after THREAD NUMBER`, the number in 1 to 100000; write `after {thread} {number}`"
-        return spaces(line) or "a line is `after THREAD NUMBER`, or `verdict` and a verdict that isn't `passed` by itself; write `verdict passed`"
+        return spaces(line) or "a line is `after THREAD NUMBER`, or `verdict VERDICT`; write `verdict passed`"
     return of_either(fault, line, script)
 
 
