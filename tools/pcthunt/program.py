@@ -23,7 +23,7 @@ class Answer:
 
 def found() -> str:
     """PCT's words, else the program that ./build leaves, that beside an installed pct-hunt, or that on the path."""
-    places = [os.path.join(TOP, "bin", "pct"), os.path.join(os.path.dirname(TOP), "bin", "pct")]
+    places = [os.path.join(TOP, "bin", "pct"), os.path.join(TOP, "..", "..", "bin", "pct")]
     places += [path for path in [shutil.which("pct")] if path]
     for path in places:
         if os.path.isfile(path) and os.access(path, os.X_OK):
