@@ -110,7 +110,24 @@ def case_lines(number: int, case: Case, result: Result) -> list[str]:
     lines += ["", "   To see it again:"]
     for says, command in case.again:
         lines.append(f"     {command}    # {says}")
-    return lines
+    return [*lines, f"   To read: {reading(case)}"]
+
+
+def reading(case: Case) -> str:
+    """What to read: bugs of the same kind in the gallery."""
+    run, kind = case.heading.best().run, case.heading.kind()
+    core = run.get("core", [])
+    if kind == "stuck" and core and all(it["for"] == it["thread"] for it in core):
+        alike = ["upgraded_read_lock"]
+    elif kind == "stuck" and core and all(it["for"] for it in core):
+        alike = ["lock_order", "philosophers"]
+    elif kind == "stuck":
+        alike = ["lost_wakeup", "one_condition", "pool"]
+    elif kind == "failed":
+        alike = ["lost_update", "seqlock", "work_stealing"] if case.races else ["wait_with_if", "released_twice", "two_phase"]
+    else:
+        return f"docs/messages.md on '{kind}'"
+    return f"docs/messages.md on '{kind}'; examples/README.md on {listed(alike)}"
 
 
 def finding_lines(case: Case, best: Failure) -> list[str]:

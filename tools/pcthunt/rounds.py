@@ -41,6 +41,7 @@ class Round:
     steps: int = 0  # k, from which the points are drawn
     rows: list[Row] = field(default_factory=list)
     sweep: list[Choice] | None = None
+    longest: int = 0  # steps of a run that wasn't cut, as far as they are known
 
     def failures(self) -> int:
         if self.sweep is not None:
@@ -173,9 +174,7 @@ class Search:
 
     def longest(self) -> int:
         """The steps of the longest run so far that wasn't cut."""
-        rows = (row.steps for round_ in self.rounds for row in round_.rows if row.verdict != "cut")
-        swept = (round_.steps for round_ in self.rounds if round_.sweep is not None)
-        return max([1, *rows, *swept])
+        return max([1, *(round_.longest for round_ in self.rounds)])
 
     def campaign(self, round_: Round) -> None:
         self.progress.begin_round()
@@ -205,6 +204,7 @@ class Search:
             place = lambda row: (row.seed - round_.first) % SEEDS
             round_.rows = sorted((row for report in reports for row in report.rows), key=place)
         round_.steps = round_.steps or reports[0].head[1]
+        round_.longest = longest_of(round_.rows)
 
     def sweep(self, round_: Round) -> None:
         """All choices of an order and points, by the program's sweep."""
@@ -212,6 +212,14 @@ class Search:
         answer = self.program.whole(*words, *(["--steps", str(round_.steps)] if round_.steps else []))
         head, round_.sweep = read_sweep(answer.out)
         round_.steps, round_.wanted = head["steps"], head["choices"]
+        # A sweep doesn't tell how long its runs are: some seeds of the same depth do.
+        probe = Round(round_.number, round_.depth, round_.first, AT_DEPTH_1, round_.limit, round_.steps)
+        made = self.parts.make(probe, probe.first, probe.wanted)
+        round_.longest = longest_of(made[0].rows) if made else 0
+
+
+def longest_of(rows: list[Row]) -> int:
+    return max((row.steps for row in rows if row.verdict != "cut"), default=0)
 
 
 def read_sweep(text: str) -> tuple[dict[str, int], list[Choice]]:
