@@ -51,8 +51,10 @@ class Program:
         on_path = shutil.which("pct")
         if on_path and os.path.realpath(on_path) == path:
             return "pct"
-        near = os.path.relpath(path)
-        return shlex.join([*self.words[:-1], path if near.startswith("..") else near])
+        for near in (os.path.join("bin", "pct"), os.path.relpath(path)):
+            if os.path.exists(near) and os.path.realpath(near) == path and not near.startswith(".."):
+                return shlex.join([*self.words[:-1], near])
+        return shlex.join([*self.words[:-1], path])
 
     def call(self, *words: str) -> Answer:
         """What the program answers to the words."""
