@@ -2,7 +2,7 @@
 
 from collections import Counter, namedtuple
 
-from model_script import GREATEST, LEAST, REGISTERS
+from pctmodel.script import GREATEST, LEAST, REGISTERS
 
 Event = namedtuple("Event", "thread line ask answer")
 MOST_MOVES = 10000

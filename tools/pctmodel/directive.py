@@ -2,9 +2,9 @@
 
 from dataclasses import dataclass, field
 
-from model_run import ranked_run
-from model_script import Faulty, is_name
-from model_trace import LineReader, number_of
+from pctmodel.run import ranked_run
+from pctmodel.script import Faulty, is_name
+from pctmodel.trace import LineReader, number_of
 
 MOST_BYTES, MOST_EVENTS, MOST_THREADS = 65536, 7, 7
 

@@ -3,8 +3,8 @@
 import re
 from dataclasses import dataclass, field
 
-from model_run import Event
-from model_script import GREATEST, LEAST, Faulty, is_name
+from pctmodel.run import Event
+from pctmodel.script import GREATEST, LEAST, Faulty, is_name
 
 # What follows the first word of an ask: names of objects of that kind, and values.
 ASKS = {

@@ -83,7 +83,7 @@ def blocked_rows(picture, places, name):
 
 def step_box(picture, places, number, step):
     top = places.top(number)
-    yield text_at(8, top, "number", f"{number:>5}")
+    yield text_at(8, top, "number", f"{step.number:>5}")
     yield box(places, step.thread, top + 2, ROW - 4, "step failing" if step.is_failing else "step")
     yield text_at(places.left[step.thread] + 6, top, "ask", step.label)
     if step.lowered:

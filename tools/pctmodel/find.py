@@ -1,7 +1,7 @@
 """From a failing run to a short directive, for the model: the moments of its change points, of which those are left out that
 its verdict doesn't need."""
 
-from model_directive import directed_run
+from pctmodel.directive import directed_run
 
 
 def moments_of(events, points):

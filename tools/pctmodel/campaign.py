@@ -3,8 +3,8 @@
 import json
 from collections import namedtuple
 
-from chacha import draws
-from model_run import run
+from pctmodel.chacha import draws
+from pctmodel.run import run
 
 Row = namedtuple("Row", "seed steps verdict")
 Group = namedtuple("Group", "count steps first verdict")

@@ -2,8 +2,8 @@
 
 from collections import namedtuple
 
-from model_script import is_name
-from model_trace import number_of
+from pctmodel.script import is_name
+from pctmodel.trace import number_of
 
 RANGES = {
     "--limit": (1, 100000), "--steps": (1, 100000), "--count": (1, 100000), "--depth": (1, 8),
