@@ -110,7 +110,7 @@ def case_lines(number: int, case: Case, result: Result) -> list[str]:
     lines += ["", "   To see it again:"]
     for says, command in case.again:
         lines.append(f"     {command}    # {says}")
-    return [*lines, f"   To read: {reading(case)}"]
+    return [*lines, *folded(f"To read: {reading(case)}", "   ", "     ")]
 
 
 def reading(case: Case) -> str:
