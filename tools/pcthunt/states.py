@@ -104,7 +104,6 @@ class Listed:
         assert asked is not None
         holder = self.holder(name)
         by = "which it holds itself" if holder == name else f"which {holder} holds"
-        by += ", and that has ended" if holder in self.ended() else ""
         match asked.ask:
             case ("lock", mutex):
                 return f"{mutex}, {by}"
