@@ -157,6 +157,8 @@ class Story:
     def of_wait(self, core: Json) -> None:
         thread, ask = core["thread"], self.asked(core["thread"]).split()
         self.tell(f"{thread}, in line {core['line']}, waits for {core['waits']}{self.since(core)}")
+        if core["for"] in self.run["ended"]:
+            self.tell(f"{core['for']} has ended, and holds it still")
         if core["since"]:
             self.told_holds.add((core["for"], core["since"]))
         teller = {"regain": self.of_signals, "down": self.of_semaphore, "leave": self.of_barrier}.get(ask[0])

@@ -110,7 +110,7 @@ def case_lines(number: int, case: Case, result: Result) -> list[str]:
     lines += ["", "   To see it again:"]
     for says, command in case.again:
         lines.append(f"     {command}    # {says}")
-    return [*lines, f"   To read: {reading(case)}"]
+    return [*lines, *folded(f"To read: {reading(case)}", "   ", "     ")]
 
 
 def reading(case: Case) -> str:
@@ -119,10 +119,12 @@ def reading(case: Case) -> str:
     core = run.get("core", [])
     if kind == "stuck" and core and all(it["for"] == it["thread"] for it in core):
         alike = ["upgraded_read_lock"]
-    elif kind == "stuck" and core and all(it["for"] for it in core):
+    elif kind == "stuck" and core and {it["for"] for it in core} <= {it["thread"] for it in core}:
         alike = ["lock_order", "philosophers"]
-    elif kind == "stuck":
+    elif kind == "stuck" and any(it["waits"].startswith("a signal") for it in core):
         alike = ["lost_wakeup", "one_condition", "pool"]
+    elif kind == "stuck":
+        return "docs/messages.md on 'stuck'"
     elif kind == "failed":
         alike = ["lost_update", "seqlock", "work_stealing"] if case.races else ["wait_with_if", "released_twice", "two_phase"]
     else:

@@ -113,7 +113,8 @@ class Parts:
         try:
             while begun < round_.wanted or self.pending:
                 while begun < round_.wanted and len(self.pending) < self.crew.jobs:
-                    count = min(self.size, math.ceil((round_.wanted - begun) / self.crew.jobs))
+                    left = round_.wanted - begun
+                    count = min(self.size, left, max(BATCH, math.ceil(left / self.crew.jobs)))
                     first = (round_.first + begun) % SEEDS
                     self.pending[self.crew.pool.submit(self.make, round_, first, count)] = count
                     begun += count
