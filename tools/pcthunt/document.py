@@ -19,7 +19,7 @@ from pctmodel.directive import Directive
 from pctmodel.locks import Nesting, lock_order
 from pctmodel.races import races_of
 from pctmodel.run import Event, World
-from pctmodel.script import Script, parse
+from pctmodel.script import Script
 from pctmodel.trace import Trace
 
 MOST_STEPS_FOR_RACES = 2000  # the plain model looks at each pair of steps

@@ -7,7 +7,7 @@ import re
 from dataclasses import dataclass, field
 
 from pctmodel.script import (BLOCKS, DECLARATIONS, KEYWORDS, OBJECTS, REGISTERS, STATEMENTS, Faulty, Parser, Script, Thread,
-                             cut_lines, cut_tokens, is_name)
+                             cut_tokens, is_name)
 
 KIND_WORDS = {"var": "a variable", "mutex": "a mutex", "cond": "a condition", "sem": "a semaphore", "barrier": "a barrier",
               "rwlock": "a read-write lock", "thread": "a thread"}

@@ -35,7 +35,7 @@ class Failure:
     schedule: Schedule
     trace: Trace | None = None
     run: Json = field(default_factory=dict)
-    key: tuple[str, ...] = ()
+    keys: list[tuple[str, ...]] = field(default_factory=list)
 
     def count(self) -> int:
         return sum(self.counts.values())
@@ -80,14 +80,31 @@ class Places:
         return f"{self.twin[thread]} {self.numbers[thread].get(line, 0)}"
 
 
-def key_of(verdict: str, run: Json, places: Places) -> tuple[str, ...]:
-    """By what two failures are one bug: their kind, and the place, or the places of those that wait for one another."""
+def keys_of(verdict: str, run: Json, places: Places) -> list[tuple[str, ...]]:
+    """By what two failures are one bug: their kind, and the place, or the places of those that wait for one another. A run that
+    is stuck in several cycles has a key for each."""
     kind, *rest = verdict.split()
     if kind == "stuck":
-        return kind, *sorted(places.of(it["thread"], it["line"]) for it in run["core"])
+        return sorted((kind, *sorted(places.of(it["thread"], it["line"]) for it in part)) for part in cycles_in(run["core"]))
     if kind == "cut":
-        return (kind,)
-    return kind, places.of(rest[0], int(rest[1])), *rest[2:]
+        return [(kind,)]
+    return [(kind, places.of(rest[0], int(rest[1])), *rest[2:])]
+
+
+def cycles_in(core: list[Json]) -> list[list[Json]]:
+    """The cycles of waits in a core, each by itself; a core that is no cycle is one part."""
+    names = {it["thread"] for it in core}
+    if not all(it["for"] in names for it in core):
+        return [core]
+    waits = {it["thread"]: it["for"] for it in core}
+    parts: dict[str, list[Json]] = {}
+    for it in core:
+        seen, name = [], it["thread"]
+        while name not in seen:
+            seen.append(name)
+            name = waits[name]
+        parts.setdefault(min(seen[seen.index(name):]), []).append(it)
+    return list(parts.values())
 
 
 def schedule_of(seed: int, round_: Round) -> Schedule:
@@ -134,16 +151,19 @@ class Headings:
         self.texts = Texts([{"file": title, "text": text}])
 
     def of(self, failures: list[Failure]) -> list[Heading]:
+        """Failures of several keys come last, under the first of these that isn't there yet, or else the first."""
         by_key: dict[tuple[str, ...], Heading] = {}
-        for failure in failures[:MOST_VERDICTS]:
-            self.make_run(failure)
-            by_key.setdefault(failure.key, Heading(failure.key, [])).failures.append(failure)
+        made = [self.make_run(failure) for failure in failures[:MOST_VERDICTS]]
+        for failure in sorted(made, key=lambda it: len(it.keys)):
+            key = next((it for it in failure.keys if it not in by_key), failure.keys[0])
+            by_key.setdefault(key, Heading(key, [])).failures.append(failure)
         order = lambda it: (it.kind() == "cut", -sum(it.counts().values()), it.best().steps, it.key)
         return sorted(by_key.values(), key=order)
 
-    def make_run(self, failure: Failure) -> None:
+    def make_run(self, failure: Failure) -> Failure:
         answer = self.program.whole("run", *failure.schedule.words(self.path))
         failure.trace = read_trace(answer.out.encode(), self.script)
         failure.run = run_of(self.script, failure.trace, self.title, failure.schedule.seed)
         complete_run(failure.run, self.deal, self.texts)
-        failure.key = key_of(failure.verdict, failure.run, self.places)
+        failure.keys = keys_of(failure.verdict, failure.run, self.places)
+        return failure

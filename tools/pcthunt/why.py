@@ -6,13 +6,13 @@ import os
 import shlex
 
 from pcthunt.forms import nearest
-from pcthunt.output import (BAD_DIRECTIVE, BAD_SCRIPT, BAD_TRACE, DONE, READ_FAULT, USAGE, Refused, put, read, say, shown)
+from pcthunt.output import BAD_DIRECTIVE, BAD_SCRIPT, BAD_TRACE, READ_FAULT, USAGE, Refused, put, read, shown
 from pcthunt.program import Program
 from pcthunt.refusals import script_refusal
 from pctmodel.directive import read_directive
 from pctmodel.script import Faulty, Script, is_name, parse
 from pctmodel.trace import ASKS, ASKS_OF_2, read_trace
-from pctmodel.words import COMMANDS, RANGES, NotTaken, value_of
+from pctmodel.words import COMMANDS, RANGES
 
 VALUES = {"--order": "A,B", "--points": "3", "--limit": "1000", "--seed": "1", "--depth": "2", "--steps": "20", "--from": "1",
           "--count": "1000", "--form": "text"}
