@@ -1,5 +1,5 @@
 -- What a handle holds, as plain data (this project).
-use Rattle.std.specs.Prelude.{◌≡◌, ℕ, ⊥, Option, Some, None}
+use Rattle.std.specs.Prelude.{◌≡◌, ℕ, Option, Some, None}
 use Rattle.turn_book.specs.Told.{BookState}
 use Rattle.trace_text.specs.declared.file.TraceFile.{TraceFile}
 use Rattle.pct_c.specs.declared.book.Book.{Book}

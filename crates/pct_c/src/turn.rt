@@ -1,6 +1,7 @@
 //! Whose turn it is, as numbers.
 
-ghost use Rattle.std.specs.Prelude.{◌≡◌};
+ghost use Rattle.std.specs.Prelude.{◌≡◌, pos};
+ghost use Rattle.turn_book.specs.Told.{IsLawful};
 ghost use Rattle.pct_c.specs.Books.{state_of};
 ghost use Rattle.pct_c.specs.Turns.{SaysChoice};
 
@@ -41,7 +42,7 @@ fn turn(status: u32, answer: i64, choice: u32, thread: u32) -> PctTurn
 pub fn no_book() -> PctTurn
     ensures status { result.status ≡ 7 }
     ensures choice { result.choice ≡ 0 }
-    ensures answer { result.answer ≡ 0 }
+    ensures answer { result.answer ≡ pos 0 }
 {
     turn(NO_BOOK, 0, 0, 0)
 }
@@ -51,7 +52,10 @@ pub fn turn_on(book: &Book, status: u32, answer: i64) -> PctTurn
     ensures status { result.status ≡ status }
     ensures answer { result.answer ≡ answer }
     ensures choice { SaysChoice (state_of book.now) result }
+    ensures lawful { IsLawful (state_of book.now) }
 {
+    // What it keeps is told with its steps.
+    let _steps = book.trace();
     if book.is_over() {
         return turn(status, answer, OVER, 0);
     }

@@ -1,10 +1,11 @@
 //! The calls of C on the turns of a book.
 
-ghost use Rattle.std.specs.Prelude.{◌≡◌, ◌↔◌, IsTrue, IfSome, Option, None};
+ghost use Rattle.std.specs.Prelude.{◌≡◌, ◌↔◌, ◌⊎◌, IsTrue, IfSome, IsSome, Option, None};
+ghost use Rattle.turn_book.specs.Told.{IsLawful};
 ghost use Rattle.pct_ask.specs.declared.ask.Ask.{Ask};
 ghost use Rattle.pct_ask.specs.Objects.{sizes_of_deal, PostIsInRange};
 ghost use Rattle.pct_c.specs.Books.{state_of, OnKept, OnHeld};
-ghost use Rattle.pct_c.specs.Turns.{MayPost, Posts, Takes, Steps, TellsTurn};
+ghost use Rattle.pct_c.specs.Turns.{MayPost, MayTake, HasTurn, SaysChoice, Posts, Takes, Steps, TellsTurn};
 
 use crate::book::Book;
 use crate::handle::PctBook;
@@ -91,20 +92,42 @@ pub extern "C" fn pct_book_post(
     }
 }
 
+/// Whether a thread asks.
+fn may_take(book: &Book, thread: u32) -> bool
+    ensures { IsTrue result ↔ MayTake (state_of book.now) thread }
+{
+    if thread >= book.deal().threads {
+        return false;
+    }
+    matches!(book.standing(thread), Standing::Asks)
+}
+
+/// What is answered of a step that was taken: whether it ended the run.
+fn turn_taken(book: &Book, answer: i64) -> PctTurn
+    ensures status { ((result.status ≡ 0) × ((state_of book.now).outcome ≡ None))
+        ⊎ ((result.status ≡ 1) × IsSome (state_of book.now).outcome) }
+    ensures answer { result.answer ≡ answer }
+    ensures choice { SaysChoice (state_of book.now) result }
+    ensures lawful { IsLawful (state_of book.now) }
+{
+    if book.is_over() {
+        turn_on(book, ENDED, answer)
+    } else {
+        turn_on(book, DONE, answer)
+    }
+}
+
 fn take_on(book: &mut Book, thread: u32) -> PctTurn
     ensures { Takes thread result (state_of book.old) (state_of book.new) }
 {
     if book.is_over() {
         return turn_on(book, OVER, 0);
     }
-    if thread >= book.deal().threads || book.standing(thread) != Standing::Asks {
+    if !may_take(book, thread) {
         return turn_on(book, BAD, 0);
     }
     match book.take_turn(thread) {
-        Reply::Answer(answer) => {
-            let status = if book.is_over() { ENDED } else { DONE };
-            turn_on(book, status, answer)
-        }
+        Reply::Answer(answer) => turn_taken(book, answer),
         Reply::NotYet { .. } => turn_on(book, NOT_YET, 0),
         Reply::Over => turn_on(book, OVER, 0),
     }
@@ -135,6 +158,17 @@ pub extern "C" fn pct_book_take(alloc: Global, book: &mut PctBook, thread: u32) 
     }
 }
 
+/// Whether a thread asks, and its turn has come.
+fn may_step(book: &Book, thread: u32) -> bool
+    ensures { IsTrue result
+        ↔ (HasTurn (state_of book.now) thread × MayTake (state_of book.now) thread) }
+{
+    match book.granted() {
+        Some(granted) => granted == thread && may_take(book, thread),
+        None => false,
+    }
+}
+
 fn step_on(book: &mut Book, thread: u32, line: u32, numbers: &PctAsk) -> PctTurn
     ensures { Steps thread line numbers.now result (state_of book.old) (state_of book.new) }
 {
@@ -142,7 +176,7 @@ fn step_on(book: &mut Book, thread: u32, line: u32, numbers: &PctAsk) -> PctTurn
     if posted.status != DONE {
         return posted;
     }
-    if book.granted() == Some(thread) && book.standing(thread) == Standing::Asks {
+    if may_step(book, thread) {
         take_on(book, thread)
     } else {
         turn_on(book, POSTED, 0)
