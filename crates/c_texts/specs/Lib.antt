@@ -1,2 +1,4 @@
+pub mod Directives
 pub mod Known
+pub mod Reports
 pub mod Verdicts

@@ -1,8 +1,11 @@
 //! Runs, verdicts, directives and campaigns as texts, from numbers; and directives read back.
 #![tactic(auto)]
 
+mod directive;
 mod known;
+mod report;
 mod verdict;
 
-pub use known::known_verdict;
+pub use directive::{PctDirective, directive_text_told};
+pub use report::{PctFrame, report_json_told, report_told};
 pub use verdict::verdict_text_told;

@@ -5,6 +5,7 @@
 
 mod book;
 mod books;
+mod buffers;
 mod drawing;
 mod handle;
 mod held;
@@ -12,5 +13,6 @@ mod kept;
 mod loose;
 mod reading;
 mod status;
+mod tells;
 mod turn;
 mod turns;
