@@ -1,5 +1,5 @@
 -- What makes a book, and what doesn't.
-use Rattle.std.proofs.Common.{◌≡◌, ◌<◌, ℕ, Some, None, Option, refl, sym, ap, subst, ◌∙◌, arith, inl, inr}
+use Rattle.std.proofs.Common.{◌≡◌, ◌<◌, ℕ, Some, None, Option, refl, sym, subst, ◌∙◌, arith, inl, inr}
 use Rattle.std.proofs.Common.{List, ◌⊎◌}
 use Rattle.std.specs.Prelude.{slice_index, Result, Ok, Err, IfOk, MatchOption}
 use Rattle.std.proofs.lemmas.List.{get_or-take, get_or_default, length-take}
@@ -48,11 +48,9 @@ pub kept : (result : Result (Option Book) AllocError) (status : ℕ) (old new : 
 kept result status old new May Made told done bad statuses stays = record {
   done = λ z. let book = done z in (
     book.0,
-    (
-      book.2,
-      subst (λ (r : Result (Option Book) AllocError). IfOk r (λ b. MatchOption b (May → ⊥) Made))
-          book.1 told,
-    ),
+    book.2,
+    subst (λ (r : Result (Option Book) AllocError). IfOk r (λ b. MatchOption b (May → ⊥) Made))
+        book.1 told,
   );
   bad = λ z. subst (λ (r : Result (Option Book) AllocError).
       IfOk r (λ b. MatchOption b (May → ⊥) Made)) (bad z) told;
