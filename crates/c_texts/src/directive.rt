@@ -27,17 +27,13 @@ fn are_moments(names: &Names, moments: &[Moment]) -> bool
     ensures { IsTrue result ↔ All (IsMoment names.now) moments.now }
 {
     let threads = names.count(NameKind::Thread);
-    moments
-        .iter()
-        .all(|moment| moment.thread < threads && 1 <= moment.number && moment.number <= 100_000)
+    moments.iter().all(|moment| moment.thread < threads
+        && 1 <= moment.number
+        && moment.number <= 100_000)
 }
 
 /// The directive that the numbers say, where it may be written under the names.
-fn directive_of(
-    alloc: Global,
-    names: &Names,
-    numbers: &PctDirective,
-) -> Result<Directive, Refused>
+fn directive_of(alloc: Global, names: &Names, numbers: &PctDirective) -> Result<Directive, Refused>
     ensures { Answers (λ told. SaysDirective names.now numbers.now (plain_directive told)) result }
 {
     let verdict = known_verdict(names, &numbers.verdict)?;

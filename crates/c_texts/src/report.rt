@@ -51,7 +51,7 @@ struct Ranked {
 }
 
 /// The runs that the numbers say, ranked, where their verdicts may be written.
-fn ranked(alloc: Global, names: &Names, numbers: &[PctRow]) -> Result<Ranked, Refused>
+fn rank_rows(alloc: Global, names: &Names, numbers: &[PctRow]) -> Result<Ranked, Refused>
     ensures { Answers (λ told. SaysReport names.now numbers.now told.rows told.groups) result }
 {
     if !are_known(names, numbers) {
@@ -72,7 +72,7 @@ pub fn report_told(
     ensures { Answers (IsReportText names.now frame.now rows.now) result }
 {
     let known = names_said(alloc, names)?;
-    let told = ranked(alloc, &known, rows)?;
+    let told = rank_rows(alloc, &known, rows)?;
     let text = text_report(alloc, &frame_of(frame), &told.rows, &told.groups, &known)?;
     Ok(Sequence::from_vec(text))
 }
@@ -87,7 +87,7 @@ pub fn report_json_told(
     ensures { Answers (IsReportJson names.now frame.now rows.now) result }
 {
     let known = names_said(alloc, names)?;
-    let told = ranked(alloc, &known, rows)?;
+    let told = rank_rows(alloc, &known, rows)?;
     let text = json_report(alloc, &frame_of(frame), &told.rows, &told.groups, &known)?;
     Ok(Sequence::from_vec(text))
 }

@@ -5,4 +5,5 @@ pub mod HeldBoxes
 pub mod Makers
 pub mod Reading
 pub mod Tells
+pub mod Traces
 pub mod Turns

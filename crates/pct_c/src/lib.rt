@@ -14,5 +14,7 @@ mod loose;
 mod reading;
 mod status;
 mod tells;
+mod trace_handle;
+mod traces;
 mod turn;
 mod turns;

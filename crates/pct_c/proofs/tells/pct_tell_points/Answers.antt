@@ -1,4 +1,4 @@
-use Rattle.std.proofs.Common.{length, ap, ◌∙◌}
+use Rattle.std.proofs.Common.{length, refl, ap, ◌∙◌}
 use Rattle.std.proofs.lemmas.List.{length-map}
 use Rattle.c_tells.specs.Points.{ArePointsOf}
 use Rattle.pct_c.proofs.BufferLaws.{fills, fillable}
@@ -9,7 +9,7 @@ fill-requires c =
     let a = c.args in
     fillable (ArePointsOf a.steps.now a.most a.moments.now (length a.points.now))
     c.points_told-told.result (length a.points.now) c.points_told-told.ensures
-    (λ list is. ap length is.points_are ∙ (simp length-map (refl) ∙ is.whole))
+    (λ list is. ap length is.points_are ∙ (simp length-map refl ∙ is.whole))
 
 pub returns : goal.returns
 returns c =
