@@ -5,7 +5,7 @@ use Rattle.directive.specs.Directive.{IsMoment}
 use Rattle.directive.specs.DirectiveText.{DirectiveText, directive_text}
 use Rattle.c_values.specs.Moments.{moment_said}
 use Rattle.c_values.specs.NamesText.{names_of_text}
-use Rattle.c_texts.specs.declared.directive.PctDirective.{PctDirective}
+use Rattle.c_texts.specs.declared.directives.PctDirective.{PctDirective}
 use Rattle.c_texts.specs.Known.{SaysKnown}
 
 -- The numbers say the directive, and it has a text under the names: its threads have names, and there

@@ -1,11 +1,13 @@
 //! Runs, verdicts, directives and campaigns as texts, from numbers; and directives read back.
 #![tactic(auto)]
 
-mod directive;
+mod directives;
 mod known;
 mod report;
+mod traces;
 mod verdict;
 
-pub use directive::{PctDirective, directive_text_told};
+pub use directives::{PctDirective, directive_text_told};
 pub use report::{PctFrame, report_json_told, report_told};
+pub use traces::trace_text_told;
 pub use verdict::verdict_text_told;
