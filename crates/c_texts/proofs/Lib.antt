@@ -1,2 +1,3 @@
 mod KnownPlaces
 mod SaidVerdicts
+mod SameNames

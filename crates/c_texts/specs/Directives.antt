@@ -3,6 +3,8 @@ use Rattle.std.specs.Prelude.{◌≡◌, ◌≤◌, ◌<◌, ℕ, List, Some, le
 use Rattle.pct_ask.specs.NameLists.{NameLists}
 use Rattle.directive.specs.Directive.{IsMoment}
 use Rattle.directive.specs.DirectiveText.{DirectiveText, directive_text}
+use Rattle.directive.specs.Answers.{plain_directive}
+use Rattle.directive.specs.declared.directive.Directive.{Directive}
 use Rattle.c_values.specs.Moments.{moment_said}
 use Rattle.c_values.specs.NamesText.{names_of_text}
 use Rattle.c_texts.specs.declared.directives.PctDirective.{PctDirective}
@@ -24,6 +26,6 @@ pub record IsDirectiveText (of_names : List ℕ) (numbers : PctDirective) (text 
     : Type 0 where
   pub names : NameLists
   pub named : names_of_text of_names ≡ Some names
-  pub told : DirectiveText
-  pub says : SaysDirective names numbers told
-  pub written : text ≡ directive_text names told
+  pub told : Directive
+  pub says : SaysDirective names numbers (plain_directive told)
+  pub written : text ≡ directive_text names (plain_directive told)
