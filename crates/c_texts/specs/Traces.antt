@@ -4,7 +4,7 @@ use Rattle.pct_ask.specs.NameLists.{NameLists}
 use Rattle.pct_ask.specs.TraceText.{TraceHead, trace_text}
 use Rattle.pct_ask.specs.declared.event.Event.{Event}
 use Rattle.pct_ask.specs.declared.verdict.Verdict.{Verdict}
-use Rattle.trace_text.specs.Lawful.{IsHead, NamesKnown, is_of_second}
+use Rattle.trace_text.specs.Lawful.{IsHead, IsStepCount, NamesKnown, is_of_second}
 use Rattle.trace_text.specs.Trace.{head_of}
 use Rattle.trace_text.specs.declared.file.Header.{Header}
 use Rattle.c_values.specs.declared.event.PctEvent.{PctEvent}
@@ -17,6 +17,14 @@ use Rattle.c_texts.specs.Known.{SaysKnown}
 abbrev pub head_by : ℕ → ℕ → List ℕ → List ℕ → TraceHead
 head_by version limit order points =
     record { version = version; limit = limit; order = order; points = points }
+
+-- all of a head but its order is that of a trace with so many threads
+pub record IsPlainHead (threads : ℕ) (head : TraceHead) : Type 0 where
+  pub version : (head.version ≡ 1) ⊎ (head.version ≡ 2)
+  pub whole : length head.order ≡ threads
+  pub few_points : length head.points ≤ 7
+  pub points : All IsStepCount head.points
+  pub limit : IsStepCount head.limit
 
 -- the head may be written under the names, and this is it as a value
 pub record IsHeadOf (names : NameLists) (head : TraceHead) (header : Header) : Type 0 where

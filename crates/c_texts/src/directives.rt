@@ -1,13 +1,16 @@
 //! A directive as a text, and read back.
 
-ghost use Rattle.std.specs.Prelude.{◌≡◌, ◌↔◌, IsTrue, All, map, take, IfOk, OnErr};
+ghost use Rattle.std.specs.Prelude.{◌≡◌, ◌≤◌, ◌↔◌, IsTrue, All, length, map, take};
 ghost use Rattle.directive.specs.Directive.{IsMoment};
 ghost use Rattle.directive.specs.Answers.{plain_directive};
 ghost use Rattle.c_values.specs.Told.{Answers};
-ghost use Rattle.c_texts.specs.Directives.{SaysDirective, IsDirectiveText};
+ghost use Rattle.c_values.specs.Moments.{moment_numbers};
+ghost use Rattle.c_texts.specs.Directives.{SaysDirective, IsDirectiveText, TellsDirective};
 
 use crate::known::known_verdict;
-use c_values::{PctMoment, PctOutcome, Refused, moments_of, names_said};
+use c_values::{
+    PctMoment, PctOutcome, Refused, moments_of, names_said, numbers_of_moment, numbers_of_verdict,
+};
 use directive::{Directive, write_directive};
 use pct_ask::{NameKind, Names, Sequence};
 use policy_pick::{Moment, MomentList};
@@ -62,4 +65,32 @@ pub fn directive_text_told(
     let known = names_said(alloc, names)?;
     let said = directive_of(alloc, &known, directive)?;
     Ok(Sequence::from_vec(write_directive(alloc, &said, &known)?))
+}
+
+/// The numbers of at most 7 moments, at the front of an array.
+fn moments_in(moments: &[Moment]) -> [PctMoment; 7]
+    requires { length moments.now ≤ 7 }
+    ensures { take (length moments.now) result ≡ map moment_numbers moments.now }
+{
+    let mut numbers = [PctMoment {
+        thread: 0,
+        number: 0,
+    }; 7];
+    for (place, moment) in moments.iter().enumerate() {
+        numbers[place] = numbers_of_moment(*moment);
+    }
+    numbers
+}
+
+/// The numbers of a directive.
+pub fn numbers_of_directive(told: &Directive) -> PctDirective
+    ensures { TellsDirective told.now result }
+{
+    let moments = told.events.as_slice();
+    PctDirective {
+        low: told.low,
+        count: moments.len() as u32,
+        moments: moments_in(moments),
+        verdict: numbers_of_verdict(&told.verdict),
+    }
 }

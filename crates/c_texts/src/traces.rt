@@ -7,7 +7,8 @@ ghost use Rattle.rank_now.specs.Order.{IsOrder};
 ghost use Rattle.trace_text.specs.Lawful.{HasObjects, NamesKnown, IsHead, IsStepCount, is_of_second};
 ghost use Rattle.trace_text.specs.Trace.{head_of};
 ghost use Rattle.c_values.specs.Told.{Answers};
-ghost use Rattle.c_texts.specs.Traces.{head_by, IsHeadOf, SaysSteps, IsOfVersion, IsTraceText};
+ghost use Rattle.c_texts.specs.Traces.{head_by, IsPlainHead, IsHeadOf, SaysSteps};
+ghost use Rattle.c_texts.specs.Traces.{IsOfVersion, IsTraceText};
 
 use crate::known::known_verdict;
 use c_values::{PctEvent, PctOutcome, Refused, deal_of_names, names_said, steps_of};
@@ -28,8 +29,7 @@ fn are_step_counts(points: &[u32]) -> bool
 /// Refuses a list that is no order.
 fn check_order(alloc: Global, order: &[u32]) -> Result<(), Refused>
     requires { length order.now ≤ 64 }
-    ensures ok { OnOk result (IsOrder order.now) }
-    ensures bad { result ≡ Err Refused.Bad → ¬ IsOrder order.now }
+    ensures { Answers (λ _. IsOrder order.now) result }
 {
     match Ranks::new(alloc, order, 0) {
         Ok(_ranks) => Ok(()),
@@ -93,6 +93,19 @@ fn are_known_steps(version: u32, deal: &Deal, events: &[Event]) -> bool
         .all(|event| is_known_step(version, deal, event))
 }
 
+/// Whether all of a head but its order is that of a trace with so many threads.
+fn is_plain_head(threads: u32, version: u32, limit: u32, order: &[u32], points: &[u32]) -> bool
+    ensures { IsTrue result
+        ↔ IsPlainHead threads (head_by version limit order.now points.now) }
+{
+    (version == 1 || version == 2)
+        && order.len() == threads as usize
+        && points.len() <= 7
+        && are_step_counts(points)
+        && 1 <= limit
+        && limit <= 100_000
+}
+
 /// The head of a trace that may be written under the names.
 fn header_of(
     alloc: Global,
@@ -104,13 +117,8 @@ fn header_of(
 ) -> Result<Header, Refused>
     ensures { Answers (IsHeadOf names.now (head_by version limit order.now points.now)) result }
 {
-    if version != 1 && version != 2 || limit == 0 || limit > 100_000 {
-        return Err(Refused::Bad);
-    }
-    if order.len() != names.count(NameKind::Thread) as usize || points.len() > 7 {
-        return Err(Refused::Bad);
-    }
-    if !are_step_counts(points) {
+    let threads = names.count(NameKind::Thread);
+    if !is_plain_head(threads, version, limit, order, points) {
         return Err(Refused::Bad);
     }
     check_order(alloc, order)?;

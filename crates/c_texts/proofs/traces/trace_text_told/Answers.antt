@@ -24,7 +24,7 @@ returns-in_err-header c =
     let same = same_names a.names.now k.known is.names k.ensures is.named in
     let moved = subst (λ (n : NameLists). IsHead n (head_by a.version a.limit a.order.now a.points.now)) same is.head_is in
     let header : Header =
-        record { version = a.version; order = a.order.now; points = a.points.now; limit = a.limit } in
+    record { version = a.version; order = a.order.now; points = a.points.now; limit = a.limit } in
     (header, record { is = moved; same = refl }))
 
 pub returns-in_err-events : goal.returns-in_err-events
@@ -59,6 +59,6 @@ pub returns-then-not-is_of_version : goal.returns-then-not-is_of_version
 returns-then-not-is_of_version c = λ text is.
     let a = c.args in
     let same = same_verdict a.verdict.now c.in_ok-said.said is.verdict c.in_ok-said.ensures.says
-        is.says.says in
+    is.says.says in
     let of = subst (λ (v : Verdict). IsOfVersion a.version v) same is.of_version in
     ?
