@@ -32,4 +32,4 @@ SayEvents numbers events = events_said numbers ≡ Some events
 -- the numbers say these steps, at most 100000 of them
 pub record AreSteps (numbers : List PctEvent) (events : List Event) : Type 0 where
   pub say : SayEvents numbers events
-  pub few : length numbers ≤ 100000
+  pub few : length events ≤ 100000

@@ -15,4 +15,4 @@ row_said n =
 -- the numbers say these runs, at most 100000 of them
 pub record AreRows (numbers : List PctRow) (rows : List Row) : Type 0 where
   pub say : all_said row_said numbers ≡ Some rows
-  pub few : length numbers ≤ 100000
+  pub few : length rows ≤ 100000

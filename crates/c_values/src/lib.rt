@@ -16,6 +16,6 @@ pub use deal::{PctDeal, deal_of, deal_of_names, deal_said};
 pub use event::{PctEvent, event_of, events_of, numbers_of_event, steps_of};
 pub use moment::{PctMoment, moments_of, numbers_of_moment};
 pub use names::{kind_of, names_of, names_said};
-pub use outcome::{PctOutcome, numbers_of_outcome, verdict_of};
+pub use outcome::{PctOutcome, numbers_of_outcome, numbers_of_verdict, verdict_of};
 pub use refused::Refused;
 pub use row::{PctRow, rows_of};

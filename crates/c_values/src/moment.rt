@@ -1,7 +1,7 @@
 //! A moment as numbers.
 
 ghost use Rattle.std.specs.Prelude.{◌≡◌, IfOk, map};
-ghost use Rattle.c_values.specs.Moments.{moment_said};
+ghost use Rattle.c_values.specs.Moments.{moment_said, moment_numbers};
 
 use rank_now::Moment;
 use std::alloc::{AllocError as NoMemory, Global};
@@ -16,7 +16,7 @@ pub struct PctMoment {
 
 /// The numbers of a moment.
 pub fn numbers_of_moment(moment: Moment) -> PctMoment
-    ensures { moment_said result ≡ moment }
+    ensures { result ≡ moment_numbers moment }
 {
     PctMoment {
         thread: moment.thread,

@@ -65,7 +65,8 @@ pub fn numbers_of_outcome(outcome: &Outcome) -> PctOutcome
     }
 }
 
-fn numbers_of_verdict(verdict: &Verdict) -> PctOutcome
+/// The numbers of a verdict.
+pub fn numbers_of_verdict(verdict: &Verdict) -> PctOutcome
     ensures { result ≡ outcome_numbers (Outcome.Verdict verdict.now) }
 {
     match verdict {

@@ -30,7 +30,7 @@ bound-more threads steps i bound is =
 -- ---- the number of orders
 
 -- more threads have no fewer orders
-factorial-rises : (n more : ℕ) → factorial n ≤ factorial (more + n)
+pub factorial-rises : (n more : ℕ) → factorial n ≤ factorial (more + n)
 factorial-rises n zero = let e : n ≡ 0 + n = omega arith in
     let same = ap factorial e in omega arith
 factorial-rises n (suc more) =

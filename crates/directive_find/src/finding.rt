@@ -7,9 +7,9 @@ ghost use Rattle.script_code.specs.Listing.{listing};
 ghost use Rattle.script_body.specs.Bodies.{bodies_of, AreOf};
 ghost use Rattle.directive_find.specs.Found.{Finds};
 
-use crate::moments::moments_of;
 use crate::reducing::{Short, reduce};
 use crate::running::run_of_points;
+use choices::moments_of;
 use pct_ask::{Deal, Verdict};
 use pct_outside::Gate;
 use policy_pick::MomentList;

@@ -1,7 +1,7 @@
 -- What makes a book, and what doesn't.
-use Rattle.std.proofs.Common.{◌≡◌, ◌<◌, ℕ, Some, None, Option, refl, sym, ap, subst, ◌∙◌, arith, inl, inr}
-use Rattle.std.proofs.Common.{List, ◌⊎◌}
-use Rattle.std.specs.Prelude.{slice_index, Result, Ok, Err, IfOk, MatchOption}
+use Rattle.std.proofs.Common.{◌≡◌, ◌<◌, ℕ, Some, None, Option, refl, sym, subst, ◌∙◌, arith, inl, inr}
+use Rattle.std.proofs.Common.{List, ◌⊎◌, ap}
+use Rattle.std.specs.Prelude.{◌↔◌, slice_index, Result, Ok, Err, IfOk, MatchOption}
 use Rattle.std.proofs.lemmas.List.{get_or-take, get_or_default, length-take}
 use Rattle.std.specs.declared.alloc.AllocError.{AllocError}
 use Rattle.rank_now.specs.Order.{IsOrder, IsFirstWrong}
@@ -26,6 +26,15 @@ wrong_is_no_order order at wrong whole =
           whole.once k at early wrong.within same
     ]
 
+-- The policy's refusal of an order, passed on.
+pub refused : {X Y : Type 0} (order : List ℕ) (error : RankError)
+    → ((at : ℕ) → (◌≡◌ {A = Result X RankError} (Err error) (Err (RankError.NotAnOrder at)))
+    ↔ IsFirstWrong order at) → (at : ℕ)
+    → ◌≡◌ {A = Result Y RankError} (Err error) (Err (RankError.NotAnOrder at))
+    → IsFirstWrong order at
+refused order error told at e =
+    let same : error ≡ RankError.NotAnOrder at = cc in (told at).0 (ap (λ r. Err r) same)
+
 -- A book by an order was made, or the order is none.
 pub ordered : (result : Result (Option Book) AllocError) (made : Result Book RankError)
     → (Bad : Type 0) (Made : Book → Type 0)
@@ -48,11 +57,9 @@ pub kept : (result : Result (Option Book) AllocError) (status : ℕ) (old new : 
 kept result status old new May Made told done bad statuses stays = record {
   done = λ z. let book = done z in (
     book.0,
-    (
-      book.2,
-      subst (λ (r : Result (Option Book) AllocError). IfOk r (λ b. MatchOption b (May → ⊥) Made))
-          book.1 told,
-    ),
+    book.2,
+    subst (λ (r : Result (Option Book) AllocError). IfOk r (λ b. MatchOption b (May → ⊥) Made))
+        book.1 told,
   );
   bad = λ z. subst (λ (r : Result (Option Book) AllocError).
       IfOk r (λ b. MatchOption b (May → ⊥) Made)) (bad z) told;

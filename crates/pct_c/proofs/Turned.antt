@@ -1,19 +1,18 @@
 -- What each answer of a call on a book comes to.
 use Rattle.std.proofs.Common.{◌≡◌, ◌⊎◌, ℕ, Some, None, Option, refl, sym, ap, ◌∙◌, arith, inl, inr}
 use Rattle.std.specs.Prelude.{◌≢◌, pos}
-use Rattle.std.specs.Prelude.{IsSome, is_some, Bool, true, false}
-use Rattle.std.proofs.lemmas.Bool.{false≢true}
+use Rattle.std.specs.Prelude.{IsSome, is_some, Bool, true, false, nat_eq, ◌↔◌}
+use Rattle.std.proofs.lemmas.Bool.{false≢true, eqb-true, eq-eqb}
 use Rattle.pct_ask.specs.declared.ask.Ask.{Ask}
 use Rattle.pct_ask.specs.declared.verdict.Outcome.{Outcome}
-use Rattle.policy_pick.specs.declared.chance.Pick.{Pick}
 use Rattle.policy_pick.specs.declared.chance.Pick.TheVariants.{Thread, Waits}
 use Rattle.c_values.specs.declared.ask.PctAsk.{PctAsk}
-use Rattle.turn_book.specs.Told.{BookState, choice_of, IsPosted, IsAnswered, IsLawful}
+use Rattle.turn_book.specs.Told.{BookState, choice_of, IsAnswered, IsLawful}
 use Rattle.turn_book.specs.declared.taken.Because.{Because}
 use Rattle.turn_book.specs.declared.taken.Because.TheVariants.{Away, Turn}
 use Rattle.turn_book.specs.Answers.{IsBecause}
 use Rattle.pct_c.specs.declared.turn.PctTurn.{PctTurn}
-use Rattle.pct_c.specs.Turns.{SaysChoice, MayPost, MayTake, HasTurn, post_in, Posts, Takes}
+use Rattle.pct_c.specs.Turns.{SaysChoice, MayPost, MayTake, HasTurn, Posts, Takes}
 use Rattle.pct_c.specs.Turns.{PostsAndTakes, Steps}
 
 -- an outcome that stands isn't none
@@ -137,7 +136,7 @@ pub takes-not-yet : (t : ℕ) (r : PctTurn) (old new : BookState) → r.status �
 takes-not-yet t r old new is answer choice lawful may running none same = record {
   done = λ z. absurd (omega (arith, is, z));
   ended = λ z. absurd (omega (arith, is, z));
-  not_yet = λ z. (may, (running, none));
+  not_yet = λ z. (may, running, none);
   over = λ z. absurd (omega (arith, is, z));
   bad = λ z. absurd (omega (arith, is, z));
   statuses = inr (inr (inl is));
@@ -154,6 +153,23 @@ not-because s t (Turn u) why turn =
 not-because s t (Away u) why turn =
     let both : Some (Waits u) ≡ Some (Thread t) = sym why ∙ turn.1 in cc
 
+-- it is the turn of the thread of whom that is said, and of no other
+pub turn-is : (book : BookState) (said : Option ℕ) (u t : ℕ)
+    → ((v : ℕ) → (said ≡ Some v) ↔ HasTurn book v) → said ≡ Some u
+    → (nat_eq u t ≡ true → HasTurn book t) × (HasTurn book t → nat_eq u t ≡ true)
+turn-is book said u t told is = (
+  λ e. (told t).0 (is ∙ ap (λ v. Some v) (eqb-true u t e)),
+  λ turn. eq-eqb u t (let both = sym is ∙ (told t).1 turn in cc),
+)
+
+pub turn-of-none : (book : BookState) (said : Option ℕ) (t : ℕ)
+    → ((v : ℕ) → (said ≡ Some v) ↔ HasTurn book v) → said ≡ None
+    → (false ≡ true → HasTurn book t) × (HasTurn book t → false ≡ true)
+turn-of-none book said t told is = (
+  λ e. absurd (false≢true e),
+  λ turn. absurd (let both = sym is ∙ (told t).1 turn in cc),
+)
+
 -- whether a step ended the run is told by the status
 abbrev pub TellsEnd : PctTurn → BookState → Type 0
 TellsEnd r new = ((r.status ≡ 0) × (new.outcome ≡ None)) ⊎ ((r.status ≡ 1) × IsSome new.outcome)
@@ -162,7 +178,7 @@ pub takes-taken : (t : ℕ) (r : PctTurn) (old new : BookState) → TellsEnd r n
     → SaysChoice new r → IsLawful new → HasTurn old t → IsAnswered old t r.answer new
     → Takes t r old new
 takes-taken t r old new (inl running) choice lawful turn taken = record {
-  done = λ z. (turn, (taken, running.1));
+  done = λ z. (turn, taken, running.1);
   ended = λ z. absurd (let is = running.0 in omega (arith, is, z));
   not_yet = λ z. absurd (let is = running.0 in omega (arith, is, z));
   over = λ z. absurd (let is = running.0 in omega (arith, is, z));
@@ -174,7 +190,7 @@ takes-taken t r old new (inl running) choice lawful turn taken = record {
 }
 takes-taken t r old new (inr over) choice lawful turn taken = record {
   done = λ z. absurd (let is = over.0 in omega (arith, is, z));
-  ended = λ z. (turn, (taken, over.1));
+  ended = λ z. (turn, taken, over.1);
   not_yet = λ z. absurd (let is = over.0 in omega (arith, is, z));
   over = λ z. absurd (let is = over.0 in omega (arith, is, z));
   bad = λ z. absurd (let is = over.0 in omega (arith, is, z));
@@ -189,8 +205,8 @@ pub steps-taken : (t line : ℕ) (n : PctAsk) (p r : PctTurn) (old between new :
     → Posts t line n p old between → p.status ≡ 0 → HasTurn between t → MayTake between t
     → Takes t r between new → Steps t line n r old new
 steps-taken t line n p r old between new posts is turn may takes = record {
-  done = λ z. (whole, (takes.done z).1.1);
-  ended = λ z. (whole, (takes.ended z).1.1);
+  done = λ z. (whole, (takes.done z).2);
+  ended = λ z. (whole, (takes.ended z).2);
   posted = λ z. absurd (no-two z takes.statuses);
   over = λ z. absurd (some-none between.outcome (takes.over z) turn.0);
   bad = λ z. absurd (takes.bad z may);
@@ -203,19 +219,19 @@ steps-taken t line n p r old between new posts is turn may takes = record {
   where
     taken : ((r.status ≡ 0) ⊎ ((r.status ≡ 1) ⊎ ((r.status ≡ 3) ⊎ ((r.status ≡ 4) ⊎ (r.status ≡ 5)))))
         → IsAnswered between t r.answer new
-    taken (inl z) = (takes.done z).1.0
-    taken (inr (inl z)) = (takes.ended z).1.0
-    taken (inr (inr (inl z))) = absurd ((takes.not_yet z).1.1 turn)
+    taken (inl z) = (takes.done z).1
+    taken (inr (inl z)) = (takes.ended z).1
+    taken (inr (inr (inl z))) = absurd ((takes.not_yet z).2 turn)
     taken (inr (inr (inr (inl z)))) = absurd (some-none between.outcome (takes.over z) turn.0)
     taken (inr (inr (inr (inr z)))) = absurd (takes.bad z may)
 
     whole : PostsAndTakes t line n r old new
     whole = record {
       ask = (posts.done is).0;
-      may = (posts.done is).1.0;
-      running = (posts.done is).1.1.0;
+      may = (posts.done is).1;
+      running = (posts.done is).2;
       between = between;
-      posted = (posts.done is).1.1.1;
+      posted = (posts.done is).3;
       its_turn = turn;
       taken = taken takes.statuses;
     }
@@ -232,7 +248,7 @@ steps-taken t line n p r old between new posts is turn may takes = record {
         → ((r.status ≡ 0) ⊎ ((r.status ≡ 1) ⊎ ((r.status ≡ 3) ⊎ ((r.status ≡ 4) ⊎ (r.status ≡ 5))))) → ⊥
     none-else a b (inl z) = a z
     none-else a b (inr (inl z)) = b z
-    none-else a b (inr (inr (inl z))) = (takes.not_yet z).1.1 turn
+    none-else a b (inr (inr (inl z))) = (takes.not_yet z).2 turn
     none-else a b (inr (inr (inr (inl z)))) = some-none between.outcome (takes.over z) turn.0
     none-else a b (inr (inr (inr (inr z)))) = takes.bad z may
 
@@ -240,7 +256,7 @@ steps-taken t line n p r old between new posts is turn may takes = record {
         → ((r.status ≡ 0) ⊎ ((r.status ≡ 1) ⊎ ((r.status ≡ 2) ⊎ ((r.status ≡ 4) ⊎ (r.status ≡ 5)))))
     by-cases (inl z) = inl z
     by-cases (inr (inl z)) = inr (inl z)
-    by-cases (inr (inr (inl z))) = absurd ((takes.not_yet z).1.1 turn)
+    by-cases (inr (inr (inl z))) = absurd ((takes.not_yet z).2 turn)
     by-cases (inr (inr (inr (inl z)))) = absurd (some-none between.outcome (takes.over z) turn.0)
     by-cases (inr (inr (inr (inr z)))) = absurd (takes.bad z may)
 
@@ -251,16 +267,8 @@ pub steps-posted : (t line : ℕ) (n : PctAsk) (p r : PctTurn) (old new : BookSt
 steps-posted t line n p r old new posts is two answer choice none = record {
   done = λ z. absurd (omega (arith, two, z));
   ended = λ z. absurd (omega (arith, two, z));
-  posted = λ z. (
-    (posts.done is).0,
-    (
-      (posts.done is).1.0,
-      (
-        (posts.done is).1.1.0,
-        ((posts.done is).1.1.1, none),
-      ),
-    ),
-  );
+  posted =
+      λ z. ((posts.done is).0, (posts.done is).1, (posts.done is).2, (posts.done is).3, none);
   over = λ z. absurd (omega (arith, two, z));
   bad = λ z. absurd (omega (arith, two, z));
   statuses = inr (inr (inl two));

@@ -1,7 +1,6 @@
 -- What a handle holds, as plain data (this project).
 use Rattle.std.specs.Prelude.{◌≡◌, ℕ, Option, Some, None}
 use Rattle.turn_book.specs.Told.{BookState}
-use Rattle.trace_text.specs.declared.file.TraceFile.{TraceFile}
 use Rattle.pct_c.specs.declared.book.Book.{Book}
 use Rattle.pct_c.specs.declared.book.Book.TheVariants.{Points, Moments, Listed}
 use Rattle.pct_c.specs.declared.kept.Kept.{Kept}

@@ -5,7 +5,7 @@ use Rattle.pct_ask.specs.declared.deal.Deal.{Deal}
 use Rattle.policy_pick.specs.Plan.{Plan}
 use Rattle.c_values.specs.declared.deal.PctDeal.{PctDeal}
 use Rattle.c_values.specs.Deals.{SaysDeal, AreLawfulCounts}
-use Rattle.turn_book.specs.Told.{BookState, new_book, IsLawful}
+use Rattle.turn_book.specs.Told.{new_book}
 use Rattle.pct_c.specs.declared.book.Book.{Book}
 use Rattle.pct_c.specs.declared.kept.Kept.{Kept}
 use Rattle.pct_c.specs.declared.kept.Kept.TheVariants.{Book as OfBook}

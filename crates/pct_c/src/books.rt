@@ -134,7 +134,8 @@ fn made_by_moments(
                 return Ok(None);
             }
             let own = moments_of(alloc, moments)?;
-            of_order(Book::by_moments(alloc, deal, order, own.as_slice(), limit))
+            let made = Book::by_moments(alloc, deal, order, own.as_slice(), limit);
+            of_order(made)
         }
         None => Ok(None),
     }

@@ -5,6 +5,7 @@
 
 mod book;
 mod books;
+mod buffers;
 mod drawing;
 mod handle;
 mod held;
@@ -12,5 +13,8 @@ mod kept;
 mod loose;
 mod reading;
 mod status;
+mod tells;
+mod trace_handle;
+mod traces;
 mod turn;
 mod turns;

@@ -50,7 +50,7 @@ pub extern "C" fn pct_book_length(alloc: Global, book: &mut PctBook) -> PctCount
 }
 
 /// Writes the numbers of as many steps.
-fn write_steps(events: &[Event], numbers: &mut [PctEvent])
+pub(crate) fn write_steps(events: &[Event], numbers: &mut [PctEvent])
     requires { length numbers.old ≡ length events.now }
     ensures { SayEvents numbers.new events.now }
 {

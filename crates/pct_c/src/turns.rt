@@ -158,15 +158,22 @@ pub extern "C" fn pct_book_take(alloc: Global, book: &mut PctBook, thread: u32) 
     }
 }
 
+/// Whether it is a thread's turn.
+fn has_turn(book: &Book, thread: u32) -> bool
+    ensures { IsTrue result ↔ HasTurn (state_of book.now) thread }
+{
+    match book.granted() {
+        Some(granted) => granted == thread,
+        None => false,
+    }
+}
+
 /// Whether a thread asks, and its turn has come.
 fn may_step(book: &Book, thread: u32) -> bool
     ensures { IsTrue result
         ↔ (HasTurn (state_of book.now) thread × MayTake (state_of book.now) thread) }
 {
-    match book.granted() {
-        Some(granted) => granted == thread && may_take(book, thread),
-        None => false,
-    }
+    has_turn(book, thread) && may_take(book, thread)
 }
 
 fn step_on(book: &mut Book, thread: u32, line: u32, numbers: &PctAsk) -> PctTurn

@@ -36,7 +36,7 @@ once-single {X = X} x = record { once = by }
     by zero (suc j) y at again = absurd cc
 
 -- an item of two lists in a row is one of the first or of the second
-in-append : {X : Type 0} (a b : List X) (k : ℕ) (x : X) → slice_get (a ++ b) k ≡ Some x
+pub in-append : {X : Type 0} (a b : List X) (k : ℕ) (x : X) → slice_get (a ++ b) k ≡ Some x
     → (slice_get a k ≡ Some x) ⊎ ((j : ℕ) × (k ≡ length a + j) × (slice_get b j ≡ Some x))
 in-append [] b k x is = inr (k, omega arith, is)
 in-append (y ∷ a) b zero x is = inl is
@@ -60,7 +60,7 @@ once-append a b one two apart = record {
   ];
 }
 
-in-map : {X Y : Type 0} (f : X → Y) (xs : List X) (k : ℕ) (y : Y) → slice_get (map f xs) k ≡ Some y
+pub in-map : {X Y : Type 0} (f : X → Y) (xs : List X) (k : ℕ) (y : Y) → slice_get (map f xs) k ≡ Some y
     → (x : X) × (slice_get xs k ≡ Some x) × (f x ≡ y)
 in-map f [] k y is = absurd cc
 in-map f (x ∷ xs) zero y is = (x, refl, (let same : f x ≡ y = cc in same))

@@ -1,6 +1,5 @@
 -- The handle has what was made.
-use Rattle.std.proofs.Common.{◌≡◌, Some, sym, ap, ◌∙◌}
-use Rattle.std.specs.Prelude.{Ok}
+use Rattle.std.proofs.Common.{Some, ap, ◌∙◌}
 use Rattle.pct_c.proofs.books.keep.Goals as goal
 
 pub returns-in-Ok-clause-done : goal.returns-in-Ok-clause-done

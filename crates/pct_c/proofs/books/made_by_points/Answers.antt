@@ -1,12 +1,10 @@
 -- The deal is the one that the numbers say, and the order is one or none.
-use Rattle.std.proofs.Common.{◌≡◌, subst, sym, Option, length}
-use Rattle.std.specs.Prelude.{IfSome, IfOk, Ok, Err, map}
-use Rattle.std.specs.Result.{Result}
+use Rattle.std.proofs.Common.{◌≡◌, subst, Option, length}
+use Rattle.std.specs.Prelude.{IfSome, Result, IfOk}
 use Rattle.pct_ask.specs.declared.deal.Deal.{Deal}
-use Rattle.policy_pick.specs.Plan.{ByPoints, ByEvents}
+use Rattle.policy_pick.specs.Plan.{ByPoints}
 use Rattle.rank_now.specs.declared.order.RankError.{RankError}
 use Rattle.c_values.specs.Deals.{SaysDeal}
-use Rattle.c_values.specs.Moments.{moment_said}
 use Rattle.turn_book.specs.Told.{new_book}
 use Rattle.pct_c.specs.declared.book.Book.{Book}
 use Rattle.pct_c.specs.Books.{state_of}

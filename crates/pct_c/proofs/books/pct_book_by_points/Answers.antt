@@ -1,9 +1,7 @@
 -- What was made is kept.
 use Rattle.std.proofs.Common.{length}
-use Rattle.std.specs.Prelude.{map}
-use Rattle.policy_pick.specs.Plan.{ByPoints, ByEvents, ByList}
-use Rattle.c_values.specs.Moments.{moment_said}
-use Rattle.pct_c.specs.Makers.{MayOrder, MayList, IsMade}
+use Rattle.policy_pick.specs.Plan.{ByPoints}
+use Rattle.pct_c.specs.Makers.{MayOrder, IsMade}
 use Rattle.pct_c.proofs.Making.{kept}
 use Rattle.pct_c.proofs.books.pct_book_by_points.Goals as goal
 

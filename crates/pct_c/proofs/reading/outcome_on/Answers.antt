@@ -1,8 +1,7 @@
 -- Once an outcome stands, the steps are the run.
-use Rattle.std.proofs.Common.{◌≡◌, Option, Some, refl, sym, ap, subst, ◌∙◌, inl, arith}
+use Rattle.std.proofs.Common.{Option, refl, sym, subst, ◌∙◌, inl, arith}
 use Rattle.std.specs.Prelude.{IsSome}
 use Rattle.pct_ask.specs.declared.verdict.Outcome.{Outcome}
-use Rattle.pct_c.specs.Books.{state_of}
 use Rattle.pct_c.proofs.reading.outcome_on.Goals as goal
 
 pub returns-in-Some : goal.returns-in-Some
@@ -12,14 +11,10 @@ returns-in-Some c =
     record {
       done = λ z. (
         c.in-Some.found,
-        (
-          stands,
-          (
-            c.numbers_of_outcome.ensures,
-            (λ posts events over. c.trace.ensures.whole posts events over settled
-                ∙ c.trace.ensures.trace),
-          ),
-        ),
+        stands,
+        c.numbers_of_outcome.ensures,
+        (λ posts events over. c.trace-steps.ensures.whole posts events over settled
+            ∙ c.trace-steps.ensures.trace),
       );
       not_yet = λ z. absurd (omega (arith, z));
       statuses = inl refl;

@@ -1,4 +1,4 @@
-use Rattle.std.proofs.Common.{◌≡◌, take}
+use Rattle.std.proofs.Common.{take}
 use Rattle.c_values.specs.Events.{SayEvents}
 use Rattle.pct_c.proofs.reading.write_steps.Given as goal
 

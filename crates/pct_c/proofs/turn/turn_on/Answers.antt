@@ -1,7 +1,5 @@
 -- Each choice says itself.
-use Rattle.std.proofs.Common.{◌≡◌, ℕ, Some, None, Option, sym, ap, subst, ◌↔◌, refl}
-use Rattle.policy_pick.specs.declared.chance.Pick.{Pick}
-use Rattle.turn_book.specs.Told.{choice_of}
+use Rattle.std.proofs.Common.{sym}
 use Rattle.pct_c.specs.Books.{state_of}
 use Rattle.pct_c.proofs.Turned.{none-by, says-turn, says-waits, says-nothing}
 use Rattle.pct_c.proofs.turn.turn_on.Goals as goal

@@ -1,5 +1,5 @@
 -- Where no post stands.
-use Rattle.std.proofs.Common.{sym, ◌∙◌, refl}
+use Rattle.std.proofs.Common.{sym, ◌∙◌}
 use Rattle.pct_c.specs.Books.{state_of}
 use Rattle.pct_c.proofs.Turned.{posts-over, posts-bad}
 use Rattle.pct_c.proofs.turns.post_on.Goals as goal

@@ -1,5 +1,5 @@
 -- Each answer.
-use Rattle.std.proofs.Common.{◌≡◌, ℤ, Some, None, sym, ap, subst, ◌∙◌, refl, rules, w64}
+use Rattle.std.proofs.Common.{ℤ, sym, subst, ◌∙◌, rules, w64}
 use Rattle.std.proofs.lemmas.Int.{to_z-of_z}
 use Rattle.turn_book.specs.Told.{IsAnswered}
 use Rattle.pct_c.specs.Books.{state_of}
