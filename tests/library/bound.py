@@ -48,8 +48,8 @@ class Trace(ctypes.Structure):
 
 
 class Head(ctypes.Structure):
-    _fields_ = [("status", c_uint32), ("version", c_uint32), ("limit", c_uint32), ("threads", c_uint32),
-                ("points", c_uint32), ("steps", c_uint32)]
+    _fields_ = [("status", c_uint32), ("version", c_uint32), ("limit", c_uint32), ("threads", c_uint64),
+                ("points", c_uint64), ("steps", c_uint64)]
 
 
 class Directive(ctypes.Structure):

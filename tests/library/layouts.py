@@ -13,7 +13,7 @@ import bound
 
 CRATES = ("c_values", "c_tells", "c_texts", "pct_c")
 # Fields of Rust that have another name in C.
-RENAMED = {"held": "at"}
+RENAMED = {"PctBook.held": "PctBook.at", "PctTrace.held": "PctTrace.at"}
 # The asks of the definition that aren't one capital word after PCT_ASK_.
 ASKS = {"None": "NONE", "Check true": "CHECK_HOLDS", "Check false": "CHECK_FAILS", "Fault Overflow": "OVERFLOW",
         "Fault ZeroDivisor": "ZERO_DIVISOR", "Fault Spin": "SPIN"}
@@ -77,8 +77,8 @@ def source_of_rust(structs: dict[str, str], wanted: list[str]) -> str:
             continue
         lines.append(f'println!("sizeof {name} {{}}", std::mem::size_of::<{name}>());')
         for field in re.findall(r"^    (\w+):", structs[name], re.M):
-            shown = RENAMED.get(field, field)
-            lines.append(f'println!("{name}.{shown} {{}}", std::mem::offset_of!({name}, {field}));')
+            shown = RENAMED.get(f"{name}.{field}", f"{name}.{field}")
+            lines.append(f'println!("{shown} {{}}", std::mem::offset_of!({name}, {field}));')
     body = "\n    ".join(lines)
     return f"#![allow(dead_code)]\n\nstruct Global;\n\n{''.join(declared)}\nfn main() {{\n    {body}\n}}\n"
 

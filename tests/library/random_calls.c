@@ -213,7 +213,7 @@ static uint32_t trace_verdict(void) { return pct_text_trace_verdict(&made.trace,
 
 static uint32_t trace_steps(void) {
     const PctHead head = pct_text_trace_head(&made.trace);
-    const uint32_t from = below(head.steps + 1);
+    const uint32_t from = below((uint32_t)head.steps + 1);
     return pct_text_trace_steps(&made.trace, from, made.steps, head.steps - from + spoils());
 }
 

@@ -104,7 +104,7 @@ GIVEN: dict[str, tuple[dict[str, Any], list[tuple[str, Any]]]] = {
     "pct_text_trace": (
         {"names": NAMES, "version": 2, "limit": 9, "order": [0, 1], "points": [1], "steps": STEPS, "verdict": FAILED_B,
          "text": room(ctypes.c_uint8, 512)},
-        [*BAD_NAMES, ("version", 0), ("version", 3), *BAD_LIMIT, *BAD_ORDER, ("points", [1] * 8), ("points", [0]),
+        [*BAD_NAMES, ("version", 0), ("version", 3), ("limit", 1), *BAD_LIMIT, *BAD_ORDER, ("points", [1] * 8), ("points", [0]),
          ("points", [100001]), *BAD_STEPS, *BAD_VERDICTS,
          *(("steps", [changed(STEPS[0], line=line), STEPS[1]]) for line in (0, 4097, MOST))]),
     "pct_text_verdict": ({"names": NAMES, "verdict": FAILED_B, "text": room(ctypes.c_uint8, 64)}, [*BAD_NAMES, *BAD_VERDICTS]),
