@@ -12,6 +12,8 @@ from typing import Iterator
 import bound
 
 CRATES = ("c_values", "c_tells", "c_texts", "pct_c")
+# A struct of Rust with the layout of C: its name and its fields.
+OF_C = re.compile(r"#\[repr\(C\)\]\n(?:#\[[^\n]*\n)*pub struct (\w+) \{\n(.*?)^\}", re.M | re.S)
 # Fields of Rust that have another name in C.
 RENAMED = {"PctBook.held": "PctBook.at", "PctTrace.held": "PctTrace.at"}
 # The asks of the definition that aren't one capital word after PCT_ASK_.
@@ -62,7 +64,7 @@ def rust_of_crates(top: str) -> dict[str, str]:
     found = {}
     for crate in CRATES:
         for file in sorted(glob.glob(os.path.join(top, "crates", crate, "src", "*.rt"))):
-            for name, body in re.findall(r"#\[repr\(C\)\]\n(?:#\[[^\n]*\n)*pub struct (\w+) \{\n(.*?)^\}", read(file), re.M | re.S):
+            for name, body in OF_C.findall(read(file)):
                 fields = re.findall(r"^    (?:pub )?(\w+): ([^\n]*),$", body, re.M)
                 found[name] = "".join(f"    {field}: {kind},\n" for field, kind in fields)
     return found
@@ -125,7 +127,8 @@ def of_definitions(top: str) -> dict[str, int]:
         found[f"PCT_ASK_{ASKS.get(ask, capitals(ask))}"] = number
     outcomes = read(os.path.join(specs, "Outcomes.antt"))
     for pattern, name in OUTCOMES.items():
-        kind = re.search(rf"^outcome_numbers \(?{re.escape(pattern)}\)? =\s+(?:numbers_by |record \{{\n  kind = )(\d+)", outcomes, re.M)
+        head = rf"^outcome_numbers \(?{re.escape(pattern)}\)? ="
+        kind = re.search(rf"{head}\s+(?:numbers_by |record \{{\n  kind = )(\d+)", outcomes, re.M)
         found[name] = int(kind.group(1))
     for name, number in re.findall(r"^(?:misuse|fault)_number (\w+) = (\d+)", outcomes, re.M):
         found[f"PCT_{REASONS.get(name, capitals(name))}"] = int(number)

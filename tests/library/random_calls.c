@@ -19,7 +19,9 @@ static uint32_t below(uint32_t bound) {
 static int spoils(void) { return below(16) == 0; }
 
 /* A number that is mostly in range. */
-static uint32_t drawn(uint32_t least, uint32_t most, uint32_t outside) { return spoils() ? outside : least + below(most - least + 1); }
+static uint32_t drawn(uint32_t least, uint32_t most, uint32_t outside) {
+    return spoils() ? outside : least + below(most - least + 1);
+}
 
 /* A whole run: that of lost update under the order A, B, Check, where A is lowered after the first step. */
 static const uint32_t run_order[3] = {0, 1, 2}, run_points[1] = {1};
@@ -208,8 +210,11 @@ static uint32_t trace_free(void) {
 }
 
 static uint32_t trace_head(void) { return pct_text_trace_head(&made.trace).status; }
-static uint32_t trace_order(void) { return pct_text_trace_order(&made.trace, made.order, drawn(3, 3, 2), made.points, drawn(1, 1, 0)); }
 static uint32_t trace_verdict(void) { return pct_text_trace_verdict(&made.trace, &made.outcome); }
+
+static uint32_t trace_order(void) {
+    return pct_text_trace_order(&made.trace, made.order, drawn(3, 3, 2), made.points, drawn(1, 1, 0));
+}
 
 static uint32_t trace_steps(void) {
     const PctHead head = pct_text_trace_head(&made.trace);

@@ -54,7 +54,8 @@ def of_outcomes() -> Iterator[Outcome]:
 
 def of_steps() -> Iterator[list[Event]]:
     """Steps that say nothing of two threads and one object of each kind."""
-    asks = [Ask(0), Ask(31), Ask(MOST), Ask(8, 0, 1), Ask(9, 0, 1), Ask(17, 2), Ask(24, 2), *(Ask(kind, 1) for kind in OBJECT_ASKS)]
+    asks = [Ask(0), Ask(31), Ask(MOST), Ask(8, 0, 1), Ask(9, 0, 1), Ask(17, 2), Ask(24, 2)]
+    asks += [Ask(kind, 1) for kind in OBJECT_ASKS]
     yield from ([STEPS[0], Event(1, 4, ask)] for ask in asks)
     yield from ([Event(thread, 4, Ask(1)), STEPS[1]] for thread in (2, MOST))
 
@@ -88,7 +89,8 @@ BAD_REPORT = [*BAD_NAMES, ("rows", [ROWS[1]] * 100001), *(("rows", [ROWS[1], Row
 BAD_ROWS = [("rows", [ROWS[1]] * 100001)] + [
     ("rows", [ROWS[1], Row(1, 2, outcome)]) for outcome in of_outcomes()
     if outcome.kind not in (FAILED, STUCK) and not (outcome.kind in (MISUSE, FAULT) and outcome.reason == 1)]
-NO_STEPS = [("steps", [STEPS[0], Event(1, 4, Ask(0))]), ("steps", [Event(0, 3, Ask(31)), STEPS[1]]), ("steps", [STEPS[0]] * 100001)]
+NO_STEPS = [("steps", [STEPS[0], Event(1, 4, Ask(0))]), ("steps", [Event(0, 3, Ask(31)), STEPS[1]]),
+            ("steps", [STEPS[0]] * 100001)]
 # By call, what it takes well, and the arguments that are bad, by their names in the header.
 GIVEN: dict[str, tuple[dict[str, Any], list[tuple[str, Any]]]] = {
     "pct_draw": (
@@ -111,15 +113,18 @@ GIVEN: dict[str, tuple[dict[str, Any], list[tuple[str, Any]]]] = {
     "pct_text_directive": (
         {"names": NAMES, "directive": FOUND, "text": room(ctypes.c_uint8, 256)},
         [*BAD_NAMES, *(("directive", changed(FOUND, verdict=outcome)) for outcome in of_outcomes()),
-         *(("directive", changed(FOUND, **{field: number})) for field, number in (("low", 2), ("low", MOST), ("count", 8), ("count", MOST))),
+         *(("directive", changed(FOUND, **{field: number}))
+           for field, number in (("low", 2), ("low", MOST), ("count", 8), ("count", MOST))),
          *(("directive", changed(FOUND, moments=(Moment * 7)(Moment(*each)))) for each in ((2, 1), (0, 0), (0, 100001)))]),
     "pct_text_read_directive": ({"names": NAMES, "text": DIRECTIVE, "directive": room(Directive, 1)},
                                 [*BAD_NAMES, ("text", b""), ("text", DIRECTIVE[:-1]), ("text", b"x" + DIRECTIVE)]),
-    "pct_text_read_trace": ({"names": NAMES, "text": TRACE}, [*BAD_NAMES, ("text", b""), ("text", TRACE[:-1]), ("text", b"x" + TRACE)]),
+    "pct_text_read_trace": ({"names": NAMES, "text": TRACE},
+                            [*BAD_NAMES, ("text", b""), ("text", TRACE[:-1]), ("text", b"x" + TRACE)]),
     "pct_text_trace_order": ({"order": room(ctypes.c_uint32, 2), "points": room(ctypes.c_uint32, 1)},
                              [("order_count", 1), ("order_count", 0), ("point_count", 0), ("order", room(ctypes.c_uint32, 3)),
                               ("points", room(ctypes.c_uint32, 2))]),
-    "pct_text_trace_steps": ({"from": 0, "steps": room(Event, 2)}, [("from", 1), ("from", 3), ("from", MOST), ("steps", room(Event, 3))]),
+    "pct_text_trace_steps": ({"from": 0, "steps": room(Event, 2)},
+                             [("from", 1), ("from", 3), ("from", MOST), ("steps", room(Event, 3))]),
     "pct_text_report": (REPORT, BAD_REPORT),
     "pct_text_report_json": (REPORT, BAD_REPORT),
     "pct_tell_moments": ({"steps": STEPS, "points": [1], "moments": room(Moment, 7)},
@@ -131,7 +136,8 @@ GIVEN: dict[str, tuple[dict[str, Any], list[tuple[str, Any]]]] = {
     "pct_tell_order": ({"threads": 3, "low": 2, "place": 1, "order": room(ctypes.c_uint32, 3)},
                        [("threads", 0), ("threads", 2), ("threads", 8), ("low", 3), ("low", MOST), ("place", 2), ("place", MOST),
                         ("order_count", 2)]),
-    "pct_tell_bound": ({"threads": 3, "steps": 8, "points": 2}, [("threads", 0), ("threads", 8), ("steps", 0), ("steps", 100001), ("points", 8)]),
+    "pct_tell_bound": ({"threads": 3, "steps": 8, "points": 2},
+                       [("threads", 0), ("threads", 8), ("steps", 0), ("steps", 100001), ("points", 8)]),
     "pct_tell_races": ({**DEAL, "steps": STEPS, "races": room(Race, 2)}, [*BAD_DEAL, *BAD_STEPS]),
     "pct_tell_lock_order": ({**DEAL, "steps": STEPS, "mutexes": room(ctypes.c_uint32, 1), "nestings": room(Nesting, 1)},
                             [*BAD_DEAL, *BAD_STEPS]),
@@ -185,8 +191,8 @@ def a_book(calls: Any) -> Book:
     book, order = Book(), (ctypes.c_uint32 * 3)(2, 1, 0)
     lists = [part for values in ([0], [0], [2]) for part in bound.items(ctypes.c_int64, values)]
     calls.pct_book_by_points(byref(book), byref(Deal(3, 1, 1, 1)), *lists, order, 3, None, 0, 9)
-    for call, thread, ask in ((calls.pct_book_post, 2, Ask(0)), (calls.pct_book_step, 1, Ask(18)), (calls.pct_book_post, 1, Ask(5))):
-        call(byref(book), thread, 7, byref(ask))
+    for name, thread, ask in (("post", 2, Ask(0)), ("step", 1, Ask(18)), ("post", 1, Ask(5))):
+        getattr(calls, f"pct_book_{name}")(byref(book), thread, 7, byref(ask))
     return book
 
 

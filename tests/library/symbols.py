@@ -41,7 +41,8 @@ def written(file: str) -> dict[str, int]:
 
 def two_link(archive: str, top: str, room: str) -> str:
     """What a program says that links the whole library and a whole copy of it, whose calls have other names."""
-    renamed = [word for name in sorted(defined(archive)) for word in ("--redefine-sym", f"{name}=other{name.removeprefix('pct')}")]
+    pairs = [f"{name}=other{name.removeprefix('pct')}" for name in sorted(defined(archive))]
+    renamed = [word for pair in pairs for word in ("--redefine-sym", pair)]
     copy, source, program = (os.path.join(room, name) for name in ("libother.a", "two.c", "two"))
     subprocess.run(["objcopy", *renamed, archive, copy], check=True)
     with open(source, "w", encoding="ascii") as file:
