@@ -67,11 +67,6 @@ impl Ask {
             _ => true,
         }
     }
-
-    /// Whether it is about a variable.
-    pub fn is_access(&self) -> bool {
-        matches!(self.kind, kind::READ | kind::WRITE | kind::ADD | kind::CAS)
-    }
 }
 
 /// How a value becomes another one, with an operand, in the width of its type. All are kept as i64.

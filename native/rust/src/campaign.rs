@@ -232,7 +232,7 @@ pub struct Campaign {
 /// Where a run can't be made, or too many threads stay parked after failing runs, with a sentence.
 #[track_caller]
 pub fn campaign<T: Test>(config: Config, test: T) -> Campaign {
-    let place = Place::of(Location::caller());
+    let place = test.place().unwrap_or(Place::of(Location::caller()));
     let depth = config.depth.unwrap_or(3);
     let settings = Settings::new(config, place);
     let searched = Search::begin(Arc::new(test), settings).and_then(|search| rows_of(search, depth));

@@ -41,6 +41,7 @@ pub fn check_with<T: Test>(config: Config, test: T) {
 
 #[track_caller]
 fn check_at<T: Test>(config: Config, test: T, place: Place) {
+    let place = test.place().unwrap_or(place);
     let config = by_environment(config);
     let mut settings = Settings::new(config, place);
     settings.count_check();

@@ -34,7 +34,6 @@ extern "C" {
     fn pct_text_read_trace(trace: *mut RawHandle, names: *const u8, bytes: usize, text: *const u8, length: usize) -> RawRead;
     fn pct_text_trace_free(trace: *mut RawHandle);
     fn pct_text_trace_head(trace: *mut RawHandle) -> RawHead;
-    fn pct_text_trace_order(trace: *mut RawHandle, order: *mut u32, orders: usize, points: *mut u32, count: usize) -> u32;
     fn pct_text_trace_steps(trace: *mut RawHandle, from: u32, steps: *mut Event, count: usize) -> u32;
     fn pct_text_trace_verdict(trace: *mut RawHandle, verdict: *mut Outcome) -> u32;
     fn pct_text_report(names: *const u8, bytes: usize, frame: *const Frame, rows: *const RawRow, count: usize, text: *mut u8, room: usize) -> RawCount;
@@ -225,9 +224,6 @@ pub(crate) fn report_text(names: &str, frame: &Frame, rows: &[RawRow], is_json: 
 
 /// A trace that was read.
 pub(crate) struct ReadTrace {
-    pub limit: u32,
-    pub order: Vec<u32>,
-    pub points: Vec<u32>,
     pub steps: Vec<Event>,
     pub verdict: Outcome,
 }
@@ -259,22 +255,8 @@ fn parts_of(handle: &mut TraceHandle) -> Result<ReadTrace, Refused> {
     unsafe {
         let head = pct_text_trace_head(&mut handle.0);
         done("the head of a trace", head.status)?;
-        let mut read = ReadTrace {
-            limit: head.limit,
-            order: vec![0; head.threads as usize],
-            points: vec![0; head.points as usize],
-            steps: vec![Event::default(); head.steps as usize],
-            verdict: Outcome::of(0),
-        };
-        let (order, points, steps) = (&mut read.order, &mut read.points, &mut read.steps);
-        let status = pct_text_trace_order(
-            &mut handle.0,
-            order.as_mut_ptr(),
-            order.len(),
-            points.as_mut_ptr(),
-            points.len(),
-        );
-        done("the order of a trace", status)?;
+        let mut read = ReadTrace { steps: vec![Event::default(); head.steps as usize], verdict: Outcome::of(0) };
+        let steps = &mut read.steps;
         done("its steps", pct_text_trace_steps(&mut handle.0, 0, steps.as_mut_ptr(), steps.len()))?;
         done("its verdict", pct_text_trace_verdict(&mut handle.0, &mut read.verdict))?;
         Ok(read)

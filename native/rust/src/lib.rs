@@ -55,6 +55,6 @@ pub use place::Place;
 pub use races::{lock_order, races, Access, LockOrder, Nesting, Race, Races};
 pub use replay::{replay, Replayed};
 pub use single::{certify, find, run, Certificate, Directive, Schedule};
-pub use steps::{holds, name, random, step, Named};
+pub use steps::{holds, join, name, random, step, Named};
 pub use test::{threads, Declared, Test, Threads};
 pub use told::{Drawn, Run, Step};

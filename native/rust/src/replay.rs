@@ -66,7 +66,7 @@ pub struct Replayed {
 /// Where the files can't be read, or the run can't be made, with a sentence.
 #[track_caller]
 pub fn replay<T: Test>(config: Config, trace: &Path, test: T) -> Replayed {
-    let place = Place::of(Location::caller());
+    let place = test.place().unwrap_or(Place::of(Location::caller()));
     replayed(Settings::new(config, place), Arc::new(test), trace, false).unwrap_or_else(|sentence| panic!("pct: {sentence}"))
 }
 

@@ -74,6 +74,7 @@ pub(crate) fn searched<T: Test, R>(
     place: Place,
     act: impl FnOnce(&mut Search<T>) -> Result<R, String>,
 ) -> R {
+    let place = test.place().unwrap_or(place);
     let begun = Search::begin(Arc::new(test), Settings::new(config, place));
     begun.and_then(|mut search| act(&mut search)).unwrap_or_else(|sentence| panic!("pct: {sentence}"))
 }

@@ -86,11 +86,6 @@ impl Spins {
         self.semaphores[waiter as usize]
     }
 
-    /// Whether it is at its own semaphore that a thread waits.
-    pub fn is_at(&self, thread: u32, ask: &Ask) -> bool {
-        ask.kind == crate::ask::kind::DOWN && self.semaphores[thread as usize] == Some(ask.a)
-    }
-
     /// The semaphores, with their threads.
     pub fn all(&self) -> impl Iterator<Item = (u32, u32)> + '_ {
         self.semaphores.iter().enumerate().filter_map(|(thread, semaphore)| semaphore.map(|it| (it, thread as u32)))

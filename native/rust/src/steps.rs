@@ -2,7 +2,7 @@
 
 use crate::ask::{kind, Late};
 use crate::names;
-use crate::objects::{Id, Kind};
+use crate::objects::Id;
 use crate::place::Place;
 use crate::raw::Ask;
 use crate::seat;
@@ -27,6 +27,21 @@ pub fn holds(condition: bool) {
     let kind = if condition { kind::CHECK_HOLDS } else { kind::CHECK_FAILS };
     let asked = seat::current(|live, me| live.ask(me, place, Late::Ask(Ask::of(kind, 0))));
     assert!(asked.is_some() || condition, "pct::holds(false)");
+}
+
+/// Waits for the end of a thread by its name, as [`threads`](crate::threads) declares it: one step. Outside of a run it is nothing.
+///
+/// # Panics
+///
+/// Where no thread has that name.
+#[track_caller]
+pub fn join(name: &str) {
+    let place = Place::of(Location::caller());
+    seat::current(|live, me| {
+        let named = live.state().ok().and_then(|state| state.threads.named(name));
+        let target = named.unwrap_or_else(|| panic!("no thread is called {name}"));
+        live.ask(me, place, Late::Ask(Ask::of(kind::JOIN, target)));
+    });
 }
 
 /// A number of the run's seed: the next one at each call of the run. In a replay it is the trace's, in single runs without a seed that

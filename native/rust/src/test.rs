@@ -1,8 +1,10 @@
 //! What can be run as a test: a closure, or declared threads.
 
 use crate::live::Live;
+use crate::place::Place;
 use crate::seat;
 use std::cell::RefCell;
+use std::panic::Location;
 use std::sync::Arc;
 
 /// What a thread does.
@@ -17,6 +19,12 @@ pub trait Test: Send + Sync + 'static {
     /// The threads that a run begins with, made for this run.
     #[doc(hidden)]
     fn bodies(self: Arc<Self>) -> Bodies;
+
+    /// Where it was declared, whose file is the test's own.
+    #[doc(hidden)]
+    fn place(&self) -> Option<Place> {
+        None
+    }
 }
 
 impl<F: Fn() + Send + Sync + 'static> Test for F {
@@ -37,12 +45,13 @@ impl Threads {
 }
 
 /// A test by declared threads, as [`threads`] makes it.
-pub struct Declared<F>(F);
+pub struct Declared<F>(F, Place);
 
 /// A test without a main thread: the closure, which is called before each run, makes the objects and declares the threads. What
-/// it does to objects takes no step.
+/// it does to objects takes no step. The file of this call is the test's own, whose lines traces have.
+#[track_caller]
 pub fn threads<F: Fn(&Threads) + Send + Sync + 'static>(declare: F) -> Declared<F> {
-    Declared(declare)
+    Declared(declare, Place::of(Location::caller()))
 }
 
 impl<F: Fn(&Threads) + Send + Sync + 'static> Test for Declared<F> {
@@ -50,6 +59,10 @@ impl<F: Fn(&Threads) + Send + Sync + 'static> Test for Declared<F> {
         let threads = Threads(RefCell::new(Vec::new()));
         (self.0)(&threads);
         Bodies(threads.0.into_inner())
+    }
+
+    fn place(&self) -> Option<Place> {
+        Some(self.1)
     }
 }
 

@@ -73,6 +73,11 @@ impl Threads {
         self.all.iter().find(|thread| thread.number == number)
     }
 
+    /// The number of a thread by its name.
+    pub fn named(&self, name: &str) -> Option<u32> {
+        self.all.iter().find(|thread| thread.name.as_deref() == Some(name)).map(|thread| thread.number)
+    }
+
     pub fn end(&mut self, number: u32) {
         if let Some(thread) = self.all.iter_mut().find(|thread| thread.number == number) {
             thread.has_ended = true;

@@ -145,6 +145,17 @@ impl Run {
         self.outcome.kind == STUCK && !self.ran.asking.is_empty() && self.ran.asking.iter().all(waits)
     }
 
+    /// The run as lanes: a column for each thread, a row for each step. `v` and a number behind a step is the change point that lowers
+    /// its thread.
+    pub fn lanes(&self) -> String {
+        crate::report::lanes(self)
+    }
+
+    /// What went wrong, in a sentence; nothing where the run passed.
+    pub fn sentence(&self) -> String {
+        if self.passed() { String::new() } else { crate::report::sentence(self) }
+    }
+
     /// What is said of the lines of the trace, of its seed and its names: the file beside it.
     pub fn sites(&self) -> String {
         let mut text = format!("sites 1\nseed {}\nfile {}\n", self.ran.order.random, self.settings.place.file);
