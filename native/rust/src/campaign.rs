@@ -56,7 +56,7 @@ impl<T: Test> Search<T> {
         }
         seat::install_hook();
         let settings = Arc::new(settings);
-        let pin = Pin::claim();
+        let pin = settings.config.pin.then(Pin::claim).flatten();
         let mut runner = Runner::new(test.clone(), settings.clone());
         let mut order = Order::declared(64);
         order.keeps_steps = true;
@@ -76,7 +76,12 @@ impl<T: Test> Search<T> {
     pub fn order(&self, seed: u64, depth: u32) -> Result<Order, NoRun> {
         let (order, points) = ffi::draw(seed, self.threads, self.steps, depth)
             .map_err(|refused| NoRun::Sentence(format!("depth {depth}: {refused}")))?;
-        Ok(Order { plan: Plan::Points { order, points }, threads: self.threads, random: seed, keeps_steps: self.settings.config.sum })
+        Ok(Order {
+            plan: Plan::Points { order, points },
+            threads: self.threads,
+            random: seed,
+            keeps_steps: self.settings.config.sum,
+        })
     }
 
     /// Makes the runs of the seeds, and calls `each` with them in the order of the seeds until it breaks.
@@ -127,8 +132,15 @@ impl<T: Test> Search<T> {
         merged
     }
 
-    fn job(&self, seeds: &std::ops::Range<u64>, next: &AtomicU64, is_stopped: &AtomicBool, depth: u32, tell: &mpsc::SyncSender<Made>) {
-        let _pin = Pin::claim();
+    fn job(
+        &self,
+        seeds: &std::ops::Range<u64>,
+        next: &AtomicU64,
+        is_stopped: &AtomicBool,
+        depth: u32,
+        tell: &mpsc::SyncSender<Made>,
+    ) {
+        let _pin = self.settings.config.pin.then(Pin::claim).flatten();
         let mut runner = Runner::new(self.test.clone(), self.settings.clone());
         while !is_stopped.load(Relaxed) {
             let seed = next.fetch_add(1, Relaxed);
@@ -160,11 +172,7 @@ impl<T: Test> Search<T> {
 }
 
 /// Runs that come in any order, in that of their seeds.
-fn merge(
-    told: mpsc::Receiver<Made>,
-    from: u64,
-    each: &mut dyn FnMut(u64, Ran) -> ControlFlow<()>,
-) -> Result<(), Stop> {
+fn merge(told: mpsc::Receiver<Made>, from: u64, each: &mut dyn FnMut(u64, Ran) -> ControlFlow<()>) -> Result<(), Stop> {
     let (mut early, mut next) = (BTreeMap::new(), from);
     for (seed, made) in told {
         early.insert(seed, made);
@@ -254,7 +262,11 @@ fn rows_of<T: Test>(mut search: Search<T>, depth: u32) -> Result<Campaign, Strin
                 names = crate::names::Names::of(&ran, ran.order.threads);
                 last = Some(seed);
             }
-            if parked >= MOST_PARKED { ControlFlow::Break(()) } else { ControlFlow::Continue(()) }
+            if parked >= MOST_PARKED {
+                ControlFlow::Break(())
+            } else {
+                ControlFlow::Continue(())
+            }
         });
         match searched {
             Err(Stop::Sentence(sentence)) => return Err(sentence),
@@ -271,9 +283,7 @@ fn rows_of<T: Test>(mut search: Search<T>, depth: u32) -> Result<Campaign, Strin
 }
 
 fn told(names: &str, frame: Frame, rows: &[RawRow], sum: u64) -> Result<Campaign, crate::raw::Refused> {
-    let row = |row: &RawRow| {
-        Ok(Row { seed: row.seed, steps: row.steps, verdict: ffi::verdict_text(names, &row.verdict)? })
-    };
+    let row = |row: &RawRow| Ok(Row { seed: row.seed, steps: row.steps, verdict: ffi::verdict_text(names, &row.verdict)? });
     let group = |group: &RawGroup| {
         let verdict = ffi::verdict_text(names, &group.verdict)?;
         Ok(Group { count: group.count, steps: group.steps, first: group.first, verdict })

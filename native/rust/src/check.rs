@@ -95,7 +95,11 @@ impl Failures {
             }
         }
         let is_enough = self.count >= MOST_FAILING || self.since.is_some_and(|since| since.elapsed() >= MOST_TIME);
-        if is_enough { ControlFlow::Break(()) } else { ControlFlow::Continue(()) }
+        if is_enough {
+            ControlFlow::Break(())
+        } else {
+            ControlFlow::Continue(())
+        }
     }
 }
 
@@ -176,7 +180,10 @@ fn confirm<T: Test>(search: &mut Search<T>, ran: &Ran) -> Result<Option<String>,
 }
 
 fn is_same(ran: &Ran, one: &crate::raw::Event, again: &Ran, other: &crate::raw::Event) -> bool {
-    one.thread == other.thread && one.ask == other.ask && one.answer == other.answer && ran.place(one.line) == again.place(other.line)
+    one.thread == other.thread
+        && one.ask == other.ask
+        && one.answer == other.answer
+        && ran.place(one.line) == again.place(other.line)
 }
 
 /// The run by an order, for calls that make a single one.

@@ -45,6 +45,9 @@ pub struct Config {
     pub patience: Duration,
     /// The size of a fresh thread's stack in bytes, where it isn't std's.
     pub stack: Option<usize>,
+    /// Whether a runner and the threads of its runs are on one processor, which it claims: true. With one thread at a time a second one
+    /// only costs.
+    pub pin: bool,
     /// Whether a campaign makes a sum of all steps of all runs, by which two campaigns are compared.
     pub sum: bool,
 }
@@ -64,6 +67,7 @@ impl Default for Config {
             name: None,
             patience: Duration::from_secs(10),
             stack: None,
+            pin: true,
             sum: false,
         }
     }

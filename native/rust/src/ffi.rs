@@ -74,9 +74,8 @@ pub(crate) fn draw(seed: u64, threads: u32, steps: u32, depth: u32) -> Result<(V
     let mut order = vec![0; threads as usize];
     let mut points = vec![0; (depth as usize).saturating_sub(1)];
     // SAFETY: both lists go with their lengths, and it writes no further.
-    let status = unsafe {
-        pct_draw(seed, threads, steps, depth, order.as_mut_ptr(), order.len(), points.as_mut_ptr(), points.len())
-    };
+    let status =
+        unsafe { pct_draw(seed, threads, steps, depth, order.as_mut_ptr(), order.len(), points.as_mut_ptr(), points.len()) };
     done("a draw", status).map(|()| (order, points))
 }
 
@@ -174,7 +173,6 @@ impl Book {
     }
 }
 
-
 /// Asks a call for its size, and then for its text.
 fn text_of(call: &'static str, write: impl Fn(*mut u8, usize) -> RawCount) -> Result<String, Refused> {
     let needed = write(ptr::null_mut(), 0);
@@ -199,27 +197,21 @@ pub(crate) fn trace_text(names: &str, version: u32, limit: u32, order: &[u32], p
 
 pub(crate) fn verdict_text(names: &str, verdict: &Outcome) -> Result<String, Refused> {
     // SAFETY: each list goes with its length.
-    text_of("the text of a verdict", |text, room| unsafe {
-        pct_text_verdict(names.as_ptr(), names.len(), verdict, text, room)
-    })
+    text_of("the text of a verdict", |text, room| unsafe { pct_text_verdict(names.as_ptr(), names.len(), verdict, text, room) })
 }
 
 pub(crate) fn directive_text(names: &str, low: u32, moments: &[Moment], verdict: &Outcome) -> Result<String, Refused> {
     let mut raw = RawDirective { low, count: moments.len() as u32, moments: [Moment::default(); 7], verdict: *verdict };
     raw.moments[..moments.len()].copy_from_slice(moments);
     // SAFETY: each list goes with its length.
-    text_of("the text of a directive", |text, room| unsafe {
-        pct_text_directive(names.as_ptr(), names.len(), &raw, text, room)
-    })
+    text_of("the text of a directive", |text, room| unsafe { pct_text_directive(names.as_ptr(), names.len(), &raw, text, room) })
 }
 
 /// The report of a campaign, as a text or as JSON.
 pub(crate) fn report_text(names: &str, frame: &Frame, rows: &[RawRow], is_json: bool) -> Result<String, Refused> {
     let write = if is_json { pct_text_report_json } else { pct_text_report };
     // SAFETY: each list goes with its length.
-    text_of("a report", |text, room| unsafe {
-        write(names.as_ptr(), names.len(), frame, rows.as_ptr(), rows.len(), text, room)
-    })
+    text_of("a report", |text, room| unsafe { write(names.as_ptr(), names.len(), frame, rows.as_ptr(), rows.len(), text, room) })
 }
 
 /// A trace that was read.
@@ -241,9 +233,7 @@ impl Drop for TraceHandle {
 pub(crate) fn read_trace(names: &str, text: &str) -> Result<ReadTrace, String> {
     let mut handle = TraceHandle(RawHandle { full: false, at: ptr::null_mut() });
     // SAFETY: both texts go with their lengths, and the library keeps neither.
-    let read = unsafe {
-        pct_text_read_trace(&mut handle.0, names.as_ptr(), names.len(), text.as_ptr(), text.len())
-    };
+    let read = unsafe { pct_text_read_trace(&mut handle.0, names.as_ptr(), names.len(), text.as_ptr(), text.len()) };
     if read.status != DONE {
         return Err(format!("line {} of the trace has a fault of the kind {}", read.line, read.fault));
     }

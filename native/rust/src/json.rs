@@ -96,11 +96,7 @@ fn thread_part(run: &Run, thread: u32) -> String {
 
 fn run_part(run: &Run) -> String {
     let seed = run.drawn.map_or("null".to_owned(), |drawn| {
-        object(&[
-            ("seed", number(drawn.seed)),
-            ("depth", drawn.depth.to_string()),
-            ("steps", drawn.steps.to_string()),
-        ])
+        object(&[("seed", number(drawn.seed)), ("depth", drawn.depth.to_string()), ("steps", drawn.steps.to_string())])
     });
     let steps = list(&run.ran.events, |event| {
         let step = run.step(event);

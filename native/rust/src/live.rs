@@ -346,6 +346,9 @@ impl Live {
         if let Err(payload) = panic::catch_unwind(AssertUnwindSafe(act)) {
             self.fail_by_panic(me, self.last_place(me), Some(seat::message_of(&*payload)));
         }
+        if seat::has_panicked() && !self.settings.panics_as_std() {
+            self.fail_by_panic(me, self.last_place(me), None);
+        }
         if let Some(free) = is_kept {
             seat::exit();
             free();

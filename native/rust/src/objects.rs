@@ -22,8 +22,7 @@ pub enum Kind {
 }
 
 impl Kind {
-    pub const ALL: [Kind; 6] =
-        [Kind::Variable, Kind::Mutex, Kind::Condition, Kind::Semaphore, Kind::Barrier, Kind::RwLock];
+    pub const ALL: [Kind; 6] = [Kind::Variable, Kind::Mutex, Kind::Condition, Kind::Semaphore, Kind::Barrier, Kind::RwLock];
 
     /// As texts of names have it.
     pub fn word(self) -> &'static str {

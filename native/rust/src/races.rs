@@ -83,7 +83,8 @@ fn told(run: &Run) -> Result<Races, crate::raw::Refused> {
     let cells = (ran.cells as usize).min(MOST - atomics);
     let mut left_out = left_out(ran);
     if cells < ran.cells as usize {
-        left_out.push(format!("{} cells are left out: the library knows 64 atomics and cells together", ran.cells as usize - cells));
+        left_out
+            .push(format!("{} cells are left out: the library knows 64 atomics and cells together", ran.cells as usize - cells));
     }
     let (steps, accesses) = with_accesses(ran, atomics as u32, cells as u32);
     let mut deal = ran.deal.clone();
@@ -146,7 +147,9 @@ fn left_out(ran: &Ran) -> Vec<String> {
     let reused = |kind: Kind| (0..MOST as u32).filter(move |number| ran.objects.is_reused(kind, *number)).count();
     let told = |kind: Kind| match reused(kind) {
         0 => None,
-        count => Some(format!("{count} {} are left out: each number was that of two objects, one after the other", kind.plural())),
+        count => {
+            Some(format!("{count} {} are left out: each number was that of two objects, one after the other", kind.plural()))
+        }
     };
     Kind::ALL.into_iter().filter_map(told).collect()
 }

@@ -1,5 +1,6 @@
 //! A written trace is made again: the threads take turns as in its steps.
 
+use crate::ask::kind;
 use crate::campaign::Search;
 use crate::config::{Config, Settings};
 use crate::ffi::{self, ReadTrace};
@@ -34,7 +35,8 @@ impl Follow {
         }
         let Some(expected) = self.expected.get(number as usize - 1) else { return };
         let written = told(self.sites.place(self.file, expected.line), expected);
-        if written != found {
+        // Where a thread begins has the line of the call, which isn't the check's in a replay by another one.
+        if written != found && event.ask.kind != kind::BEGIN {
             let note = format!("step {number}: the trace has {written}");
             if self.prints {
                 println!("        {note}");
@@ -80,13 +82,20 @@ pub(crate) fn by_environment<T: Test>(settings: Settings, test: T, trace: &Path)
     let replayed = replayed(settings, Arc::new(test), trace, true).unwrap_or_else(|sentence| panic!("pct: {sentence}"));
     let found = replayed.run.verdict();
     if let Some(step) = replayed.departs {
-        panic!("pct: the replay departs at step {step}: the trace ends with {}, and the code has changed since", replayed.written);
+        panic!(
+            "pct: the replay departs at step {step}: the trace ends with {}, and the code has changed since",
+            replayed.written
+        );
     }
     if replayed.run.passed() {
         println!("replayed: passed, and the trace ends with {}", replayed.written);
         return;
     }
-    let agrees = if found == replayed.written { "replayed".to_owned() } else { format!("replayed, where the trace has {}", replayed.written) };
+    let agrees = if found == replayed.written {
+        "replayed".to_owned()
+    } else {
+        format!("replayed, where the trace has {}", replayed.written)
+    };
     panic!("{}\n{agrees}: {found}, {} steps", report::sentence(&replayed.run), replayed.run.len());
 }
 

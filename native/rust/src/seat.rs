@@ -102,7 +102,9 @@ pub(crate) fn install_hook() {
 
 /// It never waits: whoever panics has the baton, and no lock is taken here but by `try_lock`.
 fn keep(live: &Arc<Live>, me: u32, info: &PanicHookInfo<'_>) {
-    let place = info.location().map_or_else(|| live.last_place(me), |location| Place { file: name_of(location.file()), line: location.line() });
+    let place = info
+        .location()
+        .map_or_else(|| live.last_place(me), |location| Place { file: name_of(location.file()), line: location.line() });
     let told = Panicked { place, message: message_of(info.payload()) };
     SEAT.with(|seat| {
         let mut panicked = seat.panicked.borrow_mut();

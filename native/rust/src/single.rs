@@ -124,7 +124,11 @@ pub fn find<T: Test>(config: Config, schedule: &Schedule, test: T) -> Option<Dir
     let place = Place::of(Location::caller());
     searched(config, test, place, |search| {
         let failing = run_in(search, schedule)?;
-        if failing.passed() { Ok(None) } else { found(search, &failing).map(Some) }
+        if failing.passed() {
+            Ok(None)
+        } else {
+            found(search, &failing).map(Some)
+        }
     })
 }
 

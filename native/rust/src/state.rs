@@ -1,9 +1,9 @@
 //! What a run's threads share under the baton: the book, the asks that aren't posted yet, the numbers of objects and threads.
 
 use crate::ask::{kind, Late};
+use crate::ffi::Book;
 use crate::objects::{Kind, Objects, MOST};
 use crate::place::{Place, Places};
-use crate::ffi::Book;
 use crate::raw::{Ask, Choice, Deal, Event, Outcome, Plan, Refused, Stepped};
 use crate::replay::Follow;
 use crate::spin::Spins;

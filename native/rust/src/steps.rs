@@ -69,8 +69,11 @@ pub fn name(name: &str, object: &impl Named) {
     let place = Place::of(Location::caller());
     let Some(live) = seat::naming(std::sync::Arc::clone) else { return };
     let is_taken = live.state().is_ok_and(|state| state.names.iter().any(|(_, _, taken)| taken == name));
-    assert!(names::is_name(name) && !is_taken, "pct: {place}: {name} can't be a name: 1 to 32 letters, digits and _, a letter first, \
-         no word of traces, and each name once");
+    assert!(
+        names::is_name(name) && !is_taken,
+        "pct: {place}: {name} can't be a name: 1 to 32 letters, digits and _, a letter first, \
+         no word of traces, and each name once"
+    );
     let (id, first) = object.identity();
     if let Some(number) = live.number(id, first, place) {
         if let Ok(mut state) = live.state() {

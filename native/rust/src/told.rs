@@ -153,7 +153,11 @@ impl Run {
 
     /// What went wrong, in a sentence; nothing where the run passed.
     pub fn sentence(&self) -> String {
-        if self.passed() { String::new() } else { crate::report::sentence(self) }
+        if self.passed() {
+            String::new()
+        } else {
+            crate::report::sentence(self)
+        }
     }
 
     /// What is said of the lines of the trace, of its seed and its names: the file beside it.

@@ -86,10 +86,10 @@ fn program(number: u64, watch: &std::sync::Arc<Watch>) {
 }
 
 /// The trace and the log of a program's run by a seed.
-fn made(number: u64) -> (String, Vec<u64>) {
+fn made(number: u64, pin: bool) -> (String, Vec<u64>) {
     let last: std::sync::Arc<StdMutex<Vec<u64>>> = std::sync::Arc::default();
     let keep = last.clone();
-    let run = pct::run(Config::default(), &Schedule::seed(number, 3), move || {
+    let run = pct::run(Config { pin, ..Config::default() }, &Schedule::seed(number, 3), move || {
         let watch = std::sync::Arc::new(Watch::default());
         program(number, &watch);
         *keep.lock().unwrap() = watch.log.lock().unwrap().clone();
@@ -103,14 +103,21 @@ fn many() -> u64 {
     std::env::var("PCT_TEST_PROGRAMS").ok().and_then(|many| many.parse().ok()).unwrap_or(100)
 }
 
-/// Beside threads that burn time, and with `taskset`-like freedom: the second time all processors are claimed, so that nothing is
-/// pinned.
+/// Pinned to one processor, and then on all of them beside threads that burn time.
 #[test]
 fn programs_are_the_same_whenever_they_are_run() {
-    let first: Vec<_> = (1..=many()).map(made).collect();
+    let first: Vec<_> = (1..=many()).map(|number| made(number, true)).collect();
     static ENDS: AtomicBool = AtomicBool::new(false);
-    let load: Vec<_> = (0..2).map(|_| std::thread::spawn(|| while !ENDS.load(SeqCst) { std::hint::spin_loop() })).collect();
-    let again = std::thread::spawn(|| (1..=many()).map(made).collect::<Vec<_>>()).join().unwrap();
+    let load: Vec<_> = (0..2)
+        .map(|_| {
+            std::thread::spawn(|| {
+                while !ENDS.load(SeqCst) {
+                    std::hint::spin_loop()
+                }
+            })
+        })
+        .collect();
+    let again = (1..=many()).map(|number| made(number, false)).collect::<Vec<_>>();
     ENDS.store(true, SeqCst);
     load.into_iter().for_each(|thread| thread.join().unwrap());
     for (number, (one, other)) in first.iter().zip(&again).enumerate() {

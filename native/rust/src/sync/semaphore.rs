@@ -4,6 +4,7 @@ use super::step;
 use crate::ask::kind;
 use crate::objects::{Id, Kind};
 use crate::place::Place;
+use crate::seat;
 use std::panic::Location;
 use std::sync::{Condvar, Mutex, MutexGuard};
 
@@ -32,7 +33,11 @@ impl Semaphore {
 
     #[track_caller]
     fn step(&self, ask: u32) -> Option<i64> {
-        step(&self.id, self.first(), Place::of(Location::caller()), ask)
+        let place = Place::of(Location::caller());
+        if self.first > i32::MAX as u32 {
+            seat::current(|live, _| live.stop(format!("{place}: in a run a semaphore begins with at most {}", i32::MAX)));
+        }
+        step(&self.id, self.first(), place, ask)
     }
 
     /// Waits until the count is above 0, and lowers it: one step.

@@ -7,8 +7,8 @@ mod scope;
 
 pub use builder::Builder;
 pub use handle::JoinHandle;
-pub use park::{current, park, park_timeout, Thread, ThreadId};
 pub(crate) use park::spin;
+pub use park::{current, park, park_timeout, Thread, ThreadId};
 pub use scope::{scope, Scope, ScopedJoinHandle};
 pub use std::thread::{available_parallelism, panicking, AccessError, LocalKey, Result};
 

@@ -48,8 +48,7 @@ impl Thread {
     }
 
     pub(crate) fn of_run(live: &Live, number: u32, name: Option<String>) -> Thread {
-        let inner =
-            Inner { run: live.id, number, name, has_token: AtomicBool::new(false), tokens: Semaphore::new(0) };
+        let inner = Inner { run: live.id, number, name, has_token: AtomicBool::new(false), tokens: Semaphore::new(0) };
         Thread(Kind::Run(Arc::new(inner)))
     }
 

@@ -62,12 +62,7 @@ impl<'scope, 'env> Scope<'scope, 'env> {
         Builder::new().spawn_scoped(self, act).expect("failed to spawn thread")
     }
 
-    pub(super) fn spawn_by<F, T>(
-        &'scope self,
-        builder: Builder,
-        act: F,
-        place: Place,
-    ) -> io::Result<ScopedJoinHandle<'scope, T>>
+    pub(super) fn spawn_by<F, T>(&'scope self, builder: Builder, act: F, place: Place) -> io::Result<ScopedJoinHandle<'scope, T>>
     where
         F: FnOnce() -> T + Send + 'scope,
         T: Send + 'scope,

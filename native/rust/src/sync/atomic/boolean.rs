@@ -81,13 +81,7 @@ impl AtomicBool {
 
     /// Sets the value where it is `current`: one step, `cas`.
     #[track_caller]
-    pub fn compare_exchange(
-        &self,
-        current: bool,
-        new: bool,
-        success: Ordering,
-        failure: Ordering,
-    ) -> Result<bool, bool> {
+    pub fn compare_exchange(&self, current: bool, new: bool, success: Ordering, failure: Ordering) -> Result<bool, bool> {
         match operate(self, Operation::Exchange { old: i64::from(current), new: i64::from(new) }) {
             Some(old) if (old != 0) == current => Ok(current),
             Some(old) => Err(old != 0),
@@ -97,13 +91,7 @@ impl AtomicBool {
 
     /// As `compare_exchange`: in a run it fails only where the value is another one.
     #[track_caller]
-    pub fn compare_exchange_weak(
-        &self,
-        current: bool,
-        new: bool,
-        success: Ordering,
-        failure: Ordering,
-    ) -> Result<bool, bool> {
+    pub fn compare_exchange_weak(&self, current: bool, new: bool, success: Ordering, failure: Ordering) -> Result<bool, bool> {
         match operate(self, Operation::Exchange { old: i64::from(current), new: i64::from(new) }) {
             Some(old) if (old != 0) == current => Ok(current),
             Some(old) => Err(old != 0),

@@ -81,13 +81,7 @@ impl<T> AtomicPtr<T> {
 
     /// Sets the value where it is `current`.
     #[track_caller]
-    pub fn compare_exchange(
-        &self,
-        current: *mut T,
-        new: *mut T,
-        success: Ordering,
-        failure: Ordering,
-    ) -> Result<*mut T, *mut T> {
+    pub fn compare_exchange(&self, current: *mut T, new: *mut T, success: Ordering, failure: Ordering) -> Result<*mut T, *mut T> {
         match operate(self, Operation::Exchange { old: number(current), new: number(new) }) {
             Some(old) if old == number(current) => Ok(current),
             Some(old) => Err(pointer(old)),
@@ -150,10 +144,8 @@ impl<T> AtomicPtr<T> {
     fn change(&self, change: fn(i64, i64) -> i64, by: usize) -> *mut T {
         let by = by as i64;
         let apart = |old: *mut T| Some(old.map_addr(|address| change(address as i64, by) as usize));
-        operate(self, Operation::Change { change, by, sum: None }).map_or_else(
-            || self.inner.fetch_update(Ordering::SeqCst, Ordering::SeqCst, apart).unwrap_or_else(|old| old),
-            pointer,
-        )
+        operate(self, Operation::Change { change, by, sum: None })
+            .map_or_else(|| self.inner.fetch_update(Ordering::SeqCst, Ordering::SeqCst, apart).unwrap_or_else(|old| old), pointer)
     }
 
     /// Moves the pointer on by so many values, and gives the old one.
