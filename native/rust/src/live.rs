@@ -142,12 +142,12 @@ impl Live {
     /// Where the thread's last step changed something, those who wait for a change look again.
     fn wake_waiters(&self, me: u32) -> Result<(), Fault> {
         loop {
-            let mut state = self.state()?;
-            let Some(semaphore) = state.spins.to_wake(me) else { return Ok(()) };
-            drop(state);
+            let owed = self.state()?.spins.to_wake(me);
+            let Some(semaphore) = owed else { return Ok(()) };
             let up = Late::Ask(Ask::of(kind::UP, semaphore));
             let brought = self.bring(me, self.last_place(me), Some(up));
             self.settled(brought, me);
+            self.state()?.spins.has_woken(me);
         }
     }
 
@@ -301,12 +301,11 @@ impl Live {
                 Ask::of(kind::DOWN, semaphore)
             }
         };
-        if late.kind == kind::DOWN {
-            if let Err(fault) = self.wake_waiters(me) {
-                self.fail(fault);
-            }
-            self.held().spins.wait(me);
+        // Those whom it has to wake first are woken while it doesn't wait itself.
+        if let Err(fault) = self.wake_waiters(me) {
+            self.fail(fault);
         }
+        self.held().spins.begin(me, late.kind == kind::DOWN);
         self.ask(me, place, Late::Ask(late));
         self.held().spins.goes_on(me);
     }
