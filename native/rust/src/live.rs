@@ -119,7 +119,7 @@ impl Live {
     /// Brings the baton back with an ask. It returns with the baton, once the step is taken.
     pub fn ask(&self, me: u32, place: Place, late: Late) -> Answer {
         if seat::has_panicked() && !self.settings.panics_as_std() {
-            self.fail_by_panic(me, place, None);
+            self.fail_by_panic(me, None);
         }
         self.step(me, place, late)
     }
@@ -343,10 +343,10 @@ impl Live {
         seat::enter(self, me, is_kept.is_none());
         self.wait(me);
         if let Err(payload) = panic::catch_unwind(AssertUnwindSafe(act)) {
-            self.fail_by_panic(me, self.last_place(me), Some(seat::message_of(&*payload)));
+            self.fail_by_panic(me, Some(seat::message_of(&*payload)));
         }
         if seat::has_panicked() && !self.settings.panics_as_std() {
-            self.fail_by_panic(me, self.last_place(me), None);
+            self.fail_by_panic(me, None);
         }
         if let Some(free) = is_kept {
             seat::exit();
@@ -355,21 +355,17 @@ impl Live {
         }
     }
 
-    /// The panic fails the run: it is an assertion that doesn't hold, in its line. Nothing is unwound further.
-    pub fn fail_by_panic(&self, me: u32, place: Place, message: Option<String>) -> ! {
-        let told = seat::panicked().unwrap_or_else(|| Panicked {
-            place: self.last_place(me),
-            message: message.unwrap_or_else(|| "a panic, whose message a hook of the test's own has".into()),
-        });
-        let _ = place;
-        let place = told.place;
-        self.held().panicked.get_or_insert(told);
-        self.step(me, place, Late::Ask(Ask::of(kind::CHECK_FAILS, 0)));
-        forever()
+    /// The panic fails the run: it is an assertion that doesn't hold, in its line. Nothing is unwound further. Where a hook of the test's
+    /// own had it, the line is that of the thread's last ask, and the message that of the payload, where that is known.
+    pub fn fail_by_panic(&self, me: u32, message: Option<String>) -> ! {
+        let unknown = || "a panic, whose message a hook of the test's own has".to_owned();
+        let told =
+            seat::panicked().unwrap_or_else(|| Panicked { place: self.last_place(me), message: message.unwrap_or_else(unknown) });
+        self.fail_by(me, told)
     }
 
-    /// A thread that fails by another one's panic, which nobody took.
-    pub fn fail_by_other(&self, me: u32, told: Panicked) -> ! {
+    /// The thread fails by its own panic, or by another one's which nobody took.
+    pub fn fail_by(&self, me: u32, told: Panicked) -> ! {
         let place = told.place;
         self.held().panicked.get_or_insert(told);
         self.step(me, place, Late::Ask(Ask::of(kind::CHECK_FAILS, 0)));

@@ -71,7 +71,9 @@ fn a_bug_is_found_replayed_and_mended() {
     assert_eq!(command, "cargo test -p found -- --exact counts_both --nocapture");
     let (text, passed) = tested(&folder, Some(trace), &["--nocapture", "--test-threads=2"]);
     assert!(!passed, "{text}");
-    for wanted in ["     1  main  start t1 = 0 at tests/it.rs:8", "check 0 = 0 at tests/it.rs:11", "replayed: failed main 11, 12 steps"] {
+    for wanted in
+        ["     1  main  start t1 = 0 at tests/it.rs:8", "check 0 = 0 at tests/it.rs:11", "replayed: failed main 11, 12 steps"]
+    {
         assert!(text.contains(wanted), "no {wanted:?} in:\n{text}");
     }
     assert!(text.contains("another: not replayed, since the trace is another test's"), "{text}");
@@ -90,7 +92,8 @@ const DBG: &str = "#[test]\nfn prints() {\n    pct::check(|| {\n        pct::ste
 fn a_replay_goes_on_over_other_lines() {
     let folder = project("moved", DBG);
     let (text, _) = tested(&folder, None, &[]);
-    let trace = text.lines().find_map(|line| line.strip_prefix("again: PCT_REPLAY=")?.split(' ').next()).expect("a trace").to_owned();
+    let trace =
+        text.lines().find_map(|line| line.strip_prefix("again: PCT_REPLAY=")?.split(' ').next()).expect("a trace").to_owned();
     fs::write(folder.join("tests/it.rs"), DBG.replace("        pct::step();", "        dbg!(7);\n        pct::step();")).unwrap();
     let (text, passed) = tested(&folder, Some(&trace), &["--nocapture"]);
     assert!(!passed && text.contains("step 1: the trace has yield = 0 at tests/it.rs:4"), "{text}");
@@ -116,7 +119,11 @@ fn aborts() {
 fn a_second_panic_aborts_after_the_trace() {
     let (text, passed) = tested(&project("aborts", ABORTS), None, &["--nocapture"]);
     assert!(!passed, "{text}");
-    for wanted in ["pct: thread 0 panicked at tests/it.rs:10: the first", "pct: and again at tests/it.rs:3, while that panic unwound: the second", "pct: the steps until then are in "] {
+    for wanted in [
+        "pct: thread 0 panicked at tests/it.rs:10: the first",
+        "pct: and again at tests/it.rs:3, while that panic unwound: the second",
+        "pct: the steps until then are in ",
+    ] {
         assert!(text.contains(wanted), "no {wanted:?} in:\n{text}");
     }
 }

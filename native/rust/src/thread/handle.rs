@@ -45,7 +45,7 @@ impl<T> Packet<T> {
             left.is_detached && left.panicked.is_some()
         });
         if let Some(told) = panicked.filter(|_| is_lost) {
-            live.fail_by_other(me, told);
+            live.fail_by(me, told);
         }
     }
 
@@ -132,7 +132,7 @@ impl<T> Drop for JoinHandle<T> {
     fn drop(&mut self) {
         let Some(Joined::Run(_, _, packet)) = &self.0 else { return };
         let Some(told) = packet.detach() else { return };
-        seat::current(|live, me| live.fail_by_other(me, told));
+        seat::current(|live, me| live.fail_by(me, told));
     }
 }
 

@@ -28,7 +28,8 @@ fn lost_update() -> impl pct::Test {
     })
 }
 
-const TRACE: &str = "trace 1\norder A B Check\npoints 1\nlimit 10000\n1 A {reads} read counter = 0\n2 B {reads} read counter = 0\n\
+const TRACE: &str =
+    "trace 1\norder A B Check\npoints 1\nlimit 10000\n1 A {reads} read counter = 0\n2 B {reads} read counter = 0\n\
                      3 B {writes} write counter 1 = 0\n4 A {writes} write counter 1 = 0\n5 Check {joins_a} join A = 0\n\
                      6 Check {joins_b} join B = 0\n7 Check {holds} read counter = 1\n8 Check {holds} check 0 = 0\n\
                      verdict failed Check {holds}\n";
@@ -47,7 +48,11 @@ fn campaign_has_rows_groups_and_reports() {
     let campaign = pct::campaign(Config { seeds: 13, depth: Some(2), ..Config::default() }, lost_update());
     assert_eq!((campaign.threads, campaign.steps, campaign.depth, campaign.limit), (3, 8, 2, 10_000));
     assert_eq!((campaign.rows.len(), campaign.groups.len()), (13, 1));
-    assert!(campaign.text.ends_with(&filled(SOURCE, "13 8 failed Check {holds}\ngroups 1\n1 8 13 failed Check {holds}\n")), "{}", campaign.text);
+    assert!(
+        campaign.text.ends_with(&filled(SOURCE, "13 8 failed Check {holds}\ngroups 1\n1 8 13 failed Check {holds}\n")),
+        "{}",
+        campaign.text
+    );
     assert!(campaign.json.starts_with("{\"depth\":2,\"groups\":[{\"count\":1,\"first\":13,\"steps\":8,"), "{}", campaign.json);
 }
 
@@ -158,7 +163,8 @@ fn replay_makes_the_run_again_and_notes_what_differs() {
     let other = pct::replay(Config::default(), &trace, counts(7, false));
     assert_eq!(other.departs, None);
     assert!(
-        other.notes[0].contains(&filled(SOURCE, "the trace has add v0 1 = 0 at tests/rules/calls.rs:{adds}, and the run add v0 1 = 7")),
+        other.notes[0]
+            .contains(&filled(SOURCE, "the trace has add v0 1 = 0 at tests/rules/calls.rs:{adds}, and the run add v0 1 = 7")),
         "{:?}",
         other.notes
     );

@@ -24,7 +24,13 @@ fn a_failure_is_told_with_its_place_count_lanes_files_and_line() {
         thread.join().unwrap();
     });
     let lines: Vec<&str> = told.lines().collect();
-    assert!(lines[0].starts_with(&filled(SOURCE, "thread main panicked at tests/rules/ends.rs:{asserted}: assertion `left == right` failed")), "{told}");
+    assert!(
+        lines[0].starts_with(&filled(
+            SOURCE,
+            "thread main panicked at tests/rules/ends.rs:{asserted}: assertion `left == right` failed"
+        )),
+        "{told}"
+    );
     for text in [
         "failed in ",
         " seeds that were run\n",
@@ -105,7 +111,11 @@ fn a_guard_that_unwinds_makes_no_step() {
             let _guard = mutex.lock().unwrap(); //: locked
             panic!("under the guard"); //: under
         },
-        &["thread main panicked at tests/rules/ends.rs:{under}: under the guard", "lock m0 = 0 ends.rs:{locked}", "check 0 = 0 ends.rs:{under}"],
+        &[
+            "thread main panicked at tests/rules/ends.rs:{under}: under the guard",
+            "lock m0 = 0 ends.rs:{locked}",
+            "check 0 = 0 ends.rs:{under}",
+        ],
     );
 }
 
@@ -145,8 +155,11 @@ fn panics_as_std_poison_and_are_joined() {
         assert!(lock.read().is_err());
     });
     let of = |test: fn()| text_of(|| pct::check_with(config.clone(), test));
-    assert!(of(|| panic!("leaves main")).starts_with(&filled(SOURCE, "thread main panicked at tests/rules/ends.rs:{leaves}: leaves main"))); //: leaves
-    assert!(of(|| drop(thread::spawn(|| panic!("nobody joins")))).contains(&filled(SOURCE, "panicked at tests/rules/ends.rs:{nobody_joins}: nobody joins"))); //: nobody_joins
+    assert!(of(|| panic!("leaves main"))
+        .starts_with(&filled(SOURCE, "thread main panicked at tests/rules/ends.rs:{leaves}: leaves main"))); //: leaves
+    assert!(of(|| drop(thread::spawn(|| panic!("nobody joins"))))
+        .contains(&filled(SOURCE, "panicked at tests/rules/ends.rs:{nobody_joins}: nobody joins")));
+    //: nobody_joins
 }
 
 #[test]

@@ -4,6 +4,7 @@
 mod calls;
 mod ends;
 mod objects;
+mod sentences;
 mod spins;
 mod types;
 mod values;

@@ -68,7 +68,10 @@ fn limits_are_sentences_with_the_line() {
     let barrier = of(|| drop(Barrier::new(1001).wait())); //: barrier
     assert_eq!(barrier, filled(SOURCE, "pct: tests/rules/objects.rs:{barrier}: in a run at most 1000 threads meet at a barrier"));
     let semaphore = of(|| Semaphore::new(u32::MAX).up()); //: semaphore
-    assert_eq!(semaphore, filled(SOURCE, "pct: tests/rules/objects.rs:{semaphore}: in a run a semaphore begins with at most 2147483647"));
+    assert_eq!(
+        semaphore,
+        filled(SOURCE, "pct: tests/rules/objects.rs:{semaphore}: in a run a semaphore begins with at most 2147483647")
+    );
 }
 
 #[test]

@@ -108,6 +108,10 @@ fn steps_of_ones_own() {
         pct::holds(false); //: fails
     });
     let asks: Vec<String> = run.steps().into_iter().map(|step| step.ask).collect();
-    assert_eq!((asks, run.verdict()), (vec!["yield".into(), "check 1".into(), "check 0".into()], filled(SOURCE, "failed main {fails}")));
-    fails_with(|| pct::holds(false), &["thread main at tests/rules/spins.rs:{alone}: pct::holds(false)"]); //: alone
+    assert_eq!(
+        (asks, run.verdict()),
+        (vec!["yield".into(), "check 1".into(), "check 0".into()], filled(SOURCE, "failed main {fails}"))
+    );
+    fails_with(|| pct::holds(false), &["thread main at tests/rules/spins.rs:{alone}: pct::holds(false)"]);
+    //: alone
 }

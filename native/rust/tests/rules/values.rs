@@ -177,7 +177,8 @@ fn a_ring_with_its_flag_has_no_race_and_without_it_one() {
     let with = pct::races(Config::default(), &Schedule::seed(1, 2), ring(true));
     assert_eq!((with.races, with.left_out), (vec![], Vec::<String>::new()));
     let without = pct::races(Config::default(), &Schedule::declared(), ring(false));
-    let told = without.races.iter().map(|race| format!("{} {} {}", race.first.place.line, race.second.place.line, race.second.is_write));
+    let told =
+        without.races.iter().map(|race| format!("{} {} {}", race.first.place.line, race.second.place.line, race.second.is_write));
     let wanted = filled(SOURCE, "{takes} {puts} true");
     assert_eq!(told.collect::<Vec<_>>(), [wanted.clone(), wanted]);
     assert_eq!((without.races[0].first.thread.as_str(), without.races[0].second.thread.as_str()), ("main", "t1"));
