@@ -12,7 +12,9 @@ fn eight_steps() {
     let adders: Vec<_> = (0..2)
         .map(|_| {
             let n = n.clone();
-            thread::spawn(move || drop(n.fetch_add(1, SeqCst)))
+            thread::spawn(move || {
+                n.fetch_add(1, SeqCst);
+            })
         })
         .collect();
     adders.into_iter().for_each(|adder| adder.join().expect("it adds"));
@@ -22,8 +24,14 @@ fn eight_steps() {
 fn long() {
     let n = Arc::new(AtomicUsize::new(0));
     let other = n.clone();
-    let adder = thread::spawn(move || (0..4000).for_each(|_| drop(other.fetch_add(1, SeqCst))));
-    (0..4000).for_each(|_| drop(n.fetch_add(1, SeqCst)));
+    let adder = thread::spawn(move || {
+        (0..4000).for_each(|_| {
+            other.fetch_add(1, SeqCst);
+        })
+    });
+    (0..4000).for_each(|_| {
+        n.fetch_add(1, SeqCst);
+    });
     adder.join().expect("it adds");
 }
 

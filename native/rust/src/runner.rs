@@ -141,7 +141,10 @@ impl<T: Test> Runner<T> {
             if progress != last.0 {
                 last = (progress, Instant::now());
             } else if last.1.elapsed() >= patience && !live.is_over() {
-                return Err(NoRun::Sentence(self.silence(live, progress.1)));
+                let sentence = self.silence(live, progress.1);
+                // Should it ask once more, it stays in that ask.
+                live.state()?.close(End::Sentence(sentence.clone()))?;
+                return Err(NoRun::Sentence(sentence));
             }
         }
         live.take_fault().map_or(Ok(()), |fault| Err(fault.into()))

@@ -67,9 +67,13 @@ fn program(number: u64, watch: &std::sync::Arc<Watch>) {
                     let value = drawn(&mut draw);
                     watch.between(value);
                     match value % 5 {
-                        0 => drop(atomics[0].fetch_add(value, SeqCst)),
+                        0 => {
+                            atomics[0].fetch_add(value, SeqCst);
+                        }
                         1 => atomics[1].store(value, SeqCst),
-                        2 => drop(atomics[1].swap(value, SeqCst)),
+                        2 => {
+                            atomics[1].swap(value, SeqCst);
+                        }
                         3 => *mutex.0.lock().unwrap() += 1,
                         _ => mutex.1.notify_one(),
                     }

@@ -213,7 +213,9 @@ fn pool(mistake: PoolMistake) -> impl Fn() + Copy + Send + Sync + 'static {
         let pool = Pool::new(2, mistake);
         for number in 1..=2 {
             let done = done.clone();
-            pool.run(move || drop(done.fetch_add(number, SeqCst)));
+            pool.run(move || {
+                done.fetch_add(number, SeqCst);
+            });
         }
         drop(pool);
         assert_eq!(done.load(SeqCst), 3);

@@ -92,6 +92,7 @@ impl Drop for Poisons<'_> {
 
 impl Once {
     /// Not done. No step.
+    #[allow(clippy::new_without_default)] // std's has none
     pub const fn new() -> Once {
         Once { gate: Gate::new(), is_poisoned: sync::Mutex::new(false), inner: sync::Once::new() }
     }

@@ -149,7 +149,9 @@ fn replay_makes_the_run_again_and_notes_what_differs() {
         move || {
             let n = Arc::new(AtomicU32::new(first));
             let other = n.clone();
-            let thread = thread::spawn(move || drop(other.fetch_add(1, SeqCst))); //: adds
+            let thread = thread::spawn(move || {
+                other.fetch_add(1, SeqCst); //: adds
+            });
             if more {
                 n.load(SeqCst);
             }

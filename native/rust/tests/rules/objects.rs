@@ -14,7 +14,9 @@ fn objects_are_numbered_at_first_use_and_the_run_goes_on() {
         let (a, b) = (Arc::new(AtomicU32::new(5)), Arc::new(AtomicU32::new(7)));
         let (c, d) = (a.clone(), b.clone());
         let threads = [thread::spawn(move || c.fetch_add(1, SeqCst)), thread::spawn(move || d.fetch_add(1, SeqCst))];
-        threads.into_iter().for_each(|thread| drop(thread.join().unwrap()));
+        threads.into_iter().for_each(|thread| {
+            thread.join().unwrap();
+        });
         assert_eq!(a.load(SeqCst) + b.load(SeqCst), 14);
     });
 }
@@ -114,7 +116,11 @@ fn other_statics_and_captured_objects_end_the_check() {
     let sentence = "one of the mutexes was used by another run: it is a static, or the test captured it. Make it within the test";
     assert_eq!(told, filled(SOURCE, "pct: tests/rules/objects.rs:{static}: ") + sentence);
     let captured = Arc::new(AtomicU32::new(0));
-    let told = text_of(|| pct::check_with(few(), move || drop(captured.load(SeqCst))));
+    let told = text_of(|| {
+        pct::check_with(few(), move || {
+            captured.load(SeqCst);
+        })
+    });
     assert!(told.contains(&sentence.replace("mutexes", "atomics")), "{told}");
 }
 

@@ -111,7 +111,9 @@ fn once_and_its_cells() {
             .map(|number| {
                 let cells = cells.clone();
                 thread::spawn(move || {
-                    cells.1.call_once(|| drop(cells.3.fetch_add(1, SeqCst)));
+                    cells.1.call_once(|| {
+                        cells.3.fetch_add(1, SeqCst);
+                    });
                     assert!(cells.1.is_completed());
                     *cells.0.get_or_init(|| number) + *cells.2
                 })
@@ -126,7 +128,7 @@ fn once_and_its_cells() {
     });
     let doing = ["read v0", "lock m0", "read v0", "write v0 1", "broadcast c0", "unlock m0"];
     assert_eq!(asks(|| Once::new().call_once(|| ())), doing);
-    assert_eq!(asks(|| drop(*OnceLock::new().get_or_init(|| 1))), doing);
+    assert_eq!(asks(|| assert_eq!(*OnceLock::new().get_or_init(|| 1), 1)), doing);
     assert_eq!(asks(|| assert_eq!(*LazyLock::new(|| 1), 1)), doing);
 }
 
