@@ -110,7 +110,7 @@ fn origin(run: &Run) -> String {
 pub(crate) fn again(run: &Run, trace: &str) -> String {
     let package = std::env::var("CARGO_PKG_NAME").map_or(String::new(), |name| format!(" -p {name}"));
     let name = run.settings.test_name();
-    let exact = if run.settings.is_named { format!(" --exact {name}") } else { String::new() };
+    let exact = if run.settings.is_named { format!(" --exact {name}") } else { " --test-threads=1".to_owned() };
     format!("PCT_REPLAY={trace} cargo test{package} --{exact} --nocapture")
 }
 

@@ -51,10 +51,15 @@ pub(crate) fn exit() {
 
 /// Declares threads and names objects of a run, of which the caller is none.
 pub(crate) fn declare<R>(live: &Arc<Live>, act: impl FnOnce() -> R) -> R {
+    struct Leaves;
+    impl Drop for Leaves {
+        fn drop(&mut self) {
+            exit();
+        }
+    }
     enter(live, NOBODY, false);
-    let made = act();
-    exit();
-    made
+    let _leaves = Leaves;
+    act()
 }
 
 /// Acts for a thread of a run; nothing outside of one.
