@@ -85,16 +85,20 @@ static const char *name_of_signal(int number) {
     return other;
 }
 
-/* The child died in its run: to the trace that is an assertion which fails in the last line of who had the baton. */
-static void died(int status, bool is_hung) {
-    uint32_t thread = run->baton;
-    PctPlace last = run->seats[thread].last;
-    uint32_t line = number_of_place((Place){ last.file, last.line, false });
-    char cause[80];
+static const char *cause_of(int status, bool is_hung) {
+    static char cause[80];
     snprintf(cause, sizeof cause, "exit(%d)", WEXITSTATUS(status));
     if (WIFSIGNALED(status)) snprintf(cause, sizeof cause, "%s", name_of_signal(WTERMSIG(status)));
     if (shared->is_sanitized) snprintf(cause, sizeof cause, "a sanitizer's report");
     if (is_hung) snprintf(cause, sizeof cause, "no step for %u seconds", (unsigned)test.patience);
+    return cause;
+}
+
+/* The child died in its run: to the trace that is an assertion which fails in the last line of who had the baton. */
+static void died(const char *cause) {
+    uint32_t thread = run->baton;
+    PctPlace last = run->seats[thread].last;
+    uint32_t line = number_of_place((Place){ last.file, last.line, false });
     snprintf(run->told, sizeof run->told, "%s after step %u, %s, %s", cause, run->steps, run->names[PCT_THREADS][thread], place_text(line));
     shared->steps[run->steps++] = (PctEvent){ thread, line, PCT_ASK(PCT_ASK_CHECK_FAILS, 0, 0, 0, 0), 0 };
     run->outcome = (PctOutcome){ .kind = PCT_FAILED, .thread = thread, .line = line };
@@ -128,8 +132,8 @@ static void make_child(void) {
     bool hung = is_hung(pid, ends[0]);
     close(ends[0]);
     while (waitpid(pid, &status, 0) < 0 && errno == EINTR) continue;
-    if (run->end == GOES) died(status, hung);
-    else if (status != 0) sentence("a run's process ended between two runs");
+    if (run->end == GOES) died(cause_of(status, hung));
+    else if (status != 0) sentence("%s between two runs, after that of seed %llu", cause_of(status, hung), (unsigned long long)run->seed);
     if (run->end == SENTENCE) sentence("%s", run->told);
 }
 

@@ -102,7 +102,7 @@ static void print_lanes(void) {
         char cell[200] = "", number[16] = "";
         snprintf(cell, sizeof cell, "%s%s", i < run->steps ? "" : "! ", lines[i]);
         for (uint32_t point = 0; point < run->point_count; point++)
-            if (run->points[point] == i + 1) snprintf(cell + strlen(cell), 8, " v%u", point + 1);
+            if (run->points[point] == i + 1) snprintf(cell + strlen(cell), 8, " v%u", (point + 1) % 10);
         if (i < run->steps) snprintf(number, sizeof number, "%u", i + 1);
         printf("%6s  %*s%-*s  %s\n", number, (int)((width + 6) * shared->steps[i].thread), "",
                (int)((width + 6) * (run->threads - shared->steps[i].thread) - 2), cell, place_text(shared->steps[i].line));
