@@ -187,17 +187,18 @@ static void make_ask(Late *late) {
     } else if (ask->kind != PCT_ASK_READ) ask->x = is_sum ? late->x : code_of(new, late->form);
 }
 
-/* Memory has to be as the last step left it. */
+/* Memory has to be as the last step left it, else the run fails. */
 static void look_at_memory(uint32_t thread) {
     const Late *late = &run->late[thread];
     uint32_t variable = late->ask.a, step = run->steps + 1;
     run->baton = thread;
     if (!late->is_access || late->access == PCT_WAKE || late->ask.kind == PCT_ASK_YIELD) return;
     if (code_of(read_memory(late->at, late->form), late->form) == run->now[PCT_VARIABLES][variable]) return;
-    const char *name = run->names[PCT_VARIABLES][variable], *place = place_text(late->line);
-    if (run->last_step[variable] == 0) sentence("%s was changed without pct_store before the step %u (%s)", name, step, place);
-    sentence("%s was changed without pct_store between the steps %u and %u (%s); of memory that was freed and is used again, "
-             "tell pct_forget", name, run->last_step[variable], step, place);
+    char before[48] = "before the step";
+    if (run->last_step[variable]) snprintf(before, sizeof before, "between the steps %u and", run->last_step[variable]);
+    snprintf(run->told, sizeof run->told, "%s was changed without pct_store %s %u, %s, %s", run->names[PCT_VARIABLES][variable], before,
+             step, run->names[PCT_THREADS][thread], place_text(late->line));
+    leave(DIED);
 }
 
 /* The step on the memory itself. A wake's answer has a bit for each thread that it wakes. */

@@ -94,12 +94,13 @@ static const char *cause_of(int status, bool is_hung) {
     return cause;
 }
 
-/* The child died in its run: to the trace that is an assertion which fails in the last line of who had the baton. */
+/* The child died in its run, or the memory isn't what the steps left: to the trace that is an assertion which fails in the last line of who had the baton. */
 static void died(const char *cause) {
     uint32_t thread = run->baton;
     PctPlace last = run->seats[thread].last;
     uint32_t line = number_of_place((Place){ last.file, last.line, false });
-    snprintf(run->told, sizeof run->told, "%s after step %u, %s, %s", cause, run->steps, run->names[PCT_THREADS][thread], place_text(line));
+    if (run->end == GOES)
+        snprintf(run->told, sizeof run->told, "%s after step %u, %s, %s", cause, run->steps, run->names[PCT_THREADS][thread], place_text(line));
     shared->steps[run->steps++] = (PctEvent){ thread, line, PCT_ASK(PCT_ASK_CHECK_FAILS, 0, 0, 0, 0), 0 };
     run->outcome = (PctOutcome){ .kind = PCT_FAILED, .thread = thread, .line = line };
     run->end = DIED;
@@ -132,7 +133,7 @@ static void make_child(void) {
     bool hung = is_hung(pid, ends[0]);
     close(ends[0]);
     while (waitpid(pid, &status, 0) < 0 && errno == EINTR) continue;
-    if (run->end == GOES) died(cause_of(status, hung));
+    if (run->end == GOES || run->end == DIED) died(cause_of(status, hung));
     else if (status != 0) sentence("%s between two runs, after that of seed %llu", cause_of(status, hung), (unsigned long long)run->seed);
     if (run->end == SENTENCE) sentence("%s", run->told);
 }
@@ -430,18 +431,23 @@ static int check(void) {
     if (test.replay) return replay();
     make_declared();
     bool has_declared_failed = has_failed();
-    if (has_declared_failed) keep();
+    bool is_directed = test.finds || test.certifies;
+    if (has_declared_failed && !is_directed) keep();
     uint32_t threads = run->threads, steps = run->steps ? run->steps : 1;
     while (!make_seeds(threads, steps)) {
         threads = run->threads;
         kept.is_there = false;
     }
     if (test.campaign) print_report(job->depth);
+    if (!kept.is_there && has_declared_failed) {
+        printf("%s: no seed failed, but the run in declared order fails\n", test.title);
+        return 1;
+    }
     if (!kept.is_there) {
         if (!test.campaign) printf("%s: passed in %llu seeds; n %u, k %u\n", test.title, (unsigned long long)search.made, threads, steps);
         return 0;
     }
-    if (test.finds || test.certifies) direct();
+    if (is_directed) direct();
     else if (!test.campaign) tell(threads, steps);
     return 1;
 }

@@ -3,7 +3,7 @@
 // is; 1: the tail isn't locked; 2: a node is linked before its value is there; 3: the value is read once the head is unlocked, when
 // another taker may have given the node back.
 #include "pct_test.h"
-#include <stdlib.h>
+#include <string.h>
 
 #ifndef MISTAKE
 #define MISTAKE 0
@@ -18,11 +18,11 @@ static struct {
     Node *head, *tail;
     pct_mutex_t head_lock, tail_lock;
 } queue;
-static int taken;
+static Node nodes[8];
+static int fresh, taken;
 
 static void put(int value) {
-    Node *node = calloc(1, sizeof *node);
-    pct_forget(node, sizeof *node);
+    Node *node = &nodes[fresh++];
     if (MISTAKE != 2)
         pct_store(&node->value, value);
     if (MISTAKE != 1)
@@ -34,12 +34,6 @@ static void put(int value) {
         pct_mutex_unlock(&queue.tail_lock);
     if (MISTAKE == 2)
         pct_store(&node->value, value);
-}
-
-static void give_back(Node *node) {
-    pct_store(&node->value, -1);
-    pct_forget(node, sizeof *node);
-    free(node);
 }
 
 // The first value, or 0 where the queue is empty.
@@ -55,7 +49,7 @@ static int take(void) {
     pct_mutex_unlock(&queue.head_lock);
     if (MISTAKE == 3)
         value = pct_load(&first->value);
-    give_back(before);
+    pct_store(&before->value, -1); // it is given back
     return value;
 }
 
@@ -80,9 +74,7 @@ static void *taker(void *nothing) {
 // What two threads put and two take, and what is left: it is 3.
 static void test(void) {
     pct_thread_t threads[4];
-    Node *first = calloc(1, sizeof *first);
-    pct_forget(first, sizeof *first);
-    queue.head = queue.tail = first;
+    queue.head = queue.tail = &nodes[fresh++];
     pct_mutex_init(&queue.head_lock, PCT_MUTEX_NORMAL);
     pct_mutex_init(&queue.tail_lock, PCT_MUTEX_NORMAL);
     for (intptr_t i = 0; i < 2; i++) {
@@ -93,11 +85,11 @@ static void test(void) {
         pct_join(threads[i], NULL);
     take_some(2);
     PCT_CHECK(pct_load(&taken) == 3);
-    free(queue.head);
 }
 
 static void reset(void) {
-    taken = 0;
+    fresh = taken = 0;
+    memset(nodes, 0, sizeof nodes);
 }
 
 int main(int count, char **words) {
