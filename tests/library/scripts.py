@@ -38,7 +38,8 @@ class Beside:
     def by_program(self, words: list[str]) -> tuple[str, str]:
         done = subprocess.run([self.program, *words], cwd=self.room, stdin=subprocess.DEVNULL, capture_output=True,
                               text=True, timeout=60, check=False)
-        self.ends[f"{words[0]}: {self.compare.end_of(words[0], done.stdout.encode(), done.stderr.encode())}"] += 1
+        told = (done.stdout.encode(), done.stderr.encode())
+        self.ends[f"{words[0]}: {self.compare.end_of(words[0], *told) if any(told) else f'nothing, {done.returncode}'}"] += 1
         return done.stdout, done.stderr
 
     def same(self, number: int, words: list[str], made: Any) -> tuple[str, bool]:
