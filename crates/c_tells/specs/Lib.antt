@@ -3,5 +3,5 @@ pub mod Locks
 pub mod Moments
 pub mod Orders
 pub mod Points
--- pub mod Races
+pub mod Races
 pub mod Runs

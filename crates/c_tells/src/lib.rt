@@ -7,7 +7,7 @@ mod locks;
 mod moments;
 mod orders;
 mod points;
-// mod races;
+mod races;
 mod run;
 
 pub use groups::{PctGroup, groups_told};
@@ -15,4 +15,4 @@ pub use locks::{LocksTold, PctNesting, locks_told};
 pub use moments::moments_told;
 pub use orders::{bound_told, order_count_told, order_told};
 pub use points::points_told;
-// pub use races::{PctRace, races_told};
+pub use races::{PctRace, races_told};

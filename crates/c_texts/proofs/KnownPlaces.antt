@@ -1,7 +1,7 @@
 -- Places of which something holds, read from bits, one after another.
-use Rattle.std.proofs.Common.{◌≡◌, ◌≢◌, ◌<◌, ◌≤◌, ◌+◌, ◌*◌, ◌/◌, ◌%◌, ◌^◌, ◌==◌, ◌↔◌, ℕ, List, []}
-use Rattle.std.proofs.Common.{◌∷◌, refl, ap, sym, subst, ◌∙◌, drop, get_or, length, suc, arith, All}
-use Rattle.std.proofs.Common.{Bool, true, false, if◌then◌else◌, Option, Some, None}
+use Rattle.std.proofs.Common.{◌≡◌, ◌≢◌, ◌<◌, ◌≤◌, ◌+◌, ◌/◌, ◌%◌, ◌^◌, ◌==◌, ◌↔◌, ℕ, List, []}
+use Rattle.std.proofs.Common.{◌∷◌, refl, ap, sym, subst, ◌∙◌, drop, get_or, length, arith, All}
+use Rattle.std.proofs.Common.{Bool, not, true, false, if◌then◌else◌, Some, None}
 use Rattle.std.proofs.Math.Nat.{pow-suc}
 use Rattle.std.specs.Cmp.{unsigned_Decides}
 use Rattle.std.proofs.lemmas.Bool.Decides.{eqb_tells}
@@ -80,19 +80,30 @@ no_bits thread (line ∷ lines) =
     unset_here thread 0 line lines (λ (h : 0 ≡ 1). absurd (omega (arith, h)))
     ∙ no_bits (thread + 1) lines
 
+some_step : (thread bits line : ℕ) (lines : List ℕ) → bits ≢ 0
+    → (bits / 2 ≢ 0 → 0 < length (rest_of (thread + 1) (bits / 2) lines)) → (odd : Bool)
+    → (bits % 2 == 1) ≡ odd → 0 < length (rest_of thread bits (line ∷ lines))
+some_step thread bits line lines some left true e =
+    let odd = (unsigned_Decides (bits % 2) 1).0 e in
+    omega (arith, ap length (set_here thread bits line lines odd))
+some_step thread bits line lines some left false e =
+    let even : bits % 2 ≢ 1 = grind (arith, eqb_tells) in
+    let more : bits / 2 ≢ 0 = λ h. some (omega (arith, h, even)) in
+    omega (arith, left more, ap length (unset_here thread bits line lines even))
+
 -- some place where a bit is set
 pub some_bit : (thread bits : ℕ) (lines : List ℕ) → bits < 2 ^ length lines → bits ≢ 0
     → 0 < length (rest_of thread bits lines)
 some_bit thread bits [] few some = absurd (some (omega (arith, few)))
-some_bit thread bits (line ∷ lines) few some = by (bits % 2 == 1) refl
-  where
-    by : (odd : Bool) → (bits % 2 == 1) ≡ odd → 0 < length (rest_of thread bits (line ∷ lines))
-    by true e =
-        let odd = (unsigned_Decides (bits % 2) 1).0 e in
-        omega (arith, ap length (set_here thread bits line lines odd))
-    by false e =
-        let even : bits % 2 ≢ 1 = grind (arith, eqb_tells) in
-        let left = some_bit (thread + 1) (bits / 2) lines
-        (omega (arith, few, pow-suc 2 (length lines)))
-        (λ (h : bits / 2 ≡ 0). some (omega (arith, h, even))) in
-        omega (arith, left, ap length (unset_here thread bits line lines even))
+some_bit thread bits (line ∷ lines) few some =
+    let fewer : bits / 2 < 2 ^ length lines = omega (arith, few, pow-suc 2 (length lines)) in
+    some_step thread bits line lines some (λ left. some_bit (thread + 1) (bits / 2) lines fewer left)
+    (bits % 2 == 1) refl
+
+pub never : false ≡ true → ⊥
+never t = cc
+
+pub zero_bits : (bits : ℕ) → bits ≡ 0 → not (bits == 0) ≡ true → ⊥
+zero_bits bits e t =
+    let zero_is : (bits == 0) ≡ true = grind (arith, eqb_tells) in
+    never (subst (λ (b : Bool). not b ≡ true) zero_is t)

@@ -1,3 +1,4 @@
+mod KnownBlocked
 mod KnownPlaces
 mod MomentArrays
 mod SaidVerdicts

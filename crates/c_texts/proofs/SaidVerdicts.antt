@@ -5,7 +5,6 @@ use Rattle.std.specs.Option.{option_map, option_and_then}
 use Rattle.pct_ask.specs.Places.{places_from, known_lines}
 use Rattle.pct_ask.specs.declared.verdict.MisuseKind.{MisuseKind}
 use Rattle.pct_ask.specs.declared.ask.FaultKind.{FaultKind}
-use Rattle.pct_ask.specs.declared.verdict.Verdict.{Verdict}
 use Rattle.pct_ask.specs.declared.verdict.Verdict.TheVariants.{Stuck, Misuse, Fault}
 use Rattle.c_values.specs.declared.outcome.PctOutcome.{PctOutcome}
 use Rattle.c_values.specs.Outcomes.{verdicts_by, verdict_said, misuse_by, fault_by}

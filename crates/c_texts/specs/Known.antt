@@ -1,5 +1,5 @@
 -- Verdicts that may be written (this project).
-use Rattle.std.specs.Prelude.{◌≡◌, ◌<◌, ℕ, Some, length}
+use Rattle.std.specs.Prelude.{◌≡◌, ◌<◌, ℕ, List, Some, length, All}
 use Rattle.pct_ask.specs.NameLists.{NameLists}
 use Rattle.pct_ask.specs.VerdictText.{IsLine}
 use Rattle.pct_ask.specs.declared.verdict.Verdict.{Verdict}
@@ -10,6 +10,10 @@ use Rattle.c_values.specs.Outcomes.{verdict_said}
 -- the thread is one of so many, and the line is a test's
 abbrev pub IsKnownPlace : ℕ → ℕ × ℕ → Type 0
 IsKnownPlace threads place = (place.0 < threads) × IsLine place.1
+
+-- somebody is blocked, and each is known
+abbrev pub AreKnownBlocked : ℕ → List (ℕ × ℕ) → Type 0
+AreKnownBlocked threads places = (0 < length places) × All (IsKnownPlace threads) places
 
 -- the numbers say the verdict, and it has a text under the names
 pub record SaysKnown (names : NameLists) (numbers : PctOutcome) (verdict : Verdict) : Type 0 where

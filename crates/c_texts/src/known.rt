@@ -5,7 +5,7 @@ ghost use Rattle.pct_ask.specs.Places.{places_from, known_lines};
 ghost use Rattle.report_text.specs.Report.{IsWritable};
 ghost use Rattle.c_values.specs.Outcomes.{verdict_said};
 ghost use Rattle.c_values.specs.Told.{Answers};
-ghost use Rattle.c_texts.specs.Known.{IsKnownPlace, SaysKnown};
+ghost use Rattle.c_texts.specs.Known.{IsKnownPlace, AreKnownBlocked, SaysKnown};
 
 use c_values::{PctOutcome, Refused, verdict_of};
 use pct_ask::{NameKind, Names, Verdict};
@@ -31,6 +31,14 @@ fn are_known_places(threads: u32, bits: u64, lines: &[u32; 64]) -> bool
     true
 }
 
+/// Whether some bit is set, and each thread whose bit is set is known.
+fn is_known_stuck(threads: u32, bits: u64, lines: &[u32; 64]) -> bool
+    ensures { IsTrue result
+        ↔ AreKnownBlocked threads (places_from 0 (known_lines bits lines.now)) }
+{
+    bits != 0 && are_known_places(threads, bits, lines)
+}
+
 /// Whether a verdict's threads have names and its lines are a test's; and where it is that of a
 /// stuck run, somebody is blocked.
 fn is_known(names: &Names, numbers: &PctOutcome, verdict: &Verdict) -> bool
@@ -43,8 +51,8 @@ fn is_known(names: &Names, numbers: &PctOutcome, verdict: &Verdict) -> bool
         Verdict::Failed { thread, line }
         | Verdict::Misuse { thread, line, .. }
         | Verdict::Fault { thread, line, .. } => is_known_place(threads, thread, line),
-        Verdict::Stuck { .. } => {
-            numbers.blocked != 0 && are_known_places(threads, numbers.blocked, &numbers.lines)
+        Verdict::Stuck { blocked: _blocked } => {
+            is_known_stuck(threads, numbers.blocked, &numbers.lines)
         }
     }
 }

@@ -1,5 +1,5 @@
 -- A report on the order of mutexes that was told is one that is asked for.
-use Rattle.std.proofs.Common.{◌≡◌, inl, inr, ℕ, List}
+use Rattle.std.proofs.Common.{inl, inr, ℕ, List}
 use Rattle.std.specs.Prelude.{Result, Ok, Err}
 use Rattle.c_values.specs.Told.{Answers}
 use Rattle.c_values.specs.declared.refused.Refused.{Refused}

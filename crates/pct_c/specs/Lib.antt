@@ -1,5 +1,6 @@
 pub mod Books
 pub mod Buffers
+pub mod Directives
 pub mod Drawn
 pub mod HeldBoxes
 pub mod Makers

@@ -6,14 +6,15 @@ ghost use Rattle.c_tells.specs.Locks.{AreLocksOf};
 ghost use Rattle.c_tells.specs.Moments.{AreMomentsOf};
 ghost use Rattle.c_tells.specs.Orders.{IsOrderAt};
 ghost use Rattle.c_tells.specs.Points.{ArePointsOf};
+ghost use Rattle.c_tells.specs.Races.{AreRacesOf};
 ghost use Rattle.pct_c.specs.Buffers.{Puts, Fills};
 ghost use Rattle.pct_c.specs.Tells.{CountsOrders, TellsBound, TellsLocks, IsLocksPut};
 
 use crate::buffers::{counted, fill, put, refusal};
 use crate::status::{BAD, DONE, PctCount};
 use c_tells::{
-    LocksTold, PctGroup, PctNesting, bound_told, groups_told, locks_told, moments_told,
-    order_count_told, order_told, points_told,
+    LocksTold, PctGroup, PctNesting, PctRace, bound_told, groups_told, locks_told, moments_told,
+    order_count_told, order_told, points_told, races_told,
 };
 use c_values::{PctDeal, PctEvent, PctMoment, PctRow, Refused};
 use std::alloc::Global;
@@ -110,6 +111,26 @@ pub extern "C" fn pct_tell_bound(threads: u32, steps: u32, points: u32) -> PctBo
             high: 0,
         },
     }
+}
+
+/// The data races of a run's steps, by happens-before.
+#[unsafe(no_mangle)]
+pub extern "C" fn pct_tell_races(
+    alloc: Global,
+    deal: &PctDeal,
+    variables: &[i64],
+    semaphores: &[i64],
+    barriers: &[i64],
+    steps: &[PctEvent],
+    races: &mut [PctRace],
+) -> PctCount
+    ensures { Puts (AreRacesOf deal.now variables.now semaphores.now barriers.now steps.now)
+        result.status result.count races.old races.new }
+{
+    put(
+        races_told(alloc, deal, variables, semaphores, barriers, steps),
+        races,
+    )
 }
 
 /// The failures among the runs of a campaign, in groups by their verdicts.

@@ -37,7 +37,7 @@ fn fault_number(fault: TraceFault) -> u32
     }
 }
 
-fn read_to(status: u32, line: u32, fault: u32) -> PctRead
+pub(crate) fn read_to(status: u32, line: u32, fault: u32) -> PctRead
     ensures status { result.status ≡ status }
     ensures line { result.line ≡ line }
     ensures fault { result.fault ≡ fault }

@@ -1,4 +1,4 @@
-use Rattle.std.proofs.Common.{subst, refl}
+use Rattle.std.proofs.Common.{subst, ◌∙◌}
 use Rattle.std.proofs.lemmas.Result.{err_from_is_err_and}
 use Rattle.pct_ask.specs.NameLists.{NameLists}
 use Rattle.c_values.proofs.laws.Refusals.{refusal}
@@ -20,3 +20,12 @@ returns-in_err-said c =
     let same = same_names a.names.now k.known is.names k.ensures is.named in
     let moved = subst (λ (n : NameLists). SaysDirective n a.directive.now (plain_directive is.told)) same is.says in
     (is.told, moved))
+
+pub returns : goal.returns
+returns c = record {
+  names = c.in_ok-known.known;
+  named = c.in_ok-known.ensures;
+  told = c.in_ok-said.said;
+  says = c.in_ok-said.ensures;
+  written = c.from_vec.ensures ∙ c.in_ok-write_directive.ensures.text;
+}

@@ -1,4 +1,4 @@
-use Rattle.std.proofs.Common.{◌∙◌, arith}
+use Rattle.std.proofs.Common.{arith}
 use Rattle.std.proofs.Math.ListN.{length-set}
 use Rattle.rank_now.specs.declared.moment.Moment.{Moment}
 use Rattle.c_texts.proofs.MomentArrays.{one_more}

@@ -1,5 +1,10 @@
+use Rattle.std.proofs.Common.{ap}
+use Rattle.std.specs.Prelude.{Err}
 use Rattle.c_texts.proofs.WrongOrders.{wrong_is_no_order}
 use Rattle.c_texts.proofs.traces.check_order.Goals as goal
 
 pub returns-in-Err-NotAnOrder : goal.returns-in-Err-NotAnOrder
-returns-in-Err-NotAnOrder c = ?
+returns-in-Err-NotAnOrder c = λ nothing whole.
+    let wrong = c.in-Err-NotAnOrder in
+    wrong_is_no_order c.args.order.now wrong.field-0-0
+    ((wrong.ensures.not_an_order wrong.field-0-0).0 (ap (λ why. Err why) wrong.field-0-is)) whole

@@ -1,4 +1,5 @@
-use Rattle.std.proofs.Common.{sym, ◌∙◌}
+use Rattle.std.proofs.Common.{sym, ◌∙◌, arith}
+use Rattle.pct_ask.specs.declared.names.NameKind.TheVariants.{Thread}
 use Rattle.std.proofs.lemmas.Result.{err_from_is_err_and}
 use Rattle.rank_now.specs.Order.{IsOrder}
 use Rattle.c_values.proofs.laws.Refusals.{refusal}
@@ -28,3 +29,13 @@ returns-in_err-check_order c =
     (IsHeadOf a.names.now (head_by a.version a.limit a.order.now a.points.now))
     c.in_err-check_order.field-0.0 p.0 c.from_residual.result p.1 p.2
     c.in_err-check_order.ensures (λ header is. (tt, is.is.order))
+
+pub check_order-requires : goal.check_order-requires
+check_order-requires c =
+    let plain = c.is_plain_head.ensures.0 c.if-not-is_plain_head.false in
+    omega (
+      arith,
+      plain.whole,
+      c.count-threads.ensures.count,
+      c.count-threads.ensures.lawful.few Thread,
+    )

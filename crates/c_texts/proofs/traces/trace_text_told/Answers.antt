@@ -61,4 +61,5 @@ returns-then-not-is_of_version c = λ text is.
     let same = same_verdict a.verdict.now c.in_ok-said.said is.verdict c.in_ok-said.ensures.says
     is.says.says in
     let of = subst (λ (v : Verdict). IsOfVersion a.version v) same is.of_version in
-    ?
+    let right = c.is_of_version.ensures.1 of in
+    let wrong = c.if-not-is_of_version.true in absurd cc

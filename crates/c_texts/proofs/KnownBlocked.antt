@@ -1,0 +1,54 @@
+-- Blocked threads that are known are those of a verdict that has a text.
+use Rattle.std.proofs.Common.{◌≡◌, ◌<◌, ◌↔◌, ℕ, List, [], ◌∷◌, length, map, All, sym, subst}
+use Rattle.std.proofs.lemmas.List.Elements.{All-nil, All-cons, All-head, All-tail, All-map}
+use Rattle.std.proofs.lemmas.List.Elements.{All-weaker}
+use Rattle.pct_ask.specs.NameLists.{NameLists}
+use Rattle.pct_ask.specs.VerdictText.{IsLine}
+use Rattle.pct_ask.specs.declared.verdict.Verdict.{Verdict}
+use Rattle.pct_ask.specs.declared.verdict.Verdict.TheVariants.{Stuck}
+use Rattle.report_text.specs.Report.{IsWritable}
+use Rattle.c_texts.specs.Known.{IsKnownPlace, AreKnownBlocked}
+
+both_known : (threads : ℕ) (places : List (ℕ × ℕ))
+    → All (λ thread. thread < threads) (map (λ (p : ℕ × ℕ). p.0) places)
+    → All (λ (p : ℕ × ℕ). IsLine p.1) places → All (IsKnownPlace threads) places
+both_known threads [] named lines = All-nil (IsKnownPlace threads)
+both_known threads (place ∷ places) named lines =
+    let low : ℕ → Type 0 = λ thread. thread < threads in
+    let line : ℕ × ℕ → Type 0 = λ p. IsLine p.1 in
+    let others = map (λ (p : ℕ × ℕ). p.0) places in
+    All-cons (IsKnownPlace threads) place places
+    (All-head low place.0 others named, All-head line place places lines)
+    (both_known threads places (All-tail low place.0 others named)
+    (All-tail line place places lines))
+
+known_one : (names : NameLists) (places : List (ℕ × ℕ))
+    → AreKnownBlocked (length names.threads) places ↔ IsWritable names (Stuck places)
+known_one names places =
+    let n = length names.threads in
+    let low : ℕ → Type 0 = λ thread. thread < n in (
+      λ known. record {
+        named =
+            All-map low (λ (p : ℕ × ℕ). p.0) places
+            (All-weaker (IsKnownPlace n) (λ (p : ℕ × ℕ). low p.0) (λ p h. h.0) places known.1);
+        whole = (
+          known.0,
+          All-weaker (IsKnownPlace n) (λ (p : ℕ × ℕ). IsLine p.1) (λ p h. h.1) places
+              known.1,
+        );
+      },
+      λ is. (is.whole.0, both_known n places is.named is.whole.1),
+    )
+
+pub known_stuck : (names : NameLists) (threads : ℕ) (places said : List (ℕ × ℕ))
+    (verdict : Verdict) → threads ≡ length names.threads → verdict ≡ Stuck places → places ≡ said
+    → AreKnownBlocked threads said ↔ IsWritable names verdict
+known_stuck names threads places said verdict e f g =
+    let one = known_one names places in (
+      λ known. subst (λ (v : Verdict). IsWritable names v) (sym f)
+          (one.0 (subst (λ (n : ℕ). AreKnownBlocked n places) e
+          (subst (λ (p : List (ℕ × ℕ)). AreKnownBlocked threads p) (sym g) known))),
+      λ is. subst (λ (p : List (ℕ × ℕ)). AreKnownBlocked threads p) g
+          (subst (λ (n : ℕ). AreKnownBlocked n places) (sym e)
+          (one.1 (subst (λ (v : Verdict). IsWritable names v) f is))),
+    )
