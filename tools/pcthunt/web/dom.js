@@ -5,6 +5,7 @@ function make(tag, attributes = {}, ...children) {
   const element = document.createElement(tag);
   for (const [name, value] of Object.entries(attributes)) {
     if (name.startsWith("on")) element.addEventListener(name.slice(2), value);
+    else if (name.startsWith("aria-")) element.setAttribute(name, String(value));
     else if (value === true) element.setAttribute(name, "");
     else if (value !== false && value !== null && value !== undefined) element.setAttribute(name, String(value));
   }
@@ -15,7 +16,7 @@ function make(tag, attributes = {}, ...children) {
 const at = (id) => document.getElementById(id);
 
 function show(id, ...children) {
-  at(id).replaceChildren(...children);
+  at(id).replaceChildren(...children.filter((child) => child !== ""));
 }
 
 /** A table with its caption, its heads, and rows of texts or elements, the first of each row being its head. */

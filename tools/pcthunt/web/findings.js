@@ -9,22 +9,27 @@ const toStep = (number, choose) =>
 /** The sentence of a heading, and what is told of it. */
 function showFailure(page, heading) {
   const { names, rounds } = page;
-  at("sentence").textContent = `${heading.sentence ?? heading.run.verdict}`;
-  const told = (heading.told ?? []).map((line) => make("p", {}, line));
-  const shares = (heading.shares ?? []).map(({ round, count }) => shareWords(rounds[round], count)).filter(Boolean);
-  if (shares.length) told.push(make("p", { class: "hint" }, `It comes in ${listed(shares)}.`));
-  const bound = heading.directive?.bound;
-  if (bound) told.push(make("p", { class: "hint" }, boundWords(heading.directive)));
   const run = heading.run;
-  told.push(make("p", { class: "hint" }, `A run of ${counted(run.steps.length, "step")}. At each, of the threads that can go the one of the highest priority goes; they are, the highest first: `,
-    `${run.order.map((name) => names.of(name)).join(", ")}. ${pointWords(run.points)} Verdict: `, make("code", {}, run.verdict), "."));
-  show("told", ...told);
-  show("again", ...(heading.again ?? []).map(commandLine));
+  at("sentence").textContent = heading.sentence ?? run.verdict;
+  const shares = (heading.shares ?? []).map(({ round, count }) => shareWords(rounds[round], count)).filter(Boolean);
+  const order = run.order.map((name) => names.of(name)).join(", ");
+  show("told",
+    heading.told?.length ? make("ul", {}, ...heading.told.map((line) => make("li", {}, line))) : "",
+    shares.length ? make("p", { class: "hint" }, `It comes in ${listed(shares)}.`) : "",
+    heading.directive?.bound ? make("p", { class: "hint" }, boundWords(heading.directive)) : "",
+    make("p", { class: "hint" }, `A run of ${counted(run.steps.length, "step")}. At each, of the threads that can go the one of the highest`,
+      ` priority goes; they are, the highest first: ${order}. ${pointWords(run.points)} Verdict: `, make("code", {}, run.verdict), "."));
+  const [first, ...others] = (heading.again ?? []).map(commandLine);
+  show("again", first ?? "",
+    others.length ? make("details", {}, make("summary", {}, counted(others.length, "more command")), ...others) : "");
 }
 
 function pointWords(points) {
-  if (!points.length) return "Nobody is put last.";
-  return `The thread of step ${listed([...points].sort((a, b) => a - b).map(String))} is put last right after it: a change point.`;
+  if (!points.length) return "There is no change point.";
+  const steps = listed([...points].sort((a, b) => a - b).map(String));
+  return points.length === 1
+    ? `The thread of step ${steps} is put last right after it: a change point.`
+    : `The threads of the steps ${steps} are put last right after them: change points.`;
 }
 
 const boundWords = ({ bound, threads, steps, depth }) =>

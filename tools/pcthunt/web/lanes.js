@@ -65,7 +65,9 @@ class Lanes {
       before = new Map(state.by("threads"));
       if (number > 0) state.put(this.run.step(number).changes);
     }
-    if (this.selected < first || this.selected > last) rows.push(this.row(this.selected, this.run.after(Math.max(0, this.selected - 1)), null));
+    if (this.selected < first || this.selected > last) {
+      rows.push(this.row(this.selected, this.run.after(Math.max(0, this.selected - 1)), null));
+    }
     this.list.replaceChildren(...rows);
     this.list.setAttribute("aria-activedescendant", `step-${this.selected}`);
   }

@@ -114,7 +114,7 @@ class Details {
     };
     const kinds = { mutexes: "mutex", rwlocks: "rwlock", sems: "sem", conds: "cond", barriers: "barrier" };
     const rows = Object.entries(said).flatMap(([member, says]) => [...this.state.by(member)].map(([name, value]) =>
-      this.line(kinds[member], name, says(value), says(this.before.by(member).get(name) ?? value))));
+      this.line(kinds[member], name, says(value), says(this.before.by(member).get(name)))));
     return rows.length ? tableOf("Who holds what", ["Object", "State"], rows) : null;
   }
 
