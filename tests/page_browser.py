@@ -121,7 +121,7 @@ class Browser:
     def __init__(self):
         options = Options()
         options.binary_location = shutil.which("chromium")
-        words = ["--headless=new", "--disable-gpu", "--window-size=1400,1000", "--disable-dev-shm-usage"]
+        words = ["--headless=new", "--disable-gpu", "--window-size=1400,1000", "--disable-dev-shm-usage", "--disable-lcd-text"]
         for word in [*words, *(["--no-sandbox"] if os.geteuid() == 0 else [])]:
             options.add_argument(word)
         options.set_capability("goog:loggingPrefs", {"browser": "ALL", "performance": "ALL"})

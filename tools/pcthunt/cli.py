@@ -16,6 +16,7 @@ from pcthunt.expected import check_expectation, expectation, is_as_expected
 from pcthunt.hunting import Hunt
 from pcthunt.machine_forms import Outcome, annotations, junit, line_of
 from pcthunt.output import BAD_SCRIPT, DONE, FOUND, USAGE, WRITE_FAULT, Refused, keep, put, read, say, shown
+from pcthunt.page import page_words, write_page
 from pcthunt.program import Program
 from pcthunt.refusals import script_refusal
 from pcthunt.why import why_words
@@ -36,7 +37,8 @@ directive that certifies it. SCRIPT may be a folder: then each of its scripts ha
 STATUS = """The status is 0 where nothing failed (of a folder: where each script came to what it should), 1 where something
 did, 2 for words that aren't taken, 3 for a script that is refused, 6 and 7 for files and output that can't be read or
 written, 8 where there is no memory, and 130 where it was interrupted before anything failed. 'pct-hunt --why run FILE ..'
-says why pct refuses these words or files, and what it wants in their place."""
+says why pct refuses these words or files, and what it wants in their place. 'pct-hunt --page DOCUMENT.json [--html FILE]'
+writes the page of a document that it or a layer for real threads wrote."""
 
 
 def number(least: int, most: int) -> Callable[[str], int]:
@@ -78,6 +80,7 @@ def parser() -> argparse.ArgumentParser:
     where.add_argument("--sshlogin", metavar="LIST", help="hands the parts to GNU parallel, for these machines")
     said = it.add_argument_group("what it says")
     said.add_argument("--json", action="store_true", dest="is_json", help="one JSON document (docs/document.md)")
+    said.add_argument("--html", metavar="FILE", help="writes a page there, too, to step through each failure")
     said.add_argument("--junit", metavar="FILE", help="writes a JUnit report there, too")
     said.add_argument("--quiet", action="store_true", dest="is_quiet", help="no lines on how far it is")
     said.add_argument("--help", action="store_true", dest="is_help", help="writes this")
@@ -111,7 +114,7 @@ def searching(words: list[str], script: str) -> list[str]:
         name = word.split("=")[0]
         has_value = "=" not in word and name not in ("--first", "--json", "--quiet")
         value = [left.pop(0)] if has_value and left else []
-        if name not in ("--jobs", "--quiet", "--json", "--junit", "--sshlogin"):
+        if name not in ("--jobs", "--quiet", "--json", "--html", "--junit", "--sshlogin"):
             rest += [word, *value]
     return rest
 
@@ -169,18 +172,21 @@ def one_script(session: Session, given: argparse.Namespace) -> int:
     result = session.hunt(given.script)
     status = FOUND if result.has_failed() else INTERRUPTED if result.why_ended == "interrupted" else DONE
     hunt = session.hunts[-1]
-    text = document_text(hunt.document(status)) if given.is_json else text_of(result)
+    document = hunt.document(status) if given.is_json or given.html else {}
+    text = document_text(document) if given.is_json else text_of(result)
     said = "; ".join(case.sentence for case in result.cases) or "nothing failed"
     line = line_of(result.cases[0].heading.best().verdict) if result.cases else 1
     outcome = Outcome(given.script, "passes", not result.has_failed(), said, line, result)
     write_forms(given, [outcome])
+    if given.html:
+        write_page(document, given.html)
     put(text + (annotations([outcome]) if is_at_github() and not given.is_json else ""))
     return status
 
 
 def folder(session: Session, given: argparse.Namespace) -> int:
-    if given.is_json:
-        raise Refused(USAGE, "--json takes one script, and not a folder")
+    if given.is_json or given.html:
+        raise Refused(USAGE, f"{'--json' if given.is_json else '--html'} takes one script, and not a folder")
     try:
         names = sorted(it for it in os.listdir(given.script) if it.endswith(".pct"))
     except OSError as error:
@@ -217,6 +223,8 @@ def is_at_github() -> bool:
 def main() -> int:
     words = sys.argv[1:]
     sys.setrecursionlimit(10000)
+    if words[:1] == ["--page"]:
+        return page_words(words[1:])
     if words[:1] == ["--why"]:
         return why_words(Program.here(), words[1:])
     if "--help" in words:

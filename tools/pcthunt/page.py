@@ -1,6 +1,8 @@
 """The page that shows a document of failing runs: one file that reads nothing else, made from the template of web/.
 
-    python3 tools/pcthunt/page.py DOCUMENT.json    writes the page"""
+    python3 tools/pcthunt/page.py DOCUMENT.json [--html FILE]
+
+writes the page, as `pct-hunt --page` does."""
 
 from __future__ import annotations
 
@@ -19,7 +21,7 @@ if __name__ == "__main__":
     sys.path[0] = os.path.dirname(os.path.dirname(os.path.realpath(__file__)))
 
 from pcthunt.document import complete
-from pcthunt.output import BAD_TRACE, READ_FAULT, USAGE, Refused, ends_well, keep, leave, put
+from pcthunt.output import BAD_TRACE, DONE, READ_FAULT, USAGE, Refused, ends_well, keep, leave, put
 
 Json = dict[str, Any]
 WEB = os.path.join(os.path.dirname(os.path.realpath(__file__)), "web")
@@ -108,12 +110,17 @@ def read_document(name: str) -> Json:
         raise Refused(BAD_TRACE, f"{name} is no document of a failing run: {error}") from None
 
 
-def main() -> int:
-    if len(sys.argv) != 2 or sys.argv[1].startswith("--"):
-        raise Refused(USAGE, "usage: page.py DOCUMENT.json")
-    put(page_of(read_document(sys.argv[1])))
-    return 0
+def page_words(words: list[str]) -> int:
+    """Writes the page of the document that the words name: on standard output, or into the file behind --html."""
+    match words:
+        case [name] if not name.startswith("--"):
+            put(page_of(read_document(name)))
+        case [name, "--html", path] if not name.startswith("--"):
+            write_page(read_document(name), path)
+        case _:
+            raise Refused(USAGE, "usage: pct-hunt --page DOCUMENT.json [--html FILE]")
+    return DONE
 
 
 if __name__ == "__main__":
-    leave(ends_well("page", main))
+    leave(ends_well("page", lambda: page_words(sys.argv[1:])))

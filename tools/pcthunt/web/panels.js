@@ -135,13 +135,15 @@ class Details {
     const rows = [...this.state.by("threads")].map(([name, told]) => {
       const was = this.before.thread(name);
       const next = told.ask ? `line ${told.line}: ${told.ask}` : "";
-      return this.line("thread", name, this.stands(told), this.stands(was), next, String(told.rank ?? ""));
+      return this.line("thread", name, this.stands(name, told), this.stands(name, was), next, String(told.rank ?? ""));
     });
     return rows.length ? tableOf("Threads", ["Thread", "State", "Next", "Priority"], rows) : null;
   }
 
-  stands(told) {
-    const words = { enabled: "can go", held: "isn't started", ended: "has ended", unknown: "isn't known" };
+  stands(name, told) {
+    const last = this.run.step(this.run.length);
+    const fails = this.run.endsByStep && this.number === this.run.length && last.thread === name;
+    const words = { enabled: "can go", held: "isn't started", ended: "has ended", unknown: fails ? "has failed" : "isn't known" };
     return told.is === "blocked" ? `waits for ${told.for}` : words[told.is] ?? told.is;
   }
 }

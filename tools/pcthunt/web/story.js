@@ -34,8 +34,10 @@ class Story {
     return false;
   }
 
+  /** The last sentence; and who waits for what at the end, where the heading doesn't tell it. */
   tellEnd() {
-    const waits = (this.heading.run.core ?? []).map((wait) => {
+    const core = this.heading.told?.length ? [] : this.heading.run.core ?? [];
+    const waits = core.map((wait) => {
       const since = wait.since ? `, since step ${wait.since}` : "";
       return make("li", {}, `${this.names.of(wait.thread)}, in line ${wait.line}, waits for ${wait.waits}${since}`);
     });
