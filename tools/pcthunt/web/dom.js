@@ -4,10 +4,14 @@
 function make(tag, attributes = {}, ...children) {
   const element = document.createElement(tag);
   for (const [name, value] of Object.entries(attributes)) {
-    if (name.startsWith("on")) element.addEventListener(name.slice(2), value);
-    else if (name.startsWith("aria-")) element.setAttribute(name, String(value));
-    else if (value === true) element.setAttribute(name, "");
-    else if (value !== false && value !== null && value !== undefined) element.setAttribute(name, String(value));
+    if (name.startsWith("on"))
+      element.addEventListener(name.slice(2), value);
+    else if (name.startsWith("aria-"))
+      element.setAttribute(name, String(value));
+    else if (value === true)
+      element.setAttribute(name, "");
+    else if (value !== false && value !== null && value !== undefined)
+      element.setAttribute(name, String(value));
   }
   element.append(...children.filter((child) => child !== null && child !== undefined && child !== ""));
   return element;
@@ -21,17 +25,18 @@ function show(id, ...children) {
 
 /** A table with its caption, its heads, and rows of texts or elements, the first of each row being its head. */
 function tableOf(caption, heads, rows) {
-  const cells = ([first, ...rest]) => [make("th", { scope: "row" }, first), ...rest.map((cell) => make("td", {}, cell))];
-  return make("table", {},
-    make("caption", {}, caption),
-    make("thead", {}, make("tr", {}, ...heads.map((head) => make("th", { scope: "col" }, head)))),
-    make("tbody", {}, ...rows.map((row) => make("tr", row.attributes ?? {}, ...cells(row.cells)))));
+  const cells =
+      ([first, ...rest]) => [make("th", {scope: "row"}, first), ...rest.map((cell) => make("td", {}, cell))];
+  return make(
+      "table", {}, make("caption", {}, caption),
+      make("thead", {}, make("tr", {}, ...heads.map((head) => make("th", {scope: "col"}, head)))),
+      make("tbody", {}, ...rows.map((row) => make("tr", row.attributes ?? {}, ...cells(row.cells)))));
 }
 
 /** A list of at most so many items, and a button for the others. */
 function listOf(items, most, draw) {
   const list = make("ul");
-  const more = make("button", { type: "button" });
+  const more = make("button", {type: "button"});
   let shown = 0;
   const grow = () => {
     list.append(...items.slice(shown, shown + most).map((item) => make("li", {}, ...draw(item))));
@@ -50,7 +55,7 @@ async function copyText(text) {
     await navigator.clipboard.writeText(text);
     return true;
   } catch {
-    const area = make("textarea", { readonly: true, class: "unseen", "aria-hidden": true });
+    const area = make("textarea", {readonly: true, class: "unseen", "aria-hidden": true});
     area.value = text;
     document.body.append(area);
     area.select();

@@ -1,6 +1,6 @@
 // The page: which failure and which step is shown, by keys, buttons and the address.
 
-const ADDRESS_DELAY = 150; // milliseconds: the address follows when the steps rest
+const ADDRESS_DELAY = 150;  // milliseconds: the address follows when the steps rest
 
 class Page {
   constructor(found) {
@@ -37,16 +37,25 @@ class Page {
   }
 
   drawGroups() {
-    const { headings } = this.found;
+    const {headings} = this.found;
     at("groups").hidden = headings.length < 2;
-    at("groups").firstElementChild.replaceChildren(...headings.map((heading, index) =>
-      make("li", {}, make("a", { href: `#group=${index + 1}&step=0` }, heading.sentence ?? heading.run.verdict))));
+    at("groups").firstElementChild.replaceChildren(...headings.map(
+        (heading, index) => make(
+            "li", {}, make("a", {href: `#group=${index + 1}&step=0`}, heading.sentence ?? heading.run.verdict))));
   }
 
   drawLegend() {
-    const signs = [["box", "a step"], ["free", "can go on"], ["waits", "waits"], ["releases", "can go after the step"], ["wakes", "is woken, and still waits"]];
-    const kinds = this.marks.kinds().map((kind) => make("li", {}, make("b", { class: `sign ${kind}` }, SIGNS[kind].short), ` ${SIGNS[kind].long}`));
-    show("legend", ...signs.map(([sign, says]) => make("li", {}, make("span", { class: `key ${sign}`, "aria-hidden": "true" }), says)), ...kinds);
+    const signs = [
+      ["box", "a step"], ["free", "can go on"], ["waits", "waits"], ["releases", "can go after the step"],
+      ["wakes", "is woken, and still waits"]
+    ];
+    const kinds = this.marks.kinds().map(
+        (kind) => make("li", {}, make("b", {class: `sign ${kind}`}, SIGNS[kind].short), ` ${SIGNS[kind].long}`));
+    show(
+        "legend",
+        ...signs.map(
+            ([sign, says]) => make("li", {}, make("span", {class: `key ${sign}`, "aria-hidden": "true"}), says)),
+        ...kinds);
   }
 
   /** The failure and the step that the address names; without a step, where to begin. */
@@ -67,10 +76,11 @@ class Page {
     if (!this.opened.has(group)) {
       const run = new Run(heading.run);
       run.threads = this.threads;
-      this.opened.set(group, { run, marks: new Marks(heading, run, this.names) });
+      this.opened.set(group, {run, marks: new Marks(heading, run, this.names)});
     }
     Object.assign(this, this.opened.get(group));
-    at("groups").querySelectorAll("a").forEach((link, index) => link.toggleAttribute("aria-current", index === group));
+    at("groups").querySelectorAll("a").forEach(
+        (link, index) => link.toggleAttribute("aria-current", index === group));
     at("slider").max = this.run.length;
     showFailure(this, heading);
     this.lanes.open(this.run, this.marks, this.names);
@@ -89,13 +99,14 @@ class Page {
     this.story.select(this.number);
     this.tell(step);
     this.keepAddress();
-    if (isSeen) at("stage").scrollIntoView({ block: "start" });
+    if (isSeen) at("stage").scrollIntoView({block: "start"});
   }
 
   /** Says the step beside the slider and to who listens. */
   tell(step) {
     const where = `Step ${this.number} of ${this.run.length}`;
-    const says = step ? `${this.names.of(step.thread)} ${phraseOf(step, this.details.before, this.names)}` : "before the first step";
+    const says = step ? `${this.names.of(step.thread)} ${phraseOf(step, this.details.before, this.names)}` :
+                        "before the first step";
     const slider = at("slider");
     slider.value = this.number;
     slider.setAttribute("aria-valuetext", `${where}: ${says}`);
@@ -108,11 +119,13 @@ class Page {
 
   keepAddress() {
     clearTimeout(this.timer);
-    this.timer = setTimeout(() => history.replaceState(null, "", `#group=${this.group + 1}&step=${this.number}`), ADDRESS_DELAY);
+    this.timer = setTimeout(
+        () => history.replaceState(null, "", `#group=${this.group + 1}&step=${this.number}`), ADDRESS_DELAY);
   }
 
   listen() {
-    const moves = { first: () => 0, previous: () => this.number - 1, next: () => this.number + 1, last: () => this.run.length };
+    const moves =
+        {first: () => 0, previous: () => this.number - 1, next: () => this.number + 1, last: () => this.run.length};
     for (const [id, to] of Object.entries(moves)) at(id).addEventListener("click", () => this.select(to()));
     at("slider").addEventListener("input", () => this.select(Number(at("slider").value)));
     window.addEventListener("hashchange", () => this.goToAddress());
@@ -129,12 +142,19 @@ class Page {
   }
 
   /** The step to which a key goes, or null where it has another meaning there. */
-  placeOf({ key, target }, isInLanes) {
-    const by = { ArrowRight: 1, ArrowLeft: -1 };
+  placeOf({key, target}, isInLanes) {
+    const by = {ArrowRight: 1, ArrowLeft: -1};
     if (target.id !== "slider" && Object.hasOwn(by, key)) return this.number + by[key];
     if (at("letters").checked && (key === "j" || key === "k")) return this.number + (key === "j" ? 1 : -1);
     const page = Math.max(1, Math.floor(this.lanes.box.clientHeight / this.lanes.height) - 2);
-    const places = { ArrowDown: this.number + 1, ArrowUp: this.number - 1, PageDown: this.number + page, PageUp: this.number - page, Home: 0, End: this.run.length };
+    const places = {
+      ArrowDown: this.number + 1,
+      ArrowUp: this.number - 1,
+      PageDown: this.number + page,
+      PageUp: this.number - page,
+      Home: 0,
+      End: this.run.length
+    };
     return isInLanes && Object.hasOwn(places, key) ? places[key] : null;
   }
 }

@@ -1,16 +1,16 @@
 // What is to be said of single steps: the failing one, change points, races, cycles of locks, moments of directives.
 
-const MOST_RACES = 500; // so many races are marked
+const MOST_RACES = 500;  // so many races are marked
 
 // By kind of mark its sign in a lane, and in words.
 const SIGNS = {
-  failing: { short: "!", long: "fails" },
-  cut: { short: "!", long: "cut" },
-  lowered: { short: "\u25bc", long: "put last" },
-  race: { short: "R", long: "race" },
-  cycle: { short: "L", long: "lock cycle" },
-  core: { short: "H", long: "held to the end" },
-  moment: { short: "M", long: "moment" },
+  failing: {short: "!", long: "fails"},
+  cut: {short: "!", long: "cut"},
+  lowered: {short: "\u25bc", long: "put last"},
+  race: {short: "R", long: "race"},
+  cycle: {short: "L", long: "lock cycle"},
+  core: {short: "H", long: "held to the end"},
+  moment: {short: "M", long: "moment"},
 };
 
 /** By step a list of marks {kind, text}. */
@@ -35,7 +35,7 @@ class Marks {
   put(number, kind, text) {
     if (!(number >= 1 && number <= this.run.length)) return;
     if (!this.byStep.has(number)) this.byStep.set(number, []);
-    this.byStep.get(number).push({ kind, text });
+    this.byStep.get(number).push({kind, text});
   }
 
   /** The kinds of marks that are there. */
@@ -51,20 +51,24 @@ class Marks {
 
   markEnd() {
     if (this.run.endsByStep) this.put(this.run.length, "failing", "The run fails at this step.");
-    if (this.run.kind === "cut") this.put(this.run.length, "cut", "The run is cut after this step: its limit is reached.");
+    if (this.run.kind === "cut")
+      this.put(this.run.length, "cut", "The run is cut after this step: its limit is reached.");
   }
 
   markLowered() {
     this.run.steps.forEach((step, index) => {
       if (step.lowered !== undefined) {
-        this.put(index + 1, "lowered",
-          `Change point: ${this.names.of(step.thread)} gets a lower priority right after this step, and waits until none of the others can go.`);
+        this.put(
+            index + 1, "lowered",
+            `Change point: ${
+                this.names.of(
+                    step.thread)} gets a lower priority right after this step, and waits until none of the others can go.`);
       }
     });
   }
 
   markRaces() {
-    for (const { var: name, first, second } of (this.heading.races ?? []).slice(0, MOST_RACES)) {
+    for (const {var : name, first, second} of (this.heading.races ?? []).slice(0, MOST_RACES)) {
       const what = this.names.of(name);
       this.put(first, "race", `Data race on ${what} with ${this.told(second)}: nothing orders the two.`);
       this.put(second, "race", `Data race on ${what} with ${this.told(first)}: nothing orders the two.`);
@@ -80,8 +84,9 @@ class Marks {
   markCore() {
     for (const wait of this.heading.run.core ?? []) {
       if (wait.since !== null && wait.since !== undefined) {
-        this.put(wait.since, "core",
-          `What ${this.names.of(wait.for)} takes here, ${this.names.of(wait.thread)} waits for at the end.`);
+        this.put(
+            wait.since, "core",
+            `What ${this.names.of(wait.for)} takes here, ${this.names.of(wait.thread)} waits for at the end.`);
       }
     }
   }
@@ -99,7 +104,7 @@ class Marks {
 }
 
 const nestWords = (nest, names) =>
-  `${names.of(nest.thread)} takes ${names.of(nest.taken)} while it holds ${names.of(nest.held)}`;
+    `${names.of(nest.thread)} takes ${names.of(nest.taken)} while it holds ${names.of(nest.held)}`;
 
 const momentWords = (moment, names) =>
-  `${names.of(moment.thread)} is put last right after its own step ${moment.number}`;
+    `${names.of(moment.thread)} is put last right after its own step ${moment.number}`;

@@ -1,6 +1,6 @@
 // The states of a run: that before the first step, and what each step changes.
 
-const STRIDE = 256; // so many steps lie between two states that are kept whole
+const STRIDE = 256;  // so many steps lie between two states that are kept whole
 
 const entriesOf = (record) => Object.entries(record ?? {});
 
@@ -31,7 +31,7 @@ class State {
   }
 
   thread(name) {
-    return this.by("threads").get(name) ?? { is: "unknown" };
+    return this.by("threads").get(name) ?? {is: "unknown"};
   }
 
   enabled() {
@@ -81,8 +81,10 @@ class Run {
     const found = [];
     this.steps.forEach((step, index) => {
       const last = found[found.length - 1];
-      if (last && last.thread === step.thread) last.last = index + 1;
-      else found.push({ thread: step.thread, first: index + 1, last: index + 1 });
+      if (last && last.thread === step.thread)
+        last.last = index + 1;
+      else
+        found.push({thread: step.thread, first: index + 1, last: index + 1});
     });
     return found;
   }

@@ -1,22 +1,22 @@
 // The story: a sentence for each stretch of steps that one thread takes in a row.
 
-const MOST_BLOCKS = 120; // so many are there at once
-const MOST_PHRASES = 4; // so many steps does a sentence tell
-const MOST_STEPS = 12; // so many steps has an open stretch before it leaves some out
+const MOST_BLOCKS = 120;  // so many are there at once
+const MOST_PHRASES = 4;   // so many steps does a sentence tell
+const MOST_STEPS = 12;    // so many steps has an open stretch before it leaves some out
 
 class Story {
   constructor(box, choose) {
     this.box = box;
     this.choose = choose;
-    this.list = make("ol", { class: "blocks" });
-    this.earlier = make("button", { type: "button", onclick: () => this.turn(-1) }, "Earlier steps");
-    this.later = make("button", { type: "button", onclick: () => this.turn(1) }, "Later steps");
-    this.end = make("p", { class: "verdict" });
+    this.list = make("ol", {class: "blocks"});
+    this.earlier = make("button", {type: "button", onclick: () => this.turn(-1)}, "Earlier steps");
+    this.later = make("button", {type: "button", onclick: () => this.turn(1)}, "Later steps");
+    this.end = make("p", {class: "verdict"});
     box.replaceChildren(this.earlier, this.list, this.later, this.end);
   }
 
   open(run, marks, names, heading) {
-    Object.assign(this, { run, marks, names, heading, selected: 0, low: 0 });
+    Object.assign(this, {run, marks, names, heading, selected: 0, low: 0});
     this.blocks = run.blocks();
     this.opened = new Set();
     this.blocks.forEach((block, index) => {
@@ -43,7 +43,7 @@ class Story {
     });
     this.end.replaceChildren(make("b", {}, "The end: "), `${this.heading.sentence ?? this.heading.run.verdict}.`);
     this.box.querySelector(".waits")?.remove();
-    if (waits.length) this.end.after(make("ul", { class: "waits" }, ...waits));
+    if (waits.length) this.end.after(make("ul", {class: "waits"}, ...waits));
   }
 
   turn(by) {
@@ -57,8 +57,10 @@ class Story {
     let [low, high] = [0, this.blocks.length - 1];
     while (low < high) {
       const middle = (low + high) >> 1;
-      if (this.blocks[middle].last < number) low = middle + 1;
-      else high = middle;
+      if (this.blocks[middle].last < number)
+        low = middle + 1;
+      else
+        high = middle;
     }
     return low;
   }
@@ -95,17 +97,22 @@ class Story {
     for (let number = block.first; number <= block.last; number += 1) {
       for (const mark of this.marks.of(number)) kinds.add(mark.kind);
     }
-    const tags = [...kinds].map((kind) => make("b", { class: `sign ${kind}` }, SIGNS[kind].long));
-    const details = make("details", { open: this.opened.has(index) },
-      make("summary", {}, make("span", { class: "range" }, range), make("span", { class: "says" }, this.sentence(block)), ...tags));
+    const tags = [...kinds].map((kind) => make("b", {class: `sign ${kind}`}, SIGNS[kind].long));
+    const details = make(
+        "details", {open: this.opened.has(index)},
+        make(
+            "summary", {}, make("span", {class: "range"}, range), make("span", {class: "says"}, this.sentence(block)),
+            ...tags));
     if (details.open) details.append(this.stepsOf(block));
     details.addEventListener("toggle", () => {
-      if (details.open) this.opened.add(index);
-      else this.opened.delete(index);
+      if (details.open)
+        this.opened.add(index);
+      else
+        this.opened.delete(index);
       if (details.open && details.children.length === 1) details.append(this.stepsOf(block));
       this.light();
     });
-    return make("li", { "data-block": index }, details);
+    return make("li", {"data-block": index}, details);
   }
 
   /** The block in one sentence. */
@@ -118,7 +125,9 @@ class Story {
     if (step.lowered !== undefined && !stands) phrases.push(loweredWords(block.thread, after, this.names));
     if (stands) phrases.push(stands);
     const most = phrases.length > 2 ? "; " : "";
-    const joined = phrases.length > 1 ? `${phrases.slice(0, -1).join("; ")}${most || ", "}and ${phrases[phrases.length - 1]}` : phrases[0];
+    const joined = phrases.length > 1 ?
+        `${phrases.slice(0, -1).join("; ")}${most || ", "}and ${phrases[phrases.length - 1]}` :
+        phrases[0];
     return `${this.names.of(block.thread)} ${joined}.`;
   }
 
@@ -138,15 +147,19 @@ class Story {
     return phrases;
   }
 
-  /** The steps of an open block: of many the first, the last and those that are marked, and buttons for the others. */
+  /**
+   * The steps of an open block: of many the first, the last and those that are marked, and buttons for the others.
+   */
   stepsOf(block) {
-    const list = make("ol", { class: "steps" });
+    const list = make("ol", {class: "steps"});
     const many = block.last - block.first + 1;
-    const isShown = (number) => many <= MOST_STEPS || number === block.first || number === block.last || this.marks.of(number).length;
+    const isShown = (number) =>
+        many <= MOST_STEPS || number === block.first || number === block.last || this.marks.of(number).length;
     let hiddenFrom = 0;
     for (let number = block.first; number <= block.last + 1; number += 1) {
       const isLeft = number <= block.last && !isShown(number);
-      if (isLeft) hiddenFrom = hiddenFrom || number;
+      if (isLeft)
+        hiddenFrom = hiddenFrom || number;
       else if (hiddenFrom) {
         list.append(this.gap(hiddenFrom, number - 1));
         hiddenFrom = 0;
@@ -157,7 +170,7 @@ class Story {
   }
 
   gap(first, last) {
-    const item = make("li", { class: "gap" });
+    const item = make("li", {class: "gap"});
     const open = () => {
       const until = Math.min(last, first + 199);
       const items = [];
@@ -165,7 +178,7 @@ class Story {
       item.replaceWith(...items, ...(until < last ? [this.gap(until + 1, last)] : []));
       items[0].querySelector("button").focus();
     };
-    item.append(make("button", { type: "button", onclick: open }, `${counted(last - first + 1, "step")} between`));
+    item.append(make("button", {type: "button", onclick: open}, `${counted(last - first + 1, "step")} between`));
     return item;
   }
 
@@ -173,10 +186,13 @@ class Story {
     const step = this.run.step(number);
     const says = phraseOf(step, this.run.after(number - 1), this.names);
     const text = step.text || step.ask;
-    return make("li", {},
-      make("button", { type: "button", "data-step": number, onclick: () => this.choose(number) },
-        make("span", { class: "range" }, `${number}`), `line ${step.line}: `, make("code", {}, text), ` \u2014 ${says}`),
-      isFirst && step.why ? make("span", { class: "why" }, `Why ${this.names.of(step.thread)}: ${step.why}.`) : "",
-      ...this.marks.of(number).map((mark) => make("span", { class: `told ${mark.kind}` }, mark.text)));
+    return make(
+        "li", {},
+        make(
+            "button", {type: "button", "data-step": number, onclick: () => this.choose(number)},
+            make("span", {class: "range"}, `${number}`), `line ${step.line}: `, make("code", {}, text),
+            ` \u2014 ${says}`),
+        isFirst && step.why ? make("span", {class: "why"}, `Why ${this.names.of(step.thread)}: ${step.why}.`) : "",
+        ...this.marks.of(number).map((mark) => make("span", {class: `told ${mark.kind}`}, mark.text)));
   }
 }

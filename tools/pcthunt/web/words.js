@@ -28,9 +28,10 @@ const VERBS = {
   write: ([name, value]) => `writes ${value} to ${name}`,
   add: ([name, value], answer) => `adds ${value} to ${name}, which was ${answer}`,
   cas: ([name, old, value], answer) =>
-    answer === "0" ? `finds that ${name} isn't ${old}, and leaves it` : `changes ${name} from ${old} to ${value}`,
+      answer === "0" ? `finds that ${name} isn't ${old}, and leaves it` : `changes ${name} from ${old} to ${value}`,
   lock: ([name]) => `takes ${name}`,
-  trylock: ([name], answer) => (answer === "0" ? `tries to take ${name}, in vain` : `tries to take ${name}, and has it`),
+  trylock: ([name], answer) =>
+      (answer === "0" ? `tries to take ${name}, in vain` : `tries to take ${name}, and has it`),
   unlock: ([name]) => `gives ${name} back`,
   release: ([name, mutex]) => `gives ${mutex} back and begins to wait on ${name}`,
   regain: ([name, mutex]) => `goes on from its wait on ${name}, and has ${mutex} again`,
@@ -38,7 +39,7 @@ const VERBS = {
   broadcast: ([name], _, woken) => `broadcasts ${name}, ${woken || "for which nobody waits"}`,
   down: ([name]) => `takes one from ${name}`,
   trydown: ([name], answer) =>
-    answer === "0" ? `tries to take one from ${name}, in vain` : `tries to take one from ${name}, and has it`,
+      answer === "0" ? `tries to take one from ${name}, in vain` : `tries to take one from ${name}, and has it`,
   up: ([name]) => `adds one to ${name}`,
   arrive: ([name]) => `arrives at ${name}`,
   leave: ([name], answer) => (answer === "0" ? `leaves ${name}` : `leaves ${name} as its serial thread`),
@@ -47,12 +48,12 @@ const VERBS = {
   begin: () => "begins",
   yield: () => "yields",
   check: ([holds]) => (holds === "0" ? "finds that its assertion fails" : "finds its assertion true"),
-  fault: ([kind]) =>
-    ({
-      overflow: "can't go on: a result is out of range",
-      zerodivisor: "can't go on: a divisor is 0",
-      spin: "can't go on: it makes 10,000 moves without a step",
-    })[kind] ?? `can't go on: ${kind}`,
+  fault: ([kind]) => ({
+                       overflow: "can't go on: a result is out of range",
+                       zerodivisor: "can't go on: a divisor is 0",
+                       spin: "can't go on: it makes 10,000 moves without a step",
+                     })[kind] ??
+      `can't go on: ${kind}`,
   rdlock: ([name]) => `takes ${name} to read`,
   wrlock: ([name]) => `takes ${name} to write`,
   tryrdlock: ([name], answer) => `tries to take ${name} to read, ${answer === "0" ? "in vain" : "and has it"}`,
@@ -61,13 +62,15 @@ const VERBS = {
 };
 
 // The asks whose answer tells something.
-const ANSWERED = new Set(["read", "add", "cas", "trylock", "signal", "broadcast", "trydown", "leave", "tryrdlock", "trywrlock"]);
+const ANSWERED =
+    new Set(["read", "add", "cas", "trylock", "signal", "broadcast", "trydown", "leave", "tryrdlock", "trywrlock"]);
 
 /** What a step does, in words, without its thread. */
 function phraseOf(step, before, names) {
   const [word, ...operands] = step.ask.split(" ");
   const verb = Object.hasOwn(VERBS, word) ? VERBS[word] : () => `does ${step.ask}, ${step.answer}`;
-  return verb(operands.map((operand) => names.of(operand)), step.answer, wokenBy(word, operands, step, before, names));
+  return verb(
+      operands.map((operand) => names.of(operand)), step.answer, wokenBy(word, operands, step, before, names));
 }
 
 /** Whom a signal or a broadcast wakes, in words. */
@@ -86,7 +89,8 @@ function labelOf(step) {
 /** How a thread that a change point lowers now stands, in words. */
 function loweredWords(thread, after, names) {
   const own = after.thread(thread).rank;
-  const below = [...after.by("threads")].filter(([, told]) => told.rank < own && told.is !== "ended").map(([name]) => name);
+  const below =
+      [...after.by("threads")].filter(([, told]) => told.rank < own && told.is !== "ended").map(([name]) => name);
   return below.length ? `is put below all but ${names.all(below)}` : "is put last";
 }
 
