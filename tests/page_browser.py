@@ -25,6 +25,15 @@ for (const kind of arguments[0]) {
     if (row.classList.contains("changed")) found.changed.push(name);
   }
 }
+// The lanes, from 0, over whose middles an arrow's line begins and ends, the latter where its head is.
+const ends = (arrow, row) => {
+  const box = arrow.getBoundingClientRect(), isRight = arrow.classList.contains("right");
+  const lane = (x) => [...row.querySelectorAll(".lane")].findIndex((it) => {
+    const around = it.getBoundingClientRect();
+    return Math.abs((around.left + around.right) / 2 - x) < 3;
+  });
+  return isRight ? [lane(box.left), lane(box.right)] : [lane(box.right), lane(box.left)];
+};
 const part = (name) => [...document.querySelectorAll(`#details [data-part=${name}]`)].map((it) => it.textContent);
 const row = document.querySelector('#steps [aria-selected="true"]');
 const line = document.querySelector('#source [aria-current="step"]');
@@ -36,6 +45,8 @@ return { ...found, enabled: part("enabled")[0] ?? "", why: part("why")[0] ?? "",
   active: document.getElementById("steps").getAttribute("aria-activedescendant"), id: row.id,
   isSeen: place.top >= box.top - 1 && place.bottom <= box.bottom + 1,
   arrows: [...row.querySelectorAll(".arrow")].map((it) => [it.dataset.to, it.classList.contains("wakes")]),
+  ends: [...row.querySelectorAll(".arrow")].map((it) => ends(it, row)),
+  lanes: [...row.querySelectorAll(".lane")].map((it) => it.classList[1]),
   says: document.querySelector("#details .says").textContent };
 """
 STORY = """

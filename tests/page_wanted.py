@@ -58,6 +58,10 @@ def wrong_state(told, run, number):
         wrong.append("place")
     if not told["value"].startswith(place) or not told["isSeen"]:
         wrong.append("row")
+    own = run.steps[number - 1].thread if number else None
+    lanes = ["takes" if name == own else stand and stand[0] for name, stand in before.stands.items()]
+    if any(wanted not in (None, drawn) for wanted, drawn in zip(lanes, told["lanes"], strict=True)):
+        wrong.append("lanes")
     return wrong + (wrong_step(told, run, number) if number else [])
 
 
@@ -79,6 +83,9 @@ def wrong_step(told, run, number):
     arrows = {(name, name in woken) for name in released | woken}
     if {(name, is_woken) for name, is_woken in told["arrows"] if after.stands[name] is not None} != arrows:
         wrong.append("arrows")
+    places = list(run.threads)
+    if told["ends"] != [[places.index(step.thread), places.index(name)] for name, _ in told["arrows"]]:
+        wrong.append("ends of arrows")
     if told["line"] != step.line or f"line {step.line}: {step.thread} " not in told["label"]:
         wrong.append("line")
     if max(before.enabled(), key=ranks.get) != step.thread:
