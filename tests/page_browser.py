@@ -6,6 +6,7 @@ import shutil
 import time
 
 from selenium import webdriver
+from selenium.common.exceptions import WebDriverException
 from selenium.webdriver.chrome.options import Options
 from selenium.webdriver.chrome.service import Service
 from selenium.webdriver.common.action_chains import ActionChains
@@ -124,6 +125,9 @@ NAMED_ROLES = {"button", "link", "slider", "checkbox", "listbox", "option", "reg
                "DisclosureTriangle"}
 
 
+MOST_SECONDS = 120  # that the browser may take for an answer
+
+
 def is_there():
     return bool(shutil.which("chromium") and shutil.which("chromedriver"))
 
@@ -137,20 +141,35 @@ class Browser:
             options.add_argument(word)
         options.set_capability("goog:loggingPrefs", {"browser": "ALL", "performance": "ALL"})
         self.driver = webdriver.Chrome(options=options, service=Service(shutil.which("chromedriver")))
-        self.driver.set_script_timeout(60)
+        self.driver.set_script_timeout(MOST_SECONDS)
+        self.driver.set_page_load_timeout(MOST_SECONDS)
 
     def close(self):
         self.driver.quit()
+
+    def processor_seconds(self):
+        """The processor time of the browser so far, which is the same on a busy machine."""
+        children, times = {}, {}
+        for number in filter(str.isdecimal, os.listdir("/proc")):
+            try:
+                with open(f"/proc/{number}/stat", encoding="utf-8", errors="replace") as file:
+                    words = file.read().rpartition(")")[2].split()
+            except OSError:  # it has ended
+                continue
+            children.setdefault(int(words[1]), []).append(int(number))
+            times[int(number)] = int(words[11]) + int(words[12])
+        found = [self.driver.service.process.pid]
+        for process in found:
+            found += children.get(process, [])
+        return sum(times.get(process, 0) for process in found) / os.sysconf("SC_CLK_TCK")
 
     def command(self, name, **words):
         return self.driver.execute_cdp_cmd(name, words)
 
     def open(self, path, address=""):
-        """Opens the page anew, and answers how many seconds that took."""
+        """Opens the page anew."""
         self.driver.get("about:blank")
-        begun = time.monotonic()
         self.driver.get(f"file://{path.replace('%', '%25').replace('#', '%23').replace('?', '%3f')}{address}")
-        return time.monotonic() - begun
 
     def run(self, script, *words):
         return self.driver.execute_script(script, *words)
