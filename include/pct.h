@@ -223,9 +223,9 @@ typedef struct PctHead {
     uint32_t status;
     uint32_t version;
     uint32_t limit;
-    uint32_t threads;
-    uint32_t points;
-    uint32_t steps;
+    uint64_t threads;
+    uint64_t points;
+    uint64_t steps;
 } PctHead;
 
 /* A directive: this thread lowest, these moments, this verdict. */
@@ -351,12 +351,14 @@ uint32_t pct_book_outcome(PctBook *book, PctOutcome *outcome);
 /* --- Texts --- */
 
 /* Names are one text of lines KIND NAME, each ended by a line feed: thread, var, mutex, cond, sem,
-   barrier or rwlock, and a name of 1 to 32 letters, digits and _ that begins with a letter. Those of a
-   kind stand in the order of their numbers; no two of any kind are the same. Lines of steps and verdicts are 1 to 4096
-   here. A text goes to `text` where it has room for it; the count is its bytes. PCT_DONE, PCT_NO_ROOM,
-   PCT_BAD, PCT_NO_MEMORY. */
+   barrier or rwlock, and a name of 1 to 32 letters, digits and _ that begins with no digit and is neither
+   a keyword of test scripts of version 1 nor a register, r0 to r15. Those of a kind stand in the order of
+   their numbers, at most 64 of each; no two of any kind are the same. Lines of steps and verdicts are 1
+   to 4096 here, and a verdict of a stuck run has somebody blocked. A text goes to `text` where it has
+   room for it; the count is its bytes. PCT_DONE, PCT_NO_ROOM, PCT_BAD, PCT_NO_MEMORY. */
 
-/* A trace file of a run by an order and change points (each 1 to 100000). */
+/* A trace file of a run by an order of all threads that have names, of which there is at least one, and
+   at most 7 change points (each 1 to 100000), of at most `limit` steps (1 to 100000). */
 PctCount pct_text_trace(const uint8_t *names, size_t name_bytes, uint32_t version, uint32_t limit,
                         const uint32_t *order, size_t order_count, const uint32_t *points, size_t point_count,
                         const PctEvent *steps, size_t step_count, const PctOutcome *verdict,
@@ -407,8 +409,8 @@ uint32_t pct_tell_version(void);
 PctCount pct_tell_moments(const PctEvent *steps, size_t step_count, const uint32_t *points, size_t point_count,
                           PctMoment *moments, size_t room);
 
-/* The change points that stand for moments in a run's steps: a moment that doesn't occur is `most`. `points` has
-   as many places as there are moments, at most 7. PCT_DONE, PCT_BAD, PCT_NO_MEMORY. */
+/* The change points that stand for moments in a run's steps: a moment that doesn't occur is `most`, 1 to
+   100000. `points` has as many places as there are moments, at most 7. PCT_DONE, PCT_BAD, PCT_NO_MEMORY. */
 uint32_t pct_tell_points(const PctEvent *steps, size_t step_count, uint32_t most, const PctMoment *moments, size_t moment_count,
                          uint32_t *points, size_t point_count);
 
@@ -423,7 +425,8 @@ uint32_t pct_tell_order(uint32_t threads, uint32_t low, uint32_t place, uint32_t
    certified directive gives its verdict at least once: threads * steps^points. PCT_DONE, PCT_BAD. */
 PctBound pct_tell_bound(uint32_t threads, uint32_t steps, uint32_t points);
 
-/* The data races of a run's steps, by happens-before. PCT_DONE, PCT_NO_ROOM, PCT_BAD, PCT_NO_MEMORY. */
+/* The data races of a run's steps, by happens-before: at most one for each variable. PCT_DONE, PCT_NO_ROOM,
+   PCT_BAD, PCT_NO_MEMORY. */
 PctCount pct_tell_races(const PctDeal *deal, const int64_t *variables, size_t variable_count, const int64_t *semaphores,
                         size_t semaphore_count, const int64_t *barriers, size_t barrier_count,
                         const PctEvent *steps, size_t step_count, PctRace *races, size_t room);

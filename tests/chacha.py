@@ -1,32 +1,16 @@
 #!/usr/bin/env python3
-"""The words of a seed, by a block function of its own: RFC 8439's, with the number of rounds as an argument, a 64-bit
-block counter and a 64-bit stream number. It stands apart from the crates. The words, orders and points that the tests of
-`priority_draw` compare with are typed from what it prints. It checks itself first, by the RFC's block of 20 rounds."""
+"""Prints the words, the order and the points of some seeds by the block function of tools/pctmodel/chacha.py, which stands
+apart from the crates. The words, orders and points that the tests of `priority_draw` compare with are typed from what it
+prints. It checks the function first, by RFC 8439's block of 20 rounds."""
 
 import itertools
+import os
+import sys
 
+sys.dont_write_bytecode = True
+sys.path.insert(0, os.path.join(os.path.dirname(os.path.dirname(os.path.realpath(__file__))), "tools"))
 
-def rotated(word, count):
-    return (word << count | word >> (32 - count)) & 0xFFFFFFFF
-
-
-def quarter(state, a, b, c, d):
-    for left, right, target, count in ((a, b, d, 16), (c, d, b, 12), (a, b, d, 8), (c, d, b, 7)):
-        state[left] = (state[left] + state[right]) & 0xFFFFFFFF
-        state[target] = rotated(state[target] ^ state[left], count)
-
-
-def block(key, last_words, rounds):
-    start = [int.from_bytes(b"expand 32-byte k"[4 * i : 4 * i + 4], "little") for i in range(4)]
-    start += [int.from_bytes(key[4 * i : 4 * i + 4], "little") for i in range(8)]
-    start += last_words
-    state = list(start)
-    for _ in range(rounds // 2):
-        for column in range(4):
-            quarter(state, column, column + 4, column + 8, column + 12)
-        for column in range(4):
-            quarter(state, column, (column + 1) % 4 + 4, (column + 2) % 4 + 8, (column + 3) % 4 + 12)
-    return [(word + first) & 0xFFFFFFFF for word, first in zip(state, start)]
+from pctmodel.chacha import block, draws, words
 
 
 def check_block():
@@ -36,31 +20,6 @@ def check_block():
         e4e7f110 15593bd1 1fdd0f50 c47120a3 c7f4d1c7 0368c033 9aaa2204 4e6cd4c3
         466482d2 09aa9f07 05d7c214 a2028bd9 d19c12b5 b94e16de e883d0cb 4e3c50a2"""
     assert words == [int(word, 16) for word in expected.split()]
-
-
-def words(seed):
-    """The words of stream 0 with 8 rounds. The key is the seed in 8 little-endian bytes, and then 24 zero bytes."""
-    key = seed.to_bytes(8, "little") + bytes(24)
-    for counter in itertools.count():
-        yield from block(key, [counter & 0xFFFFFFFF, counter >> 32, 0, 0], 8)
-
-
-def numbers(seed):
-    """Two words make a number, the low word first."""
-    source = words(seed)
-    while True:
-        low = next(source)
-        yield next(source) << 32 | low
-
-
-def draws(seed, threads, steps, count):
-    """The places, the order and the points of a seed."""
-    source = numbers(seed)
-    below = lambda bound: next(source) * bound >> 64
-    places = [below(threads - taken) for taken in range(threads)]
-    remaining = list(range(threads))
-    order = [remaining.pop(place) for place in places]
-    return places, order, [1 + below(steps) for _ in range(count)]
 
 
 def main():

@@ -10,18 +10,19 @@ import os
 import sys
 
 sys.dont_write_bytecode = True
+sys.path.insert(0, os.path.join(os.path.dirname(os.path.dirname(os.path.realpath(__file__))), "tools"))
 sys.setrecursionlimit(10000)  # an expression has parts within parts
 sys.set_int_max_str_digits(0)
 
-from model_campaign import Frame, big_script, drawn, groups_of, json_line, rows_of, steps_in_declared_order, text_lines
-from model_directive import Directive, certify, directed_run, directive_lines, points_of, read_directive
-from model_find import moments_of, reduced
-from model_locks import Nesting, is_good, lock_order, nestings_of
-from model_races import races_of
-from model_run import Event, replay, run
-from model_script import Faulty, parse
-from model_trace import Trace, read_trace, step_line, trace_lines
-from model_words import NotTaken, read_words
+from pctmodel.campaign import Frame, big_script, drawn, groups_of, json_line, rows_of, steps_in_declared_order, text_lines
+from pctmodel.directive import Directive, certify, directed_run, directive_lines, points_of, read_directive
+from pctmodel.find import moments_of, reduced
+from pctmodel.locks import Nesting, is_good, lock_order, nestings_of
+from pctmodel.races import races_of
+from pctmodel.run import Event, replay, run
+from pctmodel.script import Faulty, parse
+from pctmodel.trace import Trace, read_trace, step_line, trace_lines
+from pctmodel.words import NotTaken, read_words
 
 DONE, FOUND, USAGE, BAD_SCRIPT, BAD_TRACE, BAD_DIRECTIVE, READ_FAULT, WRITE_FAULT = range(8)
 

@@ -8,12 +8,14 @@ in 1..k, where k is the most steps of a run without points. It prints how many o
 for each verdict."""
 
 import itertools
+import os
 import sys
 
 sys.dont_write_bytecode = True
+sys.path.insert(0, os.path.join(os.path.dirname(os.path.dirname(os.path.realpath(__file__))), "tools"))
 
-from model_run import run
-from model_script import parse
+from pctmodel.run import run
+from pctmodel.script import parse
 
 LIMIT = 10000
 

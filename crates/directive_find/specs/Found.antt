@@ -8,7 +8,7 @@ use Rattle.pct_ask.specs.Bodies.{Pending}
 use Rattle.rank_now.specs.declared.moment.Moment.{Moment}
 use Rattle.turn_book.specs.Posts.{schedule_of}
 use Rattle.worker_run.specs.Run.{run, directed_run}
-use Rattle.directive_find.specs.Moments.{events_of, MomentFits}
+use Rattle.choices.specs.Moments.{moments_of, MomentFits}
 use Rattle.directive_find.specs.Reduced.{HasVerdict, LeadsTo, Reduces}
 use Rattle.directive_find.specs.declared.finding.FoundOut.{FoundOut}
 use Rattle.directive_find.specs.declared.finding.FoundOut.TheVariants.{Events, Passes}
@@ -31,10 +31,10 @@ pub record IsFinding (deal : Deal) (bodies : List Pending) (order points : List 
   pub is_run : run deal bodies order points limit ≡ Some (made, verdict)
   pub fails : verdict ≢ Passed
   pub same_run :
-      directed_run deal bodies order (events_of (schedule_of made) points) limit
+      directed_run deal bodies order (moments_of (schedule_of made) points) limit
       ≡ Some (made, verdict)
   pub reduced : Reduces (HasVerdict deal bodies order limit verdict)
-      (events_of (schedule_of made) points) events
+      (moments_of (schedule_of made) points) events
   pub leads : LeadsTo deal bodies order limit verdict events steps
   pub needed : (place : ℕ) → place < length events
       → HasOther deal bodies order limit verdict (remove events place)
@@ -48,7 +48,7 @@ pub record IsPass (deal : Deal) (bodies : List Pending) (order points : List ℕ
   pub made : List Event
   pub is_run : run deal bodies order points limit ≡ Some (made, Passed)
   pub same_run :
-      directed_run deal bodies order (events_of (schedule_of made) points) limit
+      directed_run deal bodies order (moments_of (schedule_of made) points) limit
       ≡ Some (made, Passed)
   pub number : steps ≡ length made
 

@@ -7,9 +7,9 @@ ghost use Rattle.script_code.specs.Listing.{listing};
 ghost use Rattle.script_body.specs.Bodies.{bodies_of, AreOf};
 ghost use Rattle.directive_find.specs.Found.{Finds};
 
-use crate::moments::events_of;
 use crate::reducing::{Short, reduce};
 use crate::running::run_of_points;
+use choices::moments_of;
 use pct_ask::{Deal, Verdict};
 use pct_outside::Gate;
 use policy_pick::MomentList;
@@ -63,7 +63,7 @@ pub fn find<R: Threads + Wait + Sync, G: Gate>(
     if verdict.is(&Verdict::Passed) {
         return Ok(FoundOut::Passes { steps });
     }
-    let events = events_of(alloc, whole.events.as_slice(), points)?;
+    let events = moments_of(alloc, whole.events.as_slice(), points)?;
     let whole = Short { events, steps };
     let short = reduce(rt, alloc, code, deal, order, whole, &verdict, limit, gate)?;
     Ok(FoundOut::Events {

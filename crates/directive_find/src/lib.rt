@@ -4,7 +4,6 @@
 
 mod finding;
 mod found;
-mod moments;
 mod reducing;
 mod running;
 

@@ -3,7 +3,6 @@ use Rattle.std.specs.Prelude.{slice_get}
 use Rattle.std.specs.List.{All}
 use Rattle.std.proofs.Common.{◌≡◌, ◌≢◌, ℕ, zero, suc, ◌+◌, ◌-◌, ◌*◌, ◌^◌, ◌<◌, ◌≤◌, Some, List, []}
 use Rattle.std.proofs.Common.{◌∷◌, ◌++◌, length, take, drop, refl, sym, ap, subst, ◌∙◌, arith}
-use Rattle.std.proofs.Math.Nat.{pow-suc, pow-le-pow_left, pow-le-pow_right, mul-le-mul_left}
 use Rattle.std.proofs.lemmas.List.{length-append, length-map}
 use Rattle.std.proofs.lemmas.List.Elements.{All-nil, All-cons, All-head, All-tail}
 use Rattle.pct_ask.specs.declared.Deal.{Deal}
@@ -14,10 +13,10 @@ use Rattle.rank_now.specs.declared.moment.Moment.{Moment}
 use Rattle.turn_book.specs.Posts.{schedule_of}
 use Rattle.worker_run.specs.Run.{run, directed_run}
 use Rattle.directive.specs.declared.directive.Directive.{Directive}
-use Rattle.directive_run.specs.Points.{point_of_moment, points_of}
-use Rattle.directive_run.specs.Exposing.{IsWithin}
-use Rattle.directive_run.specs.Orders.{factorial, low_orders}
-use Rattle.directive_run.specs.Counting.{pointlists, hits_under}
+use Rattle.choices.specs.Points.{point_of_moment, points_of}
+use Rattle.choices.specs.Orders.{factorial, low_orders}
+use Rattle.choices.specs.PointLists.{IsWithin, pointlists}
+use Rattle.choices.specs.Counting.{hits_under}
 use Rattle.directive_run.specs.Guarantees.{IsLed}
 use Rattle.directive_run.specs.Certifying.{IsPointed, AreRows, IsCertified, IsFirstOther, IsRefuted}
 use Rattle.directive_run.specs.Certifying.{IsTooLongUnder}
@@ -26,9 +25,10 @@ use Rattle.directive_run.specs.declared.judging.Tested.{Tested}
 use Rattle.directive_run.specs.declared.judging.Tested.TheVariants.{Led, Other, TooLong}
 use Rattle.directive_run.specs.declared.answers.CertifyRow.{CertifyRow}
 use Rattle.directive_run.proofs.laws.ExposedPoints.{exposed-run, points-within}
-use Rattle.directive_run.proofs.laws.OrderLists.{IsLowOrder, low-orders-all, low-order-listed}
-use Rattle.directive_run.proofs.laws.OrderLists.{length-low-orders}
-use Rattle.directive_run.proofs.laws.Counts.{order-hits, count-holds}
+use Rattle.choices.proofs.laws.OrderLists.{IsLowOrder, low-orders-all, low-order-listed}
+use Rattle.choices.proofs.laws.OrderLists.{length-low-orders}
+use Rattle.choices.proofs.laws.ListedOnce.{listed-all}
+use Rattle.choices.proofs.laws.Counts.{order-hits, count-holds}
 
 -- ---- one order
 
@@ -67,37 +67,7 @@ other deal bodies order moments events verdict last steps limit made same is apa
       apart = apart;
     }
 
--- ---- the bound
-
-pub bound-small : (threads steps points i bound : ℕ) → threads ≤ 7 → steps ≤ 100000 → points ≤ 7
-    → i < points → bound ≡ threads * steps ^ i → bound * steps < 2 ^ 128
-bound-small threads steps points i bound few small short within is =
-    let power : steps ^ i ≤ 100000 ^ i = pow-le-pow_left small i in
-    let most : 100000 ^ i ≤ 100000 ^ 6 =
-    pow-le-pow_right {n = 100000} (omega arith) {i = i} {j = 6} (omega arith) in
-    let less : threads * steps ^ i ≤ threads * 100000 ^ 6 = mul-le-mul_left threads (omega arith) in
-    let lesser : bound ≤ 7 * 100000 ^ 6 = omega arith in
-    let product : bound * steps ≤ bound * 100000 = mul-le-mul_left bound small in
-    omega arith
-
-pub bound-more : (threads steps i bound : ℕ) → bound ≡ threads * steps ^ i
-    → bound * steps ≡ threads * steps ^ (i + 1)
-bound-more threads steps i bound is =
-    ap (λ b. b * steps) is
-    ∙ regrouped (steps ^ i)
-    ∙ ap (λ p. threads * p) (sym (pow-suc steps i)
-    ∙ ap (λ n. steps ^ n) (let e : suc i ≡ i + 1 = omega arith in e))
-  where
-    regrouped : (p : ℕ) → threads * p * steps ≡ threads * (p * steps)
-    regrouped p = grind arith
-
 -- ---- the order at a place is an order
-
-pub listed-all : {X : Type 0} (P : X → Type 0) (xs : List X) (k : ℕ) (x : X) → All P xs
-    → slice_get xs k ≡ Some x → P x
-listed-all P [] k x all at = absurd cc
-listed-all P (y ∷ xs) zero x all at = subst P (let same : y ≡ x = cc in same) (All-head P y xs all)
-listed-all P (y ∷ xs) (suc k) x all at = listed-all P xs k x (All-tail P y xs all) at
 
 pub low-at : (threads low place : ℕ) (order : List ℕ) → low < threads
     → slice_get (low_orders threads low) place ≡ Some order → IsLowOrder threads low order
@@ -171,8 +141,8 @@ module _ (deal : Deal) (bodies : List Pending) (directive : Directive) (steps li
 
   abbrev Hit : List ℕ → Type 0
   Hit order =
-      1 ≤ hits_under deal bodies order (pointlists steps (length directive.events))
-      directive.verdict limit
+      1 ≤ hits_under (λ order points. run deal bodies order points limit) order
+      (pointlists steps (length directive.events)) directive.verdict
 
   -- and is led to it by some listed points
   pub rows-hit : (orders : List (List ℕ)) (rows : List CertifyRow) → 1 ≤ steps → Rows orders rows
@@ -189,8 +159,9 @@ module _ (deal : Deal) (bodies : List Pending) (directive : Directive) (steps li
       let long : length r.points ≡ length directive.events =
       ap length is.points_are ∙ length-map directive.events
       (point_of_moment (schedule_of is.made) steps) in
-      All-cons Hit o orders (order-hits deal bodies o r.points is.made directive.verdict steps
-      (length directive.events) limit long within is.is_run) (rows-hit orders rows some are.2)
+      All-cons Hit o orders (order-hits (λ order points. run deal bodies order points limit) o
+      r.points is.made directive.verdict steps (length directive.events) long within is.is_run)
+      (rows-hit orders rows some are.2)
 
   -- ---- the answers
 
@@ -207,9 +178,9 @@ module _ (deal : Deal) (bodies : List Pending) (directive : Directive) (steps li
     bound_is = is;
     rows_are = are;
     counted =
-        count-holds deal bodies deal.threads directive.low steps (length directive.events) limit
-        bound directive.verdict low (rows-hit (low_orders deal.threads directive.low) rows some are)
-        is;
+        count-holds (λ order points. run deal bodies order points limit) deal.threads directive.low
+        steps (length directive.events) bound directive.verdict low
+        (rows-hit (low_orders deal.threads directive.low) rows some are) is;
   }
 
   -- the order at a place, with those before it led

@@ -11,8 +11,9 @@ use Rattle.rank_now.specs.declared.moment.Moment.{Moment}
 use Rattle.turn_book.specs.Posts.{schedule_of}
 use Rattle.worker_run.specs.Run.{run, directed_run}
 use Rattle.worker_run.specs.declared.played.Played.{Played}
-use Rattle.directive_run.specs.Points.{points_of}
-use Rattle.directive_run.specs.Exposing.{IsWithin, IsExposed, RunsTooLong}
+use Rattle.choices.specs.Points.{points_of}
+use Rattle.choices.specs.PointLists.{IsWithin}
+use Rattle.directive_run.specs.Exposing.{IsExposed, RunsTooLong}
 use Rattle.directive_run.proofs.laws.ExposedPoints.{exposed-run, points-within}
 
 pub too-long : (deal : Deal) (bodies : List Pending) (order : List ℕ) (moments events : List Moment)

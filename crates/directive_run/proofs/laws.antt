@@ -1,4 +1,2 @@
 pub mod ExposedPoints
-pub mod OrderLists
-pub mod Counts
 pub mod OneAnswer

@@ -9,11 +9,11 @@ use Rattle.rank_now.specs.Order.{IsOrder}
 use Rattle.turn_book.specs.Posts.{schedule_of}
 use Rattle.worker_run.specs.Run.{run, directed_run}
 use Rattle.directive.specs.declared.directive.Directive.{Directive}
-use Rattle.directive_run.specs.Points.{points_of}
+use Rattle.choices.specs.Points.{points_of}
 use Rattle.directive_run.specs.Exposing.{RunsTooLong}
-use Rattle.directive_run.specs.Orders.{factorial, low_orders}
-use Rattle.directive_run.specs.Counting.{hits}
-use Rattle.directive_run.specs.Guarantees.{EndsIn, IsLed, Guarantees}
+use Rattle.choices.specs.Orders.{factorial, low_orders, EndsIn}
+use Rattle.choices.specs.Counting.{hits}
+use Rattle.directive_run.specs.Guarantees.{IsLed, Guarantees}
 use Rattle.directive_run.specs.declared.answers.CertifyRow.{CertifyRow}
 use Rattle.directive_run.specs.declared.answers.Certified.{Certified}
 use Rattle.directive_run.specs.declared.answers.Certified.TheVariants.{Yes, Refuted, TooLong}
@@ -52,8 +52,8 @@ pub record IsCertified (deal : Deal) (bodies : List Pending) (directive : Direct
   pub rows_are : AreRows deal bodies directive steps limit
       (low_orders deal.threads directive.low) rows
   pub counted : factorial deal.threads * steps ^ length directive.events
-      ≤ hits deal bodies deal.threads steps (length directive.events) directive.verdict limit
-      * bound
+      ≤ hits (λ order points. run deal bodies order points limit) deal.threads steps
+      (length directive.events) directive.verdict * bound
 
 -- The order is the first of those that place the thread last whose directed run isn't led to the
 -- verdict: those before it are.

@@ -9,13 +9,10 @@ use Rattle.rank_now.specs.declared.moment.Moment.{Moment}
 use Rattle.turn_book.specs.Posts.{schedule_of}
 use Rattle.worker_run.specs.Run.{run, directed_run}
 use Rattle.worker_run.specs.declared.played.Played.{Played}
-use Rattle.directive_run.specs.Points.{points_of}
+use Rattle.choices.specs.PointLists.{IsWithin}
+use Rattle.choices.specs.Points.{points_of}
 use Rattle.directive_run.specs.declared.answers.Exposed.{Exposed}
 use Rattle.directive_run.specs.declared.answers.Exposed.TheVariants.{Points, TooLong}
-
--- a step that there may be
-abbrev pub IsWithin : ℕ → ℕ → Type 0
-IsWithin steps point = (1 ≤ point) × (point ≤ steps)
 
 -- The directed run was played, and has at most so many steps. The points are those of its moments,
 -- each is one of these steps, and the run of the order and these points has the same steps and the

@@ -1,6 +1,6 @@
 -- What a directive guarantees (the directed scheduler of the PCT paper; the definition is this
 -- project's).
-use Rattle.std.specs.Prelude.{◌≡◌, ℕ, ◌≤◌, List, [], ◌∷◌, ◌++◌, length, Some}
+use Rattle.std.specs.Prelude.{◌≡◌, ℕ, ◌≤◌, List, length, Some}
 use Rattle.pct_ask.specs.declared.Deal.{Deal}
 use Rattle.pct_ask.specs.declared.event.Event.{Event}
 use Rattle.pct_ask.specs.declared.verdict.Verdict.{Verdict}
@@ -8,10 +8,7 @@ use Rattle.pct_ask.specs.Bodies.{Pending}
 use Rattle.rank_now.specs.declared.moment.Moment.{Moment}
 use Rattle.rank_now.specs.Order.{IsOrder}
 use Rattle.worker_run.specs.Run.{directed_run}
-
--- the order places the thread last
-abbrev pub EndsIn : List ℕ → ℕ → Type 0
-EndsIn order low = (front : List ℕ) × (order ≡ front ++ low ∷ [])
+use Rattle.choices.specs.Orders.{EndsIn}
 
 -- the directed run of the order has the verdict and at most so many steps
 pub record IsLed (deal : Deal) (bodies : List Pending) (order : List ℕ) (events : List Moment)

@@ -1,7 +1,4 @@
-pub mod Points
 pub mod Exposing
-pub mod Orders
-pub mod Counting
 pub mod Guarantees
 pub mod Certifying
 pub mod Tested

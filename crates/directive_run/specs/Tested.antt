@@ -20,7 +20,7 @@ use Rattle.worker_run.specs.declared.batch.Test.{Test}
 use Rattle.worker_run.specs.declared.played.Played.{Played}
 use Rattle.directive.specs.declared.directive.Directive.{Directive}
 use Rattle.directive_run.specs.Exposing.{RunsTooLong}
-use Rattle.directive_run.specs.Orders.{low_orders}
+use Rattle.choices.specs.Orders.{low_orders}
 use Rattle.directive_run.specs.Certifying.{IsPointed, AreRows, Certifies}
 use Rattle.directive_run.specs.declared.answers.CertifyRow.{CertifyRow}
 use Rattle.directive_run.specs.declared.answers.Certified.{Certified}

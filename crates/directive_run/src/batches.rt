@@ -2,7 +2,7 @@
 // once where there is memory for that.
 ghost use Rattle.std.specs.Prelude.{◌≡◌, ◌≤◌, ◌<◌, ◌+◌, ◌-◌, length, IfOk};
 ghost use Rattle.script_tree.specs.ScriptText.{ScriptText};
-ghost use Rattle.directive_run.specs.Orders.{factorial};
+ghost use Rattle.choices.specs.Orders.{factorial};
 ghost use Rattle.directive_run.specs.Tested.{directed_setup, IsDirectedTask};
 ghost use Rattle.directive_run.specs.Tested.{IsRunAt, AreOrderRuns};
 ghost use Rattle.directive_run.specs.Tested.{AreFirstCertifyRows, IsDecided};

@@ -1,6 +1,6 @@
 //! Whether every order that places a directive's thread last leads to its verdict.
 
-ghost use Rattle.std.specs.Prelude.{◌≡◌, ◌≤◌, ◌<◌, ◌*◌, ◌^◌, IfOk};
+ghost use Rattle.std.specs.Prelude.{◌≤◌, ◌<◌, IfOk};
 ghost use Rattle.script_tree.specs.ScriptText.{ScriptText};
 ghost use Rattle.script_code.specs.Listing.{listing};
 ghost use Rattle.script_body.specs.Bodies.{bodies_of, AreOf};
@@ -8,8 +8,8 @@ ghost use Rattle.directive_run.specs.Certifying.{Certifies};
 
 use crate::answers::{Certified, CertifyRows};
 use crate::batches::try_orders;
-use crate::orders::factorial;
 use crate::task::Task;
+use choices::{bound_of, order_count};
 use directive::Directive;
 use pct_ask::Deal;
 use pct_outside::Gate;
@@ -20,20 +20,6 @@ use std::thread::Threads;
 use worker_run::batch_size;
 
 const MOST_THREADS: u32 = 7;
-
-/// In how many choices of an order and so many points at least one leads to the verdict.
-fn bound_of(threads: u32, steps: u32, points: usize) -> u128
-    requires few_threads { threads ≤ 7 }
-    requires few_steps { steps ≤ 100000 }
-    requires few_points { points ≤ 7 }
-    ensures { result ≡ threads * steps ^ points }
-{
-    let mut bound = u128::from(threads);
-    for _point in 0..points {
-        bound *= u128::from(steps);
-    }
-    bound
-}
 
 /// Runs a script under each order that places a directive's thread last, and tells whether each
 /// leads to the directive's verdict within `steps` steps. Runs are made at once in batches, of one
@@ -69,7 +55,7 @@ pub fn certify<R: Threads + Wait + Sync, G: Gate>(
         limit,
     };
     let mut rows = CertifyRows::new(alloc);
-    let total = factorial(threads - 1);
+    let total = order_count(threads - 1);
     let most = batch_size(limit);
     let mut size: u32 = 1;
     let mut end = 0;

@@ -9,7 +9,7 @@ ghost use Rattle.directive_run.specs.Exposing.{Exposes};
 
 use crate::answers::Exposed;
 use crate::directed::directed_run;
-use crate::points::points_of;
+use choices::points_of;
 use directive::Directive;
 use pct_ask::Deal;
 use pct_outside::Gate;

@@ -1,15 +1,14 @@
 // What the run of an order says: a row of the certificate, or the answer.
 ghost use Rattle.std.specs.Prelude.{◌≡◌, ◌≤◌, ◌<◌, ◌+◌, ◌-◌, length, IfOk, List, ℕ};
 ghost use Rattle.script_tree.specs.ScriptText.{ScriptText};
-ghost use Rattle.directive_run.specs.Orders.{factorial};
+ghost use Rattle.choices.specs.Orders.{factorial};
 ghost use Rattle.directive_run.specs.Tested.{directed_setup, IsDirectedTask};
 ghost use Rattle.directive_run.specs.Tested.{Tells, IsOrderRun, IsRunAt};
 ghost use Rattle.directive_run.specs.Tested.{AreFirstCertifyRows, IsDecided};
 
 use crate::answers::{Certified, CertifyRow, CertifyRows};
-use crate::orders::order_at;
-use crate::points::points_of;
 use crate::task::Task;
+use choices::{low_order_at, points_of};
 use pct_ask::{PointList, Verdict};
 use std::alloc::{AllocError as NoMemory, Global};
 use worker_run::Played;
@@ -67,7 +66,7 @@ pub fn add_row(
     ensures answer { (script : ScriptText) → IsDirectedTask script task.now
         → IfOk result (IsDecided (directed_setup script task.now) rows.new (place + 1)) }
 {
-    let order = order_at(alloc, task.deal.threads, task.directive.low, place)?;
+    let order = low_order_at(alloc, task.deal.threads, task.directive.low, place)?;
     match test_run(alloc, task, played)? {
         Tested::Led(points) => rows.try_push(CertifyRow { order, points })?,
         Tested::Other(verdict) => return Ok(Some(Certified::Refuted { order, verdict })),

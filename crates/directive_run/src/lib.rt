@@ -10,8 +10,6 @@ mod directed;
 mod exposing;
 mod judging;
 mod order_tests;
-mod orders;
-mod points;
 mod task;
 
 pub use answers::{Certified, CertifyRow, CertifyRows, Exposed};

@@ -4,12 +4,12 @@ ghost use Rattle.script_tree.specs.ScriptText.{ScriptText};
 ghost use Rattle.script_body.specs.BodyPosts.{pending_of_body};
 ghost use Rattle.policy_pick.specs.Kept.{events_plan, EventsStand};
 ghost use Rattle.worker_run.specs.Tests.{IsTest, AreTests};
-ghost use Rattle.directive_run.specs.Orders.{factorial};
+ghost use Rattle.choices.specs.Orders.{factorial};
 ghost use Rattle.directive_run.specs.Tested.{directed_setup, IsDirectedTask};
 ghost use Rattle.directive_run.specs.Tested.{IsTestAt, AreOrderTests};
 
-use crate::orders::order_at;
 use crate::task::Task;
+use choices::low_order_at;
 use policy_pick::DirectedPolicy;
 use script_body::{ScriptBody, bodies_of};
 use std::alloc::{AllocError as NoMemory, Global};
@@ -27,7 +27,7 @@ pub fn order_test<'c>(
     ensures of_order { (script : ScriptText) → IsDirectedTask script task.now
         → IfOk result (IsTestAt (directed_setup script task.now) place) }
 {
-    let order = order_at(alloc, task.deal.threads, task.directive.low, place)?;
+    let order = low_order_at(alloc, task.deal.threads, task.directive.low, place)?;
     let bodies = bodies_of(alloc, task.code)?;
     let own = task.deal.copy(alloc)?;
     Test::by_events(

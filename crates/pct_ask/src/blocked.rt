@@ -93,6 +93,14 @@ impl Blocked {
         self.lines[thread as usize] = line;
     }
 
+    /// The threads as bits, the lowest for thread 0, and the line of each, 0 for the others.
+    pub fn numbers(&self) -> (u64, [u32; 64])
+        ensures bits { result.0 ≡ line_bits (lines_from 0 64 self.now) }
+        ensures lines { result.1 ≡ line_numbers (lines_from 0 64 self.now) }
+    {
+        (self.threads, self.lines)
+    }
+
     /// The line at which a thread asks.
     pub fn get(&self, thread: u32) -> Option<u32>
         ensures line { result ≡ line_of_thread thread self.now }

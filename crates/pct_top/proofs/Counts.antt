@@ -1,14 +1,17 @@
 -- Where `certify` is done, its directive is counted.
-use Rattle.std.proofs.Common.{◌≡◌, ℕ, ◌*◌, ◌^◌, ◌≤◌, inl, inr, List, length, Ok, sym, ap, subst}
-use Rattle.std.proofs.Common.{◌∙◌}
+use Rattle.std.specs.List.{flat_map}
+use Rattle.std.proofs.Common.{◌≡◌, ℕ, ◌*◌, ◌^◌, ◌≤◌, inl, inr, List, [], ◌∷◌, ◌++◌, length, map, Ok}
+use Rattle.std.proofs.Common.{sym, ap, subst, ◌∙◌}
+use Rattle.pct_ask.specs.TraceText.{line_text}
 use Rattle.pct_ask.specs.declared.Deal.{Deal}
 use Rattle.script_tree.specs.ScriptText.{ScriptText}
 use Rattle.script_tree.specs.DealOf.{IsDealOf}
 use Rattle.script_body.specs.Bodies.{bodies_of}
 use Rattle.directive.specs.declared.directive.Directive.{Directive}
 use Rattle.directive.specs.Answers.{plain_directive as plain}
-use Rattle.directive_run.specs.Orders.{factorial}
-use Rattle.directive_run.specs.Counting.{hits}
+use Rattle.choices.specs.Orders.{factorial}
+use Rattle.choices.specs.Counting.{hits}
+use Rattle.worker_run.specs.Run.{run}
 use Rattle.directive_run.specs.Certifying.{Certifies}
 use Rattle.directive_run.specs.declared.answers.Certified.{Certified}
 use Rattle.directive_run.specs.declared.answers.Certified.TheVariants.{Yes, Refuted, TooLong}
@@ -20,8 +23,10 @@ use Rattle.pct_top.specs.declared.status.Status.TheVariants.{Done}
 use Rattle.pct_top.specs.Settings.{SettingsOrWord, settings}
 use Rattle.pct_top.specs.Printed.{Files, Printed}
 use Rattle.pct_top.specs.Output.{OfTaken}
+use Rattle.pct_top.specs.commands.Certify.{certificate_row_words, bound_words, certificate_text}
 use Rattle.pct_top.specs.commands.Certify.{printed_certificate}
-use Rattle.pct_top.specs.Counted.{CertifiesFile, IsOneIn, IsCounted, CertifiedAreCounted}
+use Rattle.pct_top.specs.Counted.{CertifiesFile, IsOneIn, TellsBound, IsCounted}
+use Rattle.pct_top.specs.Counted.{CertifiedAreCounted}
 use Rattle.pct_top.proofs.Refusals.{not_refused}
 
 -- only a certified directive is done
@@ -30,13 +35,22 @@ counted_by : (script : ScriptText) (deal : Deal) → IsDealOf script deal → (d
     → Certifies deal (bodies_of script) directive steps limit certified
     → (printed_certificate script.names certified).status ≡ Done
     → IsOneIn script deal (plain directive) steps limit
+    × TellsBound script (plain directive) steps (certificate_text script.names certified)
 counted_by script deal of directive steps limit (Yes bound rows) is done =
     let m = length directive.events in
-    let N : ℕ → Type 0 = λ n. factorial n * steps ^ m
-    ≤ hits deal (bodies_of script) n steps m directive.verdict limit * (n * steps ^ m) in
-    let B : ℕ → Type 0 = λ b. factorial deal.threads * steps ^ m
-    ≤ hits deal (bodies_of script) deal.threads steps m directive.verdict limit * b in
-    subst N of.threads (subst B is.bound_is is.counted)
+    let count : ℕ → ℕ = λ n. hits (λ order points. run deal (bodies_of script) order points limit)
+    n steps m directive.verdict in
+    let N : ℕ → Type 0 = λ n. factorial n * steps ^ m ≤ count n * (n * steps ^ m) in
+    let B : ℕ → Type 0 = λ b. factorial deal.threads * steps ^ m ≤ count deal.threads * b in
+    let told : bound ≡ length script.names.threads * steps ^ m =
+    is.bound_is ∙ ap (λ n. n * steps ^ m) of.threads in (
+      subst N of.threads (subst B is.bound_is is.counted),
+      (
+        map (certificate_row_words script.names) rows,
+        ap (λ b. flat_map line_text
+            (map (certificate_row_words script.names) rows ++ bound_words b ∷ [])) told,
+      ),
+    )
 counted_by script deal of directive steps limit (Refuted order verdict) is done = absurd cc
 counted_by script deal of directive steps limit (TooLong order many) is done = absurd cc
 counted_by script deal of directive steps limit (TooManyThreads threads) is done = absurd cc
@@ -47,7 +61,7 @@ IsDone status = status ≡ Done
 
 by_taken : (taken : SettingsOrWord) (files : Files) (printed : Printed) (file directive : List ℕ)
     (k limit : ℕ) → CertifiesFile taken file directive k limit → OfTaken taken files printed
-    → printed.status ≡ Done → IsCounted files file directive k limit
+    → printed.status ≡ Done → IsCounted files file directive k limit printed.out
 by_taken (Ok (Certify name other steps most)) files printed file directive k limit same (inl of)
     done = elim of.2.2 [
       | inl plan ↦
@@ -55,19 +69,23 @@ by_taken (Ok (Certify name other steps most)) files printed file directive k lim
           let is_done = sym (ap (λ (p : Printed). p.status) (plan.2).2) ∙ done in
           let counted = counted_by script of.2.0 of.2.1 plan.0 steps most (plan.2).0 (plan.2).1
           is_done in
-          let whole : IsCounted files name other steps most = record {
+          let whole : IsCounted files name other steps most printed.out = record {
             script = script;
             deal = of.2.0;
             plan = plain plan.0;
             spelled = of.1;
             deals = of.2.1;
             told = plan.1;
-            counted = counted;
+            counted = counted.0;
+            bound = (
+              counted.1.0,
+              ap (λ (p : Printed). p.out) (plan.2).2 ∙ counted.1.1,
+            );
           } in
-          subst (λ f. IsCounted files f directive k limit) (sym same.0)
-          (subst (λ d. IsCounted files name d k limit) (sym same.1)
-          (subst (λ s. IsCounted files name other s limit) (sym same.2)
-          (subst (λ l. IsCounted files name other steps l) (sym same.3) whole)))
+          subst (λ f. IsCounted files f directive k limit printed.out) (sym same.0)
+          (subst (λ d. IsCounted files name d k limit printed.out) (sym same.1)
+          (subst (λ s. IsCounted files name other s limit printed.out) (sym same.2)
+          (subst (λ l. IsCounted files name other steps l printed.out) (sym same.3) whole)))
       | inr bad ↦ absurd (not_refused IsDone (BadDirective bad.0 bad.1) printed bad.3 (λ e. cc)
           done)
     ]

@@ -16,8 +16,9 @@ use Rattle.trace_text.specs.Lawful.{IsStepCount, IsKnownRun}
 use Rattle.worker_run.specs.declared.played.Played.{Played}
 use Rattle.worker_run.proofs.laws.WholeRuns.{run-played, directed-played}
 use Rattle.directive.specs.declared.directive.Directive.{Directive}
-use Rattle.directive_run.specs.Points.{point_of_moment}
-use Rattle.directive_run.specs.Exposing.{IsWithin, IsExposed}
+use Rattle.choices.specs.Points.{point_of_moment}
+use Rattle.choices.specs.PointLists.{IsWithin}
+use Rattle.directive_run.specs.Exposing.{IsExposed}
 use Rattle.directive_run.specs.Certifying.{Certifies}
 use Rattle.directive_run.specs.declared.answers.Certified.{Certified}
 use Rattle.directive_run.specs.declared.answers.Certified.TheVariants.{Yes, Refuted, TooLong}

@@ -10,7 +10,7 @@ use Rattle.policy_pick.specs.Plan.{ByPoints}
 use Rattle.script_body.specs.Bodies.{bodies_of}
 use Rattle.worker_run.proofs.laws.WholeRuns.{run-played}
 use Rattle.directive.specs.Directive.{IsMoment}
-use Rattle.directive_find.specs.Moments.{MomentFits}
+use Rattle.choices.specs.Moments.{MomentFits}
 use Rattle.directive_find.specs.Found.{Finds}
 use Rattle.directive_find.specs.declared.finding.FoundOut.{FoundOut}
 use Rattle.directive_find.specs.declared.finding.FoundOut.TheVariants.{Events, Passes}

@@ -18,7 +18,8 @@ pub fn exposed_are_confirmed()
 
 /// A law of the program, and no work: where `certify` is done, of the `n! k^m` choices of an order
 /// of the script's `n` threads and of `m` points in `1..=k`, where the directive has `m` moments
-/// and the words give `k`, at least one in `n k^m` leads to the directive's verdict.
+/// and the words give `k`, at least one in `n k^m` leads to the directive's verdict, and the last
+/// line that it prints tells `n k^m`.
 pub fn certified_are_counted()
     ensures { CertifiedAreCounted }
 {}

@@ -194,6 +194,9 @@ fn blocked(rt: HostRuntime) {
     for (thread, line) in &BLOCKED {
         assert_eq!(rt; one.get(*thread), *line, "{thread}");
     }
+    let (threads, lines) = one.numbers();
+    assert_eq!(rt; threads, 0x8000_0000_0000_0004);
+    assert_eq!(rt; (lines[2], lines[3], lines[63]), (7, 0, 4096));
 }
 
 #[test]

@@ -82,9 +82,9 @@ pub(crate) struct RawHead {
     pub status: u32,
     pub version: u32,
     pub limit: u32,
-    pub threads: u32,
-    pub points: u32,
-    pub steps: u32,
+    pub threads: u64,
+    pub points: u64,
+    pub steps: u64,
 }
 
 #[repr(C)]

@@ -18,7 +18,7 @@ use Rattle.worker_run.proofs.laws.WholeRuns.{directed-is-there, run-played}
 use Rattle.directive_find.specs.declared.reducing.Short.{Short}
 use Rattle.directive_find.specs.declared.finding.FoundOut.{FoundOut}
 use Rattle.directive_find.specs.declared.finding.FoundOut.TheVariants.{Events, Passes}
-use Rattle.directive_find.specs.Moments.{events_of, MomentFits}
+use Rattle.choices.specs.Moments.{moments_of, MomentFits}
 use Rattle.directive_find.specs.Reduced.{HasVerdict, NeedsFirst, Reduces, IsReduced}
 use Rattle.directive_find.specs.Found.{HasOther, IsFinding, IsPass, Finds}
 use Rattle.directive_find.proofs.laws.FoundMoments.{found-run, moments-few}
@@ -67,11 +67,11 @@ module _ (deal : Deal) (bodies : List Pending) (order : List ℕ) (limit : ℕ) 
         → IsOrder order → length order ≡ deal.threads → All (λ point. 1 ≤ point) points
         → length made ≤ limit
         → run deal bodies order points limit ≡ Some (made, verdict) → verdict ≢ Passed
-        → moments ≡ events_of (schedule_of made) points
+        → moments ≡ moments_of (schedule_of made) points
         → IsReduced deal bodies order limit verdict moments short
         → IsFinding deal bodies order points limit short.events verdict short.steps
     made-found made verdict moments short ordered whole some room is fails are reduces =
-        let all = events_of (schedule_of made) points in
+        let all = moments_of (schedule_of made) points in
         let R : List Moment → Type 0 = λ ms.
         Reduces (HasVerdict deal bodies order limit verdict) ms short.events in
         let reduced = subst R are reduces.reduced in
@@ -126,12 +126,12 @@ module _ (deal : Deal) (bodies : List Pending) (order : List ℕ) (limit : ℕ) 
         let same = same-whole b.made a.made last verdict (run deal bodies order points limit)
         b.is_run a.is_run in
         let M : List Event → Type 0 = λ es.
-        Reduces (HasVerdict deal bodies order limit last) (events_of (schedule_of es) points)
+        Reduces (HasVerdict deal bodies order limit last) (moments_of (schedule_of es) points)
         other in
         let V : Verdict → Type 0 = λ v. Reduces (HasVerdict deal bodies order limit v)
-        (events_of (schedule_of a.made) points) other in
+        (moments_of (schedule_of a.made) points) other in
         let events = reduced-only (HasVerdict deal bodies order limit verdict)
-        (events_of (schedule_of a.made) points) one other a.reduced
+        (moments_of (schedule_of a.made) points) one other a.reduced
         (subst V same.1 (subst M same.0 b.reduced)) in
         let made = same-whole (b.leads).made (a.leads).made last verdict
         (directed_run deal bodies order other limit) (b.leads).is_directed

@@ -21,7 +21,7 @@ use Rattle.turn_book.proofs.laws.ObeyingSteps.{obeys-within}
 use Rattle.worker_run.specs.Bodies.{source_of_bodies}
 use Rattle.worker_run.specs.Played.{IsPlayed}
 use Rattle.worker_run.proofs.laws.Moments.{own-step, own-rises}
-use Rattle.directive_find.specs.Moments.{moment_at, is_kept, events_of, MomentFits}
+use Rattle.choices.specs.Moments.{moment_at, is_kept, moments_of, MomentFits}
 
 module _ (schedule : List ℕ) (threads : ℕ)
     (below : (k : ℕ) → k < length schedule → get_or schedule k 0 < threads) where
@@ -51,19 +51,19 @@ module _ (schedule : List ℕ) (threads : ℕ)
       }
 
   fit-by : (point : ℕ) (later : List ℕ) → 0 < point → (b : Bool) → is_kept schedule point later ≡ b
-      → All (MomentFits threads (length schedule)) (events_of schedule later)
+      → All (MomentFits threads (length schedule)) (moments_of schedule later)
       → All (MomentFits threads (length schedule))
-      (cond b (moment_at schedule point ∷ events_of schedule later) (events_of schedule later))
+      (cond b (moment_at schedule point ∷ moments_of schedule later) (moments_of schedule later))
   fit-by point later some true is rest =
       let parts = and_parts (leb point (length schedule))
       (not (list_any (λ other. eqb other point) later)) is in
       let first = parts.0 in
       All-cons (MomentFits threads (length schedule)) (moment_at schedule point)
-      (events_of schedule later) (moment-fits point some (grind (arith, nat_tests))) rest
+      (moments_of schedule later) (moment-fits point some (grind (arith, nat_tests))) rest
   fit-by point later some false is rest = rest
 
   pub moments-fit : (points : List ℕ) → ((k : ℕ) → k < length points → 0 < get_or points k 0)
-      → All (MomentFits threads (length schedule)) (events_of schedule points)
+      → All (MomentFits threads (length schedule)) (moments_of schedule points)
   moments-fit [] some = All-nil (MomentFits threads (length schedule))
   moments-fit (point ∷ later) some =
       fit-by point later (some 0 (omega arith)) (is_kept schedule point later) refl
@@ -84,7 +84,7 @@ pub found-fit : (deal : Deal) (bodies : List Pending) (order points : List ℕ) 
     → ((k : ℕ) → k < length points → 0 < get_or points k 0)
     → IsPlayed (ByPoints order points) deal bodies limit events outcome
     → All (MomentFits deal.threads (length (schedule_of events)))
-    (events_of (schedule_of events) points)
+    (moments_of (schedule_of events) points)
 found-fit deal bodies order points limit events outcome threads some played =
     moments-fit (schedule_of events) deal.threads
     (below-by deal.threads events (obeys-within (ByPoints order points) deal

@@ -24,7 +24,7 @@ use Rattle.worker_run.specs.Run.{run, directed_run}
 use Rattle.worker_run.proofs.laws.SameRuns.{same-from}
 use Rattle.worker_run.proofs.laws.RanksAlike.{GivenAlike, rank_by-alike}
 use Rattle.worker_run.proofs.laws.Moments.{own-step, moment-once, is_moment-append}
-use Rattle.directive_find.specs.Moments.{moment_at, is_kept, events_of}
+use Rattle.choices.specs.Moments.{moment_at, is_kept, moments_of}
 
 -- ---- the greatest position in a list with one more item before the others
 module _ {X : Type 0} (test : X → Bool) (x : X) (xs : List X) where
@@ -121,7 +121,7 @@ module _ (schedule : List ℕ) (steps : ℕ) (test : ℕ → Moment → Bool)
   by_points points step = index_of_point points step
 
   abbrev by_moments : List ℕ → ℕ → ℕ
-  by_moments points step = last_position (test step) (events_of schedule points)
+  by_moments points step = last_position (test step) (moments_of schedule points)
 
   record Alike (points : List ℕ) : Type 0 where
     pub some : (step : ℕ) → 0 < step → step ≤ steps
@@ -144,11 +144,11 @@ module _ (schedule : List ℕ) (steps : ℕ) (test : ℕ → Moment → Bool)
 
     moments-is : (b : Bool) → is_kept schedule point later ≡ b
         → by_moments (point ∷ later) step
-        ≡ last_position (test step) (cond b (moment_at schedule point ∷ events_of schedule later)
-        (events_of schedule later))
+        ≡ last_position (test step) (cond b (moment_at schedule point ∷ moments_of schedule later)
+        (moments_of schedule later))
     moments-is b is =
         ap (λ c. last_position (test step)
-        (cond c (moment_at schedule point ∷ events_of schedule later) (events_of schedule later)))
+        (cond c (moment_at schedule point ∷ moments_of schedule later) (moments_of schedule later)))
         is
 
     -- a point that is kept is a step of the schedule
@@ -170,7 +170,7 @@ module _ (schedule : List ℕ) (steps : ℕ) (test : ℕ → Moment → Bool)
     see-later true is p q =
         Later p q (position-later (λ x. eqb x step) point later p)
         (moments-is true is ∙ position-later (test step) (moment_at schedule point)
-        (events_of schedule later) q ∙ sym (add-one j))
+        (moments_of schedule later) q ∙ sym (add-one j))
     see-later false is p q =
         Later p q (position-later (λ x. eqb x step) point later p)
         (moments-is false is ∙ (let e : j ≡ j + 0 = omega arith in e))
@@ -180,7 +180,7 @@ module _ (schedule : List ℕ) (steps : ℕ) (test : ℕ → Moment → Bool)
     see-here true is true same none none' = Here
         (position-here (λ x. eqb x step) point later none ∙ ap (λ z. cond z 1 0) same)
         (moments-is true is ∙ position-here (test step) (moment_at schedule point)
-        (events_of schedule later) none'
+        (moments_of schedule later) none'
         ∙ ap (λ z. cond z 1 0) (marks point step (kept-within is) low high ∙ same))
         refl
     see-here false is true same none none' =
@@ -188,7 +188,7 @@ module _ (schedule : List ℕ) (steps : ℕ) (test : ℕ → Moment → Bool)
     see-here true is false same none none' = Nowhere
         (position-here (λ x. eqb x step) point later none ∙ ap (λ z. cond z 1 0) same)
         (moments-is true is ∙ position-here (test step) (moment_at schedule point)
-        (events_of schedule later) none'
+        (moments_of schedule later) none'
         ∙ ap (λ z. cond z 1 0) (marks point step (kept-within is) low high ∙ same))
     see-here false is false same none none' = Nowhere
         (position-here (λ x. eqb x step) point later none ∙ ap (λ z. cond z 1 0) same)
@@ -278,8 +278,8 @@ module _ (points schedule taken more : List ℕ) (t : ℕ) (cut : schedule ≡ t
       ∙ moment-marks schedule point step within low
 
   pub found-given : GivenAlike (index_of_point points)
-      (index_of_moment (events_of schedule points) taken) (length points)
-      (length (events_of schedule points)) (length taken)
+      (index_of_moment (moments_of schedule points) taken) (length points)
+      (length (moments_of schedule points)) (length taken)
   found-given =
       let alike = indices-alike schedule (length taken) (is_moment taken) short-of marks-in
       points in
@@ -290,7 +290,7 @@ module _ (points schedule taken more : List ℕ) (t : ℕ) (cut : schedule ≡ t
             (length points);
         low' =
             λ step low high. greatest-le (passes_at (is_moment taken step)
-            (events_of schedule points)) (length (events_of schedule points));
+            (moments_of schedule points)) (length (moments_of schedule points));
         order = alike.order;
       }
 
@@ -298,10 +298,10 @@ module _ (points schedule taken more : List ℕ) (t : ℕ) (cut : schedule ≡ t
 pub found-run : (deal : Deal) (bodies : List Pending) (order points : List ℕ) (limit : ℕ)
     (events : List Event) (verdict : Verdict) → IsOrder order → deal.threads ≡ length order
     → run deal bodies order points limit ≡ Some (events, verdict)
-    → directed_run deal bodies order (events_of (schedule_of events) points) limit
+    → directed_run deal bodies order (moments_of (schedule_of events) points) limit
     ≡ Some (events, verdict)
 found-run deal bodies order points limit events verdict ordered threads is =
-    let moments = events_of (schedule_of events) points in
+    let moments = moments_of (schedule_of events) points in
     same-from deal bodies (rank order points) (rank_by_events order moments) limit [] events verdict
     (λ taken more t cut a b p q.
     rank_by-alike (index_of_point points) (index_of_moment moments taken) (length points)
@@ -311,13 +311,13 @@ found-run deal bodies order points limit events verdict ordered threads is =
 
 -- There are no more moments than points.
 few-by : (schedule : List ℕ) (point : ℕ) (later : List ℕ) (b : Bool)
-    → length (events_of schedule later) ≤ length later
-    → length (cond b (moment_at schedule point ∷ events_of schedule later)
-    (events_of schedule later)) ≤ suc (length later)
+    → length (moments_of schedule later) ≤ length later
+    → length (cond b (moment_at schedule point ∷ moments_of schedule later)
+    (moments_of schedule later)) ≤ suc (length later)
 few-by schedule point later true rest = omega arith
 few-by schedule point later false rest = omega arith
 
-pub moments-few : (schedule points : List ℕ) → length (events_of schedule points) ≤ length points
+pub moments-few : (schedule points : List ℕ) → length (moments_of schedule points) ≤ length points
 moments-few schedule [] = omega arith
 moments-few schedule (point ∷ later) =
     few-by schedule point later (is_kept schedule point later) (moments-few schedule later)

@@ -22,8 +22,8 @@ use Rattle.turn_book.specs.Posts.{schedule_of}
 use Rattle.worker_run.specs.Run.{run, directed_run}
 use Rattle.worker_run.proofs.laws.Moments.{moment-once, is_moment-append}
 use Rattle.worker_run.proofs.laws.SameRuns.{same-from}
-use Rattle.directive_run.specs.Points.{step_of_moment, point_of_moment, points_of}
-use Rattle.directive_run.specs.Exposing.{IsWithin}
+use Rattle.choices.specs.Points.{step_of_moment, point_of_moment, points_of}
+use Rattle.choices.specs.PointLists.{IsWithin}
 
 -- a greatest number of 0: none passes
 greatest-zero-by : (test : ℕ → Bool) (n : ℕ) (b : Bool) → test (suc n) ≡ b

@@ -13,10 +13,10 @@ use Rattle.turn_book.specs.Posts.{schedule_of}
 use Rattle.worker_run.specs.Run.{Run}
 use Rattle.worker_run.specs.declared.played.Played.{Played}
 use Rattle.directive.specs.declared.directive.Directive.{Directive}
-use Rattle.directive_run.specs.Points.{points_of}
+use Rattle.choices.specs.Points.{points_of}
 use Rattle.directive_run.specs.Exposing.{Exposes}
 use Rattle.directive_run.specs.Guarantees.{IsLed, Guarantees}
-use Rattle.directive_run.specs.Orders.{low_orders}
+use Rattle.choices.specs.Orders.{low_orders}
 use Rattle.directive_run.specs.Certifying.{IsPointed, AreRows, IsCertified, IsFirstOther, IsRefuted}
 use Rattle.directive_run.specs.Certifying.{IsTooLongUnder, Certifies, IsYes}
 use Rattle.directive_run.specs.declared.answers.CertifyRow.{CertifyRow}

@@ -3,7 +3,7 @@ use Rattle.std.proofs.Common.{length, arith, ap, sym, ◌∙◌}
 use Rattle.turn_book.specs.Posts.{schedule_of}
 use Rattle.script_body.specs.Bodies.{bodies_of}
 use Rattle.worker_run.specs.Run.{directed_run}
-use Rattle.directive_find.specs.Moments.{events_of}
+use Rattle.choices.specs.Moments.{moments_of}
 use Rattle.directive_find.proofs.laws.FoundMoments.{found-run, moments-few}
 use Rattle.directive_find.proofs.laws.Findings.{made-found, made-pass}
 use Rattle.directive_find.proofs.finding.find.Goals as goal
@@ -19,7 +19,7 @@ reduce-requires-clause-few_events g c =
 
 pub reduce-requires-clause-leads : goal.reduce-requires-clause-leads
 reduce-requires-clause-leads g c κs within = λ script of.
-    let all = c.in_ok-events.ensures ∙ ap (λ es. events_of (schedule_of es) c.args.points.now)
+    let all = c.in_ok-events.ensures ∙ ap (λ es. moments_of (schedule_of es) c.args.points.now)
     c.as_slice.ensures in
     record {
       made = c.in_ok-whole.whole.events;
@@ -41,7 +41,7 @@ returns-then-is g c = λ script of.
 
 pub returns : goal.returns
 returns g c = λ script of.
-    let all = c.in_ok-events.ensures ∙ ap (λ es. events_of (schedule_of es) c.args.points.now)
+    let all = c.in_ok-events.ensures ∙ ap (λ es. moments_of (schedule_of es) c.args.points.now)
     c.as_slice.ensures in
     made-found c.args.deal.now (bodies_of script) c.args.order.now c.args.limit c.args.points.now
     c.in_ok-whole.whole.events c.in_ok-whole.whole.verdict c.in_ok-events.events

@@ -19,7 +19,7 @@ batches-preserved g c =
     } in
     let at = c.batches.invariant in
     let tried = c.in_ok-certified.ensures in
-    let left = c.factorial-total.result - c.batches.end in
+    let left = c.order_count-total.result - c.batches.end in
     let most = c.batch_size-most.result in
     let twice = 2 * c.batches.size in
     let step : c.min-end.result ≡ min c.batches.size left = c.min-end.ensures in
@@ -57,7 +57,7 @@ returns g c = λ script of.
     let rows =
     all-rows deal (bodies_of script) directive c.args.steps c.args.limit c.batches.rows
     (length c.batches.rows) c.requires.low
-    (omega (arith, c.factorial-total.ensures, c.batches-test.false, at.long))
+    (omega (arith, c.order_count-total.ensures, c.batches-test.false, at.long))
     (at.rows script of) in
     certified deal (bodies_of script) directive c.args.steps c.args.limit c.requires.low
     c.batches.rows c.bound_of-bound.result c.requires.some_steps few rows

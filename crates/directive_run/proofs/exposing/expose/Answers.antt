@@ -2,7 +2,7 @@
 use Rattle.std.proofs.Common.{ap, ◌∙◌, arith}
 use Rattle.script_body.specs.Bodies.{bodies_of}
 use Rattle.turn_book.specs.Posts.{schedule_of}
-use Rattle.directive_run.specs.Points.{points_of}
+use Rattle.choices.specs.Points.{points_of}
 use Rattle.directive_run.proofs.Exposure.{too-long, exposed}
 use Rattle.directive_run.proofs.exposing.expose.Goals as goal
 

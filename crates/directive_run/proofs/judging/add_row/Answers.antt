@@ -2,7 +2,7 @@
 use Rattle.std.proofs.Common.{◌∷◌, [], length, sym, ap, ◌∙◌, arith}
 use Rattle.std.specs.Prelude.{slice_get}
 use Rattle.std.proofs.lemmas.List.{length-append}
-use Rattle.directive_run.specs.Orders.{low_orders}
+use Rattle.choices.specs.Orders.{low_orders}
 use Rattle.directive_run.specs.Tested.{directed_setup}
 use Rattle.directive_run.specs.declared.answers.CertifyRow.{CertifyRow}
 use Rattle.directive_run.proofs.Certificates.{refuted, too-long-under, next-row}

@@ -1,7 +1,7 @@
 -- The directed run is too long, has another verdict, or is the run of its moments' points.
 use Rattle.std.proofs.Common.{◌≡◌, ◌≢◌, true, false, refl, ap, ◌∙◌, arith}
 use Rattle.turn_book.specs.Posts.{schedule_of}
-use Rattle.directive_run.specs.Points.{points_of}
+use Rattle.choices.specs.Points.{points_of}
 use Rattle.directive_run.specs.Tested.{directed_setup, run_of_order}
 use Rattle.directive_run.proofs.Exposure.{too-long}
 use Rattle.directive_run.proofs.Certificates.{pointed, other}

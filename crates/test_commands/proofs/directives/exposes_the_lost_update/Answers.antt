@@ -1,7 +1,7 @@
 -- The lists name each of the three threads once.
 use Rattle.std.proofs.Common.{[], ◌∷◌, refl, arith}
 use Rattle.rank_now.specs.Order.{IsOrder}
-use Rattle.directive_run.proofs.laws.OrderLists.{same-order}
+use Rattle.choices.proofs.laws.OrderLists.{same-order}
 use Rattle.test_commands.proofs.directives.exposes_the_lost_update.Goals as goal
 
 second_last : IsOrder (0 ∷ 2 ∷ 1 ∷ [])

@@ -1,0 +1,5 @@
+mod KnownPlaces
+mod MomentArrays
+mod SaidVerdicts
+mod SameNames
+mod WrongOrders

@@ -1,0 +1,17 @@
+-- Verdicts that may be written (this project).
+use Rattle.std.specs.Prelude.{◌≡◌, ◌<◌, ℕ, Some, length}
+use Rattle.pct_ask.specs.NameLists.{NameLists}
+use Rattle.pct_ask.specs.VerdictText.{IsLine}
+use Rattle.pct_ask.specs.declared.verdict.Verdict.{Verdict}
+use Rattle.report_text.specs.Report.{IsWritable}
+use Rattle.c_values.specs.declared.outcome.PctOutcome.{PctOutcome}
+use Rattle.c_values.specs.Outcomes.{verdict_said}
+
+-- the thread is one of so many, and the line is a test's
+abbrev pub IsKnownPlace : ℕ → ℕ × ℕ → Type 0
+IsKnownPlace threads place = (place.0 < threads) × IsLine place.1
+
+-- the numbers say the verdict, and it has a text under the names
+pub record SaysKnown (names : NameLists) (numbers : PctOutcome) (verdict : Verdict) : Type 0 where
+  pub says : verdict_said numbers ≡ Some verdict
+  pub known : IsWritable names verdict

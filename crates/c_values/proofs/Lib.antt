@@ -1,0 +1,4 @@
+mod BlockedPlaces
+mod NameSteps
+mod SaidSteps
+pub mod laws

@@ -1,0 +1,96 @@
+//! The names of a test, read from a text.
+
+ghost use Rattle.std.specs.Prelude.{◌≡◌, true, false, None, Some, IfOk, bytes_eq};
+ghost use Rattle.pct_ask.specs.VerdictWords.{words_of};
+ghost use Rattle.c_values.specs.NamesText.{kind_in, with_words, joined_by, names_of_text};
+ghost use Rattle.c_values.specs.Told.{Answers};
+
+use crate::refused::Refused;
+use pct_ask::{NameKind, Names, first_words, is_lawful_name, split_lines};
+use std::alloc::{AllocError as NoMemory, Global};
+
+fn says(word: &[u8], other: &[u8]) -> bool
+    ensures { result ≡ bytes_eq word.now other.now }
+{
+    word == other
+}
+
+/// The kind that a word says.
+pub fn kind_of(word: &[u8]) -> Option<NameKind>
+    ensures { result ≡ kind_in word.now }
+{
+    if says(word, b"thread") {
+        Some(NameKind::Thread)
+    } else if says(word, b"var") {
+        Some(NameKind::Var)
+    } else if says(word, b"mutex") {
+        Some(NameKind::Mutex)
+    } else if says(word, b"cond") {
+        Some(NameKind::Cond)
+    } else if says(word, b"sem") {
+        Some(NameKind::Sem)
+    } else if says(word, b"barrier") {
+        Some(NameKind::Barrier)
+    } else if says(word, b"rwlock") {
+        Some(NameKind::RwLock)
+    } else {
+        None
+    }
+}
+
+/// Adds a name of a kind. `false` where it may not join the names.
+fn join(
+    alloc: Global,
+    names: &mut Names,
+    kind: Option<NameKind>,
+    name: &[u8],
+) -> Result<bool, NoMemory>
+    ensures { IfOk result (λ done.
+        (done ≡ true → joined_by names.old name.now kind ≡ Some names.new)
+        × (done ≡ false → joined_by names.old name.now kind ≡ None)) }
+{
+    let Some(kind) = kind else {
+        return Ok(false);
+    };
+    if !is_lawful_name(1, name) || names.contains(name) || names.count(kind) >= 64 {
+        return Ok(false);
+    }
+    names.add(alloc, kind, name)?;
+    Ok(true)
+}
+
+/// Adds the name of a line. `false` where the line says none that may join the names.
+fn join_line(alloc: Global, names: &mut Names, line: &[u8]) -> Result<bool, NoMemory>
+    ensures { IfOk result (λ done.
+        (done ≡ true → with_words names.old (words_of line.now) ≡ Some names.new)
+        × (done ≡ false → with_words names.old (words_of line.now) ≡ None)) }
+{
+    let words = first_words(alloc, line, 3)?;
+    if words.len() != 2 {
+        return Ok(false);
+    }
+    join(alloc, names, kind_of(words[0]), words[1])
+}
+
+/// The names that a text says. `None` where a line of it says none that may join those before it.
+pub fn names_of(alloc: Global, text: &[u8]) -> Result<Option<Names>, NoMemory>
+    ensures { IfOk result (λ names. names ≡ names_of_text text.now) }
+{
+    let mut names = Names::new(alloc);
+    for line in split_lines(text) {
+        if !join_line(alloc, &mut names, line)? {
+            return Ok(None);
+        }
+    }
+    Ok(Some(names))
+}
+
+/// The names that a text says, where it says some.
+pub fn names_said(alloc: Global, text: &[u8]) -> Result<Names, Refused>
+    ensures { Answers (λ names. names_of_text text.now ≡ Some names) result }
+{
+    match names_of(alloc, text)? {
+        Some(names) => Ok(names),
+        None => Err(Refused::Bad),
+    }
+}

@@ -1,0 +1,5 @@
+pub mod laws
+pub mod PointWalk
+pub mod MomentWalk
+pub mod Places
+pub mod Bounds

@@ -1,7 +1,0 @@
-use Rattle.directive_find.proofs.Walk.{kept-is}
-use Rattle.directive_find.proofs.moments.is_kept.Goals as goal
-
-pub returns-then-point-events : goal.returns-then-point-events
-returns-then-point-events c =
-    kept-is c.args.events.now c.args.point c.args.later.now c.is_among.result c.if-point-events.true
-    c.is_among.ensures

@@ -1,0 +1,19 @@
+-- What was made is kept.
+use Rattle.std.proofs.Common.{length}
+use Rattle.policy_pick.specs.Plan.{ByPoints}
+use Rattle.pct_c.specs.Makers.{MayOrder, IsMade}
+use Rattle.pct_c.proofs.Making.{kept}
+use Rattle.pct_c.proofs.books.pct_book_by_points.Goals as goal
+
+pub returns : goal.returns
+returns c =
+    let deal = c.args.deal.now in
+    let vars = c.args.variables.now in
+    let sems = c.args.semaphores.now in
+    let barriers = c.args.barriers.now in
+    kept c.made_by_points-made.result c.keep.result c.args.book.now.held.value
+    c.keep.new.handle.held.value
+    (MayOrder deal vars sems barriers c.args.order.now (length c.args.points.now) c.args.limit)
+    (IsMade deal vars sems barriers c.args.limit (ByPoints c.args.order.now c.args.points.now))
+    c.made_by_points-made.ensures c.keep.ensures.done c.keep.ensures.bad c.keep.ensures.statuses
+    c.keep.ensures.stays

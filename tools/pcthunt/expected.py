@@ -1,0 +1,42 @@
+"""What a script should come to: a line `# hunt: ..` in it, or NAME.expect beside NAME.pct."""
+
+from __future__ import annotations
+
+import os
+import re
+
+from pcthunt.output import USAGE, Refused, read
+from pcthunt.report import Result
+from pctmodel.script import Script
+from pctmodel.trace import threads_of_verdict
+
+LINE = re.compile(r"^[ \t]*#[ \t]*hunt:[ \t]*(.*?)[ \t\r]*$", re.M)
+
+
+def expectation(path: str, text: str) -> tuple[str, str]:
+    """What the script at the path should come to, and where that stands."""
+    found = [(match.group(1), f"line {text.count(chr(10), 0, match.start()) + 1}") for match in LINE.finditer(text)]
+    beside = os.path.splitext(path)[0] + ".expect"
+    if os.path.exists(beside):
+        found.append((read(beside, 4096).decode(errors="replace").strip(), beside))
+    if len(found) > 1:
+        raise Refused(USAGE, f"{path}: what it should come to is told twice: {found[0][1]} and {found[1][1]}")
+    return found[0] if found else ("passes", "")
+
+
+def check_expectation(path: str, wanted: str, where: str, script: Script) -> None:
+    words = wanted.split()
+    is_verdict = bool(words) and words[0] != "passed" and threads_of_verdict(words, 2, script) is not None
+    if wanted not in ("passes", "fails") and not is_verdict:
+        raise Refused(USAGE, f"{path}: {where}: '{wanted}' is none of passes, fails, or a verdict of its threads such as "
+                             f"'failed {next(iter(script.threads))} 9'")
+
+
+def is_as_expected(wanted: str, result: Result) -> bool:
+    """A verdict that is wanted is one of the one heading that there is."""
+    if wanted == "passes":
+        return not result.has_failed()
+    if wanted == "fails":
+        return result.has_failed()
+    verdicts = [failure.verdict for case in result.cases for failure in case.heading.failures]
+    return len(result.cases) == 1 and wanted in verdicts

@@ -1,0 +1,127 @@
+"""A hunt of one script, from its file to its result."""
+
+from __future__ import annotations
+
+import os
+import shlex
+
+from pcthunt.certify import Certifier, Sought
+from pcthunt.document import (complete_run, directive_of, first_part, locks_of, sentence_of)
+from pcthunt.explain import sentences_of
+from pcthunt.headings import Failure, Heading, Headings, failures_of
+
+from pcthunt.passing import passing_run
+from pcthunt.picture import drawn, lines_of
+from pcthunt.program import Program
+from pcthunt.report import MOST_ROWS, Case, Result
+from pcthunt.rounds import Crew, Parts, Search
+from pcthunt.settings import Settings
+from pcthunt.states import Json
+from pctmodel.directive import Directive, read_directive
+from pctmodel.script import Script, parse
+
+
+class Hunt:
+    """A script that was read and parsed, and the program that runs it."""
+
+    def __init__(self, settings: Settings, program: Program, title: str, data: bytes, room: str) -> None:
+        self.settings, self.program, self.title, self.data, self.room = settings, program, title, data, room
+        self.script: Script = parse(data)
+        self.text = data.decode()
+        self.path = os.path.join(room, "script.pct")
+        self.name = program.name()
+        self.headings: Headings | None = None
+        self.result: Result | None = None
+
+    def run(self, crew: Crew, parts: Parts) -> Result:
+        search = Search(self.settings, self.program, self.path, len(self.script.threads), parts)
+        rounds = search.run()
+        failures = failures_of(rounds)
+        self.headings = Headings(self.program, self.path, self.title, self.script, self.text)
+        found = self.headings.of(failures)
+        cases = [self.case(heading) for heading in found]
+        goes_on = None
+        if search.why_ended:
+            round_ = rounds[-1]
+            goes_on = self.settings.command(self.title, **{"from": round_.first if round_.is_whole() else round_.next_seed()})
+        self.result = Result(self.title, rounds, cases, failures, search.why_ended, goes_on)
+        return self.result
+
+    def case(self, heading: Heading) -> Case:
+        best = heading.best()
+        assert best.trace is not None
+        events = best.trace.events
+        races = self.races(best)
+        told = sentences_of(self.script, best.run, events, races)
+        first = max(1, len(events) - MOST_ROWS + 1)
+        picture = drawn(self.script, best.trace, lines_of(self.data), first, len(events))
+        case = Case(heading, sentence_of(best.run), told, picture, races, locks_of(self.script, events))
+        case.again = self.again(best)
+        if heading.kind() != "cut":
+            case.found = self.find(best)
+            case.passing = passing_run(self.script, best.trace, self.title)
+            if case.found and self.settings.certify:
+                case.sought = self.certify(case.found, best)
+        return case
+
+    def races(self, failure: Failure) -> list[Json]:
+        out = self.program.whole("races", *failure.schedule.words(self.path)).out
+        races = [line.split() for line in out.splitlines() if line.startswith("race ")]
+        return [{"var": words[1], "first": int(words[2]), "second": int(words[3])} for words in races]
+
+    def find(self, failure: Failure) -> Directive | None:
+        answer = self.program.whole("find", *failure.schedule.words(self.path))
+        return read_directive(answer.out.encode(), self.script) if answer.out.startswith("directive") else None
+
+    def certify(self, found: Directive, failure: Failure) -> Sought:
+        assert failure.trace is not None
+        certifier = Certifier(self.program, self.path, self.script, self.room, self.settings.limit)
+        return certifier.seek(found, failure.trace.events, self.settings.certify)
+
+    def again(self, failure: Failure) -> list[tuple[str, str]]:
+        """The commands that show a failure again."""
+        words = shlex.join(failure.schedule.words(self.title))
+        kind = failure.verdict.split()[0]
+        return [("its trace", f"{self.name} run {words}"), ("its data races", f"{self.name} races {words}"),
+                ("what it needs", f"{self.name} find {words}"), (f"what '{kind}' means", f"{self.name} --explain {kind}")]
+
+    # The document.
+
+    def document(self, status: int) -> Json:
+        assert self.result is not None and self.headings is not None
+        document = first_part(self.title, self.text, [case.heading.best().run for case in self.result.cases], self.script)
+        document |= {"command": self.settings.command(self.title), "status": status,
+                     "rounds": [self.round(it) for it in self.result.rounds]}
+        for member, case in zip(document["headings"], self.result.cases):
+            member |= self.heading(case)
+        return document
+
+    @staticmethod
+    def round(round_) -> Json:  # type: ignore[no-untyped-def]
+        told: Json = {"depth": round_.depth, "steps": round_.steps, "limit": round_.limit, "seeds": round_.done(),
+                      "failures": round_.failures()}
+        return told | ({"sweep": True} if round_.sweep is not None else {"from": str(round_.first)})
+
+    def heading(self, case: Case) -> Json:
+        best = case.heading.best()
+        told: Json = {
+            "again": [{"says": says, "command": command} for says, command in case.again],
+            "kind": case.heading.kind(), "key": list(case.heading.key), "sentence": case.sentence, "told": case.told,
+            "shares": [{"round": number, "count": count} for number, count in case.heading.counts().items()],
+            "verdicts": [{"verdict": it.verdict, "count": it.count(), "steps": it.steps} for it in case.heading.failures],
+            "races": case.races, "locks": case.locks,
+        }
+        if case.found:
+            told["find"] = directive_of(case.found, best.run)
+        if case.sought and case.sought.certified:
+            certified = case.sought.certified
+            told["directive"] = directive_of(certified.directive, best.run) | {
+                "threads": certified.threads, "steps": certified.steps, "depth": len(certified.directive.events) + 1,
+                "bound": str(certified.bound), "tried": certified.tried}
+        if case.passing:
+            assert self.headings is not None
+            complete_run(case.passing["run"], self.headings.deal, self.headings.texts)
+            told["passing"] = case.passing
+        return told
+
+

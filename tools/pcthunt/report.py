@@ -1,0 +1,186 @@
+"""What a hunt says of a script, as text."""
+
+from __future__ import annotations
+
+import shlex
+from dataclasses import dataclass, field
+
+from pcthunt.certify import Sought
+from pcthunt.headings import MOST_VERDICTS, Failure, Heading
+from pcthunt.output import shown
+from pcthunt.picture import MOST_COLUMNS, Picture, text_lines
+from pcthunt.rounds import Round
+from pcthunt.states import Json, listed
+from pctmodel.directive import Directive
+
+MOST_ROWS = 120  # of the lanes that are printed
+
+
+@dataclass
+class Case:
+    """A heading with all that is told of it."""
+
+    heading: Heading
+    sentence: str
+    told: list[str]
+    picture: Picture
+    races: list[Json]
+    locks: Json
+    found: Directive | None = None
+    sought: Sought | None = None
+    again: list[tuple[str, str]] = field(default_factory=list)  # what it shows, and the command
+    passing: Json | None = None
+
+
+@dataclass
+class Result:
+    """What came of a hunt."""
+
+    title: str
+    rounds: list[Round]
+    cases: list[Case]
+    failures: list[Failure]
+    why_ended: str | None
+    goes_on: str | None  # the command by which a hunt that was ended goes on
+
+    def has_failed(self) -> bool:
+        return bool(self.failures)
+
+
+def folded(text: str, first: str, later: str) -> list[str]:
+    """The text in lines of less than 100 columns."""
+    lines, line = [], first
+    for word in text.split(" "):
+        if len(line) + len(word) + 1 > MOST_COLUMNS and line.strip() not in ("", "-"):
+            lines.append(line)
+            line = later
+        line += word if line in (first, later) else f" {word}"
+    return [*lines, line]
+
+
+def round_line(round_: Round) -> str:
+    failures = round_.failures()
+    fail = "none fails" if failures == 0 else "1 fails" if failures == 1 else f"{failures:,} fail"
+    if round_.sweep is not None:
+        return f"all {round_.wanted:,} choices of depth {round_.depth}: {fail}"
+    done = f"{round_.done():,} seeds" if round_.is_whole() else f"{round_.done():,} of {round_.wanted:,} seeds"
+    points = f", points in 1 to {round_.steps}" if round_.depth > 1 else ""
+    return f"depth {round_.depth}: {done} from {round_.first} on{points}: {fail}"
+
+
+def shares(heading: Heading, rounds: list[Round]) -> str:
+    """In how many runs of each round it came."""
+    told = []
+    for number, count in heading.counts().items():
+        round_ = next(it for it in rounds if it.number == number)
+        what = "choices" if round_.sweep is not None else "seeds"
+        whole = "all " if round_.sweep is not None else ""
+        told.append(f"{count:,} of {whole}{round_.done():,} {what} at depth {round_.depth}")
+    return ", ".join(told)
+
+
+def moment_words(directive: Directive, failure: Failure) -> list[str]:
+    """The moments of a directive in words, with the lines of the run at which they come."""
+    told = []
+    for thread, number in directive.events:
+        own = [it for it in failure.run["steps"] if it["thread"] == thread]
+        at = f" (line {own[number - 1]['line']}: {own[number - 1]['text']})" if number <= len(own) else ""
+        told.append(f"{thread} is lowered after its step {number}{at}")
+    return told
+
+
+def directive_words(directive: Directive, failure: Failure) -> str:
+    return listed([f"{directive.low} has the lowest priority", *(moment_words(directive, failure) or ["nobody is lowered"])])
+
+
+def case_lines(number: int, case: Case, result: Result) -> list[str]:
+    best = case.heading.best()
+    lines = folded(case.sentence, f"{number}. ", "   ")
+    lines += folded(f"{shares(case.heading, result.rounds)}.", "   ", "   ")
+    verdicts = [failure.verdict for failure in case.heading.failures]
+    if len(verdicts) > 1:
+        lines += folded("Verdicts: " + "; ".join(verdicts[:6]) + (f"; and {len(verdicts) - 6} more" if len(verdicts) > 6 else ""),
+                        "   ", "     ")
+    lines += ["", f"   The shortest run, {len(best.run['steps'])} steps ({' '.join(best.schedule.options)}):", ""]
+    lines += [f"   {line}".rstrip() for line in text_lines(case.picture, MOST_COLUMNS - 3)]
+    lines.append("")
+    for sentence in case.told:
+        lines += folded(sentence, "   - ", "     ")
+    lines += finding_lines(case, best)
+    lines += ["", "   To see it again:"]
+    for says, command in case.again:
+        lines.append(f"     {command}    # {says}")
+    return [*lines, *folded(f"To read: {reading(case)}", "   ", "     ")]
+
+
+def reading(case: Case) -> str:
+    """What to read: bugs of the same kind in the gallery."""
+    run, kind = case.heading.best().run, case.heading.kind()
+    core = run.get("core", [])
+    if kind == "stuck" and core and all(it["for"] == it["thread"] for it in core):
+        alike = ["upgraded_read_lock"]
+    elif kind == "stuck" and core and {it["for"] for it in core} <= {it["thread"] for it in core}:
+        alike = ["lock_order", "philosophers"]
+    elif kind == "stuck" and any(it["waits"].startswith("a signal") for it in core):
+        alike = ["lost_wakeup", "one_condition", "pool"]
+    elif kind == "stuck":
+        return "docs/messages.md on 'stuck'"
+    elif kind == "failed":
+        alike = ["lost_update", "seqlock", "work_stealing"] if case.races else ["wait_with_if", "released_twice", "two_phase"]
+    else:
+        return f"docs/messages.md on '{kind}'"
+    return f"docs/messages.md on '{kind}'; examples/README.md on {listed(alike)}"
+
+
+def finding_lines(case: Case, best: Failure) -> list[str]:
+    lines: list[str] = []
+    if case.locks.get("cycle"):
+        nests = [f"{it['thread']} takes {it['taken']} while it holds {it['held']} (step {it['step']})" for it in case.locks["cycle"]]
+        lines += folded("a cycle of mutexes: " + "; ".join(nests), "   - ", "     ")
+    elif len(case.locks.get("order", [])) > 1 and case.heading.kind() != "stuck":
+        lines += folded("the run takes its mutexes in the order " + ", ".join(case.locks["order"]), "   - ", "     ")
+    if case.found:
+        lines += folded(f"what the failure needs, by find: {directive_words(case.found, best)}", "   - ", "     ")
+    if case.passing:
+        lines += folded(f"{case.passing['says']}, it passes; the runs differ from step {case.passing['differs']} on",
+                        "   - ", "     ")
+    sought = case.sought
+    if sought and sought.certified:
+        certified = sought.certified
+        how = directive_words(certified.directive, best)
+        tried = "the first directive that was tried" if certified.tried == 1 else f"the {certified.tried:,}th directive that was tried"
+        lines += folded(f"certified: {certified.told()} fails so, by {ordinal(tried)}: {how}", "   - ", "     ")
+    elif sought:
+        lines += folded(f"not certified: {sought.why_not}", "   - ", "     ")
+    return lines
+
+
+def ordinal(text: str) -> str:
+    for wrong, right in (("1th", "1st"), ("2th", "2nd"), ("3th", "3rd")):
+        if f"1{wrong}" not in text:
+            text = text.replace(wrong, right)
+    return text
+
+
+def text_of(result: Result) -> str:
+    """The whole text."""
+    many = len(result.cases)
+    what = "nothing failed" if not result.failures else "1 failure" if many == 1 else f"{many} failures"
+    if result.failures and all(case.heading.kind() == "cut" for case in result.cases):
+        what = "no failure, but runs that were cut"
+    lines = [f"{shown(result.title)}: {what}"]
+    lines += [f"  {round_line(it)}" for it in result.rounds]
+    if result.why_ended:
+        lines.append(f"  The search was ended: {result.why_ended}. It goes on by")
+        lines.append(f"    {result.goes_on}")
+    for number, case in enumerate(result.cases, 1):
+        lines += ["", *case_lines(number, case, result)]
+    if len(result.failures) > MOST_VERDICTS:
+        rest = result.failures[MOST_VERDICTS:]
+        runs = sum(it.count() for it in rest)
+        lines += ["", f"Of {len(rest)} more verdicts ({runs:,} runs) no run was made: {rest[0].verdict} is the first."]
+    return "\n".join(lines) + "\n"
+
+
+def command(*words: str) -> str:
+    return shlex.join(words)

@@ -1,0 +1,113 @@
+"""A run made again by the plain model, with where each register's value came from."""
+
+from __future__ import annotations
+
+from dataclasses import dataclass, field
+from typing import Any
+
+from pctmodel.run import Body, Event, World
+from pctmodel.script import Script, Thread
+
+CHANGES = ("write", "add", "cas")
+
+
+@dataclass(frozen=True)
+class Origin:
+    """Where a register got its value: the line, and the steps whose answers it came from."""
+
+    line: int
+    steps: frozenset[int]
+
+
+def registers_in(expression: Any) -> set[str]:
+    if isinstance(expression, str):
+        return {expression}
+    if isinstance(expression, tuple | list):
+        return {name for part in expression[1:] for name in registers_in(part)}
+    return set()
+
+
+class WatchedBody(Body):
+    """A thread that knows the origins of its registers."""
+
+    def __init__(self, thread: Thread, is_held: bool) -> None:
+        self.origins: dict[str, Origin] = {}
+        self.number = 0  # of the step that is taken
+        self.decisions: set[int] = set()  # steps whose answers its conditions have used since its last step
+        super().__init__(thread, is_held)
+
+    def sources(self, values: list[Any]) -> frozenset[int]:
+        """The steps from whose answers the expressions' values come."""
+        names = {name for value in values for name in registers_in(value)}
+        return frozenset(step for name in names if name in self.origins for step in self.origins[name].steps)
+
+    def move(self, head: Any) -> None:
+        sources = self.sources(head.values)
+        super().move(head)
+        if head.word == "set":
+            self.origins[head.register] = Origin(head.line, sources)
+        else:
+            self.decisions |= sources
+
+    def answer(self, value: int) -> None:
+        head = self.rest[0] if self.rest else None
+        if head is not None and head.register and self.ask[0] != "arrive" and self.ask[0] not in ("begin", "fault"):
+            self.origins[head.register] = Origin(head.line, frozenset({self.number}))
+        super().answer(value)
+
+
+@dataclass
+class Watched:
+    """What a run's steps used, by their numbers."""
+
+    events: list[Event]
+    inputs: dict[int, frozenset[int]] = field(default_factory=dict)  # the steps whose answers a step's values use
+    registers: dict[int, dict[str, tuple[int, Origin | None]]] = field(default_factory=dict)  # that a step's values use
+    written: dict[int, int | None] = field(default_factory=dict)  # for a read, the step that wrote what it read
+    changes: dict[str, list[int]] = field(default_factory=dict)  # by variable the steps that changed it
+    reads: dict[str, dict[str, int]] = field(default_factory=dict)  # by thread and variable the last read
+    world: World | None = None
+
+    def change_after(self, step: int, before: int) -> int | None:
+        """The last step before that one by which another thread changed what the step had read."""
+        event = self.events[step - 1]
+        if event.ask[0] not in ("read", *CHANGES):
+            return None
+        others = [it for it in self.changes.get(event.ask[1], [])
+                  if step < it < before and self.events[it - 1].thread != event.thread]
+        return others[-1] if others else None
+
+
+def has_changed(event: Event) -> bool:
+    return event.ask[0] in ("write", "add") or (event.ask[0] == "cas" and event.answer == 1)
+
+
+def watched(script: Script, events: list[Event]) -> Watched:
+    """The run of the events, watched."""
+    world = World(script)
+    bodies = {name: WatchedBody(thread, name in script.held) for name, thread in script.threads.items()}
+    world.bodies = bodies
+    found = Watched(events, world=world)
+    for number, event in enumerate(events, 1):
+        body = bodies[event.thread]
+        note_use(found, number, body)
+        body.number = number
+        word = event.ask[0]
+        if word in ("read", *CHANGES):
+            of_it = found.changes.setdefault(event.ask[1], [])
+            if word != "write":
+                found.written[number] = of_it[-1] if of_it else None
+                found.reads.setdefault(event.thread, {})[event.ask[1]] = number
+            if has_changed(event):
+                of_it.append(number)
+        world.step(event.thread)
+    return found
+
+
+def note_use(found: Watched, number: int, body: WatchedBody) -> None:
+    """Keeps what the values of the body's next step use."""
+    head = body.rest[0] if body.rest and not body.begins else None
+    values = head.values if head is not None else []
+    found.inputs[number] = body.sources(values)
+    names = sorted({name for value in values for name in registers_in(value)}, key=lambda name: int(name[1:]))
+    found.registers[number] = {name: (body.registers[name], body.origins.get(name)) for name in names}

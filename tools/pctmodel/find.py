@@ -1,0 +1,23 @@
+"""From a failing run to a short directive, for the model: the moments of its change points, of which those are left out that
+its verdict doesn't need."""
+
+from pctmodel.directive import directed_run
+
+
+def moments_of(events, points):
+    """For each point within the run, the thread of that step and the number of its own step; of equal points the last."""
+    moments = []
+    for index, point in enumerate(points):
+        if point <= len(events) and point not in points[index + 1 :]:
+            thread = events[point - 1].thread
+            moments.append((thread, sum(event.thread == thread for event in events[:point])))
+    return moments
+
+
+def reduced(script, order, moments, verdict, limit):
+    """The moments without the first one that can be left out, and so on."""
+    for place in range(len(moments)):
+        others = moments[:place] + moments[place + 1 :]
+        if directed_run(script, order, others, limit)[1] == verdict:
+            return reduced(script, order, others, verdict, limit)
+    return moments
