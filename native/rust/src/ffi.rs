@@ -145,7 +145,7 @@ impl Book {
     fn stepped(call: &'static str, turn: RawTurn) -> Result<(Stepped, Choice), Refused> {
         let what = match turn.status {
             DONE => Stepped::Answer(turn.answer),
-            1 => Stepped::Ended,
+            1 => Stepped::Ended(turn.answer),
             2 => Stepped::Posted,
             status => return Err(Refused { call, status }),
         };

@@ -142,7 +142,7 @@ impl Live {
     /// Where the thread's last step changed something, those who wait for a change look again.
     fn wake_waiters(&self, me: u32) -> Result<(), Fault> {
         loop {
-            let owed = self.state()?.spins.to_wake(me);
+            let owed = self.state()?.spins.next_owed(me);
             let Some(semaphore) = owed else { return Ok(()) };
             let up = Late::Ask(Ask::of(kind::UP, semaphore));
             let brought = self.bring(me, self.last_place(me), Some(up));

@@ -215,7 +215,8 @@ pub(crate) enum Choice {
 #[derive(Clone, Copy, Debug, PartialEq, Eq)]
 pub(crate) enum Stepped {
     Answer(i64),
-    Ended,
+    /// The step was taken, and the run is over with it.
+    Ended(i64),
     Posted,
 }
 

@@ -73,6 +73,7 @@ pub fn replay<T: Test>(config: Config, trace: &Path, test: T) -> Replayed {
 }
 
 /// The replay that `PCT_REPLAY` asks for: of this test alone, and each step is printed as it is taken.
+#[track_caller]
 pub(crate) fn by_environment<T: Test>(settings: Settings, test: T, trace: &Path) {
     let name = settings.file_name();
     if trace.file_stem().is_none_or(|stem| stem.to_string_lossy() != name) {

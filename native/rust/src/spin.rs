@@ -90,7 +90,7 @@ impl Spins {
 
     /// The next one whom the thread has to wake before its next ask, by its semaphore. Who begins to wait meanwhile has looked since
     /// the change.
-    pub fn to_wake(&mut self, thread: u32) -> Option<u32> {
+    pub fn next_owed(&mut self, thread: u32) -> Option<u32> {
         let owed = &mut self.owed[thread as usize];
         if self.changed >> thread & 1 == 1 {
             self.changed &= !(1 << thread);

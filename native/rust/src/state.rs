@@ -152,7 +152,10 @@ impl State {
                     self.took(thread, line, &ask, answer);
                     return Ok(Next::Goes(thread, ask, answer));
                 }
-                Stepped::Ended => return self.settle().map(|()| Next::Over),
+                Stepped::Ended(answer) => {
+                    self.tell(self.steps + 1, thread, line, ask, answer);
+                    return self.settle().map(|()| Next::Over);
+                }
                 Stepped::Posted if ask.kind == kind::NONE => self.threads.end(thread),
                 Stepped::Posted => self.posted[thread as usize] = Some((line, ask)),
             }
@@ -162,11 +165,16 @@ impl State {
     fn took(&mut self, thread: u32, line: u32, ask: &Ask, answer: i64) {
         self.posted[thread as usize] = None;
         self.steps += 1;
-        if let Some(follow) = &self.follow {
-            follow.took(self.steps, self.places.place(line), &Event { thread, line, ask: *ask, answer });
-        }
+        self.tell(self.steps, thread, line, *ask, answer);
         self.objects.took(ask, answer);
         self.spins.took(thread, ask, answer);
+    }
+
+    /// In a replay each step is looked at.
+    fn tell(&self, number: u32, thread: u32, line: u32, ask: Ask, answer: i64) {
+        if let Some(follow) = &self.follow {
+            follow.took(number, self.places.place(line), &Event { thread, line, ask, answer });
+        }
     }
 
     fn settle(&mut self) -> Result<(), Fault> {

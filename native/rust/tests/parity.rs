@@ -20,6 +20,7 @@ mod with_pct {
     include!("parity/calls.rs");
 }
 
+#[allow(dead_code)]
 mod in_a_run {
     use pct as lib;
     use pct::sync::atomic::Ordering::SeqCst;

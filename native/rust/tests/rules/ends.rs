@@ -155,11 +155,17 @@ fn panics_as_std_poison_and_are_joined() {
         assert!(lock.read().is_err());
     });
     let of = |test: fn()| text_of(|| pct::check_with(config.clone(), test));
-    assert!(of(|| panic!("leaves main"))
-        .starts_with(&filled(SOURCE, "thread main panicked at tests/rules/ends.rs:{leaves}: leaves main"))); //: leaves
-    assert!(of(|| drop(thread::spawn(|| panic!("nobody joins"))))
-        .contains(&filled(SOURCE, "panicked at tests/rules/ends.rs:{nobody_joins}: nobody joins")));
-    //: nobody_joins
+    let leaves = of(|| {
+        panic!("leaves main"); //: leaves
+    });
+    assert!(leaves.starts_with(&filled(SOURCE, "thread main panicked at tests/rules/ends.rs:{leaves}: leaves main")), "{leaves}");
+    let lost = of(|| {
+        let thread = thread::spawn(|| {
+            panic!("nobody joins"); //: nobody_joins
+        });
+        drop(thread);
+    });
+    assert!(lost.contains(&filled(SOURCE, "panicked at tests/rules/ends.rs:{nobody_joins}: nobody joins")), "{lost}");
 }
 
 #[test]

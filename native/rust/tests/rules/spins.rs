@@ -112,6 +112,8 @@ fn steps_of_ones_own() {
         (asks, run.verdict()),
         (vec!["yield".into(), "check 1".into(), "check 0".into()], filled(SOURCE, "failed main {fails}"))
     );
-    fails_with(|| pct::holds(false), &["thread main at tests/rules/spins.rs:{alone}: pct::holds(false)"]);
-    //: alone
+    let alone = || {
+        pct::holds(false); //: alone
+    };
+    fails_with(alone, &["thread main at tests/rules/spins.rs:{alone}: pct::holds(false)"]);
 }
