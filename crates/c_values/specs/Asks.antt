@@ -50,6 +50,7 @@ asks_by a b x y =
 abbrev pub ask_by : ℕ → ℕ → ℕ → ℤ → ℤ → Option (Option Ask)
 ask_by kind a b x y = slice_get (asks_by a b x y) kind
 
+-- the same of an ask's numbers together
 abbrev pub ask_said : PctAsk → Option (Option Ask)
 ask_said n = ask_by n.kind n.a n.b n.x n.y
 

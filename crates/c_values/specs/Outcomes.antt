@@ -57,13 +57,14 @@ outcome_numbers (Ends (VerdictFault thread line kind)) =
 outcome_numbers (Ends Cut) = numbers_by 6 0 0 0
 outcome_numbers (Departed thread) = numbers_by 7 0 thread 0
 
--- back: what a reason says of a misuse, and of a fault
+-- back: what a reason says of a misuse
 abbrev pub misuse_by : ℕ → Option MisuseKind
 misuse_by reason =
     option_and_then (λ kind. kind)
     (slice_get (None ∷ Some NotOwner ∷ Some SemFull ∷ Some AlreadyStarted ∷ Some TooManyReads ∷ [])
     reason)
 
+-- and of a fault
 abbrev pub fault_by : ℕ → Option FaultKind
 fault_by reason =
     option_and_then (λ kind. kind)
