@@ -2,11 +2,12 @@
 use Rattle.std.specs.Prelude.{codes, decimal}
 use Rattle.std.specs.List.{All, join_with_byte}
 use Rattle.std.proofs.Common.{◌≡◌, ℕ, true, false, List, [], ◌∷◌, ◌++◌, map, refl, sym, ap, ◌∙◌}
-use Rattle.std.proofs.Common.{append_assoc}
+use Rattle.std.proofs.Common.{◌≤◌, append_assoc, arith}
 use Rattle.std.proofs.lemmas.List.Elements.{All-head, All-tail}
 use Rattle.json.specs.Print.{quoted}
 use Rattle.serde_json.specs.Data.{Data, number, unsigned, string, array, object, Members, member}
-use Rattle.serde_json.specs.Data.{no_members}
+use Rattle.serde_json.specs.Data.{no_members, depth, items_depth}
+use Rattle.serde_json.specs.Read.{max_depth}
 use Rattle.serde_json.specs.View.{items_of}
 use Rattle.serde_json.specs.Written.{compact_text, items_text, members_text, has_float}
 use Rattle.serde_json.specs.Written.{items_have_float}
@@ -162,3 +163,20 @@ groups-no_float names (group ∷ groups) = groups-no_float names groups
 pub no_float : (frame : Frame) (rows : List Row) (groups : List Group) (names : NameLists)
     → has_float (report_data frame rows groups names) ≡ false
 no_float frame rows groups names = rw (groups-no_float names groups, rows-no_float names rows)
+
+-- ---- it nests few values
+
+rows-depth : (names : NameLists) (rows : List Row)
+    → items_depth (items_of (map (row_data names) rows)) ≤ 1
+rows-depth names [] = omega arith
+rows-depth names (row ∷ rows) = omega (arith, rows-depth names rows)
+
+groups-depth : (names : NameLists) (groups : List Group)
+    → items_depth (items_of (map (group_data names) groups)) ≤ 1
+groups-depth names [] = omega arith
+groups-depth names (group ∷ groups) = omega (arith, groups-depth names groups)
+
+pub few_deep : (frame : Frame) (rows : List Row) (groups : List Group) (names : NameLists)
+    → depth (report_data frame rows groups names) ≤ max_depth
+few_deep frame rows groups names =
+    omega (arith, rows-depth names rows, groups-depth names groups)

@@ -6,7 +6,7 @@ ghost use Rattle.serde_json.specs.Data.{string};
 ghost use Rattle.serde_json.specs.View.{view};
 ghost use Rattle.report_text.specs.Report.{IsWritable};
 ghost use Rattle.report_text.specs.Json.{json_of};
-ghost use Rattle.report_text.specs.Data.{row_data, group_data, report_data};
+ghost use Rattle.report_text.specs.Data.{row_data, group_data, report_data, ReadsBack};
 
 use crate::frame::Frame;
 use failure_rank::{Group, Groups};
@@ -24,7 +24,10 @@ pub fn json_report(
 ) -> Result<Vec<u8>, NoMemory>
     requires rows { All (λ row. IsWritable names.now row.verdict) rows.now }
     requires groups { All (λ group. IsWritable names.now group.verdict) groups.now }
-    ensures { IfOk result (λ text. text.items ≡ json_of frame.now rows.now groups.now names.now) }
+    ensures text { IfOk result
+        (λ text. text.items ≡ json_of frame.now rows.now groups.now names.now) }
+    ensures read { IfOk result
+        (λ text. ReadsBack text.items (report_data frame.now rows.now groups.now names.now)) }
 {
     // The names are lawful, and so no text needs an escape.
     let _ = names.count(NameKind::Thread);

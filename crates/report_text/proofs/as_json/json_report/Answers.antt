@@ -1,13 +1,15 @@
 -- The value's compact text, and the line's end.
-use Rattle.std.proofs.Common.{◌≡◌, List, ℕ, [], ◌∷◌, ◌++◌, false, ap, ◌∙◌}
+use Rattle.std.proofs.Common.{◌≡◌, ◌≤◌, List, ℕ, [], ◌∷◌, ◌++◌, false, Some, ap, sym, subst, ◌∙◌}
+use Rattle.serde_json.specs.Data.{Data, depth}
+use Rattle.serde_json.specs.Read.{max_depth}
 use Rattle.serde_json.specs.View.{view}
 use Rattle.serde_json.specs.Written.{compact_text, has_float}
 use Rattle.report_text.specs.Data.{report_data}
-use Rattle.report_text.proofs.Written.{report-text, no_float}
+use Rattle.report_text.proofs.Written.{report-text, no_float, few_deep}
 use Rattle.report_text.proofs.as_json.json_report.Goals as goal
 
-pub returns : goal.returns
-returns c =
+pub returns-clause-text : goal.returns-clause-text
+returns-clause-text c =
     let frame = c.args.frame.now in
     let rows = c.args.rows.now in
     let groups = c.args.groups.now in
@@ -20,3 +22,19 @@ returns c =
     (c.in_ok-text.ensures.text integers ∙ ap compact_text value
     ∙ report-text names c.count.ensures.lawful frame rows groups c.requires.rows
     c.requires.groups)
+
+pub returns-clause-read : goal.returns-clause-read
+returns-clause-read c =
+    let frame = c.args.frame.now in
+    let rows = c.args.rows.now in
+    let groups = c.args.groups.now in
+    let names = c.args.names.now in
+    let value : view c.in_ok-report.report ≡ report_data frame rows groups names =
+    rw (c.as_slice.ensures, c.as_slice-2.ensures) at c.in_ok-report.ensures in
+    let few : depth (view c.in_ok-report.report) ≤ max_depth =
+    subst (λ (d : Data). depth d ≤ max_depth) (sym value) (few_deep frame rows groups names) in
+    record {
+      line = c.in_ok-text.text.items;
+      ended = c.in_ok-push.ensures.items;
+      reads = c.in_ok-text.ensures.reads_back few ∙ ap (λ (d : Data). Some d) value;
+    }
