@@ -265,7 +265,7 @@ typedef struct PctLocks {
     uint64_t count;
 } PctLocks;
 
-/* The run of a seed, for groups. */
+/* The run of a seed, for groups and reports. */
 typedef struct PctRow {
     uint64_t seed;
     uint32_t steps;
@@ -279,6 +279,15 @@ typedef struct PctGroup {
     uint32_t steps;
     uint64_t first;
 } PctGroup;
+
+/* What the runs of a campaign have in common: their threads, the steps 1 to `steps` from which change
+   points are drawn, the depth (one more than the change points), and the limit. */
+typedef struct PctFrame {
+    uint32_t threads;
+    uint32_t steps;
+    uint32_t depth;
+    uint32_t limit;
+} PctFrame;
 
 /* --- Drawing --- */
 
@@ -383,6 +392,12 @@ uint32_t pct_text_trace_steps(PctTrace *trace, uint32_t from, PctEvent *steps, s
 
 /* Its verdict. PCT_DONE, PCT_NO_BOOK. */
 uint32_t pct_text_trace_verdict(PctTrace *trace, PctOutcome *verdict);
+
+/* The report of a campaign: its rows and its groups (which pct_tell_groups gives), as a text or as JSON. */
+PctCount pct_text_report(const uint8_t *names, size_t name_bytes, const PctFrame *frame, const PctRow *rows,
+                         size_t row_count, uint8_t *text, size_t room);
+PctCount pct_text_report_json(const uint8_t *names, size_t name_bytes, const PctFrame *frame, const PctRow *rows,
+                              size_t row_count, uint8_t *text, size_t room);
 
 /* --- What runs tell --- */
 

@@ -80,8 +80,12 @@ class Group(ctypes.Structure):
     _fields_ = [("verdict", Outcome), ("count", c_uint32), ("steps", c_uint32), ("first", c_uint64)]
 
 
+class Frame(ctypes.Structure):
+    _fields_ = [("threads", c_uint32), ("steps", c_uint32), ("depth", c_uint32), ("limit", c_uint32)]
+
+
 STRUCTS = [Ask, Event, Outcome, Moment, Deal, Turn, Count, Read, Book, Trace, Head, Directive, Bound, Race, Nesting,
-           Locks, Row, Group]
+           Locks, Row, Group, Frame]
 (DONE, ENDED, POSTED, NOT_YET, OVER, BAD, NO_MEMORY, NO_BOOK, NO_ROOM) = range(9)
 CHOICE_TURN, CHOICE_WAITS, CHOICE_OVER = 1, 2, 3
 (PASSED, FAILED, STUCK, MISUSE, FAULT, CUT, DEPARTED) = range(1, 8)

@@ -48,8 +48,12 @@ static const char trace_text[] =
     "trace 1\norder A B Check\npoints 1\nlimit 10000\n1 A 6 read counter = 0\n2 B 11 read counter = 0\n"
     "3 B 12 write counter 1 = 0\n4 A 7 write counter 1 = 0\n5 Check 16 join A = 0\n6 Check 17 join B = 0\n"
     "7 Check 18 read counter = 1\n8 Check 19 check 0 = 0\nverdict failed Check 19\n";
-
 static const char directive_text[] = "directive 1\nlow Check\nafter A 1\nverdict failed Check 19\n";
+static const char report_text[] =
+    "campaign 1\nthreads 1\nsteps 1\ndepth 2\nlimit 10000\n7 1 failed A 3\n8 1 failed A 3\ngroups 1\n2 1 7 failed A 3\n";
+static const char report_json[] =
+    "{\"depth\":2,\"groups\":[{\"count\":2,\"first\":7,\"steps\":1,\"verdict\":\"failed A 3\"}],\"limit\":10000,"
+    "\"rows\":[[7,1,\"failed A 3\"],[8,1,\"failed A 3\"]],\"steps\":1,\"threads\":1}\n";
 
 #define NAMES bytes_of(LOST_UPDATE_NAMES), sizeof LOST_UPDATE_NAMES - 1
 #define LOST_UPDATE_DEAL &lost_update_deal, lost_update_variables, 1, NULL, 0, NULL, 0
@@ -224,12 +228,18 @@ static void check_lock_order(void) {
     IS(told.status == PCT_DONE && told.kind == PCT_LOCK_ORDER && told.count == 2 && made.order[0] == 0 && made.order[1] == 1);
 }
 
-static void check_groups(void) {
+static void check_reports(void) {
+    static const char names[] = "thread A\n";
+    const PctFrame frame = {1, 1, 2, 10000};
     const PctRow rows[2] = {{7, 1, {PCT_FAILED, 0, 0, 3, 0, {0}}}, {8, 1, {PCT_FAILED, 0, 0, 3, 0, {0}}}};
     PctCount told;
     CALL(told, told.status, pct_tell_groups(rows, 2, made.groups, 2));
     IS(told.status == PCT_DONE && told.count == 1 && made.groups[0].count == 2 && made.groups[0].steps == 1);
     IS(made.groups[0].first == 7 && made.groups[0].verdict.kind == PCT_FAILED && made.groups[0].verdict.line == 3);
+    CALL(told, told.status, pct_text_report(bytes_of(names), 9, &frame, rows, 2, made.text, sizeof made.text));
+    IS(is_text(told, report_text));
+    CALL(told, told.status, pct_text_report_json(bytes_of(names), 9, &frame, rows, 2, made.text, sizeof made.text));
+    IS(is_text(told, report_json));
 }
 
 static void check_races(void) {
@@ -288,7 +298,7 @@ int main(void) {
     check_trace_read();
     check_directives();
     check_races();
-    check_groups();
+    check_reports();
     check_lock_order();
     check_turns();
     check_ended();

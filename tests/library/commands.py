@@ -1,25 +1,12 @@
 """Commands of the program, made again by a layer over the library: each answers the output, and a refusal's line."""
 
-import json
 import random
 from ctypes import byref, c_uint32
 from typing import Any
 
-from bound import (BAD, DEPARTED, DONE, NO_ROOM, PASSED, Directive, Event, Group, Moment, Nesting, Outcome, Race,
+from bound import (BAD, DEPARTED, DONE, NO_ROOM, PASSED, Directive, Event, Frame, Group, Moment, Nesting, Outcome, Race,
                    Row, Trace, items, numbers, text)
 from driving import FAULTS, LIMIT, Layer, want
-
-
-def report_text(frame: dict[str, int], rows: list[tuple[int, int, str]], groups: list[dict[str, Any]]) -> str:
-    """The report of a campaign, of what the library tells of its runs."""
-    lines = ["campaign 1", *(f"{key} {number}" for key, number in frame.items()), *(f"{a} {b} {c}" for a, b, c in rows),
-             f"groups {len(groups)}", *(f"{it['count']} {it['steps']} {it['first']} {it['verdict']}" for it in groups)]
-    return "".join(f"{line}\n" for line in lines)
-
-
-def report_json(frame: dict[str, int], rows: list[tuple[int, int, str]], groups: list[dict[str, Any]]) -> str:
-    """The same as JSON."""
-    return json.dumps({**frame, "rows": rows, "groups": groups}, sort_keys=True, separators=(",", ":")) + "\n"
 
 
 class Commands(Layer):
@@ -123,11 +110,18 @@ class Commands(Layer):
             row.seed = (options["--from"] + place) % 2**64
             made, row.verdict = self.run(self.by_points(*self.drawn(row.seed, depth, steps), limit), self.dice)
             row.steps = len(made)
-        frame = {"threads": len(self.script.threads), "steps": steps, "depth": depth, "limit": limit}
-        told = [(row.seed, row.steps, self.verdict(row.verdict)) for row in rows]
-        groups = [{"count": group.count, "steps": group.steps, "first": group.first, "verdict": self.verdict(group.verdict)}
-                  for group in self.filled(Group, self.calls.pct_tell_groups, rows, len(rows))]
-        return report_json(frame, told, groups) if options.get("--form") == "json" else report_text(frame, told, groups)
+        frame = Frame(len(self.script.threads), steps, depth, limit)
+        call = self.calls.pct_text_report_json if options.get("--form") == "json" else self.calls.pct_text_report
+        report = self.told(call, byref(frame), rows, len(rows))
+        if options.get("--form") != "json":
+            self.check_groups(rows, report.splitlines())
+        return report
+
+    def check_groups(self, rows: Any, report: list[str]) -> None:
+        """The groups by themselves are those of the report."""
+        groups = self.filled(Group, self.calls.pct_tell_groups, rows, len(rows))
+        lines = [f"{group.count} {group.steps} {group.first} {self.verdict(group.verdict)}" for group in groups]
+        want("pct_tell_groups", lines, report[len(report) - len(lines):])
 
     def of_find(self, options: dict[str, Any]) -> str:
         order, points, limit = self.scheduled(options)

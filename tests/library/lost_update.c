@@ -1,4 +1,4 @@
-/* Lost update over the seeds 1 to 1000, by the library. `campaign` writes the groups of the failures, as a report has them. `threads` makes the trace of each
+/* Lost update over the seeds 1 to 1000, by the library. `campaign` writes the report. `threads` makes the trace of each
    seed one after another, and then in eight threads at once, each with a handle of its own, and hands one handle from
    thread to thread step by step. */
 #include "lost_update.h"
@@ -23,10 +23,10 @@ static uint32_t lost_update_of_seed(PctBook *book, uint64_t seed, uint32_t order
 
 static int campaign(void) {
     static PctRow rows[SEEDS];
-    static uint8_t text[512];
-    static PctGroup groups[SEEDS];
+    static uint8_t text[65536];
+    const PctFrame frame = {3, 8, 2, 10000};
     PctBook book = PCT_BOOK_NONE;
-    PctCount told;
+    PctCount report;
     for (uint32_t seed = 1; seed <= SEEDS; seed++) {
         uint32_t order[3], points[1];
         PctRow *row = &rows[seed - 1];
@@ -36,16 +36,8 @@ static int campaign(void) {
         if (pct_book_outcome(&book, &row->verdict) != PCT_DONE) return 1;
     }
     pct_book_free(&book);
-    told = pct_tell_groups(rows, SEEDS, groups, SEEDS);
-    if (told.status != PCT_DONE) return 1;
-    printf("groups %u\n", (unsigned)told.count);
-    for (size_t place = 0; place < told.count; place++) {
-        const PctCount verdict = pct_text_verdict(names, name_bytes, &groups[place].verdict, text, sizeof text);
-        if (verdict.status != PCT_DONE) return 1;
-        printf("%u %u %u %.*s\n", (unsigned)groups[place].count, (unsigned)groups[place].steps, (unsigned)groups[place].first,
-               (int)verdict.count, (const char *)text);
-    }
-    return 0;
+    report = pct_text_report(names, name_bytes, &frame, rows, SEEDS, text, sizeof text);
+    return report.status != PCT_DONE || fwrite(text, 1, (size_t)report.count, stdout) != report.count;
 }
 
 /* The text of the trace of a seed; 1 where a call answers what it mustn't. */

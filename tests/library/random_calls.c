@@ -222,6 +222,16 @@ static uint32_t trace_steps(void) {
     return pct_text_trace_steps(&made.trace, from, made.steps, head.steps - from + spoils());
 }
 
+static uint32_t report(int is_json) {
+    const PctFrame frame = {3, drawn(8, 8, 0), drawn(2, 2, 9), 100};
+    const PctRow rows[2] = {{1, 8, spoiled_outcome()}, {2, 8, spoiled_outcome()}};
+    const size_t room = drawn(512, 1024, below(9));
+    return (is_json ? pct_text_report_json(RUN_NAMES, &frame, rows, 2, made.text, room)
+                    : pct_text_report(RUN_NAMES, &frame, rows, 2, made.text, room)).status;
+}
+
+static uint32_t report_text(void) { return report(0); }
+static uint32_t report_json(void) { return report(1); }
 static uint32_t version(void) { return pct_tell_version() == PCT_VERSION ? PCT_DONE : PCT_BAD; }
 
 static uint32_t moments(void) {
@@ -276,7 +286,7 @@ static const struct {
     {"pct_text_trace", text_trace}, {"pct_text_verdict", text_verdict}, {"pct_text_directive", text_directive},
     {"pct_text_read_directive", read_directive}, {"pct_text_read_trace", read_trace}, {"pct_text_trace_free", trace_free},
     {"pct_text_trace_head", trace_head}, {"pct_text_trace_order", trace_order}, {"pct_text_trace_steps", trace_steps},
-    {"pct_text_trace_verdict", trace_verdict},
+    {"pct_text_trace_verdict", trace_verdict}, {"pct_text_report", report_text}, {"pct_text_report_json", report_json},
     {"pct_tell_version", version}, {"pct_tell_moments", moments}, {"pct_tell_points", points},
     {"pct_tell_order_count", order_count}, {"pct_tell_order", order}, {"pct_tell_bound", bound}, {"pct_tell_races", races},
     {"pct_tell_lock_order", lock_order}, {"pct_tell_groups", groups},

@@ -7,7 +7,7 @@ from ctypes import byref
 from typing import Any, Iterator
 
 import bound
-from bound import (BAD, DONE, FAILED, FAULT, MISUSE, NO_ROOM, STUCK, Ask, Book, Deal, Directive, Event, Moment, Nesting,
+from bound import (BAD, DONE, FAILED, FAULT, MISUSE, NO_ROOM, STUCK, Ask, Book, Deal, Directive, Event, Frame, Moment, Nesting,
                    Outcome, Race, Row, Trace)
 
 MOST = 2**32 - 1
@@ -83,6 +83,8 @@ BAD_VERDICTS = [("verdict", verdict) for verdict in of_outcomes()]
 LONG = [Moment(0, 1)] * 8
 FOUND = Directive(1, 1, (Moment * 7)(Moment(0, 1)), FAILED_B)
 ROWS = [Row(1, 2, FAILED_B), Row(2, 2, Outcome(1))]
+REPORT = {"names": NAMES, "frame": Frame(2, 2, 2, 9), "rows": ROWS, "text": room(ctypes.c_uint8, 512)}
+BAD_REPORT = [*BAD_NAMES, ("rows", [ROWS[1]] * 100001), *(("rows", [ROWS[1], Row(1, 2, outcome)]) for outcome in of_outcomes())]
 # Of these reports and lists no names are asked: any thread and any line will do.
 BAD_ROWS = [("rows", [ROWS[1]] * 100001)] + [
     ("rows", [ROWS[1], Row(1, 2, outcome)]) for outcome in of_outcomes()
@@ -123,6 +125,8 @@ GIVEN: dict[str, tuple[dict[str, Any], list[tuple[str, Any]]]] = {
                               ("points", room(ctypes.c_uint32, 2))]),
     "pct_text_trace_steps": ({"from": 0, "steps": room(Event, 2)},
                              [("from", 1), ("from", 3), ("from", MOST), ("steps", room(Event, 3))]),
+    "pct_text_report": (REPORT, BAD_REPORT),
+    "pct_text_report_json": (REPORT, BAD_REPORT),
     "pct_tell_moments": ({"steps": STEPS, "points": [1], "moments": room(Moment, 7)},
                          [("points", [1] * 8), ("points", [0]), *NO_STEPS]),
     "pct_tell_points": ({"steps": STEPS, "most": 9, "moments": [Moment(0, 1)], "points": room(ctypes.c_uint32, 1)},

@@ -1,6 +1,7 @@
 mod KnownBlocked
 mod KnownPlaces
 mod MomentArrays
+mod SaidRows
 mod SaidVerdicts
 mod SameNames
 mod WrongOrders

@@ -19,3 +19,8 @@ AreKnownBlocked threads places = (0 < length places) × All (IsKnownPlace thread
 pub record SaysKnown (names : NameLists) (numbers : PctOutcome) (verdict : Verdict) : Type 0 where
   pub says : verdict_said numbers ≡ Some verdict
   pub known : IsWritable names verdict
+
+-- the numbers say a verdict that has a text under the names
+pub record IsKnown (names : NameLists) (numbers : PctOutcome) : Type 0 where
+  pub verdict : Verdict
+  pub says : SaysKnown names numbers verdict

@@ -1,4 +1,5 @@
 pub mod Directives
 pub mod Known
+pub mod Reports
 pub mod Traces
 pub mod Verdicts

@@ -5,7 +5,7 @@ ghost use Rattle.pct_ask.specs.Places.{places_from, known_lines};
 ghost use Rattle.report_text.specs.Report.{IsWritable};
 ghost use Rattle.c_values.specs.Outcomes.{verdict_said};
 ghost use Rattle.c_values.specs.Told.{Answers};
-ghost use Rattle.c_texts.specs.Known.{IsKnownPlace, AreKnownBlocked, SaysKnown};
+ghost use Rattle.c_texts.specs.Known.{IsKnownPlace, AreKnownBlocked, SaysKnown, IsKnown};
 
 use c_values::{PctOutcome, Refused, verdict_of};
 use pct_ask::{NameKind, Names, Verdict};
@@ -54,6 +54,16 @@ fn is_known(names: &Names, numbers: &PctOutcome, verdict: &Verdict) -> bool
         Verdict::Stuck { blocked: _blocked } => {
             is_known_stuck(threads, numbers.blocked, &numbers.lines)
         }
+    }
+}
+
+/// Whether the numbers say a verdict that may be written under the names.
+pub fn says_known(names: &Names, numbers: &PctOutcome) -> bool
+    ensures { IsTrue result ↔ IsKnown names.now numbers.now }
+{
+    match verdict_of(numbers) {
+        Some(verdict) => is_known(names, numbers, &verdict),
+        None => false,
     }
 }
 

@@ -1,14 +1,18 @@
 //! The calls of C that write texts.
 
 ghost use Rattle.c_texts.specs.Directives.{IsDirectiveText};
+ghost use Rattle.c_texts.specs.Reports.{IsReportText, IsReportJson};
 ghost use Rattle.c_texts.specs.Traces.{head_by, IsTraceText};
 ghost use Rattle.c_texts.specs.Verdicts.{IsVerdictText};
 ghost use Rattle.pct_c.specs.Buffers.{Puts};
 
 use crate::buffers::put;
 use crate::status::PctCount;
-use c_texts::{PctDirective, directive_text_told, trace_text_told, verdict_text_told};
-use c_values::{PctEvent, PctOutcome};
+use c_texts::{
+    PctDirective, PctFrame, directive_text_told, report_json_told, report_told, trace_text_told,
+    verdict_text_told,
+};
+use c_values::{PctEvent, PctOutcome, PctRow};
 use std::alloc::Global;
 
 /// A trace file of a run by an order and change points.
@@ -58,5 +62,37 @@ pub extern "C" fn pct_text_directive(
         text.old text.new }
 {
     let told = directive_text_told(alloc, names, directive);
+    put(told, text)
+}
+
+/// The report of a campaign as a text.
+#[unsafe(no_mangle)]
+pub extern "C" fn pct_text_report(
+    alloc: Global,
+    names: &[u8],
+    frame: &PctFrame,
+    rows: &[PctRow],
+    text: &mut [u8],
+) -> PctCount
+    ensures { Puts (IsReportText names.now frame.now rows.now) result.status result.count
+        text.old text.new }
+{
+    let told = report_told(alloc, names, frame, rows);
+    put(told, text)
+}
+
+/// The report of a campaign as JSON.
+#[unsafe(no_mangle)]
+pub extern "C" fn pct_text_report_json(
+    alloc: Global,
+    names: &[u8],
+    frame: &PctFrame,
+    rows: &[PctRow],
+    text: &mut [u8],
+) -> PctCount
+    ensures { Puts (IsReportJson names.now frame.now rows.now) result.status result.count
+        text.old text.new }
+{
+    let told = report_json_told(alloc, names, frame, rows);
     put(told, text)
 }
