@@ -2,10 +2,12 @@
 //! meet.
 #![tactic(auto)]
 
-ghost use Rattle.std.specs.Prelude.{◌≡◌};
+ghost use Rattle.std.specs.Prelude.{◌≡◌, drop};
+ghost use Rattle.pct_outside.specs.Reading.{texts_of};
 ghost use Rattle.pct_top.specs.Refusing.{status_of_refusal, refusal_line};
 ghost use Rattle.pct_top.specs.Saying.{SaysLine};
 ghost use Rattle.pct_main.specs.Own.{IsPut};
+ghost use Rattle.pct_main.specs.Answered.{IsAnswered};
 
 mod explanations;
 mod own;
@@ -19,10 +21,20 @@ use std::process::ExitCode;
 use std::sync::Wait;
 use std::thread::Threads;
 
-/// The words after the program's own name.
-fn words_of(rt: &(impl Env + AllocGlobal)) -> io::Result<Vec<String>> {
+/// The words after the program's own name, which is the first of those that the host gives.
+fn words_of(mut given: Vec<String>) -> Vec<String>
+    ensures { texts_of result.items ≡ drop 1 (texts_of given.items) }
+{
+    if !given.is_empty() {
+        given.remove(0);
+    }
+    given
+}
+
+/// All words that the host gives.
+fn host_words(rt: &(impl Env + AllocGlobal)) -> io::Result<Vec<String>> {
     let mut words = Vec::new(rt.alloc());
-    for word in env::args(rt)?.skip(1) {
+    for word in env::args(rt)? {
         words.push(word)?;
     }
     Ok(words)
@@ -86,6 +98,48 @@ fn put_answer<O: Sink, E: Sink>(out: &mut O, err: &mut E, text: &str) -> Status
     }
 }
 
+/// A call of the program with these words: its own answer, or that of `pct`.
+fn answer_words<R: AllocGlobal + Threads + Wait + Sync, H: Shelf, O: Sink, E: Sink>(
+    rt: &R,
+    words: &[String],
+    shelf: &mut H,
+    out: &mut O,
+    err: &mut E,
+) -> Status
+    ensures { IsAnswered (texts_of words.now)
+        (record {
+          shelf = record { files = H.files shelf.old; failed = H.failed shelf.old };
+          output = record {
+            written = O.written out.old;
+            faults = O.faults out.old;
+            shorts = O.shorts out.old;
+          };
+          errors = record {
+            written = E.written err.old;
+            faults = E.faults err.old;
+            shorts = E.shorts err.old;
+          };
+        })
+        (record {
+          shelf = record { files = H.files shelf.new; failed = H.failed shelf.new };
+          output = record {
+            written = O.written out.new;
+            faults = O.faults out.new;
+            shorts = O.shorts out.new;
+          };
+          errors = record {
+            written = E.written err.new;
+            faults = E.faults err.new;
+            shorts = E.shorts err.new;
+          };
+        }) result }
+{
+    match Own::of_words(words) {
+        Some(own) => put_answer(out, err, own.text()),
+        None => pct(rt, rt.alloc(), words, shelf, out, err, &OpenGate::new()),
+    }
+}
+
 /// A call of the program with the host's words.
 fn status_of<R: Env + AllocGlobal + Threads + Wait + Sync, H: Shelf, O: Sink, E: Sink>(
     rt: &R,
@@ -93,21 +147,9 @@ fn status_of<R: Env + AllocGlobal + Threads + Wait + Sync, H: Shelf, O: Sink, E:
     out: &mut O,
     err: &mut E,
 ) -> Status {
-    let words = match words_of(rt) {
-        Ok(words) => words,
-        Err(error) => return refuse(err, &refusal_of(&error)),
-    };
-    match Own::of_words(words.as_slice()) {
-        Some(own) => put_answer(out, err, own.text()),
-        None => pct(
-            rt,
-            rt.alloc(),
-            words.as_slice(),
-            shelf,
-            out,
-            err,
-            &OpenGate::new(),
-        ),
+    match host_words(rt) {
+        Ok(given) => answer_words(rt, words_of(given).as_slice(), shelf, out, err),
+        Err(error) => refuse(err, &refusal_of(&error)),
     }
 }
 

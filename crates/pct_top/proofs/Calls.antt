@@ -1,5 +1,6 @@
 -- What a call does to the streams, from what comes of its words.
-use Rattle.std.proofs.Common.{◌≡◌, ℕ, List, [], inl, inr, Some, Result, Ok, Err, refl, sym, subst}
+use Rattle.std.proofs.Common.{◌≡◌, ℕ, Bool, List, [], inl, inr, Some, Result, Ok, Err, refl, sym}
+use Rattle.std.proofs.Common.{subst}
 use Rattle.pct_outside.specs.Piece.{IsAppended, IsPartAppended}
 use Rattle.pct_outside.proofs.laws.Pieces.{IsAppended-nil, IsPartAppended-nil}
 use Rattle.pct_top.specs.declared.refusal.Refusal.{Refusal}
@@ -18,7 +19,10 @@ use Rattle.pct_top.specs.Outside.{ShelfTold, StreamTold, Outside}
 use Rattle.pct_top.specs.Call.{IsCarriedOut, PrintsOne, PutsAll, PutsOutcome, RefusedFirst}
 use Rattle.pct_top.specs.Call.{ReadFailed}
 use Rattle.pct_top.specs.Call.{Answers, RefusedWords, CanRun, Completes, PrintsAll, IsExact}
-use Rattle.pct_top.specs.Call.{PrintsWhole, Refuses, Ends, IsCall}
+use Rattle.pct_top.specs.Call.{PrintsWhole, Refuses, Ends, LeavesShelf, ReadsNone, is_read_fault}
+use Rattle.pct_top.specs.Call.{with_files, EndsExactly, IsCall}
+use Rattle.pct_top.specs.Reads.{is_unread}
+use Rattle.pct_top.proofs.Shelves.{done_is_read, refusal_is_read}
 use Rattle.pct_top.proofs.OneReport.{told_answers}
 use Rattle.pct_top.proofs.OnePrinted.{one_printed, printed_answers}
 
@@ -190,24 +194,64 @@ module _ (words : List (List ℕ)) (found left : Outside) where
 
   -- ---- all of it
 
-  call_of : (status : Status) → Ends words found left status → RefusedWords taken status
+  ends_exactly : (status : Status) → Ends words found left status
+      → EndsExactly words found left status
+  ends_exactly status ends = record { ends = ends; exact = exact status ends }
+
+  ran_exactly : (status : Status) → left.errors ≡ found.errors → Is (Ok status)
+      → EndsExactly words found left status
+  ran_exactly status same p = ends_exactly status (ends_ran status same p)
+
+  said_exactly : (refusal : Refusal) → Is (Err refusal)
+      → SaysLine (refusal_line refusal) found.errors left.errors
+      → EndsExactly words found left (status_of_refusal refusal)
+  said_exactly refusal p says =
+      ends_exactly (status_of_refusal refusal) (ends_said refusal p says)
+
+  call_of : (status : Status) → EndsExactly words found left status → RefusedWords taken status
+      → LeavesShelf taken (is_read_fault status) found.shelf left.shelf
+      → (ReadsNone taken → (files : Files)
+      → EndsExactly words (with_files files found) left status)
       → IsCall words found left status
-  call_of status ends words_refused = record {
-    ends = ends;
+  call_of status ends words_refused leaves unread = record {
+    ends = ends.ends;
     refused = words_refused;
-    complete = completes status ends;
-    exact = exact status ends;
+    complete = completes status ends.ends;
+    exact = ends.exact;
+    shelf = leaves;
+    unread = unread;
   }
 
-  pub call_ran : (status : Status) → left.errors ≡ found.errors → Is (Ok status)
-      → RefusedFirst taken (Ok status) → IsCall words found left status
+module _ (words : List (List ℕ)) (found left : Outside) where
+  abbrev IsOver : Files → Result Status Refusal → Type 0
+  IsOver files r = Answers (settings words)
+      (record { files = Some files; failed = (found.shelf).failed }) left.shelf found.output
+      left.output r
+
+  abbrev IsAny : Result Status Refusal → Type 0
+  IsAny r =
+      Answers (settings words) found.shelf left.shelf found.output left.output r
+      × (ReadsNone (settings words) → (files : Files) → IsOver files r)
+      × LeavesShelf (settings words) (is_unread r) found.shelf left.shelf
+
+  pub call_ran : (status : Status) → left.errors ≡ found.errors → IsAny (Ok status)
+      → RefusedFirst (settings words) (Ok status) → IsCall words found left status
   call_ran status same p first =
-      call_of status (ends_ran status same p) (refused_ran taken status first)
+      let done : IsCarriedOut status = p.0.0 in
+      call_of words found left status (ran_exactly words found left status same p.0)
+      (refused_ran (settings words) status first)
+      (subst (λ (unread : Bool). LeavesShelf (settings words) unread found.shelf left.shelf)
+      (done_is_read status done) p.2)
+      (λ none files. ran_exactly words (with_files files found) left status same (p.1 none files))
 
   pub call_said : (status : Status) (refusal : Refusal) → status ≡ status_of_refusal refusal
-      → Is (Err refusal) → RefusedFirst taken (Err refusal)
+      → IsAny (Err refusal) → RefusedFirst (settings words) (Err refusal)
       → SaysLine (refusal_line refusal) found.errors left.errors → IsCall words found left status
   call_said status refusal is p first says =
       subst (IsCall words found left) (sym is)
-      (call_of (status_of_refusal refusal) (ends_said refusal p says)
-      (refused_said taken refusal first))
+      (call_of words found left (status_of_refusal refusal)
+      (said_exactly words found left refusal p.0 says)
+      (refused_said (settings words) refusal first)
+      (subst (λ (unread : Bool). LeavesShelf (settings words) unread found.shelf left.shelf)
+      (refusal_is_read refusal) p.2)
+      (λ none files. said_exactly words (with_files files found) left refusal (p.1 none files) says))

@@ -1,6 +1,7 @@
 -- What comes of a command, from what the calls below did.
-use Rattle.std.proofs.Common.{◌≡◌, ℕ, List, [], ◌∷◌, inl, inr, Option, Some, Result, Ok, Err, refl}
-use Rattle.std.proofs.Common.{subst, ap, take, ◌∙◌, arith}
+use Rattle.std.proofs.Common.{◌≡◌, ℕ, List, [], ◌∷◌, inl, inr, Option, Some, None, Result, Ok, Err}
+use Rattle.std.proofs.Common.{refl}
+use Rattle.std.proofs.Common.{false, subst, ap, take, ◌∙◌, arith}
 use Rattle.std.proofs.lemmas.List.{append_assoc}
 use Rattle.pct_ask.specs.declared.Deal.{Deal}
 use Rattle.pct_ask.specs.NameLists.{NameLists}
@@ -25,8 +26,9 @@ use Rattle.pct_top.specs.Printed.{OfOrder, OfTrace, OfDirective}
 use Rattle.pct_top.specs.Priorities.{GivesOrder}
 use Rattle.pct_top.specs.Output.{script_file, script_text}
 use Rattle.pct_top.specs.Outcome.{printed_of, GivesPrinted, ShowsFiles, Comes}
-use Rattle.pct_top.specs.Files.{HasText, KeepsNames, Misses, GivesTest, GivesTrace, HasTrace}
+use Rattle.pct_top.specs.Files.{HasText, Misses, GivesTest, GivesText, GivesTrace, HasTrace}
 use Rattle.pct_top.specs.Files.{GivesDirective, HasDirective}
+use Rattle.pct_top.specs.Reads.{KeepsFile}
 use Rattle.pct_top.specs.Outside.{ShelfTold}
 use Rattle.pct_top.specs.Call.{IsGained, MissesSecond, ReadFailed}
 
@@ -45,13 +47,16 @@ missed_one : (name : List ℕ) (failed failed' : List (List ℕ)) → failed' �
     → IsGained name failed failed'
 missed_one name failed failed' is = (name ∷ [], is, (0, omega arith, refl))
 
-missed_after : (name : List ℕ) (failed middle failed' : List (List ℕ)) → KeepsNames failed middle
-    → failed' ≡ names_with middle name → IsGained name failed failed'
-missed_after name failed middle failed' (inl same) is =
-    missed_one name failed failed' (is ∙ ap (λ l. names_with l name) same)
-missed_after name failed middle failed' (inr one) is = (
-  one.0 ∷ name ∷ [],
-  is ∙ ap (λ l. names_with l name) one.1 ∙ append_assoc failed (one.0 ∷ []) (name ∷ []),
+missed_after : (name : List ℕ) (failed middle failed' : List (List ℕ)) (file : Option (List ℕ))
+    → KeepsFile file false failed middle → failed' ≡ names_with middle name
+    → IsGained name failed failed'
+missed_after name failed middle failed' None keeps is =
+    missed_one name failed failed' (is ∙ ap (λ l. names_with l name) keeps.1)
+missed_after name failed middle failed' (Some one) (inr keeps) is =
+    missed_one name failed failed' (is ∙ ap (λ l. names_with l name) keeps.1)
+missed_after name failed middle failed' (Some one) (inl more) is = (
+  one ∷ name ∷ [],
+  is ∙ ap (λ l. names_with l name) more ∙ append_assoc failed (one ∷ []) (name ∷ []),
   (1, omega arith, refl),
 )
 
@@ -208,6 +213,56 @@ module _ (told : Option Files) (source : Files → List ℕ)
     comes_tested m therefore (Err Write) h = absurd h
     comes_tested m therefore (Err Memory) h = tt
 
+-- ---- the same where no file is read
+
+-- what is given for some files comes where these are told
+pub told_comes : (of : Files → Printed → Type 0) (files : Files) (missed : Type 0)
+    (r : Result Outcome Refusal) → GivesPrinted (of files) r → Comes of (Some files) missed r
+told_comes of files missed (Ok outcome) h = λ told e. let same : files ≡ told = cc in
+    subst (λ (f : Files). of f (printed_of outcome)) same h
+told_comes of files missed (Err (Usage word)) h = λ told e. let same : files ≡ told = cc in
+    subst (λ (f : Files). of f (printed_refusal (Usage word))) same h
+told_comes of files missed (Err (Script line kind)) h = λ told e. let same : files ≡ told = cc in
+    subst (λ (f : Files). of f (printed_refusal (Script line kind))) same h
+told_comes of files missed (Err (Trace line kind)) h = λ told e. let same : files ≡ told = cc in
+    subst (λ (f : Files). of f (printed_refusal (Trace line kind))) same h
+told_comes of files missed (Err (BadDirective line kind)) h = λ told e.
+    let same : files ≡ told = cc in
+    subst (λ (f : Files). of f (printed_refusal (BadDirective line kind))) same h
+told_comes of files missed (Err Read) h = absurd h
+told_comes of files missed (Err Write) h = h
+told_comes of files missed (Err Memory) h = tt
+
+module _ (source : List ℕ) (over : ScriptText → Deal → Printed → Type 0) where
+  pub given_untested : (refusal : Refusal) → GivesText source (Err refusal)
+      → GivesPrinted (OfScript source over) (Err refusal)
+  given_untested (Usage word) h = absurd h
+  given_untested (Script line kind) h = inr (line, kind, h, refl)
+  given_untested (Trace line kind) h = absurd h
+  given_untested (BadDirective line kind) h = absurd h
+  given_untested Read h = absurd h
+  given_untested Write h = absurd h
+  given_untested Memory h = tt
+
+  module _ (test : Test) (spells : Spells source (plain_script test.script))
+      (ready : IsReadyTest test) where
+    given : (printed : Printed) → over (plain_script test.script) test.deal printed
+        → OfScript source over printed
+    given printed h = inl (plain_script test.script, spells, (test.deal, ready.is_deal, h))
+
+    pub given_tested : (r : Result Outcome Refusal)
+        → GivesPrinted (over (plain_script test.script) test.deal) r
+        → GivesPrinted (OfScript source over) r
+    given_tested (Ok outcome) h = given (printed_of outcome) h
+    given_tested (Err (Usage word)) h = given (printed_refusal (Usage word)) h
+    given_tested (Err (Script line kind)) h = given (printed_refusal (Script line kind)) h
+    given_tested (Err (Trace line kind)) h = given (printed_refusal (Trace line kind)) h
+    given_tested (Err (BadDirective line kind)) h =
+        given (printed_refusal (BadDirective line kind)) h
+    given_tested (Err Read) h = absurd h
+    given_tested (Err Write) h = h
+    given_tested (Err Memory) h = tt
+
 -- ---- the reads that a call is missed by
 
 pub script_missed : (settings : Settings) (before after : ShelfTold)
@@ -219,11 +274,12 @@ script_missed settings before after h =
 pub second_missed : (settings : Settings) (before after : ShelfTold) (middle : List (List ℕ))
     (script : ScriptText) → HasText before.files (script_text settings)
     (λ bytes. Spells bytes script)
-    → KeepsNames before.failed middle → MissesSecond settings script middle after.failed
+    → KeepsFile (script_file settings) false before.failed middle
+    → MissesSecond settings script middle after.failed
     → ReadFailed (Ok settings) before after
 second_missed settings before after middle script spells keeps h =
     let second = h.0 in (
       second.0,
-      missed_after second.0 before.failed middle after.failed keeps second.2,
+      missed_after second.0 before.failed middle after.failed (script_file settings) keeps second.2,
       inr (second.1, λ files e. (script, spells files e, h.1)),
     )

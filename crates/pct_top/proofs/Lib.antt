@@ -19,8 +19,10 @@ mod OneCertificate
 mod KnownDirected
 mod OnePrinted
 mod Comes
+mod Shelves
 mod Calls
 mod Refusals
 mod Confirms
 mod Counts
 mod Takes
+mod FailedReads

@@ -1,6 +1,7 @@
 -- What a call of the program does to what is outside of it, by its status (this project). No
 -- clause here knows a command.
-use Rattle.std.specs.Prelude.{◌≡◌, ℕ, ◌⊎◌, List, [], ◌++◌, Option, Some, Result, Ok, Err}
+use Rattle.std.specs.Prelude.{◌≡◌, ℕ, Bool, true, false, ◌⊎◌, List, [], ◌∷◌, ◌++◌}
+use Rattle.std.specs.Prelude.{Option, Some, None, Result, Ok, Err}
 use Rattle.std.specs.List.{Contains}
 use Rattle.pct_outside.specs.Counter.{Rose}
 use Rattle.pct_outside.specs.Piece.{IsAppended, IsPartAppended}
@@ -20,6 +21,7 @@ use Rattle.pct_top.specs.Output.{script_file, script_text, order_given, second_f
 use Rattle.pct_top.specs.Output.{OfTaken, Output}
 use Rattle.pct_top.specs.Outcome.{ShowsFiles}
 use Rattle.pct_top.specs.Files.{Misses}
+use Rattle.pct_top.specs.Reads.{ReadMade, KeepsReads, some_failed}
 use Rattle.pct_top.specs.Outside.{ShelfTold, StreamTold, Outside}
 use Rattle.pct_top.specs.Saying.{SaysLine}
 
@@ -61,6 +63,33 @@ ReadFailed taken before after =
 abbrev pub MissesSecond : Settings → ScriptText → List (List ℕ) → List (List ℕ) → Type 0
 MissesSecond settings script failed failed' =
     Misses (second_file settings) failed failed' × OrderFits script.names (order_given settings)
+
+-- ---- all reads
+
+-- no file is read: the words aren't taken, or the command has a script of its own
+abbrev pub ReadsNone : SettingsOrWord → Type 0
+ReadsNone (Ok settings) = script_file settings ≡ None
+ReadsNone (Err number) = Unit {0}
+
+-- The reads that a call makes: at most that of the script, and then, where that didn't fail and the
+-- order of work comes to it, at most that of the second file.
+abbrev pub AreReads : SettingsOrWord → Option Files → List ReadMade → Type 0
+AreReads taken told [] = Unit {0}
+AreReads taken told (script ∷ []) = ReadsScript taken script.name
+AreReads taken told (script ∷ second ∷ []) =
+    ReadsScript taken script.name × (script.failed ≡ false) × ReadsSecond taken second.name
+    × IsReached taken told
+AreReads taken told (script ∷ second ∷ other ∷ reads) = ⊥
+
+-- What a call leaves of the shelf: the files are as before, and the names of failed reads gained
+-- nothing but what its reads add.
+pub record LeavesShelf (taken : SettingsOrWord) (unread : Bool) (before after : ShelfTold)
+    : Type 0 where
+  pub files : after.files ≡ before.files
+  pub reads : List ReadMade
+  pub made : AreReads taken before.files reads
+  pub kept : KeepsReads reads before.failed after.failed
+  pub failed : some_failed reads ≡ unread
 
 -- ---- the answer, before anything is said on the error stream
 
@@ -214,9 +243,32 @@ Ends words found left statuses.NoMemory =
     ⊎ PrintsOne (settings words) found.shelf.files (PutsPart found.output left.output))
     × SaysLine (refusal_line Memory) found.errors left.errors
 
--- What is promised of a call, whatever the command is.
+-- whether the status is that of a failed read
+abbrev pub is_read_fault : Status → Bool
+is_read_fault statuses.ReadFault = true
+is_read_fault status = false
+
+-- the same, as if the shelf told these files
+abbrev pub with_files : Files → Outside → Outside
+with_files files outside = record {
+  shelf = record { files = Some files; failed = outside.shelf.failed };
+  output = outside.output;
+  errors = outside.errors;
+}
+
+-- how the call ends, and that it printed so whatever may be printed
+pub record EndsExactly (words : List (List ℕ)) (found left : Outside) (status : Status)
+    : Type 0 where
+  pub ends : Ends words found left status
+  pub exact : IsExact words found left status
+
+-- What is promised of a call, whatever the command is. Where no file is read, it ends so whether the
+-- files are told or not.
 pub record IsCall (words : List (List ℕ)) (found left : Outside) (status : Status) : Type 0 where
   pub ends : Ends words found left status
   pub refused : RefusedWords (settings words) status
   pub complete : Completes words found left status
   pub exact : IsExact words found left status
+  pub shelf : LeavesShelf (settings words) (is_read_fault status) found.shelf left.shelf
+  pub unread : ReadsNone (settings words) → (files : Files)
+      → EndsExactly words (with_files files found) left status

@@ -1,5 +1,5 @@
 -- What reading the files of a call gives.
-use Rattle.std.specs.Prelude.{◌≡◌, ℕ, ◌⊎◌, List, take, Option, Some, Result, Ok, Err}
+use Rattle.std.specs.Prelude.{◌≡◌, ℕ, List, take, Option, Some, Result, Ok, Err}
 use Rattle.pct_ask.specs.NameLists.{NameLists}
 use Rattle.pct_outside.specs.Reading.{names_with}
 use Rattle.script_tree.specs.ScriptSeen.{plain_script}
@@ -22,11 +22,6 @@ use Rattle.pct_top.specs.Printed.{Files, trace_bytes, directive_bytes}
 -- where the files are told, this text of them has that
 abbrev pub HasText : Option Files → (Files → List ℕ) → (List ℕ → Type 0) → Type 0
 HasText told text has = (files : Files) → told ≡ Some files → has (text files)
-
--- no name was added to those of the failed reads, or one
-abbrev pub KeepsNames : List (List ℕ) → List (List ℕ) → Type 0
-KeepsNames failed failed' =
-    (failed' ≡ failed) ⊎ ((name : List ℕ) × (failed' ≡ names_with failed name))
 
 -- The read of this file failed, if it is one, and its name was added.
 abbrev pub Misses : Option (List ℕ) → List (List ℕ) → List (List ℕ) → Type 0

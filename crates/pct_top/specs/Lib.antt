@@ -16,7 +16,9 @@ pub mod Reported
 pub mod Output
 pub mod Outcome
 pub mod Files
+pub mod Reads
 pub mod Call
+pub mod FailedReads
 pub mod Confirmed
 pub mod Counted
 pub mod TakenUp

@@ -2,6 +2,7 @@
 
 ghost use Rattle.pct_top.specs.Confirmed.{RunsAreConfirmed, ExposedAreConfirmed};
 ghost use Rattle.pct_top.specs.Counted.{CertifiedAreCounted};
+ghost use Rattle.pct_top.specs.FailedReads.{OneFailedRead};
 ghost use Rattle.pct_top.specs.TakenUp.{FoundAreTakenUp};
 
 /// A law of the program, and no work: what `run` writes whole is a trace whose replay over the same
@@ -28,4 +29,10 @@ pub fn certified_are_counted()
 /// `expose` takes, and of which it finds the verdict again under the run's order.
 pub fn found_are_taken_up()
     ensures { FoundAreTakenUp }
+{}
+
+/// A law of the program, and no work: over a shelf that keeps the names of failed reads and no
+/// others, a call adds one name exactly where it ends with ReadFault.
+pub fn one_failed_read()
+    ensures { OneFailedRead }
 {}

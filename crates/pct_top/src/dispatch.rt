@@ -1,15 +1,18 @@
 //! From the settings to a command's outcome: an arm for each command.
 
-ghost use Rattle.std.specs.Prelude.{◌≡◌, Ok, IfOk, IsSome};
+ghost use Rattle.std.specs.Prelude.{◌≡◌, Ok, None, IfOk, IsSome};
 ghost use Rattle.script_tree.specs.ScriptSeen.{plain_script};
 ghost use Rattle.pct_top.specs.Settings.{AreLawful};
 ghost use Rattle.pct_top.specs.Ready.{IsReadyTest};
 ghost use Rattle.pct_top.specs.Printed.{Files};
 ghost use Rattle.pct_top.specs.Reported.{report_asked};
-ghost use Rattle.pct_top.specs.Output.{script_file, script_text, second_file, OfCommand, OfTaken};
+ghost use Rattle.pct_top.specs.Ordered.{OrderFits};
+ghost use Rattle.pct_top.specs.Output.{script_file, script_text, order_given, second_file};
+ghost use Rattle.pct_top.specs.Output.{OfCommand, OfTaken};
 ghost use Rattle.pct_top.specs.Outcome.{GivesPrinted, Comes};
-ghost use Rattle.pct_top.specs.Files.{GivesTest, KeepsNames, Misses};
-ghost use Rattle.pct_top.specs.Call.{MissesSecond, ReadFailed};
+ghost use Rattle.pct_top.specs.Files.{GivesTest, GivesText, Misses};
+ghost use Rattle.pct_top.specs.Reads.{KeepsFile, KeepsSecond, is_unread};
+ghost use Rattle.pct_top.specs.Call.{MissesSecond, ReadFailed, LeavesShelf};
 
 use crate::commands::{big, certify, expose, replay, seeds};
 use crate::files::{large_test, read_test};
@@ -29,7 +32,10 @@ fn test_of<H: Shelf>(alloc: Global, settings: &Settings, shelf: &mut H) -> Resul
     ensures ready { IfOk result IsReadyTest }
     ensures test { GivesTest (H.files shelf.old) (script_text settings.now)
         (Misses (script_file settings.now) (H.failed shelf.old) (H.failed shelf.new)) result }
-    ensures keeps { KeepsNames (H.failed shelf.old) (H.failed shelf.new) }
+    ensures unread { script_file settings.now ≡ None → (files : Files)
+        → GivesText (script_text settings.now files) result }
+    ensures keeps { KeepsFile (script_file settings.now) (is_unread result)
+        (H.failed shelf.old) (H.failed shelf.new) }
     ensures files { H.files shelf.new ≡ H.files shelf.old }
 {
     match settings {
@@ -93,12 +99,16 @@ fn second_outcome<R: Threads + Wait + Sync, H: Shelf, G: Gate>(
     requires lawful { AreLawful settings.now }
     requires ready { IsReadyTest test.now }
     requires second { IsSome (second_file settings.now) }
-    ensures { Comes
+    ensures comes { Comes
         (λ files. OfCommand settings.now files (plain_script test.now.script) test.now.deal)
         (H.files shelf.old)
         (MissesSecond settings.now (plain_script test.now.script) (H.failed shelf.old)
         (H.failed shelf.new))
         result }
+    ensures keeps { KeepsSecond (second_file settings.now)
+        (OrderFits (plain_script test.now.script).names (order_given settings.now))
+        (is_unread result) (H.failed shelf.old) (H.failed shelf.new) }
+    ensures files { H.files shelf.new ≡ H.files shelf.old }
 {
     match settings {
         Settings::Replay { trace, .. } => {
@@ -141,12 +151,19 @@ fn command_outcome<R: Threads + Wait + Sync, H: Shelf, G: Gate>(
 ) -> Result<Outcome, Refusal>
     requires lawful { AreLawful settings.now }
     requires ready { IsReadyTest test.now }
-    ensures { Comes
+    ensures comes { Comes
         (λ files. OfCommand settings.now files (plain_script test.now.script) test.now.deal)
         (H.files shelf.old)
         (MissesSecond settings.now (plain_script test.now.script) (H.failed shelf.old)
         (H.failed shelf.new))
         result }
+    ensures unread { script_file settings.now ≡ None → (files : Files)
+        → GivesPrinted
+        (OfCommand settings.now files (plain_script test.now.script) test.now.deal) result }
+    ensures keeps { KeepsSecond (second_file settings.now)
+        (OrderFits (plain_script test.now.script).names (order_given settings.now))
+        (is_unread result) (H.failed shelf.old) (H.failed shelf.new) }
+    ensures files { H.files shelf.new ≡ H.files shelf.old }
 {
     match settings {
         Settings::RunOrder { .. } => run_outcome(rt, alloc, settings, test, gate),
@@ -178,10 +195,15 @@ pub fn outcome_of<R: Threads + Wait + Sync, H: Shelf, G: Gate>(
     gate: &G,
 ) -> Result<Outcome, Refusal>
     requires { AreLawful settings.now }
-    ensures { Comes (OfTaken (Ok settings.now)) (H.files shelf.old)
+    ensures comes { Comes (OfTaken (Ok settings.now)) (H.files shelf.old)
         (ReadFailed (Ok settings.now)
         (record { files = H.files shelf.old; failed = H.failed shelf.old })
         (record { files = H.files shelf.new; failed = H.failed shelf.new })) result }
+    ensures unread { script_file settings.now ≡ None → (files : Files)
+        → GivesPrinted (OfTaken (Ok settings.now) files) result }
+    ensures shelf { LeavesShelf (Ok settings.now) (is_unread result)
+        (record { files = H.files shelf.old; failed = H.failed shelf.old })
+        (record { files = H.files shelf.new; failed = H.failed shelf.new }) }
 {
     match test_of(alloc, settings, shelf) {
         Err(refusal) => Err(refusal),

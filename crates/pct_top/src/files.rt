@@ -5,8 +5,8 @@ ghost use Rattle.script_tree.specs.Layout.{layout};
 ghost use Rattle.large_script.specs.Large.{large_script};
 ghost use Rattle.pct_top.specs.Ready.{IsReadyTest};
 ghost use Rattle.pct_top.specs.Printed.{script_bytes};
-ghost use Rattle.pct_top.specs.Files.{GivesTest, GivesText, GivesTrace, GivesDirective, KeepsNames};
-ghost use Rattle.pct_top.specs.Files.{Misses};
+ghost use Rattle.pct_top.specs.Files.{GivesTest, GivesText, GivesTrace, GivesDirective, Misses};
+ghost use Rattle.pct_top.specs.Reads.{KeepsFile, is_unread};
 
 use crate::refusal::Refusal;
 use crate::test::Test;
@@ -32,7 +32,8 @@ pub fn read_test<H: Shelf>(alloc: Global, file: &str, shelf: &mut H) -> Result<T
     ensures ready { IfOk result IsReadyTest }
     ensures test { GivesTest (H.files shelf.old) (λ files. take script_bytes (files file.now))
         (Misses (Some file.now) (H.failed shelf.old) (H.failed shelf.new)) result }
-    ensures keeps { KeepsNames (H.failed shelf.old) (H.failed shelf.new) }
+    ensures keeps { KeepsFile (Some file.now) (is_unread result) (H.failed shelf.old)
+        (H.failed shelf.new) }
     ensures files { H.files shelf.new ≡ H.files shelf.old }
 {
     let bytes = shelf.read_up_to(file, READ_BYTES)?;
@@ -58,8 +59,11 @@ pub fn read_told<H: Shelf>(
     names: &Names,
     shelf: &mut H,
 ) -> Result<TraceFile, Refusal>
-    ensures { GivesTrace (H.files shelf.old) file.now names.now
+    ensures told { GivesTrace (H.files shelf.old) file.now names.now
         (Misses (Some file.now) (H.failed shelf.old) (H.failed shelf.new)) result }
+    ensures keeps { KeepsFile (Some file.now) (is_unread result) (H.failed shelf.old)
+        (H.failed shelf.new) }
+    ensures files { H.files shelf.new ≡ H.files shelf.old }
 {
     let bytes = shelf.read_up_to(file, TRACE_BYTES)?;
     Ok(read_trace(alloc, &bytes, names)?)
@@ -72,8 +76,11 @@ pub fn read_directed<H: Shelf>(
     names: &Names,
     shelf: &mut H,
 ) -> Result<Directive, Refusal>
-    ensures { GivesDirective (H.files shelf.old) file.now names.now
+    ensures told { GivesDirective (H.files shelf.old) file.now names.now
         (Misses (Some file.now) (H.failed shelf.old) (H.failed shelf.new)) result }
+    ensures keeps { KeepsFile (Some file.now) (is_unread result) (H.failed shelf.old)
+        (H.failed shelf.new) }
+    ensures files { H.files shelf.new ≡ H.files shelf.old }
 {
     let bytes = shelf.read_up_to(file, DIRECTIVE_BYTES)?;
     Ok(read_directive(alloc, &bytes, names)?)

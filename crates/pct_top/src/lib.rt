@@ -25,7 +25,8 @@ mod values;
 mod words;
 
 pub use confirmed::{
-    certified_are_counted, exposed_are_confirmed, found_are_taken_up, runs_are_confirmed,
+    certified_are_counted, exposed_are_confirmed, found_are_taken_up, one_failed_read,
+    runs_are_confirmed,
 };
 pub use printing::say;
 pub use refusal::Refusal;

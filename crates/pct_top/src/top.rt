@@ -1,10 +1,13 @@
 //! The top call: from the program's words to what it writes. It knows no command.
 
-ghost use Rattle.std.specs.Prelude.{Ok};
+ghost use Rattle.std.specs.Prelude.{Ok, Some};
 ghost use Rattle.pct_outside.specs.Reading.{texts_of};
 ghost use Rattle.pct_top.specs.Settings.{settings, AreLawful};
 ghost use Rattle.pct_top.specs.Outcome.{printed_of};
-ghost use Rattle.pct_top.specs.Call.{PutsOutcome, RefusedFirst, Answers, IsCall};
+ghost use Rattle.pct_top.specs.Printed.{Files};
+ghost use Rattle.pct_top.specs.Reads.{is_unread};
+ghost use Rattle.pct_top.specs.Call.{PutsOutcome, RefusedFirst, Answers, LeavesShelf, ReadsNone};
+ghost use Rattle.pct_top.specs.Call.{IsCall};
 
 use crate::dispatch::outcome_of;
 use crate::outcome::Outcome;
@@ -46,7 +49,7 @@ fn print_settings<R: Threads + Wait + Sync, H: Shelf, O: Sink, G: Gate>(
     gate: &G,
 ) -> Result<Status, Refusal>
     requires { AreLawful settings.now }
-    ensures { Answers (Ok settings.now)
+    ensures answers { Answers (Ok settings.now)
         (record { files = H.files shelf.old; failed = H.failed shelf.old })
         (record { files = H.files shelf.new; failed = H.failed shelf.new })
         (record {
@@ -60,6 +63,24 @@ fn print_settings<R: Threads + Wait + Sync, H: Shelf, O: Sink, G: Gate>(
           shorts = O.shorts out.new;
         })
         result }
+    ensures unread { ReadsNone (Ok settings.now) → (files : Files)
+        → Answers (Ok settings.now)
+        (record { files = Some files; failed = H.failed shelf.old })
+        (record { files = H.files shelf.new; failed = H.failed shelf.new })
+        (record {
+          written = O.written out.old;
+          faults = O.faults out.old;
+          shorts = O.shorts out.old;
+        })
+        (record {
+          written = O.written out.new;
+          faults = O.faults out.new;
+          shorts = O.shorts out.new;
+        })
+        result }
+    ensures shelf { LeavesShelf (Ok settings.now) (is_unread result)
+        (record { files = H.files shelf.old; failed = H.failed shelf.old })
+        (record { files = H.files shelf.new; failed = H.failed shelf.new }) }
 {
     match outcome_of(rt, alloc, settings, shelf, gate) {
         Err(refusal) => Err(refusal),
@@ -90,6 +111,24 @@ fn answer<R: Threads + Wait + Sync, H: Shelf, O: Sink, G: Gate>(
           shorts = O.shorts out.new;
         })
         result }
+    ensures unread { ReadsNone (settings (texts_of words.now)) → (files : Files)
+        → Answers (settings (texts_of words.now))
+        (record { files = Some files; failed = H.failed shelf.old })
+        (record { files = H.files shelf.new; failed = H.failed shelf.new })
+        (record {
+          written = O.written out.old;
+          faults = O.faults out.old;
+          shorts = O.shorts out.old;
+        })
+        (record {
+          written = O.written out.new;
+          faults = O.faults out.new;
+          shorts = O.shorts out.new;
+        })
+        result }
+    ensures shelf { LeavesShelf (settings (texts_of words.now)) (is_unread result)
+        (record { files = H.files shelf.old; failed = H.failed shelf.old })
+        (record { files = H.files shelf.new; failed = H.failed shelf.new }) }
     ensures refused { RefusedFirst (settings (texts_of words.now)) result }
 {
     match read_words(alloc, words) {

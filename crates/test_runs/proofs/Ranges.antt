@@ -1,13 +1,13 @@
 -- The threads of the tests name only what there is.
 use Rattle.std.proofs.Common.{◌≡◌, ℕ, zero, suc, ◌≤◌, ◌&&◌, ℤ, pos, Bool, true, false}
-use Rattle.std.proofs.Common.{List, [], ◌∷◌, length, map, refl, sym, subst, arith}
+use Rattle.std.proofs.Common.{List, [], ◌∷◌, length, map, refl, sym, subst, ap, arith}
 use Rattle.std.specs.List.{list_all}
 use Rattle.std.proofs.lemmas.Bool.{false≢true, ltb-true}
 use Rattle.pct_ask.specs.declared.Deal.{Deal}
 use Rattle.pct_ask.specs.declared.ask.Ask.{Ask}
 use Rattle.pct_ask.specs.declared.ask.Ask.TheVariants.{Add, Check, Down}
 use Rattle.pct_ask.specs.Objects.{Sizes, sizes_of_deal, IsInRange, PostIsInRange}
-use Rattle.pct_ask.specs.Bodies.{AreInRange}
+use Rattle.pct_ask.specs.Bodies.{Pending, IsInRangeBody, AreInRange}
 use Rattle.worker_run.specs.Samples.{sample_pending}
 use Rattle.worker_run.proofs.laws.SampleRanges.{samples-within}
 use Rattle.test_runs.specs.OneStep.{once_pending, is_deed}
@@ -58,3 +58,22 @@ module _ (sizes : Sizes) (vars : 1 ≤ sizes.vars) (sems : 1 ≤ sizes.sems) whe
   onces-within line ask asked make same (a ∷ asks) deeds (suc t) answers =
       onces-within line ask asked make same asks
       (both-true (is_deed a) (list_all is_deed asks) deeds).1 t answers
+
+four-in-range : (sizes : Sizes) (one two three last : Pending) → IsInRangeBody sizes one
+    → IsInRangeBody sizes two → IsInRangeBody sizes three → IsInRangeBody sizes last
+    → AreInRange sizes (one ∷ two ∷ three ∷ last ∷ [])
+four-in-range sizes one two three last a b c d zero = a
+four-in-range sizes one two three last a b c d (suc zero) = b
+four-in-range sizes one two three last a b c d (suc (suc zero)) = c
+four-in-range sizes one two three last a b c d (suc (suc (suc zero))) = d
+four-in-range sizes one two three last a b c d (suc (suc (suc (suc t)))) = λ answers. tt
+
+-- a list of four bodies
+pub four-within : {X : Type 0} (sizes : Sizes) (pending : X → Pending) (items : List X)
+    (one two three last : X) → items ≡ one ∷ two ∷ three ∷ last ∷ []
+    → IsInRangeBody sizes (pending one) → IsInRangeBody sizes (pending two)
+    → IsInRangeBody sizes (pending three) → IsInRangeBody sizes (pending last)
+    → AreInRange sizes (map pending items)
+four-within sizes pending items one two three last is a b c d =
+    subst (AreInRange sizes) (sym (ap (map pending) is))
+    (four-in-range sizes (pending one) (pending two) (pending three) (pending last) a b c d)

@@ -2,7 +2,9 @@
 ghost use Rattle.std.specs.Prelude.{◌≤◌, []};
 ghost use Rattle.policy_pick.specs.Plan.{SpeaksOf};
 
+mod arrivals;
 mod batches;
+mod crowds;
 mod many;
 mod meetings;
 

@@ -13,6 +13,7 @@ ghost use Rattle.trace_text.specs.Spaced.{behind_spaces};
 ghost use Rattle.pct_top.specs.Printed.{directive_bytes};
 ghost use Rattle.pct_top.specs.Ready.{IsReadyTest};
 ghost use Rattle.pct_top.specs.Files.{Misses};
+ghost use Rattle.pct_top.specs.Reads.{KeepsFile, is_unread};
 ghost use Rattle.pct_top.specs.Outcome.{printed_of, Comes};
 ghost use Rattle.pct_top.specs.commands.Certify.{order_words, certificate_row_words, bound_words};
 ghost use Rattle.pct_top.specs.commands.Certify.{certificate_text, is_certified as is_certified_by};
@@ -184,11 +185,14 @@ pub fn certify_file<R: Threads + Wait + Sync, H: Shelf, G: Gate>(
     requires ready { IsReadyTest test.now }
     requires steps { IsStepCount steps }
     requires limit { IsStepCount limit }
-    ensures { Comes
+    ensures comes { Comes
         (λ files. OfCertify (take directive_bytes (files directive.now)) steps limit
         (plain_script test.now.script) test.now.deal)
         (H.files shelf.old)
         (Misses (Some directive.now) (H.failed shelf.old) (H.failed shelf.new)) result }
+    ensures keeps { KeepsFile (Some directive.now) (is_unread result) (H.failed shelf.old)
+        (H.failed shelf.new) }
+    ensures files { H.files shelf.new ≡ H.files shelf.old }
 {
     match read_directed(alloc, directive, test.script.names(), shelf) {
         Err(refusal) => Err(refusal),

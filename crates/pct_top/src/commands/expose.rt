@@ -10,6 +10,7 @@ ghost use Rattle.pct_top.specs.Ordered.{OrderFits};
 ghost use Rattle.pct_top.specs.Printed.{directive_bytes};
 ghost use Rattle.pct_top.specs.Ready.{IsReadyTest};
 ghost use Rattle.pct_top.specs.Files.{Misses};
+ghost use Rattle.pct_top.specs.Reads.{KeepsSecond, is_unread};
 ghost use Rattle.pct_top.specs.Outcome.{printed_of, Comes};
 ghost use Rattle.pct_top.specs.commands.Expose.{long_text, TellsExposed, PrintsExposed, OfExpose};
 
@@ -125,12 +126,16 @@ pub fn expose_file<R: Threads + Wait + Sync, H: Shelf, G: Gate>(
     requires ready { IsReadyTest test.now }
     requires steps { IsStepCount steps }
     requires limit { IsStepCount limit }
-    ensures { Comes
+    ensures comes { Comes
         (λ files. OfExpose (take directive_bytes (files directive.now)) order.now word steps limit
         (plain_script test.now.script) test.now.deal)
         (H.files shelf.old)
         (Misses (Some directive.now) (H.failed shelf.old) (H.failed shelf.new)
         × OrderFits (plain_script test.now.script).names (Some order.now)) result }
+    ensures keeps { KeepsSecond (Some directive.now)
+        (OrderFits (plain_script test.now.script).names (Some order.now)) (is_unread result)
+        (H.failed shelf.old) (H.failed shelf.new) }
+    ensures files { H.files shelf.new ≡ H.files shelf.old }
 {
     let names = test.script.names();
     let order = match order_given(alloc, names, order.as_slice(), word) {

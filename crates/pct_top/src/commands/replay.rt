@@ -7,6 +7,7 @@ ghost use Rattle.trace_text.specs.Trace.{IsTrace};
 ghost use Rattle.pct_top.specs.Printed.{trace_bytes};
 ghost use Rattle.pct_top.specs.Ready.{IsReadyTest};
 ghost use Rattle.pct_top.specs.Files.{Misses};
+ghost use Rattle.pct_top.specs.Reads.{KeepsFile, is_unread};
 ghost use Rattle.pct_top.specs.Outcome.{printed_of, Comes};
 ghost use Rattle.pct_top.specs.commands.Replay.{written_words, found_words, reply_text};
 ghost use Rattle.pct_top.specs.commands.Replay.{is_confirmed as is_confirmed_by, PrintsReply};
@@ -118,11 +119,14 @@ pub fn reply_to_file<R: Threads + Wait + Sync, H: Shelf, G: Gate>(
     gate: &G,
 ) -> Result<Outcome, Refusal>
     requires { IsReadyTest test.now }
-    ensures { Comes
+    ensures comes { Comes
         (λ files.
         OfReplay (take trace_bytes (files trace.now)) (plain_script test.now.script) test.now.deal)
         (H.files shelf.old)
         (Misses (Some trace.now) (H.failed shelf.old) (H.failed shelf.new)) result }
+    ensures keeps { KeepsFile (Some trace.now) (is_unread result) (H.failed shelf.old)
+        (H.failed shelf.new) }
+    ensures files { H.files shelf.new ≡ H.files shelf.old }
 {
     match read_told(alloc, trace, test.script.names(), shelf) {
         Err(refusal) => Err(refusal),

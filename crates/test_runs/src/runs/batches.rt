@@ -19,13 +19,21 @@ const DOWN: Ask = Ask::Down { sem: 0 };
 
 const FAIL: Ask = Ask::Check { holds: false };
 
-const ORDER: [u32; 4] = [0, 1, 2, 3];
+pub(super) const ORDER: [u32; 4] = [0, 1, 2, 3];
 
 /// A thread of one step.
 #[derive(Drop)]
-struct Once {
+pub(super) struct Once {
     ask: Ask,
     asked: bool,
+}
+
+impl Once {
+    pub(super) fn new(ask: Ask) -> Once
+        ensures { result ≡ record { ask = ask; asked = false } }
+    {
+        Once { ask, asked: false }
+    }
 }
 
 impl Body for Once {
@@ -48,16 +56,11 @@ fn once_bodies(alloc: Global, asks: &[Ask]) -> Result<Vec<Once>, NoMemory>
     ensures { IfOk result (λ bodies.
         bodies.items ≡ map (λ ask. record { ask = ask; asked = false }) asks.now) }
 {
-    asks.iter()
-        .map(|ask| Once {
-            ask: *ask,
-            asked: false,
-        })
-        .collect(alloc)
+    asks.iter().map(|ask| Once::new(*ask)).collect(alloc)
 }
 
 /// A test of threads of one step each. The first goes first.
-fn once_test(alloc: Global, asks: &[Ask], limit: u32) -> Result<Test<Pct, Once>, Fail>
+pub(super) fn once_test(alloc: Global, asks: &[Ask], limit: u32) -> Result<Test<Pct, Once>, Fail>
     requires some { 1 ≤ length asks.now }
     requires few { length asks.now ≤ 4 }
     requires deeds { list_all is_deed asks.now ≡ true }
@@ -129,7 +132,7 @@ fn step(thread: u32, ask: Ask, answer: i64) -> Event {
 }
 
 /// The steps of one of the five: the threads go one after another.
-fn expect_events(rt: &impl Abort, place: usize, events: &[Event]) {
+pub(super) fn expect_events(rt: &impl Abort, place: usize, events: &[Event]) {
     let first = step(0, ADD, 0);
     let second = step(1, ADD, 1);
     match place {

@@ -10,8 +10,8 @@ use Rattle.pct_top.specs.commands.Certify.{OfCertify}
 use Rattle.pct_top.proofs.Comes.{comes_as}
 use Rattle.pct_top.proofs.dispatch.second_outcome.Goals as goal
 
-pub returns-in-Replay : goal.returns-in-Replay
-returns-in-Replay g c =
+pub returns-in-Replay-clause-comes : goal.returns-in-Replay-clause-comes
+returns-in-Replay-clause-comes g c =
     let test = c.args.test.now in
     let told = g.H.Shelf.files c.args.shelf.now in
     let failed = g.H.Shelf.failed c.args.shelf.now in
@@ -24,10 +24,10 @@ returns-in-Replay g c =
     rw c.in-Replay.is (comes_as (λ files.
     OfReplay (take trace_bytes (files c.in-Replay.trace)) (plain_script test.script) test.deal) told
     missed (missed × Unit {0}) (λ m. (m, tt)) c.reply_to_file.result
-    (subst P c.as_str.ensures c.reply_to_file.ensures))
+    (subst P c.as_str.ensures c.reply_to_file.ensures.comes))
 
-pub returns-in-Expose : goal.returns-in-Expose
-returns-in-Expose g c =
+pub returns-in-Expose-clause-comes : goal.returns-in-Expose-clause-comes
+returns-in-Expose-clause-comes g c =
     let test = c.args.test.now in
     let script = plain_script test.script in
     let told = g.H.Shelf.files c.args.shelf.now in
@@ -39,10 +39,10 @@ returns-in-Expose g c =
     asked.limit script test.deal)
     told (Misses (Some name) failed failed' × OrderFits script.names (Some asked.order))
     c.expose_file.result in
-    rw c.in-Expose.is (subst P c.as_str-directive.ensures c.expose_file.ensures)
+    rw c.in-Expose.is (subst P c.as_str-directive.ensures c.expose_file.ensures.comes)
 
-pub returns-in-Certify : goal.returns-in-Certify
-returns-in-Certify g c =
+pub returns-in-Certify-clause-comes : goal.returns-in-Certify-clause-comes
+returns-in-Certify-clause-comes g c =
     let test = c.args.test.now in
     let script = plain_script test.script in
     let told = g.H.Shelf.files c.args.shelf.now in
@@ -56,4 +56,4 @@ returns-in-Certify g c =
     let missed : Type 0 = Misses (Some asked.directive) failed failed' in
     rw c.in-Certify.is (comes_as (Of asked.directive) told missed (missed × Unit {0})
     (λ m. (m, tt)) c.certify_file.result
-    (subst P c.as_str-directive-in-Certify.ensures c.certify_file.ensures))
+    (subst P c.as_str-directive-in-Certify.ensures c.certify_file.ensures.comes))

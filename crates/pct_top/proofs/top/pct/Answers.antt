@@ -38,7 +38,8 @@ returns-in-Ok g c =
         shorts = g.E.Sink.shorts c.args.err.now;
       };
     } in
-    call_ran (texts_of c.args.words.now) found left c.in-Ok.status refl c.in-Ok.ensures.answers
+    call_ran (texts_of c.args.words.now) found left c.in-Ok.status refl
+    (c.in-Ok.ensures.answers, c.in-Ok.ensures.unread, c.in-Ok.ensures.shelf)
     c.in-Ok.ensures.refused
 
 pub returns-in-Err : goal.returns-in-Err
@@ -76,4 +77,5 @@ returns-in-Err g c =
       };
     } in
     call_said (texts_of c.args.words.now) found left c.status.result c.in-Err.refusal
-    c.status.ensures c.in-Err.ensures.answers c.in-Err.ensures.refused c.say.ensures
+    c.status.ensures (c.in-Err.ensures.answers, c.in-Err.ensures.unread, c.in-Err.ensures.shelf)
+    c.in-Err.ensures.refused c.say.ensures

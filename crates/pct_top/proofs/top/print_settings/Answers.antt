@@ -1,10 +1,15 @@
-use Rattle.std.proofs.Common.{Ok}
+use Rattle.std.proofs.Common.{Bool, Ok, Err, Some, sym, subst}
 use Rattle.pct_top.specs.Outside.{ShelfTold, StreamTold}
+use Rattle.pct_top.specs.Output.{OfTaken}
+use Rattle.pct_top.specs.Outcome.{printed_of}
+use Rattle.pct_top.specs.Call.{ReadFailed, LeavesShelf}
+use Rattle.pct_top.proofs.Comes.{told_comes}
+use Rattle.pct_top.proofs.Shelves.{put_is_read}
 use Rattle.pct_top.proofs.Calls.{answers_refused, answers_put}
 use Rattle.pct_top.proofs.top.print_settings.Goals as goal
 
-pub returns-in-Err : goal.returns-in-Err
-returns-in-Err g c =
+pub returns-in-Err-clause-answers : goal.returns-in-Err-clause-answers
+returns-in-Err-clause-answers g c =
     let shelf : ShelfTold = record {
       files = g.H.Shelf.files c.args.shelf.now;
       failed = g.H.Shelf.failed c.args.shelf.now;
@@ -18,10 +23,11 @@ returns-in-Err g c =
       faults = g.O.Sink.faults c.args.out.now;
       shorts = g.O.Sink.shorts c.args.out.now;
     } in
-    answers_refused (Ok c.args.settings.now) shelf shelf' out c.in-Err.refusal c.in-Err.ensures
+    answers_refused (Ok c.args.settings.now) shelf shelf' out c.in-Err.refusal
+    c.in-Err.ensures.comes
 
-pub returns-in-Ok : goal.returns-in-Ok
-returns-in-Ok g c =
+pub returns-in-Ok-clause-answers : goal.returns-in-Ok-clause-answers
+returns-in-Ok-clause-answers g c =
     let shelf : ShelfTold = record {
       files = g.H.Shelf.files c.args.shelf.now;
       failed = g.H.Shelf.failed c.args.shelf.now;
@@ -41,4 +47,71 @@ returns-in-Ok g c =
       shorts = g.O.Sink.shorts c.put_outcome.new.out;
     } in
     answers_put (Ok c.args.settings.now) shelf shelf' out out' c.in-Ok.outcome c.put_outcome.result
-    c.in-Ok.ensures c.put_outcome.ensures
+    c.in-Ok.ensures.comes c.put_outcome.ensures
+
+pub returns-in-Err-clause-unread : goal.returns-in-Err-clause-unread
+returns-in-Err-clause-unread g c = λ none files.
+    let shelf : ShelfTold = record {
+      files = Some files;
+      failed = g.H.Shelf.failed c.args.shelf.now;
+    } in
+    let shelf' : ShelfTold = record {
+      files = g.H.Shelf.files c.outcome_of.new.shelf;
+      failed = g.H.Shelf.failed c.outcome_of.new.shelf;
+    } in
+    let out : StreamTold = record {
+      written = g.O.Sink.written c.args.out.now;
+      faults = g.O.Sink.faults c.args.out.now;
+      shorts = g.O.Sink.shorts c.args.out.now;
+    } in
+    answers_refused (Ok c.args.settings.now) shelf shelf' out c.in-Err.refusal
+    (told_comes (OfTaken (Ok c.args.settings.now)) files (ReadFailed (Ok c.args.settings.now) shelf shelf')
+    (Err c.in-Err.refusal) (c.in-Err.ensures.unread none files))
+
+pub returns-in-Ok-clause-unread : goal.returns-in-Ok-clause-unread
+returns-in-Ok-clause-unread g c = λ none files.
+    let shelf : ShelfTold = record {
+      files = Some files;
+      failed = g.H.Shelf.failed c.args.shelf.now;
+    } in
+    let shelf' : ShelfTold = record {
+      files = g.H.Shelf.files c.outcome_of.new.shelf;
+      failed = g.H.Shelf.failed c.outcome_of.new.shelf;
+    } in
+    let out : StreamTold = record {
+      written = g.O.Sink.written c.args.out.now;
+      faults = g.O.Sink.faults c.args.out.now;
+      shorts = g.O.Sink.shorts c.args.out.now;
+    } in
+    let out' : StreamTold = record {
+      written = g.O.Sink.written c.put_outcome.new.out;
+      faults = g.O.Sink.faults c.put_outcome.new.out;
+      shorts = g.O.Sink.shorts c.put_outcome.new.out;
+    } in
+    answers_put (Ok c.args.settings.now) shelf shelf' out out' c.in-Ok.outcome c.put_outcome.result
+    (told_comes (OfTaken (Ok c.args.settings.now)) files (ReadFailed (Ok c.args.settings.now) shelf shelf')
+    (Ok c.in-Ok.outcome) (c.in-Ok.ensures.unread none files)) c.put_outcome.ensures
+
+pub returns-in-Ok-clause-shelf : goal.returns-in-Ok-clause-shelf
+returns-in-Ok-clause-shelf g c =
+    let shelf : ShelfTold = record {
+      files = g.H.Shelf.files c.args.shelf.now;
+      failed = g.H.Shelf.failed c.args.shelf.now;
+    } in
+    let shelf' : ShelfTold = record {
+      files = g.H.Shelf.files c.outcome_of.new.shelf;
+      failed = g.H.Shelf.failed c.outcome_of.new.shelf;
+    } in
+    let out : StreamTold = record {
+      written = g.O.Sink.written c.args.out.now;
+      faults = g.O.Sink.faults c.args.out.now;
+      shorts = g.O.Sink.shorts c.args.out.now;
+    } in
+    let out' : StreamTold = record {
+      written = g.O.Sink.written c.put_outcome.new.out;
+      faults = g.O.Sink.faults c.put_outcome.new.out;
+      shorts = g.O.Sink.shorts c.put_outcome.new.out;
+    } in
+    subst (λ (unread : Bool). LeavesShelf (Ok c.args.settings.now) unread shelf shelf')
+    (sym (put_is_read (printed_of c.in-Ok.outcome) out out' c.put_outcome.result c.put_outcome.ensures))
+    c.in-Ok.ensures.shelf

@@ -7,8 +7,8 @@ use Rattle.pct_top.specs.commands.Certify.{PrintsCertificate}
 use Rattle.pct_top.proofs.Comes.{directive_refused, directive_shown}
 use Rattle.pct_top.proofs.commands.certify.certify_file.Goals as goal
 
-pub returns-in-Err : goal.returns-in-Err
-returns-in-Err g c =
+pub returns-in-Err-clause-comes : goal.returns-in-Err-clause-comes
+returns-in-Err-clause-comes g c =
     let test = c.args.test.now in
     let script = plain_script test.script in
     let told = g.H.Shelf.files c.args.shelf.now in
@@ -19,10 +19,10 @@ returns-in-Err g c =
     GivesDirective told file names missed (Err c.in-Err.refusal) in
     directive_refused told file script.names
     (PrintsCertificate script test.deal c.args.steps c.args.limit) missed c.in-Err.refusal
-    (subst G c.names.ensures c.in-Err.ensures)
+    (subst G c.names.ensures c.in-Err.ensures.told)
 
-pub returns-in_ok-certificate_of-in-Ok : goal.returns-in_ok-certificate_of-in-Ok
-returns-in_ok-certificate_of-in-Ok g c =
+pub returns-in_ok-certificate_of-in-Ok-clause-comes : goal.returns-in_ok-certificate_of-in-Ok-clause-comes
+returns-in_ok-certificate_of-in-Ok-clause-comes g c =
     let test = c.args.test.now in
     let script = plain_script test.script in
     let told = g.H.Shelf.files c.args.shelf.now in
@@ -33,5 +33,5 @@ returns-in_ok-certificate_of-in-Ok g c =
     let H : NameLists → Type 0 = λ names. HasDirective told file names plan in
     directive_shown told file script.names
     (PrintsCertificate script test.deal c.args.steps c.args.limit) missed plan
-    (printed_of c.in_ok-certificate_of-in-Ok.field-0) (subst H c.names.ensures c.in-Ok.ensures)
+    (printed_of c.in_ok-certificate_of-in-Ok.field-0) (subst H c.names.ensures c.in-Ok.ensures.told)
     c.in_ok-certificate_of-in-Ok.ensures

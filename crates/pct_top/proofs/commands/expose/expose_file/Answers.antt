@@ -10,8 +10,8 @@ use Rattle.pct_top.specs.commands.Expose.{PrintsExposed}
 use Rattle.pct_top.proofs.Comes.{directive_refused, directive_shown, ordered, ordered_shown}
 use Rattle.pct_top.proofs.commands.expose.expose_file.Goals as goal
 
-pub returns-in-Err-read_directed : goal.returns-in-Err-read_directed
-returns-in-Err-read_directed g c =
+pub returns-in-Err-read_directed-clause-comes : goal.returns-in-Err-read_directed-clause-comes
+returns-in-Err-read_directed-clause-comes g c =
     let test = c.args.test.now in
     let names = (plain_script test.script).names in
     let items = c.args.order.now in
@@ -32,10 +32,10 @@ returns-in-Err-read_directed g c =
     ordered told names items c.args.word over (missed × OrderFits names (Some items)) order gives
     missed (λ m. (m, (order, gives))) (Err refusal)
     (directive_refused told file names (Of order) missed refusal
-    (subst G c.names-names.ensures c.in-Err-read_directed.ensures))
+    (subst G c.names-names.ensures c.in-Err-read_directed.ensures.told))
 
-pub returns-in_ok-exposed_by-in-Ok-read_directed : goal.returns-in_ok-exposed_by-in-Ok-read_directed
-returns-in_ok-exposed_by-in-Ok-read_directed g c =
+pub returns-in_ok-exposed_by-in-Ok-read_directed-clause-comes : goal.returns-in_ok-exposed_by-in-Ok-read_directed-clause-comes
+returns-in_ok-exposed_by-in-Ok-read_directed-clause-comes g c =
     let test = c.args.test.now in
     let names = (plain_script test.script).names in
     let items = c.args.order.now in
@@ -57,5 +57,5 @@ returns-in_ok-exposed_by-in-Ok-read_directed g c =
     ordered_shown told names items c.args.word over (missed × OrderFits names (Some items)) order
     gives printed
     (directive_shown told file names (Of order) missed plan printed
-    (subst H c.names-names.ensures c.in-Ok-read_directed.ensures)
+    (subst H c.names-names.ensures c.in-Ok-read_directed.ensures.told)
     c.in_ok-exposed_by-in-Ok-read_directed.ensures)

@@ -5,8 +5,8 @@ use Rattle.pct_top.specs.commands.Replay.{PrintsReply}
 use Rattle.pct_top.proofs.Comes.{trace_refused}
 use Rattle.pct_top.proofs.commands.replay.reply_to_file.Goals as goal
 
-pub returns-in-Err : goal.returns-in-Err
-returns-in-Err g c =
+pub returns-in-Err-clause-comes : goal.returns-in-Err-clause-comes
+returns-in-Err-clause-comes g c =
     let test = c.args.test.now in
     let script = plain_script test.script in
     let told = g.H.Shelf.files c.args.shelf.now in
@@ -15,4 +15,4 @@ returns-in-Err g c =
     trace_refused told c.args.trace.now script.names (PrintsReply script test.deal) missed
     c.in-Err.refusal
     (subst (λ names. GivesTrace told c.args.trace.now names missed (Err c.in-Err.refusal))
-    c.names.ensures c.in-Err.ensures)
+    c.names.ensures c.in-Err.ensures.told)
