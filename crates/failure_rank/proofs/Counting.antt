@@ -1,5 +1,5 @@
 -- One more row in the groups that are counted.
-use Rattle.std.proofs.Common.{◌≡◌, ◌≢◌, suc, ◌+◌, ◌<◌, ◌≤◌, ◌^◌, Bool, true, false, List, [], ◌∷◌}
+use Rattle.std.proofs.Common.{◌≡◌, ◌≢◌, suc, ◌+◌, ◌<◌, ◌^◌, Bool, true, false, List, [], ◌∷◌}
 use Rattle.std.proofs.Common.{◌++◌, length, get_or, Option, Some, None, refl, sym, ap, subst, ◌∙◌}
 use Rattle.std.proofs.Common.{arith, true≢false}
 use Rattle.std.specs.List.{All, AllPairs}
@@ -263,7 +263,7 @@ module _ (rows : List Row) (row : Row) where
 
 -- no group counts more rows than there are
 pub counts_fit : (rows : List Row) (entries : List (Verdict × Group)) → AreRowsCounted rows entries
-    → length rows ≤ 100000 → All (λ entry. entry.1.count + 1 < 2 ^ 32) entries
+    → length rows + 1 < 2 ^ 32 → All (λ entry. entry.1.count + 1 < 2 ^ 32) entries
 counts_fit rows entries is few =
     All-weaker (IsEntry rows) (λ e. e.1.count + 1 < 2 ^ 32)
     (λ e own. omega (

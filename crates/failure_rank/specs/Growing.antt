@@ -1,5 +1,6 @@
 -- The groups while rows are counted, in the order in which their verdicts first came.
-use Rattle.std.specs.Prelude.{◌≡◌, ◌≢◌, ◌+◌, ◌<◌, min, List, [], Option, Some, None, All, AllPairs}
+use Rattle.std.specs.Prelude.{◌≡◌, ◌≢◌, ◌+◌, ◌<◌, min, List, [], length, Option, Some, None, All}
+use Rattle.std.specs.Prelude.{AllPairs}
 use Rattle.std.specs.Map.{lookup, keys_of}
 use Rattle.pct_ask.specs.declared.event.Row.{Row}
 use Rattle.pct_ask.specs.declared.verdict.Verdict.{Verdict}
@@ -7,6 +8,7 @@ use Rattle.pct_ask.specs.declared.verdict.Verdict.TheVariants.{Passed}
 use Rattle.pct_ask.specs.SameVerdict.{same_verdict}
 use Rattle.failure_rank.specs.Groups.{rows_with, earliest, IsGroup}
 use Rattle.failure_rank.specs.declared.group.Group.{Group}
+use Rattle.failure_rank.specs.declared.tally.Tally.{Tally}
 
 -- of one row
 abbrev pub group_of : Row → Group
@@ -30,3 +32,8 @@ pub record AreRowsCounted (rows : List Row) (entries : List (Verdict × Group)) 
   pub order : AllPairs (λ v w. earliest rows v < earliest rows w) (keys_of entries)
   pub all : (verdict : Verdict) → verdict ≢ Passed
       → lookup (same_verdict verdict) entries ≡ None → rows_with verdict rows ≡ []
+
+-- the rows were counted: those that passed, and those of each failure
+pub record IsTally (rows : List Row) (tally : Tally) : Type 0 where
+  pub passed : tally.passed ≡ length (rows_with Passed rows)
+  pub failures : AreRowsCounted rows tally.failures.entries

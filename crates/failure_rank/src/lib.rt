@@ -3,6 +3,8 @@
 
 mod group;
 mod ranking;
+mod tally;
 
 pub use group::{Group, Groups};
 pub use ranking::rank;
+pub use tally::Tally;

@@ -1,2 +1,4 @@
 pub mod Plain
 pub mod Written
+pub mod Spaced
+pub mod SweepWritten

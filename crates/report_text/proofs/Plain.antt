@@ -139,7 +139,7 @@ digits-plain (d ∷ ds) h =
 line-plain : (line : ℕ) → IsLine line → All IsPlain (decimal line)
 line-plain line is = digits-plain (decimal line) (decimal_is_IsNumeral line (omega arith)).0.1
 
-thread-plain : (names : NameLists) (thread : ℕ) → AreNames names → thread < length names.threads
+pub thread-plain : (names : NameLists) (thread : ℕ) → AreNames names → thread < length names.threads
     → All IsPlain (thread_name names thread)
 thread-plain names thread sound known =
     let rest = names.vars ++ (names.mutexes

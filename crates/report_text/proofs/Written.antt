@@ -31,7 +31,7 @@ items-join d (e ∷ ds) =
     ∙ sym (append_assoc (compact_text d)
     (44 ∷ join_with_byte 44 (compact_text e ∷ map compact_text ds)) (93 ∷ []))
 
-array-text : (ds : List Data) → compact_text (array (items_of ds))
+pub array-text : (ds : List Data) → compact_text (array (items_of ds))
     ≡ array_text (map compact_text ds)
 array-text [] = refl
 array-text (d ∷ ds) = ap (λ (x : List ℕ). 91 ∷ x) (items-join d ds)
@@ -64,7 +64,7 @@ members-join m (n ∷ ms) keys =
     ∙ sym (append_assoc (text_of_member m)
     (44 ∷ join_with_byte 44 (text_of_member n ∷ map text_of_member ms)) (125 ∷ []))
 
-object-text : (m : List ℕ × Data) (ms : List (List ℕ × Data)) → HavePlainKeys (m ∷ ms)
+pub object-text : (m : List ℕ × Data) (ms : List (List ℕ × Data)) → HavePlainKeys (m ∷ ms)
     → compact_text (object (members_from (m ∷ ms))) ≡ object_text (map text_of_member (m ∷ ms))
 object-text m ms keys = ap (λ (x : List ℕ). 123 ∷ x) (members-join m ms keys)
 

@@ -8,10 +8,10 @@ use Rattle.pct_ask.specs.declared.event.Row.{Row}
 use Rattle.failure_rank.specs.declared.group.Group.{Group}
 use Rattle.report_text.specs.declared.frame.Frame.{Frame}
 
--- what the campaign was run with, below the version of the report
-abbrev pub frame_lines : Frame → List (List (List ℕ))
-frame_lines frame =
-    (codes "campaign" ∷ decimal 1 ∷ []) ∷ (codes "threads" ∷ decimal frame.threads ∷ [])
+-- what the runs had in common, below the report's word and its version
+abbrev pub frame_lines : List ℕ → Frame → List (List (List ℕ))
+frame_lines word frame =
+    (word ∷ decimal 1 ∷ []) ∷ (codes "threads" ∷ decimal frame.threads ∷ [])
     ∷ (codes "steps" ∷ decimal frame.steps ∷ []) ∷ (codes "depth" ∷ decimal frame.depth ∷ [])
     ∷ (codes "limit" ∷ decimal frame.limit ∷ []) ∷ []
 
@@ -30,5 +30,5 @@ group_words names group =
 abbrev pub text_of : Frame → List Row → List Group → NameLists → List ℕ
 text_of frame rows groups names =
     flat_map line_text
-    (frame_lines frame ++ map (row_words names) rows
+    (frame_lines (codes "campaign") frame ++ map (row_words names) rows
     ++ (codes "groups" ∷ decimal (length groups) ∷ []) ∷ map (group_words names) groups)

@@ -107,7 +107,11 @@ fn group_value(alloc: Global, group: &Group, names: &Names) -> Result<Value, NoM
 }
 
 /// A verdict's text, which is ASCII.
-fn verdict_value(alloc: Global, verdict: &Verdict, names: &Names) -> Result<Value, NoMemory>
+pub(crate) fn verdict_value(
+    alloc: Global,
+    verdict: &Verdict,
+    names: &Names,
+) -> Result<Value, NoMemory>
     requires { IsWritable names.now verdict.now }
     ensures { IfOk result (λ value. view value ≡ string (verdict_text names.now verdict.now)) }
 {

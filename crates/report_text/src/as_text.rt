@@ -25,18 +25,19 @@ pub fn text_report(
     ensures { IfOk result (λ text. text.items ≡ text_of frame.now rows.now groups.now names.now) }
 {
     let mut text = Vec::new(alloc);
-    push_frame(&mut text, frame)?;
+    push_frame(&mut text, b"campaign", frame)?;
     push_rows(&mut text, rows.as_slice(), names)?;
     push_field(&mut text, b"groups", groups.len() as u64)?;
     push_groups(&mut text, groups.as_slice(), names)?;
     Ok(text)
 }
 
-fn push_frame(out: &mut Vec<u8>, frame: &Frame) -> Result<(), NoMemory>
+/// What the runs had in common, below the report's word and its version.
+pub(crate) fn push_frame(out: &mut Vec<u8>, word: &[u8], frame: &Frame) -> Result<(), NoMemory>
     ensures { OnOk result (out.new.items
-        ≡ out.old.items ++ flat_map line_text (frame_lines frame.now)) }
+        ≡ out.old.items ++ flat_map line_text (frame_lines word.now frame.now)) }
 {
-    push_field(out, b"campaign", 1)?;
+    push_field(out, word, 1)?;
     push_field(out, b"threads", u64::from(frame.threads))?;
     push_field(out, b"steps", u64::from(frame.steps))?;
     push_field(out, b"depth", u64::from(frame.depth))?;
@@ -44,7 +45,7 @@ fn push_frame(out: &mut Vec<u8>, frame: &Frame) -> Result<(), NoMemory>
 }
 
 /// A line of a word and its number.
-fn push_field(out: &mut Vec<u8>, word: &[u8], number: u64) -> Result<(), NoMemory>
+pub(crate) fn push_field(out: &mut Vec<u8>, word: &[u8], number: u64) -> Result<(), NoMemory>
     ensures { OnOk result (out.new.items
         ≡ out.old.items ++ line_text (word.now ∷ decimal number ∷ [])) }
 {
@@ -99,7 +100,7 @@ fn push_group(out: &mut Vec<u8>, group: &Group, names: &Names) -> Result<(), NoM
 }
 
 /// A number and a space.
-fn push_number(out: &mut Vec<u8>, number: u64) -> Result<(), NoMemory>
+pub(crate) fn push_number(out: &mut Vec<u8>, number: u64) -> Result<(), NoMemory>
     ensures { OnOk result (out.new.items ≡ out.old.items ++ (decimal number ++ 32 ∷ [])) }
 {
     write_number(i128::from(number), out)?;
@@ -108,7 +109,11 @@ fn push_number(out: &mut Vec<u8>, number: u64) -> Result<(), NoMemory>
 }
 
 /// A verdict and the line's end.
-fn push_verdict(out: &mut Vec<u8>, verdict: &Verdict, names: &Names) -> Result<(), NoMemory>
+pub(crate) fn push_verdict(
+    out: &mut Vec<u8>,
+    verdict: &Verdict,
+    names: &Names,
+) -> Result<(), NoMemory>
     requires { IsWritable names.now verdict.now }
     ensures { OnOk result (out.new.items
         ≡ out.old.items ++ (verdict_text names.now verdict.now ++ 10 ∷ [])) }

@@ -5,7 +5,7 @@ use Rattle.std.proofs.lemmas.Option.{MatchOption-at_some}
 use Rattle.std.proofs.lemmas.Map.Entries.{All-lookup}
 use Rattle.pct_ask.specs.SameVerdict.{same_verdict}
 use Rattle.failure_rank.specs.declared.group.Group.{Group}
-use Rattle.failure_rank.proofs.ranking.add_row.Goals as goal
+use Rattle.failure_rank.proofs.tally.add_failure.Goals as goal
 
 pub with-group-requires : goal.with-group-requires
 with-group-requires c =
