@@ -21,6 +21,7 @@ from pctmodel.locks import Nesting, is_good, lock_order, nestings_of
 from pctmodel.races import races_of
 from pctmodel.run import Event, replay, run
 from pctmodel.script import Faulty, parse
+from pctmodel.sweep import endings_of, has_too_many, sweep_json, sweep_text
 from pctmodel.trace import Trace, read_trace, step_line, trace_lines
 from pctmodel.words import NotTaken, read_words
 
@@ -126,6 +127,17 @@ def campaign_command(settings):
     return report, FOUND if groups else DONE
 
 
+def sweep_command(settings):
+    script, options = read_script(settings.before[0]), settings.options
+    limit, depth = options.get("--limit", 10000), options["--depth"]
+    steps = steps_to_draw_from(script, settings, limit)
+    if has_too_many(script, depth, steps):
+        return [f"toomany {len(script.threads)}"], FOUND
+    frame, endings = Frame(len(script.threads), steps, depth, limit), endings_of(script, depth, steps, limit)
+    report = [sweep_json(frame, endings)] if options.get("--form") == "json" else list(sweep_text(frame, endings))
+    return report, DONE if all(ending.verdict == "passed" for ending in endings) else FOUND
+
+
 def big_command(settings):
     text, limit = big_script(int(settings.before[0])), 10000
     script = parse(text.encode())
@@ -179,6 +191,7 @@ def find_command(settings):
 COMMANDS = {
     "run": run_command, "replay": replay_command, "campaign": campaign_command, "big": big_command, "races": races_command,
     "locks": locks_command, "find": find_command, "expose": expose_command, "certify": certify_command,
+    "sweep": sweep_command,
 }
 
 

@@ -14,6 +14,7 @@ BY_ORDER = {"--order": True, "--points": False, "--limit": False}
 BY_SEED = {"--seed": True, "--depth": True, "--steps": False, "--limit": False}
 EXPOSE = {"--order": True, "--steps": True, "--limit": False}
 CERTIFY = {"--steps": True, "--limit": False}
+SWEEP = {"--depth": True, "--steps": False, "--limit": False, "--form": False}
 CAMPAIGN = {"--from": True, "--count": True, "--depth": True, "--steps": False, "--limit": False, "--form": False}
 # By command: how many words stand before the options, and the forms of these.
 COMMANDS = {
@@ -25,6 +26,7 @@ COMMANDS = {
     "expose": (2, [EXPOSE]),
     "certify": (2, [CERTIFY]),
     "campaign": (1, [CAMPAIGN]),
+    "sweep": (1, [SWEEP]),
     "big": (1, [{}]),
 }
 

@@ -1,0 +1,4 @@
+pub mod Choices
+pub mod Rows
+pub mod Swept
+pub mod Batches

@@ -1,0 +1,93 @@
+ghost use Rattle.std.specs.Prelude.{◌≤◌, IfOk};
+ghost use Rattle.script_tree.specs.ScriptText.{ScriptText};
+ghost use Rattle.script_code.specs.Listing.{listing};
+ghost use Rattle.script_body.specs.Bodies.{bodies_of, AreOf};
+ghost use Rattle.sweep.specs.Swept.{Sweeps};
+
+use crate::batches::count_choices;
+use crate::choice::choice_count;
+use crate::task::Task;
+use failure_rank::{Groups, Tally};
+use pct_ask::Deal;
+use pct_outside::Gate;
+use script_code::Code;
+use std::alloc::{AllocError as NoMemory, Global};
+use std::sync::Wait;
+use std::thread::Threads;
+use worker_run::batch_size;
+
+/// What all choices of an order and change points lead to.
+#[derive(Debug, Drop)]
+pub struct Swept {
+    /// How many choices there are.
+    pub choices: u32,
+    /// How many of them pass.
+    pub passed: u32,
+    /// The verdicts of the others. A group's `first` is the place of its first choice, from 0.
+    pub groups: Groups,
+}
+
+/// What is told of all choices.
+#[derive(Debug, Drop)]
+pub enum Answer {
+    /// What each leads to, counted.
+    Whole(Swept),
+    /// There are more than 100,000,000.
+    TooMany,
+}
+
+/// Runs a script's code once for each choice of an order of its threads and of so many change
+/// points, each from 1 to `steps`, in real threads, and counts how the runs end. A run has at most
+/// `limit` steps. Threads are started once for a batch of choices, whose runs may overlap in time.
+/// The gate is passed before each post.
+pub fn sweep<R: Threads + Wait + Sync, G: Gate>(
+    rt: &R,
+    alloc: Global,
+    code: &Code,
+    deal: &Deal,
+    points: u32,
+    steps: u32,
+    limit: u32,
+    gate: &G,
+) -> Result<Answer, NoMemory>
+    requires script { (script : ScriptText) × AreOf script (listing code.now) deal.now }
+    requires few_points { points ≤ 7 }
+    requires some_steps { 1 ≤ steps }
+    requires few_steps { steps ≤ 100000 }
+    requires some_limit { 1 ≤ limit }
+    requires low_limit { limit ≤ 100000 }
+    ensures { (script : ScriptText) → AreOf script (listing code.now) deal.now
+        → IfOk result (Sweeps (record {
+          deal = deal.now;
+          bodies = bodies_of script;
+          many = points;
+          steps = steps;
+          limit = limit;
+        })) }
+{
+    let Some(choices) = choice_count(deal.threads, steps, points) else {
+        return Ok(Answer::TooMany);
+    };
+    let task = Task {
+        code,
+        deal,
+        points,
+        steps,
+        limit,
+    };
+    let size = batch_size(limit);
+    let mut tally = Tally::new(alloc);
+    let mut place = 0;
+    'batches: while place < choices {
+        let end = place + size.min(choices - place);
+        count_choices(rt, alloc, &task, &mut tally, place, end, gate)?;
+        place = end;
+    }
+    let passed = tally.passed();
+    let groups = tally.into_groups(alloc)?;
+    Ok(Answer::Whole(Swept {
+        choices,
+        passed,
+        groups,
+    }))
+}

@@ -1,0 +1,23 @@
+// What is to be swept.
+ghost use Rattle.std.specs.Prelude.{◌≤◌};
+ghost use Rattle.sweep.specs.Choices.{choice_count, most_choices};
+
+use pct_ask::Deal;
+use script_code::Code;
+
+/// What the runs of a sweep have in common: a script's code, what its threads share, how many
+/// change points a run has, from how many steps they are, and how many steps a run may have.
+#[derive(Clone, Copy)]
+pub struct Task<'a> {
+    pub code: &'a Code,
+    pub deal: &'a Deal,
+    pub points: u32,
+    pub steps: u32,
+    pub limit: u32,
+    ghost few_points: { points ≤ 7 },
+    ghost some_steps: { 1 ≤ steps },
+    ghost few_steps: { steps ≤ 100000 },
+    ghost some_limit: { 1 ≤ limit },
+    ghost low_limit: { limit ≤ 100000 },
+    ghost few_choices: { choice_count deal.now.threads steps points ≤ most_choices },
+}
