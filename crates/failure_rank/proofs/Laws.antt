@@ -1,4 +1,5 @@
--- What a ranking's groups have from the rows, and that there is one ranking.
+-- What a ranking's groups have from the rows, and that there is one ranking. The lemmas on verdicts,
+-- rows and groups that are handed on speak of definitions alone.
 use Rattle.std.proofs.Common.{List, get_or, sym, subst, ◌≡◌}
 use Rattle.std.specs.List.{All}
 use Rattle.std.proofs.lemmas.List.Elements.{All-filter, filter_passes, Contains-get_or}
@@ -7,8 +8,11 @@ use Rattle.pct_ask.specs.declared.verdict.Verdict.{Verdict}
 use Rattle.pct_ask.specs.SameVerdict.{same_verdict}
 use Rattle.failure_rank.specs.Groups.{rows_with, IsGroup, IsRanking, RanksBefore}
 use Rattle.failure_rank.specs.declared.group.Group.{Group}
-use Rattle.failure_rank.proofs.RowLemmas.{equal}
-use Rattle.failure_rank.proofs.Unique.{not_both, same_lists}
+use Rattle.failure_rank.proofs.Unique.{same_lists}
+pub use Rattle.failure_rank.proofs.RowLemmas.{equal, same-true, same-false, SumsUp-more, SumsUp-one}
+pub use Rattle.failure_rank.proofs.Counting.{verdict_cases}
+pub use Rattle.failure_rank.proofs.Stable.{same_group}
+pub use Rattle.failure_rank.proofs.Unique.{not_both}
 
 group_has : (P : Verdict → Type 0) (rows : List Row) (g : Group) → IsGroup rows g
     → All (λ row. P row.verdict) rows → P g.verdict

@@ -18,6 +18,7 @@ group_of row = record { verdict = row.verdict; count = 1; steps = row.steps; fir
 abbrev pub with_row : Group → Row → Group
 with_row group row = record group { count = group.count + 1; steps = min group.steps row.steps }
 
+-- with one row: what is there with one more, or that of the row alone
 abbrev pub grown : Option Group → Row → Group
 grown None row = group_of row
 grown (Some group) row = with_row group row
@@ -27,6 +28,8 @@ pub record IsEntry (rows : List Row) (entry : Verdict × Group) : Type 0 where
   pub own : entry.1.verdict ≡ entry.0
   pub group : IsGroup rows entry.1
 
+-- The groups of the rows, each behind its verdict, in the order in which the verdicts first came. A
+-- verdict but passed that has no group has no row.
 pub record AreRowsCounted (rows : List Row) (entries : List (Verdict × Group)) : Type 0 where
   pub each : All (IsEntry rows) entries
   pub order : AllPairs (λ v w. earliest rows v < earliest rows w) (keys_of entries)

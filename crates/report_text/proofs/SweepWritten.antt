@@ -1,9 +1,10 @@
 -- The compact text of a sweep's value is the report.
 use Rattle.std.specs.Prelude.{codes, decimal, ◌<◌, length}
 use Rattle.std.specs.List.{All}
-use Rattle.std.proofs.Common.{◌≡◌, ℕ, false, List, [], ◌∷◌, map, refl, ap, ◌∙◌}
+use Rattle.std.proofs.Common.{◌≡◌, ℕ, ◌≤◌, false, List, [], ◌∷◌, map, refl, ap, ◌∙◌, arith}
 use Rattle.std.proofs.lemmas.List.Elements.{All-head, All-tail}
-use Rattle.serde_json.specs.Data.{Data, number, unsigned, string, array}
+use Rattle.serde_json.specs.Data.{Data, number, unsigned, string, array, depth, items_depth}
+use Rattle.serde_json.specs.Read.{max_depth}
 use Rattle.serde_json.specs.View.{items_of}
 use Rattle.serde_json.specs.Written.{compact_text, has_float, items_have_float}
 use Rattle.pct_ask.specs.NameLists.{NameLists, AreNames}
@@ -128,3 +129,29 @@ groups-no_float names (group ∷ groups) =
 pub sweep-no_float : (frame : Frame) (choices : ℕ) (groups : List SweptGroup) (passed : ℕ)
     (names : NameLists) → has_float (sweep_data frame choices groups passed names) ≡ false
 sweep-no_float frame choices groups passed names = rw (groups-no_float names groups)
+
+-- ---- it nests few values
+
+order-depth : (names : NameLists) (order : List ℕ)
+    → items_depth (items_of (map (name_data names) order)) ≤ 0
+order-depth names [] = omega arith
+order-depth names (thread ∷ order) = omega (arith, order-depth names order)
+
+points-depth : (points : List ℕ) → items_depth (items_of (map point_data points)) ≤ 0
+points-depth [] = omega arith
+points-depth (point ∷ points) = omega (arith, points-depth points)
+
+groups-depth : (names : NameLists) (groups : List SweptGroup)
+    → items_depth (items_of (map (swept_data names) groups)) ≤ 2
+groups-depth names [] = omega arith
+groups-depth names (group ∷ groups) =
+    omega (
+      arith,
+      order-depth names group.order,
+      points-depth group.points,
+      groups-depth names groups,
+    )
+
+pub sweep-few_deep : (frame : Frame) (choices : ℕ) (groups : List SweptGroup) (passed : ℕ)
+    (names : NameLists) → depth (sweep_data frame choices groups passed names) ≤ max_depth
+sweep-few_deep frame choices groups passed names = omega (arith, groups-depth names groups)

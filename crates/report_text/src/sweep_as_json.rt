@@ -5,6 +5,7 @@ ghost use Rattle.pct_ask.specs.VerdictText.{thread_name};
 ghost use Rattle.serde_json.specs.Data.{string};
 ghost use Rattle.serde_json.specs.View.{view};
 ghost use Rattle.report_text.specs.Report.{IsTellable};
+ghost use Rattle.report_text.specs.Data.{ReadsBack};
 ghost use Rattle.report_text.specs.SweepJson.{sweep_json_of};
 ghost use Rattle.report_text.specs.SweepData.{name_data, point_data, swept_data, sweep_data};
 
@@ -25,8 +26,10 @@ pub fn sweep_json(
     names: &Names,
 ) -> Result<Vec<u8>, NoMemory>
     requires { All (IsTellable names.now) groups.now }
-    ensures { IfOk result (λ text. text.items
+    ensures text { IfOk result (λ text. text.items
         ≡ sweep_json_of frame.now choices groups.now passed names.now) }
+    ensures read { IfOk result (λ text. ReadsBack text.items
+        (sweep_data frame.now choices groups.now passed names.now)) }
 {
     // The names are lawful, and so no text needs an escape.
     let _ = names.count(NameKind::Thread);

@@ -16,10 +16,8 @@ use Rattle.worker_run.specs.Run.{Run}
 use Rattle.failure_rank.specs.declared.group.Group.{Group}
 use Rattle.failure_rank.specs.Groups.{rows_with, SumsUp, IsGroup, RanksBefore}
 use Rattle.failure_rank.specs.Growing.{group_of, with_row}
-use Rattle.failure_rank.proofs.RowLemmas.{same-true, equal, same-false, SumsUp-more, SumsUp-one}
-use Rattle.failure_rank.proofs.Counting.{verdict_cases}
-use Rattle.failure_rank.proofs.Stable.{same_group}
-use Rattle.failure_rank.proofs.Unique.{not_both}
+use Rattle.failure_rank.proofs.Laws.{same-true, equal, same-false, SumsUp-more, SumsUp-one}
+use Rattle.failure_rank.proofs.Laws.{verdict_cases, same_group, not_both}
 use Rattle.turn_book.specs.Chances.{threads_below}
 use Rattle.choices.specs.Orders.{orders}
 use Rattle.choices.specs.PointLists.{pointlists}

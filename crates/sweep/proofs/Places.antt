@@ -12,8 +12,6 @@ use Rattle.std.proofs.lemmas.Option.{slice_get_within}
 use Rattle.turn_book.specs.Chances.{threads_below}
 use Rattle.choices.specs.Orders.{factorial, orders}
 use Rattle.choices.specs.PointLists.{pointlists}
-use Rattle.choices.proofs.Places.{some-orders}
-use Rattle.choices.proofs.Bounds.{factorial-rises}
 use Rattle.choices.proofs.laws.OrderLists.{get-left, get-right, get-map}
 use Rattle.choices.proofs.laws.Counts.{range-get}
 use Rattle.choices.specs.Laws.{IsOrderOf, ArePoints}
@@ -137,6 +135,22 @@ list-there k points i place rest list some within none made =
     ∙ ap (λ l. Some l) (sym made ∙ ap (λ m. list ++ digits k m rest) none ∙ append-nil list)
 
 -- ---- the numbers of choices
+
+pub some-orders : (n : ℕ) → 0 < factorial n
+some-orders zero = omega arith
+some-orders (suc n) = let rest = some-orders n in
+    let product : suc n * factorial n ≡ factorial n + n * factorial n = grind arith in
+    omega (arith, rest, product)
+
+factorial-rises : (n more : ℕ) → factorial n ≤ factorial (more + n)
+factorial-rises n zero = let P : ℕ → Type 0 = λ k. factorial n ≤ factorial k in
+    subst P (let e : n ≡ zero + n = omega arith in e) (omega arith)
+factorial-rises n (suc more) =
+    let P : ℕ → Type 0 = λ k. factorial n ≤ factorial k in
+    let k = more + n in
+    let product : suc k * factorial k ≡ factorial k + k * factorial k = grind arith in
+    subst P (let e : suc k ≡ suc more + n = omega arith in e)
+    (omega (arith, factorial-rises n more, product))
 
 pub more-power : (k i more : ℕ) → 1 ≤ k → i ≤ more → k ^ i ≤ k ^ more
 more-power k i more some within = pow-le-pow_right {n = k} some {i = i} {j = more} within

@@ -26,6 +26,7 @@ leads setup order points = run setup.deal setup.bodies order points setup.limit
 abbrev pub row_of_run : ℕ → Run → Row
 row_of_run place ended = record { seed = place; steps = length ended.0; verdict = ended.1 }
 
+-- the row of a choice at its place, where there is such a run
 abbrev pub row_of_choice : Setup → ℕ → Choice → Option Row
 row_of_choice setup place choice =
     option_map (row_of_run place) (leads setup choice.order choice.points)
