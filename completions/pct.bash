@@ -15,6 +15,7 @@ _pct() {
     expose) words='--order --steps --limit' ;;
     certify) words='--steps --limit' ;;
     campaign) words='--from --count --depth --steps --limit --form' ;;
+    sweep) words='--depth --steps --limit --form' ;;
     esac
     case $before in
     --order) words=$(_pct_threads "${COMP_WORDS[2]}") ;;
@@ -23,8 +24,8 @@ _pct() {
     --*) return ;;
     esac
     case $COMP_CWORD,$command in
-    1,*) words='run races locks find expose certify campaign replay big --help --version
-        --explain' ;;
+    1,*) words='run races locks find expose certify campaign sweep replay big --help
+        --version --explain' ;;
     2,--explain) words='NotUtf8 LineTooLong TooManyLines BadHeader BadToken BadStatement
         UnknownName TwiceNamed NumberRange NoEnd StrayEnd NoThread TooMany TooLong BadLine
         OutOfOrder NoVerdict MoreAfterVerdict passed failed stuck misuse fault cut notowner semfull

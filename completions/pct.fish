@@ -40,7 +40,7 @@ set -l explained \
     toomanyreads overflow zerodivisor spin 0 1 2 3 4 5 6 7 8
 set -l of_run run races locks find
 complete -c pct -f
-complete -c pct -n 'test (count (commandline -opc)) -eq 1' -a 'run races locks find expose certify campaign replay big --help --version --explain'
+complete -c pct -n 'test (count (commandline -opc)) -eq 1' -a 'run races locks find expose certify campaign sweep replay big --help --version --explain'
 complete -c pct -n __pct_wants_explained -a "$explained"
 complete -c pct -n __pct_wants_file -F
 complete -c pct -n "__pct_has_file_of $of_run expose" -l order -x -a '(__pct_threads)' -d 'all threads, the highest first'
@@ -48,7 +48,7 @@ complete -c pct -n "__pct_has_file_of $of_run" -l points -x -d 'after which step
 complete -c pct -n "__pct_has_file_of $of_run" -l seed -x -d 'draws the order and the points'
 complete -c pct -n '__pct_has_file_of campaign' -l from -x -d 'the first seed'
 complete -c pct -n '__pct_has_file_of campaign' -l count -x -d 'how many seeds'
-complete -c pct -n "__pct_has_file_of $of_run campaign" -l depth -x -d 'one more than the points'
-complete -c pct -n "__pct_has_file_of $of_run campaign expose certify" -l steps -x -d 'from how many steps points are drawn'
-complete -c pct -n "__pct_has_file_of $of_run campaign expose certify" -l limit -x -d 'how many steps a run may have'
-complete -c pct -n '__pct_has_file_of campaign' -l form -x -a 'text json' -d 'the form of the report'
+complete -c pct -n "__pct_has_file_of $of_run campaign sweep" -l depth -x -d 'one more than the points'
+complete -c pct -n "__pct_has_file_of $of_run campaign sweep expose certify" -l steps -x -d 'from how many steps points are drawn'
+complete -c pct -n "__pct_has_file_of $of_run campaign sweep expose certify" -l limit -x -d 'how many steps a run may have'
+complete -c pct -n '__pct_has_file_of campaign sweep' -l form -x -a 'text json' -d 'the form of the report'

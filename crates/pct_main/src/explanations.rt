@@ -284,7 +284,7 @@ confirmed; what is exposed has the directive's verdict; or the directive is cert
         "\
 Status 1: the answer is whole, and another one than that of status 0. A run has another verdict,
 there are races or a cycle, the replay departs from the trace, what is exposed is too long or has
-another verdict, or the directive isn't certified.
+another verdict, the directive isn't certified, or a sweep has too many choices.
 ",
     ),
     (

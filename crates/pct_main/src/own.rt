@@ -11,14 +11,16 @@ use crate::explanations::EXPLANATIONS;
 const HELP: &str = "\
 pct runs a test script of threads under one order of their priorities, and prints the run's trace,
 its data races, its lock order or a directive for its failure; or it runs a script under the
-priorities of many seeds and ranks the failures; or it replays a trace; or it runs a directive under
-one order, or under all orders with its lowest thread last, and certifies it.
+priorities of many seeds and ranks the failures; or under all orders and change points that a seed
+could draw, and counts them; or it replays a trace; or it runs a directive under one order, or under
+all orders with its lowest thread last, and certifies it.
 
 usage: pct run FILE --order NAMES [--points STEPS] [--limit STEPS]
        pct run FILE --seed NUMBER --depth DEPTH [--steps STEPS] [--limit STEPS]
        pct races FILE ..   pct locks FILE ..   pct find FILE ..   (the options of run)
        pct campaign FILE --from NUMBER --count RUNS --depth DEPTH [--steps STEPS] [--limit STEPS]
            [--form text|json]
+       pct sweep FILE --depth DEPTH [--steps STEPS] [--limit STEPS] [--form text|json]
        pct replay FILE TRACE
        pct expose FILE DIRECTIVE --order NAMES --steps STEPS [--limit STEPS]
        pct certify FILE DIRECTIVE --steps STEPS [--limit STEPS]
@@ -31,8 +33,9 @@ FILE is the script. NAMES are all its threads, joined by commas, the highest pri
 the points are the numbers of the steps after which the thread that took the step is lowered. A
 seed draws the order and the points, one less of them than the depth. A run has at most so many
 steps as its limit says, 10000 where it says nothing. A campaign runs so many seeds from the first
-one on; big does so with a large script of its own. A directive is what find prints; expose prints
-the trace of its run, and certify whether each order leads to its verdict within so many steps.
+one on; big does so with a large script of its own, and sweep runs every order with every so many
+points among the steps. A directive is what find prints; expose prints the trace of its run, and
+certify whether each order leads to its verdict within so many steps.
 The status is 0 where each run passes, there are no races, there is a lock order, the trace is
 confirmed, what is exposed has the directive's verdict or the directive is certified, 1 where not,
 2 for a word that isn't taken, 3, 4 and 5 for files that are no script, no trace and no directive,

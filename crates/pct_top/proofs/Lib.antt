@@ -16,6 +16,8 @@ mod OneCampaign
 mod OneReply
 mod OneExposed
 mod OneCertificate
+mod OneSweep
+mod KnownSwept
 mod KnownDirected
 mod OnePrinted
 mod Comes
@@ -24,5 +26,6 @@ mod Calls
 mod Refusals
 mod Confirms
 mod Counts
+mod Clears
 mod Takes
 mod FailedReads

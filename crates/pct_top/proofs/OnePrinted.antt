@@ -5,7 +5,7 @@ use Rattle.pct_ask.specs.NameLists.{AreNames}
 use Rattle.script_tree.specs.ScriptText.{ScriptText}
 use Rattle.pct_top.specs.declared.settings.Settings.{Settings}
 use Rattle.pct_top.specs.declared.settings.Settings.TheVariants.{RunOrder, RunSeed, Campaign, Big}
-use Rattle.pct_top.specs.declared.settings.Settings.TheVariants.{Replay, Expose, Certify}
+use Rattle.pct_top.specs.declared.settings.Settings.TheVariants.{Replay, Expose, Certify, Sweep}
 use Rattle.pct_top.specs.Settings.{SettingsOrWord}
 use Rattle.pct_top.specs.Ordered.{OrderFits}
 use Rattle.pct_top.specs.Printed.{Files, Printed, trace_bytes, directive_bytes}
@@ -18,6 +18,7 @@ use Rattle.pct_top.proofs.OneBig.{big_once, big_answers}
 use Rattle.pct_top.proofs.OneReply.{one_reply, reply_answers}
 use Rattle.pct_top.proofs.OneExposed.{expose_once, expose_answers}
 use Rattle.pct_top.proofs.OneCertificate.{certify_once, certify_answers}
+use Rattle.pct_top.proofs.OneSweep.{sweep_once, sweep_answers}
 
 -- ---- the commands
 
@@ -37,6 +38,8 @@ one_command (Expose file directive order word steps limit) files script deal p q
     expose_once script deal limit steps (take directive_bytes (files directive)) order word are p q
 one_command (Certify file directive steps limit) files script deal p q are =
     certify_once script deal steps limit (take directive_bytes (files directive)) are p q
+one_command (Sweep file depth steps limit json) files script deal p q are =
+    sweep_once script deal depth steps limit json p q
 
 -- what fits is carried out
 command_answers : (settings : Settings) (files : Files) (script : ScriptText) (deal : Deal)
@@ -57,6 +60,8 @@ command_answers (Expose file directive order word steps limit) files script deal
     fits second
 command_answers (Certify file directive steps limit) files script deal p are fits second =
     certify_answers script deal steps limit (take directive_bytes (files directive)) are p second
+command_answers (Sweep file depth steps limit json) files script deal p are fits second =
+    sweep_answers script deal depth steps limit json p
 
 -- ---- a call
 

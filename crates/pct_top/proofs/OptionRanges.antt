@@ -30,6 +30,8 @@ use Rattle.pct_top.specs.Settings.{run_by}
 use Rattle.pct_top.specs.Settings.{run_with, campaign_by, campaign_with, big_with, big_by}
 use Rattle.pct_top.specs.Settings.{files_with, MadeOfFiles, made_over, settings_over, replay_with}
 use Rattle.pct_top.specs.Settings.{expose_by, expose_with, certify_with, settings_of, ReadsWordsAs}
+use Rattle.pct_top.specs.Table.{command_named}
+use Rattle.pct_top.specs.Settings.{sweep_by, sweep_with, settings_by, settings}
 use Rattle.pct_top.specs.Settings.{ArePoints, IsDepth, AreLawful}
 use Rattle.pct_top.proofs.OptionLists.{changed}
 
@@ -249,6 +251,13 @@ campaign-made file = λ o s r is.
     let number : IfSome (Some many) IsStepCount = subst (λ x. IfSome x IsStepCount) told r.count in
     subst AreLawful parts.2 (number, depth, r.steps, limit-fits o r)))
 
+sweep-made : (file : List ℕ) → AreMade (sweep_with file)
+unfolding AreMade
+sweep-made file = λ o s r is.
+    let parts = map_parts (sweep_by file o) o.depth s is in
+    let depth : IfSome (Some parts.0) IsDepth = subst (λ x. IfSome x IsDepth) parts.1 r.depth in
+    subst AreLawful parts.2 (depth, r.steps, limit-fits o r)
+
 big-made : (pieces : ℕ) → (1 ≤ pieces) × (pieces ≤ 100) → AreMade (big_with pieces)
 unfolding AreMade
 big-made pieces fits = λ o s r is. let same : Big pieces ≡ s = cc in subst AreLawful same fits
@@ -340,9 +349,21 @@ command-lawful commands.Expose words s is =
     files-lawful expose_with expose-made commands.Expose words s is
 command-lawful commands.Certify words s is =
     files-lawful certify_with certify-made commands.Certify words s is
+command-lawful commands.Sweep [] s is = absurd cc
+command-lawful commands.Sweep (file ∷ words) s is =
+    made-lawful (sweep_with file) (length words + 3) commands.Sweep 3 words s (sweep-made file) is
 
 -- what was read of the words of a command keeps to the ranges
 pub reads_lawful : (r : Result Settings WordsError) (command : Command) (words : List (List ℕ))
     → ReadsWordsAs r (settings_of command words) → IfOk r AreLawful
 reads_lawful (Ok s) command words reads = command-lawful command words s reads
 reads_lawful (Err e) command words reads = tt
+
+-- what words ask for keeps to the ranges
+pub words-lawful : (words : List (List ℕ)) (s : Settings) → settings words ≡ Ok s → AreLawful s
+words-lawful [] s is = absurd cc
+words-lawful (word ∷ words) s is = by (command_named word) is
+  where
+    by : (named : Option Command) → settings_by named words ≡ Ok s → AreLawful s
+    by None e = absurd cc
+    by (Some command) e = command-lawful command words s e

@@ -5,9 +5,10 @@ use Rattle.pct_top.specs.declared.options.Options.{Options}
 use Rattle.pct_top.specs.declared.options.NamedOrder.{NamedOrder}
 use Rattle.pct_top.specs.declared.settings.Report.{Report}
 use Rattle.pct_top.specs.declared.settings.Settings.TheVariants.{RunOrder, RunSeed, Campaign}
-use Rattle.pct_top.specs.declared.settings.Settings.TheVariants.{Expose, Certify}
+use Rattle.pct_top.specs.declared.settings.Settings.TheVariants.{Expose, Certify, Sweep}
 use Rattle.pct_top.specs.Settings.{default_limit, limit_of, run_by, run_with, campaign_by}
 use Rattle.pct_top.specs.Settings.{campaign_with, expose_by, expose_with, certify_with}
+use Rattle.pct_top.specs.Settings.{sweep_by, sweep_with}
 
 pub ordered_made : (report : Report) (file : List ℕ) (o : Options) (order : NamedOrder)
     (points : List ℕ) (limit : ℕ) → o.order ≡ Some order → points ≡ unwrap_or o.points []
@@ -60,3 +61,12 @@ unfolding default_limit
 certified_is file directive o steps limit counted limited =
     sym (ap (option_map (λ k. Certify file directive k (limit_of o))) counted
     ∙ ap (λ (n : ℕ). Some (Certify file directive steps n)) (sym limited))
+
+pub swept_is : (file : List ℕ) (o : Options) (depth limit : ℕ) (json : Bool)
+    → o.depth ≡ Some depth → limit ≡ unwrap_or o.limit 10000 → json ≡ unwrap_or o.json false
+    → Some (Sweep file depth o.steps limit json) ≡ sweep_with file o
+unfolding default_limit
+swept_is file o depth limit json deep limited form =
+    sym (ap (option_map (sweep_by file o)) deep
+    ∙ ap (λ (n : ℕ). Some (Sweep file depth o.steps n (unwrap_or o.json false))) (sym limited)
+    ∙ ap (λ (j : Bool). Some (Sweep file depth o.steps limit j)) (sym form))

@@ -11,7 +11,7 @@ use Rattle.pct_top.specs.declared.outcome.Outcome.{Outcome}
 use Rattle.pct_top.specs.Outcome.{GivesPrinted}
 use Rattle.pct_top.specs.declared.settings.Settings.{Settings}
 use Rattle.pct_top.specs.declared.settings.Settings.TheVariants.{RunOrder, RunSeed, Campaign, Big}
-use Rattle.pct_top.specs.declared.settings.Settings.TheVariants.{Replay, Expose, Certify}
+use Rattle.pct_top.specs.declared.settings.Settings.TheVariants.{Replay, Expose, Certify, Sweep}
 use Rattle.pct_top.specs.declared.status.Status.{Status}
 use Rattle.pct_top.specs.declared.status.Status.TheVariants as statuses
 use Rattle.pct_top.specs.Settings.{SettingsOrWord}
@@ -69,6 +69,7 @@ has_script (Big pieces) name is none = cc
 has_script (Replay file trace) name is none = cc
 has_script (Expose file directive order word steps limit) name is none = cc
 has_script (Certify file directive steps limit) name is none = cc
+has_script (Sweep file depth steps limit json) name is none = cc
 
 module _ (asked : Settings) (unread : Bool) (before after : ShelfTold)
     (files : after.files ≡ before.files) (middle : List (List ℕ)) (script : ScriptText)

@@ -22,3 +22,4 @@ pub mod FailedReads
 pub mod Confirmed
 pub mod Counted
 pub mod TakenUp
+pub mod Cleared

@@ -13,7 +13,7 @@ use Rattle.directive.specs.Answers.{plain_directive as plain}
 use Rattle.pct_top.specs.declared.refusal.Refusal.TheVariants.{Usage}
 use Rattle.pct_top.specs.declared.settings.Settings.{Settings}
 use Rattle.pct_top.specs.declared.settings.Settings.TheVariants.{RunOrder, RunSeed, Campaign, Big}
-use Rattle.pct_top.specs.declared.settings.Settings.TheVariants.{Replay, Expose, Certify}
+use Rattle.pct_top.specs.declared.settings.Settings.TheVariants.{Replay, Expose, Certify, Sweep}
 use Rattle.pct_top.specs.Settings.{SettingsOrWord, settings}
 use Rattle.pct_top.specs.Printed.{Files, Printed, printed_refusal, script_bytes, trace_bytes}
 use Rattle.pct_top.specs.Printed.{directive_bytes, OfScript}
@@ -23,6 +23,7 @@ use Rattle.pct_top.specs.commands.Big.{OfBig}
 use Rattle.pct_top.specs.commands.Replay.{OfReplay}
 use Rattle.pct_top.specs.commands.Expose.{OfExpose}
 use Rattle.pct_top.specs.commands.Certify.{OfCertify}
+use Rattle.pct_top.specs.commands.Sweep.{OfSweep}
 
 -- ---- the commands: what each reads and prints
 
@@ -35,6 +36,7 @@ script_file (Big pieces) = None
 script_file (Replay file trace) = Some file
 script_file (Expose file directive order word steps limit) = Some file
 script_file (Certify file directive steps limit) = Some file
+script_file (Sweep file depth steps limit json) = Some file
 
 -- the text of the command's script
 abbrev pub script_text : Settings → Files → List ℕ
@@ -47,6 +49,7 @@ script_text (Replay file trace) files = take script_bytes (files file)
 script_text (Expose file directive order word steps limit) files =
     take script_bytes (files file)
 script_text (Certify file directive steps limit) files = take script_bytes (files file)
+script_text (Sweep file depth steps limit json) files = take script_bytes (files file)
 
 -- the names of an order, where the words give one
 abbrev pub order_given : Settings → Option (List (List ℕ))
@@ -57,6 +60,7 @@ order_given (Big pieces) = None
 order_given (Replay file trace) = None
 order_given (Expose file directive order word steps limit) = Some order
 order_given (Certify file directive steps limit) = None
+order_given (Sweep file depth steps limit json) = None
 
 -- the second file
 abbrev pub second_file : Settings → Option (List ℕ)
@@ -67,6 +71,7 @@ second_file (Big pieces) = None
 second_file (Replay file trace) = Some trace
 second_file (Expose file directive order word steps limit) = Some directive
 second_file (Certify file directive steps limit) = Some directive
+second_file (Sweep file depth steps limit json) = None
 
 -- the file is a directive's under these names
 abbrev pub FitsDirective : Files → List ℕ → NameLists → Type 0
@@ -86,6 +91,7 @@ SecondFits (Expose file directive order word steps limit) files script =
     FitsDirective files directive script.names
 SecondFits (Certify file directive steps limit) files script =
     FitsDirective files directive script.names
+SecondFits (Sweep file depth steps limit json) files script = Unit {0}
 
 -- what is printed of the script
 abbrev pub OfCommand : Settings → Files → ScriptText → Deal → Printed → Type 0
@@ -100,6 +106,7 @@ OfCommand (Expose file directive order word steps limit) files =
     OfExpose (take directive_bytes (files directive)) order word steps limit
 OfCommand (Certify file directive steps limit) files =
     OfCertify (take directive_bytes (files directive)) steps limit
+OfCommand (Sweep file depth steps limit json) files = OfSweep depth steps limit json
 
 -- ---- the call
 

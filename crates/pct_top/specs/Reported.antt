@@ -3,7 +3,7 @@ use Rattle.std.specs.Prelude.{Option, Some, None}
 use Rattle.pct_top.specs.declared.settings.Report.{Report}
 use Rattle.pct_top.specs.declared.settings.Settings.{Settings}
 use Rattle.pct_top.specs.declared.settings.Settings.TheVariants.{RunOrder, RunSeed, Campaign, Big}
-use Rattle.pct_top.specs.declared.settings.Settings.TheVariants.{Replay, Expose, Certify}
+use Rattle.pct_top.specs.declared.settings.Settings.TheVariants.{Replay, Expose, Certify, Sweep}
 
 -- what is to be reported of a run, where the command asks for one
 abbrev pub report_asked : Settings → Option Report
@@ -14,3 +14,4 @@ report_asked (Big pieces) = None
 report_asked (Replay file trace) = None
 report_asked (Expose file directive order word steps limit) = None
 report_asked (Certify file directive steps limit) = None
+report_asked (Sweep file depth steps limit json) = None

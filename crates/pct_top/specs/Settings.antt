@@ -10,7 +10,7 @@ use Rattle.pct_top.specs.declared.options.NamedOrder.{NamedOrder}
 use Rattle.pct_top.specs.declared.settings.Report.{Report}
 use Rattle.pct_top.specs.declared.settings.Settings.{Settings}
 use Rattle.pct_top.specs.declared.settings.Settings.TheVariants.{RunOrder, RunSeed, Campaign, Big}
-use Rattle.pct_top.specs.declared.settings.Settings.TheVariants.{Replay, Expose, Certify}
+use Rattle.pct_top.specs.declared.settings.Settings.TheVariants.{Replay, Expose, Certify, Sweep}
 use Rattle.pct_top.specs.declared.settings.WordsError.{WordsError}
 use Rattle.pct_top.specs.declared.settings.WordsError.TheVariants.{Word, NoMemory}
 use Rattle.pct_top.specs.declared.words.TwoFiles.{TwoFiles}
@@ -93,6 +93,22 @@ campaign_settings (file ∷ words) =
     made_of (campaign_with file) (length words + 3)
     (options_from commands.Campaign no_options 3 words)
 
+-- ---- a sweep
+
+-- the sweep of all choices to this depth
+abbrev pub sweep_by : List ℕ → Options → ℕ → Settings
+sweep_by file o depth = Sweep file depth o.steps (limit_of o) (unwrap_or o.json false)
+
+-- a depth is asked for
+abbrev pub sweep_with : List ℕ → Options → Option Settings
+sweep_with file o = option_map (sweep_by file o) o.depth
+
+-- after `sweep`: the script's file, and then options
+abbrev pub sweep_settings : List (List ℕ) → SettingsOrWord
+sweep_settings [] = Err 2
+sweep_settings (file ∷ words) =
+    made_of (sweep_with file) (length words + 3) (options_from commands.Sweep no_options 3 words)
+
 -- ---- the large script
 
 -- the campaign of the large script with so many pieces, whatever the options
@@ -172,6 +188,7 @@ settings_of commands.Big words = big_settings words
 settings_of commands.Replay words = settings_over commands.Replay replay_with words
 settings_of commands.Expose words = settings_over commands.Expose expose_with words
 settings_of commands.Certify words = settings_over commands.Certify certify_with words
+settings_of commands.Sweep words = sweep_settings words
 
 -- what the further words ask of the command that the first one names, if it names one
 abbrev pub settings_by : Option Command → List (List ℕ) → SettingsOrWord
@@ -216,3 +233,5 @@ AreLawful (Big pieces) = (1 ≤ pieces) × (pieces ≤ 100)
 AreLawful (Replay file trace) = Unit {0}
 AreLawful (Expose file directive order word steps limit) = IsStepCount steps × IsStepCount limit
 AreLawful (Certify file directive steps limit) = IsStepCount steps × IsStepCount limit
+AreLawful (Sweep file depth steps limit json) =
+    IsDepth depth × IfSome steps IsStepCount × IsStepCount limit

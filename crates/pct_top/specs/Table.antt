@@ -5,7 +5,7 @@ use Rattle.std.specs.Prelude.{None, is_some, codes}
 use Rattle.std.specs.Str.{bytes_eq}
 use Rattle.pct_top.specs.declared.command.Command.{Command}
 use Rattle.pct_top.specs.declared.command.Command.TheVariants.{Run, Campaign, Big, Replay, Expose}
-use Rattle.pct_top.specs.declared.command.Command.TheVariants.{Certify}
+use Rattle.pct_top.specs.declared.command.Command.TheVariants.{Certify, Sweep}
 use Rattle.pct_top.specs.declared.options.OptionName.{OptionName}
 use Rattle.pct_top.specs.declared.options.OptionName.TheVariants.{Order, Points, Limit, Seed, Depth}
 use Rattle.pct_top.specs.declared.options.OptionName.TheVariants.{Steps, From, Count, Form}
@@ -23,7 +23,8 @@ command_named word =
     else (if bytes_eq word (codes "big") then Some Big
     else (if bytes_eq word (codes "replay") then Some Replay
     else (if bytes_eq word (codes "expose") then Some Expose
-    else (if bytes_eq word (codes "certify") then Some Certify else None))))))))
+    else (if bytes_eq word (codes "certify") then Some Certify
+    else (if bytes_eq word (codes "sweep") then Some Sweep else None)))))))))
 
 -- ---- the options of a run, in its two forms
 
@@ -84,6 +85,18 @@ certify_takes From = false
 certify_takes Count = false
 certify_takes Form = false
 
+-- the option belongs to a sweep
+abbrev pub sweep_takes : OptionName → Bool
+sweep_takes Depth = true
+sweep_takes Steps = true
+sweep_takes Limit = true
+sweep_takes Form = true
+sweep_takes Order = false
+sweep_takes Points = false
+sweep_takes Seed = false
+sweep_takes From = false
+sweep_takes Count = false
+
 -- ---- all commands
 
 -- the command takes the option, beside those that were given
@@ -94,3 +107,4 @@ takes_option Big o name = false
 takes_option Replay o name = false
 takes_option Expose o name = expose_takes name
 takes_option Certify o name = certify_takes name
+takes_option Sweep o name = sweep_takes name

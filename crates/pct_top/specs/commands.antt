@@ -11,3 +11,4 @@ pub mod KnownReply
 pub mod Expose
 pub mod Certify
 pub mod KnownCertificate
+pub mod Sweep

@@ -16,6 +16,7 @@ pub enum Command {
     Replay,
     Expose,
     Certify,
+    Sweep,
 }
 
 impl Command {
@@ -33,6 +34,7 @@ impl Command {
             "replay" => Some(Command::Replay),
             "expose" => Some(Command::Expose),
             "certify" => Some(Command::Certify),
+            "sweep" => Some(Command::Sweep),
             _ => None,
         }
     }
@@ -46,6 +48,7 @@ impl Command {
             Command::Campaign => campaign_takes(name),
             Command::Expose => expose_takes(name),
             Command::Certify => certify_takes(name),
+            Command::Sweep => sweep_takes(name),
             Command::Big | Command::Replay => false,
         }
     }
@@ -120,5 +123,19 @@ fn certify_takes(name: OptionName) -> bool
         | OptionName::From
         | OptionName::Count
         | OptionName::Form => false,
+    }
+}
+
+/// Whether the option belongs to a sweep.
+fn sweep_takes(name: OptionName) -> bool
+    ensures { result ≡ table.sweep_takes name }
+{
+    match name {
+        OptionName::Depth | OptionName::Steps | OptionName::Limit | OptionName::Form => true,
+        OptionName::Order
+        | OptionName::Points
+        | OptionName::Seed
+        | OptionName::From
+        | OptionName::Count => false,
     }
 }

@@ -2,6 +2,7 @@
 
 pub mod big;
 pub mod certify;
+pub mod every;
 pub mod expose;
 pub mod find;
 pub mod locks;

@@ -14,7 +14,7 @@ ghost use Rattle.pct_top.specs.Files.{GivesTest, GivesText, Misses};
 ghost use Rattle.pct_top.specs.Reads.{KeepsFile, KeepsSecond, is_unread};
 ghost use Rattle.pct_top.specs.Call.{MissesSecond, ReadFailed, LeavesShelf};
 
-use crate::commands::{big, certify, expose, replay, seeds};
+use crate::commands::{big, certify, every, expose, replay, seeds};
 use crate::files::{large_test, read_test};
 use crate::outcome::Outcome;
 use crate::refusal::Refusal;
@@ -46,6 +46,7 @@ fn test_of<H: Shelf>(alloc: Global, settings: &Settings, shelf: &mut H) -> Resul
         Settings::Replay { file, .. } => read_test(alloc, file.as_str(), shelf),
         Settings::Expose { file, .. } => read_test(alloc, file.as_str(), shelf),
         Settings::Certify { file, .. } => read_test(alloc, file.as_str(), shelf),
+        Settings::Sweep { file, .. } => read_test(alloc, file.as_str(), shelf),
     }
 }
 
@@ -183,6 +184,13 @@ fn command_outcome<R: Threads + Wait + Sync, H: Shelf, G: Gate>(
         Settings::Replay { .. } => second_outcome(rt, alloc, settings, test, shelf, gate),
         Settings::Expose { .. } => second_outcome(rt, alloc, settings, test, shelf, gate),
         Settings::Certify { .. } => second_outcome(rt, alloc, settings, test, shelf, gate),
+        Settings::Sweep {
+            depth,
+            steps,
+            limit,
+            json,
+            ..
+        } => Ok(every::sweep_of(rt, alloc, test, *depth, *steps, *limit, *json, gate)?),
     }
 }
 

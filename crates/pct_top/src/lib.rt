@@ -1,6 +1,7 @@
 //! The program's words, its runs and what it writes.
 #![tactic(auto)]
 
+mod cleared;
 mod command;
 mod commands;
 mod confirmed;
@@ -24,6 +25,7 @@ mod traces;
 mod values;
 mod words;
 
+pub use cleared::{certified_are_swept, swept_are_cleared};
 pub use confirmed::{
     certified_are_counted, exposed_are_confirmed, found_are_taken_up, one_failed_read,
     runs_are_confirmed,

@@ -83,6 +83,15 @@ pub enum Settings {
         steps: u32,
         limit: u32,
     },
+    /// A sweep: the runs of a script under every order and every `depth - 1` change points of so
+    /// many steps, and the report on them, as JSON or as a text.
+    Sweep {
+        file: Text,
+        depth: u32,
+        steps: Option<u32>,
+        limit: u32,
+        json: bool,
+    },
 }
 
 #[derive(Debug, Drop, Error)]

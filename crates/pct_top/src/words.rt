@@ -185,6 +185,30 @@ fn certify_words(alloc: Global, words: &[String]) -> Result<Settings, WordsError
     certify_with(given.file, given.second, given.options).ok_or(WordsError::Word(given.next))
 }
 
+/// The sweep that options ask for, where they are all there.
+fn sweep_with(file: Text, options: Options) -> Option<Settings>
+    ensures { result ≡ settings.sweep_with file options }
+{
+    Some(Settings::Sweep {
+        file,
+        depth: options.depth?,
+        steps: options.steps,
+        limit: options.limit.unwrap_or(DEFAULT_LIMIT),
+        json: options.json.unwrap_or(false),
+    })
+}
+
+fn sweep_words(alloc: Global, words: &[String]) -> Result<Settings, WordsError>
+    ensures { ReadsWordsAs result (settings.sweep_settings (texts_of words.now)) }
+{
+    let Some((file, others)) = words.split_first() else {
+        return Err(WordsError::Word(2));
+    };
+    let (options, next) = options_in(alloc, Command::Sweep, 3, others)?;
+    let file = Text::copy_of(alloc, file.as_str())?;
+    sweep_with(file, options).ok_or(WordsError::Word(next))
+}
+
 /// What the words after a command's ask for.
 fn command_words(alloc: Global, command: Command, words: &[String]) -> Result<Settings, WordsError>
     ensures { ReadsWordsAs result (settings.settings_of command (texts_of words.now)) }
@@ -196,6 +220,7 @@ fn command_words(alloc: Global, command: Command, words: &[String]) -> Result<Se
         Command::Replay => replay_words(alloc, words),
         Command::Expose => expose_words(alloc, words),
         Command::Certify => certify_words(alloc, words),
+        Command::Sweep => sweep_words(alloc, words),
     }
 }
 

@@ -12,6 +12,8 @@ use std::thread::Threads;
 
 const CAMPAIGN: &str = "campaign s.pct --from 7 --count 2 --depth 1 --steps 8";
 
+const SWEEP: &str = "sweep s.pct --depth 2 --steps 2";
+
 const EXPOSE: &str = "expose s.pct t.txt --order A,C,B --steps 8";
 
 const CERTIFY: &str = "certify s.pct t.txt --steps 8";
@@ -62,7 +64,7 @@ end
 /// is refused.
 type Call = (&'static str, &'static str, Status, &'static str);
 
-const CALLS: [Call; 9] = [
+const CALLS: [Call; 10] = [
     (IN_ORDER, SUM, Status::Done, SUM),
     (
         REPLAY,
@@ -75,6 +77,12 @@ const CALLS: [Call; 9] = [
         SUM,
         Status::Done,
         "campaign 1\nthreads 3\nsteps 8\ndepth 1\nlimit 10000\n7 8 passed\n8 8 passed\ngroups 0\n",
+    ),
+    (
+        SWEEP,
+        SUM,
+        Status::Found,
+        "sweep 1\nthreads 3\nsteps 2\ndepth 2\nlimit 10000\nchoices 12\ngroups 1\n6 8 order A B C points 1 verdict failed C 15\npassed 6\n",
     ),
     (
         "big 1",

@@ -52,3 +52,7 @@ returns-in-RunSeed-clause-keeps g c =
           c.run_outcome-in-RunSeed.result (c.run_outcome-in-RunSeed.ensures files),
       refl,
     )
+
+pub returns-in_ok-sweep_of-in-Sweep-clause-comes : goal.returns-in_ok-sweep_of-in-Sweep-clause-comes
+returns-in_ok-sweep_of-in-Sweep-clause-comes g c =
+    rw c.in-Sweep.is (λ files told. c.in_ok-sweep_of-in-Sweep.ensures)
