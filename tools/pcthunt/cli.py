@@ -10,11 +10,12 @@ import sys
 import tempfile
 import time
 from collections.abc import Callable
+from typing import NoReturn
 
 from pcthunt.document import put as document_text
 from pcthunt.expected import check_expectation, expectation, is_as_expected
 from pcthunt.hunting import Hunt
-from pcthunt.machine_forms import Outcome, annotations, junit, line_of
+from pcthunt.machine_forms import Outcome, annotation_lines, junit, line_of
 from pcthunt.output import BAD_SCRIPT, DONE, FOUND, USAGE, WRITE_FAULT, Refused, keep, put, read, say, shown
 from pcthunt.page import page_words, write_page
 from pcthunt.program import Program
@@ -59,9 +60,16 @@ def seconds(word: str) -> float:
     return value
 
 
+class WordParser(argparse.ArgumentParser):
+    """Says in one line which word isn't taken."""
+
+    def error(self, message: str) -> NoReturn:
+        raise Refused(USAGE, f"{shown(message)} ('pct-hunt --help' says which words there are)")
+
+
 def parser() -> argparse.ArgumentParser:
-    it = argparse.ArgumentParser("pct-hunt", description=HELP, epilog=STATUS, add_help=False, allow_abbrev=False,
-                                 formatter_class=argparse.RawDescriptionHelpFormatter)
+    it = WordParser("pct-hunt", description=HELP, epilog=STATUS, add_help=False, allow_abbrev=False,
+                    formatter_class=argparse.RawDescriptionHelpFormatter)
     it.add_argument("script", metavar="SCRIPT", help="a script, or a folder of scripts NAME.pct")
     search = it.add_argument_group("the search")
     search.add_argument("--depth", type=number(1, 8), default=4, metavar="DEPTH", help="the greatest depth (4)")
@@ -85,17 +93,6 @@ def parser() -> argparse.ArgumentParser:
     said.add_argument("--quiet", action="store_true", dest="is_quiet", help="no lines on how far it is")
     said.add_argument("--help", action="store_true", dest="is_help", help="writes this")
     return it
-
-
-def parsed(words: list[str]) -> argparse.Namespace:
-    """The words, or one line that says which isn't taken."""
-    it = parser()
-
-    def refuse(message: str) -> None:
-        raise Refused(USAGE, f"{shown(message)} ('pct-hunt --help' says which words there are)")
-
-    it.error = refuse  # type: ignore[assignment,method-assign]
-    return it.parse_args(words)
 
 
 def settings_of(given: argparse.Namespace, words: list[str]) -> Settings:
@@ -180,7 +177,7 @@ def one_script(session: Session, given: argparse.Namespace) -> int:
     write_forms(given, [outcome])
     if given.html:
         write_page(document, given.html)
-    put(text + (annotations([outcome]) if is_at_github() and not given.is_json else ""))
+    put(text + (annotation_lines([outcome]) if is_at_github() and not given.is_json else ""))
     return status
 
 
@@ -207,7 +204,7 @@ def folder(session: Session, given: argparse.Namespace) -> int:
     bad = sum(not it.is_well for it in outcomes)
     text += f"{len(outcomes) - bad} came to what they should, {bad} didn't\n"
     write_forms(given, outcomes)
-    put(text + (annotations(outcomes) if is_at_github() else ""))
+    put(text + (annotation_lines(outcomes) if is_at_github() else ""))
     return FOUND if bad else DONE if len(outcomes) == len(names) else INTERRUPTED
 
 
@@ -230,7 +227,7 @@ def main() -> int:
     if "--help" in words:
         put(parser().format_help())
         return DONE
-    given = parsed(words)
+    given = parser().parse_args(words)
     settings = settings_of(given, words)
     signal.signal(signal.SIGTERM, lambda *_: signal.raise_signal(signal.SIGINT))
     try:

@@ -161,9 +161,12 @@ class Story:
             self.tell(f"{core['for']} has ended, and holds it still")
         if core["since"]:
             self.told_holds.add((core["for"], core["since"]))
-        teller = {"regain": self.of_signals, "down": self.of_semaphore, "leave": self.of_barrier}.get(ask[0])
-        if teller:
-            teller(thread, ask[1])
+        if ask[0] == "regain":
+            self.of_signals(thread, ask[1])
+        elif ask[0] == "down":
+            self.of_semaphore(ask[1])
+        elif ask[0] == "leave":
+            self.of_barrier(ask[1])
 
     def of_holds(self, thread: str) -> None:
         """What the thread holds and nobody was told to wait for."""
@@ -172,7 +175,7 @@ class Story:
                 self.tell(f"{thread} holds {held} since step {number} ({self.line(number)})")
 
     def asked(self, thread: str) -> str:
-        return next(it["ask"] for it in self.run["asking"] if it["thread"] == thread)
+        return str(next(it["ask"] for it in self.run["asking"] if it["thread"] == thread))
 
     def since(self, core: Json) -> str:
         return f" since step {core['since']} ({self.line(core['since'])})" if core["since"] else ""
@@ -219,7 +222,7 @@ class Story:
                 waiting = waiting[event.answer:]
         return waiting[:self.events[number - 1].answer]
 
-    def of_semaphore(self, thread: str, sem: str) -> None:
+    def of_semaphore(self, sem: str) -> None:
         for word, told in (("down", "was taken last"), ("up", "was raised last")):
             steps = [number for number, event in enumerate(self.events, 1)
                      if event.ask[0] in (word, f"try{word}") and event.ask[1] == sem
@@ -229,7 +232,7 @@ class Story:
             elif word == "up":
                 self.tell(f"{sem} was never raised")
 
-    def of_barrier(self, thread: str, barrier: str) -> None:
+    def of_barrier(self, barrier: str) -> None:
         arrivals = [number for number, event in enumerate(self.events, 1) if event.ask == ("arrive", barrier)]
         left = sum(event.ask == ("leave", barrier) for event in self.events)
         size = self.script.objects["barrier"][barrier]

@@ -6,7 +6,7 @@ from dataclasses import dataclass, field
 
 from pcthunt.document import complete_run, deal_of, run_of, Texts
 from pcthunt.program import Program
-from pcthunt.rounds import Round
+from pcthunt.rounds import Choice, Round
 from pcthunt.states import Json
 from pctmodel.script import Script, cut_tokens
 from pctmodel.trace import Trace, read_trace
@@ -114,6 +114,13 @@ def schedule_of(seed: int, round_: Round) -> Schedule:
     return Schedule(tuple(words), {"seed": str(seed), "depth": round_.depth, "steps": round_.steps})
 
 
+def schedule_of_choice(choice: Choice, round_: Round) -> Schedule:
+    words = ["--order", ",".join(choice.order)]
+    words += ["--points", ",".join(map(str, choice.points))] if choice.points else []
+    words += ["--limit", str(round_.limit)] if round_.limit != 10000 else []
+    return Schedule(tuple(words), None)
+
+
 def failures_of(rounds: list[Round]) -> list[Failure]:
     """The verdicts that don't pass, those of most runs first."""
     found: dict[str, Failure] = {}
@@ -129,9 +136,7 @@ def failures_of(rounds: list[Round]) -> list[Failure]:
 def met_in(round_: Round) -> list[tuple[str, int, int, Schedule]]:
     """Of each verdict in the round its count, its shortest run's steps, and what makes that again."""
     if round_.sweep is not None:
-        limit = ("--limit", str(round_.limit)) if round_.limit != 10000 else ()
-        options = lambda it: ("--order", ",".join(it.order), *(["--points", ",".join(map(str, it.points))] if it.points else []))
-        return [(it.verdict, it.count, it.steps, Schedule((*options(it), *limit), None)) for it in round_.sweep]
+        return [(it.verdict, it.count, it.steps, schedule_of_choice(it, round_)) for it in round_.sweep]
     met: dict[str, tuple[int, int, int]] = {}
     for row in round_.rows:
         if row.verdict != "passed":

@@ -6,15 +6,14 @@ import os
 import shlex
 
 from pcthunt.certify import Certifier, Sought
-from pcthunt.document import (complete_run, directive_of, first_part, locks_of, sentence_of)
+from pcthunt.document import complete_run, directive_of, first_part, locks_of, sentence_of
 from pcthunt.explain import sentences_of
 from pcthunt.headings import Failure, Heading, Headings, failures_of
-
 from pcthunt.passing import passing_run
 from pcthunt.picture import drawn, lines_of
 from pcthunt.program import Program
 from pcthunt.report import MOST_ROWS, Case, Result
-from pcthunt.rounds import Crew, Parts, Search
+from pcthunt.rounds import Crew, Parts, Round, Search
 from pcthunt.settings import Settings
 from pcthunt.states import Json
 from pctmodel.directive import Directive, read_directive
@@ -97,10 +96,12 @@ class Hunt:
         return document
 
     @staticmethod
-    def round(round_) -> Json:  # type: ignore[no-untyped-def]
+    def round(round_: Round) -> Json:
         told: Json = {"depth": round_.depth, "steps": round_.steps, "limit": round_.limit, "seeds": round_.done(),
                       "failures": round_.failures()}
-        return told | ({"sweep": True} if round_.sweep is not None else {"from": str(round_.first)})
+        if round_.sweep is not None:
+            return told | {"sweep": True}
+        return told | {"from": str(round_.first)}
 
     def heading(self, case: Case) -> Json:
         best = case.heading.best()

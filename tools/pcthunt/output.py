@@ -5,6 +5,7 @@ from __future__ import annotations
 import os
 import sys
 import tempfile
+from collections.abc import Callable
 
 # The statuses, as those of pct.
 DONE, FOUND, USAGE, BAD_SCRIPT, BAD_TRACE, BAD_DIRECTIVE, READ_FAULT, WRITE_FAULT, NO_MEMORY = range(9)
@@ -87,7 +88,7 @@ def hold_streams() -> None:
             os.open(os.devnull, os.O_RDONLY)
 
 
-def ends_well(tool: str, main) -> int:  # type: ignore[no-untyped-def]
+def ends_well(tool: str, main: Callable[[], int]) -> int:
     """The status of a tool's main, whatever comes of it."""
     hold_streams()
     try:

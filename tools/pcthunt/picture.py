@@ -4,7 +4,6 @@ from __future__ import annotations
 
 from collections.abc import Iterator
 from dataclasses import dataclass
-from typing import Any
 
 from pcthunt.output import shown
 from pctmodel.run import Event, World, replay
@@ -44,7 +43,7 @@ class Departs(Exception):
 
 def words_of(world: World, name: str) -> str:
     """What the thread asks, and of the second half of a wait whether its signal came."""
-    ask: tuple[Any, ...] = world.bodies[name].ask
+    ask = world.bodies[name].ask or ("",)
     words = " ".join(map(str, ask))
     if ask[0] == "regain":
         return f"{words} ({'signalled' if name in world.store.woken[ask[1]] else 'not signalled'})"
@@ -143,7 +142,10 @@ def wide_lines(picture: Picture, columns: int) -> Iterator[str]:
     rows = list(rows_of(picture))
     last = [f"! {picture.stuck[name]}" if name in picture.stuck else "" for name in picture.threads]
     widths = [max(map(len, lane)) for lane in zip(picture.threads, last, *rows)]
-    put = lambda cells: "  ".join(cell.ljust(width) for cell, width in zip(cells, widths))
+
+    def put(cells: list[str]) -> str:
+        return "  ".join(cell.ljust(width) for cell, width in zip(cells, widths))
+
     margin = margin_of(picture)
     yield f"{'step':>{margin}}  {put(picture.threads)}  line"
     for step, row in zip(picture.steps, rows):

@@ -18,7 +18,7 @@ class Row(NamedTuple):
 
 
 class Group(NamedTuple):
-    count: int
+    count: int  # type: ignore[assignment]  # tuples have a method of that name
     steps: int
     first: int
     verdict: str

@@ -24,7 +24,7 @@ SECONDS_OF_A_PART = 0.4
 class Choice(NamedTuple):
     """Of a sweep a verdict's count, its shortest run's steps, and the order and points of that."""
 
-    count: int
+    count: int  # type: ignore[assignment]  # tuples have a method of that name
     steps: int
     order: list[str]
     points: list[int]
@@ -85,7 +85,7 @@ class Parts:
     def __init__(self, program: Program, script: str, crew: Crew) -> None:
         self.program, self.script, self.crew = program, script, crew
         self.size = BATCH
-        self.pending: dict[Future[tuple[Report, float]], int] = {}
+        self.pending: dict[Future[tuple[Report, float] | None], int] = {}
 
     def words(self, round_: Round, first: int, count: int) -> list[str]:
         words = ["campaign", self.script, "--from", str(first), "--count", str(count), "--depth", str(round_.depth),

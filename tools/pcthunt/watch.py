@@ -51,7 +51,8 @@ class WatchedBody(Body):
 
     def answer(self, value: int) -> None:
         head = self.rest[0] if self.rest else None
-        if head is not None and head.register and self.ask[0] != "arrive" and self.ask[0] not in ("begin", "fault"):
+        word = self.ask[0] if self.ask else ""
+        if head is not None and head.register and word not in ("arrive", "begin", "fault"):
             self.origins[head.register] = Origin(head.line, frozenset({self.number}))
         super().answer(value)
 
@@ -86,7 +87,7 @@ def watched(script: Script, events: list[Event]) -> Watched:
     """The run of the events, watched."""
     world = World(script)
     bodies = {name: WatchedBody(thread, name in script.held) for name, thread in script.threads.items()}
-    world.bodies = bodies
+    world.bodies = dict(bodies)
     found = Watched(events, world=world)
     for number, event in enumerate(events, 1):
         body = bodies[event.thread]

@@ -251,9 +251,9 @@ def of_directive(fault: Faulty, line: str, lines: list[str], script: Script) -> 
 
 def of_either(fault: Faulty, line: str, script: Script) -> str:
     if fault.kind == "UnknownName":
-        unknown = next((word for word in line.split(" ") if is_name(word, 1) and word not in ALL_WORDS
-                        and not any(word in names for names in (script.threads, *script.objects.values()))), "")
-        near = nearest(unknown, [*script.threads, *(name for names in script.objects.values() for name in names)])
+        names = [*script.threads, *(name for by_name in script.objects.values() for name in by_name)]
+        unknown = next((word for word in line.split(" ") if is_name(word, 1) and word not in [*ALL_WORDS, *names]), "")
+        near = nearest(unknown, names)
         return (f"{shown(unknown)!r} is declared nowhere in the script" if unknown else "a name isn't declared with the kind that its place needs") + (
             f"; write `{' '.join(near if word == unknown else word for word in line.split(' '))}`" if near and unknown else "")
     return {

@@ -1,6 +1,8 @@
 """The words of the command line for the model: which of them are taken, and the number of the first that isn't."""
 
-from collections import namedtuple
+from __future__ import annotations
+
+from typing import Any, NamedTuple
 
 from pctmodel.script import is_name
 from pctmodel.trace import number_of
@@ -10,13 +12,14 @@ RANGES = {
     "--seed": (0, 2**64 - 1), "--from": (0, 2**64 - 1),
 }
 # The forms of options that a command may have. A form tells of each of its options whether it is needed.
-BY_ORDER = {"--order": True, "--points": False, "--limit": False}
-BY_SEED = {"--seed": True, "--depth": True, "--steps": False, "--limit": False}
-EXPOSE = {"--order": True, "--steps": True, "--limit": False}
-CERTIFY = {"--steps": True, "--limit": False}
-CAMPAIGN = {"--from": True, "--count": True, "--depth": True, "--steps": False, "--limit": False, "--form": False}
+Form = dict[str, bool]
+BY_ORDER: Form = {"--order": True, "--points": False, "--limit": False}
+BY_SEED: Form = {"--seed": True, "--depth": True, "--steps": False, "--limit": False}
+EXPOSE: Form = {"--order": True, "--steps": True, "--limit": False}
+CERTIFY: Form = {"--steps": True, "--limit": False}
+CAMPAIGN: Form = {"--from": True, "--count": True, "--depth": True, "--steps": False, "--limit": False, "--form": False}
 # By command: how many words stand before the options, and the forms of these.
-COMMANDS = {
+COMMANDS: dict[str, tuple[int, list[Form]]] = {
     "run": (1, [BY_ORDER, BY_SEED]),
     "races": (1, [BY_ORDER, BY_SEED]),
     "locks": (1, [BY_ORDER, BY_SEED]),
@@ -28,14 +31,21 @@ COMMANDS = {
     "big": (1, [{}]),
 }
 
-Settings = namedtuple("Settings", "command before options places")  # places: the number of each option's value
+
+class Settings(NamedTuple):
+    """The words that were taken."""
+
+    command: str
+    before: list[str]
+    options: dict[str, Any]
+    places: dict[str, int]  # the number of each option's value
 
 
 class NotTaken(Exception):
     """The number of the first word that isn't taken, from 1."""
 
 
-def value_of(option, word):
+def value_of(option: str, word: str) -> Any:
     """What the word gives to the option, or None where it isn't lawful."""
     if option == "--order":
         names = word.split(",")
@@ -48,7 +58,7 @@ def value_of(option, word):
     return number_of(word, *RANGES[option])
 
 
-def read_words(words):
+def read_words(words: list[str]) -> Settings:
     if not words or words[0] not in COMMANDS:
         raise NotTaken(1)
     count, forms = COMMANDS[words[0]]
@@ -65,7 +75,6 @@ def read_words(words):
         if value is None:
             raise NotTaken(at + 2)
         given[option], settings.places[option] = value, at + 2
-    is_whole = lambda form: all(name in settings.options for name, is_needed in form.items() if is_needed)
-    if not any(map(is_whole, forms)):
+    if not any(all(name in settings.options for name, is_needed in form.items() if is_needed) for form in forms):
         raise NotTaken(len(words) + 1)
     return settings
