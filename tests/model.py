@@ -209,7 +209,8 @@ def text_of_case(name):
 
 
 def own_answer(words):
-    """The lines of the program's own options; none for other words. Its help and its explanations are the cases' texts."""
+    """The lines of the program's own options; none for other words. Its help and its explanations are the cases'
+    texts."""
     if words == ["--version"]:
         return ["pct 0.1.0"]
     if words == ["--help"]:

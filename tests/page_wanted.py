@@ -104,7 +104,8 @@ def takes_of(run):
 
 
 def wrong_story(story, run, races):
-    """What isn't so in the story: it has a sentence for each stretch, and those are open in which something is to be seen."""
+    """What isn't so in the story: it has a sentence for each stretch, and those are open in which something is to be
+    seen."""
     stretches = run.stretches()
     ranges = [f"{first}" if first == last else f"{first}\u2013{last}" for first, last in stretches]
     notable = {step for pair in races for step in pair}

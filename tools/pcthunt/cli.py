@@ -16,7 +16,7 @@ from pcthunt.document import put as document_text
 from pcthunt.expected import check_expectation, expectation, is_as_expected
 from pcthunt.hunting import Hunt
 from pcthunt.machine_forms import Outcome, annotation_lines, junit, line_of
-from pcthunt.output import BAD_SCRIPT, DONE, FOUND, USAGE, WRITE_FAULT, Refused, keep, put, read, say, shown
+from pcthunt.output import BAD_SCRIPT, DONE, FOUND, USAGE, WRITE_FAULT, Refused, keep, put, read, shown
 from pcthunt.page import page_words, write_page
 from pcthunt.program import Program
 from pcthunt.refusals import script_refusal
@@ -31,15 +31,15 @@ MOST_SCRIPT = 1048577  # bytes, and one more than a script may have
 
 HELP = """Looks for the orders of steps in which a script goes wrong, and tells what happens in each, by pct alone.
 
-A hunt goes in rounds: 200 seeds at depth 1, and then a campaign at each of the depths 2, 3 and 4. Failures that are one
-bug come under one heading, each with its shortest run, where its values came from, its data races, what it needs, and a
-directive that certifies it. SCRIPT may be a folder: then each of its scripts has to come to what its line '# hunt: passes',
-'# hunt: fails' or '# hunt: VERDICT' says, or NAME.expect beside it; to pass where there is none."""
-STATUS = """The status is 0 where nothing failed (of a folder: where each script came to what it should), 1 where something
-did, 2 for words that aren't taken, 3 for a script that is refused, 6 and 7 for files and output that can't be read or
-written, 8 where there is no memory, and 130 where it was interrupted before anything failed. 'pct-hunt --why run FILE ..'
-says why pct refuses these words or files, and what it wants in their place. 'pct-hunt --page DOCUMENT.json [--html FILE]'
-writes the page of a document that it or a layer for real threads wrote."""
+A hunt goes in rounds: 200 seeds at depth 1, and then a campaign at each of the depths 2, 3 and 4. Failures that are
+one bug come under one heading, each with its shortest run, where its values came from, its data races, what it needs,
+and a directive that certifies it. SCRIPT may be a folder: then each of its scripts has to come to what its line
+'# hunt: passes', '# hunt: fails' or '# hunt: VERDICT' says, or NAME.expect beside it; to pass where there is none."""
+STATUS = """The status is 0 where nothing failed (of a folder: where each script came to what it should), 1 where
+something did, 2 for words that aren't taken, 3 for a script that is refused, 6 and 7 for files and output that can't be
+read or written, 8 where there is no memory, and 130 where it was interrupted before anything failed. 'pct-hunt --why
+run FILE ..' says why pct refuses these words or files, and what it wants in their place. 'pct-hunt --page DOCUMENT.json
+[--html FILE]' writes the page of a document that it or a layer for real threads wrote."""
 
 
 def number(least: int, most: int) -> Callable[[str], int]:
@@ -73,7 +73,8 @@ def parser() -> argparse.ArgumentParser:
     it.add_argument("script", metavar="SCRIPT", help="a script, or a folder of scripts NAME.pct")
     search = it.add_argument_group("the search")
     search.add_argument("--depth", type=number(1, 8), default=4, metavar="DEPTH", help="the greatest depth (4)")
-    search.add_argument("--seeds", type=number(1, 10**9), default=10000, metavar="N", help="seeds of each round (10000)")
+    search.add_argument("--seeds", type=number(1, 10**9), default=10000, metavar="N",
+                        help="seeds of each round (10000)")
     search.add_argument("--from", type=number(0, 2**64 - 1), default=1, metavar="SEED", dest="first",
                         help="the first seed of each round (1)")
     search.add_argument("--limit", type=number(1, 100000), default=10000, metavar="STEPS",
@@ -84,7 +85,8 @@ def parser() -> argparse.ArgumentParser:
     search.add_argument("--certify", type=number(0, 10**6), default=2000, metavar="N",
                         help="how many directives are tried (2000); 0: none")
     where = it.add_argument_group("where it runs")
-    where.add_argument("--jobs", type=number(1, 1024), default=0, metavar="N", help="parts at once (one for each processor)")
+    where.add_argument("--jobs", type=number(1, 1024), default=0, metavar="N",
+                       help="parts at once (one for each processor)")
     where.add_argument("--sshlogin", metavar="LIST", help="hands the parts to GNU parallel, for these machines")
     said = it.add_argument_group("what it says")
     said.add_argument("--json", action="store_true", dest="is_json", help="one JSON document (docs/document.md)")

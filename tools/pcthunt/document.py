@@ -53,8 +53,8 @@ def run_of(script: Script, trace: Trace, file: str, seed: Json | None = None) ->
     failing = trace.verdict.split()[1:2] if trace.verdict.split()[0] in ("failed", "misuse", "fault") else []
     return {
         "seed": seed, "order": trace.order, "points": trace.points, "limit": trace.limit,
-        "steps": [{"thread": it.thread, "file": file, "line": it.line, "ask": ask_words(it.ask), "answer": str(it.answer)}
-                  for it in trace.events],
+        "steps": [{"thread": it.thread, "file": file, "line": it.line, "ask": ask_words(it.ask),
+                   "answer": str(it.answer)} for it in trace.events],
         "asking": [{"thread": name, "file": file, "line": body.line, "ask": ask_words(body.ask)}
                    for name, body in bodies.items() if body.ask and name not in failing],
         "ended": [name for name, body in bodies.items() if body.ask is None and name not in failing],

@@ -84,7 +84,8 @@ class Story:
         word, *names = event.ask
         if word == "read":
             return f"{event.thread} read {names[0]} = {event.answer} {self.at(number)}{self.writer(number)}"
-        return f"{event.thread}'s {' '.join(map(str, event.ask))} gave {event.answer} {self.at(number)}{self.writer(number)}"
+        asked = " ".join(map(str, event.ask))
+        return f"{event.thread}'s {asked} gave {event.answer} {self.at(number)}{self.writer(number)}"
 
     def writer(self, number: int) -> str:
         if number not in self.seen.written:
@@ -113,8 +114,8 @@ class Story:
         change = self.seen.change_after(step, used)
         if change:
             event, other = self.events[step - 1], self.events[change - 1]
-            self.tell(f"between {event.thread}'s step {step} and step {used} ({self.line(used)}), {other.thread} changed "
-                      f"{event.ask[1]} {self.at(change)}")
+            self.tell(f"between {event.thread}'s step {step} and step {used} ({self.line(used)}), {other.thread} "
+                      f"changed {event.ask[1]} {self.at(change)}")
 
     def of_reads(self, thread: str) -> None:
         """By what the thread came there: its last read of each variable, and whether that changed meanwhile."""
@@ -144,7 +145,8 @@ class Story:
             else:
                 met = [event.thread for event in self.events[:number] if event.ask == ("arrive", name)]
                 size = self.script.objects["barrier"][name]
-                self.tell(f"{thread} left {name} {self.at(number)}: it is for {size}, and {listed(met[-size:])} were at it")
+                self.tell(f"{thread} left {name} {self.at(number)}: it is for {size}, and {listed(met[-size:])} were "
+                          "at it")
 
     def of_raises(self, thread: str, sem: str, number: int) -> None:
         """Who raised the semaphore that the thread took."""
@@ -186,7 +188,8 @@ class Story:
         for number, event in enumerate(self.events, 1):
             if event.thread == thread:
                 word, *names = event.ask
-                if word in ("lock", "wrlock", "rdlock") or (word in ("trylock", "trywrlock", "tryrdlock") and event.answer == 1):
+                has_tried = word in ("trylock", "trywrlock", "tryrdlock") and event.answer == 1
+                if word in ("lock", "wrlock", "rdlock") or has_tried:
                     held[names[0]] = number
                 elif word == "regain":
                     held[names[1]] = number
@@ -236,9 +239,10 @@ class Story:
         arrivals = [number for number, event in enumerate(self.events, 1) if event.ask == ("arrive", barrier)]
         left = sum(event.ask == ("leave", barrier) for event in self.events)
         size = self.script.objects["barrier"][barrier]
-        at_it = [self.events[number - 1].thread for number in arrivals[-(len(arrivals) % size):]] if len(arrivals) % size else []
-        self.tell(f"{barrier} is for {size}; {len(arrivals)} arrived and {left} left; {listed(at_it) if at_it else 'nobody'} "
-                  f"{'is' if len(at_it) < 2 else 'are'} at it")
+        last = len(arrivals) - len(arrivals) % size
+        at_it = [self.events[number - 1].thread for number in arrivals[last:]]
+        self.tell(f"{barrier} is for {size}; {len(arrivals)} arrived and {left} left; "
+                  f"{listed(at_it) if at_it else 'nobody'} {'is' if len(at_it) < 2 else 'are'} at it")
 
     # Misuse.
 
@@ -280,5 +284,5 @@ def of_loop(story: Story) -> None:
     last = [(event.thread, event.line) for event in story.events[-100:]]
     for thread, line in sorted(set(last), key=lambda it: -last.count(it))[:4]:
         number = max(at for at, event in enumerate(story.events, 1) if (event.thread, event.line) == (thread, line))
-        story.tell(f"{thread} came to {story.line(number)}, {last.count((thread, line))} times in the last {len(last)} steps: "
-                   "a loop that waits")
+        story.tell(f"{thread} came to {story.line(number)}, {last.count((thread, line))} times in the last "
+                   f"{len(last)} steps: a loop that waits")

@@ -81,11 +81,12 @@ class Places:
 
 
 def keys_of(verdict: str, run: Json, places: Places) -> list[tuple[str, ...]]:
-    """By what two failures are one bug: their kind, and the place, or the places of those that wait for one another. A run that
-    is stuck in several cycles has a key for each."""
+    """By what two failures are one bug: their kind, and the place, or the places of those that wait for one another. A
+    run that is stuck in several cycles has a key for each."""
     kind, *rest = verdict.split()
     if kind == "stuck":
-        return sorted((kind, *sorted(places.of(it["thread"], it["line"]) for it in part)) for part in cycles_in(run["core"]))
+        cycles = cycles_in(run["core"])
+        return sorted((kind, *sorted(places.of(it["thread"], it["line"]) for it in cycle)) for cycle in cycles)
     if kind == "cut":
         return [(kind,)]
     return [(kind, places.of(rest[0], int(rest[1])), *rest[2:])]

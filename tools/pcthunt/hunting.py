@@ -42,7 +42,8 @@ class Hunt:
         goes_on = None
         if search.why_ended:
             round_ = rounds[-1]
-            goes_on = self.settings.command(self.title, **{"from": round_.first if round_.is_whole() else round_.next_seed()})
+            first = round_.first if round_.is_whole() else round_.next_seed()
+            goes_on = self.settings.command(self.title, **{"from": first})
         self.result = Result(self.title, rounds, cases, failures, search.why_ended, goes_on)
         return self.result
 
@@ -82,13 +83,15 @@ class Hunt:
         words = shlex.join(failure.schedule.words(self.title))
         kind = failure.verdict.split()[0]
         return [("its trace", f"{self.name} run {words}"), ("its data races", f"{self.name} races {words}"),
-                ("what it needs", f"{self.name} find {words}"), (f"what '{kind}' means", f"{self.name} --explain {kind}")]
+                ("what it needs", f"{self.name} find {words}"), (f"what '{kind}' means", f"{self.name} --explain "
+                                                                                         f"{kind}")]
 
     # The document.
 
     def document(self, status: int) -> Json:
         assert self.result is not None and self.headings is not None
-        document = first_part(self.title, self.text, [case.heading.best().run for case in self.result.cases], self.script)
+        runs = [case.heading.best().run for case in self.result.cases]
+        document = first_part(self.title, self.text, runs, self.script)
         document |= {"command": self.settings.command(self.title), "status": status,
                      "rounds": [self.round(it) for it in self.result.rounds]}
         for member, case in zip(document["headings"], self.result.cases):
@@ -109,7 +112,8 @@ class Hunt:
             "again": [{"says": says, "command": command} for says, command in case.again],
             "kind": case.heading.kind(), "key": list(case.heading.key), "sentence": case.sentence, "told": case.told,
             "shares": [{"round": number, "count": count} for number, count in case.heading.counts().items()],
-            "verdicts": [{"verdict": it.verdict, "count": it.count(), "steps": it.steps} for it in case.heading.failures],
+            "verdicts": [{"verdict": it.verdict, "count": it.count(), "steps": it.steps}
+                         for it in case.heading.failures],
             "races": case.races, "locks": case.locks,
         }
         if case.found:

@@ -80,7 +80,8 @@ def shown(text: str) -> str:
 
 
 def hold_streams() -> None:
-    """Where a standard stream is closed, its number is taken, so that no file of the tool gets it; a write there fails."""
+    """Where a standard stream is closed, its number is taken, so that no file of the tool gets it; a write there
+    fails."""
     for number in range(3):
         try:
             os.fstat(number)

@@ -90,7 +90,8 @@ def moment_words(directive: Directive, failure: Failure) -> list[str]:
 
 
 def directive_words(directive: Directive, failure: Failure) -> str:
-    return listed([f"{directive.low} has the lowest priority", *(moment_words(directive, failure) or ["nobody is lowered"])])
+    moments = moment_words(directive, failure) or ["nobody is lowered"]
+    return listed([f"{directive.low} has the lowest priority", *moments])
 
 
 def case_lines(number: int, case: Case, result: Result) -> list[str]:
@@ -99,8 +100,8 @@ def case_lines(number: int, case: Case, result: Result) -> list[str]:
     lines += folded(f"{shares(case.heading, result.rounds)}.", "   ", "   ")
     verdicts = [failure.verdict for failure in case.heading.failures]
     if len(verdicts) > 1:
-        lines += folded("Verdicts: " + "; ".join(verdicts[:6]) + (f"; and {len(verdicts) - 6} more" if len(verdicts) > 6 else ""),
-                        "   ", "     ")
+        more = f"; and {len(verdicts) - 6} more" if len(verdicts) > 6 else ""
+        lines += folded(f"Verdicts: {'; '.join(verdicts[:6])}{more}", "   ", "     ")
     lines += ["", f"   The shortest run, {len(best.run['steps'])} steps ({' '.join(best.schedule.options)}):", ""]
     lines += [f"   {line}".rstrip() for line in text_lines(case.picture, MOST_COLUMNS - 3)]
     lines.append("")
@@ -126,7 +127,8 @@ def reading(case: Case) -> str:
     elif kind == "stuck":
         return "docs/messages.md on 'stuck'"
     elif kind == "failed":
-        alike = ["lost_update", "seqlock", "work_stealing"] if case.races else ["wait_with_if", "released_twice", "two_phase"]
+        alike = ["wait_with_if", "released_twice", "two_phase"]
+        alike = ["lost_update", "seqlock", "work_stealing"] if case.races else alike
     else:
         return f"docs/messages.md on '{kind}'"
     return f"docs/messages.md on '{kind}'; examples/README.md on {listed(alike)}"
@@ -135,7 +137,8 @@ def reading(case: Case) -> str:
 def finding_lines(case: Case, best: Failure) -> list[str]:
     lines: list[str] = []
     if case.locks.get("cycle"):
-        nests = [f"{it['thread']} takes {it['taken']} while it holds {it['held']} (step {it['step']})" for it in case.locks["cycle"]]
+        nests = [f"{it['thread']} takes {it['taken']} while it holds {it['held']} (step {it['step']})"
+                 for it in case.locks["cycle"]]
         lines += folded("a cycle of mutexes: " + "; ".join(nests), "   - ", "     ")
     elif len(case.locks.get("order", [])) > 1 and case.heading.kind() != "stuck":
         lines += folded("the run takes its mutexes in the order " + ", ".join(case.locks["order"]), "   - ", "     ")
@@ -148,18 +151,18 @@ def finding_lines(case: Case, best: Failure) -> list[str]:
     if sought and sought.certified:
         certified = sought.certified
         how = directive_words(certified.directive, best)
-        tried = "the first directive that was tried" if certified.tried == 1 else f"the {certified.tried:,}th directive that was tried"
-        lines += folded(f"certified: {certified.told()} fails so, by {ordinal(tried)}: {how}", "   - ", "     ")
+        which = "first" if certified.tried == 1 else ordinal(certified.tried)
+        lines += folded(f"certified: {certified.told()} fails so, by the {which} directive that was tried: {how}",
+                        "   - ", "     ")
     elif sought:
         lines += folded(f"not certified: {sought.why_not}", "   - ", "     ")
     return lines
 
 
-def ordinal(text: str) -> str:
-    for wrong, right in (("1th", "1st"), ("2th", "2nd"), ("3th", "3rd")):
-        if f"1{wrong}" not in text:
-            text = text.replace(wrong, right)
-    return text
+def ordinal(number: int) -> str:
+    """1,001st, 1,012th, and so on."""
+    end = "th" if number % 100 in (11, 12, 13) else {1: "st", 2: "nd", 3: "rd"}.get(number % 10, "th")
+    return f"{number:,}{end}"
 
 
 def text_of(result: Result) -> str:

@@ -1,5 +1,5 @@
-"""The reports of campaigns: how they are read, and how those of the parts of one campaign become the report of the whole,
-byte for byte the one that `pct campaign` writes of all the seeds."""
+"""The reports of campaigns: how they are read, and how those of the parts of one campaign become the report of the
+whole, byte for byte the one that `pct campaign` writes of all the seeds."""
 
 from __future__ import annotations
 
@@ -36,7 +36,8 @@ class NoReport(Exception):
 
 
 def groups_of(rows: Iterable[Row]) -> list[Group]:
-    """The verdicts but passed: those of most rows first, then those of the fewest steps, then the lowest first seeds."""
+    """The verdicts but passed: those of most rows first, then those of the fewest steps, then the lowest first
+    seeds."""
     found: dict[str, tuple[int, int, int]] = {}
     for row in rows:
         if row.verdict != "passed":

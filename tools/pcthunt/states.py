@@ -146,7 +146,7 @@ class Listed:
         found = {
             "vars": {name: str(value) for name, value in store.values.items()},
             "mutexes": dict(store.owner),
-            "rwlocks": {name: {"writer": store.writer[name], "readers": {it: count for it, count in holds.items() if count}}
+            "rwlocks": {name: {"writer": store.writer[name], "readers": dict(+holds)}
                         for name, holds in store.holds.items()},
             "sems": dict(store.counts),
             "conds": {name: {"waiting": list(store.waiting[name]), "woken": list(store.woken[name])}
@@ -191,8 +191,8 @@ def why(before: Json, step: Json, previous: Json | None) -> tuple[str, list[str]
     """Why the step's thread goes in that state, and the higher threads, which can't."""
     thread, threads = step["thread"], before["threads"]
     rank = threads[thread]["rank"]
-    higher = sorted((name for name, told in threads.items() if told["rank"] > rank and told["is"] in ("blocked", "held")),
-                    key=lambda name: -int(threads[name]["rank"]))
+    above = [name for name, told in threads.items() if told["rank"] > rank and told["is"] in ("blocked", "held")]
+    higher = sorted(above, key=lambda name: -int(threads[name]["rank"]))
     if any(told["rank"] > rank and told["is"] == "enabled" for told in threads.values()):
         return f"{thread} is listed next", higher
     reasons = [f"{name} is higher and waits for {threads[name]['for']}" for name in higher[:3]]

@@ -1,4 +1,5 @@
-"""Campaigns for the model: a row for each seed, the groups of the rows that fail, both reports, and the large script."""
+"""Campaigns for the model: a row for each seed, the groups of the rows that fail, both reports, and the large
+script."""
 
 from __future__ import annotations
 
@@ -59,7 +60,8 @@ def rows_of(script: Script, first: int, count: int, depth: int, steps: int, limi
 
 
 def groups_of(rows: list[Row]) -> list[Group]:
-    """The verdicts but passed: those of most rows first, then those of the fewest steps, then the earliest seeds by number."""
+    """The verdicts but passed: those of most rows first, then those of the fewest steps, then the earliest seeds by
+    number."""
     groups = []
     for verdict in dict.fromkeys(row.verdict for row in rows if row.verdict != "passed"):
         of_it = [row for row in rows if row.verdict == verdict]

@@ -1,5 +1,6 @@
 """The words of a seed, by a block function of its own: RFC 8439's, with the number of rounds as an argument, a 64-bit
-block counter and a 64-bit stream number. It stands apart from the crates. tests/chacha.py checks it by the RFC's block."""
+block counter and a 64-bit stream number. It stands apart from the crates. tests/chacha.py checks it by the RFC's
+block."""
 
 from __future__ import annotations
 

@@ -1,4 +1,5 @@
-"""Directives for the model: their files, the run of a directive, the change points that expose it, and its certificate."""
+"""Directives for the model: their files, the run of a directive, the change points that expose it, and its
+certificate."""
 
 from __future__ import annotations
 
@@ -66,8 +67,8 @@ def read_directive(data: bytes, script: Script) -> Directive:
 
 
 def directed_run(script: Script, order: list[str], moments: list[Moment], limit: int) -> tuple[list[Event], str]:
-    """The events and the verdict of the run in which the value i is given to the thread of the i-th moment right after it
-    took its step of that number."""
+    """The events and the verdict of the run in which the value i is given to the thread of the i-th moment right after
+    it took its step of that number."""
 
     def is_given(index: int, events: list[Event], thread: str) -> bool:
         lowered, number = moments[index - 1]

@@ -1,5 +1,5 @@
-"""From a failing run to a short directive, for the model: the moments of its change points, of which those are left out that
-its verdict doesn't need."""
+"""From a failing run to a short directive, for the model: the moments of its change points, of which those are left out
+that its verdict doesn't need."""
 
 from __future__ import annotations
 
@@ -9,7 +9,8 @@ from pctmodel.script import Script
 
 
 def moments_of(events: list[Event], points: list[int]) -> list[Moment]:
-    """For each point within the run, the thread of that step and the number of its own step; of equal points the last."""
+    """For each point within the run, the thread of that step and the number of its own step; of equal points the
+    last."""
     moments = []
     for index, point in enumerate(points):
         if point <= len(events) and point not in points[index + 1 :]:

@@ -35,7 +35,8 @@ def mutex_given(event: Event) -> str | None:
 
 
 def holds(events: list[Event], thread: str, mutex: str, place: int) -> bool:
-    """Whether the thread holds the mutex before the step at the place: it took it, and gave it back by no later step."""
+    """Whether the thread holds the mutex before the step at the place: it took it, and gave it back by no later
+    step."""
     own = [event for event in events[:place] if event.thread == thread]
     takes = [at for at, event in enumerate(own) if mutex_taken(event) == mutex]
     return any(all(mutex_given(event) != mutex for event in own[at + 1 :]) for at in takes)

@@ -16,8 +16,9 @@ class Race(NamedTuple):
     second: int
 
 
-# By the word of an earlier step, the words of the later steps that it comes before where both are of the same object. The
-# steps in TRIES are among them only where they were answered 1, those in WAKES only where they were answered above 0.
+# By the word of an earlier step, the words of the later steps that it comes before where both are of the same object.
+# The steps in TRIES are among them only where they were answered 1, those in WAKES only where they were answered above
+# 0.
 GIVES: dict[str, tuple[str, ...]] = {
     "unlock": ("lock", "trylock", "regain"), "release": ("lock", "trylock", "regain"),
     "signal": ("regain",), "broadcast": ("regain",),
@@ -44,7 +45,9 @@ def is_edge(earlier: Event, later: Event) -> bool:
     word, later_word = earlier.ask[0], later.ask[0]
     if earlier.thread == later.thread:
         return True
-    if (word == "start" and earlier.ask[1] == later.thread) or (later_word == "join" and later.ask[1] == earlier.thread):
+    if word == "start" and earlier.ask[1] == later.thread:
+        return True
+    if later_word == "join" and later.ask[1] == earlier.thread:
         return True
     if later_word not in GIVES.get(word, ()) or not object_given(earlier, later):
         return False

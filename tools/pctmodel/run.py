@@ -76,8 +76,8 @@ def evaluate(expression: Expression, registers: dict[str, int]) -> int:
 
 
 class Body:
-    """A thread: the statements that remain, sixteen registers, and what it asks next, with the line. An ask is a tuple of
-    its words, and None where the thread has ended."""
+    """A thread: the statements that remain, sixteen registers, and what it asks next, with the line. An ask is a tuple
+    of its words, and None where the thread has ended."""
 
     def __init__(self, thread: Thread, is_held: bool) -> None:
         self.thread, self.rest = thread, thread.block
@@ -150,7 +150,8 @@ class Store:
         self.counts = dict(script.objects["sem"])
         self.sizes = dict(script.objects["barrier"])
         self.arrived: dict[str, list[str]] = {barrier: [] for barrier in self.sizes}
-        self.released: dict[str, dict[str, bool]] = {barrier: {} for barrier in self.sizes}  # whether it is the serial one
+        # whether it is the serial one
+        self.released: dict[str, dict[str, bool]] = {barrier: {} for barrier in self.sizes}
         self.started: list[str] = []
         self.writer: dict[str, str | None] = dict.fromkeys(script.objects["rwlock"])
         self.holds: dict[str, Counter[str]] = {lock: Counter() for lock in self.writer}
@@ -340,8 +341,8 @@ class World:
 
 def ranked_run(script: Script, order: list[str], many: int, limit: int,
                is_given: Callable[[int, list[Event], str], bool]) -> tuple[list[Event], str]:
-    """The events and the verdict of the run: each step is by the enabled thread of the greatest value. Right after a step its
-    thread has the value i, in 1..many, where `is_given(i, events, thread)`."""
+    """The events and the verdict of the run: each step is by the enabled thread of the greatest value. Right after a
+    step its thread has the value i, in 1..many, where `is_given(i, events, thread)`."""
     world = World(script)
     values = {name: many + len(order) - place for place, name in enumerate(order)}
     while not world.verdict:

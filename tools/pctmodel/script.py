@@ -8,8 +8,8 @@ from dataclasses import dataclass, field
 from typing import Any, Union
 
 LEAST, GREATEST = -(2**63), 2**63 - 1
-WORDS_OF_1 = """script var mutex cond sem barrier thread end read write add cas lock trylock unlock wait signal broadcast
-    down trydown up arrive join yield assert set if else while""".split()
+WORDS_OF_1 = """script var mutex cond sem barrier thread end read write add cas lock trylock unlock wait signal
+    broadcast down trydown up arrive join yield assert set if else while""".split()
 WORDS_OF_3 = "rwlock rdlock wrlock tryrdlock trywrlock rwunlock".split()
 KEYWORDS = {1: {*WORDS_OF_1}, 2: {*WORDS_OF_1, "start"}, 3: {*WORDS_OF_1, "start", *WORDS_OF_3}}
 REGISTERS = [f"r{number}" for number in range(16)]

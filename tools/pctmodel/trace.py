@@ -19,7 +19,8 @@ ASKS = {
     "check": "0|1", "fault": "overflow|zerodivisor|spin",
 }
 ASKS_OF_2 = dict.fromkeys(["rdlock", "wrlock", "tryrdlock", "trywrlock", "rwunlock"], "rwlock")
-MISUSES: dict[int, list[str | None]] = {1: ["notowner", "semfull", "alreadystarted"], 2: ["notowner", "semfull", "alreadystarted", "toomanyreads"]}
+MISUSES_OF_1: list[str | None] = ["notowner", "semfull", "alreadystarted"]
+MISUSES = {1: MISUSES_OF_1, 2: [*MISUSES_OF_1, "toomanyreads"]}
 FAULTS: list[str | None] = ["overflow", "zerodivisor", "spin"]
 
 Names = list[tuple[str, str]]  # with the kinds that their places need
@@ -100,7 +101,8 @@ def threads_of_verdict(words: list[str], version: int, script: Script) -> list[s
     last: str | None = None
     if kind in ("misuse", "fault") and len(rest) == 3:
         threads, last = rest[:1], rest[2]
-    lasts: dict[str, list[str | None]] = {"failed": [None], "stuck": [None], "misuse": MISUSES[version], "fault": FAULTS}
+    lasts: dict[str, list[str | None]] = {"failed": [None], "stuck": [None]}
+    lasts |= {"misuse": MISUSES[version], "fault": FAULTS}
     if last not in lasts.get(kind, []) or len(lines) != len(threads) or not threads:
         return None
     if kind == "failed" and len(threads) != 1:
@@ -120,7 +122,8 @@ Made_ = TypeVar("Made_", bound=Made)
 
 
 class LineReader(Generic[Made_]):
-    """Takes a file line by line, its head first, into what it makes. Each `take` answers the fault of its line, or None."""
+    """Takes a file line by line, its head first, into what it makes. Each `take` answers the fault of its line, or
+    None."""
 
     def __init__(self, data: bytes, script: Script, lines_of_head: int, made: Made_) -> None:
         *whole, self.last = data.split(b"\n")  # the last piece has no LF
