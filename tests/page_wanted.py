@@ -23,7 +23,8 @@ def objects_of(moment):
         "mutex": {name: f"held by {owner}" if owner else "free" for name, owner in moment.owners.items()},
         "sem": {name: str(count) for name, count in moment.counts.items()},
         "cond": {name: waiters(waiting, moment.woken[name]) for name, waiting in moment.waiting.items()},
-        "barrier": {name: f"{joined(there)} wait" if there else "nobody is there" for name, there in moment.arrived.items()},
+        "barrier": {name: f"{joined(there)} wait" if there else "nobody is there" for name,
+                    there in moment.arrived.items()},
         "rwlock": {name: f"{moment.writers[name]} writes" if moment.writers[name] else readers(it)
                    for name, it in moment.readers.items()},
     }

@@ -37,9 +37,10 @@ and a directive that certifies it. SCRIPT may be a folder: then each of its scri
 '# hunt: passes', '# hunt: fails' or '# hunt: VERDICT' says, or NAME.expect beside it; to pass where there is none."""
 STATUS = """The status is 0 where nothing failed (of a folder: where each script came to what it should), 1 where
 something did, 2 for words that aren't taken, 3 for a script that is refused, 6 and 7 for files and output that can't be
-read or written, 8 where there is no memory, and 130 where it was interrupted before anything failed. 'pct-hunt --why
-run FILE ..' says why pct refuses these words or files, and what it wants in their place. 'pct-hunt --page DOCUMENT.json
-[--html FILE]' writes the page of a document that it or a layer for real threads wrote."""
+read or written, 8 where there is no memory, and 130 where it was interrupted before anything failed, or its time was
+over before a run came to its end. 'pct-hunt --why run FILE ..' says why pct refuses these words or files, and what it
+wants in their place. 'pct-hunt --page DOCUMENT.json [--html FILE]' writes the page of a document that it or a layer for
+real threads wrote."""
 
 
 def number(least: int, most: int) -> Callable[[str], int]:
@@ -169,7 +170,8 @@ class Session:
 
 def one_script(session: Session, given: argparse.Namespace) -> int:
     result = session.hunt(given.script)
-    status = FOUND if result.has_failed() else INTERRUPTED if result.why_ended == "interrupted" else DONE
+    is_done = result.has_run() and result.why_ended != "interrupted"
+    status = FOUND if result.has_failed() else DONE if is_done else INTERRUPTED
     hunt = session.hunts[-1]
     document = hunt.document(status) if given.is_json or given.html else {}
     text = document_text(document) if given.is_json else text_of(result)
@@ -200,7 +202,7 @@ def folder(session: Session, given: argparse.Namespace) -> int:
         text += f"{'ok  ' if outcome.is_well else 'NOT '} {shown(outcome.path)}: {outcome.said}\n"
         if not outcome.is_well and outcome.result:
             text += "".join(f"     {line}".rstrip() + "\n" for line in text_of(outcome.result).splitlines())
-        if outcome.result and outcome.result.why_ended == "interrupted":
+        if outcome.result and outcome.result.is_interrupted():
             text += f"     interrupted; {len(names) - len(outcomes)} scripts were not looked at\n"
             break
     bad = sum(not it.is_well for it in outcomes)

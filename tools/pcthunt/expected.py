@@ -35,7 +35,7 @@ def check_expectation(path: str, wanted: str, where: str, script: Script) -> Non
 def is_as_expected(wanted: str, result: Result) -> bool:
     """A verdict that is wanted is one of the one heading that there is."""
     if wanted == "passes":
-        return not result.has_failed()
+        return result.has_run() and not result.has_failed()
     if wanted == "fails":
         return result.has_failed()
     verdicts = [failure.verdict for case in result.cases for failure in case.heading.failures]

@@ -25,7 +25,8 @@ SYNONYMS = {
     "pthread_cond_broadcast": "broadcast", "pthread_join": "join", "sleep": "yield", "nop": "yield", "skip": "yield",
     "let": "set", "mov": "set", "load": "read", "store": "write", "int": "var", "endif": "end", "fi": "end",
     "done": "end", "od": "end", "endwhile": "end", "endthread": "end", "otherwise": "else", "check": "assert",
-    "condition": "cond", "semaphore": "sem", "lockguard": "lock", "rdunlock": "rwunlock", "wrunlock": "rwunlock", "spawn": "start",
+    "condition": "cond", "semaphore": "sem", "lockguard": "lock", "rdunlock": "rwunlock", "wrunlock": "rwunlock",
+            "spawn": "start",
 }
 
 

@@ -152,6 +152,7 @@ class Headings:
     def __init__(self, program: Program, path: str, title: str, script: Script, text: str) -> None:
         self.program, self.path, self.script = program, path, script
         self.title = title
+        self.is_interrupted = False
         self.places = Places(script, text)
         self.deal = deal_of(script, title)
         self.texts = Texts([{"file": title, "text": text}])
@@ -159,12 +160,22 @@ class Headings:
     def of(self, failures: list[Failure]) -> list[Heading]:
         """Failures of several keys come last, under the first of these that isn't there yet, or else the first."""
         by_key: dict[tuple[str, ...], Heading] = {}
-        made = [self.make_run(failure) for failure in failures[:MOST_VERDICTS]]
-        for failure in sorted(made, key=lambda it: len(it.keys)):
+        for failure in sorted(self.made(failures), key=lambda it: len(it.keys)):
             key = next((it for it in failure.keys if it not in by_key), failure.keys[0])
             by_key.setdefault(key, Heading(key, [])).failures.append(failure)
         order = lambda it: (it.kind() == "cut", -sum(it.counts().values()), it.best().steps, it.key)
         return sorted(by_key.values(), key=order)
+
+    def made(self, failures: list[Failure]) -> list[Failure]:
+        """The failures of which a run is made; where that is interrupted, those that have one."""
+        made: list[Failure] = []
+        for failure in failures[:MOST_VERDICTS]:
+            try:
+                made.append(self.make_run(failure))
+            except KeyboardInterrupt:
+                self.is_interrupted = True
+                break
+        return made
 
     def make_run(self, failure: Failure) -> Failure:
         answer = self.program.whole("run", *failure.schedule.words(self.path))

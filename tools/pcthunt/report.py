@@ -6,7 +6,7 @@ import shlex
 from dataclasses import dataclass, field
 
 from pcthunt.certify import Sought
-from pcthunt.headings import MOST_VERDICTS, Failure, Heading
+from pcthunt.headings import Failure, Heading
 from pcthunt.output import shown
 from pcthunt.picture import MOST_COLUMNS, Picture, text_lines
 from pcthunt.rounds import Round
@@ -41,10 +41,18 @@ class Result:
     cases: list[Case]
     failures: list[Failure]
     why_ended: str | None
-    goes_on: str | None  # the command by which a hunt that was ended goes on
+    goes_on: str | None  # the command by which a search that was ended goes on
+    again: str | None = None  # where the explanation was interrupted, the command that makes all of it
 
     def has_failed(self) -> bool:
         return bool(self.failures)
+
+    def has_run(self) -> bool:
+        """Whether a run came to its end."""
+        return any(it.done() for it in self.rounds)
+
+    def is_interrupted(self) -> bool:
+        return self.why_ended == "interrupted" or self.again is not None
 
 
 def folded(text: str, first: str, later: str) -> list[str]:
@@ -102,7 +110,9 @@ def case_lines(number: int, case: Case, result: Result) -> list[str]:
     if len(verdicts) > 1:
         more = f"; and {len(verdicts) - 6} more" if len(verdicts) > 6 else ""
         lines += folded(f"Verdicts: {'; '.join(verdicts[:6])}{more}", "   ", "     ")
-    lines += ["", f"   The shortest run, {len(best.run['steps'])} steps ({' '.join(best.schedule.options)}):", ""]
+    many = len(best.run["steps"])
+    which = "The shortest run" if many == best.steps else "The first run"  # of a sweep the first choice is told
+    lines += ["", f"   {which}, {many} steps ({' '.join(best.schedule.options)}):", ""]
     lines += [f"   {line}".rstrip() for line in text_lines(case.picture, MOST_COLUMNS - 3)]
     lines.append("")
     for sentence in case.told:
@@ -169,19 +179,28 @@ def text_of(result: Result) -> str:
     """The whole text."""
     many = len(result.cases)
     what = "nothing failed" if not result.failures else "1 failure" if many == 1 else f"{many} failures"
-    if result.failures and all(case.heading.kind() == "cut" for case in result.cases):
+    if result.failures and not many:
+        what = f"{len(result.failures)} verdicts, which aren't explained"
+    elif result.failures and all(case.heading.kind() == "cut" for case in result.cases):
         what = "no failure, but runs that were cut"
+    elif not result.has_run():
+        what = "no run came to its end"
     lines = [f"{shown(result.title)}: {what}"]
     lines += [f"  {round_line(it)}" for it in result.rounds]
     if result.why_ended:
         lines.append(f"  The search was ended: {result.why_ended}. It goes on by")
         lines.append(f"    {result.goes_on}")
+    if result.again:
+        lines += ["  The explanation was interrupted, and has what was there. All of it comes "
+                  "by", f"    {result.again}"]
     for number, case in enumerate(result.cases, 1):
         lines += ["", *case_lines(number, case, result)]
-    if len(result.failures) > MOST_VERDICTS:
-        rest = result.failures[MOST_VERDICTS:]
+    rest = [failure for failure in result.failures if not failure.run]
+    if rest:
         runs = sum(it.count() for it in rest)
-        lines += ["", f"Of {len(rest)} more verdicts ({runs:,} runs) no run was made: {rest[0].verdict} is the first."]
+        made_by = shlex.join(["run", *rest[0].schedule.words(result.title)])
+        lines += ["", f"Of {len(rest)} more verdicts ({runs:,} runs) no run was made. '{rest[0].verdict}' is the "
+                      f"first, which 'pct {made_by}' makes."]
     return "\n".join(lines) + "\n"
 
 

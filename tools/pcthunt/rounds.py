@@ -22,7 +22,7 @@ SECONDS_OF_A_PART = 0.4
 
 
 class Choice(NamedTuple):
-    """Of a sweep a verdict's count, its shortest run's steps, and the order and points of that."""
+    """Of a sweep a verdict's count, its shortest run's steps, and the order and points of its first run."""
 
     count: int  # type: ignore[assignment]  # tuples have a method of that name
     steps: int
@@ -80,11 +80,12 @@ class Crew:
 
 
 class Parts:
-    """The parts of a round on this machine, of as many seeds as take about a third of a second."""
+    """The parts of a round on this machine, of as many seeds as take about a third of a second. The first part has one
+    seed, since one may take minutes."""
 
     def __init__(self, program: Program, script: str, crew: Crew) -> None:
         self.program, self.script, self.crew = program, script, crew
-        self.size = BATCH
+        self.size = 1
         self.pending: dict[Future[tuple[Report, float] | None], int] = {}
 
     def words(self, round_: Round, first: int, count: int) -> list[str]:
@@ -132,8 +133,11 @@ class Parts:
 
     def fit(self, count: int, seconds: float) -> None:
         """Sets the size of the next parts by how long one took."""
-        batches = count * SECONDS_OF_A_PART / max(seconds, 0.001) / BATCH
-        self.size = BATCH * max(1, min(MOST_OF_A_PART // BATCH, int(batches)))
+        seeds = int(count * SECONDS_OF_A_PART / max(seconds, 0.001))
+        if seconds < 2 * SECONDS_OF_A_PART:  # its start alone may have taken so long
+            seeds = max(seeds, 2 * count)
+        seeds = min(MOST_OF_A_PART, seeds)
+        self.size = seeds // BATCH * BATCH or max(1, seeds)
 
     def stop(self) -> None:
         if self.pending:
@@ -146,10 +150,10 @@ class Parts:
 class Search:
     """The rounds of a hunt, in order."""
 
-    def __init__(self, settings: Settings, program: Program, script: str, threads: int, parts: Parts) -> None:
+    def __init__(self, settings: Settings, program: Program, script: str, threads: int, parts: Parts,
+                 progress: Progress) -> None:
         self.settings, self.program, self.script, self.threads = settings, program, script, threads
-        self.parts = parts
-        self.progress = Progress(settings.is_quiet, settings.seconds)
+        self.parts, self.progress = parts, progress
         self.rounds: list[Round] = []
         self.why_ended: str | None = None  # interrupted, or out of time
 
