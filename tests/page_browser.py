@@ -38,13 +38,17 @@ const ends = (arrow, row) => {
 const part = (name) => [...document.querySelectorAll(`#details [data-part=${name}]`)].map((it) => it.textContent);
 const row = document.querySelector('#steps [aria-selected="true"]');
 const line = document.querySelector('#source [aria-current="step"]');
+const isWithin = (element, id) => {
+  const own = element.getBoundingClientRect(), around = document.getElementById(id).getBoundingClientRect();
+  return own.top >= around.top - 1 && own.bottom <= around.bottom + 1;
+};
 const box = document.getElementById("lanes").getBoundingClientRect(), place = row.getBoundingClientRect();
 return { ...found, enabled: part("enabled")[0] ?? "", why: part("why")[0] ?? "", marks: part("mark"),
   where: document.querySelector("#where b").textContent, slider: document.getElementById("slider").value,
   value: document.getElementById("slider").getAttribute("aria-valuetext"),
   line: line ? Number(line.dataset.line) : 0, row: row.dataset.step, label: row.getAttribute("aria-label"),
   active: document.getElementById("steps").getAttribute("aria-activedescendant"), id: row.id,
-  isSeen: place.top >= box.top - 1 && place.bottom <= box.bottom + 1,
+  isSeen: place.top >= box.top - 1 && place.bottom <= box.bottom + 1, isLineSeen: !line || isWithin(line, "source"),
   arrows: [...row.querySelectorAll(".arrow")].map((it) => [it.dataset.to, it.classList.contains("wakes")]),
   ends: [...row.querySelectorAll(".arrow")].map((it) => ends(it, row)),
   lanes: [...row.querySelectorAll(".lane")].map((it) => it.classList[1]),

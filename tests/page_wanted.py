@@ -57,7 +57,7 @@ def wrong_state(told, run, number):
     place = f"Step {number} of {len(run.steps)}"
     if (told["where"], told["slider"], told["row"], told["active"]) != (place, str(number), str(number), told["id"]):
         wrong.append("place")
-    if not told["value"].startswith(place) or not told["isSeen"]:
+    if not told["value"].startswith(place) or not told["isSeen"] or not told["isLineSeen"]:
         wrong.append("row")
     own = run.steps[number - 1].thread if number else None
     lanes = ["takes" if name == own else stand and stand[0] for name, stand in before.stands.items()]

@@ -14,6 +14,7 @@ sys.dont_write_bytecode = True
 if __name__ == "__main__":
     sys.path[0] = os.path.dirname(os.path.dirname(os.path.realpath(__file__)))
 
+from pcthunt.explain import sentences_of, sentences_of_deal
 from pcthunt.states import KINDS, FIRST_VALUES, Json, Listed, ask_words, changed, listed, why
 from pctmodel.directive import Directive
 from pctmodel.locks import Nesting, lock_order
@@ -216,18 +217,20 @@ def stuck_sentence(core: list[Json]) -> str:
     return "; ".join(waits) + ": nobody is left who could give it"
 
 
-def complete(document: Json) -> Json:
-    """Puts into the document what is worked out of its first part."""
-    texts, script = Texts(document["sources"]), None
+def complete(document: Json, script: Script | None = None) -> Json:
+    """Puts into the document what is worked out of its first part, and of the script where it is one's."""
+    texts = Texts(document["sources"])
     for heading in document["headings"]:
         run = heading["run"]
-        world = complete_run(run, document["deal"], texts)
-        script, events = world.script, events_of(run)
+        dealt, events = complete_run(run, document["deal"], texts).script, events_of(run)
         heading["kind"] = run["verdict"].split()[0]
         heading["sentence"] = sentence_of(run)
         if len(events) <= MOST_STEPS_FOR_RACES:
-            heading["races"] = [race._asdict() for race in races_of(script, events)]
-        heading["locks"] = locks_of(script, events)
+            heading["races"] = [race._asdict() for race in races_of(dealt, events)]
+        heading["locks"] = locks_of(dealt, events)
+        races = heading.get("races", [])
+        heading["told"] = sentences_of(script, run, events, races) if script else \
+            sentences_of_deal(dealt, run, events, races)
         passing = heading.get("passing")
         if passing:
             complete_run(passing["run"], document["deal"], texts)

@@ -5,7 +5,7 @@ from __future__ import annotations
 from collections.abc import Iterator
 
 from pcthunt.states import Json, listed
-from pcthunt.watch import CHANGES, Watched, watched
+from pcthunt.watch import CHANGES, Watched, watched, watched_events
 from pctmodel.run import Event
 from pctmodel.script import Script, Statement
 
@@ -24,9 +24,8 @@ def statements_in(block: list[Statement]) -> Iterator[Statement]:
 class Story:
     """Sentences on a run, none of them twice."""
 
-    def __init__(self, script: Script, run: Json, events: list[Event]) -> None:
-        self.script, self.run, self.events = script, run, events
-        self.seen: Watched = watched(script, events)
+    def __init__(self, script: Script, run: Json, events: list[Event], seen: Watched) -> None:
+        self.script, self.run, self.events, self.seen = script, run, events, seen
         self.told: list[str] = []
         self.told_steps: set[int] = set()
         self.is_answer_told: set[int] = set()
@@ -47,7 +46,7 @@ class Story:
 
     def of_registers(self, number: int) -> None:
         """The registers that a step uses, with the line and the reads that gave each value."""
-        for name, (value, origin) in self.seen.registers[number].items():
+        for name, (value, origin) in self.seen.registers.get(number, {}).items():
             if origin is None:
                 self.tell(f"{name} is {value}, as at the start")
                 continue
@@ -71,7 +70,7 @@ class Story:
             self.of_staleness(step, used)
             writer = self.seen.written.get(step)
             if writer:
-                self.of_sources(sorted(self.seen.inputs[writer]), writer)
+                self.of_sources(sorted(self.seen.inputs.get(writer, ())), writer)
 
     def tell_answer(self, number: int) -> None:
         if number not in self.is_answer_told:
@@ -254,8 +253,17 @@ class Story:
 
 
 def sentences_of(script: Script, run: Json, events: list[Event], races: list[Json]) -> list[str]:
-    """What is told of the run."""
-    story = Story(script, run, events)
+    """What is told of the run of a script."""
+    return told_by(Story(script, run, events, watched(script, events)), races)
+
+
+def sentences_of_deal(script: Script, run: Json, events: list[Event], races: list[Json]) -> list[str]:
+    """What is told of a run whose threads' code isn't a script's; the script has the deal's threads and objects alone."""
+    return told_by(Story(script, run, events, watched_events(events)), races)
+
+
+def told_by(story: Story, races: list[Json]) -> list[str]:
+    run, events = story.run, story.events
     kind, *rest = run["verdict"].split()
     if kind in ("failed", "fault") and events:
         story.of_registers(len(events))

@@ -98,8 +98,9 @@ def moment_words(directive: Directive, failure: Failure) -> list[str]:
 
 
 def directive_words(directive: Directive, failure: Failure) -> str:
-    moments = moment_words(directive, failure) or ["nobody is lowered"]
-    return listed([f"{directive.low} has the lowest priority", *moments])
+    *first, last = [f"{directive.low} has the lowest priority",
+                    *(moment_words(directive, failure) or ["nobody is lowered"])]
+    return f"{', '.join(first)} and {last}"
 
 
 def case_lines(number: int, case: Case, result: Result) -> list[str]:

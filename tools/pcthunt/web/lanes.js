@@ -1,6 +1,8 @@
 // The lanes: a row for each step, of which only those that are seen are there.
 
 const SPARE_ROWS = 8;
+const MEASURED_STEPS = 500;
+const [LEAST_WIDTH, MOST_WIDTH] = [6.6, 12];  // of a lane, in rem
 
 class Lanes {
   constructor(box, choose) {
@@ -26,6 +28,7 @@ class Lanes {
     this.lane = new Map(this.threads.map((name, index) => [name, index]));
     this.height = this.head.getBoundingClientRect().height || 34;
     this.box.style.setProperty("--lanes", this.threads.length);
+    this.box.style.setProperty("--least", `${this.leastWidth()}rem`);
     this.head.replaceChildren(
         make("span", {}, "step"), ...this.threads.map((name) => make("span", {}, names.of(name))));
     this.height = this.head.getBoundingClientRect().height;
@@ -34,6 +37,13 @@ class Lanes {
     this.end.replaceChildren(make("span", {}, "end"), ...this.placed((name) => this.standing(name, state, null)));
     this.box.scrollTop = 0;
     this.draw();
+  }
+
+  /** How wide a lane is at least, in rem: so that the labels of the first steps are read whole, up to some length. */
+  leastWidth() {
+    const room = (step, number) => labelOf(step).length * 0.5 + this.marks.of(number + 1).length * 1.25 + 1;
+    const rooms = this.run.steps.slice(0, MEASURED_STEPS).map(room);
+    return Math.min(MOST_WIDTH, Math.max(LEAST_WIDTH, ...rooms));
   }
 
   later() {
