@@ -145,10 +145,15 @@ def reading(case: Case) -> str:
     return f"docs/messages.md on '{kind}'; examples/README.md on {listed(alike)}"
 
 
+def place_of(failure: Failure, number: int) -> str:
+    step = failure.run["steps"][number - 1]
+    return f"step {number}, line {step['line']}: {step['text']}"
+
+
 def finding_lines(case: Case, best: Failure) -> list[str]:
     lines: list[str] = []
     if case.locks.get("cycle"):
-        nests = [f"{it['thread']} takes {it['taken']} while it holds {it['held']} (step {it['step']})"
+        nests = [f"{it['thread']} takes {it['taken']} while it holds {it['held']} ({place_of(best, it['step'])})"
                  for it in case.locks["cycle"]]
         lines += folded("a cycle of mutexes: " + "; ".join(nests), "   - ", "     ")
     elif len(case.locks.get("order", [])) > 1 and case.heading.kind() != "stuck":

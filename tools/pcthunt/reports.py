@@ -66,12 +66,16 @@ def text_report(name: str, lines: Iterator[str]) -> Report:
     """The report whose first line was read."""
     head = tuple(value_of(name, next(lines, None), word) for word in HEAD)
     rows: list[Row] = []
+    ends: dict[str, tuple[int, str]] = {}  # most rows are alike behind their seeds
     for line in lines:
-        if line.startswith("groups "):
+        seed, _, end = line.partition(" ")
+        if seed == "groups":
             many = value_of(name, line, "groups")
             break
-        (seed, steps), verdict = numbered(name, line, 2)
-        rows.append(Row(seed, steps, verdict))
+        if end not in ends or not seed.isdecimal() or not seed.isascii():
+            (_, steps), verdict = numbered(name, line, 2)
+            ends[end] = steps, verdict
+        rows.append(Row(int(seed), *ends[end]))
     else:
         raise NoReport(f"{name}: a report ends before its line 'groups'")
     return Report(head, rows, [group_of(name, next(lines, "")) for _ in range(many)], name)
