@@ -107,11 +107,12 @@ def disks(room):
 # At bad times.
 
 
-def interrupted_at(room, command, *more):
-    """A hunt that is interrupted while pct's command goes on: the status, the output and what is said."""
-    mark = os.path.join(room, f"at-{command}")
-    given = environment(PCT=at("tests", "hunt", "with_delay"), DELAYED=command, DELAYED_AT=mark)
-    with subprocess.Popen([*HUNT, SCRIPT, "--seeds", "300", "--depth", "2", "--quiet", *more], stdout=subprocess.PIPE,
+def interrupted_at(room, command, *more, first="0"):
+    """A hunt that is interrupted while pct's command goes on, of campaigns one from that seed on: the status, the
+    output and what is said."""
+    mark = os.path.join(room, f"at-{command}-{first}{''.join(more)}")
+    given = environment(PCT=at("tests", "hunt", "stand_in"), DELAYED=command, DELAYED_AT=mark, DELAYED_FROM=first)
+    with subprocess.Popen([*HUNT, SCRIPT, "--seeds", "900", "--depth", "2", "--quiet", *more], stdout=subprocess.PIPE,
                           stderr=subprocess.PIPE, text=True, cwd=TOP, env=given) as call:
         end = time.monotonic() + MOST_SECONDS
         while not os.path.exists(mark) and call.poll() is None and time.monotonic() < end:
@@ -126,6 +127,9 @@ def interruptions(room):
     status, text, said = interrupted_at(room, "campaign")
     yield "before a seed is run", (status, said) == (130,
                                                      "") and "no run came to its end" in text and "goes on by" in text
+    status, text, said = interrupted_at(room, "campaign", first="300")
+    is_told = "The search was ended: interrupted" in text and " of 900 seeds from 1 on" in text
+    yield "in the search", (status, said) == (1, "") and is_told and "1. Check's assertion in line 19 fails" in text
     status, text, said = interrupted_at(room, "run")
     is_told = "1 verdicts, which aren't explained" in text and "'failed Check 19' is the first, which 'pct run" in text
     yield "before a run is made", (status, said) == (1, "") and is_told and "The explanation was interrupted" in text
@@ -139,21 +143,9 @@ def interruptions(room):
     yield "a document", (status, said) == (1, "") and '"kind":"failed"' in text and '"tried"' not in text
 
 
-def searches(_):
-    """A search that is interrupted tells what it has."""
-    call_words = ["examples/stale_read.pct", "--seeds", "10000000", "--quiet"]
-    with subprocess.Popen([*HUNT, *call_words], stdout=subprocess.PIPE, stderr=subprocess.PIPE, text=True, cwd=TOP,
-                          env=environment()) as call:
-        time.sleep(4)
-        call.send_signal(signal.SIGINT)
-        out, said = call.communicate(timeout=MOST_SECONDS)
-    is_told = "The search was ended: interrupted" in out and "failed B 9" in out and "Traceback" not in said
-    yield "interrupted, it tells what it has", call.returncode == 1 and is_told
-
-
 def slow_scripts(room):
     """A script of which one seed takes minutes: lines say how far it is, and --time ends it."""
-    given = {"PCT": at("tests", "hunt", "with_delay"), "DELAYED": "campaign", "DELAYED_AT": os.path.join(room, "slow")}
+    given = {"PCT": at("tests", "hunt", "stand_in"), "DELAYED": "campaign", "DELAYED_AT": os.path.join(room, "slow")}
     begun = time.monotonic()
     status, text, said = hunt(SCRIPT, "--time", "12", env=given)
     yield "it ends in time", time.monotonic() - begun < 12 + MOST_SECONDS / 2
@@ -165,4 +157,4 @@ def slow_scripts(room):
     yield "it isn't what passes", status == 1 and text.startswith("NOT ")
 
 
-GROUPS = [words, names, outputs, disks, interruptions, searches, slow_scripts]
+GROUPS = [words, names, outputs, disks, interruptions, slow_scripts]

@@ -1,5 +1,5 @@
-"""Checks of the rounds of tools/hunt: that they are the program's campaigns, or sweeps of all choices where a stand-in for
-the program has them, with parts on processors of their own, and of the line that says how far it is."""
+"""Checks of the rounds of tools/hunt: that they are the program's campaigns, or sweeps of all choices where a stand-in
+for the program has them, with parts on processors of their own, and of the line that says how far it is."""
 
 import json
 import os
@@ -20,10 +20,10 @@ def rounds(room):
     yield from campaigns("examples/one_condition.pct", json.loads(hunt(*words)[1]))
     first = hunt("examples/lost_update.pct", "--seeds", "200", "--first", "--quiet")[1]
     yield "--first ends after the first failure", "depth 2" in first and "depth 3" not in first
-    status, text, _ = hunt("examples/lost_update.pct", "--seeds", "100", "--from", str(2**64 - 50), "--depth", "2",
-                           "--quiet")
-    yield "seeds go on at 0 after the greatest one", status == 1 and f"100 seeds from {2**64 - 50} on" in text
-    status, text, _ = hunt("examples/lost_update_mended.pct", "--seeds", "1000000", "--time", "2", "--quiet")
+    status, text, _ = hunt("examples/bounded_buffer.pct", "--seeds", "100", "--from", str(2**64 - 50), "--depth", "2",
+                           "--quiet", "--certify", "0")
+    yield "seeds go on at 0 after the greatest one", status in (0, 1) and f"100 seeds from {2**64 - 50} on" in text
+    status, text, _ = hunt("examples/philosophers_mended.pct", "--seeds", "1000000", "--time", "2", "--quiet")
     is_told = "goes on by" in text and " --from " in text
     yield "--time ends the search, and it is told how to go on", status == 0 and is_told
     yield from processors(room)
@@ -35,15 +35,17 @@ def campaigns(script, document):
     wasn't cut."""
     longest = None
     for round_ in document["rounds"]:
-        steps = ["--steps", str(longest)] if longest else []
-        out = subprocess.run([PCT, "campaign", at(script), "--from", round_["from"], "--count", str(round_["seeds"]),
-                              "--depth", str(round_["depth"]), *steps], capture_output=True, text=True,
-                             check=False).stdout.splitlines()
+        is_swept = "sweep" in round_
+        words = ["--from", round_.get("from", "1"), "--count", str(200 if is_swept else round_["seeds"])]
+        words += ["--steps", str(longest)] if longest else []
+        out = subprocess.run([PCT, "campaign", at(script), *words, "--depth", str(round_["depth"])],
+                             capture_output=True,
+                             text=True, check=False).stdout.splitlines()
         at_groups = next(number for number, line in enumerate(out) if line.startswith("groups "))
         rows = [line.split(" ", 2) for line in out[5:at_groups]]
         failing = sum(verdict != "passed" for _, _, verdict in rows)
         name = f"{script}: the round of depth {round_['depth']}"
-        yield f"{name} is the campaign", failing == round_["failures"] and len(rows) == round_["seeds"]
+        yield f"{name} is the campaign", is_swept or (failing, len(rows)) == (round_["failures"], round_["seeds"])
         yield f"{name}: its steps", out[2] == f"steps {round_['steps']}" and longest in (None, round_["steps"])
         longest = max([longest or 1, *(int(steps) for _, steps, verdict in rows if verdict != "cut")])
 
@@ -71,7 +73,7 @@ def processors(room):
     """Each part of a round is pinned to a processor, and they are spread."""
     noted = os.path.join(room, "noted")
     os.mkdir(noted)
-    given = {"PCT": at("tests", "hunt", "with_note"), "NOTED": noted}
+    given = {"PCT": at("tests", "hunt", "stand_in"), "NOTED": noted}
     hunt("examples/lost_update_mended.pct", "--seeds", "2000", "--depth", "2", "--quiet", env=given)
     found = []
     for name in os.listdir(noted):
@@ -85,7 +87,8 @@ def on_a_terminal():
     """The line of progress on a terminal: it is written over, and nothing of it stays."""
     ours, theirs = pty.openpty()
     words = [*HUNT, "examples/stale_read_mended.pct", "--seeds", "200000", "--depth", "2", "--time", "6"]
-    with subprocess.Popen(words, stdout=subprocess.DEVNULL, stderr=theirs, cwd=TOP, env=environment()) as call:
+    given = environment(PCT=at("tests", "hunt", "stand_in"))
+    with subprocess.Popen(words, stdout=subprocess.DEVNULL, stderr=theirs, cwd=TOP, env=given) as call:
         os.close(theirs)
         said = b""
         while True:

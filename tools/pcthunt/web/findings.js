@@ -38,8 +38,9 @@ function pointWords(points) {
                                `The threads of the steps ${steps} are put last right after them: change points.`;
 }
 
-const boundWords = ({bound, threads, steps, depth}) => `At least 1 of ${bound} choices at ${
-    counted(threads, "thread")}, ${counted(steps, "step")} and depth ${depth} fails so: this is certified.`;
+const boundWords = ({bound, threads, steps, depth}) =>
+    `At least 1 of ${BigInt(bound).toLocaleString("en")} choices at ${counted(threads, "thread")}, ` +
+    `${counted(steps, "step")} and depth ${depth} fails so: this is certified.`;
 
 function shareWords(round, count) {
   if (!round) return "";
