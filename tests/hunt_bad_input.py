@@ -127,11 +127,11 @@ def interruptions(room):
     status, text, said = interrupted_at(room, "campaign")
     yield "before a seed is run", (status, said) == (130,
                                                      "") and "no run came to its end" in text and "goes on by" in text
-    status, text, said = interrupted_at(room, "campaign", first="300")
+    status, text, said = interrupted_at(room, "campaign", first="800")
     is_told = "The search was ended: interrupted" in text and " of 900 seeds from 1 on" in text
     yield "in the search", (status, said) == (1, "") and is_told and "1. Check's assertion in line 19 fails" in text
     status, text, said = interrupted_at(room, "run")
-    is_told = "1 verdicts, which aren't explained" in text and "'failed Check 19' is the first, which 'pct run" in text
+    is_told = "1 verdict, which isn't explained" in text and "'failed Check 19' is the first, which 'pct run" in text
     yield "before a run is made", (status, said) == (1, "") and is_told and "The explanation was interrupted" in text
     for command, has, lacks in (("races", "B's step", "a data race on"), ("find", "a data race on", "by find"),
                                 ("certify", "it passes; the runs differ", "certified:")):

@@ -186,7 +186,8 @@ def text_of(result: Result) -> str:
     many = len(result.cases)
     what = "nothing failed" if not result.failures else "1 failure" if many == 1 else f"{many} failures"
     if result.failures and not many:
-        what = f"{len(result.failures)} verdicts, which aren't explained"
+        what = "1 verdict, which isn't explained" if len(result.failures) == 1 else \
+            f"{len(result.failures)} verdicts, which aren't explained"
     elif result.failures and all(case.heading.kind() == "cut" for case in result.cases):
         what = "no failure, but runs that were cut"
     elif not result.has_run():
@@ -205,10 +206,7 @@ def text_of(result: Result) -> str:
     if rest:
         runs = sum(it.count() for it in rest)
         made_by = shlex.join(["run", *rest[0].schedule.words(result.title)])
-        lines += ["", f"Of {len(rest)} more verdicts ({runs:,} runs) no run was made. '{rest[0].verdict}' is the "
-                      f"first, which 'pct {made_by}' makes."]
+        many_more = "1 more verdict" if len(rest) == 1 else f"{len(rest)} more verdicts"
+        lines += ["", f"Of {many_more}, in {runs:,} runs, no run was made here. '{rest[0].verdict}' is the first, which "
+                  f"'pct {made_by}' makes."]
     return "\n".join(lines) + "\n"
-
-
-def command(*words: str) -> str:
-    return shlex.join(words)
