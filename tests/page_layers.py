@@ -27,7 +27,8 @@ def layers(room):
     told = browser.text("#told")
     yield "a pool in Rust: what went wrong", browser.text("#sentence") == \
         "Worker1 waits for a signal on changed: nobody is left who could give it" and all(part in told for part in (
-            "main's broadcast of changed at step 25 (line 62: self.shared.changed.notify_all();) woke nobody: nobody waited",
+            "main's broadcast of changed at step 25 (line 62: self.shared.changed.notify_all();) woke nobody: nobody "
+            "waited",
             "Worker1 read is_closed = 0 at step 23 (line 24: None if shared.is_closed.load(SeqCst) => return,)",
             "after Worker1's step 23, main changed is_closed at step 24"))
     command = browser.text("#again code")

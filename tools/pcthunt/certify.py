@@ -52,8 +52,8 @@ def moments_in(events: list[Event]) -> list[Moment]:
 
 
 def candidates(script: Script, found: Directive, events: list[Event]) -> Iterator[tuple[str, list[Moment]]]:
-    """No moment, then those of find, then each single one, then pairs of these, and then all of them at once, where they
-    are few; each for each lowest thread, that of find first."""
+    """No moment, then those of find, then each single one, then pairs of these, and then all of them at once, where
+    they are few; each for each lowest thread, that of find first."""
     lowest = [found.low, *(name for name in script.threads if name != found.low)]
     single = moments_in(events)
     given = [(thread, number) for thread, number in found.events]

@@ -258,7 +258,8 @@ def sentences_of(script: Script, run: Json, events: list[Event], races: list[Jso
 
 
 def sentences_of_deal(script: Script, run: Json, events: list[Event], races: list[Json]) -> list[str]:
-    """What is told of a run whose threads' code isn't a script's; the script has the deal's threads and objects alone."""
+    """What is told of a run whose threads' code isn't a script's; the script has the deal's threads and objects
+    alone."""
     return told_by(Story(script, run, events, watched_events(events)), races)
 
 

@@ -207,6 +207,7 @@ def text_of(result: Result) -> str:
         runs = sum(it.count() for it in rest)
         made_by = shlex.join(["run", *rest[0].schedule.words(result.title)])
         many_more = "1 more verdict" if len(rest) == 1 else f"{len(rest)} more verdicts"
-        lines += ["", f"Of {many_more}, in {runs:,} runs, no run was made here. '{rest[0].verdict}' is the first, which "
+        lines += ["", f"Of {many_more}, in {runs:,} runs, no run was made here. '{rest[0].verdict}' is the first, "
+                      "which "
                   f"'pct {made_by}' makes."]
     return "\n".join(lines) + "\n"
