@@ -13,7 +13,7 @@ from hunt_calls import HUNT, PCT, TOP, at, environment, hunt, keep, read
 
 SCRIPT = "examples/lost_update.pct"
 FEW = ["--seeds", "50", "--depth", "1", "--quiet"]
-MOST_SECONDS = 120  # that a call may take on a busy machine
+MOST_SECONDS = 500  # that a call may take on a busy machine
 
 
 def says(done, status, part):
@@ -112,7 +112,7 @@ def interrupted_at(room, command, *more, first="0"):
     output and what is said."""
     mark = os.path.join(room, f"at-{command}-{first}{''.join(more)}")
     given = environment(PCT=at("tests", "hunt", "stand_in"), DELAYED=command, DELAYED_AT=mark, DELAYED_FROM=first)
-    with subprocess.Popen([*HUNT, SCRIPT, "--seeds", "900", "--depth", "2", "--quiet", *more], stdout=subprocess.PIPE,
+    with subprocess.Popen([*HUNT, SCRIPT, "--seeds", "300", "--depth", "2", "--quiet", *more], stdout=subprocess.PIPE,
                           stderr=subprocess.PIPE, text=True, cwd=TOP, env=given) as call:
         end = time.monotonic() + MOST_SECONDS
         while not os.path.exists(mark) and call.poll() is None and time.monotonic() < end:
@@ -127,8 +127,8 @@ def interruptions(room):
     status, text, said = interrupted_at(room, "campaign")
     yield "before a seed is run", (status, said) == (130,
                                                      "") and "no run came to its end" in text and "goes on by" in text
-    status, text, said = interrupted_at(room, "campaign", first="800")
-    is_told = "The search was ended: interrupted" in text and " of 900 seeds from 1 on" in text
+    status, text, said = interrupted_at(room, "campaign", first="230")
+    is_told = "The search was ended: interrupted" in text and " of 300 seeds from 1 on" in text
     yield "in the search", (status, said) == (1, "") and is_told and "1. Check's assertion in line 19 fails" in text
     status, text, said = interrupted_at(room, "run")
     is_told = "1 verdict, which isn't explained" in text and "'failed Check 19' is the first, which 'pct run" in text
@@ -148,7 +148,7 @@ def slow_scripts(room):
     given = {"PCT": at("tests", "hunt", "stand_in"), "DELAYED": "campaign", "DELAYED_AT": os.path.join(room, "slow")}
     begun = time.monotonic()
     status, text, said = hunt(SCRIPT, "--time", "12", env=given)
-    yield "it ends in time", time.monotonic() - begun < 12 + MOST_SECONDS / 2
+    yield "it ends in time", time.monotonic() - begun < 12 + 60
     yield "a line every ten seconds", "hunt: round 0, depth 1: 0 of 200 seeds" in said and "Traceback" not in said
     yield "what it has", status == 130 and "no run came to its end" in text and "12 seconds were over" in text
     folder = os.path.join(room, "slow scripts")
