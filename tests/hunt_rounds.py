@@ -86,7 +86,7 @@ def processors(room):
 def on_a_terminal():
     """The line of progress on a terminal: it is written over, and nothing of it stays."""
     ours, theirs = pty.openpty()
-    words = [*HUNT, "examples/stale_read_mended.pct", "--seeds", "200000", "--depth", "2", "--time", "6"]
+    words = [*HUNT, "examples/stale_read_mended.pct", "--seeds", "20000", "--depth", "2"]
     given = environment(PCT=at("tests", "hunt", "stand_in"))
     with subprocess.Popen(words, stdout=subprocess.DEVNULL, stderr=theirs, cwd=TOP, env=given) as call:
         os.close(theirs)
@@ -102,6 +102,6 @@ def on_a_terminal():
     os.close(ours)
     lines = said.decode().split("\r\x1b[K")
     shown = [line for line in lines if line.startswith("round 1, depth 2: ")]
-    parts = (" of 200,000 seeds, ", " a second, 0 fail, ", " s left")
+    parts = (" of 20,000 seeds, ", " a second, 0 fail, ", " s left")
     yield "progress on a terminal", call.returncode == 0 and any(all(part in line for part in parts) for line in shown)
     yield "nothing of it stays", lines[-1] == "" and "\n" not in said.decode()
