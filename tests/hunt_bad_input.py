@@ -107,17 +107,23 @@ def disks(room):
 # At bad times.
 
 
-def interrupted_at(room, command, *more, first="0"):
+def heed_interruptions():
+    """In the background of a shell they are ignored, and so by all that is started there."""
+    signal.signal(signal.SIGINT, signal.SIG_DFL)
+
+
+def interrupted_at(room, command, *more, first="0", by=signal.SIGINT):
     """A hunt that is interrupted while pct's command goes on, of campaigns one from that seed on: the status, the
     output and what is said."""
-    mark = os.path.join(room, f"at-{command}-{first}{''.join(more)}")
+    mark = os.path.join(room, f"at-{command}-{first}-{by}{''.join(more)}")
     given = environment(PCT=at("tests", "hunt", "stand_in"), DELAYED=command, DELAYED_AT=mark, DELAYED_FROM=first)
     with subprocess.Popen([*HUNT, SCRIPT, "--seeds", "300", "--depth", "2", "--quiet", *more], stdout=subprocess.PIPE,
-                          stderr=subprocess.PIPE, text=True, cwd=TOP, env=given) as call:
+                          stderr=subprocess.PIPE, text=True, cwd=TOP, env=given,
+                          preexec_fn=heed_interruptions) as call:
         end = time.monotonic() + MOST_SECONDS
         while not os.path.exists(mark) and call.poll() is None and time.monotonic() < end:
             time.sleep(0.05)
-        call.send_signal(signal.SIGINT)
+        call.send_signal(by)
         out, said = call.communicate(timeout=MOST_SECONDS)
     return call.returncode, out, said
 
@@ -125,11 +131,13 @@ def interrupted_at(room, command, *more, first="0"):
 def interruptions(room):
     """A hunt that is interrupted tells what it has, wherever it is."""
     status, text, said = interrupted_at(room, "campaign")
-    yield "before a seed is run", (status, said) == (130,
-                                                     "") and "no run came to its end" in text and "goes on by" in text
+    is_told = "no run came to its end" in text and "goes on by" in text
+    yield "before a seed is run", (status, said) == (130, "") and is_told
     status, text, said = interrupted_at(room, "campaign", first="230")
     is_told = "The search was ended: interrupted" in text and " of 300 seeds from 1 on" in text
     yield "in the search", (status, said) == (1, "") and is_told and "1. Check's assertion in line 19 fails" in text
+    status, text, said = interrupted_at(room, "races", by=signal.SIGTERM)
+    yield "asked to end", (status, said) == (1, "") and "The explanation was interrupted" in text
     status, text, said = interrupted_at(room, "run")
     is_told = "1 verdict, which isn't explained" in text and "'failed Check 19' is the first, which 'pct run" in text
     yield "before a run is made", (status, said) == (1, "") and is_told and "The explanation was interrupted" in text

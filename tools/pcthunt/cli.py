@@ -221,6 +221,11 @@ def is_at_github() -> bool:
     return os.environ.get("GITHUB_ACTIONS") == "true"
 
 
+def interrupt(*_: object) -> None:
+    """A request to end, as an interruption: also where those are ignored, as in the background of a shell."""
+    raise KeyboardInterrupt
+
+
 def main() -> int:
     words = sys.argv[1:]
     sys.setrecursionlimit(10000)
@@ -233,7 +238,7 @@ def main() -> int:
         return DONE
     given = parser().parse_args(words)
     settings = settings_of(given, words)
-    signal.signal(signal.SIGTERM, lambda *_: signal.raise_signal(signal.SIGINT))
+    signal.signal(signal.SIGTERM, interrupt)
     try:
         room = tempfile.mkdtemp(prefix="pct-hunt-")
     except OSError as error:
