@@ -1,7 +1,7 @@
 #!/usr/bin/env python3
-"""Prints the words, the order and the points of some seeds by the block function of tools/pctmodel/chacha.py, which stands
-apart from the crates. The words, orders and points that the tests of `priority_draw` compare with are typed from what it
-prints. It checks the function first, by RFC 8439's block of 20 rounds."""
+"""Prints the words, the order and the points of some seeds by the block function of tools/pctmodel/chacha.py, which
+stands apart from the crates. The words, orders and points that the tests of `priority_draw` compare with are typed from
+what it prints. It checks the function first, by RFC 8439's block of 20 rounds."""
 
 import itertools
 import os

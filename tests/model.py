@@ -14,7 +14,8 @@ sys.path.insert(0, os.path.join(os.path.dirname(os.path.dirname(os.path.realpath
 sys.setrecursionlimit(10000)  # an expression has parts within parts
 sys.set_int_max_str_digits(0)
 
-from pctmodel.campaign import Frame, big_script, drawn, groups_of, json_line, rows_of, steps_in_declared_order, text_lines
+from pctmodel.campaign import (
+    Frame, big_script, drawn, groups_of, json_line, rows_of, steps_in_declared_order, text_lines)
 from pctmodel.directive import Directive, certify, directed_run, directive_lines, points_of, read_directive
 from pctmodel.find import moments_of, reduced
 from pctmodel.locks import Nesting, is_good, lock_order, nestings_of
@@ -189,7 +190,8 @@ def find_command(settings):
 
 
 COMMANDS = {
-    "run": run_command, "replay": replay_command, "campaign": campaign_command, "big": big_command, "races": races_command,
+    "run": run_command, "replay": replay_command, "campaign": campaign_command, "big": big_command,
+            "races": races_command,
     "locks": locks_command, "find": find_command, "expose": expose_command, "certify": certify_command,
     "sweep": sweep_command,
 }
@@ -222,7 +224,8 @@ def text_of_case(name):
 
 
 def own_answer(words):
-    """The lines of the program's own options; none for other words. Its help and its explanations are the cases' texts."""
+    """The lines of the program's own options; none for other words. Its help and its explanations are the cases'
+    texts."""
     if words == ["--version"]:
         return ["pct 0.1.0"]
     if words == ["--help"]:

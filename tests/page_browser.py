@@ -38,13 +38,17 @@ const ends = (arrow, row) => {
 const part = (name) => [...document.querySelectorAll(`#details [data-part=${name}]`)].map((it) => it.textContent);
 const row = document.querySelector('#steps [aria-selected="true"]');
 const line = document.querySelector('#source [aria-current="step"]');
+const isWithin = (element, id) => {
+  const own = element.getBoundingClientRect(), around = document.getElementById(id).getBoundingClientRect();
+  return own.top >= around.top - 1 && own.bottom <= around.bottom + 1;
+};
 const box = document.getElementById("lanes").getBoundingClientRect(), place = row.getBoundingClientRect();
 return { ...found, enabled: part("enabled")[0] ?? "", why: part("why")[0] ?? "", marks: part("mark"),
   where: document.querySelector("#where b").textContent, slider: document.getElementById("slider").value,
   value: document.getElementById("slider").getAttribute("aria-valuetext"),
   line: line ? Number(line.dataset.line) : 0, row: row.dataset.step, label: row.getAttribute("aria-label"),
   active: document.getElementById("steps").getAttribute("aria-activedescendant"), id: row.id,
-  isSeen: place.top >= box.top - 1 && place.bottom <= box.bottom + 1,
+  isSeen: place.top >= box.top - 1 && place.bottom <= box.bottom + 1, isLineSeen: !line || isWithin(line, "source"),
   arrows: [...row.querySelectorAll(".arrow")].map((it) => [it.dataset.to, it.classList.contains("wakes")]),
   ends: [...row.querySelectorAll(".arrow")].map((it) => ends(it, row)),
   lanes: [...row.querySelectorAll(".lane")].map((it) => it.classList[1]),
@@ -53,15 +57,16 @@ return { ...found, enabled: part("enabled")[0] ?? "", why: part("why")[0] ?? "",
 STORY = """
 return [...document.querySelectorAll("#story .blocks > li")].map((item) => ({
   range: item.querySelector("summary .range").textContent, says: item.querySelector(".says").textContent,
-  isOpen: item.querySelector("details").open, steps: item.querySelectorAll(".steps > li > button[data-step]").length }));
+  isOpen: item.querySelector("details").open,
+  steps: item.querySelectorAll(".steps > li > button[data-step]").length }));
 """
 # Of each text that is seen its contrast with what lies under it, and whether it is large.
 CONTRAST = """
 const canvas = document.createElement("canvas").getContext("2d", { willReadFrequently: true });
 const rgba = (colour) => { canvas.clearRect(0, 0, 1, 1); canvas.fillStyle = colour; canvas.fillRect(0, 0, 1, 1);
                            return [...canvas.getImageData(0, 0, 1, 1).data].map((it) => it / 255); };
-const light = (colour) => { const [r, g, b] = colour.map((it) => it <= 0.03928 ? it / 12.92 : ((it + 0.055) / 1.055) ** 2.4);
-                            return 0.2126 * r + 0.7152 * g + 0.0722 * b; };
+const linear = (part) => (part <= 0.03928 ? part / 12.92 : ((part + 0.055) / 1.055) ** 2.4);
+const light = (colour) => { const [r, g, b] = colour.map(linear); return 0.2126 * r + 0.7152 * g + 0.0722 * b; };
 const over = (top, under) => [0, 1, 2].map((it) => top[it] * top[3] + under[it] * (1 - top[3]));
 function under(element) {
   const above = [];
@@ -102,20 +107,25 @@ for (const it of all("[aria-labelledby], [aria-activedescendant]")) {
 }
 for (const it of all("ul, ol")) if ([...it.children].some((child) => child.tagName !== "LI")) say("list", it);
 for (const it of all("details")) if (it.firstElementChild?.tagName !== "SUMMARY") say("summary-name", it);
-for (const it of all("[role=listbox]")) if ([...it.children].some((child) => child.getAttribute("role") !== "option")) say("aria-required-children", it);
-for (const it of all("[role=option] button, [role=option] a, [role=option] [tabindex], button button, a button, summary button")) say("nested-interactive", it);
+for (const it of all("[role=listbox]"))
+  if ([...it.children].some((child) => child.getAttribute("role") !== "option")) say("aria-required-children", it);
+const nested = ":is([role=option], button, a, summary) :is(button, a, [tabindex])";
+for (const it of all(nested)) say("nested-interactive", it);
 for (const it of all("table")) if (!it.caption?.textContent.trim()) say("table-caption", it);
 for (const it of all("th")) if (!it.scope) say("scope-attr-valid", it);
 for (const it of all("[tabindex]")) if (Number(it.tabIndex) > 0) say("tabindex", it);
 for (const it of all("[aria-hidden=true] :is(a, button, input, [tabindex])")) say("aria-hidden-focus", it);
 for (const it of all("body *").filter((it) => it.checkVisibility())) {
-  const scrolls = ["auto", "scroll"].some((word) => getComputedStyle(it).overflowY === word || getComputedStyle(it).overflowX === word);
+  const style = getComputedStyle(it);
+  const scrolls = ["auto", "scroll"].some((word) => [style.overflowX, style.overflowY].includes(word));
   const isFull = it.scrollHeight > it.clientHeight + 1 || it.scrollWidth > it.clientWidth + 1;
-  if (scrolls && isFull && it.tabIndex < 0 && !it.querySelector("[tabindex='0'], button, a[href]")) say("scrollable-region-focusable", it);
+  const isReached = it.tabIndex >= 0 || it.querySelector("[tabindex='0'], button, a[href]");
+  if (scrolls && isFull && !isReached) say("scrollable-region-focusable", it);
 }
 for (const it of all("main > *, header > *")) if (it.closest("main, header, nav") === null) say("region", it);
 if (/user-scalable|maximum-scale/.test(document.querySelector("meta[name=viewport]").content)) say("meta-viewport");
-for (const it of all("button, input, a, summary").filter((it) => it.checkVisibility() && !it.classList.contains("skip"))) {
+for (const it of all("button, input, a, summary")) {
+  if (!it.checkVisibility() || it.classList.contains("skip")) continue;
   const box = it.getBoundingClientRect();
   if (it.tagName !== "A" && it.type !== "checkbox" && (box.width < 24 || box.height < 24)) say("target-size", it);
 }
@@ -136,7 +146,8 @@ class Browser:
     def __init__(self):
         options = Options()
         options.binary_location = shutil.which("chromium")
-        words = ["--headless=new", "--disable-gpu", "--window-size=1400,1000", "--disable-dev-shm-usage", "--disable-lcd-text"]
+        words = ["--headless=new", "--disable-gpu", "--window-size=1400,1000", "--disable-dev-shm-usage",
+                 "--disable-lcd-text"]
         for word in [*words, *(["--no-sandbox"] if os.geteuid() == 0 else [])]:
             options.add_argument(word)
         options.set_capability("goog:loggingPrefs", {"browser": "ALL", "performance": "ALL"})
@@ -202,7 +213,8 @@ class Browser:
         return self.run("return location.hash")
 
     def size(self, width, height):
-        self.command("Emulation.setDeviceMetricsOverride", width=width, height=height, deviceScaleFactor=1, mobile=width < 600)
+        self.command("Emulation.setDeviceMetricsOverride", width=width, height=height, deviceScaleFactor=1,
+                     mobile=width < 600)
 
     def scheme(self, word):
         self.command("Emulation.setEmulatedMedia", features=[{"name": "prefers-color-scheme", "value": word}])
@@ -218,7 +230,8 @@ class Browser:
         """What the browser tells a screen reader without a name, though its role has one."""
         nodes = self.command("Accessibility.getFullAXTree")["nodes"]
         return [node["role"]["value"] for node in nodes
-                if not node["ignored"] and node["role"]["value"] in NAMED_ROLES and not node.get("name", {}).get("value", "").strip()]
+                if not node["ignored"] and node["role"]["value"] in NAMED_ROLES
+                and not node.get("name", {}).get("value", "").strip()]
 
     def roles(self):
         nodes = self.command("Accessibility.getFullAXTree")["nodes"]

@@ -70,7 +70,8 @@ class Reckoning:
         names = {word: self.declared(word) for word in ("var", "mutex", "cond", "sem", "barrier", "rwlock")}
         self.sizes = names["barrier"]
         return Moment(names["var"], dict.fromkeys(names["mutex"]), names["sem"], {it: [] for it in names["cond"]},
-                      {it: [] for it in names["cond"]}, {it: [] for it in names["barrier"]}, dict.fromkeys(names["rwlock"]),
+                      {it: [] for it in names["cond"]}, {it: [] for it in names["barrier"]},
+                      dict.fromkeys(names["rwlock"]),
                       {it: Counter() for it in names["rwlock"]})
 
     @staticmethod
@@ -246,7 +247,8 @@ class Reckoning:
 
     def stretches(self):
         """The stretches of steps that one thread takes in a row, by their first and last steps."""
-        firsts = [step.number for step, before in zip(self.steps, [None, *self.steps]) if before is None or before.thread != step.thread]
+        firsts = [step.number for step, before in zip(self.steps, [None, *self.steps]) if before is None
+                  or before.thread != step.thread]
         return list(zip(firsts, [*(first - 1 for first in firsts[1:]), len(self.steps)]))
 
 

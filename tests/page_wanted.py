@@ -23,7 +23,8 @@ def objects_of(moment):
         "mutex": {name: f"held by {owner}" if owner else "free" for name, owner in moment.owners.items()},
         "sem": {name: str(count) for name, count in moment.counts.items()},
         "cond": {name: waiters(waiting, moment.woken[name]) for name, waiting in moment.waiting.items()},
-        "barrier": {name: f"{joined(there)} wait" if there else "nobody is there" for name, there in moment.arrived.items()},
+        "barrier": {name: f"{joined(there)} wait" if there else "nobody is there" for name,
+                    there in moment.arrived.items()},
         "rwlock": {name: f"{moment.writers[name]} writes" if moment.writers[name] else readers(it)
                    for name, it in moment.readers.items()},
     }
@@ -56,7 +57,7 @@ def wrong_state(told, run, number):
     place = f"Step {number} of {len(run.steps)}"
     if (told["where"], told["slider"], told["row"], told["active"]) != (place, str(number), str(number), told["id"]):
         wrong.append("place")
-    if not told["value"].startswith(place) or not told["isSeen"]:
+    if not told["value"].startswith(place) or not told["isSeen"] or not told["isLineSeen"]:
         wrong.append("row")
     own = run.steps[number - 1].thread if number else None
     lanes = ["takes" if name == own else stand and stand[0] for name, stand in before.stands.items()]
@@ -104,7 +105,8 @@ def takes_of(run):
 
 
 def wrong_story(story, run, races):
-    """What isn't so in the story: it has a sentence for each stretch, and those are open in which something is to be seen."""
+    """What isn't so in the story: it has a sentence for each stretch, and those are open in which something is to be
+    seen."""
     stretches = run.stretches()
     ranges = [f"{first}" if first == last else f"{first}\u2013{last}" for first, last in stretches]
     notable = {step for pair in races for step in pair}

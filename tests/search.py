@@ -3,9 +3,9 @@
 
     python3 tests/search.py FILE [MOST]
 
-For each depth d from 1 to MOST (2 where it isn't given) it runs every order of the threads with every list of d - 1 points
-in 1..k, where k is the most steps of a run without points. It prints how many of these runs fail, and the first of them
-for each verdict."""
+For each depth d from 1 to MOST (2 where it isn't given) it runs every order of the threads with every list of d - 1
+points in 1..k, where k is the most steps of a run without points. It prints how many of these runs fail, and the first
+of them for each verdict."""
 
 import itertools
 import os

@@ -49,13 +49,15 @@ class Commands(Layer):
         head, verdict = self.calls.pct_text_trace_head(byref(read)), Outcome()
         written = (Event * head.steps)()
         order, points = (c_uint32 * head.threads)(), (c_uint32 * head.points)()
-        want("pct_text_trace_order", self.calls.pct_text_trace_order(byref(read), order, head.threads, points, head.points), DONE)
+        want("pct_text_trace_order", self.calls.pct_text_trace_order(byref(read), order, head.threads, points,
+                                                                     head.points), DONE)
         want("pct_text_trace_steps", self.calls.pct_text_trace_steps(byref(read), 0, written, head.steps), DONE)
         want("pct_text_trace_verdict", self.calls.pct_text_trace_verdict(byref(read), byref(verdict)), DONE)
         again = self.trace(head.version, list(order), list(points), head.limit, list(written), verdict)
         want("a trace read and written", again.encode(), data)
         self.calls.pct_text_trace_free(byref(read))
-        return self.compared(again.splitlines()[4:], head, list(order), list(points), [step.thread for step in written]), ""
+        return self.compared(again.splitlines()[4:], head, list(order), list(points),
+                             [step.thread for step in written]), ""
 
     def compared(self, written: list[str], head: Any, order: list[int], points: list[int], threads: list[int]) -> str:
         """What a replay says: the lines of a trace beside those of the run that its threads make."""

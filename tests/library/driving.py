@@ -1,17 +1,20 @@
-"""A layer over the library, for a test of it: the bodies of the plain model post and take, and what comes of it is told in
-the words of the program."""
+"""A layer over the library, for a test of it: the bodies of the plain model post and take, and what comes of it is told
+in the words of the program."""
 
 import random
 from ctypes import byref, c_int64, c_uint8
 from typing import Any, Callable, Optional
 
-from bound import (CHOICE_OVER, CHOICE_TURN, CHOICE_WAITS, DONE, ENDED, NOT_YET, NO_ROOM, POSTED, Ask, Book, Deal, Event,
+from bound import (CHOICE_OVER, CHOICE_TURN, CHOICE_WAITS, DONE, ENDED, NOT_YET, NO_ROOM, POSTED, Ask, Book, Deal,
+                   Event,
                    Moment, Outcome, items, numbers, text)
 from pctmodel.run import Body
 from pctmodel.trace import ASKS, ASKS_OF_2
 
-KINDS = ["", "read", "write", "add", "cas", "lock", "trylock", "unlock", "release", "regain", "signal", "broadcast", "down",
-         "trydown", "up", "arrive", "leave", "join", "yield", "check 1", "check 0", "fault overflow", "fault zerodivisor",
+KINDS = ["", "read", "write", "add", "cas", "lock", "trylock", "unlock", "release", "regain", "signal", "broadcast",
+         "down",
+         "trydown", "up", "arrive", "leave", "join", "yield", "check 1", "check 0", "fault overflow",
+         "fault zerodivisor",
          "fault spin", "start", "begin", "rdlock", "wrlock", "tryrdlock", "trywrlock", "rwunlock"]
 FAULTS = ["", "TooLong", "BadHeader", "BadLine", "UnknownName", "OutOfOrder", "NoVerdict", "MoreAfterVerdict"]
 LIMIT = 10000
@@ -35,7 +38,8 @@ class Script:
         self.places = {kind: {name: place for place, name in enumerate(names)}
                        for kind, names in [*objects.items(), ("thread", parsed.threads)]}
         self.deal = Deal(len(self.threads), *(len(objects[kind]) for kind in ("mutex", "cond", "rwlock")))
-        self.lists = [part for kind in ("var", "sem", "barrier") for part in items(c_int64, list(objects[kind].values()))]
+        self.lists = [part for kind in ("var", "sem", "barrier")
+                      for part in items(c_int64, list(objects[kind].values()))]
         lines = [f"{kind} {name}\n" for kind, names in self.places.items() for name in names]
         self.names = text("".join(lines).encode())
         self.version = 2 if parsed.version == 3 else 1
@@ -74,8 +78,8 @@ class Layer:
         return self.make("moments", limit, *numbers(order), *items(Moment, [Moment(*each) for each in moments]))
 
     def run(self, book: Book, dice: random.Random) -> tuple[list[Event], Outcome]:
-        """Serves the bodies, in any of the ways in which a layer may, and answers the steps and the outcome. The book is
-        freed."""
+        """Serves the bodies, in any of the ways in which a layer may, and answers the steps and the outcome. The book
+        is freed."""
         serving = Serving(self, book, dice)
         while serving.choice != (CHOICE_OVER, 0):
             serving.move()

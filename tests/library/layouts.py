@@ -1,5 +1,6 @@
-"""Every constant, size and offset of include/pct.h: as C has them, as stock Rust has them of the crates' own structs and
-numbers, and as this Python's bindings have them, each compared with the others; and the numbers of the definitions."""
+"""Every constant, size and offset of include/pct.h: as C has them, as stock Rust has them of the crates' own structs
+and numbers, and as this Python's bindings have them, each compared with the others; and the numbers of the
+definitions."""
 
 import ctypes
 import glob
@@ -94,7 +95,8 @@ def by_c(header: Header, top: str, room: str) -> dict[str, int]:
     source, program = os.path.join(room, "layout.c"), os.path.join(room, "layout")
     with open(source, "w", encoding="utf-8") as file:
         file.write(source_of_c(header))
-    subprocess.run(["cc", "-std=c99", "-Wall", "-Wextra", "-Werror", f"-I{top}/include", "-o", program, source], check=True)
+    subprocess.run(["cc", "-std=c99", "-Wall", "-Wextra", "-Werror", f"-I{top}/include", "-o", program, source],
+                   check=True)
     return printed([program])
 
 

@@ -1,5 +1,5 @@
-"""Each bad argument of each call: the status is PCT_BAD, and nothing is changed, neither of the caller's memory nor of a
-book or a trace, by what they tell."""
+"""Each bad argument of each call: the status is PCT_BAD, and nothing is changed, neither of the caller's memory nor of
+a book or a trace, by what they tell."""
 
 import copy
 import ctypes
@@ -7,7 +7,8 @@ from ctypes import byref
 from typing import Any, Iterator
 
 import bound
-from bound import (BAD, DONE, FAILED, FAULT, MISUSE, NO_ROOM, STUCK, Ask, Book, Deal, Directive, Event, Frame, Moment, Nesting,
+from bound import (BAD, DONE, FAILED, FAULT, MISUSE, NO_ROOM, STUCK, Ask, Book, Deal, Directive, Event, Frame, Moment,
+                   Nesting,
                    Outcome, Race, Row, Trace)
 
 MOST = 2**32 - 1
@@ -61,7 +62,8 @@ def of_steps() -> Iterator[list[Event]]:
 
 
 def of_names() -> Iterator[bytes]:
-    lines = ["thread", "thread A B", "threads C", "thread A", "var x", "mutex A", "var 1x", "var x-y", f"var {'y' * 33}", "var read",
+    lines = ["thread", "thread A B", "threads C", "thread A", "var x", "mutex A", "var 1x", "var x-y",
+             f"var {'y' * 33}", "var read",
              "var r1", "var  y", "\n"]
     yield from (NAMES + f"{line}\n".encode() for line in lines)
     yield NAMES + b"".join(b"var x%d\n" % number for number in range(64))
@@ -71,7 +73,8 @@ def of_names() -> Iterator[bytes]:
 DEAL = {"deal": Deal(2, 1, 1, 1), "variables": [0], "semaphores": [0], "barriers": [2]}
 BAD_DEAL = [
     *(("deal", changed(DEAL["deal"], **{field: count}))
-      for field, counts in (("threads", (0, 65, MOST)), ("mutexes", (65,)), ("conditions", (65,)), ("rwlocks", (65, MOST)))
+      for field, counts in (("threads", (0, 65, MOST)), ("mutexes", (65,)), ("conditions", (65,)),
+                            ("rwlocks", (65, MOST)))
       for count in counts),
     *((name, [1] * 65) for name in ("variables", "semaphores", "barriers")),
     ("semaphores", [-1]), ("semaphores", [2**31]), ("barriers", [0]), ("barriers", [1001]), ("barriers", [-1])]
@@ -84,7 +87,8 @@ LONG = [Moment(0, 1)] * 8
 FOUND = Directive(1, 1, (Moment * 7)(Moment(0, 1)), FAILED_B)
 ROWS = [Row(1, 2, FAILED_B), Row(2, 2, Outcome(1))]
 REPORT = {"names": NAMES, "frame": Frame(2, 2, 2, 9), "rows": ROWS, "text": room(ctypes.c_uint8, 512)}
-BAD_REPORT = [*BAD_NAMES, ("rows", [ROWS[1]] * 100001), *(("rows", [ROWS[1], Row(1, 2, outcome)]) for outcome in of_outcomes())]
+BAD_REPORT = [*BAD_NAMES, ("rows", [ROWS[1]] * 100001),
+              *(("rows", [ROWS[1], Row(1, 2, outcome)]) for outcome in of_outcomes())]
 # Of these reports and lists no names are asked: any thread and any line will do.
 BAD_ROWS = [("rows", [ROWS[1]] * 100001)] + [
     ("rows", [ROWS[1], Row(1, 2, outcome)]) for outcome in of_outcomes()
@@ -94,8 +98,10 @@ NO_STEPS = [("steps", [STEPS[0], Event(1, 4, Ask(0))]), ("steps", [Event(0, 3, A
 # By call, what it takes well, and the arguments that are bad, by their names in the header.
 GIVEN: dict[str, tuple[dict[str, Any], list[tuple[str, Any]]]] = {
     "pct_draw": (
-        {"seed": 1, "threads": 2, "steps": 5, "depth": 3, "order": room(ctypes.c_uint32, 2), "points": room(ctypes.c_uint32, 2)},
-        [("threads", 0), ("threads", 1), ("threads", 3), ("threads", 65), ("steps", 0), ("steps", 100001), ("depth", 0), ("depth", 2),
+        {"seed": 1, "threads": 2, "steps": 5, "depth": 3, "order": room(ctypes.c_uint32, 2),
+         "points": room(ctypes.c_uint32, 2)},
+        [("threads", 0), ("threads", 1), ("threads", 3), ("threads", 65), ("steps", 0), ("steps", 100001), ("depth", 0),
+         ("depth", 2),
          ("depth", 4), ("depth", 9), ("orders", 1), ("count", 1)]),
     "pct_book_by_points": ({**DEAL, "order": [1, 0], "points": [1], "limit": 9},
                            [*BAD_DEAL, *BAD_ORDER, *BAD_LIMIT, ("points", [1] * 8)]),
@@ -106,22 +112,26 @@ GIVEN: dict[str, tuple[dict[str, Any], list[tuple[str, Any]]]] = {
     "pct_text_trace": (
         {"names": NAMES, "version": 2, "limit": 9, "order": [0, 1], "points": [1], "steps": STEPS, "verdict": FAILED_B,
          "text": room(ctypes.c_uint8, 512)},
-        [*BAD_NAMES, ("version", 0), ("version", 3), ("limit", 1), *BAD_LIMIT, *BAD_ORDER, ("points", [1] * 8), ("points", [0]),
+        [*BAD_NAMES, ("version", 0), ("version", 3), ("limit", 1), *BAD_LIMIT, *BAD_ORDER, ("points", [1] * 8),
+         ("points", [0]),
          ("points", [100001]), *BAD_STEPS, *BAD_VERDICTS,
          *(("steps", [changed(STEPS[0], line=line), STEPS[1]]) for line in (0, 4097, MOST))]),
-    "pct_text_verdict": ({"names": NAMES, "verdict": FAILED_B, "text": room(ctypes.c_uint8, 64)}, [*BAD_NAMES, *BAD_VERDICTS]),
+    "pct_text_verdict": ({"names": NAMES, "verdict": FAILED_B, "text": room(ctypes.c_uint8, 64)},
+                         [*BAD_NAMES, *BAD_VERDICTS]),
     "pct_text_directive": (
         {"names": NAMES, "directive": FOUND, "text": room(ctypes.c_uint8, 256)},
         [*BAD_NAMES, *(("directive", changed(FOUND, verdict=outcome)) for outcome in of_outcomes()),
          *(("directive", changed(FOUND, **{field: number}))
            for field, number in (("low", 2), ("low", MOST), ("count", 8), ("count", MOST))),
-         *(("directive", changed(FOUND, moments=(Moment * 7)(Moment(*each)))) for each in ((2, 1), (0, 0), (0, 100001)))]),
+         *(("directive", changed(FOUND, moments=(Moment * 7)(Moment(*each))))
+           for each in ((2, 1), (0, 0), (0, 100001)))]),
     "pct_text_read_directive": ({"names": NAMES, "text": DIRECTIVE, "directive": room(Directive, 1)},
                                 [*BAD_NAMES, ("text", b""), ("text", DIRECTIVE[:-1]), ("text", b"x" + DIRECTIVE)]),
     "pct_text_read_trace": ({"names": NAMES, "text": TRACE},
                             [*BAD_NAMES, ("text", b""), ("text", TRACE[:-1]), ("text", b"x" + TRACE)]),
     "pct_text_trace_order": ({"order": room(ctypes.c_uint32, 2), "points": room(ctypes.c_uint32, 1)},
-                             [("order_count", 1), ("order_count", 0), ("point_count", 0), ("order", room(ctypes.c_uint32, 3)),
+                             [("order_count", 1), ("order_count", 0), ("point_count", 0),
+                              ("order", room(ctypes.c_uint32, 3)),
                               ("points", room(ctypes.c_uint32, 2))]),
     "pct_text_trace_steps": ({"from": 0, "steps": room(Event, 2)},
                              [("from", 1), ("from", 3), ("from", MOST), ("steps", room(Event, 3))]),
@@ -134,7 +144,8 @@ GIVEN: dict[str, tuple[dict[str, Any], list[tuple[str, Any]]]] = {
                          ("points", room(ctypes.c_uint32, 2)), *NO_STEPS]),
     "pct_tell_order_count": ({"threads": 3}, [("threads", 0), ("threads", 8), ("threads", MOST)]),
     "pct_tell_order": ({"threads": 3, "low": 2, "place": 1, "order": room(ctypes.c_uint32, 3)},
-                       [("threads", 0), ("threads", 2), ("threads", 8), ("low", 3), ("low", MOST), ("place", 2), ("place", MOST),
+                       [("threads", 0), ("threads", 2), ("threads", 8), ("low", 3), ("low", MOST), ("place", 2),
+                        ("place", MOST),
                         ("order_count", 2)]),
     "pct_tell_bound": ({"threads": 3, "steps": 8, "points": 2},
                        [("threads", 0), ("threads", 8), ("steps", 0), ("steps", 100001), ("points", 8)]),
@@ -181,9 +192,11 @@ def told_by_book(calls: Any, book: Book) -> bytes:
     """All that a book tells."""
     length, outcome = calls.pct_book_length(byref(book)), Outcome()
     steps = (Event * length.count)()
-    status = calls.pct_book_steps(byref(book), 0, steps, length.count), calls.pct_book_outcome(byref(book), byref(outcome))
+    status = calls.pct_book_steps(byref(book), 0, steps, length.count), calls.pct_book_outcome(byref(book),
+                                                                                               byref(outcome))
     turn = calls.pct_book_next(byref(book))
-    return bytes(length) + bytes(steps) + bytes(outcome) + repr((status, turn.status, turn.choice, turn.thread)).encode()
+    return bytes(length) + bytes(steps) + bytes(outcome) + repr((status, turn.status, turn.choice,
+                                                                 turn.thread)).encode()
 
 
 def a_book(calls: Any) -> Book:
@@ -200,7 +213,8 @@ def of_turns(calls: Any) -> Iterator[tuple[str, bool]]:
     """Posts, takes, steps and readings that a book refuses."""
     book = a_book(calls)
     before = told_by_book(calls, book)
-    asks = [Ask(31), Ask(MOST), Ask(8, 0, 1), Ask(9, 0, MOST), Ask(17, 3), Ask(24, 3), *(Ask(kind, 1) for kind in OBJECT_ASKS)]
+    asks = [Ask(31), Ask(MOST), Ask(8, 0, 1), Ask(9, 0, MOST), Ask(17, 3), Ask(24, 3),
+            *(Ask(kind, 1) for kind in OBJECT_ASKS)]
     posts = [(thread, Ask(18)) for thread in (1, 2, 3, 64, MOST)] + [(0, ask) for ask in asks]
     for name in ("pct_book_post", "pct_book_step"):
         for thread, ask in posts:
@@ -209,7 +223,8 @@ def of_turns(calls: Any) -> Iterator[tuple[str, bool]]:
             yield what, (turn.status, turn.answer) == (BAD, 0) and told_by_book(calls, book) == before
     for thread in (0, 2, 3, 64, MOST):
         turn = calls.pct_book_take(byref(book), thread)
-        yield f"pct_book_take of thread {thread}: {turn.status}", (turn.status, told_by_book(calls, book)) == (BAD, before)
+        yield f"pct_book_take of thread {thread}: {turn.status}", (turn.status, told_by_book(calls, book)) == (BAD,
+                                                                                                               before)
     for begin, count in ((0, 2), (1, 1), (2, 0), (MOST, 0), (MOST, 2)):
         steps = room(Event, 2)
         status = calls.pct_book_steps(byref(book), begin, steps, count)

@@ -39,7 +39,8 @@ class Beside:
         done = subprocess.run([self.program, *words], cwd=self.room, stdin=subprocess.DEVNULL, capture_output=True,
                               text=True, timeout=60, check=False)
         told = (done.stdout.encode(), done.stderr.encode())
-        self.ends[f"{words[0]}: {self.compare.end_of(words[0], *told) if any(told) else f'nothing, {done.returncode}'}"] += 1
+        end = self.compare.end_of(words[0], *told) if any(told) else f"nothing, {done.returncode}"
+        self.ends[f"{words[0]}: {end}"] += 1
         return done.stdout, done.stderr
 
     def same(self, number: int, words: list[str], made: Any) -> tuple[str, bool]:
@@ -77,7 +78,8 @@ class Beside:
             yield self.same(number, [command, "d.pct", *options], getattr(dense, f"of_{command}"))
         yield from self.of_directives(number, drawn, options, dice)
 
-    def of_directives(self, number: int, drawn: Any, options: list[str], dice: random.Random) -> Iterator[tuple[str, bool]]:
+    def of_directives(self, number: int, drawn: Any, options: list[str],
+                      dice: random.Random) -> Iterator[tuple[str, bool]]:
         for kind in ("directive", "find"):
             text = self.compare.as_text(drawn.dense_lines(kind))
             parsed = parse(text)

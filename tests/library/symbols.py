@@ -24,7 +24,8 @@ def told(*words: str) -> str:
 
 def defined(file: str, *options: str) -> set[str]:
     """The global names that a file defines."""
-    return {line.split()[2] for line in told("nm", "-g", "--defined-only", *options, file).splitlines() if len(line.split()) == 3}
+    return {line.split()[2] for line in told("nm", "-g", "--defined-only", *options, file).splitlines()
+            if len(line.split()) == 3}
 
 
 def wanted(file: str) -> set[str]:

@@ -9,7 +9,7 @@ from dataclasses import dataclass
 
 from pcthunt.output import keep
 from pcthunt.program import Program
-from pctmodel.directive import Directive, MOST_THREADS, directed_run, directive_lines, orders_of
+from pctmodel.directive import Directive, MOST_EVENTS, MOST_THREADS, directed_run, directive_lines, orders_of
 from pctmodel.run import Event
 from pctmodel.script import Script
 
@@ -52,14 +52,15 @@ def moments_in(events: list[Event]) -> list[Moment]:
 
 
 def candidates(script: Script, found: Directive, events: list[Event]) -> Iterator[tuple[str, list[Moment]]]:
-    """No moment, then those of find, then each single one, then pairs of these; each for each lowest thread, that of find
-    first."""
+    """No moment, then those of find, then each single one, then pairs of these, and then all of them at once, where
+    they are few; each for each lowest thread, that of find first."""
     lowest = [found.low, *(name for name in script.threads if name != found.low)]
     single = moments_in(events)
     given = [(thread, number) for thread, number in found.events]
     phases: list[Iterator[list[Moment]]] = [
         iter([[]]), iter([given]), ([moment] for moment in single),
         ([one, other] for one, other in itertools.permutations(single, 2)),
+        iter([single] if len(single) <= MOST_EVENTS else []),
     ]
     tried: set[tuple[Moment, ...]] = set()
     for moments in itertools.chain(*phases):

@@ -10,12 +10,13 @@ import sys
 import tempfile
 import time
 from collections.abc import Callable
+from typing import NoReturn
 
 from pcthunt.document import put as document_text
 from pcthunt.expected import check_expectation, expectation, is_as_expected
 from pcthunt.hunting import Hunt
-from pcthunt.machine_forms import Outcome, annotations, junit, line_of
-from pcthunt.output import BAD_SCRIPT, DONE, FOUND, USAGE, WRITE_FAULT, Refused, keep, put, read, say, shown
+from pcthunt.machine_forms import Outcome, annotation_lines, junit, line_of
+from pcthunt.output import BAD_SCRIPT, DONE, FOUND, USAGE, WRITE_FAULT, Refused, keep, put, read, shown
 from pcthunt.page import page_words, write_page
 from pcthunt.program import Program
 from pcthunt.refusals import script_refusal
@@ -30,15 +31,16 @@ MOST_SCRIPT = 1048577  # bytes, and one more than a script may have
 
 HELP = """Looks for the orders of steps in which a script goes wrong, and tells what happens in each, by pct alone.
 
-A hunt goes in rounds: 200 seeds at depth 1, and then a campaign at each of the depths 2, 3 and 4. Failures that are one
-bug come under one heading, each with its shortest run, where its values came from, its data races, what it needs, and a
-directive that certifies it. SCRIPT may be a folder: then each of its scripts has to come to what its line '# hunt: passes',
-'# hunt: fails' or '# hunt: VERDICT' says, or NAME.expect beside it; to pass where there is none."""
-STATUS = """The status is 0 where nothing failed (of a folder: where each script came to what it should), 1 where something
-did, 2 for words that aren't taken, 3 for a script that is refused, 6 and 7 for files and output that can't be read or
-written, 8 where there is no memory, and 130 where it was interrupted before anything failed. 'pct-hunt --why run FILE ..'
-says why pct refuses these words or files, and what it wants in their place. 'pct-hunt --page DOCUMENT.json [--html FILE]'
-writes the page of a document that it or a layer for real threads wrote."""
+A hunt goes in rounds: 200 seeds at depth 1, and then a campaign at each of the depths 2, 3 and 4. Failures that are
+one bug come under one heading, each with its shortest run, where its values came from, its data races, what it needs,
+and a directive that certifies it. SCRIPT may be a folder: then each of its scripts has to come to what its line
+'# hunt: passes', '# hunt: fails' or '# hunt: VERDICT' says, or NAME.expect beside it; to pass where there is none."""
+STATUS = """The status is 0 where nothing failed (of a folder: where each script came to what it should), 1 where
+something did, 2 for words that aren't taken, 3 for a script that is refused, 6 and 7 for files and output that can't be
+read or written, 8 where there is no memory, and 130 where it was interrupted before anything failed, or its time was
+over before a run came to its end. 'pct-hunt --why run FILE ..' says why pct refuses these words or files, and what it
+wants in their place. 'pct-hunt --page DOCUMENT.json [--html FILE]' writes the page of a document that it or a layer for
+real threads wrote."""
 
 
 def number(least: int, most: int) -> Callable[[str], int]:
@@ -59,13 +61,21 @@ def seconds(word: str) -> float:
     return value
 
 
+class WordParser(argparse.ArgumentParser):
+    """Says in one line which word isn't taken."""
+
+    def error(self, message: str) -> NoReturn:
+        raise Refused(USAGE, f"{shown(message)} ('pct-hunt --help' says which words there are)")
+
+
 def parser() -> argparse.ArgumentParser:
-    it = argparse.ArgumentParser("pct-hunt", description=HELP, epilog=STATUS, add_help=False, allow_abbrev=False,
-                                 formatter_class=argparse.RawDescriptionHelpFormatter)
+    it = WordParser("pct-hunt", description=HELP, epilog=STATUS, add_help=False, allow_abbrev=False,
+                    formatter_class=argparse.RawDescriptionHelpFormatter)
     it.add_argument("script", metavar="SCRIPT", help="a script, or a folder of scripts NAME.pct")
     search = it.add_argument_group("the search")
     search.add_argument("--depth", type=number(1, 8), default=4, metavar="DEPTH", help="the greatest depth (4)")
-    search.add_argument("--seeds", type=number(1, 10**9), default=10000, metavar="N", help="seeds of each round (10000)")
+    search.add_argument("--seeds", type=number(1, 10**9), default=10000, metavar="N",
+                        help="seeds of each round (10000)")
     search.add_argument("--from", type=number(0, 2**64 - 1), default=1, metavar="SEED", dest="first",
                         help="the first seed of each round (1)")
     search.add_argument("--limit", type=number(1, 100000), default=10000, metavar="STEPS",
@@ -76,7 +86,8 @@ def parser() -> argparse.ArgumentParser:
     search.add_argument("--certify", type=number(0, 10**6), default=2000, metavar="N",
                         help="how many directives are tried (2000); 0: none")
     where = it.add_argument_group("where it runs")
-    where.add_argument("--jobs", type=number(1, 1024), default=0, metavar="N", help="parts at once (one for each processor)")
+    where.add_argument("--jobs", type=number(1, 1024), default=0, metavar="N",
+                       help="parts at once (one for each processor)")
     where.add_argument("--sshlogin", metavar="LIST", help="hands the parts to GNU parallel, for these machines")
     said = it.add_argument_group("what it says")
     said.add_argument("--json", action="store_true", dest="is_json", help="one JSON document (docs/document.md)")
@@ -85,17 +96,6 @@ def parser() -> argparse.ArgumentParser:
     said.add_argument("--quiet", action="store_true", dest="is_quiet", help="no lines on how far it is")
     said.add_argument("--help", action="store_true", dest="is_help", help="writes this")
     return it
-
-
-def parsed(words: list[str]) -> argparse.Namespace:
-    """The words, or one line that says which isn't taken."""
-    it = parser()
-
-    def refuse(message: str) -> None:
-        raise Refused(USAGE, f"{shown(message)} ('pct-hunt --help' says which words there are)")
-
-    it.error = refuse  # type: ignore[assignment,method-assign]
-    return it.parse_args(words)
 
 
 def settings_of(given: argparse.Namespace, words: list[str]) -> Settings:
@@ -170,7 +170,8 @@ class Session:
 
 def one_script(session: Session, given: argparse.Namespace) -> int:
     result = session.hunt(given.script)
-    status = FOUND if result.has_failed() else INTERRUPTED if result.why_ended == "interrupted" else DONE
+    is_done = result.has_run() and result.why_ended != "interrupted"
+    status = FOUND if result.has_failed() else DONE if is_done else INTERRUPTED
     hunt = session.hunts[-1]
     document = hunt.document(status) if given.is_json or given.html else {}
     text = document_text(document) if given.is_json else text_of(result)
@@ -180,7 +181,7 @@ def one_script(session: Session, given: argparse.Namespace) -> int:
     write_forms(given, [outcome])
     if given.html:
         write_page(document, given.html)
-    put(text + (annotations([outcome]) if is_at_github() and not given.is_json else ""))
+    put(text + (annotation_lines([outcome]) if is_at_github() and not given.is_json else ""))
     return status
 
 
@@ -201,13 +202,13 @@ def folder(session: Session, given: argparse.Namespace) -> int:
         text += f"{'ok  ' if outcome.is_well else 'NOT '} {shown(outcome.path)}: {outcome.said}\n"
         if not outcome.is_well and outcome.result:
             text += "".join(f"     {line}".rstrip() + "\n" for line in text_of(outcome.result).splitlines())
-        if outcome.result and outcome.result.why_ended == "interrupted":
+        if outcome.result and outcome.result.is_interrupted():
             text += f"     interrupted; {len(names) - len(outcomes)} scripts were not looked at\n"
             break
     bad = sum(not it.is_well for it in outcomes)
     text += f"{len(outcomes) - bad} came to what they should, {bad} didn't\n"
     write_forms(given, outcomes)
-    put(text + (annotations(outcomes) if is_at_github() else ""))
+    put(text + (annotation_lines(outcomes) if is_at_github() else ""))
     return FOUND if bad else DONE if len(outcomes) == len(names) else INTERRUPTED
 
 
@@ -220,6 +221,11 @@ def is_at_github() -> bool:
     return os.environ.get("GITHUB_ACTIONS") == "true"
 
 
+def interrupt(*_: object) -> None:
+    """A request to end, as an interruption: also where those are ignored, as in the background of a shell."""
+    raise KeyboardInterrupt
+
+
 def main() -> int:
     words = sys.argv[1:]
     sys.setrecursionlimit(10000)
@@ -230,9 +236,9 @@ def main() -> int:
     if "--help" in words:
         put(parser().format_help())
         return DONE
-    given = parsed(words)
+    given = parser().parse_args(words)
     settings = settings_of(given, words)
-    signal.signal(signal.SIGTERM, lambda *_: signal.raise_signal(signal.SIGINT))
+    signal.signal(signal.SIGTERM, interrupt)
     try:
         room = tempfile.mkdtemp(prefix="pct-hunt-")
     except OSError as error:

@@ -14,6 +14,7 @@ sys.dont_write_bytecode = True
 if __name__ == "__main__":
     sys.path[0] = os.path.dirname(os.path.dirname(os.path.realpath(__file__)))
 
+from pcthunt.explain import sentences_of, sentences_of_deal
 from pcthunt.states import KINDS, FIRST_VALUES, Json, Listed, ask_words, changed, listed, why
 from pctmodel.directive import Directive
 from pctmodel.locks import Nesting, lock_order
@@ -49,17 +50,15 @@ def world_after(script: Script, events: list[Event]) -> World:
 
 def run_of(script: Script, trace: Trace, file: str, seed: Json | None = None) -> Json:
     """The first part of a run, from its trace."""
-    world = world_after(script, trace.events)
-    place = lambda name: {"thread": name, "file": file, "line": world.bodies[name].line}
-    is_over = lambda name: world.bodies[name].ask is None
+    bodies = world_after(script, trace.events).bodies
     failing = trace.verdict.split()[1:2] if trace.verdict.split()[0] in ("failed", "misuse", "fault") else []
     return {
         "seed": seed, "order": trace.order, "points": trace.points, "limit": trace.limit,
-        "steps": [{"thread": it.thread, "file": file, "line": it.line, "ask": ask_words(it.ask), "answer": str(it.answer)}
-                  for it in trace.events],
-        "asking": [{**place(name), "ask": ask_words(world.bodies[name].ask)}
-                   for name in script.threads if not is_over(name) and name not in failing],
-        "ended": [name for name in script.threads if is_over(name) and name not in failing],
+        "steps": [{"thread": it.thread, "file": file, "line": it.line, "ask": ask_words(it.ask),
+                   "answer": str(it.answer)} for it in trace.events],
+        "asking": [{"thread": name, "file": file, "line": body.line, "ask": ask_words(body.ask)}
+                   for name, body in bodies.items() if body.ask and name not in failing],
+        "ended": [name for name, body in bodies.items() if body.ask is None and name not in failing],
         "verdict": trace.verdict,
     }
 
@@ -81,12 +80,12 @@ class Texts:
     """The lines of the sources."""
 
     def __init__(self, sources: list[Json]) -> None:
-        self.lines = {it["file"]: it["text"].split("\n") for it in sources}
+        self.lines: dict[str, list[str]] = {it["file"]: it["text"].split("\n") for it in sources}
         self.is_script = {it["file"]: it["text"].lstrip().startswith(("script", "#")) for it in sources}
 
     def at(self, file: str, line: int) -> str:
         lines = self.lines.get(file, [])
-        text = lines[line - 1] if 0 < line <= len(lines) else ""
+        text: str = lines[line - 1] if 0 < line <= len(lines) else ""
         return code_of(text) if self.is_script.get(file) else text.strip()
 
 
@@ -175,9 +174,8 @@ def nestings_in(events: list[Event]) -> list[Nesting]:
 
 def locks_of(script: Script, events: list[Event]) -> Json:
     report = lock_order(script, nestings_in(events))
-    if report and isinstance(report[0], Nesting):
-        return {"cycle": [nest._asdict() for nest in report]}
-    return {"order": report}
+    cycle = [it._asdict() for it in report if isinstance(it, Nesting)]
+    return {"cycle": cycle} if cycle else {"order": report}
 
 
 def events_of(run: Json) -> list[Event]:
@@ -219,18 +217,20 @@ def stuck_sentence(core: list[Json]) -> str:
     return "; ".join(waits) + ": nobody is left who could give it"
 
 
-def complete(document: Json) -> Json:
-    """Puts into the document what is worked out of its first part."""
-    texts, script = Texts(document["sources"]), None
+def complete(document: Json, script: Script | None = None) -> Json:
+    """Puts into the document what is worked out of its first part, and of the script where it is one's."""
+    texts = Texts(document["sources"])
     for heading in document["headings"]:
         run = heading["run"]
-        world = complete_run(run, document["deal"], texts)
-        script, events = world.script, events_of(run)
+        dealt, events = complete_run(run, document["deal"], texts).script, events_of(run)
         heading["kind"] = run["verdict"].split()[0]
         heading["sentence"] = sentence_of(run)
         if len(events) <= MOST_STEPS_FOR_RACES:
-            heading["races"] = [race._asdict() for race in races_of(script, events)]
-        heading["locks"] = locks_of(script, events)
+            heading["races"] = [race._asdict() for race in races_of(dealt, events)]
+        heading["locks"] = locks_of(dealt, events)
+        races = heading.get("races", [])
+        heading["told"] = sentences_of(script, run, events, races) if script else \
+            sentences_of_deal(dealt, run, events, races)
         passing = heading.get("passing")
         if passing:
             complete_run(passing["run"], document["deal"], texts)

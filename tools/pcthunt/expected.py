@@ -28,14 +28,14 @@ def check_expectation(path: str, wanted: str, where: str, script: Script) -> Non
     words = wanted.split()
     is_verdict = bool(words) and words[0] != "passed" and threads_of_verdict(words, 2, script) is not None
     if wanted not in ("passes", "fails") and not is_verdict:
-        raise Refused(USAGE, f"{path}: {where}: '{wanted}' is none of passes, fails, or a verdict of its threads such as "
-                             f"'failed {next(iter(script.threads))} 9'")
+        raise Refused(USAGE, f"{path}: {where}: '{wanted}' is none of passes, fails, or a verdict of its threads such "
+                             f"as 'failed {next(iter(script.threads))} 9'")
 
 
 def is_as_expected(wanted: str, result: Result) -> bool:
     """A verdict that is wanted is one of the one heading that there is."""
     if wanted == "passes":
-        return not result.has_failed()
+        return result.has_run() and not result.has_failed()
     if wanted == "fails":
         return result.has_failed()
     verdicts = [failure.verdict for case in result.cases for failure in case.heading.failures]

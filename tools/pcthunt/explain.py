@@ -5,7 +5,7 @@ from __future__ import annotations
 from collections.abc import Iterator
 
 from pcthunt.states import Json, listed
-from pcthunt.watch import CHANGES, Watched, watched
+from pcthunt.watch import CHANGES, Watched, watched, watched_events
 from pctmodel.run import Event
 from pctmodel.script import Script, Statement
 
@@ -24,9 +24,8 @@ def statements_in(block: list[Statement]) -> Iterator[Statement]:
 class Story:
     """Sentences on a run, none of them twice."""
 
-    def __init__(self, script: Script, run: Json, events: list[Event]) -> None:
-        self.script, self.run, self.events = script, run, events
-        self.seen: Watched = watched(script, events)
+    def __init__(self, script: Script, run: Json, events: list[Event], seen: Watched) -> None:
+        self.script, self.run, self.events, self.seen = script, run, events, seen
         self.told: list[str] = []
         self.told_steps: set[int] = set()
         self.is_answer_told: set[int] = set()
@@ -47,7 +46,7 @@ class Story:
 
     def of_registers(self, number: int) -> None:
         """The registers that a step uses, with the line and the reads that gave each value."""
-        for name, (value, origin) in self.seen.registers[number].items():
+        for name, (value, origin) in self.seen.registers.get(number, {}).items():
             if origin is None:
                 self.tell(f"{name} is {value}, as at the start")
                 continue
@@ -71,7 +70,7 @@ class Story:
             self.of_staleness(step, used)
             writer = self.seen.written.get(step)
             if writer:
-                self.of_sources(sorted(self.seen.inputs[writer]), writer)
+                self.of_sources(sorted(self.seen.inputs.get(writer, ())), writer)
 
     def tell_answer(self, number: int) -> None:
         if number not in self.is_answer_told:
@@ -84,7 +83,8 @@ class Story:
         word, *names = event.ask
         if word == "read":
             return f"{event.thread} read {names[0]} = {event.answer} {self.at(number)}{self.writer(number)}"
-        return f"{event.thread}'s {' '.join(map(str, event.ask))} gave {event.answer} {self.at(number)}{self.writer(number)}"
+        asked = " ".join(map(str, event.ask))
+        return f"{event.thread}'s {asked} gave {event.answer} {self.at(number)}{self.writer(number)}"
 
     def writer(self, number: int) -> str:
         if number not in self.seen.written:
@@ -113,8 +113,8 @@ class Story:
         change = self.seen.change_after(step, used)
         if change:
             event, other = self.events[step - 1], self.events[change - 1]
-            self.tell(f"between {event.thread}'s step {step} and step {used} ({self.line(used)}), {other.thread} changed "
-                      f"{event.ask[1]} {self.at(change)}")
+            self.tell(f"between {event.thread}'s step {step} and step {used} ({self.line(used)}), {other.thread} "
+                      f"changed {event.ask[1]} {self.at(change)}")
 
     def of_reads(self, thread: str) -> None:
         """By what the thread came there: its last read of each variable, and whether that changed meanwhile."""
@@ -144,7 +144,8 @@ class Story:
             else:
                 met = [event.thread for event in self.events[:number] if event.ask == ("arrive", name)]
                 size = self.script.objects["barrier"][name]
-                self.tell(f"{thread} left {name} {self.at(number)}: it is for {size}, and {listed(met[-size:])} were at it")
+                self.tell(f"{thread} left {name} {self.at(number)}: it is for {size}, and {listed(met[-size:])} were "
+                          "at it")
 
     def of_raises(self, thread: str, sem: str, number: int) -> None:
         """Who raised the semaphore that the thread took."""
@@ -161,9 +162,12 @@ class Story:
             self.tell(f"{core['for']} has ended, and holds it still")
         if core["since"]:
             self.told_holds.add((core["for"], core["since"]))
-        teller = {"regain": self.of_signals, "down": self.of_semaphore, "leave": self.of_barrier}.get(ask[0])
-        if teller:
-            teller(thread, ask[1])
+        if ask[0] == "regain":
+            self.of_signals(thread, ask[1])
+        elif ask[0] == "down":
+            self.of_semaphore(ask[1])
+        elif ask[0] == "leave":
+            self.of_barrier(ask[1])
 
     def of_holds(self, thread: str) -> None:
         """What the thread holds and nobody was told to wait for."""
@@ -172,7 +176,7 @@ class Story:
                 self.tell(f"{thread} holds {held} since step {number} ({self.line(number)})")
 
     def asked(self, thread: str) -> str:
-        return next(it["ask"] for it in self.run["asking"] if it["thread"] == thread)
+        return str(next(it["ask"] for it in self.run["asking"] if it["thread"] == thread))
 
     def since(self, core: Json) -> str:
         return f" since step {core['since']} ({self.line(core['since'])})" if core["since"] else ""
@@ -183,7 +187,8 @@ class Story:
         for number, event in enumerate(self.events, 1):
             if event.thread == thread:
                 word, *names = event.ask
-                if word in ("lock", "wrlock", "rdlock") or (word in ("trylock", "trywrlock", "tryrdlock") and event.answer == 1):
+                has_tried = word in ("trylock", "trywrlock", "tryrdlock") and event.answer == 1
+                if word in ("lock", "wrlock", "rdlock") or has_tried:
                     held[names[0]] = number
                 elif word == "regain":
                     held[names[1]] = number
@@ -219,7 +224,7 @@ class Story:
                 waiting = waiting[event.answer:]
         return waiting[:self.events[number - 1].answer]
 
-    def of_semaphore(self, thread: str, sem: str) -> None:
+    def of_semaphore(self, sem: str) -> None:
         for word, told in (("down", "was taken last"), ("up", "was raised last")):
             steps = [number for number, event in enumerate(self.events, 1)
                      if event.ask[0] in (word, f"try{word}") and event.ask[1] == sem
@@ -229,13 +234,14 @@ class Story:
             elif word == "up":
                 self.tell(f"{sem} was never raised")
 
-    def of_barrier(self, thread: str, barrier: str) -> None:
+    def of_barrier(self, barrier: str) -> None:
         arrivals = [number for number, event in enumerate(self.events, 1) if event.ask == ("arrive", barrier)]
         left = sum(event.ask == ("leave", barrier) for event in self.events)
         size = self.script.objects["barrier"][barrier]
-        at_it = [self.events[number - 1].thread for number in arrivals[-(len(arrivals) % size):]] if len(arrivals) % size else []
-        self.tell(f"{barrier} is for {size}; {len(arrivals)} arrived and {left} left; {listed(at_it) if at_it else 'nobody'} "
-                  f"{'is' if len(at_it) < 2 else 'are'} at it")
+        last = len(arrivals) - len(arrivals) % size
+        at_it = [self.events[number - 1].thread for number in arrivals[last:]]
+        self.tell(f"{barrier} is for {size}; {len(arrivals)} arrived and {left} left; "
+                  f"{listed(at_it) if at_it else 'nobody'} {'is' if len(at_it) < 2 else 'are'} at it")
 
     # Misuse.
 
@@ -247,8 +253,18 @@ class Story:
 
 
 def sentences_of(script: Script, run: Json, events: list[Event], races: list[Json]) -> list[str]:
-    """What is told of the run."""
-    story = Story(script, run, events)
+    """What is told of the run of a script."""
+    return told_by(Story(script, run, events, watched(script, events)), races)
+
+
+def sentences_of_deal(script: Script, run: Json, events: list[Event], races: list[Json]) -> list[str]:
+    """What is told of a run whose threads' code isn't a script's; the script has the deal's threads and objects
+    alone."""
+    return told_by(Story(script, run, events, watched_events(events)), races)
+
+
+def told_by(story: Story, races: list[Json]) -> list[str]:
+    run, events = story.run, story.events
     kind, *rest = run["verdict"].split()
     if kind in ("failed", "fault") and events:
         story.of_registers(len(events))
@@ -277,5 +293,5 @@ def of_loop(story: Story) -> None:
     last = [(event.thread, event.line) for event in story.events[-100:]]
     for thread, line in sorted(set(last), key=lambda it: -last.count(it))[:4]:
         number = max(at for at, event in enumerate(story.events, 1) if (event.thread, event.line) == (thread, line))
-        story.tell(f"{thread} came to {story.line(number)}, {last.count((thread, line))} times in the last {len(last)} steps: "
-                   "a loop that waits")
+        story.tell(f"{thread} came to {story.line(number)}, {last.count((thread, line))} times in the last "
+                   f"{len(last)} steps: a loop that waits")

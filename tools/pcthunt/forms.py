@@ -6,13 +6,14 @@ import difflib
 import re
 from dataclasses import dataclass, field
 
-from pctmodel.script import (BLOCKS, DECLARATIONS, KEYWORDS, OBJECTS, REGISTERS, STATEMENTS, Faulty, Parser, Script, Thread,
-                             cut_tokens, is_name)
+from pctmodel.script import (BLOCKS, DECLARATIONS, KEYWORDS, OBJECTS, REGISTERS, STATEMENTS, Faulty, Parser, Script,
+                             Thread, cut_tokens, is_name)
 
-KIND_WORDS = {"var": "a variable", "mutex": "a mutex", "cond": "a condition", "sem": "a semaphore", "barrier": "a barrier",
-              "rwlock": "a read-write lock", "thread": "a thread"}
-PLACES = {"REG": "REG", "EXPR": "EXPR", "var": "VAR", "mutex": "MUTEX", "cond": "COND", "sem": "SEM", "barrier": "BARRIER",
-          "rwlock": "RWLOCK", "thread": "THREAD", ",": ",", "NAME": "NAME", "=": "=", "NUMBER": "NUMBER", "INTEGER": "NUMBER"}
+KIND_WORDS = {"var": "a variable", "mutex": "a mutex", "cond": "a condition", "sem": "a semaphore",
+              "barrier": "a barrier", "rwlock": "a read-write lock", "thread": "a thread"}
+PLACES = {"REG": "REG", "EXPR": "EXPR", "var": "VAR", "mutex": "MUTEX", "cond": "COND", "sem": "SEM",
+          "barrier": "BARRIER", "rwlock": "RWLOCK", "thread": "THREAD", ",": ",", "NAME": "NAME", "=": "=",
+          "NUMBER": "NUMBER", "INTEGER": "NUMBER"}
 FORMS = {word: " ".join([word, *(PLACES[item] for item in form.split())])
          for word, form in {**DECLARATIONS, **STATEMENTS, "thread": "NAME"}.items()} | {"end": "end", "else": "else"}
 CASE_FREE = {word.lower(): word for word in KEYWORDS[3]}
@@ -22,9 +23,10 @@ SYNONYMS = {
     "notifyall": "broadcast", "post": "up", "sem_post": "up", "sem_wait": "down", "pthread_mutex_lock": "lock",
     "pthread_mutex_unlock": "unlock", "pthread_cond_wait": "wait", "pthread_cond_signal": "signal",
     "pthread_cond_broadcast": "broadcast", "pthread_join": "join", "sleep": "yield", "nop": "yield", "skip": "yield",
-    "let": "set", "mov": "set", "load": "read", "store": "write", "int": "var", "endif": "end", "fi": "end", "done": "end",
-    "od": "end", "endwhile": "end", "endthread": "end", "otherwise": "else", "check": "assert", "condition": "cond",
-    "semaphore": "sem", "lockguard": "lock", "rdunlock": "rwunlock", "wrunlock": "rwunlock", "spawn": "start",
+    "let": "set", "mov": "set", "load": "read", "store": "write", "int": "var", "endif": "end", "fi": "end",
+    "done": "end", "od": "end", "endwhile": "end", "endthread": "end", "otherwise": "else", "check": "assert",
+    "condition": "cond", "semaphore": "sem", "lockguard": "lock", "rdunlock": "rwunlock", "wrunlock": "rwunlock",
+            "spawn": "start",
 }
 
 
@@ -77,10 +79,12 @@ class Scope:
         header = next((at for at, line in enumerate(lines, 1) if line.split("#")[0].strip()), 1)
         used = {word for line in lines for word in loose_tokens(line)}
         ends = [thread.end_line for thread in parser.script.threads.values() if 0 < thread.end_line < number]
-        return cls(parser.script, list(parser.open), lines, header, set(parser.future_threads), used, max(ends, default=0))
+        last_end = max(ends, default=0)
+        return cls(parser.script, list(parser.open), lines, header, set(parser.future_threads), used, last_end)
 
     def kind(self, name: str) -> str | None:
-        return next((kind for kind in OBJECTS if name in self.script.objects[kind]), "thread" if name in self.future else None)
+        is_thread = name in self.future
+        return next((kind for kind in OBJECTS if name in self.script.objects[kind]), "thread" if is_thread else None)
 
     def has(self, kind: str, name: str) -> bool:
         return name in self.names(kind)

@@ -6,7 +6,7 @@ from dataclasses import dataclass, field
 
 from pcthunt.document import complete_run, deal_of, run_of, Texts
 from pcthunt.program import Program
-from pcthunt.rounds import Round
+from pcthunt.rounds import Choice, Round
 from pcthunt.states import Json
 from pctmodel.script import Script, cut_tokens
 from pctmodel.trace import Trace, read_trace
@@ -81,11 +81,12 @@ class Places:
 
 
 def keys_of(verdict: str, run: Json, places: Places) -> list[tuple[str, ...]]:
-    """By what two failures are one bug: their kind, and the place, or the places of those that wait for one another. A run that
-    is stuck in several cycles has a key for each."""
+    """By what two failures are one bug: their kind, and the place, or the places of those that wait for one another. A
+    run that is stuck in several cycles has a key for each."""
     kind, *rest = verdict.split()
     if kind == "stuck":
-        return sorted((kind, *sorted(places.of(it["thread"], it["line"]) for it in part)) for part in cycles_in(run["core"]))
+        cycles = cycles_in(run["core"])
+        return sorted((kind, *sorted(places.of(it["thread"], it["line"]) for it in cycle)) for cycle in cycles)
     if kind == "cut":
         return [(kind,)]
     return [(kind, places.of(rest[0], int(rest[1])), *rest[2:])]
@@ -114,6 +115,13 @@ def schedule_of(seed: int, round_: Round) -> Schedule:
     return Schedule(tuple(words), {"seed": str(seed), "depth": round_.depth, "steps": round_.steps})
 
 
+def schedule_of_choice(choice: Choice, round_: Round) -> Schedule:
+    words = ["--order", ",".join(choice.order)]
+    words += ["--points", ",".join(map(str, choice.points))] if choice.points else []
+    words += ["--limit", str(round_.limit)] if round_.limit != 10000 else []
+    return Schedule(tuple(words), None)
+
+
 def failures_of(rounds: list[Round]) -> list[Failure]:
     """The verdicts that don't pass, those of most runs first."""
     found: dict[str, Failure] = {}
@@ -129,9 +137,7 @@ def failures_of(rounds: list[Round]) -> list[Failure]:
 def met_in(round_: Round) -> list[tuple[str, int, int, Schedule]]:
     """Of each verdict in the round its count, its shortest run's steps, and what makes that again."""
     if round_.sweep is not None:
-        limit = ("--limit", str(round_.limit)) if round_.limit != 10000 else ()
-        options = lambda it: ("--order", ",".join(it.order), *(["--points", ",".join(map(str, it.points))] if it.points else []))
-        return [(it.verdict, it.count, it.steps, Schedule((*options(it), *limit), None)) for it in round_.sweep]
+        return [(it.verdict, it.count, it.steps, schedule_of_choice(it, round_)) for it in round_.sweep]
     met: dict[str, tuple[int, int, int]] = {}
     for row in round_.rows:
         if row.verdict != "passed":
@@ -146,6 +152,7 @@ class Headings:
     def __init__(self, program: Program, path: str, title: str, script: Script, text: str) -> None:
         self.program, self.path, self.script = program, path, script
         self.title = title
+        self.is_interrupted = False
         self.places = Places(script, text)
         self.deal = deal_of(script, title)
         self.texts = Texts([{"file": title, "text": text}])
@@ -153,12 +160,22 @@ class Headings:
     def of(self, failures: list[Failure]) -> list[Heading]:
         """Failures of several keys come last, under the first of these that isn't there yet, or else the first."""
         by_key: dict[tuple[str, ...], Heading] = {}
-        made = [self.make_run(failure) for failure in failures[:MOST_VERDICTS]]
-        for failure in sorted(made, key=lambda it: len(it.keys)):
+        for failure in sorted(self.made(failures), key=lambda it: len(it.keys)):
             key = next((it for it in failure.keys if it not in by_key), failure.keys[0])
             by_key.setdefault(key, Heading(key, [])).failures.append(failure)
         order = lambda it: (it.kind() == "cut", -sum(it.counts().values()), it.best().steps, it.key)
         return sorted(by_key.values(), key=order)
+
+    def made(self, failures: list[Failure]) -> list[Failure]:
+        """The failures of which a run is made; where that is interrupted, those that have one."""
+        made: list[Failure] = []
+        for failure in failures[:MOST_VERDICTS]:
+            try:
+                made.append(self.make_run(failure))
+            except KeyboardInterrupt:
+                self.is_interrupted = True
+                break
+        return made
 
     def make_run(self, failure: Failure) -> Failure:
         answer = self.program.whole("run", *failure.schedule.words(self.path))

@@ -6,15 +6,15 @@ import os
 import shlex
 
 from pcthunt.certify import Certifier, Sought
-from pcthunt.document import (complete_run, directive_of, first_part, locks_of, sentence_of)
+from pcthunt.document import complete_run, directive_of, first_part, locks_of, sentence_of
 from pcthunt.explain import sentences_of
 from pcthunt.headings import Failure, Heading, Headings, failures_of
-
 from pcthunt.passing import passing_run
 from pcthunt.picture import drawn, lines_of
 from pcthunt.program import Program
+from pcthunt.progress import Progress
 from pcthunt.report import MOST_ROWS, Case, Result
-from pcthunt.rounds import Crew, Parts, Search
+from pcthunt.rounds import Crew, Parts, Round, Search
 from pcthunt.settings import Settings
 from pcthunt.states import Json
 from pctmodel.directive import Directive, read_directive
@@ -32,37 +32,64 @@ class Hunt:
         self.name = program.name()
         self.headings: Headings | None = None
         self.result: Result | None = None
+        self.is_interrupted = False  # the explanation
 
     def run(self, crew: Crew, parts: Parts) -> Result:
-        search = Search(self.settings, self.program, self.path, len(self.script.threads), parts)
+        """What comes of it. Where the search is interrupted, what it found is explained; where that is interrupted,
+        too, it is told as far as it went."""
+        progress = Progress(self.settings.is_quiet, self.settings.seconds)
+        search = Search(self.settings, self.program, self.path, len(self.script.threads), parts, progress)
         rounds = search.run()
-        failures = failures_of(rounds)
-        self.headings = Headings(self.program, self.path, self.title, self.script, self.text)
-        found = self.headings.of(failures)
-        cases = [self.case(heading) for heading in found]
-        goes_on = None
+        result = Result(self.title, rounds, [], failures_of(rounds), search.why_ended, None)
         if search.why_ended:
             round_ = rounds[-1]
-            goes_on = self.settings.command(self.title, **{"from": round_.first if round_.is_whole() else round_.next_seed()})
-        self.result = Result(self.title, rounds, cases, failures, search.why_ended, goes_on)
-        return self.result
+            first = round_.first if round_.is_whole() else round_.next_seed()
+            result.goes_on = self.settings.command(self.title, **{"from": first})
+        self.headings = Headings(self.program, self.path, self.title, self.script, self.text)
+        progress.tell(f"a run of each verdict is made, of {len(result.failures)}")
+        found = self.headings.of(result.failures)
+        self.is_interrupted = self.headings.is_interrupted
+        for number, heading in enumerate(found, 1):
+            progress.tell(f"failure {number} of {len(found)} is explained")
+            result.cases.append(self.case(heading))
+        progress.clear()
+        if self.is_interrupted:
+            result.again = self.settings.command(self.title)
+        self.result = result
+        return result
 
     def case(self, heading: Heading) -> Case:
         best = heading.best()
         assert best.trace is not None
         events = best.trace.events
-        races = self.races(best)
-        told = sentences_of(self.script, best.run, events, races)
         first = max(1, len(events) - MOST_ROWS + 1)
         picture = drawn(self.script, best.trace, lines_of(self.data), first, len(events))
-        case = Case(heading, sentence_of(best.run), told, picture, races, locks_of(self.script, events))
+        case = Case(heading, sentence_of(best.run), [], picture, [], locks_of(self.script, events))
         case.again = self.again(best)
-        if heading.kind() != "cut":
-            case.found = self.find(best)
-            case.passing = passing_run(self.script, best.trace, self.title)
-            if case.found and self.settings.certify:
-                case.sought = self.certify(case.found, best)
+        for explain in (self.tell_races, self.tell_needs, self.tell_passing, self.tell_certificate):
+            try:
+                if not self.is_interrupted:
+                    explain(case)
+            except KeyboardInterrupt:
+                self.is_interrupted = True
+        case.told = sentences_of(self.script, best.run, events, case.races)
         return case
+
+    def tell_races(self, case: Case) -> None:
+        case.races = self.races(case.heading.best())
+
+    def tell_needs(self, case: Case) -> None:
+        if case.heading.kind() != "cut":
+            case.found = self.find(case.heading.best())
+
+    def tell_passing(self, case: Case) -> None:
+        trace = case.heading.best().trace
+        if case.heading.kind() != "cut" and trace:
+            case.passing = passing_run(self.script, trace, self.title)
+
+    def tell_certificate(self, case: Case) -> None:
+        if case.found and self.settings.certify:
+            case.sought = self.certify(case.found, case.heading.best())
 
     def races(self, failure: Failure) -> list[Json]:
         out = self.program.whole("races", *failure.schedule.words(self.path)).out
@@ -83,13 +110,15 @@ class Hunt:
         words = shlex.join(failure.schedule.words(self.title))
         kind = failure.verdict.split()[0]
         return [("its trace", f"{self.name} run {words}"), ("its data races", f"{self.name} races {words}"),
-                ("what it needs", f"{self.name} find {words}"), (f"what '{kind}' means", f"{self.name} --explain {kind}")]
+                ("what it needs", f"{self.name} find {words}"), (f"what '{kind}' means", f"{self.name} --explain "
+                                                                                         f"{kind}")]
 
     # The document.
 
     def document(self, status: int) -> Json:
         assert self.result is not None and self.headings is not None
-        document = first_part(self.title, self.text, [case.heading.best().run for case in self.result.cases], self.script)
+        runs = [case.heading.best().run for case in self.result.cases]
+        document = first_part(self.title, self.text, runs, self.script)
         document |= {"command": self.settings.command(self.title), "status": status,
                      "rounds": [self.round(it) for it in self.result.rounds]}
         for member, case in zip(document["headings"], self.result.cases):
@@ -97,10 +126,12 @@ class Hunt:
         return document
 
     @staticmethod
-    def round(round_) -> Json:  # type: ignore[no-untyped-def]
+    def round(round_: Round) -> Json:
         told: Json = {"depth": round_.depth, "steps": round_.steps, "limit": round_.limit, "seeds": round_.done(),
                       "failures": round_.failures()}
-        return told | ({"sweep": True} if round_.sweep is not None else {"from": str(round_.first)})
+        if round_.sweep is not None:
+            return told | {"sweep": True}
+        return told | {"from": str(round_.first)}
 
     def heading(self, case: Case) -> Json:
         best = case.heading.best()
@@ -108,7 +139,8 @@ class Hunt:
             "again": [{"says": says, "command": command} for says, command in case.again],
             "kind": case.heading.kind(), "key": list(case.heading.key), "sentence": case.sentence, "told": case.told,
             "shares": [{"round": number, "count": count} for number, count in case.heading.counts().items()],
-            "verdicts": [{"verdict": it.verdict, "count": it.count(), "steps": it.steps} for it in case.heading.failures],
+            "verdicts": [{"verdict": it.verdict, "count": it.count(), "steps": it.steps}
+                         for it in case.heading.failures],
             "races": case.races, "locks": case.locks,
         }
         if case.found:

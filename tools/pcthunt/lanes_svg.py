@@ -1,6 +1,11 @@
 """The SVG of a run, for tools/lanes: time goes down, and each thread has a lane."""
 
+from __future__ import annotations
+
+from collections.abc import Iterator
 from xml.sax.saxutils import escape
+
+from pcthunt.picture import Picture, Step
 
 ROW, TOP, CHARACTER, GAP = 26, 48, 7.3, 28
 STYLE = """text { font: 12px monospace; fill: #222 }
@@ -15,14 +20,15 @@ STYLE = """text { font: 12px monospace; fill: #222 }
 class Places:
     """Where the lanes and the rows are."""
 
-    def __init__(self, picture):
+    def __init__(self, picture: Picture) -> None:
         labels = {name: [name, picture.stuck.get(name, "")] for name in picture.threads}
         for step in picture.steps:
             labels[step.thread].append(step.label + "  ")
             for name, ask in step.blocked.items():
                 labels[name].append(ask)
         widths = {name: CHARACTER * max(map(len, texts)) + 14 for name, texts in labels.items()}
-        self.left, at = {}, 52.0
+        self.left: dict[str, float] = {}
+        at = 52.0
         self.width = widths
         for name in picture.threads:
             self.left[name] = at
@@ -32,30 +38,30 @@ class Places:
         self.right = at + CHARACTER * longest + 20
         self.bottom = TOP + ROW * (len(picture.steps) + 1)
 
-    def centre(self, name):
+    def centre(self, name: str) -> float:
         return self.left[name] + self.width[name] / 2
 
     @staticmethod
-    def top(number):
+    def top(number: int) -> int:
         """Of the row of a step, from 1."""
         return TOP + ROW * (number - 1)
 
 
-def told(picture, step):
+def told(picture: Picture, step: Step) -> str:
     return f"{step.line}: {picture.text[step.line - 1]}"
 
 
-def text_at(left, top, kind, text):
+def text_at(left: float, top: float, kind: str, text: str) -> str:
     return f'<text class="{kind}" x="{left:.1f}" y="{top + 17:.1f}">{escape(text)}</text>'
 
 
-def box(places, name, top, height, kind):
+def box(places: Places, name: str, top: float, height: float, kind: str) -> str:
     left, width = places.left[name], places.width[name]
     return (f'<rect class="{kind}" x="{left:.1f}" y="{top:.1f}" width="{width:.1f}" '
             f'height="{height:.1f}" rx="3"/>')
 
 
-def lane(picture, places, name):
+def lane(picture: Picture, places: Places, name: str) -> Iterator[str]:
     """The line of a thread, from the first row to the one at which it has ended."""
     rows = sum(name not in step.ended for step in picture.steps) + (name in picture.stuck)
     centre = places.centre(name)
@@ -64,7 +70,7 @@ def lane(picture, places, name):
            f'y2="{TOP + ROW * rows}"/>')
 
 
-def blocked_rows(picture, places, name):
+def blocked_rows(picture: Picture, places: Places, name: str) -> Iterator[str]:
     """Grey in each row before whose step the thread is blocked, with what it asks where that
     begins."""
     before = None
@@ -81,7 +87,7 @@ def blocked_rows(picture, places, name):
         yield text_at(places.left[name] + 6, top, "asks", picture.stuck[name])
 
 
-def step_box(picture, places, number, step):
+def step_box(picture: Picture, places: Places, number: int, step: Step) -> Iterator[str]:
     top = places.top(number)
     yield text_at(8, top, "number", f"{step.number:>5}")
     yield box(places, step.thread, top + 2, ROW - 4, "step failing" if step.is_failing else "step")
@@ -93,7 +99,7 @@ def step_box(picture, places, number, step):
     yield text_at(places.lines, top, "line", told(picture, step))
 
 
-def arrow(places, number, step, name, kind):
+def arrow(places: Places, number: int, step: Step, name: str, kind: str) -> str:
     """From a step to the lane of the thread that it wakes or releases, at the end of the row."""
     is_right = places.left[name] > places.left[step.thread]
     begin = places.left[step.thread] + (places.width[step.thread] if is_right else 0)
@@ -102,14 +108,14 @@ def arrow(places, number, step, name, kind):
             f'{top + ROW / 2 - 2:.1f}"/>')
 
 
-def arrows(places, number, step):
+def arrows(places: Places, number: int, step: Step) -> Iterator[str]:
     for name in step.released:
         yield arrow(places, number, step, name, "releases")
     for name in step.woken:
         yield arrow(places, number, step, name, "wakes")
 
 
-def svg_lines(picture):
+def svg_lines(picture: Picture) -> Iterator[str]:
     places = Places(picture)
     yield (f'<svg xmlns="http://www.w3.org/2000/svg" width="{places.right:.0f}" '
            f'height="{places.bottom + 34:.0f}" role="img">')

@@ -52,7 +52,7 @@ def escaped(text: str, also: str = "") -> str:
     return text
 
 
-def annotations(outcomes: list[Outcome]) -> str:
+def annotation_lines(outcomes: list[Outcome]) -> str:
     """A line for each heading of a script that isn't what it should be."""
     lines = []
     for outcome in outcomes:

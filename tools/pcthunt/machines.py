@@ -18,8 +18,8 @@ from pcthunt.rounds import BATCH, MOST_OF_A_PART, Crew, Parts, Round
 
 MOST_PARTS, MOST_TRIES = 64, 4
 MOST_SENT = 90000  # characters of a script, packed, that go along with a command
-NEEDED = ("--sshlogin needs GNU parallel, which isn't here (Debian's package is called parallel); without --sshlogin the "
-          "parts are made on this machine alone")
+NEEDED = ("--sshlogin needs GNU parallel, which isn't here (Debian's package is called parallel); without --sshlogin "
+          "the parts are made on this machine alone")
 
 
 def is_gnu_parallel() -> bool:
@@ -40,16 +40,18 @@ class MachineParts(Parts):
             raise Refused(USAGE, NEEDED)
 
     def command(self, round_: Round) -> list[str]:
-        """Each part's output stands between two lines that tell its seeds and its status. The script goes along, packed, and is
-        taken away again."""
+        """Each part's output stands between two lines that tell its seeds and its status. The script goes along,
+        packed, and is taken away again."""
         with open(self.script, "rb") as file:
             packed = base64.b64encode(gzip.compress(file.read(), mtime=0)).decode()
         if len(packed) > MOST_SENT:
-            raise Refused(USAGE, f"the script is too long to be sent along with a command: {len(packed):,} characters, packed")
+            raise Refused(USAGE, f"the script is too long to be sent along with a command: {len(packed):,} "
+                                 "characters, packed")
         words = ["campaign", "script.pct", "--from", "{1}", "--count", "{2}", "--depth", str(round_.depth),
                  "--limit", str(round_.limit), *(["--steps", str(round_.steps)] if round_.steps else [])]
-        job = (f"room=$(mktemp -d) && cd \"$room\" && echo {packed} | base64 -d | gzip -d >script.pct && echo part {{1}} {{2}} && "
-               f"{{ pct {' '.join(words)}; status=$?; echo end {{1}} $status; cd /; rm -rf \"$room\"; test $status -le 1; }}")
+        job = (f"room=$(mktemp -d) && cd \"$room\" && echo {packed} | base64 -d | gzip -d >script.pct && echo part "
+               f"{{1}} {{2}} && {{ pct {' '.join(words)}; status=$?; echo end {{1}} $status; cd /; rm -rf \"$room\"; "
+               "test $status -le 1; }")
         return ["parallel", "--plain", "--colsep", " ", "--sshlogin", self.sshlogin, "--retries", str(MOST_TRIES), job]
 
     def reports(self, round_: Round) -> Iterator[Report | None]:
@@ -71,13 +73,14 @@ class MachineParts(Parts):
             if len(missing) == before:
                 break
         if missing:
-            raise Refused(USAGE, f"{len(missing)} parts came back from no machine: {said.strip().splitlines()[-1] if said.strip() else 'nothing was said'}")
+            raise Refused(USAGE, f"{len(missing)} parts came back from no machine: "
+                                 f"{said.strip().splitlines()[-1] if said.strip() else 'nothing was said'}")
 
     def run(self, round_: Round, parts: dict[int, int]) -> Iterator[Report | str | None]:
         """The reports of the parts that come back, and then what was said."""
         path = os.pathsep.join([os.path.dirname(os.path.realpath(self.program.words[-1])), os.environ.get("PATH", "")])
-        call = subprocess.Popen(self.command(round_), stdin=subprocess.PIPE, stdout=subprocess.PIPE, stderr=subprocess.PIPE,
-                                env={**os.environ, "PATH": path}, start_new_session=True)
+        call = subprocess.Popen(self.command(round_), stdin=subprocess.PIPE, stdout=subprocess.PIPE,
+                                stderr=subprocess.PIPE, env={**os.environ, "PATH": path}, start_new_session=True)
         assert call.stdin and call.stdout and call.stderr
         try:
             call.stdin.write("".join(f"{first} {count}\n" for first, count in parts.items()).encode())

@@ -5,6 +5,7 @@ from __future__ import annotations
 import os
 import sys
 import tempfile
+from collections.abc import Callable
 
 # The statuses, as those of pct.
 DONE, FOUND, USAGE, BAD_SCRIPT, BAD_TRACE, BAD_DIRECTIVE, READ_FAULT, WRITE_FAULT, NO_MEMORY = range(9)
@@ -79,7 +80,8 @@ def shown(text: str) -> str:
 
 
 def hold_streams() -> None:
-    """Where a standard stream is closed, its number is taken, so that no file of the tool gets it; a write there fails."""
+    """Where a standard stream is closed, its number is taken, so that no file of the tool gets it; a write there
+    fails."""
     for number in range(3):
         try:
             os.fstat(number)
@@ -87,7 +89,7 @@ def hold_streams() -> None:
             os.open(os.devnull, os.O_RDONLY)
 
 
-def ends_well(tool: str, main) -> int:  # type: ignore[no-untyped-def]
+def ends_well(tool: str, main: Callable[[], int]) -> int:
     """The status of a tool's main, whatever comes of it."""
     hold_streams()
     try:

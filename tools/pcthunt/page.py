@@ -58,7 +58,8 @@ def digest(text: str) -> str:
 
 def policy(style: str, code: str) -> str:
     """Nothing is loaded from anywhere, and no other script or style runs."""
-    return f"default-src 'none'; script-src {digest(code)}; style-src {digest(style)}; base-uri 'none'; form-action 'none'"
+    return (f"default-src 'none'; script-src {digest(code)}; style-src {digest(style)}; base-uri 'none'; "
+            "form-action 'none'")
 
 
 def plain(document: Json) -> str:

@@ -4,7 +4,6 @@ from __future__ import annotations
 
 from collections.abc import Iterator
 from dataclasses import dataclass
-from typing import Any
 
 from pcthunt.output import shown
 from pctmodel.run import Event, World, replay
@@ -44,7 +43,7 @@ class Departs(Exception):
 
 def words_of(world: World, name: str) -> str:
     """What the thread asks, and of the second half of a wait whether its signal came."""
-    ask: tuple[Any, ...] = world.bodies[name].ask
+    ask = world.bodies[name].ask or ("",)
     words = " ".join(map(str, ask))
     if ask[0] == "regain":
         return f"{words} ({'signalled' if name in world.store.woken[ask[1]] else 'not signalled'})"
@@ -109,8 +108,8 @@ def lines_of(data: bytes) -> list[str]:
 
 
 def cell_of(step: Step) -> str:
-    """A step in its lane: `!` before the failing one, `v` and the value where its thread is lowered after it, `~>` before
-    whom it wakes, and `->` before whom it releases."""
+    """A step in its lane: `!` before the failing one, `v` and the value where its thread is lowered after it, `~>`
+    before whom it wakes, and `->` before whom it releases."""
     parts = ["!" + step.label if step.is_failing else step.label]
     if step.lowered:
         parts.append(f"v{step.lowered}")
@@ -121,8 +120,8 @@ def cell_of(step: Step) -> str:
 
 
 def rows_of(picture: Picture) -> Iterator[list[str]]:
-    """For each step what stands in each lane: `:` where the thread is blocked, with what it asks at first, `|` where it can
-    go on, and nothing where it has ended."""
+    """For each step what stands in each lane: `:` where the thread is blocked, with what it asks at first, `|` where it
+    can go on, and nothing where it has ended."""
     before: dict[str, str] = {}
     for step in picture.steps:
         row = []
@@ -143,7 +142,10 @@ def wide_lines(picture: Picture, columns: int) -> Iterator[str]:
     rows = list(rows_of(picture))
     last = [f"! {picture.stuck[name]}" if name in picture.stuck else "" for name in picture.threads]
     widths = [max(map(len, lane)) for lane in zip(picture.threads, last, *rows)]
-    put = lambda cells: "  ".join(cell.ljust(width) for cell, width in zip(cells, widths))
+
+    def put(cells: list[str]) -> str:
+        return "  ".join(cell.ljust(width) for cell, width in zip(cells, widths))
+
     margin = margin_of(picture)
     yield f"{'step':>{margin}}  {put(picture.threads)}  line"
     for step, row in zip(picture.steps, rows):
@@ -193,7 +195,8 @@ def narrow_lines(picture: Picture, columns: int) -> Iterator[str]:
         signs = ["*" if name == step.thread else ":" if name in step.blocked else " " if name in step.ended else "|"
                  for name in picture.threads]
         line = cut(cut_comment(f"{step.line}: {picture.text[step.line - 1]}", room - longest - 2), room - longest - 2)
-        yield f"{step.number:>{margin}}  {between.join(signs)}  {cut(told[step.number], longest).ljust(longest)}  {line}".rstrip()
+        does = cut(told[step.number], longest).ljust(longest)
+        yield f"{step.number:>{margin}}  {between.join(signs)}  {does}  {line}".rstrip()
     for name, ask in picture.stuck.items():
         signs = ["!" if name == other else " " for other in picture.threads]
         yield f"{'':>{margin}}  {between.join(signs)}  {cut(f'{name}: ! {ask}', room)}"

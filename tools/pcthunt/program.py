@@ -70,6 +70,10 @@ class Program:
             raise Refused(USAGE, f"{self.words[0]} can't be started: {error.strerror}") from None
         try:
             out, said = call.communicate()
+        except BaseException:  # interrupted, the call ends with its caller
+            call.kill()
+            call.wait()
+            raise
         finally:
             with self.lock:
                 self.running.discard(call)

@@ -36,6 +36,13 @@ class Progress:
         told = f"round {number}, depth {depth}: {done:,} of {wanted:,} seeds, {rate:,.0f} a second, {failures:,} fail"
         self.write(told + (f", {left:,.0f} s left" if left is not None else ""))
 
+    def tell(self, what: str) -> None:
+        """What is done after the search: on a terminal at once, elsewhere where ten seconds have passed."""
+        now = time.monotonic()
+        if not self.is_quiet and (self.is_terminal or now - self.said >= SELDOM):
+            self.said = now
+            self.write(what)
+
     def write(self, line: str) -> None:
         text = f"\r\x1b[K{line[:78]}" if self.is_terminal else f"hunt: {line}\n"
         self.is_shown = self.is_terminal

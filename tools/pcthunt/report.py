@@ -6,7 +6,7 @@ import shlex
 from dataclasses import dataclass, field
 
 from pcthunt.certify import Sought
-from pcthunt.headings import MOST_VERDICTS, Failure, Heading
+from pcthunt.headings import Failure, Heading
 from pcthunt.output import shown
 from pcthunt.picture import MOST_COLUMNS, Picture, text_lines
 from pcthunt.rounds import Round
@@ -41,10 +41,18 @@ class Result:
     cases: list[Case]
     failures: list[Failure]
     why_ended: str | None
-    goes_on: str | None  # the command by which a hunt that was ended goes on
+    goes_on: str | None  # the command by which a search that was ended goes on
+    again: str | None = None  # where the explanation was interrupted, the command that makes all of it
 
     def has_failed(self) -> bool:
         return bool(self.failures)
+
+    def has_run(self) -> bool:
+        """Whether a run came to its end."""
+        return any(it.done() for it in self.rounds)
+
+    def is_interrupted(self) -> bool:
+        return self.why_ended == "interrupted" or self.again is not None
 
 
 def folded(text: str, first: str, later: str) -> list[str]:
@@ -90,7 +98,9 @@ def moment_words(directive: Directive, failure: Failure) -> list[str]:
 
 
 def directive_words(directive: Directive, failure: Failure) -> str:
-    return listed([f"{directive.low} has the lowest priority", *(moment_words(directive, failure) or ["nobody is lowered"])])
+    *first, last = [f"{directive.low} has the lowest priority",
+                    *(moment_words(directive, failure) or ["nobody is lowered"])]
+    return f"{', '.join(first)} and {last}"
 
 
 def case_lines(number: int, case: Case, result: Result) -> list[str]:
@@ -99,9 +109,11 @@ def case_lines(number: int, case: Case, result: Result) -> list[str]:
     lines += folded(f"{shares(case.heading, result.rounds)}.", "   ", "   ")
     verdicts = [failure.verdict for failure in case.heading.failures]
     if len(verdicts) > 1:
-        lines += folded("Verdicts: " + "; ".join(verdicts[:6]) + (f"; and {len(verdicts) - 6} more" if len(verdicts) > 6 else ""),
-                        "   ", "     ")
-    lines += ["", f"   The shortest run, {len(best.run['steps'])} steps ({' '.join(best.schedule.options)}):", ""]
+        more = f"; and {len(verdicts) - 6} more" if len(verdicts) > 6 else ""
+        lines += folded(f"Verdicts: {'; '.join(verdicts[:6])}{more}", "   ", "     ")
+    many = len(best.run["steps"])
+    which = "The shortest run" if many == best.steps else "The first run"  # of a sweep the first choice is told
+    lines += ["", f"   {which}, {many} steps ({' '.join(best.schedule.options)}):", ""]
     lines += [f"   {line}".rstrip() for line in text_lines(case.picture, MOST_COLUMNS - 3)]
     lines.append("")
     for sentence in case.told:
@@ -126,16 +138,23 @@ def reading(case: Case) -> str:
     elif kind == "stuck":
         return "docs/messages.md on 'stuck'"
     elif kind == "failed":
-        alike = ["lost_update", "seqlock", "work_stealing"] if case.races else ["wait_with_if", "released_twice", "two_phase"]
+        alike = ["wait_with_if", "released_twice", "two_phase"]
+        alike = ["lost_update", "seqlock", "work_stealing"] if case.races else alike
     else:
         return f"docs/messages.md on '{kind}'"
     return f"docs/messages.md on '{kind}'; examples/README.md on {listed(alike)}"
 
 
+def place_of(failure: Failure, number: int) -> str:
+    step = failure.run["steps"][number - 1]
+    return f"step {number}, line {step['line']}: {step['text']}"
+
+
 def finding_lines(case: Case, best: Failure) -> list[str]:
     lines: list[str] = []
     if case.locks.get("cycle"):
-        nests = [f"{it['thread']} takes {it['taken']} while it holds {it['held']} (step {it['step']})" for it in case.locks["cycle"]]
+        nests = [f"{it['thread']} takes {it['taken']} while it holds {it['held']} ({place_of(best, it['step'])})"
+                 for it in case.locks["cycle"]]
         lines += folded("a cycle of mutexes: " + "; ".join(nests), "   - ", "     ")
     elif len(case.locks.get("order", [])) > 1 and case.heading.kind() != "stuck":
         lines += folded("the run takes its mutexes in the order " + ", ".join(case.locks["order"]), "   - ", "     ")
@@ -148,39 +167,47 @@ def finding_lines(case: Case, best: Failure) -> list[str]:
     if sought and sought.certified:
         certified = sought.certified
         how = directive_words(certified.directive, best)
-        tried = "the first directive that was tried" if certified.tried == 1 else f"the {certified.tried:,}th directive that was tried"
-        lines += folded(f"certified: {certified.told()} fails so, by {ordinal(tried)}: {how}", "   - ", "     ")
+        which = "first" if certified.tried == 1 else ordinal(certified.tried)
+        lines += folded(f"certified: {certified.told()} fails so, by the {which} directive that was tried: {how}",
+                        "   - ", "     ")
     elif sought:
         lines += folded(f"not certified: {sought.why_not}", "   - ", "     ")
     return lines
 
 
-def ordinal(text: str) -> str:
-    for wrong, right in (("1th", "1st"), ("2th", "2nd"), ("3th", "3rd")):
-        if f"1{wrong}" not in text:
-            text = text.replace(wrong, right)
-    return text
+def ordinal(number: int) -> str:
+    """1,001st, 1,012th, and so on."""
+    end = "th" if number % 100 in (11, 12, 13) else {1: "st", 2: "nd", 3: "rd"}.get(number % 10, "th")
+    return f"{number:,}{end}"
 
 
 def text_of(result: Result) -> str:
     """The whole text."""
     many = len(result.cases)
     what = "nothing failed" if not result.failures else "1 failure" if many == 1 else f"{many} failures"
-    if result.failures and all(case.heading.kind() == "cut" for case in result.cases):
+    if result.failures and not many:
+        what = "1 verdict, which isn't explained" if len(result.failures) == 1 else \
+            f"{len(result.failures)} verdicts, which aren't explained"
+    elif result.failures and all(case.heading.kind() == "cut" for case in result.cases):
         what = "no failure, but runs that were cut"
+    elif not result.has_run():
+        what = "no run came to its end"
     lines = [f"{shown(result.title)}: {what}"]
     lines += [f"  {round_line(it)}" for it in result.rounds]
     if result.why_ended:
         lines.append(f"  The search was ended: {result.why_ended}. It goes on by")
         lines.append(f"    {result.goes_on}")
+    if result.again:
+        lines += ["  The explanation was interrupted, and has what was there. All of it comes "
+                  "by", f"    {result.again}"]
     for number, case in enumerate(result.cases, 1):
         lines += ["", *case_lines(number, case, result)]
-    if len(result.failures) > MOST_VERDICTS:
-        rest = result.failures[MOST_VERDICTS:]
+    rest = [failure for failure in result.failures if not failure.run]
+    if rest:
         runs = sum(it.count() for it in rest)
-        lines += ["", f"Of {len(rest)} more verdicts ({runs:,} runs) no run was made: {rest[0].verdict} is the first."]
+        made_by = shlex.join(["run", *rest[0].schedule.words(result.title)])
+        many_more = "1 more verdict" if len(rest) == 1 else f"{len(rest)} more verdicts"
+        lines += ["", f"Of {many_more}, in {runs:,} runs, no run was made here. '{rest[0].verdict}' is the first, "
+                      "which "
+                  f"'pct {made_by}' makes."]
     return "\n".join(lines) + "\n"
-
-
-def command(*words: str) -> str:
-    return shlex.join(words)

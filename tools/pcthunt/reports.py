@@ -1,5 +1,5 @@
-"""The reports of campaigns: how they are read, and how those of the parts of one campaign become the report of the whole,
-byte for byte the one that `pct campaign` writes of all the seeds."""
+"""The reports of campaigns: how they are read, and how those of the parts of one campaign become the report of the
+whole, byte for byte the one that `pct campaign` writes of all the seeds."""
 
 from __future__ import annotations
 
@@ -18,7 +18,7 @@ class Row(NamedTuple):
 
 
 class Group(NamedTuple):
-    count: int
+    count: int  # type: ignore[assignment]  # tuples have a method of that name
     steps: int
     first: int
     verdict: str
@@ -36,7 +36,8 @@ class NoReport(Exception):
 
 
 def groups_of(rows: Iterable[Row]) -> list[Group]:
-    """The verdicts but passed: those of most rows first, then those of the fewest steps, then the lowest first seeds."""
+    """The verdicts but passed: those of most rows first, then those of the fewest steps, then the lowest first
+    seeds."""
     found: dict[str, tuple[int, int, int]] = {}
     for row in rows:
         if row.verdict != "passed":
@@ -65,12 +66,16 @@ def text_report(name: str, lines: Iterator[str]) -> Report:
     """The report whose first line was read."""
     head = tuple(value_of(name, next(lines, None), word) for word in HEAD)
     rows: list[Row] = []
+    ends: dict[str, tuple[int, str]] = {}  # most rows are alike behind their seeds
     for line in lines:
-        if line.startswith("groups "):
+        seed, _, end = line.partition(" ")
+        if seed == "groups":
             many = value_of(name, line, "groups")
             break
-        (seed, steps), verdict = numbered(name, line, 2)
-        rows.append(Row(seed, steps, verdict))
+        if end not in ends or not seed.isdecimal() or not seed.isascii():
+            (_, steps), verdict = numbered(name, line, 2)
+            ends[end] = steps, verdict
+        rows.append(Row(int(seed), *ends[end]))
     else:
         raise NoReport(f"{name}: a report ends before its line 'groups'")
     return Report(head, rows, [group_of(name, next(lines, "")) for _ in range(many)], name)

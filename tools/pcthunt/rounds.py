@@ -19,12 +19,13 @@ from pcthunt.settings import AT_DEPTH_1, Settings, processors
 
 BATCH, MOST_OF_A_PART = 64, 4096  # seeds: a campaign starts its threads once for so many
 SECONDS_OF_A_PART = 0.4
+MOST_SWEPT = 100_000_000  # choices that the program sweeps
 
 
 class Choice(NamedTuple):
-    """Of a sweep a verdict's count, its shortest run's steps, and the order and points of that."""
+    """Of a sweep a verdict's count, its shortest run's steps, and the order and points of its first run."""
 
-    count: int
+    count: int  # type: ignore[assignment]  # tuples have a method of that name
     steps: int
     order: list[str]
     points: list[int]
@@ -80,12 +81,13 @@ class Crew:
 
 
 class Parts:
-    """The parts of a round on this machine, of as many seeds as take about a third of a second."""
+    """The parts of a round on this machine, of as many seeds as take about a third of a second. The first part has one
+    seed, since one may take minutes."""
 
     def __init__(self, program: Program, script: str, crew: Crew) -> None:
         self.program, self.script, self.crew = program, script, crew
-        self.size = BATCH
-        self.pending: dict[Future[tuple[Report, float]], int] = {}
+        self.size = 1
+        self.pending: dict[Future[tuple[Report, float] | None], int] = {}
 
     def words(self, round_: Round, first: int, count: int) -> list[str]:
         words = ["campaign", self.script, "--from", str(first), "--count", str(count), "--depth", str(round_.depth),
@@ -132,8 +134,11 @@ class Parts:
 
     def fit(self, count: int, seconds: float) -> None:
         """Sets the size of the next parts by how long one took."""
-        batches = count * SECONDS_OF_A_PART / max(seconds, 0.001) / BATCH
-        self.size = BATCH * max(1, min(MOST_OF_A_PART // BATCH, int(batches)))
+        seeds = int(count * SECONDS_OF_A_PART / max(seconds, 0.001))
+        if seconds < 2 * SECONDS_OF_A_PART:  # its start alone may have taken so long
+            seeds = max(seeds, 2 * count)
+        seeds = min(MOST_OF_A_PART, seeds)
+        self.size = seeds // BATCH * BATCH or max(1, seeds)
 
     def stop(self) -> None:
         if self.pending:
@@ -146,10 +151,10 @@ class Parts:
 class Search:
     """The rounds of a hunt, in order."""
 
-    def __init__(self, settings: Settings, program: Program, script: str, threads: int, parts: Parts) -> None:
+    def __init__(self, settings: Settings, program: Program, script: str, threads: int, parts: Parts,
+                 progress: Progress) -> None:
         self.settings, self.program, self.script, self.threads = settings, program, script, threads
-        self.parts = parts
-        self.progress = Progress(settings.is_quiet, settings.seconds)
+        self.parts, self.progress = parts, progress
         self.rounds: list[Round] = []
         self.why_ended: str | None = None  # interrupted, or out of time
 
@@ -162,7 +167,7 @@ class Search:
             self.rounds.append(round_)
             choices = math.factorial(self.threads) * max(round_.steps, 1) ** (depth - 1)
             try:
-                if has_sweep and choices <= wanted:
+                if has_sweep and choices <= min(wanted, MOST_SWEPT):
                     self.sweep(round_)
                 else:
                     self.campaign(round_)
@@ -188,12 +193,16 @@ class Search:
                     done += len(report.rows)
                     failures += sum(group.count for group in report.groups)
                 self.progress.show(round_.number, round_.depth, done, round_.wanted, failures)
-                left = self.progress.seconds_left()
-                if left is not None and left <= 0 and done < round_.wanted:
-                    self.why_ended = f"{self.settings.seconds:g} seconds were over"
+                if done < round_.wanted and self.is_out_of_time():
                     break
         finally:
             self.take(round_, reports)
+
+    def is_out_of_time(self) -> bool:
+        left = self.progress.seconds_left()
+        if left is not None and left <= 0:
+            self.why_ended = f"{self.settings.seconds:g} seconds were over"
+        return self.why_ended is not None
 
     def take(self, round_: Round, reports: list[Report]) -> None:
         """The rows of the reports: of all where the round is whole, and else of those that were made."""
@@ -210,8 +219,20 @@ class Search:
     def sweep(self, round_: Round) -> None:
         """All choices of an order and points, by the program's sweep."""
         words = ["sweep", self.script, "--depth", str(round_.depth), "--limit", str(round_.limit)]
-        answer = self.program.whole(*words, *(["--steps", str(round_.steps)] if round_.steps else []))
-        head, round_.sweep = read_sweep(answer.out)
+        words += ["--steps", str(round_.steps)] if round_.steps else []
+        self.progress.begin_round()
+        swept = self.parts.crew.pool.submit(self.program.whole, *words)
+        try:
+            while not wait([swept], timeout=0.1).done:
+                self.progress.tell(f"round {round_.number}, depth {round_.depth}: all choices are run")
+                if self.is_out_of_time():
+                    return
+        finally:
+            if not swept.done():
+                self.program.stop()
+                wait([swept])
+                self.program.go_on()
+        head, round_.sweep = read_sweep(swept.result().out)
         round_.steps, round_.wanted = head["steps"], head["choices"]
         # A sweep doesn't tell how long its runs are: some seeds of the same depth do.
         probe = Round(round_.number, round_.depth, round_.first, AT_DEPTH_1, round_.limit, round_.steps)

@@ -7,7 +7,7 @@ from dataclasses import dataclass
 from typing import Any
 
 from pctmodel.run import Ends, Store
-from pctmodel.script import Script
+from pctmodel.script import Script, Thread
 
 Json = dict[str, Any]
 Ask = tuple[Any, ...]
@@ -43,7 +43,7 @@ def script_of(deal: Json) -> Script:
         first = FIRST_VALUES.get(kind)
         objects[kind] = {it["name"]: int(it[first]) for it in given} if first else dict.fromkeys(given, 0)
     held = {it["name"] for it in deal["threads"] if it.get("held")}
-    return Script(3, objects, {it["name"]: None for it in deal["threads"]}, held)
+    return Script(3, objects, {it["name"]: Thread(0, []) for it in deal["threads"]}, held)
 
 
 def listed(names: list[str]) -> str:
@@ -92,7 +92,7 @@ class Listed:
             case ("regain", cond, mutex):
                 return self.store.owner[mutex] if name in self.store.woken[cond] else None
             case ("join", target):
-                return target
+                return str(target)
             case ("rdlock" | "wrlock", lock):
                 readers = [it for it, count in self.store.holds[lock].items() if count]
                 return self.store.writer[lock] or (readers[0] if len(readers) == 1 else None)
@@ -146,7 +146,7 @@ class Listed:
         found = {
             "vars": {name: str(value) for name, value in store.values.items()},
             "mutexes": dict(store.owner),
-            "rwlocks": {name: {"writer": store.writer[name], "readers": {it: count for it, count in holds.items() if count}}
+            "rwlocks": {name: {"writer": store.writer[name], "readers": dict(+holds)}
                         for name, holds in store.holds.items()},
             "sems": dict(store.counts),
             "conds": {name: {"waiting": list(store.waiting[name]), "woken": list(store.woken[name])}
@@ -191,8 +191,8 @@ def why(before: Json, step: Json, previous: Json | None) -> tuple[str, list[str]
     """Why the step's thread goes in that state, and the higher threads, which can't."""
     thread, threads = step["thread"], before["threads"]
     rank = threads[thread]["rank"]
-    higher = sorted((name for name, told in threads.items() if told["rank"] > rank and told["is"] in ("blocked", "held")),
-                    key=lambda name: -threads[name]["rank"])
+    above = [name for name, told in threads.items() if told["rank"] > rank and told["is"] in ("blocked", "held")]
+    higher = sorted(above, key=lambda name: -int(threads[name]["rank"]))
     if any(told["rank"] > rank and told["is"] == "enabled" for told in threads.values()):
         return f"{thread} is listed next", higher
     reasons = [f"{name} is higher and waits for {threads[name]['for']}" for name in higher[:3]]

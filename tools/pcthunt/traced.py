@@ -32,4 +32,4 @@ def document_of_trace(names: tuple[str, str], text: str, script: Script, trace: 
         passing = passing_run(script, trace, title)
         if passing:
             heading["passing"] = passing
-    return complete(document)
+    return complete(document, script)

@@ -51,7 +51,8 @@ class WatchedBody(Body):
 
     def answer(self, value: int) -> None:
         head = self.rest[0] if self.rest else None
-        if head is not None and head.register and self.ask[0] != "arrive" and self.ask[0] not in ("begin", "fault"):
+        word = self.ask[0] if self.ask else ""
+        if head is not None and head.register and word not in ("arrive", "begin", "fault"):
             self.origins[head.register] = Origin(head.line, frozenset({self.number}))
         super().answer(value)
 
@@ -82,26 +83,40 @@ def has_changed(event: Event) -> bool:
     return event.ask[0] in ("write", "add") or (event.ask[0] == "cas" and event.answer == 1)
 
 
+def watched_events(events: list[Event]) -> Watched:
+    """The events, watched: without the threads' code nothing is known of registers."""
+    found = Watched(events)
+    for number, event in enumerate(events, 1):
+        note_event(found, number, event)
+    return found
+
+
 def watched(script: Script, events: list[Event]) -> Watched:
     """The run of the events, watched."""
     world = World(script)
     bodies = {name: WatchedBody(thread, name in script.held) for name, thread in script.threads.items()}
-    world.bodies = bodies
+    world.bodies = dict(bodies)
     found = Watched(events, world=world)
     for number, event in enumerate(events, 1):
         body = bodies[event.thread]
         note_use(found, number, body)
         body.number = number
-        word = event.ask[0]
-        if word in ("read", *CHANGES):
-            of_it = found.changes.setdefault(event.ask[1], [])
-            if word != "write":
-                found.written[number] = of_it[-1] if of_it else None
-                found.reads.setdefault(event.thread, {})[event.ask[1]] = number
-            if has_changed(event):
-                of_it.append(number)
+        note_event(found, number, event)
         world.step(event.thread)
     return found
+
+
+def note_event(found: Watched, number: int, event: Event) -> None:
+    """Keeps what the step read, and who had written that, and what it changed."""
+    word = event.ask[0]
+    if word not in ("read", *CHANGES):
+        return
+    of_it = found.changes.setdefault(event.ask[1], [])
+    if word != "write":
+        found.written[number] = of_it[-1] if of_it else None
+        found.reads.setdefault(event.thread, {})[event.ask[1]] = number
+    if has_changed(event):
+        of_it.append(number)
 
 
 def note_use(found: Watched, number: int, body: WatchedBody) -> None:

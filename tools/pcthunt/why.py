@@ -14,8 +14,8 @@ from pctmodel.script import Faulty, Script, is_name, parse
 from pctmodel.trace import ASKS, ASKS_OF_2, read_trace
 from pctmodel.words import COMMANDS, RANGES
 
-VALUES = {"--order": "A,B", "--points": "3", "--limit": "1000", "--seed": "1", "--depth": "2", "--steps": "20", "--from": "1",
-          "--count": "1000", "--form": "text"}
+VALUES = {"--order": "A,B", "--points": "3", "--limit": "1000", "--seed": "1", "--depth": "2", "--steps": "20",
+          "--from": "1", "--count": "1000", "--form": "text"}
 SECOND_FILES = {"replay": "TRACE", "expose": "DIRECTIVE", "certify": "DIRECTIVE"}
 WANTED_OF = {
     "--order": "all names of the script's threads, each once, joined by single commas",
@@ -50,15 +50,18 @@ def of_words(program: Program, words: list[str], said: str) -> str:
     number = int(said.split()[-1]) if said.split()[-1:] and said.split()[-1].isdecimal() else 1
     word = words[number - 1] if number <= len(words) else None
     if words[:1] == ["--explain"]:
-        return f"pct --explain: {'a word is missing' if len(words) < 2 else f'{shown(words[1])!r} is none of its words'}; they are {explained(program)}"
+        what = "a word is missing" if len(words) < 2 else f"{shown(words[1])!r} is none of its words"
+        return f"pct --explain: {what}; they are {explained(program)}"
     if number == 1:
         near = nearest(words[0], list(COMMANDS)) if words else None
-        return (f"word 1{'' if word is None else f', {shown(word)!r}'}: a command is wanted, one of {', '.join(COMMANDS)}"
-                + (f"; the nearest is {near}" if near else ""))
+        at = "" if word is None else f", {shown(word)!r}"
+        told = f"word 1{at}: a command is wanted, one of {', '.join(COMMANDS)}"
+        return told + (f"; the nearest is {near}" if near else "")
     command = words[0]
     files = COMMANDS[command][0]
     if number <= files + 1 and word is None:
-        return f"word {number} is missing: {'the script' if number == 2 else SECOND_FILES[command].lower() + ' file'}; for example {example(words)}"
+        what = "the script" if number == 2 else f"{SECOND_FILES[command].lower()} file"
+        return f"word {number} is missing: {what}; for example {example(words)}"
     if number > len(words):
         return f"{missing(words)}; for example {example(words)}"
     return f"word {number}, {shown(words[number - 1])!r}: {wanted_at(words, number)}"
@@ -190,23 +193,26 @@ def of_second_file(script_name: str, name: str, status: int) -> str:
 
 def spaces(line: str) -> str | None:
     """What is wrong with the spaces of a line of a trace or a directive, which stand single."""
-    if "\t" in line or "\r" in line:
-        what = "a tab" if "\t" in line else "a carriage return at its end"
-        return f"words have one space between them, and here is {what}; write `{' '.join(line.split())}`"
-    if line != " ".join(line.split()):
-        return f"words have one space between them, and none stands before or after them; write `{' '.join(line.split())}`"
-    return None
+    mended = " ".join(line.split())
+    if line == mended:
+        return None
+    what = "none stands before or after them"
+    is_tab = "\t" in line
+    if is_tab or "\r" in line:
+        what = f"here is {'a tab' if is_tab else 'a carriage return at its end'}"
+    return f"words have one space between them, and {what}; write `{mended}`"
 
 
-HEAD_OF_TRACE = ("`trace 1`, or `trace 2` for a script of version 3", "`order` and every thread once", "`points` and none to seven steps",
-                 "`limit` and a number of steps")
+HEAD_OF_TRACE = ("`trace 1`, or `trace 2` for a script of version 3", "`order` and every thread once",
+                 "`points` and none to seven steps", "`limit` and a number of steps")
 
 
 def of_trace(fault: Faulty, line: str, lines: list[str], script: Script) -> str:
     order = f"order {' '.join(script.threads)}"
     if fault.kind == "BadHeader":
         example_line = ("trace 1", order, "points", "limit 10000")[fault.line - 1]
-        return f"line {fault.line} of a trace is {HEAD_OF_TRACE[fault.line - 1]}; " + (spaces(line) or f"write `{example_line}`")
+        wanted = f"line {fault.line} of a trace is {HEAD_OF_TRACE[fault.line - 1]}"
+        return f"{wanted}; {spaces(line) or f'write `{example_line}`'}"
     if fault.kind == "BadLine":
         if fault.line == len(lines) and line:
             return f"the line isn't ended by a line feed; write `{line}` and end the line"
@@ -219,21 +225,24 @@ def step_form(line: str, script: Script) -> str:
     if words[0] == "verdict":
         near = nearest(words[1] if len(words) > 1 else "", ["passed", "cut", "failed", "stuck", "misuse", "fault"])
         form = " ".join(["verdict", near, *words[2:]]) if near and near != words[1] else "verdict passed"
-        return ("a verdict is passed, cut, failed THREAD LINE, stuck THREAD LINE .., misuse THREAD LINE KIND or fault THREAD LINE KIND; "
-                f"write `{form}`")
+        return ("a verdict is passed, cut, failed THREAD LINE, stuck THREAD LINE .., misuse THREAD LINE KIND or fault "
+                f"THREAD LINE KIND; write `{form}`")
     asks = ASKS | ASKS_OF_2
     if "=" not in words:
         return f"a step is NUMBER THREAD LINE ASK = ANSWER, and it has no ` = `; write `{line} = 0`"
     if len(words) > 3 and words[3] not in asks:
         near = nearest(words[3], list(asks))
-        return f"{shown(words[3])!r} is no ask" + (f"; write `{' '.join([*words[:3], near, *words[4:]])}`" if near else "")
-    return f"a step is NUMBER THREAD LINE ASK = ANSWER, and the ask is `{words[3]} {asks.get(words[3], '')}`".replace(" `", " `", 1)
+        mended = " ".join([*words[:3], near or "", *words[4:]])
+        return f"{shown(words[3])!r} is no ask" + (f"; write `{mended}`" if near else "")
+    ask = f"{words[3]} {asks.get(words[3], '')}" if len(words) > 3 else "its words"
+    return f"a step is NUMBER THREAD LINE ASK = ANSWER, and the ask is `{ask.strip()}`"
 
 
 def of_directive(fault: Faulty, line: str, lines: list[str], script: Script) -> str:
     if fault.kind == "BadHeader":
         example_line = ("directive 1", f"low {next(iter(script.threads))}")[fault.line - 1]
-        return f"line {fault.line} of a directive is `{'directive 1' if fault.line == 1 else 'low THREAD'}`; " + (spaces(line) or f"write `{example_line}`")
+        wanted = f"line {fault.line} of a directive is `{'directive 1' if fault.line == 1 else 'low THREAD'}`"
+        return f"{wanted}; {spaces(line) or f'write `{example_line}`'}"
     if fault.kind == "TooLong":
         return "a directive has at most seven lines `after`; leave this one out"
     if fault.kind == "BadLine":
@@ -244,25 +253,29 @@ def of_directive(fault: Faulty, line: str, lines: list[str], script: Script) -> 
         if near == "after":
             thread = words[1] if len(words) > 1 and is_name(words[1]) else next(iter(script.threads))
             number = next((it for it in words[2:] if it.isdecimal() and it != "0"), "1").lstrip("0")
-            return spaces(line) or f"a moment is `after THREAD NUMBER`, the number in 1 to 100000; write `after {thread} {number}`"
+            mended = f"after {thread} {number}"
+            return spaces(line) or f"a moment is `after THREAD NUMBER`, the number in 1 to 100000; write `{mended}`"
         return spaces(line) or "a line is `after THREAD NUMBER`, or `verdict VERDICT`; write `verdict passed`"
     return of_either(fault, line, script)
 
 
 def of_either(fault: Faulty, line: str, script: Script) -> str:
     if fault.kind == "UnknownName":
-        unknown = next((word for word in line.split(" ") if is_name(word, 1) and word not in ALL_WORDS
-                        and not any(word in names for names in (script.threads, *script.objects.values()))), "")
-        near = nearest(unknown, [*script.threads, *(name for names in script.objects.values() for name in names)])
-        return (f"{shown(unknown)!r} is declared nowhere in the script" if unknown else "a name isn't declared with the kind that its place needs") + (
-            f"; write `{' '.join(near if word == unknown else word for word in line.split(' '))}`" if near and unknown else "")
+        names = [*script.threads, *(name for by_name in script.objects.values() for name in by_name)]
+        unknown = next((word for word in line.split(" ") if is_name(word, 1) and word not in [*ALL_WORDS, *names]), "")
+        near = nearest(unknown, names)
+        if not unknown:
+            return "a name isn't declared with the kind that its place needs"
+        mended = " ".join(near or "" if word == unknown else word for word in line.split(" "))
+        return f"{shown(unknown)!r} is declared nowhere in the script" + (f"; write `{mended}`" if near else "")
     return {
-        "TooLong": "the file, or the run, is longer than its limit says; raise `limit`, or leave out the steps after it",
+        "TooLong": "the file, or the run, is longer than its limit says; raise `limit`, or leave out the steps after "
+                   "it",
         "OutOfOrder": "steps are numbered from 1 on, each one more than that before it",
         "NoVerdict": "the file ends before its verdict; write a line `verdict ..` here",
         "MoreAfterVerdict": "nothing follows the verdict; leave this line and all after it out",
     }.get(fault.kind, "see docs/formats.md")
 
 
-ALL_WORDS = {*ASKS, *ASKS_OF_2, "order", "points", "limit", "verdict", "after", "low", "stuck", "failed", "misuse", "fault", "passed", "cut",
-             "notowner", "semfull", "alreadystarted", "toomanyreads", "overflow", "zerodivisor", "spin"}
+ALL_WORDS = {*ASKS, *ASKS_OF_2, *"order points limit verdict after low stuck failed misuse fault passed cut".split(),
+             *"notowner semfull alreadystarted toomanyreads overflow zerodivisor spin".split()}

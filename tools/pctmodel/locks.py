@@ -1,32 +1,49 @@
 """Lock orders for the model: one order of the mutexes in which a run nested them, or a cycle of nestings."""
 
-from collections import namedtuple
+from __future__ import annotations
 
-Nesting = namedtuple("Nesting", "step thread held taken")
+from typing import NamedTuple, Union
+
+from pctmodel.run import Event
+from pctmodel.script import Script
 
 
-def mutex_taken(event):
+class Nesting(NamedTuple):
+    """A thread takes a mutex at a step, while it holds another one."""
+
+    step: int
+    thread: str
+    held: str
+    taken: str
+
+
+Report = Union[list[str], list[Nesting]]
+
+
+def mutex_taken(event: Event) -> str | None:
     """The mutex that the step takes, or None."""
     word = event.ask[0]
     if word == "lock" or (word == "trylock" and event.answer == 1):
-        return event.ask[1]
-    return event.ask[2] if word == "regain" else None
+        return str(event.ask[1])
+    return str(event.ask[2]) if word == "regain" else None
 
 
-def mutex_given(event):
+def mutex_given(event: Event) -> str | None:
     """The mutex that the step gives back, or None."""
-    return {"unlock": event.ask[1:2], "release": event.ask[2:3]}.get(event.ask[0], (None,))[0]
+    place = {"unlock": 1, "release": 2}.get(event.ask[0])
+    return None if place is None else str(event.ask[place])
 
 
-def holds(events, thread, mutex, place):
-    """Whether the thread holds the mutex before the step at the place: it took it, and gave it back by no later step."""
+def holds(events: list[Event], thread: str, mutex: str, place: int) -> bool:
+    """Whether the thread holds the mutex before the step at the place: it took it, and gave it back by no later
+    step."""
     own = [event for event in events[:place] if event.thread == thread]
     takes = [at for at, event in enumerate(own) if mutex_taken(event) == mutex]
     return any(all(mutex_given(event) != mutex for event in own[at + 1 :]) for at in takes)
 
 
-def nestings_of(script, events):
-    found = []
+def nestings_of(script: Script, events: list[Event]) -> list[Nesting]:
+    found: list[Nesting] = []
     for place, event in enumerate(events):
         taken = mutex_taken(event)
         if taken is not None:
@@ -35,12 +52,12 @@ def nestings_of(script, events):
     return found
 
 
-def lock_order(script, nestings):
+def lock_order(script: Script, nestings: list[Nesting]) -> Report:
     """The order as a list of names, or the cycle as a list of nestings."""
     remaining, order = list(script.objects["mutex"]), []
     while remaining:
-        is_taken = lambda mutex: any(nest.taken == mutex and nest.held in remaining for nest in nestings)
-        free = [mutex for mutex in remaining if not is_taken(mutex)]
+        taken = {nest.taken for nest in nestings if nest.held in remaining}
+        free = [mutex for mutex in remaining if mutex not in taken]
         if not free:
             return cycle_of(remaining, nestings)
         order.append(free[0])
@@ -48,7 +65,7 @@ def lock_order(script, nestings):
     return order
 
 
-def cycle_of(remaining, nestings):
+def cycle_of(remaining: list[str], nestings: list[Nesting]) -> list[Nesting]:
     """The cycle that a walk meets, from each mutex to the lowest that remains and was held where it was taken."""
     walk = [remaining[0]]
     while walk[-1] not in walk[:-1]:
@@ -61,10 +78,12 @@ def cycle_of(remaining, nestings):
             for pair in zip(part, part[1:] + part[:1])]
 
 
-def is_good(script, nestings, report):
+def is_good(script: Script, nestings: list[Nesting], report: Report) -> bool:
     """Whether the report is right, by what a good order and a good cycle are alone."""
-    if all(isinstance(item, Nesting) for item in report) and report:
-        follows = all(nest.taken == after.held for nest, after in zip(report, report[1:] + report[:1]))
-        return follows and all(nest in nestings for nest in report)
-    lists_each_once = sorted(report) == sorted(script.objects["mutex"])
-    return lists_each_once and all(report.index(nest.held) < report.index(nest.taken) for nest in nestings)
+    cycle = [item for item in report if isinstance(item, Nesting)]
+    if cycle:
+        follows = all(nest.taken == after.held for nest, after in zip(cycle, cycle[1:] + cycle[:1]))
+        return follows and len(cycle) == len(report) and all(nest in nestings for nest in cycle)
+    order = [item for item in report if isinstance(item, str)]
+    lists_each_once = sorted(order) == sorted(script.objects["mutex"])
+    return lists_each_once and all(order.index(nest.held) < order.index(nest.taken) for nest in nestings)

@@ -1,11 +1,15 @@
 """Scripts for the model: a text is read line by line, and its first fault is raised."""
 
+from __future__ import annotations
+
 import re
+from collections.abc import Callable
 from dataclasses import dataclass, field
+from typing import Any, Union
 
 LEAST, GREATEST = -(2**63), 2**63 - 1
-WORDS_OF_1 = """script var mutex cond sem barrier thread end read write add cas lock trylock unlock wait signal broadcast
-    down trydown up arrive join yield assert set if else while""".split()
+WORDS_OF_1 = """script var mutex cond sem barrier thread end read write add cas lock trylock unlock wait signal
+    broadcast down trydown up arrive join yield assert set if else while""".split()
 WORDS_OF_3 = "rwlock rdlock wrlock tryrdlock trywrlock rwunlock".split()
 KEYWORDS = {1: {*WORDS_OF_1}, 2: {*WORDS_OF_1, "start"}, 3: {*WORDS_OF_1, "start", *WORDS_OF_3}}
 REGISTERS = [f"r{number}" for number in range(16)]
@@ -33,10 +37,14 @@ COMPARISONS = LEVELS[2]
 TOKEN = re.compile(r"[A-Za-z_][A-Za-z0-9_]*|[0-9]+|\|\||&&|[=!<>]=|[-<>+*/%!(),=]")
 
 
+# A number, a register, or an operator with its parts.
+Expression = Union[int, str, tuple[Any, ...]]
+
+
 class Faulty(Exception):
     """A text is refused: its first faulty line, and that line's first fault."""
 
-    def __init__(self, line, kind):
+    def __init__(self, line: int, kind: str) -> None:
         super().__init__(line, kind)
         self.line, self.kind = line, kind
 
@@ -49,50 +57,51 @@ class NoForm(Exception):
 class Statement:
     word: str
     line: int
-    register: str = None
-    names: list = field(default_factory=list)  # pairs of kind and name
-    values: list = field(default_factory=list)  # expressions
-    declared: str = None
+    register: str | None = None
+    names: list[tuple[str, str]] = field(default_factory=list)  # pairs of kind and name
+    values: list[Expression] = field(default_factory=list)
+    declared: str = ""
     number: int = 0  # of a declaration
-    block: list = field(default_factory=list)
-    otherwise: list = None
+    block: list[Statement] = field(default_factory=list)
+    otherwise: list[Statement] | None = None
 
 
 @dataclass
 class Thread:
     line: int
-    block: list
+    block: list[Statement]
     end_line: int = 0
 
 
 @dataclass
 class Script:
     version: int
-    objects: dict  # by kind: names with what they are at first
-    threads: dict  # by name
-    held: set  # the threads that begin only after a start
+    objects: dict[str, dict[str, int]]  # by kind: names with what they are at first
+    threads: dict[str, Thread]  # by name
+    held: set[str]  # the threads that begin only after a start
 
-    def declares(self, kind, name):
-        return name in (self.threads if kind == "thread" else self.objects[kind])
+    def declares(self, kind: str, name: str) -> bool:
+        return name in self.threads if kind == "thread" else name in self.objects[kind]
 
 
-def cut_lines(data):
+def cut_lines(data: bytes) -> list[bytes]:
     lines = data.split(b"\n")
     return lines if lines[-1] else lines[:-1]
 
 
-def is_blank(line):
+def is_blank(line: bytes) -> bool:
     return not line.split(b"#")[0].strip(b" \t\r")
 
 
-def is_name(word, version=1):
+def is_name(word: str, version: int = 1) -> bool:
     form = re.fullmatch(r"[A-Za-z_][A-Za-z0-9_]{0,31}", word)
     return bool(form) and word not in KEYWORDS[version] and word not in REGISTERS
 
 
-def cut_tokens(text):
+def cut_tokens(text: str) -> list[str] | None:
     """The tokens of a line, or None where it can't be cut into tokens."""
-    found, at = [], 0
+    found: list[str] = []
+    at = 0
     while at < len(text) and text[at] != "#":
         if text[at] in " \t\r":
             at += 1
@@ -111,23 +120,24 @@ def cut_tokens(text):
 class Tokens:
     """The tokens of one line after its first word. A number in an expression is an int, a register its name."""
 
-    def __init__(self, tokens):
-        self.tokens, self.at, self.numbers = tokens, 0, []
+    def __init__(self, tokens: list[str]) -> None:
+        self.tokens, self.at = tokens, 0
+        self.numbers: list[int] = []
 
-    def next(self):
+    def next(self) -> str:
         return self.tokens[self.at] if self.at < len(self.tokens) else ""
 
-    def take(self, is_taken):
+    def take(self, is_taken: Callable[[str], object]) -> str:
         token = self.next()
         if not token or not is_taken(token):
             raise NoForm
         self.at += 1
         return token
 
-    def number(self):
+    def number(self) -> int:
         return int(self.take(lambda token: token[0].isdigit()))
 
-    def expression(self, level=0):
+    def expression(self, level: int = 0) -> Expression:
         if level == len(LEVELS):
             return self.part()
         left = self.expression(level + 1)
@@ -138,7 +148,7 @@ class Tokens:
                 break
         return left
 
-    def part(self):
+    def part(self) -> Expression:
         token = self.next()
         if token in ("-", "!"):
             self.take(bool)
@@ -154,9 +164,11 @@ class Tokens:
         return self.numbers[-1]
 
 
-def read_form(statement, form, tokens, version):
+def read_form(statement: Statement, form: str, tokens: Tokens, version: int) -> None:
     """Puts the tokens into the statement by its form."""
-    name_of = lambda token: is_name(token, version)
+    def name_of(token: str) -> bool:
+        return is_name(token, version)
+
     for item in form.split():
         if item == "REG":
             statement.register = tokens.take(REGISTERS.__contains__)
@@ -167,32 +179,32 @@ def read_form(statement, form, tokens, version):
         elif item == "NUMBER":
             statement.number = tokens.number()
         elif item == "INTEGER":
-            is_negative = tokens.next() == "-" and tokens.take(bool)
+            is_negative = tokens.next() == "-" and bool(tokens.take(bool))
             statement.number = -tokens.number() if is_negative else tokens.number()
         elif item in OBJECTS or item == "thread":
             statement.names.append((item, tokens.take(name_of)))
         else:
-            tokens.take(lambda token: token == item)
+            tokens.take(item.__eq__)
     if tokens.next():
         raise NoForm
 
 
 class Parser:
-    def __init__(self, data):
+    def __init__(self, data: bytes) -> None:
         self.lines = cut_lines(data)
         self.script = Script(0, {kind: {} for kind in OBJECTS}, {}, set())
-        self.open = []  # the innermost last: the thread, and each if and while in it
+        self.open: list[Thread | Statement] = []  # the innermost last: the thread, and each if and while in it
         self.future_threads = {name for line in self.lines for name in self.thread_named(line)}
 
     @staticmethod
-    def thread_named(line):
+    def thread_named(line: bytes) -> list[str]:
         try:
             tokens = cut_tokens(line.decode()) or []
         except UnicodeDecodeError:
             return []
         return tokens[1:] if tokens[:1] == ["thread"] and len(tokens) == 2 else []
 
-    def read(self):
+    def read(self) -> Script:
         is_nothing = all(map(is_blank, self.lines))
         for number, line in enumerate(self.lines, 1):
             fault = self.fault_of_bytes(number, line) or ("BadHeader" if is_nothing else self.take_line(number, line))
@@ -203,7 +215,7 @@ class Parser:
         return self.script
 
     @staticmethod
-    def fault_of_bytes(number, line):
+    def fault_of_bytes(number: int, line: bytes) -> str | None:
         try:
             line.decode()
         except UnicodeDecodeError:
@@ -212,7 +224,7 @@ class Parser:
             return "LineTooLong"
         return "TooManyLines" if number > 4096 else None
 
-    def take_line(self, number, line):
+    def take_line(self, number: int, line: bytes) -> str | None:
         """Takes the line into the script, or answers its fault."""
         statement = None
         tokens = cut_tokens(line.decode())
@@ -238,7 +250,7 @@ class Parser:
             self.keep(statement)
         return fault
 
-    def form_at_place(self, word):
+    def form_at_place(self, word: str) -> str:
         if word not in KEYWORDS[self.script.version]:
             raise NoForm
         if word in ("end", "else"):
@@ -252,7 +264,7 @@ class Parser:
             raise NoForm
         return forms[word]
 
-    def fault_of_names(self, statement):
+    def fault_of_names(self, statement: Statement) -> str | None:
         for kind, name in statement.names:
             is_known = name in self.future_threads if kind == "thread" else self.script.declares(kind, name)
             if not is_known:
@@ -262,13 +274,13 @@ class Parser:
         return None
 
     @staticmethod
-    def fault_of_numbers(statement, numbers):
+    def fault_of_numbers(statement: Statement, numbers: list[int]) -> str | None:
         ranges = {"var": (LEAST, GREATEST), "sem": (0, 2**31 - 1), "barrier": (1, 1000)}
         least, greatest = ranges.get(statement.word, (0, 0))
         is_well = all(number <= GREATEST for number in numbers) and least <= statement.number <= greatest
         return None if is_well else "NumberRange"
 
-    def fault_of_blocks(self, statement, is_last):
+    def fault_of_blocks(self, statement: Statement | None, is_last: bool) -> str | None:
         word = statement.word if statement else ""
         opens = word == "thread" or word in BLOCKS
         if is_last and (opens or len(self.open) > (word == "end")):
@@ -284,11 +296,11 @@ class Parser:
         is_full |= word in BLOCKS and len(self.open) == 33  # the thread, and 32 blocks
         return "TooMany" if is_full else None
 
-    def keep(self, statement):
+    def keep(self, statement: Statement) -> None:
         word = statement.word
         if word == "thread":
-            self.open.append(Thread(statement.line, []))
-            self.script.threads[statement.declared] = self.open[-1]
+            thread = self.script.threads[statement.declared] = Thread(statement.line, [])
+            self.open.append(thread)
         elif word in OBJECTS:
             self.script.objects[word][statement.declared] = statement.number
         elif word == "end":
@@ -296,7 +308,9 @@ class Parser:
             if isinstance(closed, Thread):
                 closed.end_line = statement.line
         elif word == "else":
-            self.open[-1].otherwise = []
+            innermost = self.open[-1]
+            assert isinstance(innermost, Statement)
+            innermost.otherwise = []
         else:
             self.innermost_block().append(statement)
             if word in BLOCKS:
@@ -304,13 +318,14 @@ class Parser:
             if word == "start":
                 self.script.held.add(statement.names[0][1])
 
-    def innermost_block(self):
+    def innermost_block(self) -> list[Statement]:
         innermost = self.open[-1]
-        has_else = isinstance(innermost, Statement) and innermost.otherwise is not None
-        return innermost.otherwise if has_else else innermost.block
+        if isinstance(innermost, Statement) and innermost.otherwise is not None:
+            return innermost.otherwise
+        return innermost.block
 
 
-def parse(data):
+def parse(data: bytes) -> Script:
     if len(data) > 1048576:
         raise Faulty(1, "TooMany")
     return Parser(data).read()

@@ -1,10 +1,14 @@
 """Trace files for the model: their text, and how they are read with their faults."""
 
-import re
-from dataclasses import dataclass, field
+from __future__ import annotations
 
-from pctmodel.run import Event
-from pctmodel.script import GREATEST, LEAST, Faulty, is_name
+import re
+from collections.abc import Iterator
+from dataclasses import dataclass, field
+from typing import Any, Generic, Protocol, TypeVar
+
+from pctmodel.run import Ask, Event
+from pctmodel.script import GREATEST, LEAST, Faulty, Script, is_name
 
 # What follows the first word of an ask: names of objects of that kind, and values.
 ASKS = {
@@ -15,26 +19,29 @@ ASKS = {
     "check": "0|1", "fault": "overflow|zerodivisor|spin",
 }
 ASKS_OF_2 = dict.fromkeys(["rdlock", "wrlock", "tryrdlock", "trywrlock", "rwunlock"], "rwlock")
-MISUSES = {1: ["notowner", "semfull", "alreadystarted"], 2: ["notowner", "semfull", "alreadystarted", "toomanyreads"]}
-FAULTS = ["overflow", "zerodivisor", "spin"]
+MISUSES_OF_1: list[str | None] = ["notowner", "semfull", "alreadystarted"]
+MISUSES = {1: MISUSES_OF_1, 2: [*MISUSES_OF_1, "toomanyreads"]}
+FAULTS: list[str | None] = ["overflow", "zerodivisor", "spin"]
+
+Names = list[tuple[str, str]]  # with the kinds that their places need
 
 
 @dataclass
 class Trace:
     version: int = 0
-    order: list = field(default_factory=list)
-    points: list = field(default_factory=list)
+    order: list[str] = field(default_factory=list)
+    points: list[int] = field(default_factory=list)
     limit: int = 0
-    events: list = field(default_factory=list)
-    verdict: str = None
+    events: list[Event] = field(default_factory=list)
+    verdict: str = ""
 
 
-def step_line(number, event):
+def step_line(number: int, event: Event) -> str:
     ask = " ".join(map(str, event.ask))
     return f"{number} {event.thread} {event.line} {ask} = {event.answer}"
 
 
-def trace_lines(trace):
+def trace_lines(trace: Trace) -> Iterator[str]:
     yield f"trace {trace.version}"
     yield "order " + " ".join(trace.order)
     yield " ".join(["points", *map(str, trace.points)])
@@ -44,19 +51,20 @@ def trace_lines(trace):
     yield f"verdict {trace.verdict}"
 
 
-def number_of(text, least, greatest):
+def number_of(text: str, least: int, greatest: int) -> int | None:
     """The number of a canonical decimal in the range, else None."""
     is_canonical = re.fullmatch("0|-?[1-9][0-9]{0,19}", text)
     return int(text) if is_canonical and least <= int(text) <= greatest else None
 
 
-def ask_of(words, version):
+def ask_of(words: list[str], version: int) -> tuple[Ask, Names] | None:
     """The ask of the words and the names that it uses with their kinds, or None where they are no ask."""
     forms = {**ASKS, **ASKS_OF_2} if version == 2 else ASKS
     if not words or words[0] not in forms:
         return None
     items = forms[words[0]].split()
-    ask, names = [words[0]], []
+    ask: list[Any] = [words[0]]
+    names: Names = []
     if len(items) != len(words) - 1:
         return None
     for item, word in zip(items, words[1:]):
@@ -73,26 +81,28 @@ def ask_of(words, version):
     return tuple(ask), names
 
 
-def step_of(words, version):
+def step_of(words: list[str], version: int) -> tuple[int, Event, Names] | None:
     """The number, the event and the names of a step line's words, or None where they are none by form."""
     if len(words) < 6 or words[-2] != "=":
         return None
     number, line = number_of(words[0], 0, GREATEST), number_of(words[2], 1, 4096)
     asked, answer = ask_of(words[3:-2], version), number_of(words[-1], LEAST, GREATEST)
-    if None in (number, line, asked, answer) or not is_name(words[1]):
+    if number is None or line is None or asked is None or answer is None or not is_name(words[1]):
         return None
     return number, Event(words[1], line, asked[0], answer), [("thread", words[1]), *asked[1]]
 
 
-def threads_of_verdict(words, version, script):
+def threads_of_verdict(words: list[str], version: int, script: Script) -> list[str] | None:
     """The threads that the words of a verdict name, or None where they are no verdict by form."""
     kind, *rest = words
     if kind in ("passed", "cut"):
         return [] if not rest else None
-    threads, lines, last = rest[0::2], rest[1::2], None
+    threads, lines = rest[0::2], rest[1::2]
+    last: str | None = None
     if kind in ("misuse", "fault") and len(rest) == 3:
         threads, last = rest[:1], rest[2]
-    lasts = {"failed": [None], "stuck": [None], "misuse": MISUSES[version], "fault": FAULTS}
+    lasts: dict[str, list[str | None]] = {"failed": [None], "stuck": [None]}
+    lasts |= {"misuse": MISUSES[version], "fault": FAULTS}
     if last not in lasts.get(kind, []) or len(lines) != len(threads) or not threads:
         return None
     if kind == "failed" and len(threads) != 1:
@@ -104,47 +114,61 @@ def threads_of_verdict(words, version, script):
     return threads if all(low < high for low, high in zip(places, places[1:])) else None
 
 
-class LineReader:
-    """Takes a file line by line, its head first, into what it makes. Each `take` answers the fault of its line, or None."""
+class Made(Protocol):
+    verdict: str  # empty until it is read
 
-    def __init__(self, data, script, lines_of_head, made):
+
+Made_ = TypeVar("Made_", bound=Made)
+
+
+class LineReader(Generic[Made_]):
+    """Takes a file line by line, its head first, into what it makes. Each `take` answers the fault of its line, or
+    None."""
+
+    def __init__(self, data: bytes, script: Script, lines_of_head: int, made: Made_) -> None:
         *whole, self.last = data.split(b"\n")  # the last piece has no LF
         self.lines = [*whole, self.last] if self.last else whole
         self.whole, self.lines_of_head = len(whole), lines_of_head
         self.script, self.made = script, made
 
-    def read(self):
+    def take_head(self, number: int, words: list[str], has_end: bool) -> str | None:
+        raise NotImplementedError
+
+    def take_later(self, number: int, words: list[str], has_end: bool) -> str | None:
+        raise NotImplementedError
+
+    def read(self) -> Made_:
         for number in range(1, max(self.lines_of_head, len(self.lines)) + 1):
-            if self.made.verdict is not None:
+            if self.made.verdict:
                 raise Faulty(number, "MoreAfterVerdict")
             text = self.lines[number - 1].decode("latin-1") if number <= len(self.lines) else ""
             take = self.take_head if number <= self.lines_of_head else self.take_later
             fault = take(number, text.split(" "), number <= self.whole)
             if fault:
                 raise Faulty(number, fault)
-        if self.made.verdict is None:
+        if not self.made.verdict:
             raise Faulty(len(self.lines) + 1, "NoVerdict")
         return self.made
 
-    def threads_of(self, words, version):
+    def threads_of(self, words: list[str], version: int) -> list[str] | None:
         """The threads that a verdict's line names, or None where the words are no such line by form."""
         is_verdict = words[0] == "verdict" and len(words) > 1
         return threads_of_verdict(words[1:], version, self.script) if is_verdict else None
 
-    def take_verdict(self, words, threads):
+    def take_verdict(self, words: list[str], threads: list[str]) -> str | None:
         self.made.verdict = " ".join(words[1:])
         return self.fault_of_names([("thread", thread) for thread in threads])
 
-    def fault_of_names(self, names):
+    def fault_of_names(self, names: Names) -> str | None:
         """The names with the kinds that their places need."""
         return None if all(self.script.declares(kind, name) for kind, name in names) else "UnknownName"
 
 
-class TraceReader(LineReader):
-    def __init__(self, data, script):
+class TraceReader(LineReader[Trace]):
+    def __init__(self, data: bytes, script: Script) -> None:
         super().__init__(data, script, 4, Trace())
 
-    def take_head(self, number, words, has_end):
+    def take_head(self, number: int, words: list[str], has_end: bool) -> str | None:
         trace, values = self.made, words[1:]
         if not has_end or words[0] != ["trace", "order", "points", "limit"][number - 1]:
             return "BadHeader"
@@ -157,29 +181,30 @@ class TraceReader(LineReader):
             trace.order = values
             return self.fault_of_names([("thread", value) for value in values])
         elif number == 3:
-            trace.points = [number_of(value, 1, 100000) for value in values]
-            return "BadHeader" if None in trace.points or len(values) > 7 else None
+            points = [number_of(value, 1, 100000) for value in values]
+            trace.points = [point for point in points if point is not None]
+            return "BadHeader" if None in points or len(values) > 7 else None
         elif number == 4 and len(values) == 1:
-            trace.limit = number_of(values[0], 1, 100000)
-            return "BadHeader" if trace.limit is None else None
+            trace.limit = number_of(values[0], 1, 100000) or 0
+            return None if trace.limit else "BadHeader"
         else:
             return "BadHeader"
         return None
 
-    def take_later(self, _, words, has_end):
+    def take_later(self, _: int, words: list[str], has_end: bool) -> str | None:
         step, threads = step_of(words, self.made.version), self.threads_of(words, self.made.version)
         if step and step[0] > self.made.limit:
             return "TooLong"
         if not has_end or (step is None and threads is None):
             return "BadLine"
-        return self.take_step(*step) if step else self.take_verdict(words, threads)
+        return self.take_step(*step) if step else self.take_verdict(words, threads or [])
 
-    def take_step(self, number, event, names):
+    def take_step(self, number: int, event: Event, names: Names) -> str | None:
         self.made.events.append(event)
         return self.fault_of_names(names) or (None if number == len(self.made.events) else "OutOfOrder")
 
 
-def read_trace(data, script):
+def read_trace(data: bytes, script: Script) -> Trace:
     if len(data) > 16777216:
         raise Faulty(1, "TooLong")
     return TraceReader(data, script).read()

@@ -1,6 +1,8 @@
 """The words of the command line for the model: which of them are taken, and the number of the first that isn't."""
 
-from collections import namedtuple
+from __future__ import annotations
+
+from typing import Any, NamedTuple
 
 from pctmodel.script import is_name
 from pctmodel.trace import number_of
@@ -17,7 +19,7 @@ CERTIFY = {"--steps": True, "--limit": False}
 SWEEP = {"--depth": True, "--steps": False, "--limit": False, "--form": False}
 CAMPAIGN = {"--from": True, "--count": True, "--depth": True, "--steps": False, "--limit": False, "--form": False}
 # By command: how many words stand before the options, and the forms of these.
-COMMANDS = {
+COMMANDS: dict[str, tuple[int, list[Form]]] = {
     "run": (1, [BY_ORDER, BY_SEED]),
     "races": (1, [BY_ORDER, BY_SEED]),
     "locks": (1, [BY_ORDER, BY_SEED]),
@@ -30,14 +32,21 @@ COMMANDS = {
     "big": (1, [{}]),
 }
 
-Settings = namedtuple("Settings", "command before options places")  # places: the number of each option's value
+
+class Settings(NamedTuple):
+    """The words that were taken."""
+
+    command: str
+    before: list[str]
+    options: dict[str, Any]
+    places: dict[str, int]  # the number of each option's value
 
 
 class NotTaken(Exception):
     """The number of the first word that isn't taken, from 1."""
 
 
-def value_of(option, word):
+def value_of(option: str, word: str) -> Any:
     """What the word gives to the option, or None where it isn't lawful."""
     if option == "--order":
         names = word.split(",")
@@ -50,7 +59,7 @@ def value_of(option, word):
     return number_of(word, *RANGES[option])
 
 
-def read_words(words):
+def read_words(words: list[str]) -> Settings:
     if not words or words[0] not in COMMANDS:
         raise NotTaken(1)
     count, forms = COMMANDS[words[0]]
@@ -67,7 +76,6 @@ def read_words(words):
         if value is None:
             raise NotTaken(at + 2)
         given[option], settings.places[option] = value, at + 2
-    is_whole = lambda form: all(name in settings.options for name, is_needed in form.items() if is_needed)
-    if not any(map(is_whole, forms)):
+    if not any(all(name in settings.options for name, is_needed in form.items() if is_needed) for form in forms):
         raise NotTaken(len(words) + 1)
     return settings

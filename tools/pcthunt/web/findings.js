@@ -17,7 +17,7 @@ function showFailure(page, heading) {
   const order = run.order.map((name) => names.of(name)).join(", ");
   show(
       "told", heading.told?.length ? make("ul", {}, ...heading.told.map((line) => make("li", {}, line))) : "",
-      shares.length ? make("p", {class: "hint"}, `It comes in ${listed(shares)}.`) : "",
+      shares.length ? make("p", {class: "hint"}, `It happens in ${listed(shares)}.`) : "",
       heading.directive?.bound ? make("p", {class: "hint"}, boundWords(heading.directive)) : "",
       make(
           "p", {class: "hint"},
@@ -38,13 +38,14 @@ function pointWords(points) {
                                `The threads of the steps ${steps} are put last right after them: change points.`;
 }
 
-const boundWords = ({bound, threads, steps, depth}) => `At least 1 of ${bound} choices at ${
-    counted(threads, "thread")}, ${counted(steps, "step")} and depth ${depth} fails so: this is certified.`;
+const boundWords = ({bound, threads, steps, depth}) =>
+    `At least 1 of ${BigInt(bound).toLocaleString("en")} choices at ${counted(threads, "thread")}, ` +
+    `${counted(steps, "step")} and depth ${depth} fails so: this is certified.`;
 
 function shareWords(round, count) {
   if (!round) return "";
-  const what = round.sweep ? "choices" : "seeds";
-  return `${count.toLocaleString("en")} of ${round.seeds.toLocaleString("en")} ${what} at depth ${round.depth}`;
+  const [whole, what] = round.sweep ? ["all ", "orders and change points"] : ["", "orders that seeds drew"];
+  return `${count.toLocaleString("en")} of ${whole}${round.seeds.toLocaleString("en")} ${what} at depth ${round.depth}`;
 }
 
 /** A command with a button that copies it. */
@@ -99,7 +100,7 @@ function showPassing(page, heading) {
       make("caption", {}, `The same up to step ${passing.differs - 1}, and other from step ${passing.differs} on`),
       make("thead", {}, make("tr", {}, ...heads)), body);
   show(
-      "pair", make("p", {}, `${passing.says}: then the run passes.`),
+      "pair", make("p", {}, `The same order of the threads, ${passing.says}: this run passes.`),
       make("div", {class: "wide", tabindex: "0", role: "region", "aria-label": "The two runs"}, table), more);
 }
 

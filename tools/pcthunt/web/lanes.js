@@ -1,6 +1,8 @@
 // The lanes: a row for each step, of which only those that are seen are there.
 
 const SPARE_ROWS = 8;
+const MEASURED_STEPS = 500;
+const [NUMBER_WIDTH, LEAST_WIDTH, MOST_WIDTH] = [3.4, 6.6, 12];  // of the numbers and of a lane, in rem
 
 class Lanes {
   constructor(box, choose) {
@@ -12,7 +14,10 @@ class Lanes {
     this.end = make("div", {class: "row end", "aria-hidden": "true"});
     box.replaceChildren(this.head, this.list, this.end);
     box.addEventListener("scroll", () => this.later());
-    window.addEventListener("resize", () => this.later());
+    window.addEventListener("resize", () => {
+      this.fit();
+      this.later();
+    });
     this.list.addEventListener("click", (event) => {
       const row = event.target.closest("[data-step]");
       if (row) choose(Number(row.dataset.step));
@@ -26,6 +31,7 @@ class Lanes {
     this.lane = new Map(this.threads.map((name, index) => [name, index]));
     this.height = this.head.getBoundingClientRect().height || 34;
     this.box.style.setProperty("--lanes", this.threads.length);
+    this.fit();
     this.head.replaceChildren(
         make("span", {}, "step"), ...this.threads.map((name) => make("span", {}, names.of(name))));
     this.height = this.head.getBoundingClientRect().height;
@@ -34,6 +40,20 @@ class Lanes {
     this.end.replaceChildren(make("span", {}, "end"), ...this.placed((name) => this.standing(name, state, null)));
     this.box.scrollTop = 0;
     this.draw();
+  }
+
+  /**
+   * Sets how wide a lane is at least: so that the labels of the first steps are read whole, where all lanes are seen
+   * then or where they aren't anyway.
+   */
+  fit() {
+    if (!this.run) return;
+    const needs = (step, index) => labelOf(step).length * 0.5 + this.marks.of(index + 1).length * 1.25 + 1;
+    const needed = Math.min(MOST_WIDTH, Math.max(LEAST_WIDTH, ...this.run.steps.slice(0, MEASURED_STEPS).map(needs)));
+    const rem = parseFloat(getComputedStyle(document.documentElement).fontSize);
+    const room = (this.box.clientWidth / rem - NUMBER_WIDTH) / this.threads.length;
+    const width = room < LEAST_WIDTH ? needed : Math.max(LEAST_WIDTH, Math.min(needed, room));
+    this.box.style.setProperty("--least", `${width}rem`);
   }
 
   later() {

@@ -1,5 +1,6 @@
 // The page: which failure and which step is shown, by keys, buttons and the address.
 
+const SCRIPTED = ["pct-hunt", "lanes"];  // the writers whose sources are scripts
 const ADDRESS_DELAY = 150;  // milliseconds: the address follows when the steps rest
 
 class Page {
@@ -14,7 +15,8 @@ class Page {
     this.story = new Story(at("story"), (number) => this.select(number, false));
     this.source = new Source(at("source"));
     this.details = new Details(at("state-head"), at("details"));
-    this.source.open(found.sources);
+    this.source.open(found.sources, found.title);
+    at("script-head").textContent = SCRIPTED.includes(found.writer) ? "Script" : "Source";
     this.opened = new Map();
     this.group = -1;
     this.number = 0;

@@ -58,11 +58,11 @@ class Marks {
   markLowered() {
     this.run.steps.forEach((step, index) => {
       if (step.lowered !== undefined) {
+        const thread = this.names.of(step.thread);
         this.put(
             index + 1, "lowered",
-            `Change point: ${
-                this.names.of(
-                    step.thread)} gets a lower priority right after this step, and waits until none of the others can go.`);
+            `Change point: ${thread} gets a lower priority right after this step, and waits until none of the others ` +
+                "can go.");
       }
     });
   }
@@ -93,11 +93,13 @@ class Marks {
 
   markMoments() {
     const seen = new Set();
-    for (const directive of [this.heading.directive, this.heading.find]) {
+    const told = [["The failure needs this moment", this.heading.find],
+                  ["A moment of the certified directive", this.heading.directive]];
+    for (const [says, directive] of told) {
       for (const moment of directive?.moments ?? []) {
         if (moment.step === null || seen.has(moment.step)) continue;
         seen.add(moment.step);
-        this.put(moment.step, "moment", `A moment of the directive: ${momentWords(moment, this.names)}.`);
+        this.put(moment.step, "moment", `${says}: ${momentWords(moment, this.names)}.`);
       }
     }
   }

@@ -7,13 +7,13 @@ class Source {
     this.marked = [];
   }
 
-  open(sources) {
+  open(sources, title) {
     this.lines.clear();
     this.marked = [];
-    this.box.replaceChildren(...sources.flatMap((source) => this.file(source, sources.length > 1)));
+    this.box.replaceChildren(...sources.flatMap((source) => this.file(source, sources.length > 1 || source.file !== title)));
   }
 
-  file({file, text}, isOneOfMany) {
+  file({file, text}, isNamed) {
     const lines = text.replace(/\n$/, "").split("\n").map((line, index) => {
       const row = make(
           "li", {"data-line": index + 1}, make("span", {class: "number", "aria-hidden": "true"}, String(index + 1)),
@@ -22,7 +22,7 @@ class Source {
       return row;
     });
     return [
-      isOneOfMany ? make("h4", {}, file) : null, make("ol", {class: "source", "aria-label": file}, ...lines)
+      isNamed ? make("h4", {}, file) : null, make("ol", {class: "source", "aria-label": file}, ...lines)
     ].filter(Boolean);
   }
 
@@ -51,7 +51,7 @@ class Source {
 
   scrollTo(row) {
     const [top, bottom] = [this.box.scrollTop, this.box.scrollTop + this.box.clientHeight];
-    const place = row.offsetTop - this.box.offsetTop;
+    const place = row.offsetTop;
     if (place < top || place + row.offsetHeight > bottom) this.box.scrollTop = place - this.box.clientHeight / 3;
   }
 }

@@ -29,12 +29,12 @@ const VERBS = {
   add: ([name, value], answer) => `adds ${value} to ${name}, which was ${answer}`,
   cas: ([name, old, value], answer) =>
       answer === "0" ? `finds that ${name} isn't ${old}, and leaves it` : `changes ${name} from ${old} to ${value}`,
-  lock: ([name]) => `takes ${name}`,
+  lock: ([name]) => `locks ${name}`,
   trylock: ([name], answer) =>
-      (answer === "0" ? `tries to take ${name}, in vain` : `tries to take ${name}, and has it`),
-  unlock: ([name]) => `gives ${name} back`,
-  release: ([name, mutex]) => `gives ${mutex} back and begins to wait on ${name}`,
-  regain: ([name, mutex]) => `goes on from its wait on ${name}, and has ${mutex} again`,
+      (answer === "0" ? `tries to lock ${name}, in vain` : `tries to lock ${name}, and has it`),
+  unlock: ([name]) => `unlocks ${name}`,
+  release: ([name, mutex]) => `unlocks ${mutex} and begins to wait on ${name}`,
+  regain: ([name, mutex]) => `goes on from its wait on ${name}, and has locked ${mutex} again`,
   signal: ([name], _, woken) => `signals ${name}, ${woken || "for which nobody waits"}`,
   broadcast: ([name], _, woken) => `broadcasts ${name}, ${woken || "for which nobody waits"}`,
   down: ([name]) => `takes one from ${name}`,
@@ -54,11 +54,11 @@ const VERBS = {
                        spin: "can't go on: it makes 10,000 moves without a step",
                      })[kind] ??
       `can't go on: ${kind}`,
-  rdlock: ([name]) => `takes ${name} to read`,
-  wrlock: ([name]) => `takes ${name} to write`,
-  tryrdlock: ([name], answer) => `tries to take ${name} to read, ${answer === "0" ? "in vain" : "and has it"}`,
-  trywrlock: ([name], answer) => `tries to take ${name} to write, ${answer === "0" ? "in vain" : "and has it"}`,
-  rwunlock: ([name]) => `gives ${name} back`,
+  rdlock: ([name]) => `locks ${name} to read`,
+  wrlock: ([name]) => `locks ${name} to write`,
+  tryrdlock: ([name], answer) => `tries to lock ${name} to read, ${answer === "0" ? "in vain" : "and has it"}`,
+  trywrlock: ([name], answer) => `tries to lock ${name} to write, ${answer === "0" ? "in vain" : "and has it"}`,
+  rwunlock: ([name]) => `unlocks ${name}`,
 };
 
 // The asks whose answer tells something.
