@@ -130,6 +130,20 @@ fn other_places_have_numbers_of_their_own() {
     assert!(!passed && text.contains("replayed: failed main 4095, 2 steps"), "{text}");
 }
 
+const TWICE: &str = "#[test]\nfn twice() {\n    pct::check(|| pct::holds(true));\n    pct::check(|| pct::holds(false));\n}\n";
+
+/// The second check of one test has files of its own, and a replay is of that one alone.
+#[test]
+fn two_checks_of_one_test_are_told_apart() {
+    let folder = project("twice", TWICE);
+    let (text, _) = tested(&folder, None, &[]);
+    let trace = trace_of(&text);
+    assert!(trace.ends_with("/twice-2.trace") && text.contains(" -- --exact twice --nocapture\n"), "{text}");
+    let (text, passed) = tested(&folder, Some(&trace), &["--nocapture"]);
+    assert!(!passed && text.contains("twice: not replayed, since the trace is another test's\n"), "{text}");
+    assert!(text.contains("replayed: failed main 4, 1 steps"), "{text}");
+}
+
 const ABORTS: &str = "struct Second;
 impl Drop for Second {
     fn drop(&mut self) { panic!(\"the second\") }

@@ -300,6 +300,21 @@ fn random_is_of_the_seed_and_the_replay_takes_it_from_the_sites() {
     assert_eq!(pct::random(), pct::random());
 }
 
+/// `find` and `certify` have the numbers of the failing run, which those of no seed aren't.
+#[test]
+fn random_is_the_failing_runs_in_find_and_certify() {
+    let number = std::sync::Arc::new(std::sync::Mutex::new(0));
+    let keep = number.clone();
+    let config = Config { seeds: 0, ..Config::default() };
+    pct::run(config.clone(), &Schedule::seed(5, 1), move || *keep.lock().unwrap() = pct::random());
+    let of_five = *number.lock().unwrap();
+    let test = move || pct::holds(pct::random() != of_five);
+    assert!(pct::find(config.clone(), &Schedule::declared(), test).is_none());
+    let directive = pct::find(config.clone(), &Schedule::seed(5, 1), test).unwrap();
+    let certificate = pct::certify(config, &directive, test).to_string();
+    assert_eq!(certificate, "order main points\ncertified 1 in 1\n");
+}
+
 #[test]
 fn the_document_has_the_run() {
     let trace = written("document", lost_update());

@@ -3,7 +3,7 @@
 use super::{failure, few, filled, text_of};
 use pct::sync::atomic::{AtomicU32, Ordering::SeqCst};
 use pct::sync::{Arc, Condvar, Mutex, RwLock};
-use pct::{thread, Config, Panics};
+use pct::{thread, Config, Panics, Schedule};
 use std::cell::RefCell;
 use std::panic::{catch_unwind, AssertUnwindSafe};
 use std::time::Duration;
@@ -78,6 +78,28 @@ fn the_shortest_failing_run_is_told() {
     });
     assert!(told.contains("failed in declared order, and in 20 of the 20 seeds that were run\nthe shortest: seed "), "{told}");
     assert!(told.contains(", 1 steps, order main\n"), "{told}");
+}
+
+/// Runs that are made at once are taken in the order of their seeds.
+#[test]
+fn a_check_by_jobs_tells_the_same() {
+    let told = |jobs| {
+        let config = Config { jobs, name: Some(format!("by {jobs} jobs")), ..Config::default() };
+        let text = text_of(|| {
+            pct::check_with(config, || {
+                let n = Arc::new(AtomicU32::new(0));
+                let other = n.clone();
+                let thread = thread::spawn(move || other.store(other.load(SeqCst) + 1, SeqCst));
+                n.store(n.load(SeqCst) + 1, SeqCst);
+                thread.join().unwrap();
+                assert_eq!(n.load(SeqCst), 2);
+            })
+        });
+        text.split("written: ").next().unwrap().to_owned()
+    };
+    let one = told(1);
+    assert!(one.contains("failed in 20 of the ") && one.contains("the shortest: seed "), "{one}");
+    assert_eq!(one, told(3));
 }
 
 /// The run in declared order starts two threads, others a third one: from then on all orders have three.
@@ -204,6 +226,24 @@ fn panics_as_std_poison_and_are_joined() {
         drop(thread);
     });
     assert!(lost.contains(&filled(SOURCE, "panicked at tests/rules/ends.rs:{nobody_joins}: nobody joins")), "{lost}");
+}
+
+/// A guard's drop is a step while the panic unwinds, and the thread goes on behind who catches it.
+#[test]
+fn guards_unlock_by_steps_where_panics_are_as_std() {
+    let config = Config { panics: Panics::AsStd, ..Config::default() };
+    let run = pct::run(config, &Schedule::declared(), || {
+        let (mutex, lock) = (Mutex::new(0), RwLock::new(0));
+        let caught = catch_unwind(AssertUnwindSafe(|| {
+            let _guards = (mutex.lock().unwrap(), lock.write().unwrap());
+            panic!("under both");
+        }));
+        assert!(caught.is_err() && mutex.is_poisoned() && lock.is_poisoned());
+        assert!(mutex.lock().is_err());
+    });
+    let asks: Vec<String> = run.steps().into_iter().map(|step| step.ask).collect();
+    assert!(run.passed(), "{}", run.lanes());
+    assert_eq!(asks, ["lock m0", "wrlock l0", "unlock m0", "rwunlock l0", "lock m0", "unlock m0"]);
 }
 
 #[test]
