@@ -5,6 +5,8 @@
 
 use pct::{thread, Config};
 use std::collections::BTreeSet;
+use std::os::linux::net::SocketAddrExt;
+use std::os::unix::net::{SocketAddr, UnixListener};
 use std::sync::{Arc, Mutex};
 
 /// The processors on which the calling thread may run.
@@ -44,4 +46,23 @@ fn threads_of_a_run_are_on_one_processor_and_jobs_on_several() {
         assert_eq!(seen(Config { pin: false, ..config }), BTreeSet::from([before.clone()]));
         assert_eq!(allowed(), before);
     }
+    others_are_left_alone(&before);
+}
+
+/// A processor that another process has marked is taken only where there is no other one. Tests elsewhere mark some, too, so it is tried
+/// some times.
+fn others_are_left_alone(processors: &[usize]) {
+    let mark = |processor: &usize| {
+        let address = SocketAddr::from_abstract_name(format!("pct processor {processor}")).unwrap();
+        UnixListener::bind_addr(&address).ok()
+    };
+    let (last, rest) = processors.split_last().unwrap();
+    let config = Config { seeds: 20, ..Config::default() };
+    let is_last_taken = || {
+        let _marks: Vec<_> = rest.iter().map(mark).collect();
+        seen(config.clone()) == BTreeSet::from([vec![*last]])
+    };
+    assert!((0..20).any(|_| is_last_taken()));
+    let _marks: Vec<_> = processors.iter().map(mark).collect();
+    assert!(seen(config).iter().all(|processors| processors.len() == 1));
 }
