@@ -1,4 +1,5 @@
-//! Finds the core's library, `libpct.a`: in PCT_LIB_DIR, in the repository, where pct is installed, by pkg-config.
+//! Finds the core's library, `libpct.a`: in PCT_LIB_DIR, in the repository, where pct is installed,
+//! by pkg-config.
 
 use std::path::{Path, PathBuf};
 use std::process::Command;
@@ -11,7 +12,8 @@ fn main() {
     println!("cargo:rerun-if-env-changed=PKG_CONFIG_PATH");
     let Some(folder) = folder_of_library() else {
         eprintln!(
-            "pct: no {LIBRARY}: neither in PCT_LIB_DIR, nor in ../../lib or ../../../lib from this crate, nor by pkg-config. \
+            "pct: no {LIBRARY}: neither in PCT_LIB_DIR, nor in ../../lib or ../../../lib from this \
+             crate, nor by pkg-config. \
              ./build in pct's repository makes it"
         );
         std::process::exit(1);
@@ -27,7 +29,10 @@ fn folder_of_library() -> Option<PathBuf> {
         return has_library(Path::new(&named));
     }
     let own = PathBuf::from(env::var_os("CARGO_MANIFEST_DIR")?);
-    ["../../lib", "../../../lib"].iter().find_map(|folder| has_library(&own.join(folder))).or_else(by_pkg_config)
+    ["../../lib", "../../../lib"]
+        .iter()
+        .find_map(|folder| has_library(&own.join(folder)))
+        .or_else(by_pkg_config)
 }
 
 fn has_library(folder: &Path) -> Option<PathBuf> {

@@ -1,4 +1,5 @@
-"""The crate out of the archive that ./dist makes: how it finds the library, and the commands of docs/rust.md in an empty folder."""
+"""The crate out of the archive that ./dist makes: how it finds the library, and the commands of docs/rust.md in an
+empty folder."""
 
 import json
 import os
@@ -11,8 +12,10 @@ from collections.abc import Iterator
 
 TOP = pathlib.Path(__file__).resolve().parent.parent.parent
 PAGE = TOP / "docs" / "rust.md"
-OWN = ("PCT_LIB_DIR", "PCT_SEEDS", "PCT_DEPTH", "PCT_FROM", "PCT_REPLAY", "PKG_CONFIG_PATH", "CARGO_TARGET_DIR", "RUSTFLAGS")
-MISSING = "pct: no libpct.a: neither in PCT_LIB_DIR, nor in ../../lib or ../../../lib from this crate, nor by pkg-config."
+OWN = ("PCT_LIB_DIR", "PCT_SEEDS", "PCT_DEPTH", "PCT_FROM", "PCT_REPLAY", "PKG_CONFIG_PATH", "CARGO_TARGET_DIR",
+       "RUSTFLAGS")
+MISSING = ("pct: no libpct.a: neither in PCT_LIB_DIR, nor in ../../lib or ../../../lib from this crate, nor by "
+           "pkg-config.")
 Checks = Iterator[tuple[str, bool]]
 
 
@@ -68,17 +71,20 @@ def finding(prefix: pathlib.Path, room: pathlib.Path) -> Checks:
 
 def version(prefix: pathlib.Path, room: pathlib.Path) -> Checks:
     """A library whose calls are of another version is refused by its number."""
-    calls = set(re.findall(r"\b(pct_[a-z_]+)\(", (prefix / "include" / "pct.h").read_text(encoding="utf-8"))) - {"pct_tell_version"}
+    header = (prefix / "include" / "pct.h").read_text(encoding="utf-8")
+    calls = sorted(set(re.findall(r"\b(pct_[a-z_]+)\(", header)) - {"pct_tell_version"})
     source, folder = room / "other.c", room / "version"
     folder.mkdir()
-    lines = ["#include <stdlib.h>", "unsigned pct_tell_version(void) { return 2; }", *(f"void {call}(void) {{ abort(); }}" for call in sorted(calls))]
-    source.write_text("\n".join(lines) + "\n", encoding="utf-8")
+    lines = [f"void {call}(void) {{ abort(); }}" for call in calls]
+    begin = "#include <stdlib.h>\nunsigned pct_tell_version(void) { return 2; }\n"
+    source.write_text(begin + "\n".join(lines) + "\n", encoding="utf-8")
     subprocess.run(["cc", "-c", source, "-o", folder / "other.o"], check=True)
     subprocess.run(["ar", "rc", folder / "libpct.a", folder / "other.o"], check=True)
     words = ["cargo", "run", "--quiet", "--example", "pool"]
     done = subprocess.run(words, cwd=TOP / "native" / "rust", capture_output=True, text=True, check=False,
                           env=environment(PCT_LIB_DIR=str(folder), CARGO_TARGET_DIR=str(room / "target")))
-    yield "a library of another version", "pct: the library that was linked has another version than this crate" in done.stderr
+    sentence = "pct: the library that was linked has another version than this crate"
+    yield "a library of another version", sentence in done.stderr
 
 
 def blocks() -> list[tuple[str, str]]:
@@ -93,13 +99,14 @@ def stands_in(text: str, told: str) -> str | None:
 
 
 def page(prefix: pathlib.Path, room: pathlib.Path) -> Checks:
-    """The page's commands, one after the other in an empty folder. A text has lines of what the commands before it wrote."""
+    """The page's commands, one after the other in an empty folder. A text has lines of what the commands before it
+    wrote."""
     folder = room / "empty"
     folder.mkdir()
     commands = [text for kind, text in blocks() if kind == "sh"]
     script = "".join(f"{text}\nprintf '\\n== %s\\n' $?\n" for text in commands)
-    done = subprocess.run(["sh"], input=script, cwd=folder, stdout=subprocess.PIPE, stderr=subprocess.STDOUT, text=True, check=False,
-                          env=environment(PREFIX=str(prefix)))
+    done = subprocess.run(["sh"], input=script, cwd=folder, stdout=subprocess.PIPE, stderr=subprocess.STDOUT, text=True,
+                          check=False, env=environment(PREFIX=str(prefix)))
     told = re.split(r"^== \d+\n", done.stdout.replace(f"{folder.resolve()}/", ""), flags=re.M)
     yield "the page's commands have an end", len(told) == len(commands) + 1
     number = -1

@@ -1,5 +1,5 @@
-"""Holds what tests/gallery.rs of the crate for Rust wants of its campaigns and traces against the plain model of tools/pctmodel, which
-reads the scripts of the gallery."""
+"""Holds what tests/gallery.rs of the crate for Rust wants of its campaigns and traces against the plain model of
+tools/pctmodel, which reads the scripts of the gallery."""
 
 import pathlib
 import re
@@ -63,6 +63,7 @@ def faults() -> Iterator[str]:
         if found != int(wanted, 16):
             yield f"{name}: gallery.rs wants traces of the sum {wanted}, and those of the model have {found:#x}"
     scripts = {path.stem for path in (TOP / "examples").glob("*.pct")}
-    yield from (f"{name}: gallery.rs has no campaign of it" for name in sorted(scripts - {name for *_, name, _ in campaigns}))
+    known = {name for *_, name, _ in campaigns}
+    yield from (f"{name}: gallery.rs has no campaign of it" for name in sorted(scripts - known))
     if len(sums) < 10:
         yield f"gallery.rs has traces of {len(sums)} scripts, not of ten"

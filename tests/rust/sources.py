@@ -25,6 +25,7 @@ def faults_of(crate: pathlib.Path) -> Iterator[str]:
         lines, name = path.read_text(encoding="utf-8").splitlines(), path.relative_to(crate)
         if len(lines) > MOST_LINES:
             yield f"{name} has {len(lines)} lines"
-        yield from (f"{name}:{first}: a function of {many} lines" for first, many in functions_of(lines) if many > MOST_OF_FUNCTION)
-        if path.name != "ffi.rs":
-            yield from (f"{name}:{at}: unsafe" for at, line in enumerate(lines, 1) if UNSAFE.search(line.split("//")[0]))
+        long = [(first, many) for first, many in functions_of(lines) if many > MOST_OF_FUNCTION]
+        yield from (f"{name}:{first}: a function of {many} lines" for first, many in long)
+        numbered = enumerate(lines, 1) if path.name != "ffi.rs" else ()
+        yield from (f"{name}:{at}: unsafe" for at, line in numbered if UNSAFE.search(line.split("//")[0]))

@@ -1,5 +1,6 @@
-//! How many runs and steps a second: `cargo run --release --example bench [RUNS]`. Three threads and eight steps, and two threads that
-//! hand over at each change point of long runs. `bench.pct` beside it is the same as a script, for `pct campaign`.
+//! How many runs and steps a second: `cargo run --release --example bench [RUNS]`. Three threads
+//! and eight steps, and two threads that hand over at each change point of long runs. `bench.pct`
+//! beside it is the same as a script, for `pct campaign`.
 
 use pct::sync::atomic::{AtomicUsize, Ordering::SeqCst};
 use pct::sync::Arc;
@@ -48,7 +49,13 @@ fn measure(what: &str, config: Config, test: fn(), is_in_steps: bool) {
 
 fn main() {
     let runs = std::env::args().nth(1).and_then(|runs| runs.parse().ok()).unwrap_or(20_000);
-    let of = |seeds, jobs, keep_threads| Config { seeds, jobs, keep_threads, depth: Some(3), ..Config::default() };
+    let of = |seeds, jobs, keep_threads| Config {
+        seeds,
+        jobs,
+        keep_threads,
+        depth: Some(3),
+        ..Config::default()
+    };
     measure("fresh threads", of(runs / 5, 1, false), eight_steps, false);
     measure("kept threads", of(runs, 1, true), eight_steps, false);
     measure("kept threads, four jobs", of(runs, 4, true), eight_steps, false);

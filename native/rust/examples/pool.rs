@@ -1,6 +1,7 @@
-//! A pool of threads with a planted bug: it is closed without its mutex, and so perhaps between a worker's look and its wait, which
-//! nobody ends then. `cargo run --example pool` finds it, and leaves the trace and the document of the shortest failing run:
-//! `pct-hunt --page pool.json` makes a page of it.
+//! A pool of threads with a planted bug: it is closed without its mutex, and so perhaps between a
+//! worker's look and its wait, which nobody ends then. `cargo run --example pool` finds it, and
+//! leaves the trace and the document of the shortest failing run: `pct-hunt --page pool.json` makes
+//! a page of it.
 
 use pct::sync::atomic::{AtomicBool, AtomicU32, Ordering::SeqCst};
 use pct::sync::{Arc, Condvar, Mutex};
@@ -37,8 +38,11 @@ struct Pool {
 
 impl Pool {
     fn new(many: u32) -> Pool {
-        let shared =
-            Arc::new(Shared { jobs: Mutex::new(VecDeque::new()), is_closed: AtomicBool::new(false), changed: Condvar::new() });
+        let shared = Arc::new(Shared {
+            jobs: Mutex::new(VecDeque::new()),
+            is_closed: AtomicBool::new(false),
+            changed: Condvar::new(),
+        });
         pct::name("jobs", &shared.jobs);
         pct::name("is_closed", &shared.is_closed);
         pct::name("changed", &shared.changed);

@@ -58,11 +58,14 @@ impl Ask {
         Ask::of(kind::YIELD, 0)
     }
 
-    /// Whether its step changes something that a thread which waits by looking again and again may see.
+    /// Whether its step changes something that a thread which waits by looking again and again may
+    /// see.
     pub fn changes(&self, answer: i64) -> bool {
         match self.kind {
             kind::READ | kind::YIELD | kind::CHECK_HOLDS | kind::BEGIN | kind::JOIN => false,
-            kind::CAS | kind::TRY_LOCK | kind::TRY_DOWN | kind::TRY_RD_LOCK | kind::TRY_WR_LOCK => answer == 1,
+            kind::CAS | kind::TRY_LOCK | kind::TRY_DOWN | kind::TRY_RD_LOCK | kind::TRY_WR_LOCK => {
+                answer == 1
+            }
             kind::SIGNAL | kind::BROADCAST => answer > 0,
             _ => true,
         }
@@ -94,7 +97,9 @@ impl Late {
                 let old = values[variable as usize];
                 let new = change(old, by);
                 match sum {
-                    Some(sum) if old.checked_add(sum) == Some(new) => Ask::with_value(kind::ADD, variable, sum),
+                    Some(sum) if old.checked_add(sum) == Some(new) => {
+                        Ask::with_value(kind::ADD, variable, sum)
+                    }
                     _ => Ask::exchange(variable, old, new),
                 }
             }

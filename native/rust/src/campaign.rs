@@ -60,12 +60,23 @@ impl<T: Test> Search<T> {
         let settings = Arc::new(settings);
         let pin = settings.config.pin.then(Pin::claim).flatten();
         let runner = Runner::new(test.clone(), settings.clone());
-        let (threads, steps) = (settings.config.threads.unwrap_or(0), settings.config.steps.unwrap_or(1));
-        Ok(Search { test, settings, runner, threads, steps, sites: Sites::default(), first: None, parked: 0, pin })
+        let (threads, steps) =
+            (settings.config.threads.unwrap_or(0), settings.config.steps.unwrap_or(1));
+        Ok(Search {
+            test,
+            settings,
+            runner,
+            threads,
+            steps,
+            sites: Sites::default(),
+            first: None,
+            parked: 0,
+            pin,
+        })
     }
 
-    /// With the run in declared order, with room for 64 threads: those that nobody starts change nothing. It tells how many threads
-    /// there are and how many steps.
+    /// With the run in declared order, with room for 64 threads: those that nobody starts change
+    /// nothing. It tells how many threads there are and how many steps.
     pub fn begin(test: Arc<T>, settings: Settings) -> Result<Search<T>, String> {
         let mut search = Search::new(test, settings)?;
         let mut order = Order::declared(64);
@@ -83,8 +94,8 @@ impl<T: Test> Search<T> {
     }
 
     pub fn order(&self, seed: u64, depth: u32) -> Result<Order, NoRun> {
-        let (order, points) =
-            ffi::draw(seed, self.threads, self.steps, depth).map_err(|refused| NoRun::Sentence(refused.to_string()))?;
+        let (order, points) = ffi::draw(seed, self.threads, self.steps, depth)
+            .map_err(|refused| NoRun::Sentence(refused.to_string()))?;
         Ok(Order {
             plan: Plan::Points { order, points },
             threads: self.threads,
@@ -93,8 +104,13 @@ impl<T: Test> Search<T> {
         })
     }
 
-    /// Makes the runs of the seeds, and calls `each` with them in the order of the seeds until it breaks.
-    pub fn seeds(&mut self, depth: u32, each: &mut dyn FnMut(u64, Ran) -> ControlFlow<()>) -> Result<(), Stop> {
+    /// Makes the runs of the seeds, and calls `each` with them in the order of the seeds until it
+    /// breaks.
+    pub fn seeds(
+        &mut self,
+        depth: u32,
+        each: &mut dyn FnMut(u64, Ran) -> ControlFlow<()>,
+    ) -> Result<(), Stop> {
         let config = &self.settings.config;
         let seeds = config.from..config.from.saturating_add(config.seeds);
         if config.jobs > 1 {
@@ -171,7 +187,8 @@ impl<T: Test> Search<T> {
     pub fn has_too_many_parked(&self) -> Option<String> {
         (self.parked >= MOST_PARKED).then(|| {
             format!(
-                "{} threads of failing runs stay parked, which a process may not have in any number: take fewer seeds, or mend what \
+                "{} threads of failing runs stay parked, which a process may not have in any \
+                 number: take fewer seeds, or mend what \
                  fails first",
                 self.parked
             )
@@ -184,7 +201,11 @@ impl<T: Test> Search<T> {
 }
 
 /// Runs that come in any order, in that of their seeds.
-fn merge(told: mpsc::Receiver<Made>, from: u64, each: &mut dyn FnMut(u64, Ran) -> ControlFlow<()>) -> Result<(), Stop> {
+fn merge(
+    told: mpsc::Receiver<Made>,
+    from: u64,
+    each: &mut dyn FnMut(u64, Ran) -> ControlFlow<()>,
+) -> Result<(), Stop> {
     let (mut early, mut next) = (BTreeMap::new(), from);
     for (seed, made) in told {
         early.insert(seed, made);
@@ -255,14 +276,19 @@ pub fn campaign<T: Test>(config: Config, test: T) -> Campaign {
     let place = test.place().unwrap_or(Place::of(Location::caller()));
     let depth = config.depth.unwrap_or(3);
     let settings = Settings::new(config, place);
-    let searched = Search::begin(Arc::new(test), settings).and_then(|search| rows_of(search, depth));
+    let searched =
+        Search::begin(Arc::new(test), settings).and_then(|search| rows_of(search, depth));
     searched.unwrap_or_else(|sentence| panic!("pct: {sentence}"))
 }
 
 fn rows_of<T: Test>(mut search: Search<T>, depth: u32) -> Result<Campaign, String> {
     loop {
         let (mut rows, mut sum, mut parked, mut last) = (Vec::new(), 0, search.parked, None);
-        let mut names = search.first.as_ref().map(|first| crate::names::Names::of(first, search.threads)).unwrap_or_default();
+        let mut names = search
+            .first
+            .as_ref()
+            .map(|first| crate::names::Names::of(first, search.threads))
+            .unwrap_or_default();
         let mut sites = search.sites.clone();
         let searched = search.seeds(depth, &mut |seed, ran| {
             sites.absorb(&ran.places);
@@ -287,15 +313,32 @@ fn rows_of<T: Test>(mut search: Search<T>, depth: u32) -> Result<Campaign, Strin
                 if let Some(sentence) = search.has_too_many_parked() {
                     return Err(sentence);
                 }
-                let frame = Frame { threads: search.threads, steps: search.steps, depth, limit: search.settings.config.limit };
-                return told(&names.text(), frame, &rows, sum).map_err(|refused| refused.to_string());
+                let frame = Frame {
+                    threads: search.threads,
+                    steps: search.steps,
+                    depth,
+                    limit: search.settings.config.limit,
+                };
+                return told(&names.text(), frame, &rows, sum)
+                    .map_err(|refused| refused.to_string());
             }
         }
     }
 }
 
-fn told(names: &str, frame: Frame, rows: &[RawRow], sum: u64) -> Result<Campaign, crate::raw::Refused> {
-    let row = |row: &RawRow| Ok(Row { seed: row.seed, steps: row.steps, verdict: ffi::verdict_text(names, &row.verdict)? });
+fn told(
+    names: &str,
+    frame: Frame,
+    rows: &[RawRow],
+    sum: u64,
+) -> Result<Campaign, crate::raw::Refused> {
+    let row = |row: &RawRow| {
+        Ok(Row {
+            seed: row.seed,
+            steps: row.steps,
+            verdict: ffi::verdict_text(names, &row.verdict)?,
+        })
+    };
     let group = |group: &RawGroup| {
         let verdict = ffi::verdict_text(names, &group.verdict)?;
         Ok(Group { count: group.count, steps: group.steps, first: group.first, verdict })
@@ -320,7 +363,13 @@ fn summed(sum: u64, ran: &Ran) -> u64 {
     let steps = ran.events.iter().fold(start, |sum, event| {
         let ask = &event.ask;
         let words = [event.thread, event.line, ask.kind, ask.a, ask.b].map(u64::from);
-        words.into_iter().chain([ask.x, ask.y, event.answer].map(|value| value as u64)).fold(sum, mix)
+        words
+            .into_iter()
+            .chain([ask.x, ask.y, event.answer].map(|value| value as u64))
+            .fold(sum, mix)
     });
-    [ran.outcome.kind, ran.outcome.thread, ran.outcome.line].into_iter().map(u64::from).fold(steps, mix)
+    [ran.outcome.kind, ran.outcome.thread, ran.outcome.line]
+        .into_iter()
+        .map(u64::from)
+        .fold(steps, mix)
 }

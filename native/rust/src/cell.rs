@@ -22,8 +22,9 @@ impl CellId {
     }
 }
 
-/// A cell for code that sees to its accesses itself. An access is no step. In the runs of [`races`](crate::races) it is kept, and two
-/// accesses that nothing orders, at least one of them by `with_mut`, are told.
+/// A cell for code that sees to its accesses itself. An access is no step. In the runs of
+/// [`races`](crate::races) it is kept, and two accesses that nothing orders, at least one of them
+/// by `with_mut`, are told.
 pub struct UnsafeCell<T: ?Sized> {
     id: CellId,
     inner: cell::UnsafeCell<T>,

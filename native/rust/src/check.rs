@@ -16,11 +16,12 @@ use std::time::{Duration, Instant};
 const MOST_FAILING: u64 = 20;
 const MOST_TIME: Duration = Duration::from_secs(2);
 
-/// Makes the run in declared order and 1,000 runs each at the depths 1, 2 and 3, by the seeds from 1, and panics where one fails: with
-/// what failed and where, the shortest failing run as lanes, and the line that shows it again.
+/// Makes the run in declared order and 1,000 runs each at the depths 1, 2 and 3, by the seeds from
+/// 1, and panics where one fails: with what failed and where, the shortest failing run as lanes,
+/// and the line that shows it again.
 ///
-/// The environment's `PCT_SEEDS`, `PCT_DEPTH` and `PCT_FROM` set how many seeds, at which depth and from which on; with `PCT_REPLAY`
-/// the run of that trace is made again instead.
+/// The environment's `PCT_SEEDS`, `PCT_DEPTH` and `PCT_FROM` set how many seeds, at which depth and
+/// from which on; with `PCT_REPLAY` the run of that trace is made again instead.
 ///
 /// # Panics
 ///
@@ -62,7 +63,8 @@ fn by_environment(config: Config) -> Config {
         let text = std::env::var(name).ok()?;
         Some(text.parse::<u64>().unwrap_or_else(|_| panic!("pct: {name} is no number: {text}")))
     };
-    let depth = number("PCT_DEPTH").map(|depth| depth.min(u64::from(u32::MAX)) as u32).or(config.depth);
+    let depth =
+        number("PCT_DEPTH").map(|depth| depth.min(u64::from(u32::MAX)) as u32).or(config.depth);
     Config {
         seeds: number("PCT_SEEDS").unwrap_or(config.seeds),
         from: number("PCT_FROM").unwrap_or(config.from),
@@ -95,7 +97,8 @@ impl Failures {
                 self.shortest = Some((ran, drawn));
             }
         }
-        let is_enough = self.count >= MOST_FAILING || self.since.is_some_and(|since| since.elapsed() >= MOST_TIME);
+        let is_enough = self.count >= MOST_FAILING
+            || self.since.is_some_and(|since| since.elapsed() >= MOST_TIME);
         if is_enough {
             ControlFlow::Break(())
         } else {
@@ -109,7 +112,8 @@ fn checked<T: Test>(settings: Settings, test: Arc<T>) -> Result<Option<String>, 
     let mut search = Search::begin(test, settings)?;
     let mut failures = Failures::new();
     let mut first = search.first.take();
-    let declared = first.as_ref().map_or_else(|| Order::declared(search.threads), |first| first.order.clone());
+    let declared =
+        first.as_ref().map_or_else(|| Order::declared(search.threads), |first| first.order.clone());
     loop {
         if let Some(first) = first.take() {
             let _ = failures.take(first, None);
@@ -130,7 +134,8 @@ fn checked<T: Test>(settings: Settings, test: Arc<T>) -> Result<Option<String>, 
     Ok(Some(report::failure(&run, &failures, parked, again.as_deref(), &written)))
 }
 
-/// The seeds of each depth, until the failures are enough. Not where a run starts more threads than an order has.
+/// The seeds of each depth, until the failures are enough. Not where a run starts more threads than
+/// an order has.
 fn has_run_all<T: Test>(search: &mut Search<T>, failures: &mut Failures) -> Result<bool, String> {
     let depths = search.settings.config.depth.map_or(vec![1, 2, 3], |depth| vec![depth]);
     for depth in depths {
@@ -150,25 +155,39 @@ fn has_run_all<T: Test>(search: &mut Search<T>, failures: &mut Failures) -> Resu
     Ok(true)
 }
 
-/// Makes a failing run again, on fresh threads, and tells where it departs: the code isn't deterministic then.
+/// Makes a failing run again, on fresh threads, and tells where it departs: the code isn't
+/// deterministic then.
 fn confirm<T: Test>(search: &mut Search<T>, ran: &Ran) -> Option<String> {
     let mut runner = Runner::new(search.test.clone(), search.settings.clone()).with_fresh_threads();
     let again = match runner.run(ran.order.clone()) {
         Ok(again) => again,
-        Err(NoRun::MoreThreads) => return Some("made again it starts more threads: what is tested isn't deterministic".into()),
-        Err(NoRun::Sentence(sentence)) => return Some(format!("made again it has no end: {sentence}")),
+        Err(NoRun::MoreThreads) => {
+            return Some(
+                "made again it starts more threads: what is tested isn't deterministic".into(),
+            )
+        }
+        Err(NoRun::Sentence(sentence)) => {
+            return Some(format!("made again it has no end: {sentence}"))
+        }
     };
     search.parked += u64::from(again.parked);
-    let differs = ran.events.iter().zip(&again.events).position(|(one, other)| !is_same(ran, one, &again, other));
+    let differs = ran
+        .events
+        .iter()
+        .zip(&again.events)
+        .position(|(one, other)| !is_same(ran, one, &again, other));
     let shorter = ran.events.len().min(again.events.len());
     let step = differs.or_else(|| {
-        let is_same = ran.events.len() == again.events.len() && ran.outcome.kind == again.outcome.kind;
+        let is_same =
+            ran.events.len() == again.events.len() && ran.outcome.kind == again.outcome.kind;
         (!is_same).then_some(shorter)
     });
     step.map(|step| {
-        let place = ran.events.get(step).map_or(String::new(), |event| format!(" at {}", ran.place(event.line)));
+        let at = |event: &crate::raw::Event| format!(" at {}", ran.place(event.line));
+        let place = ran.events.get(step).map_or(String::new(), at);
         format!(
-            "made again it departs at step {}{place}: what is tested isn't deterministic (hash seeds, time, a static, a real thread)",
+            "made again it departs at step {}{place}: what is tested isn't deterministic (hash \
+             seeds, time, a static, a real thread)",
             step + 1
         )
     })
@@ -182,11 +201,19 @@ fn is_same(ran: &Ran, one: &crate::raw::Event, again: &Ran, other: &crate::raw::
 }
 
 /// The run by an order, for calls that make a single one.
-pub(crate) fn single<T: Test>(search: &mut Search<T>, order: Order, drawn: Option<Drawn>) -> Result<Run, String> {
+pub(crate) fn single<T: Test>(
+    search: &mut Search<T>,
+    order: Order,
+    drawn: Option<Drawn>,
+) -> Result<Run, String> {
     let ran = search.runner.run(order).map_err(|no_run| match no_run {
         NoRun::Sentence(sentence) => sentence,
         NoRun::MoreThreads => {
-            format!("the run starts more threads than the {} of the run in declared order: set Config::threads", search.threads)
+            format!(
+                "the run starts more threads than the {} of the run in declared order: set \
+                 Config::threads",
+                search.threads
+            )
         }
     })?;
     search.sites.absorb(&ran.places);

@@ -12,8 +12,9 @@ pub enum Panics {
     /// It fails the run, whoever might catch it.
     #[default]
     Fail,
-    /// It unwinds as std's do: guards unlock by steps and poison, a join gives `Err`, `catch_unwind` catches. The run fails where
-    /// it leaves the main closure, or a thread that nobody joins.
+    /// It unwinds as std's do: guards unlock by steps and poison, a join gives `Err`,
+    /// `catch_unwind` catches. The run fails where it leaves the main closure, or a thread that
+    /// nobody joins.
     AsStd,
 }
 
@@ -24,12 +25,14 @@ pub struct Config {
     pub seeds: u64,
     /// The first seed: 1.
     pub from: u64,
-    /// The depth, one more than the number of change points, 1 to 8. Without one, `check` takes 1, 2 and 3, and a campaign 3.
+    /// The depth, one more than the number of change points, 1 to 8. Without one, `check` takes 1,
+    /// 2 and 3, and a campaign 3.
     pub depth: Option<u32>,
-    /// How many threads an order has, 1 to 64. Without it, as many as the run in declared order starts.
+    /// How many threads an order has, 1 to 64. Without it, as many as the run in declared order
+    /// starts.
     pub threads: Option<u32>,
-    /// From which steps change points are drawn, 1 to this number, at most 100,000. Without it, as many as the run in declared
-    /// order takes.
+    /// From which steps change points are drawn, 1 to this number, at most 100,000. Without it, as
+    /// many as the run in declared order takes.
     pub steps: Option<u32>,
     /// After so many steps a run is cut: 10,000, at most 100,000.
     pub limit: u32,
@@ -37,7 +40,8 @@ pub struct Config {
     pub panics: Panics,
     /// How many runs are made at once: 1.
     pub jobs: usize,
-    /// Whether real threads are kept from run to run. It is faster, and std's thread-locals aren't made anew.
+    /// Whether real threads are kept from run to run. It is faster, and std's thread-locals aren't
+    /// made anew.
     pub keep_threads: bool,
     /// The name of the test, where it isn't that of the thread, as cargo's tests have it.
     pub name: Option<String>,
@@ -45,10 +49,11 @@ pub struct Config {
     pub patience: Duration,
     /// The size of a fresh thread's stack in bytes, where it isn't std's.
     pub stack: Option<usize>,
-    /// Whether a runner and the threads of its runs are on one processor, which it claims: true. With one thread at a time a second one
-    /// only costs.
+    /// Whether a runner and the threads of its runs are on one processor, which it claims: true.
+    /// With one thread at a time a second one only costs.
     pub pin: bool,
-    /// Whether a campaign makes a sum of all steps of all runs, by which two campaigns are compared.
+    /// Whether a campaign makes a sum of all steps of all runs, by which two campaigns are
+    /// compared.
     pub sum: bool,
 }
 
@@ -80,8 +85,11 @@ impl Config {
         let threads = self.threads.map(|threads| ("threads", threads, 1..=64));
         let steps = self.steps.map(|steps| ("steps", steps, 1..=100_000));
         let numbers = [depth, threads, steps, Some(("limit", self.limit, 1..=100_000))];
-        let wrong = numbers.into_iter().flatten().find(|(_, number, range)| !range.contains(number));
-        wrong.map(|(name, number, range)| format!("Config::{name} is {} to {}, and not {number}", range.start(), range.end()))
+        let wrong =
+            numbers.into_iter().flatten().find(|(_, number, range)| !range.contains(number));
+        wrong.map(|(name, number, range)| {
+            format!("Config::{name} is {} to {}, and not {number}", range.start(), range.end())
+        })
     }
 }
 
@@ -102,7 +110,8 @@ pub(crate) struct Settings {
 
 impl Settings {
     pub fn new(config: Config, place: Place) -> Settings {
-        let known = config.name.clone().or_else(|| std::thread::current().name().map(str::to_owned));
+        let known =
+            config.name.clone().or_else(|| std::thread::current().name().map(str::to_owned));
         let (name, is_named) = match known {
             Some(name) if name != "main" => (name, true),
             _ => (format!("{}_{}", place.file.replace(['/', '\\', '.'], "_"), place.line), false),
@@ -116,7 +125,13 @@ impl Settings {
 
     /// The name of the test's files: the next check of one test has another one.
     pub fn file_name(&self) -> String {
-        let plain = |letter: char| if letter.is_alphanumeric() || "_-.".contains(letter) { letter } else { '.' };
+        let plain = |letter: char| {
+            if letter.is_alphanumeric() || "_-.".contains(letter) {
+                letter
+            } else {
+                '.'
+            }
+        };
         self.name.replace("::", ".").chars().map(plain).collect()
     }
 
@@ -150,7 +165,9 @@ impl Settings {
 fn folder() -> PathBuf {
     let program = std::env::current_exe().ok();
     let built = program.as_deref().and_then(|program| {
-        let deps = program.ancestors().find(|folder| folder.ends_with("deps") || folder.ends_with("examples"))?;
+        let deps = program
+            .ancestors()
+            .find(|folder| folder.ends_with("deps") || folder.ends_with("examples"))?;
         Some(deps.parent()?.parent()?.join("pct"))
     });
     built.unwrap_or_else(|| std::env::temp_dir().join("pct"))

@@ -15,8 +15,8 @@ use std::fs;
 use std::panic::Location;
 use std::path::Path;
 
-/// What makes a failure again: a thread of the lowest priority, and at which of their own steps threads are lowered. Threads are known
-/// by who spawned them and as which.
+/// What makes a failure again: a thread of the lowest priority, and at which of their own steps
+/// threads are lowered. Threads are known by who spawned them and as which.
 #[derive(Clone, Debug)]
 pub struct Directive {
     /// The thread of the lowest priority.
@@ -45,7 +45,8 @@ impl Directive {
         })
     }
 
-    /// Writes the directive file, and beside it one that ends in `.sites`, which says what its names and lines mean.
+    /// Writes the directive file, and beside it one that ends in `.sites`, which says what its
+    /// names and lines mean.
     ///
     /// # Errors
     ///
@@ -62,8 +63,10 @@ impl Directive {
     /// Where one of the two files can't be read or has a fault, with a sentence.
     pub fn read(path: &Path) -> Result<Directive, String> {
         let beside = Beside::read(&path.with_extension("sites"))?;
-        let text = fs::read_to_string(path).map_err(|error| format!("{}: {error}", path.display()))?;
-        let raw = ffi::read_directive(&beside.names.text(), &text).map_err(|fault| format!("{}: {fault}", path.display()))?;
+        let text =
+            fs::read_to_string(path).map_err(|error| format!("{}: {error}", path.display()))?;
+        let raw = ffi::read_directive(&beside.names.text(), &text)
+            .map_err(|fault| format!("{}: {fault}", path.display()))?;
         Directive::new(raw, beside).map_err(|refused| refused.to_string())
     }
 
@@ -73,7 +76,8 @@ impl Directive {
     }
 }
 
-/// An outcome by places: numbers of lines are those of a check, and mean nothing beside those of another one.
+/// An outcome by places: numbers of lines are those of a check, and mean nothing beside those of
+/// another one.
 #[derive(PartialEq, Eq)]
 struct Ending {
     kind: u32,
@@ -92,7 +96,10 @@ impl Ending {
             reason,
             thread,
             place: (line > 0).then(|| place(line)),
-            blocked: (0..lines.len()).filter(is_blocked).map(|number| (number, place(lines[number]))).collect(),
+            blocked: (0..lines.len())
+                .filter(is_blocked)
+                .map(|number| (number, place(lines[number])))
+                .collect(),
         }
     }
 
@@ -101,8 +108,8 @@ impl Ending {
     }
 }
 
-/// A directive that makes the failure of a run again, without the moments that it doesn't need; none where the run passes. Threads are
-/// known by who spawned them and as which.
+/// A directive that makes the failure of a run again, without the moments that it doesn't need;
+/// none where the run passes. Threads are known by who spawned them and as which.
 ///
 /// # Panics
 ///
@@ -125,7 +132,11 @@ fn found<T: Test>(search: &mut Search<T>, failing: &Run) -> Result<Directive, St
     let (order, points) = failing.order_and_points();
     search.runner.keep_paths(failing.ran.threads.iter().map(|thread| thread.path.clone()));
     let told = |refused: Refused| refused.to_string();
-    let mut moments = if points.is_empty() { Vec::new() } else { ffi::moments(&failing.ran.events, points).map_err(told)? };
+    let mut moments = if points.is_empty() {
+        Vec::new()
+    } else {
+        ffi::moments(&failing.ran.events, points).map_err(told)?
+    };
     let (mut place, wanted) = (0, Ending::of_run(&failing.ran));
     while place < moments.len() {
         let mut fewer = moments.clone();
@@ -139,12 +150,21 @@ fn found<T: Test>(search: &mut Search<T>, failing: &Run) -> Result<Directive, St
         }
     }
     let low = *order.last().ok_or("an order of no thread")?;
-    Directive::new(RawDirective::new(low, &moments, &failing.outcome), Beside::of(failing)).map_err(told)
+    Directive::new(RawDirective::new(low, &moments, &failing.outcome), Beside::of(failing))
+        .map_err(told)
 }
 
-fn by_moments<T: Test>(search: &mut Search<T>, order: &[u32], moments: &[Moment], random: u64) -> Result<Ran, String> {
+fn by_moments<T: Test>(
+    search: &mut Search<T>,
+    order: &[u32],
+    moments: &[Moment],
+    random: u64,
+) -> Result<Ran, String> {
     let plan = Plan::Moments { order: order.to_vec(), moments: moments.to_vec() };
-    let ran = search.runner.run(Order { plan, threads: order.len() as u32, random, keeps_steps: true }).map_err(sentence)?;
+    let ran = search
+        .runner
+        .run(Order { plan, threads: order.len() as u32, random, keeps_steps: true })
+        .map_err(sentence)?;
     search.parked += u64::from(ran.parked);
     match search.has_too_many_parked() {
         Some(sentence) => Err(sentence),
@@ -157,7 +177,8 @@ fn by_moments<T: Test>(search: &mut Search<T>, order: &[u32], moments: &[Moment]
 pub enum Certificate {
     /// Under each order with its thread last the verdict comes.
     Certified {
-        /// The orders, each with the change points that stand for the moments under it: after these steps threads are lowered.
+        /// The orders, each with the change points that stand for the moments under it: after these
+        /// steps threads are lowered.
         orders: Vec<(Vec<String>, Vec<u32>)>,
         /// In at least one of so many choices of an order and change points the verdict comes.
         bound: u128,
@@ -188,17 +209,23 @@ impl fmt::Display for Certificate {
                 }
                 writeln!(to, "certified 1 in {bound}")
             }
-            Certificate::Refuted { order, verdict } => writeln!(to, "refuted order {} verdict {verdict}", order.join(" ")),
-            Certificate::TooLong { order, steps } => writeln!(to, "toolong order {} steps {steps}", order.join(" ")),
+            Certificate::Refuted { order, verdict } => {
+                writeln!(to, "refuted order {} verdict {verdict}", order.join(" "))
+            }
+            Certificate::TooLong { order, steps } => {
+                writeln!(to, "toolong order {} steps {steps}", order.join(" "))
+            }
         }
     }
 }
 
-/// Whether a directive's verdict comes under every order that places its thread last, of at most six threads.
+/// Whether a directive's verdict comes under every order that places its thread last, of at most
+/// six threads.
 ///
 /// # Panics
 ///
-/// Where there are more threads, where a run can't be made, or too many threads stay parked after failing runs, with a sentence.
+/// Where there are more threads, where a run can't be made, or too many threads stay parked after
+/// failing runs, with a sentence.
 #[track_caller]
 pub fn certify<T: Test>(config: Config, directive: &Directive, test: T) -> Certificate {
     const MOST_THREADS: usize = 6;
@@ -206,14 +233,19 @@ pub fn certify<T: Test>(config: Config, directive: &Directive, test: T) -> Certi
     searched(config, test, place, |search| {
         let many = directive.beside.names.threads.len();
         if many > MOST_THREADS {
-            return Err(format!("a directive of {many} threads isn't certified: at most {MOST_THREADS}"));
+            return Err(format!(
+                "a directive of {many} threads isn't certified: at most {MOST_THREADS}"
+            ));
         }
         search.runner.keep_paths(directive.beside.paths.iter().cloned());
         certified(search, directive)
     })
 }
 
-fn certified<T: Test>(search: &mut Search<T>, directive: &Directive) -> Result<Certificate, String> {
+fn certified<T: Test>(
+    search: &mut Search<T>,
+    directive: &Directive,
+) -> Result<Certificate, String> {
     let told = |refused: Refused| refused.to_string();
     let (raw, wanted) = (&directive.raw, directive.ending());
     let threads = directive.beside.names.threads.len() as u32;
@@ -221,7 +253,8 @@ fn certified<T: Test>(search: &mut Search<T>, directive: &Directive) -> Result<C
     for order in &ffi::orders_with_last(threads, raw.low).map_err(told)? {
         let ran = by_moments(search, order, raw.moments(), directive.beside.seed)?;
         let (steps, is_it) = (ran.steps, Ending::of_run(&ran) == wanted);
-        let names = order.iter().map(|thread| directive.beside.names.thread(*thread).to_owned()).collect();
+        let names =
+            order.iter().map(|thread| directive.beside.names.thread(*thread).to_owned()).collect();
         if steps > search.steps {
             return Ok(Certificate::TooLong { order: names, steps });
         }
@@ -248,10 +281,13 @@ mod tests {
     #[test]
     fn runs_stop_at_a_thousand_parked_threads() {
         let settings = Settings::new(Config::default(), Place { file: file!(), line: line!() });
-        let mut search = Search::begin(Arc::new(|| crate::holds(false)), settings).expect("it has a first run");
+        let mut search =
+            Search::begin(Arc::new(|| crate::holds(false)), settings).expect("it has a first run");
         search.parked = 998;
         assert!(by_moments(&mut search, &[0], &[], 0).is_ok());
         let told = by_moments(&mut search, &[0], &[], 0).err();
-        assert!(told.is_some_and(|told| told.starts_with("1000 threads of failing runs stay parked")));
+        assert!(
+            told.is_some_and(|told| told.starts_with("1000 threads of failing runs stay parked"))
+        );
     }
 }

@@ -27,7 +27,10 @@ pub(crate) fn write(run: &Run) -> Written {
         fs::write(&path, text).ok().map(|()| path)
     };
     let sites = put("sites", run.sites());
-    Written { trace: put("trace", run.trace()).filter(|_| sites.is_some()), json: put("json", json::document(run)) }
+    Written {
+        trace: put("trace", run.trace()).filter(|_| sites.is_some()),
+        json: put("json", json::document(run)),
+    }
 }
 
 /// What stands beside a trace or a directive: what its names and lines mean.
@@ -80,9 +83,12 @@ impl Beside {
         let seed = seed.ok_or_else(|| told("line 2 has no seed".into()))?;
         let file = lines.next().and_then(|(_, line)| line.strip_prefix("file "));
         let file = kept(file.ok_or_else(|| told("line 3 has no file".into()))?);
-        let mut beside = Beside { seed, file, names: Names::default(), paths: Vec::new(), places: Vec::new() };
+        let mut beside =
+            Beside { seed, file, names: Names::default(), paths: Vec::new(), places: Vec::new() };
         for (index, line) in lines {
-            beside.take(line).ok_or_else(|| told(format!("line {} is neither a name nor a place", index + 1)))?;
+            beside
+                .take(line)
+                .ok_or_else(|| told(format!("line {} is neither a name nor a place", index + 1)))?;
         }
         Ok(beside)
     }
@@ -97,7 +103,8 @@ impl Beside {
         }
         let (name, path) = rest.split_once(' ').unwrap_or((rest, ""));
         if !path.is_empty() {
-            self.paths.push(path.split('.').map(|number| number.parse().ok()).collect::<Option<_>>()?);
+            self.paths
+                .push(path.split('.').map(|number| number.parse().ok()).collect::<Option<_>>()?);
         }
         self.names.add(word, name)
     }
@@ -108,18 +115,38 @@ fn kept(file: &str) -> &'static str {
     Box::leak(file.to_owned().into_boxed_str())
 }
 
-/// The trace of a run that a second panic ends with the process: its last step is the first panic. Whether it was written.
-pub(crate) fn write_unfinished(state: &mut State, settings: &Settings, me: u32, first: &Panicked, path: &Path) -> bool {
-    let (Ok(mut events), Plan::Points { order, points }) = (state.unfinished(), state.plan.clone()) else { return false };
+/// The trace of a run that a second panic ends with the process: its last step is the first panic.
+/// Whether it was written.
+pub(crate) fn write_unfinished(
+    state: &mut State,
+    settings: &Settings,
+    me: u32,
+    first: &Panicked,
+    path: &Path,
+) -> bool {
+    let (Ok(mut events), Plan::Points { order, points }) = (state.unfinished(), state.plan.clone())
+    else {
+        return false;
+    };
     let mut sites = Sites::default();
     let fails = Ask::of(kind::CHECK_FAILS, 0);
-    events.push(Event { thread: me, line: state.places.number(first.place), ask: fails, answer: 0 });
+    events.push(Event {
+        thread: me,
+        line: state.places.number(first.place),
+        ask: fails,
+        answer: 0,
+    });
     for event in &mut events {
         event.line = sites.line(&state.places, event.line);
     }
     let threads = state.threads.by_number();
     let spinning: Vec<_> = state.spins.all().collect();
-    let named = Named { threads: &threads, objects: &state.objects, given: &state.names, spinning: &spinning };
+    let named = Named {
+        threads: &threads,
+        objects: &state.objects,
+        given: &state.names,
+        spinning: &spinning,
+    };
     let beside = Beside {
         seed: state.seed,
         file: settings.place.file,
@@ -129,8 +156,21 @@ pub(crate) fn write_unfinished(state: &mut State, settings: &Settings, me: u32, 
     };
     let line = events.last().map_or(1, |event| event.line);
     let verdict = Outcome { thread: me, line, ..Outcome::of(2) };
-    let order: Vec<u32> = order.into_iter().filter(|thread| *thread < state.threads.needed()).collect();
+    let order: Vec<u32> =
+        order.into_iter().filter(|thread| *thread < state.threads.needed()).collect();
     let version = 1 + u32::from(state.objects.given(Kind::RwLock) > 0);
-    let text = ffi::trace_text(&beside.names.text(), version, settings.config.limit, &order, &points, &events, &verdict);
-    text.is_ok_and(|text| fs::write(path.with_extension("sites"), beside.text()).and_then(|()| fs::write(path, text)).is_ok())
+    let text = ffi::trace_text(
+        &beside.names.text(),
+        version,
+        settings.config.limit,
+        &order,
+        &points,
+        &events,
+        &verdict,
+    );
+    text.is_ok_and(|text| {
+        fs::write(path.with_extension("sites"), beside.text())
+            .and_then(|()| fs::write(path, text))
+            .is_ok()
+    })
 }

@@ -2,7 +2,8 @@
 
 pub use std::hint::{assert_unchecked, black_box, unreachable_unchecked};
 
-/// Waits until another thread has changed something, where nothing has changed since this thread waited so last.
+/// Waits until another thread has changed something, where nothing has changed since this thread
+/// waited so last.
 #[track_caller]
 pub fn spin_loop() {
     crate::thread::spin();

@@ -2,6 +2,7 @@
 
 use crate::objects::Kind;
 use crate::place::Place;
+use crate::raw::Ask;
 use crate::report;
 use crate::told::Run;
 use std::collections::BTreeSet;
@@ -13,7 +14,9 @@ fn text(value: &str) -> String {
             '"' => quoted.push_str("\\\""),
             '\\' => quoted.push_str("\\\\"),
             '\n' => quoted.push_str("\\n"),
-            letter if (letter as u32) < 0x20 => quoted.push_str(&format!("\\u{:04x}", letter as u32)),
+            letter if (letter as u32) < 0x20 => {
+                quoted.push_str(&format!("\\u{:04x}", letter as u32))
+            }
             letter => quoted.push(letter),
         }
     }
@@ -25,7 +28,14 @@ fn list<T>(items: impl IntoIterator<Item = T>, one: impl Fn(T) -> String) -> Str
 }
 
 fn object(members: &[(&str, String)]) -> String {
-    format!("{{{}}}", members.iter().map(|(name, value)| format!("\"{name}\":{value}")).collect::<Vec<_>>().join(","))
+    format!(
+        "{{{}}}",
+        members
+            .iter()
+            .map(|(name, value)| format!("\"{name}\":{value}"))
+            .collect::<Vec<_>>()
+            .join(",")
+    )
 }
 
 fn number(value: impl std::fmt::Display) -> String {
@@ -38,14 +48,23 @@ fn place(place: Place) -> [(&'static str, String); 2] {
 
 /// The document of a run, one line.
 pub(crate) fn document(run: &Run) -> String {
-    let trace = run.settings.trace_path("trace").map_or(String::new(), |path| path.display().to_string());
-    let again = object(&[("says", text("the run, step by step")), ("command", text(&report::again(run, &trace)))]);
+    let trace =
+        run.settings.trace_path("trace").map_or(String::new(), |path| path.display().to_string());
+    let again = object(&[
+        ("says", text("the run, step by step")),
+        ("command", text(&report::again(run, &trace))),
+    ]);
     let heading = object(&[("run", run_part(run)), ("again", format!("[{again}]"))]);
     let members = [
         ("document", "1".to_owned()),
         ("writer", text("pct for Rust")),
         ("title", text(&run.settings.name)),
-        ("sources", list(sources(run), |(file, source)| object(&[("file", text(file)), ("text", text(&source))]))),
+        (
+            "sources",
+            list(sources(run), |(file, source)| {
+                object(&[("file", text(file)), ("text", text(&source))])
+            }),
+        ),
         ("deal", deal(run)),
         ("names", "{}".to_owned()),
         ("headings", if run.passed() { "[]".to_owned() } else { format!("[{heading}]") }),
@@ -55,12 +74,19 @@ pub(crate) fn document(run: &Run) -> String {
 
 /// The files of all places, as far as they can be read.
 fn sources(run: &Run) -> Vec<(&'static str, String)> {
-    let lines = run.ran.events.iter().map(|event| event.line).chain(run.ran.asking.iter().map(|asking| asking.1));
-    let files: BTreeSet<&'static str> = lines.map(|line| run.ran.place(line).file).chain([run.settings.place.file]).collect();
+    let lines = run
+        .ran
+        .events
+        .iter()
+        .map(|event| event.line)
+        .chain(run.ran.asking.iter().map(|asking| asking.1));
+    let files: BTreeSet<&'static str> =
+        lines.map(|line| run.ran.place(line).file).chain([run.settings.place.file]).collect();
     files.into_iter().filter_map(|file| Some((file, read(file)?))).collect()
 }
 
-/// The compiler names a file from the folder of the workspace, and cargo runs tests in that of the package.
+/// The compiler names a file from the folder of the workspace, and cargo runs tests in that of the
+/// package.
 fn read(file: &str) -> Option<String> {
     let here = std::env::current_dir().ok()?;
     here.ancestors().take(4).find_map(|folder| std::fs::read_to_string(folder.join(file)).ok())
@@ -70,7 +96,10 @@ fn deal(run: &Run) -> String {
     let names = |kind: Kind| list(&run.names.objects[kind as usize], |name| text(name));
     let valued = |kind: Kind, values: &[i64], member: &'static str, is_text: bool| {
         list(run.names.objects[kind as usize].iter().zip(values), |(name, value)| {
-            object(&[("name", text(name)), (member, if is_text { number(value) } else { value.to_string() })])
+            object(&[
+                ("name", text(name)),
+                (member, if is_text { number(value) } else { value.to_string() }),
+            ])
         })
     };
     let deal = &run.ran.deal;
@@ -96,17 +125,24 @@ fn thread_part(run: &Run, thread: u32) -> String {
 
 fn run_part(run: &Run) -> String {
     let seed = run.drawn.map_or("null".to_owned(), |drawn| {
-        object(&[("seed", number(drawn.seed)), ("depth", drawn.depth.to_string()), ("steps", drawn.steps.to_string())])
+        object(&[
+            ("seed", number(drawn.seed)),
+            ("depth", drawn.depth.to_string()),
+            ("steps", drawn.steps.to_string()),
+        ])
     });
     let steps = list(&run.ran.events, |event| {
         let step = run.step(event);
         let [file, line] = place(step.place);
-        object(&[("thread", text(&step.thread)), file, line, ("ask", text(&step.ask)), ("answer", number(step.answer))])
+        object(&[
+            ("thread", text(&step.thread)),
+            file,
+            line,
+            ("ask", text(&step.ask)),
+            ("answer", number(step.answer)),
+        ])
     });
-    let asking = list(&run.ran.asking, |(thread, line, ask)| {
-        let [file, line] = place(run.ran.place(*line));
-        object(&[("thread", text(run.names.thread(*thread))), file, line, ("ask", text(&run.names.words(ask)))])
-    });
+    let asking = list(&run.ran.asking, |asking| asking_part(run, asking));
     let ended = run.ran.threads.iter().filter(|thread| thread.has_ended());
     let members = [
         ("seed", seed),
@@ -119,4 +155,15 @@ fn run_part(run: &Run) -> String {
         ("verdict", text(&run.verdict())),
     ];
     object(&members)
+}
+
+/// What a thread asks at the end of the run.
+fn asking_part(run: &Run, (thread, line, ask): &(u32, u32, Ask)) -> String {
+    let [file, line] = place(run.ran.place(*line));
+    object(&[
+        ("thread", text(run.names.thread(*thread))),
+        file,
+        line,
+        ("ask", text(&run.names.words(ask))),
+    ])
 }

@@ -1,7 +1,8 @@
-//! Real Rust under the PCT scheduler: what a test imports from `std::sync` and `std::thread` it imports from here, and each operation
-//! on something shared is one step of a run. A run's steps are chosen by a proved book of turns; this crate, which is tested and not
-//! proved, starts the threads and lets one at a time go. All memory is sequentially consistent: orderings are taken, and all mean
-//! `SeqCst`.
+//! Real Rust under the PCT scheduler: what a test imports from `std::sync` and `std::thread` it
+//! imports from here, and each operation on something shared is one step of a run. A run's steps
+//! are chosen by a proved book of turns; this crate, which is tested and not proved, starts the
+//! threads and lets one at a time go. All memory is sequentially consistent: orderings are taken,
+//! and all mean `SeqCst`.
 //!
 //! ```should_panic
 //! use pct::{sync::{atomic::{AtomicUsize, Ordering::SeqCst}, Arc}, thread};
@@ -9,7 +10,10 @@
 //! pct::check(|| {
 //!     let n = Arc::new(AtomicUsize::new(0));
 //!     let adders: Vec<_> = (0..2)
-//!         .map(|_| { let n = n.clone(); thread::spawn(move || { let v = n.load(SeqCst); n.store(v + 1, SeqCst) }) })
+//!         .map(|_| {
+//!             let n = n.clone();
+//!             thread::spawn(move || { let v = n.load(SeqCst); n.store(v + 1, SeqCst) })
+//!         })
 //!         .collect();
 //!     for adder in adders { adder.join().unwrap() }
 //!     assert_eq!(n.load(SeqCst), 2);
@@ -22,6 +26,8 @@ pub mod cell;
 mod check;
 mod config;
 mod directive;
+#[cfg(not(target_os = "linux"))]
+mod elsewhere;
 mod ffi;
 mod files;
 pub mod hint;

@@ -10,7 +10,10 @@ use crate::seat;
 use crate::spin::Look;
 use crate::state::{Access, End, Fault, Next, Panicked, State};
 use std::panic::{self, AssertUnwindSafe};
-use std::sync::atomic::{AtomicBool, AtomicI64, AtomicU32, AtomicU64, Ordering::Acquire, Ordering::Relaxed, Ordering::Release};
+use std::sync::atomic::{
+    AtomicBool, AtomicI64, AtomicU32, AtomicU64, Ordering::Acquire, Ordering::Relaxed,
+    Ordering::Release,
+};
 use std::sync::{Arc, Mutex, MutexGuard, OnceLock, TryLockError};
 use std::thread::{self, Thread};
 
@@ -96,7 +99,8 @@ impl Live {
         forever()
     }
 
-    /// The check ends with this sentence. Who declares a test's threads is the runner itself, and panics.
+    /// The check ends with this sentence. Who declares a test's threads is the runner itself, and
+    /// panics.
     pub fn stop(&self, sentence: String) -> ! {
         assert!(seat::current(|_, _| ()).is_some(), "pct: {sentence}");
         self.close(End::Sentence(sentence))
@@ -153,7 +157,8 @@ impl Live {
         }
     }
 
-    /// The answer, where it is this thread's turn next; none where it waits. Without an ask it ends.
+    /// The answer, where it is this thread's turn next; none where it waits. Without an ask it
+    /// ends.
     fn bring(&self, me: u32, place: Place, late: Option<Late>) -> Result<Option<Answer>, Fault> {
         self.asks.fetch_add(1, Relaxed);
         let mut state = self.state()?;
@@ -171,7 +176,9 @@ impl Live {
         };
         drop(state);
         match next {
-            Next::Goes(thread, ask, answer) if thread == me => Ok(Some(Answer { kind: ask.kind, value: answer })),
+            Next::Goes(thread, ask, answer) if thread == me => {
+                Ok(Some(Answer { kind: ask.kind, value: answer }))
+            }
             Next::Goes(thread, ask, answer) => self.hand(thread, ask.kind, answer).map(|()| None),
             Next::Over => {
                 self.tell_runner();
@@ -185,7 +192,8 @@ impl Live {
 
     /// Gives the baton to a thread with its answer.
     pub fn hand(&self, thread: u32, kind: u32, answer: i64) -> Result<(), Fault> {
-        let slot = self.slots.get(thread as usize).ok_or("the baton was for a thread that isn't there")?;
+        let slot =
+            self.slots.get(thread as usize).ok_or("the baton was for a thread that isn't there")?;
         self.baton.store(thread, Relaxed);
         slot.answer.store(answer, Relaxed);
         slot.kind.store(kind, Relaxed);
@@ -204,13 +212,17 @@ impl Live {
 
     /// Brings the baton back for the last time.
     pub fn leave(&self, me: u32) {
-        let left = self.finish(me).and_then(|()| self.wake_waiters(me)).and_then(|()| self.bring(me, self.last_place(me), None));
+        let left = self
+            .finish(me)
+            .and_then(|()| self.wake_waiters(me))
+            .and_then(|()| self.bring(me, self.last_place(me), None));
         if let Err(fault) = left {
             self.fail(fault);
         }
     }
 
-    /// What a handle tells of the thread from now on, which those who look again and again for it may see.
+    /// What a handle tells of the thread from now on, which those who look again and again for it
+    /// may see.
     fn finish(&self, me: u32) -> Result<(), Fault> {
         let mut state = self.state()?;
         state.threads.finish(me);
@@ -224,14 +236,15 @@ impl Live {
         last.unwrap_or(self.settings.place)
     }
 
-    /// The number of an object, given at its first use in the run with its first value. None where it is an atomic that has none, or
-    /// for which none is left.
+    /// The number of an object, given at its first use in the run with its first value. None where
+    /// it is an atomic that has none, or for which none is left.
     pub fn number(&self, id: &Id, first: Option<i64>, place: Place) -> Option<u32> {
         match id.word() {
             Word::Of { run, number } if run == self.id => return number,
             Word::Unused => (),
             _ => self.stop(format!(
-                "{place}: one of the {} was used by another run: it is a static, or the test captured it. Make it within the test",
+                "{place}: one of the {} was used by another run: it is a static, or the test \
+                 captured it. Make it within the test",
                 id.kind.plural()
             )),
         }
@@ -257,7 +270,8 @@ impl Live {
 
     /// Of objects that aren't atomics.
     pub fn sure_number(&self, id: &Id, first: i64, place: Place) -> u32 {
-        self.number(id, Some(first), place).unwrap_or_else(|| self.fail("an object without a number".into()))
+        self.number(id, Some(first), place)
+            .unwrap_or_else(|| self.fail("an object without a number".into()))
     }
 
     pub fn free(&self, run: u32, kind: Kind, number: u32) {
@@ -269,10 +283,17 @@ impl Live {
     }
 
     /// The value of an atomic static in this run.
-    pub fn static_value(&self, id: &Id, first: i64, is_numbered: bool, place: Place) -> StaticValue {
+    pub fn static_value(
+        &self,
+        id: &Id,
+        first: i64,
+        is_numbered: bool,
+        place: Place,
+    ) -> StaticValue {
         let known = self.held().objects.statics.get(&id.address()).copied();
         known.unwrap_or_else(|| {
-            let number = is_numbered.then(|| self.new_number(Kind::Variable, first, place)).flatten();
+            let number =
+                is_numbered.then(|| self.new_number(Kind::Variable, first, place)).flatten();
             let value = StaticValue { number, value: first };
             self.held().objects.statics.insert(id.address(), value);
             value
@@ -298,7 +319,8 @@ impl Live {
             Look::Wait(Some(semaphore)) => Ask::of(kind::DOWN, semaphore),
             Look::Wait(None) => {
                 let number = self.new_number(Kind::Semaphore, 0, place);
-                let semaphore = number.unwrap_or_else(|| self.fail("a thread without a semaphore".into()));
+                let semaphore =
+                    number.unwrap_or_else(|| self.fail("a thread without a semaphore".into()));
                 self.held().spins.give(me, semaphore);
                 Ask::of(kind::DOWN, semaphore)
             }
@@ -339,8 +361,8 @@ impl Live {
         number
     }
 
-    /// What the real thread of a thread does: it waits for the baton first. A kept thread is freed and posts its end at once, a fresh
-    /// one when its thread-locals are gone.
+    /// What the real thread of a thread does: it waits for the baton first. A kept thread is freed
+    /// and posts its end at once, a fresh one when its thread-locals are gone.
     pub fn body(self: &Arc<Live>, me: u32, is_kept: Option<&dyn Fn()>, act: impl FnOnce()) {
         seat::enter(self, me, is_kept.is_none());
         self.wait(me);
@@ -357,12 +379,15 @@ impl Live {
         }
     }
 
-    /// The panic fails the run: it is an assertion that doesn't hold, in its line. Nothing is unwound further. Where a hook of the test's
-    /// own had it, the line is that of the thread's last ask, and the message that of the payload, where that is known.
+    /// The panic fails the run: it is an assertion that doesn't hold, in its line. Nothing is
+    /// unwound further. Where a hook of the test's own had it, the line is that of the thread's
+    /// last ask, and the message that of the payload, where that is known.
     pub fn fail_by_panic(&self, me: u32, message: Option<String>) -> ! {
         let unknown = || "a panic, whose message a hook of the test's own has".to_owned();
-        let told =
-            seat::panicked().unwrap_or_else(|| Panicked { place: self.last_place(me), message: message.unwrap_or_else(unknown) });
+        let told = seat::panicked().unwrap_or_else(|| Panicked {
+            place: self.last_place(me),
+            message: message.unwrap_or_else(unknown),
+        });
         self.fail_by(me, told)
     }
 
@@ -377,9 +402,14 @@ impl Live {
     /// A second panic, perhaps while the first one unwinds: then std aborts the process after this.
     pub fn tell_second(&self, me: u32, first: &Panicked, second: &Panicked) {
         let Ok(mut state) = self.state() else { return };
-        let name = state.threads.get(me).and_then(|thread| thread.name.clone()).unwrap_or_else(|| format!("t{me}"));
+        let name = state
+            .threads
+            .get(me)
+            .and_then(|thread| thread.name.clone())
+            .unwrap_or_else(|| format!("t{me}"));
         eprintln!(
-            "pct: thread {name} panicked at {}: {}\npct: and again at {}: {}. While the first panic unwinds, that aborts the process",
+            "pct: thread {name} panicked at {}: {}\npct: and again at {}: {}. While the first \
+             panic unwinds, that aborts the process",
             first.place, first.message, second.place, second.message
         );
         if let Some(path) = self.settings.trace_path("trace") {

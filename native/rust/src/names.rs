@@ -8,13 +8,18 @@ use crate::threads::Thread;
 use std::collections::HashSet;
 
 /// Words that are no names in traces.
-const TAKEN: &str = " script var mutex cond sem barrier thread end read write add cas lock trylock unlock wait signal broadcast down \
-                     trydown up arrive join yield assert set if else while start rwlock rdlock wrlock tryrdlock trywrlock rwunlock ";
+const TAKEN: &str =
+    " script var mutex cond sem barrier thread end read write add cas lock trylock \
+                     unlock wait signal broadcast down trydown up arrive join yield assert set if \
+                     else while start rwlock rdlock wrlock tryrdlock trywrlock rwunlock ";
 
-/// Whether a text is a name as traces have them: a letter, and then at most 31 letters, digits and `_`.
+/// Whether a text is a name as traces have them: a letter, and then at most 31 letters, digits and
+/// `_`.
 pub(crate) fn is_name(text: &str) -> bool {
     let is_word = |letter: char| letter.is_ascii_alphanumeric() || letter == '_';
-    let is_register = text.strip_prefix('r').is_some_and(|number| number.parse::<u8>().is_ok_and(|number| number < 16));
+    let is_register = text
+        .strip_prefix('r')
+        .is_some_and(|number| number.parse::<u8>().is_ok_and(|number| number < 16));
     text.starts_with(|first: char| first.is_ascii_alphabetic())
         && text.len() <= 32
         && text.chars().all(is_word)
@@ -47,12 +52,18 @@ impl Names {
         Names::made(&Named { threads: &ran.threads, objects, given: names, spinning }, threads)
     }
 
-    /// Those that were given, where they are names and nothing else has them, and plain ones for all others.
+    /// Those that were given, where they are names and nothing else has them, and plain ones for
+    /// all others.
     pub fn made(named: &Named<'_>, threads: u32) -> Names {
-        let mut taken: HashSet<String> = named.given.iter().map(|(_, _, name)| name.clone()).collect();
+        let mut taken: HashSet<String> =
+            named.given.iter().map(|(_, _, name)| name.clone()).collect();
         let mut names = Names::default();
         for thread in 0..threads {
-            let told = named.threads.iter().find(|told| told.number == thread).and_then(|told| told.name.clone());
+            let told = named
+                .threads
+                .iter()
+                .find(|told| told.number == thread)
+                .and_then(|told| told.name.clone());
             let given = told.filter(|name| is_name(name) && !taken.contains(name));
             let name = given.unwrap_or_else(|| fresh(&format!("t{thread}"), &taken));
             taken.insert(name.clone());
@@ -61,7 +72,10 @@ impl Names {
         for kind in Kind::ALL {
             for number in 0..named.objects.given(kind) {
                 let given = named.given.iter().find(|(of, its, _)| *of == kind && *its == number);
-                let name = given.map_or_else(|| plain(named, &names, kind, number, &taken), |(_, _, name)| name.clone());
+                let name = given.map_or_else(
+                    || plain(named, &names, kind, number, &taken),
+                    |(_, _, name)| name.clone(),
+                );
                 taken.insert(name.clone());
                 names.objects[kind as usize].push(name);
             }
@@ -72,7 +86,9 @@ impl Names {
     /// The text that the library takes.
     pub fn text(&self) -> String {
         let threads = self.threads.iter().map(|name| format!("thread {name}\n"));
-        let of = |kind: Kind| self.objects[kind as usize].iter().map(move |name| format!("{} {name}\n", kind.word()));
+        let of = |kind: Kind| {
+            self.objects[kind as usize].iter().map(move |name| format!("{} {name}\n", kind.word()))
+        };
         threads.chain(Kind::ALL.into_iter().flat_map(of)).collect()
     }
 
@@ -98,7 +114,9 @@ impl Names {
     /// An ask in the words of a trace.
     pub fn words(&self, ask: &Ask) -> String {
         let of = |word: &str, kind: Kind| format!("{word} {}", self.object(kind, ask.a));
-        let wait = |word: &str| format!("{} {}", of(word, Kind::Condition), self.object(Kind::Mutex, ask.b));
+        let wait = |word: &str| {
+            format!("{} {}", of(word, Kind::Condition), self.object(Kind::Mutex, ask.b))
+        };
         match ask.kind {
             kind::READ => of("read", Kind::Variable),
             kind::WRITE => format!("{} {}", of("write", Kind::Variable), ask.x),
@@ -131,8 +149,17 @@ impl Names {
     }
 }
 
-fn plain(named: &Named<'_>, names: &Names, kind: Kind, number: u32, taken: &HashSet<String>) -> String {
-    let spins = named.spinning.iter().find(|(semaphore, _)| kind == Kind::Semaphore && *semaphore == number);
+fn plain(
+    named: &Named<'_>,
+    names: &Names,
+    kind: Kind,
+    number: u32,
+    taken: &HashSet<String>,
+) -> String {
+    let spins = named
+        .spinning
+        .iter()
+        .find(|(semaphore, _)| kind == Kind::Semaphore && *semaphore == number);
     let name = match spins {
         Some((_, thread)) => format!("spin_{:.27}", names.thread(*thread)),
         None => format!("{}{number}", LETTERS[kind as usize]),
@@ -144,5 +171,8 @@ fn fresh(name: &str, taken: &HashSet<String>) -> String {
     if !taken.contains(name) {
         return name.to_owned();
     }
-    (2..).map(|count| format!("{name}_{count}")).find(|other| !taken.contains(other)).unwrap_or_default()
+    (2..)
+        .map(|count| format!("{name}_{count}"))
+        .find(|other| !taken.contains(other))
+        .unwrap_or_default()
 }

@@ -22,7 +22,14 @@ pub enum Kind {
 }
 
 impl Kind {
-    pub const ALL: [Kind; 6] = [Kind::Variable, Kind::Mutex, Kind::Condition, Kind::Semaphore, Kind::Barrier, Kind::RwLock];
+    pub const ALL: [Kind; 6] = [
+        Kind::Variable,
+        Kind::Mutex,
+        Kind::Condition,
+        Kind::Semaphore,
+        Kind::Barrier,
+        Kind::RwLock,
+    ];
 
     /// As texts of names have it.
     pub fn word(self) -> &'static str {
@@ -31,11 +38,13 @@ impl Kind {
 
     /// As sentences have it.
     pub fn plural(self) -> &'static str {
-        ["atomics", "mutexes", "condition variables", "semaphores", "barriers", "read-write locks"][self as usize]
+        ["atomics", "mutexes", "condition variables", "semaphores", "barriers", "read-write locks"]
+            [self as usize]
     }
 }
 
-/// What an object keeps to be known by in runs: the run in the upper half, one more than its number in the lower.
+/// What an object keeps to be known by in runs: the run in the upper half, one more than its number
+/// in the lower.
 #[derive(Debug)]
 pub struct Id {
     pub kind: Kind,
@@ -63,7 +72,10 @@ impl Id {
     }
 
     pub fn give(&self, run: u32, number: Option<u32>) {
-        self.word.store(u64::from(run) << 32 | u64::from(number.map_or(0, |number| number + 1)), Relaxed);
+        self.word.store(
+            u64::from(run) << 32 | u64::from(number.map_or(0, |number| number + 1)),
+            Relaxed,
+        );
     }
 
     pub fn mark_static(&self) {
@@ -141,8 +153,8 @@ impl Objects {
         self.reused[kind as usize] >> number & 1 == 1
     }
 
-    /// A number for an object with this first value: a fresh one, or where there is none, that of a dropped object which stands
-    /// as the new one would.
+    /// A number for an object with this first value: a fresh one, or where there is none, that of a
+    /// dropped object which stands as the new one would.
     pub fn number(&mut self, kind: Kind, first: i64, place: Place) -> Option<u32> {
         let given = &mut self.given[kind as usize];
         let number = *given;

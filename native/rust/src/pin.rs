@@ -1,4 +1,5 @@
-//! One processor for a runner and the threads of its runs: one thread at a time goes, and a second processor would only cost.
+//! One processor for a runner and the threads of its runs: one thread at a time goes, and a second
+//! processor would only cost.
 
 use crate::ffi::{self, Processors};
 use std::sync::atomic::{AtomicBool, Ordering::AcqRel, Ordering::Release};
@@ -8,7 +9,8 @@ const MOST: usize = 1024;
 /// Which processors runners of this process have claimed.
 static CLAIMED: [AtomicBool; MOST] = [const { AtomicBool::new(false) }; MOST];
 
-/// The calling thread is on one processor until this is dropped, and so are the threads that it starts.
+/// The calling thread is on one processor until this is dropped, and so are the threads that it
+/// starts.
 pub(crate) struct Pin {
     before: Processors,
     claimed: usize,
@@ -21,11 +23,14 @@ fn is_in(set: &Processors, processor: usize) -> bool {
 }
 
 impl Pin {
-    /// Claims a processor on which the thread may run and which no other runner has, if possible none of another process either. None
-    /// where this process has claimed all, or where the system isn't Linux.
+    /// Claims a processor on which the thread may run and which no other runner has, if possible
+    /// none of another process either. None where this process has claimed all, or where the system
+    /// isn't Linux.
     pub fn claim() -> Option<Pin> {
         let before = ffi::allowed()?;
-        let is_free = |processor: &usize| is_in(&before, *processor) && !CLAIMED[*processor].swap(true, AcqRel);
+        let is_free = |processor: &usize| {
+            is_in(&before, *processor) && !CLAIMED[*processor].swap(true, AcqRel)
+        };
         let with_mark = |processor: usize| {
             let mark = is_free(&processor).then(|| Mark::of(processor))?;
             if mark.is_none() {
@@ -33,8 +38,9 @@ impl Pin {
             }
             mark.map(|mark| (processor, Some(mark)))
         };
-        let (claimed, mark) =
-            (0..MOST).find_map(with_mark).or_else(|| (0..MOST).find(is_free).map(|processor| (processor, None)))?;
+        let (claimed, mark) = (0..MOST)
+            .find_map(with_mark)
+            .or_else(|| (0..MOST).find(is_free).map(|processor| (processor, None)))?;
         let mut one = [0; 16];
         one[claimed / 64] = 1 << (claimed % 64);
         let pin = Pin { before, claimed, _mark: mark };

@@ -27,8 +27,8 @@ impl std::fmt::Display for Place {
     }
 }
 
-/// The places of one run. A line of the test's own file is its own number; each other place has one above the greatest line, by
-/// when the run first came to it.
+/// The places of one run. A line of the test's own file is its own number; each other place has one
+/// above the greatest line, by when the run first came to it.
 #[derive(Clone, Debug)]
 pub(crate) struct Places {
     pub file: &'static str,
@@ -57,13 +57,14 @@ impl Places {
     }
 
     pub fn place(&self, number: u32) -> Place {
-        let other = number.checked_sub(MOST_LINE + 1).and_then(|index| self.others.get(index as usize));
+        let other =
+            number.checked_sub(MOST_LINE + 1).and_then(|index| self.others.get(index as usize));
         other.copied().unwrap_or(Place { file: self.file, line: number })
     }
 }
 
-/// The places of a check outside of the test's own file: numbers from the greatest line downward, by when its runs, taken in the
-/// order of their seeds, first came to them.
+/// The places of a check outside of the test's own file: numbers from the greatest line downward,
+/// by when its runs, taken in the order of their seeds, first came to them.
 #[derive(Clone, Debug, Default)]
 pub(crate) struct Sites {
     given: Vec<Place>,

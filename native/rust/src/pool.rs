@@ -48,7 +48,8 @@ impl Pool {
             None => new_worker(live, me)?,
         };
         worker.is_free.store(false, Release);
-        *worker.job.lock().map_err(|_| "a kept thread's job is poisoned")? = Some((live.clone(), me, body));
+        *worker.job.lock().map_err(|_| "a kept thread's job is poisoned")? =
+            Some((live.clone(), me, body));
         let thread = worker.thread.get().ok_or("a kept thread wasn't started")?.clone();
         *place = Some(worker);
         Ok(thread)
@@ -63,7 +64,8 @@ fn new_worker(live: &Arc<Live>, me: u32) -> Result<Arc<Worker>, Fault> {
         thread: OnceLock::new(),
     });
     let own = worker.clone();
-    let spawned = builder(live, Some(format!("pct {me}"))).spawn(move || own.work()).map_err(not_started)?;
+    let spawned =
+        builder(live, Some(format!("pct {me}"))).spawn(move || own.work()).map_err(not_started)?;
     worker.thread.get_or_init(|| spawned.thread().clone());
     Ok(worker)
 }
@@ -73,8 +75,11 @@ impl Worker {
         while !self.is_closed.load(Acquire) {
             let job = self.job.lock().ok().and_then(|mut job| job.take());
             match job {
-                // It is free before the run knows that the thread has ended, since the next run may begin at once.
-                Some((live, me, body)) => live.body(me, Some(&|| self.is_free.store(true, Release)), body),
+                // It is free before the run knows that the thread has ended, since the next run may
+                // begin at once.
+                Some((live, me, body)) => {
+                    live.body(me, Some(&|| self.is_free.store(true, Release)), body)
+                }
                 None => thread::park(),
             }
         }
@@ -97,7 +102,13 @@ fn not_started(error: std::io::Error) -> Fault {
 }
 
 /// Starts the real thread of a thread. It waits for the baton.
-pub(crate) fn launch(live: &Arc<Live>, me: u32, name: Option<String>, stack: Option<usize>, body: Body) -> Result<(), Fault> {
+pub(crate) fn launch(
+    live: &Arc<Live>,
+    me: u32,
+    name: Option<String>,
+    stack: Option<usize>,
+    body: Body,
+) -> Result<(), Fault> {
     if let Some(pool) = &live.pool {
         let thread = pool.serve(live, me, body)?;
         live.seat_thread(me, thread.clone())?;

@@ -62,8 +62,9 @@ pub enum LockOrder {
     Cycle(Vec<Nesting>),
 }
 
-/// Makes one run, and tells the data races of its cells by happens-before: what orders two accesses is a mutex given back and then
-/// taken, a spawn, a join, a wake-up, and every operation on one atomic.
+/// Makes one run, and tells the data races of its cells by happens-before: what orders two accesses
+/// is a mutex given back and then taken, a spawn, a join, a wake-up, and every operation on one
+/// atomic.
 ///
 /// # Panics
 ///
@@ -83,8 +84,10 @@ fn told(run: &Run) -> Result<Races, crate::raw::Refused> {
     let cells = (ran.cells as usize).min(MOST - atomics);
     let mut left_out = left_out(ran);
     if cells < ran.cells as usize {
-        left_out
-            .push(format!("{} cells are left out: the library knows 64 atomics and cells together", ran.cells as usize - cells));
+        left_out.push(format!(
+            "{} cells are left out: the library knows 64 atomics and cells together",
+            ran.cells as usize - cells
+        ));
     }
     let (steps, accesses) = with_accesses(ran, atomics as u32, cells as u32);
     let mut deal = ran.deal.clone();
@@ -93,13 +96,21 @@ fn told(run: &Run) -> Result<Races, crate::raw::Refused> {
     let access = |step: u32| {
         let event = &steps[step as usize - 1];
         let is_write = accesses[step as usize - 1].unwrap_or(false);
-        Access { thread: run.names.thread(event.thread).to_owned(), place: ran.place(event.line), is_write }
+        Access {
+            thread: run.names.thread(event.thread).to_owned(),
+            place: ran.place(event.line),
+            is_write,
+        }
     };
-    let races = found.iter().map(|race| Race { first: access(race.first), second: access(race.second) }).collect();
+    let races = found
+        .iter()
+        .map(|race| Race { first: access(race.first), second: access(race.second) })
+        .collect();
     Ok(Races { races, left_out })
 }
 
-/// The steps, those of atomics as atomic ones, with the accesses of cells between them: of each, whether it is a write.
+/// The steps, those of atomics as atomic ones, with the accesses of cells between them: of each,
+/// whether it is a write.
 fn with_accesses(ran: &Ran, atomics: u32, cells: u32) -> (Vec<Event>, Vec<Option<bool>>) {
     let (mut steps, mut kinds) = (Vec::new(), Vec::new());
     let mut accesses = ran.accesses.iter().filter(|access| access.cell < cells).peekable();
@@ -144,12 +155,15 @@ fn without_reuse(ran: &Ran, event: &Event) -> Event {
 }
 
 fn left_out(ran: &Ran) -> Vec<String> {
-    let reused = |kind: Kind| (0..MOST as u32).filter(move |number| ran.objects.is_reused(kind, *number)).count();
+    let reused = |kind: Kind| {
+        (0..MOST as u32).filter(move |number| ran.objects.is_reused(kind, *number)).count()
+    };
     let told = |kind: Kind| match reused(kind) {
         0 => None,
-        count => {
-            Some(format!("{count} {} are left out: each number was that of two objects, one after the other", kind.plural()))
-        }
+        count => Some(format!(
+            "{count} {} are left out: each number was that of two objects, one after the other",
+            kind.plural()
+        )),
     };
     Kind::ALL.into_iter().filter_map(told).collect()
 }
@@ -160,12 +174,18 @@ fn left_out(ran: &Ran) -> Vec<String> {
 ///
 /// Where the run can't be made, with a sentence.
 #[track_caller]
-pub fn lock_order<T: Test>(config: Config, schedule: &Schedule, test: T) -> (LockOrder, Vec<String>) {
+pub fn lock_order<T: Test>(
+    config: Config,
+    schedule: &Schedule,
+    test: T,
+) -> (LockOrder, Vec<String>) {
     let place = Place::of(Location::caller());
     searched(config, test, place, |search| {
         let run = run_in(search, schedule)?;
-        let steps: Vec<Event> = run.ran.events.iter().map(|event| without_mutex_reuse(&run.ran, event)).collect();
-        let order = ffi::lock_order(&run.ran.deal, &steps).map_err(|refused| refused.to_string())?;
+        let steps: Vec<Event> =
+            run.ran.events.iter().map(|event| without_mutex_reuse(&run.ran, event)).collect();
+        let order =
+            ffi::lock_order(&run.ran.deal, &steps).map_err(|refused| refused.to_string())?;
         Ok((locks(&run, order), left_out(&run.ran)))
     })
 }
@@ -181,7 +201,8 @@ fn locks(run: &Run, order: Result<Vec<u32>, Vec<crate::raw::RawNesting>>) -> Loc
     let name = |mutex: u32| run.names.object(Kind::Mutex, mutex).to_owned();
     match order {
         Ok(order) => {
-            let known = order.into_iter().filter(|mutex| *mutex < run.ran.objects.given(Kind::Mutex));
+            let known =
+                order.into_iter().filter(|mutex| *mutex < run.ran.objects.given(Kind::Mutex));
             LockOrder::Order(known.map(name).collect())
         }
         Err(nestings) => LockOrder::Cycle(

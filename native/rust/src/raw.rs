@@ -1,4 +1,5 @@
-//! The values that the core's library takes and gives, as `include/pct.h` lays them out, and what is made of them.
+//! The values that the core's library takes and gives, as `include/pct.h` lays them out, and what
+//! is made of them.
 
 /// What a thread asks: `pct.h` says which kinds there are and what their values mean.
 #[repr(C)]
@@ -99,7 +100,12 @@ pub(crate) struct RawDirective {
 impl RawDirective {
     /// Of at most 7 moments.
     pub fn new(low: u32, moments: &[Moment], verdict: &Outcome) -> RawDirective {
-        let mut raw = RawDirective { low, count: moments.len() as u32, moments: [Moment::default(); 7], verdict: *verdict };
+        let mut raw = RawDirective {
+            low,
+            count: moments.len() as u32,
+            moments: [Moment::default(); 7],
+            verdict: *verdict,
+        };
         raw.moments[..moments.len()].copy_from_slice(moments);
         raw
     }
@@ -174,7 +180,8 @@ pub(crate) struct RawBound {
 
 const NO_MEMORY: u32 = 6;
 
-/// A call of the library refused what it was given. What is told is a fault of this crate, or want of memory.
+/// A call of the library refused what it was given. What is told is a fault of this crate, or want
+/// of memory.
 #[derive(Clone, Debug, PartialEq, Eq)]
 pub(crate) struct Refused {
     pub call: &'static str,
@@ -190,7 +197,8 @@ impl std::fmt::Display for Refused {
     }
 }
 
-/// What the threads share: how many threads and objects without a value there are, and the first values of the others.
+/// What the threads share: how many threads and objects without a value there are, and the first
+/// values of the others.
 #[derive(Clone, Debug, Default, PartialEq, Eq)]
 pub(crate) struct Deal {
     pub threads: u32,

@@ -29,14 +29,17 @@ pub(crate) struct Follow {
 impl Follow {
     /// A step is taken.
     pub fn took(&self, number: u32, place: Place, event: &Event) {
-        let told = |place: Place, event: &Event| format!("{} = {} at {place}", self.names.words(&event.ask), event.answer);
+        let told = |place: Place, event: &Event| {
+            format!("{} = {} at {place}", self.names.words(&event.ask), event.answer)
+        };
         let found = told(place, event);
         if self.prints {
             println!("{number:>6}  {}  {found}", self.names.thread(event.thread));
         }
         let Some(expected) = self.expected.get(number as usize - 1) else { return };
         let written = told(self.sites.place(self.file, expected.line), expected);
-        // Where a thread begins has the line of the call, which isn't the check's in a replay by another one.
+        // Where a thread begins has the line of the call, which isn't the check's in a replay by
+        // another one.
         if written != found && event.ask.kind != kind::BEGIN {
             let note = format!("step {number}: the trace has {written}");
             if self.prints {
@@ -58,7 +61,8 @@ pub struct Replayed {
     pub written: String,
     /// Steps at other places or with other values than the trace has, in sentences.
     pub notes: Vec<String>,
-    /// The first step that the trace's thread couldn't take, or where the run would go on after the trace's end.
+    /// The first step that the trace's thread couldn't take, or where the run would go on after the
+    /// trace's end.
     pub departs: Option<usize>,
 }
 
@@ -70,10 +74,12 @@ pub struct Replayed {
 #[track_caller]
 pub fn replay<T: Test>(config: Config, trace: &Path, test: T) -> Replayed {
     let place = test.place().unwrap_or(Place::of(Location::caller()));
-    replayed(Settings::new(config, place), Arc::new(test), trace, false).unwrap_or_else(|sentence| panic!("pct: {sentence}"))
+    replayed(Settings::new(config, place), Arc::new(test), trace, false)
+        .unwrap_or_else(|sentence| panic!("pct: {sentence}"))
 }
 
-/// The replay that `PCT_REPLAY` asks for: of this test alone, and each step is printed as it is taken.
+/// The replay that `PCT_REPLAY` asks for: of this test alone, and each step is printed as it is
+/// taken.
 #[track_caller]
 pub(crate) fn by_environment<T: Test>(settings: Settings, test: T, trace: &Path) {
     let name = settings.file_name();
@@ -81,11 +87,13 @@ pub(crate) fn by_environment<T: Test>(settings: Settings, test: T, trace: &Path)
         println!("{}: not replayed, since the trace is another test's", settings.name);
         return;
     }
-    let replayed = replayed(settings, Arc::new(test), trace, true).unwrap_or_else(|sentence| panic!("pct: {sentence}"));
+    let replayed = replayed(settings, Arc::new(test), trace, true)
+        .unwrap_or_else(|sentence| panic!("pct: {sentence}"));
     let found = replayed.run.verdict();
     if let Some(step) = replayed.departs {
         panic!(
-            "pct: the replay departs at step {step}: the trace ends with {}, and the code has changed since",
+            "pct: the replay departs at step {step}: the trace ends with {}, and the code has \
+             changed since",
             replayed.written
         );
     }
@@ -101,9 +109,15 @@ pub(crate) fn by_environment<T: Test>(settings: Settings, test: T, trace: &Path)
     panic!("{}\n{agrees}: {found}, {} steps", report::sentence(&replayed.run), replayed.run.len());
 }
 
-fn replayed<T: Test>(settings: Settings, test: Arc<T>, trace: &Path, prints: bool) -> Result<Replayed, String> {
+fn replayed<T: Test>(
+    settings: Settings,
+    test: Arc<T>,
+    trace: &Path,
+    prints: bool,
+) -> Result<Replayed, String> {
     let beside = Beside::read(&trace.with_extension("sites"))?;
-    let text = std::fs::read_to_string(trace).map_err(|error| format!("{}: {error}", trace.display()))?;
+    let text =
+        std::fs::read_to_string(trace).map_err(|error| format!("{}: {error}", trace.display()))?;
     let read = ffi::read_trace(&beside.names.text(), &text)?;
     let threads = beside.names.threads.len() as u32;
     let mut search = Search::new(test, settings)?;
@@ -121,7 +135,8 @@ fn replayed<T: Test>(settings: Settings, test: Arc<T>, trace: &Path, prints: boo
     let list = read.steps.iter().map(|step| step.thread).collect();
     let order = Order { plan: Plan::List(list), threads, random: beside.seed, keeps_steps: true };
     let run = crate::check::single(&mut search, order, None)?;
-    let written = ffi::verdict_text(&follow.names.text(), &read.verdict).map_err(|refused| refused.to_string())?;
+    let written = ffi::verdict_text(&follow.names.text(), &read.verdict)
+        .map_err(|refused| refused.to_string())?;
     let notes = follow.notes.lock().map(|notes| notes.clone()).unwrap_or_default();
     Ok(Replayed { departs: departure(&run, &read), run, written, notes })
 }

@@ -1,4 +1,5 @@
-//! One run after another: the runner makes a run's threads, gives the baton to the first, and waits for the end.
+//! One run after another: the runner makes a run's threads, gives the baton to the first, and waits
+//! for the end.
 
 use crate::ask::kind;
 use crate::config::Settings;
@@ -79,7 +80,16 @@ impl From<Fault> for NoRun {
 impl<T: Test> Runner<T> {
     pub fn new(test: Arc<T>, settings: Arc<Settings>) -> Runner<T> {
         let pool = settings.config.keep_threads.then(Arc::default);
-        Runner { test, settings, deal: Deal::default(), paths: Vec::new(), follow: None, pool, parked: 0, rebuilt: 0 }
+        Runner {
+            test,
+            settings,
+            deal: Deal::default(),
+            paths: Vec::new(),
+            follow: None,
+            pool,
+            parked: 0,
+            rebuilt: 0,
+        }
     }
 
     /// Real threads are made anew from now on.
@@ -114,7 +124,11 @@ impl<T: Test> Runner<T> {
         let bodies = test::declared(&self.test, live).0;
         let many = bodies.len() as u32;
         if many == 0 || many > live.state()?.deal.threads {
-            return Err(if many == 0 { NoRun::Sentence("the test declares no thread".into()) } else { NoRun::MoreThreads });
+            return Err(if many == 0 {
+                NoRun::Sentence("the test declares no thread".into())
+            } else {
+                NoRun::MoreThreads
+            });
         }
         let mut state = live.state()?;
         for (name, _) in &bodies {
@@ -151,9 +165,13 @@ impl<T: Test> Runner<T> {
     }
 
     fn silence(&self, live: &Live, thread: u32) -> String {
-        let name = live.state().ok().and_then(|state| state.threads.get(thread).and_then(|thread| thread.name.clone()));
+        let name = live
+            .state()
+            .ok()
+            .and_then(|state| state.threads.get(thread).and_then(|thread| thread.name.clone()));
         format!(
-            "thread {} made no step for {:?}; its last one was at {}. It may block on something that pct doesn't see, or go round \
+            "thread {} made no step for {:?}; its last one was at {}. It may block on something \
+             that pct doesn't see, or go round \
              without a step",
             name.unwrap_or_else(|| thread.to_string()),
             self.settings.config.patience,

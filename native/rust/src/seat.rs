@@ -1,5 +1,5 @@
-//! What a real thread knows of the run that it is in. It is the first of the thread's thread-locals, so its destructor is the
-//! last one, and the thread's end is posted there.
+//! What a real thread knows of the run that it is in. It is the first of the thread's
+//! thread-locals, so its destructor is the last one, and the thread's end is posted there.
 
 use crate::live::Live;
 use crate::objects::Kind;
@@ -42,7 +42,8 @@ impl Drop for Seat {
     }
 }
 
-/// The thread is a thread of a run from now on. `ends` says whether its end is posted when its thread-locals are gone.
+/// The thread is a thread of a run from now on. `ends` says whether its end is posted when its
+/// thread-locals are gone.
 pub(crate) fn enter(live: &Arc<Live>, me: u32, ends: bool) {
     SEAT.with(|seat| {
         seat.me.set(me);
@@ -98,7 +99,8 @@ pub(crate) fn panicked() -> Option<Panicked> {
 
 /// Whether the thread panics, or has panicked since its run began. It costs little.
 pub(crate) fn has_panicked() -> bool {
-    std::thread::panicking() || SEAT.try_with(|seat| seat.panicked.borrow().is_some()).unwrap_or(false)
+    std::thread::panicking()
+        || SEAT.try_with(|seat| seat.panicked.borrow().is_some()).unwrap_or(false)
 }
 
 /// The thread asks, where panics are as std's: one that doesn't unwind now was caught.
@@ -108,7 +110,8 @@ pub(crate) fn goes_on() {
     }
 }
 
-/// A panic of a thread of a run is kept and told with the run; all others go to the hook that stood before.
+/// A panic of a thread of a run is kept and told with the run; all others go to the hook that stood
+/// before.
 pub(crate) fn install_hook() {
     static HOOK: Once = Once::new();
     HOOK.call_once(|| {
@@ -123,9 +126,10 @@ pub(crate) fn install_hook() {
 
 /// It never waits: whoever panics has the baton, and no lock is taken here but by `try_lock`.
 fn keep(live: &Arc<Live>, me: u32, info: &PanicHookInfo<'_>) {
-    let place = info
-        .location()
-        .map_or_else(|| live.last_place(me), |location| Place { file: name_of(location.file()), line: location.line() });
+    let place = info.location().map_or_else(
+        || live.last_place(me),
+        |location| Place { file: name_of(location.file()), line: location.line() },
+    );
     let told = Panicked { place, message: message_of(info.payload()) };
     SEAT.with(|seat| {
         let mut panicked = seat.panicked.borrow_mut();
@@ -154,6 +158,9 @@ fn name_of(file: &str) -> &'static str {
 
 /// The text of a payload, where it is one.
 pub(crate) fn message_of(payload: &(dyn std::any::Any + Send)) -> String {
-    let text = payload.downcast_ref::<&str>().copied().or_else(|| payload.downcast_ref::<String>().map(String::as_str));
+    let text = payload
+        .downcast_ref::<&str>()
+        .copied()
+        .or_else(|| payload.downcast_ref::<String>().map(String::as_str));
     text.unwrap_or("a panic without a text").to_owned()
 }

@@ -30,9 +30,13 @@ impl Schedule {
         Schedule { seed: Some((seed, depth)), ..Schedule::default() }
     }
 
-    /// By an order of the threads' names, the highest priority first. Threads that aren't named come behind, in declared order.
+    /// By an order of the threads' names, the highest priority first. Threads that aren't named
+    /// come behind, in declared order.
     pub fn order(names: &[&str]) -> Schedule {
-        Schedule { order: names.iter().map(|name| (*name).to_owned()).collect(), ..Schedule::default() }
+        Schedule {
+            order: names.iter().map(|name| (*name).to_owned()).collect(),
+            ..Schedule::default()
+        }
     }
 
     /// With these change points: right after each of these steps its thread is put last. At most 7.
@@ -52,9 +56,13 @@ impl Schedule {
             return Ok((order, Some(Drawn { seed, depth, steps: search.steps })));
         }
         if self.points.len() > 7 || self.points.iter().any(|point| !(1..=100_000).contains(point)) {
-            return Err(format!("a schedule has at most 7 change points from 1 to 100000, and not {:?}", self.points));
+            return Err(format!(
+                "a schedule has at most 7 change points from 1 to 100000, and not {:?}",
+                self.points
+            ));
         }
-        let names = search.first.as_ref().map(|first| Names::of(first, search.threads)).unwrap_or_default();
+        let names =
+            search.first.as_ref().map(|first| Names::of(first, search.threads)).unwrap_or_default();
         let plan = Plan::Points { order: self.numbers(&names)?, points: self.points.clone() };
         Ok((Order { plan, threads: search.threads, random: 0, keeps_steps: true }, None))
     }
@@ -64,13 +72,17 @@ impl Schedule {
         let mut order = Vec::new();
         for name in &self.order {
             let number = names.threads.iter().position(|known| known == name);
-            let number = number.ok_or_else(|| format!("no thread is called {name}: {}", names.threads.join(" ")))? as u32;
+            let number = number
+                .ok_or_else(|| format!("no thread is called {name}: {}", names.threads.join(" ")))?
+                as u32;
             if order.contains(&number) {
                 return Err(format!("the order has {name} twice"));
             }
             order.push(number);
         }
-        let rest = (0..names.threads.len() as u32).filter(|number| !order.contains(number)).collect::<Vec<_>>();
+        let rest = (0..names.threads.len() as u32)
+            .filter(|number| !order.contains(number))
+            .collect::<Vec<_>>();
         Ok([order, rest].concat())
     }
 }
@@ -78,7 +90,9 @@ impl Schedule {
 pub(crate) fn sentence(no_run: NoRun) -> String {
     match no_run {
         NoRun::Sentence(sentence) => sentence,
-        NoRun::MoreThreads => "the run starts more threads than its order has: set Config::threads".into(),
+        NoRun::MoreThreads => {
+            "the run starts more threads than its order has: set Config::threads".into()
+        }
     }
 }
 
@@ -91,7 +105,9 @@ pub(crate) fn searched<T: Test, R>(
 ) -> R {
     let place = test.place().unwrap_or(place);
     let begun = Search::begin(Arc::new(test), Settings::new(config, place));
-    begun.and_then(|mut search| act(&mut search)).unwrap_or_else(|sentence| panic!("pct: {sentence}"))
+    begun
+        .and_then(|mut search| act(&mut search))
+        .unwrap_or_else(|sentence| panic!("pct: {sentence}"))
 }
 
 /// Makes one run. Its random numbers are those of the seed, or of 0.

@@ -1,4 +1,5 @@
-//! Threads that wait by looking again and again. Each waits at a semaphore of its own, until a step of another one changes something.
+//! Threads that wait by looking again and again. Each waits at a semaphore of its own, until a step
+//! of another one changes something.
 
 use crate::objects::MOST;
 use crate::raw::Ask;
@@ -37,7 +38,8 @@ impl Default for Spins {
 
 /// What a thread does that would wait.
 pub(crate) enum Look {
-    /// It looks again: something has changed since it wanted to wait last, or it hasn't looked since then.
+    /// It looks again: something has changed since it wanted to wait last, or it hasn't looked
+    /// since then.
     Again,
     /// It waits at its semaphore, once it has one.
     Wait(Option<u32>),
@@ -88,8 +90,8 @@ impl Spins {
         self.waiting &= !(1 << thread);
     }
 
-    /// The next one whom the thread has to wake before its next ask, by its semaphore. Who begins to wait meanwhile has looked since
-    /// the change.
+    /// The next one whom the thread has to wake before its next ask, by its semaphore. Who begins
+    /// to wait meanwhile has looked since the change.
     pub fn next_owed(&mut self, thread: u32) -> Option<u32> {
         let owed = &mut self.owed[thread as usize];
         if self.changed >> thread & 1 == 1 {
@@ -112,6 +114,9 @@ impl Spins {
 
     /// The semaphores, with their threads.
     pub fn all(&self) -> impl Iterator<Item = (u32, u32)> + '_ {
-        self.semaphores.iter().enumerate().filter_map(|(thread, semaphore)| semaphore.map(|it| (it, thread as u32)))
+        self.semaphores
+            .iter()
+            .enumerate()
+            .filter_map(|(thread, semaphore)| semaphore.map(|it| (it, thread as u32)))
     }
 }

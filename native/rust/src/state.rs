@@ -1,4 +1,5 @@
-//! What a run's threads share under the baton: the book, the asks that aren't posted yet, the numbers of objects and threads.
+//! What a run's threads share under the baton: the book, the asks that aren't posted yet, the
+//! numbers of objects and threads.
 
 use crate::ask::{kind, Late};
 use crate::ffi::Book;
@@ -70,7 +71,8 @@ pub(crate) struct State {
     pub random: u64,
     pub panicked: Option<Panicked>,
     pub names: Vec<(Kind, u32, String)>,
-    /// Threads that are declared and haven't come to their first ask: the next one, and how many there are.
+    /// Threads that are declared and haven't come to their first ask: the next one, and how many
+    /// there are.
     pub declared: Option<(u32, u32)>,
     pub end: Option<End>,
     pub events: Vec<Event>,
@@ -136,14 +138,17 @@ impl State {
             let (stepped, thread, line, ask) = match self.choice {
                 Choice::Over => return self.settle().map(|()| Next::Over),
                 Choice::Turn(thread) => {
-                    let (line, ask) = self.posted[thread as usize].ok_or("the book's turn is of a thread that posted nothing")?;
+                    let (line, ask) = self.posted[thread as usize]
+                        .ok_or("the book's turn is of a thread that posted nothing")?;
                     let (stepped, choice) = book.take(thread).map_err(told)?;
                     self.choice = choice;
                     (stepped, thread, line, ask)
                 }
                 Choice::Waits(thread) => {
                     let late = self.late[thread as usize].take();
-                    let (line, late) = late.ok_or_else(|| format!("the book waits for thread {thread}, which brought no ask"))?;
+                    let (line, late) = late.ok_or_else(|| {
+                        format!("the book waits for thread {thread}, which brought no ask")
+                    })?;
                     let ask = late.ask(&self.objects.values);
                     let (stepped, choice) = book.step(thread, line, &ask).map_err(told)?;
                     self.choice = choice;
@@ -182,7 +187,8 @@ impl State {
 
     fn settle(&mut self) -> Result<(), Fault> {
         let book = self.book.as_mut().ok_or("a run without a book ended")?;
-        let outcome = book.outcome().map_err(told)?.ok_or("the book has neither a turn nor an outcome")?;
+        let outcome =
+            book.outcome().map_err(told)?.ok_or("the book has neither a turn nor an outcome")?;
         self.close(End::Outcome(Box::new(outcome)))
     }
 
@@ -204,7 +210,10 @@ impl State {
     /// A number for an object, with the deal mended where it has to be.
     pub fn number(&mut self, kind: Kind, first: i64, place: Place) -> Result<Option<u32>, Fault> {
         let Some(number) = self.objects.number(kind, first, place) else { return Ok(None) };
-        if !self.objects.is_reused(kind, number) && self.deal.mend(kind, number, first) && self.book.is_some() {
+        if !self.objects.is_reused(kind, number)
+            && self.deal.mend(kind, number, first)
+            && self.book.is_some()
+        {
             self.rebuild()?;
         }
         Ok(Some(number))
@@ -233,8 +242,15 @@ impl State {
 
     /// By thread, in which line it asks what, where that is posted and not taken.
     pub fn asking(&self) -> Vec<(u32, u32, Ask)> {
-        let posted = self.posted.iter().enumerate().filter_map(|(thread, post)| post.map(|(line, ask)| (thread, line, ask)));
-        posted.filter(|(_, _, ask)| ask.kind != kind::BEGIN).map(|(thread, line, ask)| (thread as u32, line, ask)).collect()
+        let posted = self
+            .posted
+            .iter()
+            .enumerate()
+            .filter_map(|(thread, post)| post.map(|(line, ask)| (thread, line, ask)));
+        posted
+            .filter(|(_, _, ask)| ask.kind != kind::BEGIN)
+            .map(|(thread, line, ask)| (thread as u32, line, ask))
+            .collect()
     }
 
     /// The steps so far of a run that isn't over.
@@ -254,7 +270,9 @@ fn again(book: &mut Book, posts: &mut [Vec<(u32, Ask)>], steps: usize) -> Result
                 book.take(thread).map_err(told)?.1
             }
             Choice::Waits(thread) => {
-                let (line, ask) = posts[thread as usize].pop().ok_or("a mended run departs: a post is missing")?;
+                let (line, ask) = posts[thread as usize]
+                    .pop()
+                    .ok_or("a mended run departs: a post is missing")?;
                 book.post(thread, line, &ask).map_err(told)?
             }
             Choice::Over => return Err("a mended run departs: it is over".into()),

@@ -29,7 +29,8 @@ pub fn holds(condition: bool) {
     assert!(asked.is_some() || condition, "pct::holds(false)");
 }
 
-/// Waits for the end of a thread by its name, as [`threads`](crate::threads) declares it: one step. Outside of a run it is nothing.
+/// Waits for the end of a thread by its name, as [`threads`](crate::threads) declares it: one step.
+/// Outside of a run it is nothing.
 ///
 /// # Panics
 ///
@@ -44,8 +45,8 @@ pub fn join(name: &str) {
     });
 }
 
-/// A number of the run's seed: the next one at each call of the run. In a replay it is the trace's, in single runs without a seed that
-/// of 0, outside of a run too. It is no step.
+/// A number of the run's seed: the next one at each call of the run. In a replay it is the trace's,
+/// in single runs without a seed that of 0, outside of a run too. It is no step.
 pub fn random() -> u64 {
     seat::current(|live, _| match live.state() {
         Ok(mut state) => mixed(&mut state.random),
@@ -62,13 +63,14 @@ fn mixed(state: &mut u64) -> u64 {
     second ^ (second >> 31)
 }
 
-/// Names an object for reports and traces: 1 to 32 letters, digits and `_`, a letter first, and no word of traces. It is no step.
-/// Outside of a run it is nothing.
+/// Names an object for reports and traces: 1 to 32 letters, digits and `_`, a letter first, and no
+/// word of traces. It is no step. Outside of a run it is nothing.
 #[track_caller]
 pub fn name(name: &str, object: &impl Named) {
     let place = Place::of(Location::caller());
     let Some(live) = seat::naming(std::sync::Arc::clone) else { return };
-    let is_taken = live.state().is_ok_and(|state| state.names.iter().any(|(_, _, taken)| taken == name));
+    let is_taken =
+        live.state().is_ok_and(|state| state.names.iter().any(|(_, _, taken)| taken == name));
     assert!(
         names::is_name(name) && !is_taken,
         "pct: {place}: {name} can't be a name: 1 to 32 letters, digits and _, a letter first, \
@@ -103,8 +105,21 @@ macro_rules! named {
     )* };
 }
 
-named!(atomic::AtomicBool, atomic::AtomicI8, atomic::AtomicI16, atomic::AtomicI32, atomic::AtomicI64, atomic::AtomicIsize);
-named!(atomic::AtomicU8, atomic::AtomicU16, atomic::AtomicU32, atomic::AtomicU64, atomic::AtomicUsize);
+named!(
+    atomic::AtomicBool,
+    atomic::AtomicI8,
+    atomic::AtomicI16,
+    atomic::AtomicI32,
+    atomic::AtomicI64,
+    atomic::AtomicIsize
+);
+named!(
+    atomic::AtomicU8,
+    atomic::AtomicU16,
+    atomic::AtomicU32,
+    atomic::AtomicU64,
+    atomic::AtomicUsize
+);
 
 impl<T: ?Sized> Named for Mutex<T> {
     fn identity(&self) -> (&Identity, Option<i64>) {

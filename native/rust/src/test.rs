@@ -14,7 +14,8 @@ pub(crate) type Body = Box<dyn FnOnce() + Send>;
 #[doc(hidden)]
 pub struct Bodies(pub(crate) Vec<(Option<String>, Body)>);
 
-/// What can be run as a test: a closure, which is the main thread and may spawn others, or what [`threads`] makes.
+/// What can be run as a test: a closure, which is the main thread and may spawn others, or what
+/// [`threads`] makes.
 pub trait Test: Send + Sync + 'static {
     /// The threads that a run begins with, made for this run.
     #[doc(hidden)]
@@ -37,8 +38,8 @@ impl<F: Fn() + Send + Sync + 'static> Test for F {
 pub struct Threads(RefCell<Vec<(Option<String>, Body)>>);
 
 impl Threads {
-    /// Declares a thread with a name: 1 to 32 letters, digits and `_`, a letter first. Threads are numbered in the order of their
-    /// declaration, and none is started by a step.
+    /// Declares a thread with a name: 1 to 32 letters, digits and `_`, a letter first. Threads are
+    /// numbered in the order of their declaration, and none is started by a step.
     pub fn thread(&self, name: &str, body: impl FnOnce() + Send + 'static) {
         self.0.borrow_mut().push((Some(name.to_owned()), Box::new(body)));
     }
@@ -47,8 +48,9 @@ impl Threads {
 /// A test by declared threads, as [`threads`] makes it.
 pub struct Declared<F>(F, Place);
 
-/// A test without a main thread: the closure, which is called before each run, makes the objects and declares the threads. What
-/// it does to objects takes no step. The file of this call is the test's own, whose lines traces have.
+/// A test without a main thread: the closure, which is called before each run, makes the objects
+/// and declares the threads. What it does to objects takes no step. The file of this call is the
+/// test's own, whose lines traces have.
 #[track_caller]
 pub fn threads<F: Fn(&Threads) + Send + Sync + 'static>(declare: F) -> Declared<F> {
     Declared(declare, Place::of(Location::caller()))

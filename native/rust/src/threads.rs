@@ -3,7 +3,8 @@
 use crate::objects::MOST;
 use crate::place::Place;
 
-/// Who spawned a thread and as which, from the main thread down. It is the same in every order of the steps.
+/// Who spawned a thread and as which, from the main thread down. It is the same in every order of
+/// the steps.
 pub(crate) type Path = Vec<u32>;
 
 /// A thread that was declared or spawned.
@@ -46,12 +47,26 @@ impl Threads {
     /// A thread that nobody spawned.
     pub fn declare(&mut self, name: Option<String>, place: Place) -> u32 {
         let number = self.len();
-        self.all.push(Thread { number, path: vec![number], name, place, children: 0, is_finished: false, has_ended: false });
+        self.all.push(Thread {
+            number,
+            path: vec![number],
+            name,
+            place,
+            children: 0,
+            is_finished: false,
+            has_ended: false,
+        });
         number
     }
 
     /// A thread that `parent` spawns, where its number is below `most`.
-    pub fn spawn(&mut self, parent: u32, name: Option<String>, place: Place, most: u32) -> Option<u32> {
+    pub fn spawn(
+        &mut self,
+        parent: u32,
+        name: Option<String>,
+        place: Place,
+        most: u32,
+    ) -> Option<u32> {
         let from = self.all.iter_mut().find(|thread| thread.number == parent)?;
         from.children += 1;
         let path: Path = from.path.iter().copied().chain([from.children]).collect();
@@ -59,13 +74,22 @@ impl Threads {
         if number >= most {
             return None;
         }
-        self.all.push(Thread { number, path, name, place, children: 0, is_finished: false, has_ended: false });
+        self.all.push(Thread {
+            number,
+            path,
+            name,
+            place,
+            children: 0,
+            is_finished: false,
+            has_ended: false,
+        });
         Some(number)
     }
 
     fn number_of(&self, path: &Path) -> u32 {
         let kept = self.kept.iter().position(|kept| kept == path);
-        let is_free = |number: &u32| *number as usize >= self.kept.len() && self.get(*number).is_none();
+        let is_free =
+            |number: &u32| *number as usize >= self.kept.len() && self.get(*number).is_none();
         kept.map_or_else(|| (0..).find(is_free).unwrap_or(MOST as u32), |place| place as u32)
     }
 
@@ -75,7 +99,10 @@ impl Threads {
 
     /// The number of a thread by its name.
     pub fn named(&self, name: &str) -> Option<u32> {
-        self.all.iter().find(|thread| thread.name.as_deref() == Some(name)).map(|thread| thread.number)
+        self.all
+            .iter()
+            .find(|thread| thread.name.as_deref() == Some(name))
+            .map(|thread| thread.number)
     }
 
     pub fn end(&mut self, number: u32) {

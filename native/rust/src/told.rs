@@ -49,7 +49,13 @@ pub struct Run {
 
 impl Run {
     /// `threads` is how many the check has: an order may have had room for more.
-    pub(crate) fn new(ran: Ran, settings: Arc<Settings>, mut sites: Sites, drawn: Option<Drawn>, threads: u32) -> Run {
+    pub(crate) fn new(
+        ran: Ran,
+        settings: Arc<Settings>,
+        mut sites: Sites,
+        drawn: Option<Drawn>,
+        threads: u32,
+    ) -> Run {
         let names = Names::of(&ran, threads);
         let line = |sites: &mut Sites, line| sites.line(&ran.places, line);
         let mut events = ran.events.clone();
@@ -67,7 +73,8 @@ impl Run {
 
     /// The verdict, as a trace has it: `passed`, `failed main 12`, `stuck ..`.
     pub fn verdict(&self) -> String {
-        ffi::verdict_text(&self.names.text(), &self.outcome).unwrap_or_else(|refused| refused.to_string())
+        ffi::verdict_text(&self.names.text(), &self.outcome)
+            .unwrap_or_else(|refused| refused.to_string())
     }
 
     /// The trace file of the run.
@@ -75,8 +82,16 @@ impl Run {
         let (order, points) = self.order_and_points();
         let version = 1 + u32::from(self.ran.objects.given(Kind::RwLock) > 0);
         let limit = self.ran.limit;
-        ffi::trace_text(&self.names.text(), version, limit, &order, points, &self.events, &self.outcome)
-            .unwrap_or_else(|refused| format!("no trace: {refused}\n"))
+        ffi::trace_text(
+            &self.names.text(),
+            version,
+            limit,
+            &order,
+            points,
+            &self.events,
+            &self.outcome,
+        )
+        .unwrap_or_else(|refused| format!("no trace: {refused}\n"))
     }
 
     /// How many steps it took.
@@ -110,7 +125,11 @@ impl Run {
 
     /// The names of the threads in the order of their priorities, the highest first.
     pub fn order(&self) -> Vec<String> {
-        self.order_and_points().0.iter().map(|thread| self.names.thread(*thread).to_owned()).collect()
+        self.order_and_points()
+            .0
+            .iter()
+            .map(|thread| self.names.thread(*thread).to_owned())
+            .collect()
     }
 
     /// The steps after which a thread was lowered.
@@ -119,7 +138,8 @@ impl Run {
     }
 
     pub(crate) fn order_and_points(&self) -> (Vec<u32>, &[u32]) {
-        let known = |order: &[u32]| order.iter().copied().filter(|thread| *thread < self.threads).collect();
+        let known =
+            |order: &[u32]| order.iter().copied().filter(|thread| *thread < self.threads).collect();
         match &self.ran.order.plan {
             Plan::Points { order, points } => (known(order), points),
             Plan::Moments { order, .. } => (known(order), &[]),
@@ -143,11 +163,13 @@ impl Run {
         let waits = |(thread, _, ask): &(u32, u32, Ask)| {
             ask.kind == crate::ask::kind::DOWN && self.ran.spinning.contains(&(ask.a, *thread))
         };
-        self.outcome.kind == STUCK && !self.ran.asking.is_empty() && self.ran.asking.iter().all(waits)
+        self.outcome.kind == STUCK
+            && !self.ran.asking.is_empty()
+            && self.ran.asking.iter().all(waits)
     }
 
-    /// The run as lanes: a column for each thread, a row for each step. `v` and a number behind a step is the change point that lowers
-    /// its thread.
+    /// The run as lanes: a column for each thread, a row for each step. `v` and a number behind a
+    /// step is the change point that lowers its thread.
     pub fn lanes(&self) -> String {
         crate::report::lanes(self)
     }
@@ -184,6 +206,9 @@ pub(crate) fn translated(outcome: &Outcome, mut line: impl FnMut(u32) -> u32) ->
 
 impl std::fmt::Debug for Run {
     fn fmt(&self, to: &mut std::fmt::Formatter<'_>) -> std::fmt::Result {
-        to.debug_struct("Run").field("verdict", &self.verdict()).field("steps", &self.len()).finish_non_exhaustive()
+        to.debug_struct("Run")
+            .field("verdict", &self.verdict())
+            .field("steps", &self.len())
+            .finish_non_exhaustive()
     }
 }

@@ -5,7 +5,8 @@ use std::cell::Cell;
 use std::panic::{RefUnwindSafe, UnwindSafe};
 use std::rc::Rc;
 
-/// Whether a type has a trait: the constant of the type's own is found before that of the trait for all types.
+/// Whether a type has a trait: the constant of the type's own is found before that of the trait for
+/// all types.
 macro_rules! has {
     ($type:ty, $bound:path) => {{
         #[allow(dead_code)]
@@ -25,7 +26,13 @@ macro_rules! has {
 
 macro_rules! traits {
     ($type:ty) => {
-        [has!($type, Send), has!($type, Sync), has!($type, Unpin), has!($type, UnwindSafe), has!($type, RefUnwindSafe)]
+        [
+            has!($type, Send),
+            has!($type, Sync),
+            has!($type, Unpin),
+            has!($type, UnwindSafe),
+            has!($type, RefUnwindSafe),
+        ]
     };
 }
 
@@ -40,22 +47,28 @@ macro_rules! all {
 macro_rules! types {
     ($lib:ident) => {
         all![
-            $lib: lib::sync::Mutex<u8>, lib::sync::Mutex<Rc<u8>>, lib::sync::Mutex<Cell<u8>>, lib::sync::Mutex<dyn Send>,
-            lib::sync::MutexGuard<'static, u8>, lib::sync::MutexGuard<'static, Rc<u8>>, lib::sync::MutexGuard<'static, Cell<u8>>,
+            $lib: lib::sync::Mutex<u8>, lib::sync::Mutex<Rc<u8>>, lib::sync::Mutex<Cell<u8>>,
+            lib::sync::Mutex<dyn Send>, lib::sync::MutexGuard<'static, u8>,
+            lib::sync::MutexGuard<'static, Rc<u8>>, lib::sync::MutexGuard<'static, Cell<u8>>,
             lib::sync::RwLock<u8>, lib::sync::RwLock<Rc<u8>>, lib::sync::RwLock<Cell<u8>>,
             lib::sync::RwLockReadGuard<'static, u8>, lib::sync::RwLockReadGuard<'static, Cell<u8>>,
-            lib::sync::RwLockWriteGuard<'static, u8>, lib::sync::RwLockWriteGuard<'static, Cell<u8>>,
-            lib::sync::Condvar, lib::sync::WaitTimeoutResult, lib::sync::Barrier, lib::sync::BarrierWaitResult,
-            lib::sync::Once, lib::sync::OnceState, lib::sync::OnceLock<u8>, lib::sync::OnceLock<Rc<u8>>, lib::sync::OnceLock<Cell<u8>>,
-            lib::sync::LazyLock<u8>, lib::sync::LazyLock<Cell<u8>>, lib::sync::LazyLock<u8, Rc<u8>>, lib::sync::LazyLock<u8, Cell<u8>>,
-            lib::sync::mpsc::Sender<u8>, lib::sync::mpsc::Sender<Rc<u8>>, lib::sync::mpsc::Sender<Cell<u8>>,
+            lib::sync::RwLockWriteGuard<'static, u8>, lib::sync::RwLockWriteGuard<'static,
+            Cell<u8>>, lib::sync::Condvar, lib::sync::WaitTimeoutResult, lib::sync::Barrier,
+            lib::sync::BarrierWaitResult, lib::sync::Once, lib::sync::OnceState,
+            lib::sync::OnceLock<u8>, lib::sync::OnceLock<Rc<u8>>, lib::sync::OnceLock<Cell<u8>>,
+            lib::sync::LazyLock<u8>, lib::sync::LazyLock<Cell<u8>>, lib::sync::LazyLock<u8, Rc<u8>>,
+            lib::sync::LazyLock<u8, Cell<u8>>, lib::sync::mpsc::Sender<u8>,
+            lib::sync::mpsc::Sender<Rc<u8>>, lib::sync::mpsc::Sender<Cell<u8>>,
             lib::sync::mpsc::SyncSender<u8>, lib::sync::mpsc::SyncSender<Rc<u8>>,
-            lib::sync::mpsc::Receiver<u8>, lib::sync::mpsc::Receiver<Rc<u8>>, lib::sync::mpsc::Receiver<Cell<u8>>,
-            lib::sync::mpsc::Iter<'static, u8>, lib::sync::mpsc::TryIter<'static, u8>, lib::sync::mpsc::IntoIter<u8>,
-            lib::sync::atomic::AtomicBool, lib::sync::atomic::AtomicU8, lib::sync::atomic::AtomicI64, lib::sync::atomic::AtomicUsize,
+            lib::sync::mpsc::Receiver<u8>, lib::sync::mpsc::Receiver<Rc<u8>>,
+            lib::sync::mpsc::Receiver<Cell<u8>>, lib::sync::mpsc::Iter<'static, u8>,
+            lib::sync::mpsc::TryIter<'static, u8>, lib::sync::mpsc::IntoIter<u8>,
+            lib::sync::atomic::AtomicBool, lib::sync::atomic::AtomicU8,
+            lib::sync::atomic::AtomicI64, lib::sync::atomic::AtomicUsize,
             lib::sync::atomic::AtomicPtr<u8>, lib::sync::atomic::AtomicPtr<Rc<u8>>,
-            lib::thread::JoinHandle<u8>, lib::thread::JoinHandle<Cell<u8>>, lib::thread::Thread, lib::thread::ThreadId,
-            lib::thread::Builder, lib::thread::Scope<'static, 'static>, lib::thread::ScopedJoinHandle<'static, u8>,
+            lib::thread::JoinHandle<u8>, lib::thread::JoinHandle<Cell<u8>>, lib::thread::Thread,
+            lib::thread::ThreadId, lib::thread::Builder, lib::thread::Scope<'static, 'static>,
+            lib::thread::ScopedJoinHandle<'static, u8>,
         ]
     };
 }
@@ -71,7 +84,8 @@ fn the_probe_tells_what_holds() {
 
 #[test]
 fn each_type_has_stds() {
-    let differs: Vec<_> = types!(pct).into_iter().zip(types!(std)).filter(|(ours, theirs)| ours != theirs).collect();
+    let differs: Vec<_> =
+        types!(pct).into_iter().zip(types!(std)).filter(|(ours, theirs)| ours != theirs).collect();
     assert!(
         differs.is_empty(),
         "Send, Sync, Unpin, UnwindSafe, RefUnwindSafe:\n{}",

@@ -1,5 +1,6 @@
-//! One thread at a time: whatever the threads of a run do between their asks, no two of them do it at once, and a run is the same
-//! whenever it is made again, on one processor and on several, beside load.
+//! One thread at a time: whatever the threads of a run do between their asks, no two of them do it
+//! at once, and a run is the same whenever it is made again, on one processor and on several,
+//! beside load.
 #![allow(missing_docs)]
 
 use pct::sync::atomic::{AtomicU64, Ordering::SeqCst};
@@ -81,7 +82,9 @@ fn program(number: u64, watch: &std::sync::Arc<Watch>) {
             let mut draw = drawn(&mut draw);
             let (shared, counter, watch) = (shared.clone(), counter.clone(), watch.clone());
             thread::spawn(move || {
-                AT_END.with(|at_end| *at_end.borrow_mut() = Some(AtEnd(watch.clone(), counter, draw)));
+                AT_END.with(|at_end| {
+                    *at_end.borrow_mut() = Some(AtEnd(watch.clone(), counter, draw))
+                });
                 for _ in 0..2 + drawn(&mut draw) % 4 {
                     let value = drawn(&mut draw);
                     watch.between(value);
@@ -102,11 +105,12 @@ fn program(number: u64, watch: &std::sync::Arc<Watch>) {
 fn made(number: u64, pin: bool) -> (String, Vec<u64>) {
     let last: std::sync::Arc<StdMutex<Vec<u64>>> = std::sync::Arc::default();
     let keep = last.clone();
-    let run = pct::run(Config { pin, ..Config::default() }, &Schedule::seed(number, 3), move || {
-        let watch = std::sync::Arc::new(Watch::default());
-        program(number, &watch);
-        *keep.lock().unwrap() = watch.log.lock().unwrap().clone();
-    });
+    let run =
+        pct::run(Config { pin, ..Config::default() }, &Schedule::seed(number, 3), move || {
+            let watch = std::sync::Arc::new(Watch::default());
+            program(number, &watch);
+            *keep.lock().unwrap() = watch.log.lock().unwrap().clone();
+        });
     assert!(run.passed(), "{}", run.lanes());
     let log = last.lock().unwrap().clone();
     (run.trace(), log)
@@ -136,8 +140,8 @@ fn programs_are_the_same_whenever_they_are_run() {
     }
 }
 
-/// The atomics have different first values and are used first in an order that depends on the schedule, so that each runner mends its
-/// deal on the way.
+/// The atomics have different first values and are used first in an order that depends on the
+/// schedule, so that each runner mends its deal on the way.
 #[test]
 fn many_runs_are_the_same_by_jobs_and_by_kept_threads() {
     let test = || {
@@ -155,10 +159,20 @@ fn many_runs_are_the_same_by_jobs_and_by_kept_threads() {
             })
             .collect();
         adders.into_iter().for_each(|adder| adder.join().unwrap());
-        assert_eq!(*m.lock().unwrap() + n.load(SeqCst) + first.join().unwrap() + other.load(SeqCst), 15);
+        assert_eq!(
+            *m.lock().unwrap() + n.load(SeqCst) + first.join().unwrap() + other.load(SeqCst),
+            15
+        );
     };
     let by = |jobs, keep_threads| {
-        let config = Config { seeds: 200, depth: Some(3), jobs, keep_threads, sum: true, ..Config::default() };
+        let config = Config {
+            seeds: 200,
+            depth: Some(3),
+            jobs,
+            keep_threads,
+            sum: true,
+            ..Config::default()
+        };
         let campaign = pct::campaign(config, test);
         (campaign.sum, campaign.text)
     };

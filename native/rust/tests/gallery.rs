@@ -1,12 +1,15 @@
-//! The scripts of the gallery as declared threads of real Rust, each line at the line of its script: the campaigns' lines are those of
-//! the scripts, and of ten of them the traces are the same bytes.
+//! The scripts of the gallery as declared threads of real Rust, each line at the line of its
+//! script: the campaigns' lines are those of the scripts, and of ten of them the traces are the
+//! same bytes.
 #![allow(missing_docs)]
 
 use pct::{Config, Schedule};
 
 mod shared {
     pub use pct::sync::atomic::{AtomicI64, Ordering::SeqCst};
-    pub use pct::sync::{Barrier, Condvar, Mutex, RwLock, RwLockReadGuard, RwLockWriteGuard, Semaphore};
+    pub use pct::sync::{
+        Barrier, Condvar, Mutex, RwLock, RwLockReadGuard, RwLockWriteGuard, Semaphore,
+    };
     pub use pct::thread;
     use std::sync::Arc;
 
@@ -91,7 +94,11 @@ fn lines(depth: u32, seeds: u64, steps: u32, test: impl pct::Test) -> Vec<String
     let config = Config { depth: Some(depth), seeds, ..Config::default() };
     let campaign = pct::campaign(config, test);
     assert_eq!(campaign.steps, steps, "another run in declared order");
-    campaign.groups.iter().map(|group| format!("{} {} {} {}", group.count, group.steps, group.first, group.verdict)).collect()
+    campaign
+        .groups
+        .iter()
+        .map(|group| format!("{} {} {} {}", group.count, group.steps, group.first, group.verdict))
+        .collect()
 }
 
 #[test]
@@ -109,7 +116,10 @@ fn barrier_count_mended_has_the_scripts_campaign() {
 
 #[test]
 fn bounded_buffer_has_the_scripts_campaign() {
-    assert_eq!(lines(3, 1000, 54, bounded_buffer::test()), ["4 28 132 failed P1 17", "3 28 652 failed P2 33"]);
+    assert_eq!(
+        lines(3, 1000, 54, bounded_buffer::test()),
+        ["4 28 132 failed P1 17", "3 28 652 failed P2 33"]
+    );
 }
 
 #[test]
@@ -129,7 +139,10 @@ fn dekker_mended_has_the_scripts_campaign() {
 
 #[test]
 fn double_checked_flag_has_the_scripts_campaign() {
-    assert_eq!(lines(2, 300, 11, double_checked_flag::test()), ["16 7 32 failed B 34", "7 7 12 failed A 19"]);
+    assert_eq!(
+        lines(2, 300, 11, double_checked_flag::test()),
+        ["16 7 32 failed B 34", "7 7 12 failed A 19"]
+    );
 }
 
 #[test]
@@ -192,7 +205,10 @@ fn one_condition_mended_has_the_scripts_campaign() {
 
 #[test]
 fn peterson_has_the_scripts_campaign() {
-    assert_eq!(lines(3, 1000, 14, peterson::test()), ["3 10 299 failed A 23", "3 10 369 failed B 43"]);
+    assert_eq!(
+        lines(3, 1000, 14, peterson::test()),
+        ["3 10 299 failed A 23", "3 10 369 failed B 43"]
+    );
 }
 
 #[test]
@@ -202,7 +218,10 @@ fn peterson_mended_has_the_scripts_campaign() {
 
 #[test]
 fn philosophers_has_the_scripts_campaign() {
-    assert_eq!(lines(2, 300, 20, philosophers::test()), ["1 5 35 stuck P1 12 P2 19 P3 26 P4 33 P5 40"]);
+    assert_eq!(
+        lines(2, 300, 20, philosophers::test()),
+        ["1 5 35 stuck P1 12 P2 19 P3 26 P4 33 P5 40"]
+    );
 }
 
 #[test]
@@ -212,7 +231,10 @@ fn philosophers_mended_has_the_scripts_campaign() {
 
 #[test]
 fn pool_has_the_scripts_campaign() {
-    assert_eq!(lines(2, 300, 16, pool::test()), ["3 20 190 stuck Worker1 29", "2 20 61 stuck Worker2 47"]);
+    assert_eq!(
+        lines(2, 300, 16, pool::test()),
+        ["3 20 190 stuck Worker1 29", "2 20 61 stuck Worker2 47"]
+    );
 }
 
 #[test]
@@ -222,7 +244,10 @@ fn pool_mended_has_the_scripts_campaign() {
 
 #[test]
 fn readers_writers_has_the_scripts_campaign() {
-    assert_eq!(lines(2, 300, 17, readers_writers::test()), ["8 6 8 failed Reader1 22", "4 6 38 failed Reader2 35"]);
+    assert_eq!(
+        lines(2, 300, 17, readers_writers::test()),
+        ["8 6 8 failed Reader1 22", "4 6 38 failed Reader2 35"]
+    );
 }
 
 #[test]
@@ -232,7 +257,10 @@ fn readers_writers_mended_has_the_scripts_campaign() {
 
 #[test]
 fn released_twice_has_the_scripts_campaign() {
-    assert_eq!(lines(2, 300, 16, released_twice::test()), ["5 11 6 failed B 18", "5 11 23 failed C 26"]);
+    assert_eq!(
+        lines(2, 300, 16, released_twice::test()),
+        ["5 11 6 failed B 18", "5 11 23 failed C 26"]
+    );
 }
 
 #[test]
@@ -302,7 +330,10 @@ fn upgraded_read_lock_mended_has_the_scripts_campaign() {
 
 #[test]
 fn wait_with_if_has_the_scripts_campaign() {
-    assert_eq!(lines(1, 100, 18, wait_with_if::test()), ["19 18 4 failed Second 26", "14 18 1 failed First 14"]);
+    assert_eq!(
+        lines(1, 100, 18, wait_with_if::test()),
+        ["19 18 4 failed Second 26", "14 18 1 failed First 14"]
+    );
 }
 
 #[test]
@@ -320,7 +351,8 @@ fn work_stealing_mended_has_the_scripts_campaign() {
     assert_eq!(lines(3, 100, 17, work_stealing_mended::test()), Vec::<String>::new());
 }
 
-/// FNV-1a over the traces of the seeds 1 to 1000 at depth 2: the sums are those of the scripts' traces, as the plain model writes them.
+/// FNV-1a over the traces of the seeds 1 to 1000 at depth 2: the sums are those of the scripts'
+/// traces, as the plain model writes them.
 fn sum_of_traces<T: pct::Test>(test: impl Fn() -> T) -> u64 {
     let trace = |seed| pct::run(Config::default(), &Schedule::seed(seed, 2), test()).trace();
     let mix = |sum: u64, byte: u8| (sum ^ u64::from(byte)).wrapping_mul(0x0100_0000_01b3);

@@ -1,5 +1,5 @@
-//! The same calls compile and give the same against std, against this crate outside of a run, and in runs. `tests/parity/methods.py`
-//! looks whether each stable method of std stands among them.
+//! The same calls compile and give the same against std, against this crate outside of a run, and
+//! in runs. `tests/parity/methods.py` looks whether each stable method of std stands among them.
 #![allow(missing_docs, clippy::all)]
 
 mod with_std {

@@ -1,5 +1,5 @@
-//! On Linux all threads of a run are on one processor, which their runner claims and gives back. Alone in its program, since runners of
-//! other tests claim processors, too.
+//! On Linux all threads of a run are on one processor, which their runner claims and gives back.
+//! Alone in its program, since runners of other tests claim processors, too.
 #![cfg(target_os = "linux")]
 #![allow(missing_docs)]
 
@@ -42,15 +42,18 @@ fn threads_of_a_run_are_on_one_processor_and_jobs_on_several() {
         assert!(one.len() == 1 && one.first().unwrap().len() == 1, "{one:?}");
         let jobs = before.len().min(4);
         let many = seen(Config { jobs, seeds: 2000, depth: Some(1), ..config.clone() });
-        assert!(many.iter().all(|processors| processors.len() == 1) && (many.len() > 1 || jobs == 1), "{many:?}");
+        assert!(
+            many.iter().all(|processors| processors.len() == 1) && (many.len() > 1 || jobs == 1),
+            "{many:?}"
+        );
         assert_eq!(seen(Config { pin: false, ..config }), BTreeSet::from([before.clone()]));
         assert_eq!(allowed(), before);
     }
     others_are_left_alone(&before);
 }
 
-/// A processor that another process has marked is taken only where there is no other one. Tests elsewhere mark some, too, so it is tried
-/// some times.
+/// A processor that another process has marked is taken only where there is no other one. Tests
+/// elsewhere mark some, too, so it is tried some times.
 fn others_are_left_alone(processors: &[usize]) {
     let mark = |processor: &usize| {
         let address = SocketAddr::from_abstract_name(format!("pct processor {processor}")).unwrap();

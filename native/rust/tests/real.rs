@@ -1,6 +1,7 @@
-//! Real code: a bounded queue for many who put and many who take, after Dmitry Vyukov's *Bounded MPMC queue* (1024cores.net), and a pool
-//! of threads that shuts down, after the last chapter of *The Rust Programming Language* (Klabnik, Nichols). Each has mistakes that show
-//! under sequential consistency; each is found, and the mended forms pass.
+//! Real code: a bounded queue for many who put and many who take, after Dmitry Vyukov's *Bounded
+//! MPMC queue* (1024cores.net), and a pool of threads that shuts down, after the last chapter of
+//! *The Rust Programming Language* (Klabnik, Nichols). Each has mistakes that show under sequential
+//! consistency; each is found, and the mended forms pass.
 #![allow(missing_docs)]
 
 use pct::sync::atomic::{AtomicU32, AtomicUsize, Ordering::SeqCst};
@@ -20,7 +21,8 @@ enum QueueMistake {
     ForgetsTheRound,
 }
 
-/// A cell and the number of the position that may use it next: to put, where it is the position, to take, where it is one more.
+/// A cell and the number of the position that may use it next: to put, where it is the position, to
+/// take, where it is one more.
 struct Cell {
     sequence: AtomicUsize,
     value: AtomicU32,
@@ -79,13 +81,15 @@ impl Queue {
         let position = self.claimed(&self.head, 1)?;
         let cell = &self.cells[position % self.cells.len()];
         let value = cell.value.load(SeqCst);
-        let round = if self.mistake == QueueMistake::ForgetsTheRound { 0 } else { self.cells.len() };
+        let round =
+            if self.mistake == QueueMistake::ForgetsTheRound { 0 } else { self.cells.len() };
         cell.sequence.store(position + round, SeqCst);
         Some(value)
     }
 }
 
-/// Two who put two values each and two who take two each: the sum of what is taken is that of what was put.
+/// Two who put two values each and two who take two each: the sum of what is taken is that of what
+/// was put.
 fn queue(mistake: QueueMistake) -> impl Fn() + Copy + Send + Sync + 'static {
     move || {
         let queue = Arc::new(Queue::new(2, mistake));
@@ -226,7 +230,10 @@ fn pool(mistake: PoolMistake) -> impl Fn() + Copy + Send + Sync + 'static {
 #[track_caller]
 fn is_found(test: impl Fn() + Copy + Send + Sync + 'static, kind: &str) {
     let found = [(1, 50), (2, 200), (3, 400)].into_iter().find_map(|(depth, seeds)| {
-        let campaign = pct::campaign(Config { depth: Some(depth), seeds, keep_threads: true, ..Config::default() }, test);
+        let campaign = pct::campaign(
+            Config { depth: Some(depth), seeds, keep_threads: true, ..Config::default() },
+            test,
+        );
         campaign.groups.first().map(|group| group.verdict.clone())
     });
     assert!(found.as_ref().is_some_and(|verdict| verdict.starts_with(kind)), "{found:?}");
@@ -235,8 +242,10 @@ fn is_found(test: impl Fn() + Copy + Send + Sync + 'static, kind: &str) {
 /// 100,000 seeds where `PCT_TEST_LONG` says so, twice with the same sum of all steps.
 #[track_caller]
 fn passes(test: impl Fn() + Copy + Send + Sync + 'static) {
-    let (seeds, jobs) = if std::env::var_os("PCT_TEST_LONG").is_some() { (100_000, 2) } else { (200, 1) };
-    let config = Config { depth: Some(3), seeds, jobs, sum: true, keep_threads: true, ..Config::default() };
+    let (seeds, jobs) =
+        if std::env::var_os("PCT_TEST_LONG").is_some() { (100_000, 2) } else { (200, 1) };
+    let config =
+        Config { depth: Some(3), seeds, jobs, sum: true, keep_threads: true, ..Config::default() };
     let first = pct::campaign(config.clone(), test);
     assert_eq!(first.groups, [], "{}", &first.text[first.text.find("groups").unwrap_or(0)..]);
     assert_eq!(first.sum, pct::campaign(config, test).sum);

@@ -10,7 +10,8 @@ use std::panic::Location;
 use std::sync;
 use std::time::{Duration, Instant};
 
-/// A condition variable. `notify_one` wakes who has waited longest, no wait ends by itself, and none by time.
+/// A condition variable. `notify_one` wakes who has waited longest, no wait ends by itself, and
+/// none by time.
 pub struct Condvar {
     pub(crate) id: Id,
     inner: sync::Condvar,
@@ -39,16 +40,25 @@ impl Condvar {
         self.wait_at(guard, Place::of(Location::caller()))
     }
 
-    fn wait_at<'a, T>(&self, guard: MutexGuard<'a, T>, place: Place) -> LockResult<MutexGuard<'a, T>> {
+    fn wait_at<'a, T>(
+        &self,
+        guard: MutexGuard<'a, T>,
+        place: Place,
+    ) -> LockResult<MutexGuard<'a, T>> {
         let (mutex, locked, guard) = guard.into_parts();
         let released = seat::current(|live, me| {
-            let (condition, held) = (live.sure_number(&self.id, 0, place), live.sure_number(&mutex.id, 0, place));
+            let (condition, held) =
+                (live.sure_number(&self.id, 0, place), live.sure_number(&mutex.id, 0, place));
             live.ask(me, place, Late::Ask(Ask::of_wait(kind::RELEASE, condition, held)));
             Ask::of_wait(kind::REGAIN, condition, held)
         });
         let Some(regain) = released else {
             let again = |guard| MutexGuard::of_std(mutex, locked, guard);
-            return self.inner.wait(guard).map(again).map_err(|poisoned| PoisonError::new(again(poisoned.into_inner())));
+            return self
+                .inner
+                .wait(guard)
+                .map(again)
+                .map_err(|poisoned| PoisonError::new(again(poisoned.into_inner())));
         };
         drop(guard);
         seat::current(|live, me| live.ask(me, place, Late::Ask(regain)));
@@ -57,7 +67,11 @@ impl Condvar {
 
     /// Waits while the condition holds.
     #[track_caller]
-    pub fn wait_while<'a, T, F>(&self, mut guard: MutexGuard<'a, T>, mut holds: F) -> LockResult<MutexGuard<'a, T>>
+    pub fn wait_while<'a, T, F>(
+        &self,
+        mut guard: MutexGuard<'a, T>,
+        mut holds: F,
+    ) -> LockResult<MutexGuard<'a, T>>
     where
         F: FnMut(&mut T) -> bool,
     {
@@ -78,7 +92,10 @@ impl Condvar {
         let place = Place::of(Location::caller());
         if seat::current(|_, _| ()).is_some() {
             let never = |guard| (guard, WaitTimeoutResult(false));
-            return self.wait_at(guard, place).map(never).map_err(|poisoned| PoisonError::new(never(poisoned.into_inner())));
+            return self
+                .wait_at(guard, place)
+                .map(never)
+                .map_err(|poisoned| PoisonError::new(never(poisoned.into_inner())));
         }
         let (mutex, locked, guard) = guard.into_parts();
         let again = |(guard, result): (sync::MutexGuard<'a, T>, sync::WaitTimeoutResult)| {
@@ -91,8 +108,13 @@ impl Condvar {
     /// As [`Condvar::wait_timeout`], with the time in milliseconds.
     #[deprecated(since = "0.1.0", note = "replaced by `wait_timeout`, as in std")]
     #[track_caller]
-    pub fn wait_timeout_ms<'a, T>(&self, guard: MutexGuard<'a, T>, ms: u32) -> LockResult<(MutexGuard<'a, T>, bool)> {
-        let plain = |(guard, result): (MutexGuard<'a, T>, WaitTimeoutResult)| (guard, !result.timed_out());
+    pub fn wait_timeout_ms<'a, T>(
+        &self,
+        guard: MutexGuard<'a, T>,
+        ms: u32,
+    ) -> LockResult<(MutexGuard<'a, T>, bool)> {
+        let plain =
+            |(guard, result): (MutexGuard<'a, T>, WaitTimeoutResult)| (guard, !result.timed_out());
         let waited = self.wait_timeout(guard, Duration::from_millis(u64::from(ms)));
         waited.map(plain).map_err(|poisoned| PoisonError::new(plain(poisoned.into_inner())))
     }
@@ -110,14 +132,19 @@ impl Condvar {
     {
         if seat::current(|_, _| ()).is_some() {
             let never = |guard| (guard, WaitTimeoutResult(false));
-            return self.wait_while(guard, holds).map(never).map_err(|poisoned| PoisonError::new(never(poisoned.into_inner())));
+            return self
+                .wait_while(guard, holds)
+                .map(never)
+                .map_err(|poisoned| PoisonError::new(never(poisoned.into_inner())));
         }
         let begun = Instant::now();
         loop {
             if !holds(&mut *guard) {
                 return Ok((guard, WaitTimeoutResult(false)));
             }
-            let Some(rest) = time.checked_sub(begun.elapsed()) else { return Ok((guard, WaitTimeoutResult(true))) };
+            let Some(rest) = time.checked_sub(begun.elapsed()) else {
+                return Ok((guard, WaitTimeoutResult(true)));
+            };
             guard = self.wait_timeout(guard, rest)?.0;
         }
     }

@@ -1,5 +1,6 @@
-//! Channels, as `std::sync::mpsc` has them: a queue under a mutex with two conditions. `send` is `lock`, `signal`, `unlock`; `recv` is
-//! `lock`, a wait where there is nothing, `broadcast` where the channel is bounded, `unlock`.
+//! Channels, as `std::sync::mpsc` has them: a queue under a mutex with two conditions. `send` is
+//! `lock`, `signal`, `unlock`; `recv` is `lock`, a wait where there is nothing, `broadcast` where
+//! the channel is bounded, `unlock`.
 
 pub use std::sync::mpsc::{RecvError, RecvTimeoutError, SendError, TryRecvError, TrySendError};
 
@@ -15,7 +16,8 @@ struct Queue<T> {
     items: VecDeque<T>,
     senders: usize,
     has_receiver: bool,
-    /// How many were taken out since the beginning, by which a sender of a channel without room knows that its own was.
+    /// How many were taken out since the beginning, by which a sender of a channel without room
+    /// knows that its own was.
     taken: u64,
     sent: u64,
 }
@@ -40,7 +42,8 @@ impl<T> Shared<T> {
     }
 
     fn is_full(&self, queue: &Queue<T>) -> bool {
-        // A channel without room lets one through at a time, and its sender waits until it is taken.
+        // A channel without room lets one through at a time, and its sender waits until it is
+        // taken.
         self.most.is_some_and(|most| queue.items.len() >= most.max(1))
     }
 
@@ -61,7 +64,9 @@ impl<T> Shared<T> {
             queue = Self::wait(&self.room, queue);
         }
         match self.most {
-            Some(0) if queue.taken < mine => Err(SendError(queue.items.pop_back().expect("its own item is the last"))),
+            Some(0) if queue.taken < mine => {
+                Err(SendError(queue.items.pop_back().expect("its own item is the last")))
+            }
             _ => Ok(()),
         }
     }
@@ -103,7 +108,10 @@ impl<T> Shared<T> {
         let mut queue = self.lock();
         while queue.items.is_empty() && queue.senders > 0 {
             let rest = time.checked_sub(begun.elapsed()).ok_or(RecvTimeoutError::Timeout)?;
-            let waited = self.item.wait_timeout(queue, rest).unwrap_or_else(|poisoned| poisoned.into_inner());
+            let waited = self
+                .item
+                .wait_timeout(queue, rest)
+                .unwrap_or_else(|poisoned| poisoned.into_inner());
             queue = waited.0;
         }
         self.take(&mut queue).ok_or(RecvTimeoutError::Disconnected)
@@ -127,7 +135,8 @@ impl<T> Shared<T> {
     fn drop_receiver(&self) {
         let mut queue = self.lock();
         queue.has_receiver = false;
-        let rest = if self.most == Some(0) { VecDeque::new() } else { std::mem::take(&mut queue.items) };
+        let rest =
+            if self.most == Some(0) { VecDeque::new() } else { std::mem::take(&mut queue.items) };
         self.room.notify_all();
         drop(queue);
         drop(rest);

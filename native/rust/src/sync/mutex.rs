@@ -63,9 +63,9 @@ impl<T: ?Sized> Mutex<T> {
             None => match self.inner.try_lock() {
                 Ok(guard) => Ok(guard_of(self, place, guard)),
                 Err(TryLockError::WouldBlock) => Err(TryLockError::WouldBlock),
-                Err(TryLockError::Poisoned(poisoned)) => {
-                    Err(TryLockError::Poisoned(PoisonError::new(guard_of(self, place, poisoned.into_inner()))))
-                }
+                Err(TryLockError::Poisoned(poisoned)) => Err(TryLockError::Poisoned(
+                    PoisonError::new(guard_of(self, place, poisoned.into_inner())),
+                )),
             },
             Some(0) => Err(TryLockError::WouldBlock),
             Some(_) => self.taken(place).map_err(TryLockError::Poisoned),
@@ -89,7 +89,11 @@ impl<T: ?Sized> Mutex<T> {
     }
 }
 
-fn guard_of<'a, T: ?Sized>(of: &'a Mutex<T>, place: Place, inner: sync::MutexGuard<'a, T>) -> MutexGuard<'a, T> {
+fn guard_of<'a, T: ?Sized>(
+    of: &'a Mutex<T>,
+    place: Place,
+    inner: sync::MutexGuard<'a, T>,
+) -> MutexGuard<'a, T> {
     MutexGuard { of, place, inner: Some(inner) }
 }
 
@@ -111,7 +115,11 @@ impl<'a, T: ?Sized> MutexGuard<'a, T> {
         (self.of, self.place, guard)
     }
 
-    pub(crate) fn of_std(of: &'a Mutex<T>, place: Place, inner: sync::MutexGuard<'a, T>) -> MutexGuard<'a, T> {
+    pub(crate) fn of_std(
+        of: &'a Mutex<T>,
+        place: Place,
+        inner: sync::MutexGuard<'a, T>,
+    ) -> MutexGuard<'a, T> {
         guard_of(of, place, inner)
     }
 }

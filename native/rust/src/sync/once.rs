@@ -6,8 +6,8 @@ use crate::seat;
 use std::marker::PhantomData;
 use std::sync;
 
-/// A flag with a mutex: what is to be done is done under the mutex. `read`; where that is 0, `lock`, `read`, then what is to be done,
-/// `write`, `broadcast`, `unlock`.
+/// A flag with a mutex: what is to be done is done under the mutex. `read`; where that is 0,
+/// `lock`, `read`, then what is to be done, `write`, `broadcast`, `unlock`.
 pub(crate) struct Gate {
     is_done: AtomicBool,
     doing: Mutex<()>,

@@ -31,7 +31,8 @@ impl<T> OnceLock<T> {
     /// Waits until the value is set.
     #[track_caller]
     pub fn wait(&self) -> &T {
-        if seat::current(|_, _| ()).is_some() && !self.gate.is_done() && self.inner.get().is_none() {
+        if seat::current(|_, _| ()).is_some() && !self.gate.is_done() && self.inner.get().is_none()
+        {
             self.gate.wait();
         }
         self.inner.wait()

@@ -53,7 +53,9 @@ fn mapped<A, B>(locked: LockResult<A>, map: impl FnOnce(A) -> B) -> LockResult<B
 fn try_mapped<A, B>(locked: TryLockResult<A>, map: impl FnOnce(A) -> B) -> TryLockResult<B> {
     match locked {
         Err(TryLockError::WouldBlock) => Err(TryLockError::WouldBlock),
-        Err(TryLockError::Poisoned(poisoned)) => mapped(Err(poisoned), map).map_err(TryLockError::Poisoned),
+        Err(TryLockError::Poisoned(poisoned)) => {
+            mapped(Err(poisoned), map).map_err(TryLockError::Poisoned)
+        }
         Ok(guard) => Ok(map(guard)),
     }
 }
@@ -68,11 +70,17 @@ fn sure<A>(locked: TryLockResult<A>) -> LockResult<A> {
 }
 
 impl<T: ?Sized> RwLock<T> {
-    fn reading<'a>(&'a self, place: Place) -> impl FnOnce(sync::RwLockReadGuard<'a, T>) -> RwLockReadGuard<'a, T> {
+    fn reading<'a>(
+        &'a self,
+        place: Place,
+    ) -> impl FnOnce(sync::RwLockReadGuard<'a, T>) -> RwLockReadGuard<'a, T> {
         move |inner| RwLockReadGuard { id: &self.id, place, inner }
     }
 
-    fn writing<'a>(&'a self, place: Place) -> impl FnOnce(sync::RwLockWriteGuard<'a, T>) -> RwLockWriteGuard<'a, T> {
+    fn writing<'a>(
+        &'a self,
+        place: Place,
+    ) -> impl FnOnce(sync::RwLockWriteGuard<'a, T>) -> RwLockWriteGuard<'a, T> {
         move |inner| RwLockWriteGuard { id: &self.id, place, inner }
     }
 

@@ -20,7 +20,12 @@ pub struct Semaphore {
 impl Semaphore {
     /// With a first count, at most 2147483647. No step.
     pub const fn new(count: u32) -> Semaphore {
-        Semaphore { id: Id::new(Kind::Semaphore), first: count, count: Mutex::new(count), raised: Condvar::new() }
+        Semaphore {
+            id: Id::new(Kind::Semaphore),
+            first: count,
+            count: Mutex::new(count),
+            raised: Condvar::new(),
+        }
     }
 
     pub(crate) fn first(&self) -> i64 {
@@ -35,7 +40,9 @@ impl Semaphore {
     fn step(&self, ask: u32) -> Option<i64> {
         let place = Place::of(Location::caller());
         if self.first > i32::MAX as u32 {
-            seat::current(|live, _| live.stop(format!("{place}: in a run a semaphore begins with at most {}", i32::MAX)));
+            seat::current(|live, _| {
+                live.stop(format!("{place}: in a run a semaphore begins with at most {}", i32::MAX))
+            });
         }
         step(&self.id, self.first(), place, ask)
     }

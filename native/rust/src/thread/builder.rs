@@ -24,7 +24,8 @@ impl Builder {
         Builder::default()
     }
 
-    /// Names the thread. In reports it has this name where that is a letter followed by at most 31 letters, digits and `_`.
+    /// Names the thread. In reports it has this name where that is a letter followed by at most 31
+    /// letters, digits and `_`.
     pub fn name(mut self, name: String) -> Builder {
         self.name = Some(name);
         self

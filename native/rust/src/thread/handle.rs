@@ -26,12 +26,13 @@ impl<T> Packet<T> {
     }
 
     fn with<R>(&self, act: impl FnOnce(&mut Left<T>) -> R) -> R {
-        // Between a poisoning panic and this there is none that a user's code could make: nothing of theirs runs in `act`.
+        // Between a poisoning panic and this there is none that a user's code could make: nothing
+        // of theirs runs in `act`.
         act(&mut self.0.lock().unwrap_or_else(|poisoned| poisoned.into_inner()))
     }
 
-    /// Runs what the thread is to do, and keeps what it leaves. Where panics are as std's, one that nobody may take any more fails
-    /// the run.
+    /// Runs what the thread is to do, and keeps what it leaves. Where panics are as std's, one that
+    /// nobody may take any more fails the run.
     pub fn fill(&self, live: &Live, me: u32, act: impl FnOnce() -> T) {
         if !live.settings.panics_as_std() {
             let made = act();
@@ -106,7 +107,9 @@ impl<T> JoinHandle<T> {
             Some(Joined::Std(handle, _)) => handle.join(),
             Some(Joined::Run(number, _, packet)) => {
                 seat::current(|live, me| join(live, me, place, number));
-                packet.take().unwrap_or_else(|| Err(Box::new("the thread is of a run that this thread isn't in")))
+                packet.take().unwrap_or_else(|| {
+                    Err(Box::new("the thread is of a run that this thread isn't in"))
+                })
             }
             None => unreachable!("a handle is joined once"),
         }

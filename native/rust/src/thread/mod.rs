@@ -27,7 +27,8 @@ where
     Builder::new().spawn(act).expect("failed to spawn thread")
 }
 
-/// Waits until another thread has changed something, where nothing has changed since this thread waited so last.
+/// Waits until another thread has changed something, where nothing has changed since this thread
+/// waited so last.
 #[track_caller]
 pub fn yield_now() {
     if !look() {

@@ -48,7 +48,13 @@ impl Thread {
     }
 
     pub(crate) fn of_run(live: &Live, number: u32, name: Option<String>) -> Thread {
-        let inner = Inner { run: live.id, number, name, has_token: AtomicBool::new(false), tokens: Semaphore::new(0) };
+        let inner = Inner {
+            run: live.id,
+            number,
+            name,
+            has_token: AtomicBool::new(false),
+            tokens: Semaphore::new(0),
+        };
         Thread(Kind::Run(Arc::new(inner)))
     }
 
@@ -61,7 +67,8 @@ impl Thread {
         matches!(&self.0, Kind::Run(inner) if inner.run == live.id && inner.number == me)
     }
 
-    /// Gives the thread its token, where it hasn't one: one step, and a second one where it wakes the thread.
+    /// Gives the thread its token, where it hasn't one: one step, and a second one where it wakes
+    /// the thread.
     #[track_caller]
     pub fn unpark(&self) {
         match &self.0 {
@@ -93,16 +100,23 @@ impl Thread {
 
 impl std::fmt::Debug for Thread {
     fn fmt(&self, to: &mut std::fmt::Formatter<'_>) -> std::fmt::Result {
-        to.debug_struct("Thread").field("id", &self.id()).field("name", &self.name()).finish_non_exhaustive()
+        to.debug_struct("Thread")
+            .field("id", &self.id())
+            .field("name", &self.name())
+            .finish_non_exhaustive()
     }
 }
 
 /// A handle to the calling thread.
 pub fn current() -> Thread {
     let found = seat::current(|live, me| {
-        let kept = CURRENT.try_with(|current| current.borrow().clone().filter(|thread| thread.is_of(live, me)));
+        let kept = CURRENT
+            .try_with(|current| current.borrow().clone().filter(|thread| thread.is_of(live, me)));
         kept.ok().flatten().ok_or_else(|| {
-            let name = live.state().ok().and_then(|state| state.threads.get(me).and_then(|thread| thread.name.clone()));
+            let name = live
+                .state()
+                .ok()
+                .and_then(|state| state.threads.get(me).and_then(|thread| thread.name.clone()));
             Thread::of_run(live, me, name)
         })
     });

@@ -12,7 +12,8 @@ use std::marker::PhantomData;
 use std::panic::{self, AssertUnwindSafe, Location};
 use std::sync::{Arc, Mutex};
 
-/// Where threads are spawned that end before [`scope`] does. In a run their real threads are always fresh ones.
+/// Where threads are spawned that end before [`scope`] does. In a run their real threads are always
+/// fresh ones.
 pub struct Scope<'scope, 'env: 'scope> {
     std: &'scope std::thread::Scope<'scope, 'env>,
     spawned: Mutex<Vec<Spawned<'scope>>>,
@@ -34,7 +35,8 @@ enum Joined<'scope, T> {
     Run(u32, Thread, Arc<Packet<T>>, &'scope Mutex<Vec<Spawned<'scope>>>),
 }
 
-/// Calls the closure, and waits for the end of all threads that it spawned in the scope: one step for each that wasn't joined.
+/// Calls the closure, and waits for the end of all threads that it spawned in the scope: one step
+/// for each that wasn't joined.
 #[track_caller]
 pub fn scope<'env, F, T>(act: F) -> T
 where
@@ -42,8 +44,10 @@ where
 {
     let place = Place::of(Location::caller());
     std::thread::scope(|std| {
-        // It has to live as long as std's scope, of which safe code has nothing but a reference: some 50 bytes stay.
-        let scope: &Scope<'_, 'env> = Box::leak(Box::new(Scope { std, spawned: Mutex::default(), _as_std: PhantomData }));
+        // It has to live as long as std's scope, of which safe code has nothing but a reference:
+        // some 50 bytes stay.
+        let scope: &Scope<'_, 'env> =
+            Box::leak(Box::new(Scope { std, spawned: Mutex::default(), _as_std: PhantomData }));
         let result = panic::catch_unwind(AssertUnwindSafe(|| act(scope)));
         let has_panicked = scope.join_all(place);
         match result {
@@ -65,7 +69,12 @@ impl<'scope, 'env> Scope<'scope, 'env> {
         Builder::new().spawn_scoped(self, act).expect("failed to spawn thread")
     }
 
-    pub(super) fn spawn_by<F, T>(&'scope self, builder: Builder, act: F, place: Place) -> io::Result<ScopedJoinHandle<'scope, T>>
+    pub(super) fn spawn_by<F, T>(
+        &'scope self,
+        builder: Builder,
+        act: F,
+        place: Place,
+    ) -> io::Result<ScopedJoinHandle<'scope, T>>
     where
         F: FnOnce() -> T + Send + 'scope,
         T: Send + 'scope,
@@ -85,8 +94,15 @@ impl<'scope, 'env> Scope<'scope, 'env> {
         Ok(ScopedJoinHandle(Joined::Run(number, thread, packet, &self.spawned)))
     }
 
-    fn launch<F, T>(&'scope self, live: &Arc<Live>, builder: Builder, me: u32, thread: Thread, packet: Arc<Packet<T>>, act: F)
-    where
+    fn launch<F, T>(
+        &'scope self,
+        live: &Arc<Live>,
+        builder: Builder,
+        me: u32,
+        thread: Thread,
+        packet: Arc<Packet<T>>,
+        act: F,
+    ) where
         F: FnOnce() -> T + Send + 'scope,
         T: Send + 'scope,
     {
@@ -140,7 +156,9 @@ impl<'scope, T> ScopedJoinHandle<'scope, T> {
             Joined::Run(number, _, packet, spawned) => {
                 seat::current(|live, me| join(live, me, place, number));
                 with(spawned, |spawned| spawned.retain(|other| other.number != number));
-                packet.take().unwrap_or_else(|| Err(Box::new("the thread is of a run that this thread isn't in")))
+                packet.take().unwrap_or_else(|| {
+                    Err(Box::new("the thread is of a run that this thread isn't in"))
+                })
             }
         }
     }

@@ -1,5 +1,5 @@
-// Each stable method of the types is called once. `lib` is std, or this crate. A comment `// Of TYPE ..:` says of which types the calls
-// below it are.
+// Each stable method of the types is called once. `lib` is std, or this crate. A comment `// Of
+// TYPE ..:` says of which types the calls below it are.
 
 // Of Mutex:
 pub fn mutexes() {
@@ -11,7 +11,8 @@ pub fn mutexes() {
     let mut mutex = lib::sync::Mutex::from(5);
     *mutex.get_mut().unwrap() += 1;
     assert_eq!(mutex.into_inner().unwrap(), 6);
-    assert_eq!(format!("{:?}", lib::sync::Mutex::<u8>::default()), "Mutex { data: 0, poisoned: false, .. }");
+    let shown = format!("{:?}", lib::sync::Mutex::<u8>::default());
+    assert_eq!(shown, "Mutex { data: 0, poisoned: false, .. }");
 }
 
 // Of RwLock:
@@ -44,7 +45,8 @@ pub fn condvars() {
             guard = pair.1.wait(guard).unwrap();
         }
         guard = pair.1.wait_while(guard, |value| *value == 0).unwrap();
-        let (guard, result) = pair.1.wait_timeout_while(guard, Duration::from_secs(9), |value| *value == 0).unwrap();
+        let (guard, result) =
+            pair.1.wait_timeout_while(guard, Duration::from_secs(9), |value| *value == 0).unwrap();
         assert!(!result.timed_out());
         drop(guard);
     });
@@ -178,7 +180,8 @@ pub fn atomics() {
     // Of AtomicBool:
     let mut flag = lib::sync::atomic::AtomicBool::new(false);
     assert!(!*flag.get_mut() && !flag.fetch_not(SeqCst));
-    assert!(flag.fetch_and(true, SeqCst) && flag.fetch_nand(false, SeqCst) && flag.fetch_or(false, SeqCst) && flag.fetch_xor(true, SeqCst));
+    assert!(flag.fetch_and(true, SeqCst) && flag.fetch_nand(false, SeqCst));
+    assert!(flag.fetch_or(false, SeqCst) && flag.fetch_xor(true, SeqCst));
     assert_eq!(flag.compare_and_swap(false, true, SeqCst), false);
     assert_eq!(flag.compare_exchange(true, false, SeqCst, SeqCst), Ok(true));
     while flag.compare_exchange_weak(false, true, SeqCst, SeqCst).is_err() {}

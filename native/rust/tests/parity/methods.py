@@ -1,9 +1,10 @@
 #!/usr/bin/env python3
-"""Holds this crate beside std: each stable type of the modules that it replaces is here; each stable method and function has std's
-signature, by the pages that `cargo doc` makes of this crate (methods.py FOLDER, the folder `doc/pct`), and is called in
-tests/parity/calls.rs among the calls of its type where std of the rust-version has it; or it stands on the list of those left out. What
-std has comes from rustc's own pages; where these aren't installed, from tests/parity/methods, which `methods.py --write` makes of them.
-Ends with a line that says how many there are and whence."""
+"""Holds this crate beside std: each stable type of the modules that it replaces is here; each stable method and
+function has std's signature, by the pages that `cargo doc` makes of this crate (methods.py FOLDER, the folder
+`doc/pct`), and is called in tests/parity/calls.rs among the calls of its type where std of the rust-version has it; or
+it stands on the list of those left out. What std has comes from rustc's own pages; where these aren't installed, from
+tests/parity/methods, which `methods.py --write` makes of them. Ends with a line that says how many there are and
+whence."""
 
 import html
 import pathlib
@@ -18,10 +19,14 @@ MODULES = {"sync": "sync", "atomic": "sync/atomic", "mpsc": "sync/mpsc", "thread
 # What pages of std's own types say of methods isn't this crate's: it hands these types on.
 HANDED_ON = {"Arc", "Weak", "PoisonError", "TryLockError", "Ordering", "AccessError", "LocalKey"}
 UNSTABLE = "This is a nightly-only experimental API"
+MARK = re.compile(r"<(?:/?(?:a|span|div|wbr|code|h4)\b)[^>]*>")
+METHOD = re.compile(r'<section id="(?:method|associatedfunction)\.')
+CALLS = re.compile(r"// Of ([A-Za-z ]+):\n(.*?)(?=// Of |\Z)", re.S)
 
 
 class Item(NamedTuple):
-    """A type `sync.Mutex`, a method `Mutex.lock` or a function `thread.spawn`, since which version, and its signature."""
+    """A type `sync.Mutex`, a method `Mutex.lock` or a function `thread.spawn`: since which version, and its
+    signature."""
     name: str
     since: str
     signature: str
@@ -33,11 +38,12 @@ class Item(NamedTuple):
 
 def plain(code: str) -> str:
     """A signature without marks, names of parameters, and bounds in two spellings."""
-    text = " ".join(html.unescape(re.sub(r"<(?:/?(?:a|span|div|wbr|code|h4)\b)[^>]*>", "", code)).replace("\xa0", " ").split())
+    text = " ".join(html.unescape(MARK.sub("", code)).replace("\xa0", " ").split())
     text = text.split(" { /* private fields */ }")[0]
     bound = re.search(r"fn \w+<(\w+): (.*?)>\(", text)
     if bound:
-        text = text.replace(f"<{bound.group(1)}: {bound.group(2)}>(", f"<{bound.group(1)}>(") + f"where {bound.group(1)}: {bound.group(2)},"
+        name, of = bound.groups()
+        text = text.replace(f"<{name}: {of}>(", f"<{name}>(") + f"where {name}: {of},"
     text = re.sub(r"([(,] ?)(?:mut )?[a-z_]\w*: ", r"\1", text).replace("where T: Sized,", "")
     return re.sub(r"\s|,(?=\))|,$", "", text.replace("mut self", "self"))
 
@@ -50,7 +56,7 @@ def since_of(head: str) -> str:
 def methods_of(name: str, page: str) -> list[Item]:
     """The stable inherent methods of a type's page: those before the list of trait implementations."""
     found = []
-    for section in re.split(r'<section id="(?:method|associatedfunction)\.', page.split('id="trait-implementations"')[0])[1:]:
+    for section in METHOD.split(page.split('id="trait-implementations"')[0])[1:]:
         head = section.split('<div class="docblock"')[0]
         code = re.search(r'<h4 class="code-header">(.*?)</h4>', head, re.S)
         if UNSTABLE not in head and code:
@@ -66,10 +72,11 @@ def items_of(folder: pathlib.Path) -> list[Item]:
             kind, name = path.name.split(".")[:2]
             page = path.read_text(encoding="utf-8")
             head = page.split('<h2 id="')[0]
-            if UNSTABLE in head or kind not in ("struct", "enum", "type", "fn") or "deprecated" in head and kind == "constant":
+            if UNSTABLE in head or kind not in ("struct", "enum", "type", "fn"):
                 continue
             code = re.search(r'<pre class="rust item-decl"><code>(.*?)</code></pre>', head, re.S)
-            found.append(Item(f"{module}.{name}", since_of(head), plain(code.group(1)) if code and kind == "fn" else ""))
+            signature = plain(code.group(1)) if code and kind == "fn" else ""
+            found.append(Item(f"{module}.{name}", since_of(head), signature))
             if kind == "struct" and name not in HANDED_ON:
                 found += methods_of(name, page)
     return found
@@ -89,20 +96,22 @@ def std_items() -> tuple[list[Item], str]:
     if folder:
         return items_of(folder), "rustc's own pages"
     lines = (HERE / "methods").read_text(encoding="utf-8").splitlines()
-    return [Item(*[*line.split("\t"), ""][:3]) for line in lines], "the list tests/parity/methods, since rustc's pages aren't installed"
+    items = [Item(*[*line.split("\t"), ""][:3]) for line in lines]
+    return items, "the list tests/parity/methods, since rustc's pages aren't installed"
 
 
 def left_out() -> tuple[set[str], set[str]]:
     """The names that are left out, and those of atomics that aren't const here."""
     lines = (HERE / "left_out").read_text(encoding="utf-8").splitlines()
     words = [line.split() for line in lines if line and not line.startswith("#")]
-    return {first for first, *_ in words if first != "const"}, {second for first, second, *_ in words if first == "const"}
+    not_const = {second for first, second, *_ in words if first == "const"}
+    return {first for first, *_ in words if first != "const"}, not_const
 
 
 def calls_by_type() -> dict[str, str]:
     """The calls of each type: those below the comments that name it."""
     found: dict[str, str] = {}
-    for names, text in re.findall(r"// Of ([A-Za-z ]+):\n(.*?)(?=// Of |\Z)", (HERE / "calls.rs").read_text(encoding="utf-8"), re.S):
+    for names, text in CALLS.findall((HERE / "calls.rs").read_text(encoding="utf-8")):
         for name in names.split():
             found[name] = found.get(name, "") + text
     return found

@@ -28,38 +28,73 @@ fn lost_update() -> impl pct::Test {
     })
 }
 
-const TRACE: &str =
-    "trace 1\norder A B Check\npoints 1\nlimit 10000\n1 A {reads} read counter = 0\n2 B {reads} read counter = 0\n\
-                     3 B {writes} write counter 1 = 0\n4 A {writes} write counter 1 = 0\n5 Check {joins_a} join A = 0\n\
-                     6 Check {joins_b} join B = 0\n7 Check {holds} read counter = 1\n8 Check {holds} check 0 = 0\n\
-                     verdict failed Check {holds}\n";
+const TRACE: &str = "trace 1
+order A B Check
+points 1
+limit 10000
+1 A {reads} read counter = 0
+2 B {reads} read counter = 0
+3 B {writes} write counter 1 = 0
+4 A {writes} write counter 1 = 0
+5 Check {joins_a} join A = 0
+6 Check {joins_b} join B = 0
+7 Check {holds} read counter = 1
+8 Check {holds} check 0 = 0
+verdict failed Check {holds}
+";
 
 #[test]
 fn run_by_an_order_and_points() {
-    let run = pct::run(Config::default(), &Schedule::order(&["A", "B", "Check"]).points(&[1]), lost_update());
+    let run = pct::run(
+        Config::default(),
+        &Schedule::order(&["A", "B", "Check"]).points(&[1]),
+        lost_update(),
+    );
     assert_eq!(run.trace(), filled(SOURCE, TRACE));
-    assert_eq!(pct::run(Config::default(), &Schedule::seed(13, 2), lost_update()).trace(), filled(SOURCE, TRACE));
+    assert_eq!(
+        pct::run(Config::default(), &Schedule::seed(13, 2), lost_update()).trace(),
+        filled(SOURCE, TRACE)
+    );
 }
 
 #[test]
 fn campaign_has_rows_groups_and_reports() {
-    let campaign = pct::campaign(Config { seeds: 13, depth: Some(2), ..Config::default() }, lost_update());
-    assert_eq!((campaign.threads, campaign.steps, campaign.depth, campaign.limit), (3, 8, 2, 10_000));
+    let campaign =
+        pct::campaign(Config { seeds: 13, depth: Some(2), ..Config::default() }, lost_update());
+    assert_eq!(
+        (campaign.threads, campaign.steps, campaign.depth, campaign.limit),
+        (3, 8, 2, 10_000)
+    );
     assert_eq!((campaign.rows.len(), campaign.groups.len()), (13, 1));
     assert!(
-        campaign.text.ends_with(&filled(SOURCE, "13 8 failed Check {holds}\ngroups 1\n1 8 13 failed Check {holds}\n")),
+        campaign.text.ends_with(&filled(
+            SOURCE,
+            "13 8 failed Check {holds}\ngroups 1\n1 8 13 failed Check {holds}\n"
+        )),
         "{}",
         campaign.text
     );
-    assert!(campaign.json.starts_with("{\"depth\":2,\"groups\":[{\"count\":1,\"first\":13,\"steps\":8,"), "{}", campaign.json);
+    assert!(
+        campaign
+            .json
+            .starts_with("{\"depth\":2,\"groups\":[{\"count\":1,\"first\":13,\"steps\":8,"),
+        "{}",
+        campaign.json
+    );
 }
 
 #[test]
 fn find_and_certify() {
     let schedule = Schedule::order(&["A", "B", "Check"]).points(&[1, 5]);
     let directive = pct::find(Config::default(), &schedule, lost_update()).unwrap();
-    assert_eq!(directive.text, filled(SOURCE, "directive 1\nlow Check\nafter A 1\nverdict failed Check {holds}\n"));
-    let refuted = Certificate::Refuted { order: vec!["B".into(), "A".into(), "Check".into()], verdict: "passed".into() };
+    assert_eq!(
+        directive.text,
+        filled(SOURCE, "directive 1\nlow Check\nafter A 1\nverdict failed Check {holds}\n")
+    );
+    let refuted = Certificate::Refuted {
+        order: vec!["B".into(), "A".into(), "Check".into()],
+        verdict: "passed".into(),
+    };
     assert_eq!(pct::certify(Config::default(), &directive, lost_update()), refuted);
     let late_read = || {
         pct::threads(|t| {
@@ -69,13 +104,18 @@ fn find_and_certify() {
             t.thread("B", move || pct::holds(other.load(SeqCst) == 0));
         })
     };
-    let directive = pct::find(Config::default(), &Schedule::order(&["A", "B"]), late_read()).unwrap();
+    let directive =
+        pct::find(Config::default(), &Schedule::order(&["A", "B"]), late_read()).unwrap();
     let orders = vec![(vec!["A".into(), "B".into()], vec![])];
-    assert_eq!(pct::certify(Config::default(), &directive, late_read()), Certificate::Certified { orders, bound: 2 });
+    assert_eq!(
+        pct::certify(Config::default(), &directive, late_read()),
+        Certificate::Certified { orders, bound: 2 }
+    );
     assert!(pct::find(Config::default(), &Schedule::declared(), lost_update()).is_none());
 }
 
-/// What `pct certify` prints of a run that is too long, and of the script of this test: of each order the change points for its moment.
+/// What `pct certify` prints of a run that is too long, and of the script of this test: of each
+/// order the change points for its moment.
 #[test]
 fn certificates_have_the_change_points_of_each_order() {
     let schedule = Schedule::order(&["A", "B", "Check"]).points(&[1]);
@@ -101,9 +141,15 @@ fn certificates_have_the_change_points_of_each_order() {
     assert_eq!(refuted, "refuted order B A Check verdict passed\n");
     directive = reread(&with_moment(&directive, "after B 1"), "both");
     let certified = pct::certify(Config::default(), &directive, test()).to_string();
-    assert_eq!(certified, "order A B Check points 1 2\norder B A Check points 2 1\ncertified 1 in 192\n");
+    assert_eq!(
+        certified,
+        "order A B Check points 1 2\norder B A Check points 2 1\ncertified 1 in 192\n"
+    );
     let config = Config { steps: Some(7), ..Config::default() };
-    assert_eq!(pct::certify(config, &directive, test()).to_string(), "toolong order A B Check steps 8\n");
+    assert_eq!(
+        pct::certify(config, &directive, test()).to_string(),
+        "toolong order A B Check steps 8\n"
+    );
 }
 
 fn folder() -> PathBuf {
@@ -147,17 +193,28 @@ fn directives_are_files() {
 
 #[test]
 fn schedules_that_are_none_are_told() {
-    let of = |schedule: Schedule| text_of(|| drop(pct::run(Config::default(), &schedule, lost_update())));
+    let of = |schedule: Schedule| {
+        text_of(|| drop(pct::run(Config::default(), &schedule, lost_update())))
+    };
     assert_eq!(of(Schedule::order(&["Z"])), "pct: no thread is called Z: A B Check");
     assert_eq!(of(Schedule::order(&["B", "A", "B"])), "pct: the order has B twice");
     let points = "pct: a schedule has at most 7 change points from 1 to 100000, and not ";
     assert_eq!(of(Schedule::declared().points(&[0])), format!("{points}[0]"));
-    assert_eq!(of(Schedule::declared().points(&[1; 8])), format!("{points}[1, 1, 1, 1, 1, 1, 1, 1]"));
+    assert_eq!(
+        of(Schedule::declared().points(&[1; 8])),
+        format!("{points}[1, 1, 1, 1, 1, 1, 1, 1]")
+    );
     assert_eq!(of(Schedule::seed(1, 9)), "pct: Config::depth is 1 to 8, and not 9");
     let of = |config: Config| text_of(|| pct::check_with(config, || ()));
     assert_eq!(of(Config { depth: Some(0), ..few() }), "pct: Config::depth is 1 to 8, and not 0");
-    assert_eq!(of(Config { threads: Some(65), ..few() }), "pct: Config::threads is 1 to 64, and not 65");
-    assert_eq!(of(Config { steps: Some(100_001), ..few() }), "pct: Config::steps is 1 to 100000, and not 100001");
+    assert_eq!(
+        of(Config { threads: Some(65), ..few() }),
+        "pct: Config::threads is 1 to 64, and not 65"
+    );
+    assert_eq!(
+        of(Config { steps: Some(100_001), ..few() }),
+        "pct: Config::steps is 1 to 100000, and not 100001"
+    );
     assert_eq!(of(Config { limit: 0, ..few() }), "pct: Config::limit is 1 to 100000, and not 0");
 }
 
@@ -178,11 +235,13 @@ fn find_tells_of_more_threads() {
     let schedule = Schedule::order(&["t1", "main"]).points(&[2]);
     let told = text_of(|| drop(pct::find(Config::default(), &schedule, test)));
     assert_eq!(told, "pct: the run starts more threads than its order has: set Config::threads");
-    let directive = pct::find(Config { threads: Some(3), ..Config::default() }, &schedule, test).unwrap();
+    let directive =
+        pct::find(Config { threads: Some(3), ..Config::default() }, &schedule, test).unwrap();
     assert_eq!(directive.moments.len(), 1, "{}", directive.text);
 }
 
-/// The directive lowers a thread that is known by who spawned it, in whatever order they are spawned.
+/// The directive lowers a thread that is known by who spawned it, in whatever order they are
+/// spawned.
 #[test]
 fn find_and_certify_know_threads_by_who_spawned_them() {
     let test = || {
@@ -236,9 +295,15 @@ fn locks(second: bool) -> impl pct::Test {
 fn lock_order_is_an_order_or_a_cycle() {
     let (order, _) = pct::lock_order(Config::default(), &Schedule::declared(), locks(false));
     assert_eq!(order, LockOrder::Order(vec!["a".into(), "b".into()]));
-    let (LockOrder::Cycle(cycle), _) = pct::lock_order(Config::default(), &Schedule::declared(), locks(true)) else { panic!() };
-    let told: Vec<_> =
-        cycle.iter().map(|nest| format!("{} {} {} {}", nest.thread, nest.place.line, nest.held, nest.taken)).collect();
+    let (LockOrder::Cycle(cycle), _) =
+        pct::lock_order(Config::default(), &Schedule::declared(), locks(true))
+    else {
+        panic!()
+    };
+    let told: Vec<_> = cycle
+        .iter()
+        .map(|nest| format!("{} {} {} {}", nest.thread, nest.place.line, nest.held, nest.taken))
+        .collect();
     assert_eq!(told, [filled(SOURCE, "t1 {nested} a b"), filled(SOURCE, "main {other_way} b a")]);
 }
 
@@ -271,14 +336,18 @@ fn replay_makes_the_run_again_and_notes_what_differs() {
     let other = pct::replay(Config::default(), &trace, counts(7, false));
     assert_eq!(other.departs, None);
     assert!(
-        other.notes[0]
-            .contains(&filled(SOURCE, "the trace has add v0 1 = 0 at tests/rules/calls.rs:{adds}, and the run add v0 1 = 7")),
+        other.notes[0].contains(&filled(
+            SOURCE,
+            "the trace has add v0 1 = 0 at tests/rules/calls.rs:{adds}, and the run add v0 1 = 7"
+        )),
         "{:?}",
         other.notes
     );
     let longer = pct::replay(Config::default(), &trace, counts(0, true));
     assert!(longer.departs.is_some(), "{longer:?}");
-    let told = text_of(|| drop(pct::replay(Config::default(), &trace.with_extension("none"), counts(0, false))));
+    let told = text_of(|| {
+        drop(pct::replay(Config::default(), &trace.with_extension("none"), counts(0, false)))
+    });
     assert!(told.starts_with("pct: ") && told.contains("replayed.none"), "{told}");
 }
 
@@ -320,11 +389,13 @@ fn the_document_has_the_run() {
     let trace = written("document", lost_update());
     let json = std::fs::read_to_string(trace.with_extension("json")).unwrap();
     for text in [
-        "{\"document\":1,\"writer\":\"pct for Rust\",\"title\":\"document\",\"sources\":[{\"file\":\"tests/rules/calls.rs\",\"text\":\"//! The calls",
+        "{\"document\":1,\"writer\":\"pct for Rust\",\"title\":\"document\",",
+        "\"sources\":[{\"file\":\"tests/rules/calls.rs\",\"text\":\"//! The calls",
         "\"vars\":[{\"name\":\"counter\",\"value\":\"0\"}]",
         "\"threads\":[{\"name\":\"A\",",
         "\"held\":false",
-        "{\"thread\":\"Check\",\"file\":\"tests/rules/calls.rs\",\"line\":{holds},\"ask\":\"check 0\",\"answer\":\"0\"}]",
+        "{\"thread\":\"Check\",\"file\":\"tests/rules/calls.rs\",\"line\":{holds},\"ask\":\"check \
+            0\",\"answer\":\"0\"}]",
         "\"ended\":[\"A\",\"B\"],\"verdict\":\"failed Check {holds}\"",
     ] {
         assert!(json.contains(&filled(SOURCE, text)), "no {text} in {json}");

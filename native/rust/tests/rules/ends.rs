@@ -27,7 +27,8 @@ fn a_failure_is_told_with_its_place_count_lanes_files_and_line() {
     assert!(
         lines[0].starts_with(&filled(
             SOURCE,
-            "thread main panicked at tests/rules/ends.rs:{asserted}: assertion `left == right` failed"
+            "thread main panicked at tests/rules/ends.rs:{asserted}: assertion `left == right` \
+                failed"
         )),
         "{told}"
     );
@@ -42,7 +43,8 @@ fn a_failure_is_told_with_its_place_count_lanes_files_and_line() {
         ".trace, ",
         ".json\n",
         "again: PCT_REPLAY=",
-        " -- --exact ends::a_failure_is_told_with_its_place_count_lanes_files_and_line --nocapture\n",
+        " -- --exact ends::a_failure_is_told_with_its_place_count_lanes_files_and_line \
+            --nocapture\n",
         " threads of failing runs stay parked",
     ] {
         let text = filled(SOURCE, text);
@@ -54,7 +56,10 @@ fn a_failure_is_told_with_its_place_count_lanes_files_and_line() {
 fn a_check_goes_on_for_twenty_failing_runs() {
     fails_with(
         || assert!(pct::random() % 2 == 7),
-        &["failed in declared order, and in 20 of the 20 seeds that were run", "declared order (n 1), 1 steps"],
+        &[
+            "failed in declared order, and in 20 of the 20 seeds that were run",
+            "declared order (n 1), 1 steps",
+        ],
     );
 }
 
@@ -65,8 +70,12 @@ fn a_check_goes_on_for_two_seconds() {
         std::thread::sleep(Duration::from_millis(250));
         pct::holds(false);
     });
-    let count = told.lines().find_map(|line| line.strip_prefix("failed in declared order, and in ")).unwrap();
-    let (failed, seeds) = count.strip_suffix(" seeds that were run").unwrap().split_once(" of the ").unwrap();
+    let count = told
+        .lines()
+        .find_map(|line| line.strip_prefix("failed in declared order, and in "))
+        .unwrap();
+    let (failed, seeds) =
+        count.strip_suffix(" seeds that were run").unwrap().split_once(" of the ").unwrap();
     assert!(failed == seeds && (1..=8).contains(&failed.parse::<u32>().unwrap()), "{told}");
 }
 
@@ -76,7 +85,13 @@ fn the_shortest_failing_run_is_told() {
         (0..pct::random() % 4).for_each(|_| pct::step());
         pct::holds(false);
     });
-    assert!(told.contains("failed in declared order, and in 20 of the 20 seeds that were run\nthe shortest: seed "), "{told}");
+    assert!(
+        told.contains(
+            "failed in declared order, and in 20 of the 20 seeds that were run\nthe \
+        shortest: seed "
+        ),
+        "{told}"
+    );
     assert!(told.contains(", 1 steps, order main\n"), "{told}");
 }
 
@@ -102,7 +117,8 @@ fn a_check_by_jobs_tells_the_same() {
     assert_eq!(one, told(3));
 }
 
-/// The run in declared order starts two threads, others a third one: from then on all orders have three.
+/// The run in declared order starts two threads, others a third one: from then on all orders have
+/// three.
 #[test]
 fn a_check_begins_again_with_one_more_thread() {
     let told = failure(|| {
@@ -140,7 +156,10 @@ fn nothing_is_unwound() {
             thread.join().unwrap(); //: joining
             drop(guard);
         },
-        &["a deadlock: main waits at tests/rules/ends.rs:{joining} for the end of t1; t1 waits at tests/rules/ends.rs:{blocked} for the mutex m0", "No time passes in a run, so a timed wait doesn't end it", "44 threads of failing runs stay parked"],
+        &["a deadlock: main waits at tests/rules/ends.rs:{joining} for the end of t1; t1 waits at \
+            tests/rules/ends.rs:{blocked} for the mutex m0",
+            "No time passes in a run, so a timed wait doesn't end it",
+            "44 threads of failing runs stay parked"],
     );
     assert_eq!(drops.load(SeqCst), 0);
 }
@@ -149,8 +168,8 @@ fn nothing_is_unwound() {
 fn a_panic_fails_the_run_whoever_catches_it() {
     fails_with(
         || {
-            let caught = thread::spawn(|| catch_unwind(|| panic!("nobody sees this"))).join(); //: nobody
-            assert!(caught.is_ok());
+            let caught = || catch_unwind(|| panic!("nobody sees this")); //: nobody
+            assert!(thread::spawn(caught).join().is_ok());
         },
         &["thread t1 panicked at tests/rules/ends.rs:{nobody}: nobody sees this"],
     );
@@ -218,14 +237,26 @@ fn panics_as_std_poison_and_are_joined() {
     let leaves = of(|| {
         panic!("leaves main"); //: leaves
     });
-    assert!(leaves.starts_with(&filled(SOURCE, "thread main panicked at tests/rules/ends.rs:{leaves}: leaves main")), "{leaves}");
+    assert!(
+        leaves.starts_with(&filled(
+            SOURCE,
+            "thread main panicked at tests/rules/ends.rs:{leaves}: leaves main"
+        )),
+        "{leaves}"
+    );
     let lost = of(|| {
         let thread = thread::spawn(|| {
             panic!("nobody joins"); //: nobody_joins
         });
         drop(thread);
     });
-    assert!(lost.contains(&filled(SOURCE, "panicked at tests/rules/ends.rs:{nobody_joins}: nobody joins")), "{lost}");
+    assert!(
+        lost.contains(&filled(
+            SOURCE,
+            "panicked at tests/rules/ends.rs:{nobody_joins}: nobody joins"
+        )),
+        "{lost}"
+    );
 }
 
 /// A guard's drop is a step while the panic unwinds, and the thread goes on behind who catches it.
@@ -258,7 +289,9 @@ fn a_thread_has_ended_when_its_locals_are_gone() {
     pct::check_with(few(), || {
         let n = Arc::new(AtomicU32::new(0));
         let (one, other) = (n.clone(), n.clone());
-        thread::spawn(move || LATE.with(|late| *late.borrow_mut() = Some(Late(one)))).join().unwrap();
+        thread::spawn(move || LATE.with(|late| *late.borrow_mut() = Some(Late(one))))
+            .join()
+            .unwrap();
         assert_eq!(n.load(SeqCst), 1);
         thread::scope(|scope| {
             scope.spawn(move || LATE.with(|late| *late.borrow_mut() = Some(Late(other))));
@@ -277,8 +310,15 @@ fn a_thread_without_a_step_is_named() {
             let _ = receiver.recv();
         });
     });
-    assert_eq!(told, filled(SOURCE, "pct: thread main made no step for 300ms; its last one was at tests/rules/ends.rs:{stepped}. It may block on something that pct \
-         doesn't see, or go round without a step"));
+    assert_eq!(
+        told,
+        filled(
+            SOURCE,
+            "pct: thread main made no step for 300ms; its last one was at \
+        tests/rules/ends.rs:{stepped}. It may block on something that pct \
+         doesn't see, or go round without a step"
+        )
+    );
 }
 
 #[test]
@@ -286,7 +326,10 @@ fn a_campaign_stops_at_a_thousand_parked_threads() {
     let config = Config { seeds: 10_000, depth: Some(1), ..Config::default() };
     let told = text_of(|| drop(pct::campaign(config, || panic!("each time"))));
     assert!(
-        told.starts_with("pct: 1000 threads of failing runs stay parked, which a process may not have in any number"),
+        told.starts_with(
+            "pct: 1000 threads of failing runs stay parked, which a process may not \
+            have in any number"
+        ),
         "{told}"
     );
 }
@@ -300,11 +343,13 @@ fn what_is_not_deterministic_is_told() {
             n.store(COUNT.fetch_add(1, SeqCst), SeqCst); //: counted
             pct::holds(false);
         },
-        &["made again it departs at step 1 at tests/rules/ends.rs:{counted}: what is tested isn't deterministic"],
+        &["made again it departs at step 1 at tests/rules/ends.rs:{counted}: what is tested isn't \
+            deterministic"],
     );
 }
 
-/// Of one seed: the run in declared order passes, that of the seed fails, and made again it does something else.
+/// Of one seed: the run in declared order passes, that of the seed fails, and made again it does
+/// something else.
 #[test]
 fn a_failing_run_that_has_another_end_when_made_again_is_told() {
     let told = |other: fn()| {
@@ -319,10 +364,14 @@ fn a_failing_run_that_has_another_end_when_made_again_is_told() {
         text_of(|| pct::check_with(Config { seeds: 1, depth: Some(1), ..Config::default() }, test))
     };
     let more = told(|| thread::spawn(|| ()).join().unwrap());
-    assert!(more.contains("made again it starts more threads: what is tested isn't deterministic\n"), "{more}");
+    assert!(
+        more.contains("made again it starts more threads: what is tested isn't deterministic\n"),
+        "{more}"
+    );
     let none = told(|| pct::sync::Semaphore::new(u32::MAX).up()); //: no_end
     let sentence =
-        "made again it has no end: tests/rules/ends.rs:{no_end}: in a run a semaphore begins with at most 2147483647\n";
+        "made again it has no end: tests/rules/ends.rs:{no_end}: in a run a semaphore begins with \
+            at most 2147483647\n";
     assert!(none.contains(&filled(SOURCE, sentence)), "{none}");
 }
 
@@ -330,10 +379,11 @@ fn a_failing_run_that_has_another_end_when_made_again_is_told() {
 fn a_timed_wait_never_times_out() {
     fails_with(
         || {
-            let pair = (Mutex::new(()), Condvar::new());
-            let _ = pair.1.wait_timeout(pair.0.lock().unwrap(), Duration::from_millis(1)); //: timed
+            let (pair, time) = ((Mutex::new(()), Condvar::new()), Duration::from_millis(1));
+            let _ = pair.1.wait_timeout(pair.0.lock().unwrap(), time); //: timed
         },
-        &["a deadlock: main waits at tests/rules/ends.rs:{timed} for the condition c0 and its mutex m0. No time passes in a run, so a timed wait doesn't end it"],
+        &["a deadlock: main waits at tests/rules/ends.rs:{timed} for the condition c0 and its \
+            mutex m0. No time passes in a run, so a timed wait doesn't end it"],
     );
 }
 

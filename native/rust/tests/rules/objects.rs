@@ -13,7 +13,10 @@ fn objects_are_numbered_at_first_use_and_the_run_goes_on() {
     pct::check_with(few(), || {
         let (a, b) = (Arc::new(AtomicU32::new(5)), Arc::new(AtomicU32::new(7)));
         let (c, d) = (a.clone(), b.clone());
-        let threads = [thread::spawn(move || c.fetch_add(1, SeqCst)), thread::spawn(move || d.fetch_add(1, SeqCst))];
+        let threads = [
+            thread::spawn(move || c.fetch_add(1, SeqCst)),
+            thread::spawn(move || d.fetch_add(1, SeqCst)),
+        ];
         threads.into_iter().for_each(|thread| {
             thread.join().unwrap();
         });
@@ -52,7 +55,10 @@ fn numbers_of_dropped_objects_are_used_again() {
     pct::check_with(few(), test);
     let (_, left_out) = pct::lock_order(Config::default(), &Schedule::declared(), test);
     assert!(
-        left_out.contains(&"1 mutexes are left out: each number was that of two objects, one after the other".to_owned()),
+        left_out.contains(
+            &"1 mutexes are left out: each number was that of two objects, one after the other"
+                .to_owned()
+        ),
         "{left_out:?}"
     );
 }
@@ -62,9 +68,15 @@ fn races_leave_out_what_has_no_number_of_its_own() {
     use pct::cell::UnsafeCell;
     let races = |test: fn()| pct::races(Config::default(), &Schedule::declared(), test);
     let reused = races(|| (0..65).for_each(|_| assert_eq!(AtomicU32::new(3).load(SeqCst), 3)));
-    assert_eq!(reused.left_out, ["1 atomics are left out: each number was that of two objects, one after the other"]);
+    assert_eq!(
+        reused.left_out,
+        ["1 atomics are left out: each number was that of two objects, one after the other"]
+    );
     let cells = races(|| (0..66).for_each(|_| UnsafeCell::new(0).with(|_| ())));
-    assert_eq!(cells.left_out, ["2 cells are left out: the library knows 64 atomics and cells together"]);
+    assert_eq!(
+        cells.left_out,
+        ["2 cells are left out: the library knows 64 atomics and cells together"]
+    );
 }
 
 #[test]
@@ -74,44 +86,87 @@ fn limits_are_sentences_with_the_line() {
         let all: Vec<_> = (0..65).map(Mutex::new).collect();
         all.iter().for_each(|mutex| drop(mutex.lock())); //: mutexes
     });
-    assert_eq!(mutexes, filled(SOURCE, "pct: tests/rules/objects.rs:{mutexes}: a run has at most 64 mutexes at a time"));
+    assert_eq!(
+        mutexes,
+        filled(
+            SOURCE,
+            "pct: tests/rules/objects.rs:{mutexes}: a run has at most 64 mutexes at a time"
+        )
+    );
     let conditions = of(|| {
         let all: Vec<_> = (0..65).map(|_| Condvar::new()).collect();
         all.iter().for_each(|condition| condition.notify_one()); //: conditions
     });
-    let most = "pct: tests/rules/objects.rs:{conditions}: a run has at most 64 condition variables at a time";
+    let most = "pct: tests/rules/objects.rs:{conditions}: a run has at most 64 condition \
+        variables at a time";
     assert_eq!(conditions, filled(SOURCE, most));
     let semaphores = of(|| {
         let all: Vec<_> = (0..65).map(|_| Semaphore::new(0)).collect();
         all.iter().for_each(|semaphore| semaphore.up()); //: semaphores
     });
-    assert_eq!(semaphores, filled(SOURCE, "pct: tests/rules/objects.rs:{semaphores}: a run has at most 64 semaphores at a time"));
+    assert_eq!(
+        semaphores,
+        filled(
+            SOURCE,
+            "pct: tests/rules/objects.rs:{semaphores}: a run has at most 64 semaphores at a time"
+        )
+    );
     let barriers = of(|| {
         let all: Vec<_> = (0..65).map(|_| Barrier::new(1)).collect();
         for barrier in &all {
             barrier.wait(); //: barriers
         }
     });
-    assert_eq!(barriers, filled(SOURCE, "pct: tests/rules/objects.rs:{barriers}: a run has at most 64 barriers at a time"));
+    assert_eq!(
+        barriers,
+        filled(
+            SOURCE,
+            "pct: tests/rules/objects.rs:{barriers}: a run has at most 64 barriers at a time"
+        )
+    );
     let rwlocks = of(|| {
         let all: Vec<_> = (0..65).map(RwLock::new).collect();
         all.iter().for_each(|lock| drop(lock.read())); //: rwlocks
     });
-    assert_eq!(rwlocks, filled(SOURCE, "pct: tests/rules/objects.rs:{rwlocks}: a run has at most 64 read-write locks at a time"));
+    assert_eq!(
+        rwlocks,
+        filled(
+            SOURCE,
+            "pct: tests/rules/objects.rs:{rwlocks}: a run has at most \
+        64 read-write locks at a time"
+        )
+    );
     let declared = text_of(|| {
-        pct::check_with(few(), pct::threads(|t| (0..65).for_each(|number| t.thread(&format!("T{number}"), || ()))));
+        pct::check_with(
+            few(),
+            pct::threads(|t| (0..65).for_each(|number| t.thread(&format!("T{number}"), || ()))),
+        );
     });
     assert_eq!(declared, "pct: a run has at most 64 threads");
     let threads = of(|| (0..64).map(|_| thread::spawn(|| ())).for_each(drop)); //: threads
-    assert_eq!(threads, filled(SOURCE, "pct: tests/rules/objects.rs:{threads}: a run has at most 64 threads"));
+    assert_eq!(
+        threads,
+        filled(SOURCE, "pct: tests/rules/objects.rs:{threads}: a run has at most 64 threads")
+    );
     let barrier = of(|| {
         Barrier::new(1001).wait(); //: barrier
     });
-    assert_eq!(barrier, filled(SOURCE, "pct: tests/rules/objects.rs:{barrier}: in a run at most 1000 threads meet at a barrier"));
+    assert_eq!(
+        barrier,
+        filled(
+            SOURCE,
+            "pct: tests/rules/objects.rs:{barrier}: in a run at most \
+        1000 threads meet at a barrier"
+        )
+    );
     let semaphore = of(|| Semaphore::new(u32::MAX).up()); //: semaphore
     assert_eq!(
         semaphore,
-        filled(SOURCE, "pct: tests/rules/objects.rs:{semaphore}: in a run a semaphore begins with at most 2147483647")
+        filled(
+            SOURCE,
+            "pct: tests/rules/objects.rs:{semaphore}: in a run a semaphore begins with \
+            at most 2147483647"
+        )
     );
 }
 
@@ -144,7 +199,8 @@ fn counts() {
 fn an_atomic_static_has_its_first_value_in_each_run() {
     pct::check_with(few(), counts);
     pct::check_with(Config { jobs: 3, ..few() }, counts);
-    let both: Vec<_> = (0..2).map(|_| std::thread::spawn(|| pct::check_with(few(), counts))).collect();
+    let both: Vec<_> =
+        (0..2).map(|_| std::thread::spawn(|| pct::check_with(few(), counts))).collect();
     both.into_iter().for_each(|check| check.join().unwrap());
     assert_eq!(COUNT.load(SeqCst), 40);
 }
@@ -154,7 +210,8 @@ fn an_atomic_static_has_its_first_value_in_each_run() {
 fn each_type_may_be_a_static() {
     static ALL: (Mutex<u8>, RwLock<u8>, Condvar, Barrier, Semaphore) =
         (Mutex::new(1), RwLock::new(1), Condvar::new(), Barrier::new(1), Semaphore::new(1));
-    static ONCE: (Once, OnceLock<u8>, LazyLock<u8>) = (Once::new(), OnceLock::new(), LazyLock::new(|| 7));
+    static ONCE: (Once, OnceLock<u8>, LazyLock<u8>) =
+        (Once::new(), OnceLock::new(), LazyLock::new(|| 7));
     pct::run(Config::default(), &Schedule::declared(), || assert_eq!(COUNT.load(SeqCst), 40));
     assert_eq!(*ALL.0.lock().unwrap() + *ALL.1.read().unwrap(), 2);
     ALL.2.notify_one();
@@ -166,7 +223,8 @@ fn each_type_may_be_a_static() {
 #[test]
 fn other_statics_and_captured_objects_end_the_check() {
     let told = text_of(|| pct::check_with(few(), || *MUTEX.lock().unwrap() += 1)); //: static
-    let sentence = "one of the mutexes was used by another run: it is a static, or the test captured it. Make it within the test";
+    let sentence = "one of the mutexes was used by another run: it is a static, or the test \
+        captured it. Make it within the test";
     assert_eq!(told, filled(SOURCE, "pct: tests/rules/objects.rs:{static}: ") + sentence);
     let captured = Arc::new(AtomicU32::new(0));
     let told = text_of(|| {
@@ -197,7 +255,12 @@ fn names_are_checked() {
             "r7" => of(|| pct::name("r7", &Mutex::new(0))),
             _ => of(|| pct::name("no name", &Mutex::new(0))),
         };
-        assert!(told.contains(&format!("{text} can't be a name: 1 to 32 letters, digits and _, a letter first")), "{told}");
+        assert!(
+            told.contains(&format!(
+                "{text} can't be a name: 1 to 32 letters, digits and _, a letter first"
+            )),
+            "{told}"
+        );
     }
     fails_with(
         SOURCE,

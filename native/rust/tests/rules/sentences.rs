@@ -20,14 +20,17 @@ fn a_fault_of_the_layer_ends_the_check() {
 #[test]
 fn misuse_is_told() {
     let raised = super::failure(|| Semaphore::new(i32::MAX as u32).up()); //: raised
-    assert!(raised
-        .starts_with(&filled(SOURCE, "thread main at tests/rules/sentences.rs:{raised}: it raises a semaphore past 2147483647")));
+    assert!(raised.starts_with(&filled(
+        SOURCE,
+        "thread main at tests/rules/sentences.rs:{raised}: it raises a semaphore past 2147483647"
+    )));
     let held = super::failure(|| {
         let lock = RwLock::new(());
         let guards: Vec<_> = (0..1001).map(|_| lock.read()).collect(); //: held
         drop(guards);
     });
-    let wanted = "thread main at tests/rules/sentences.rs:{held}: it holds a read-write lock for reading more than 1000 times";
+    let wanted = "thread main at tests/rules/sentences.rs:{held}: it holds a read-write lock for \
+        reading more than 1000 times";
     assert!(held.starts_with(&filled(SOURCE, wanted)), "{held}");
 }
 
@@ -44,15 +47,20 @@ fn files_that_cannot_be_read_are_told() {
     let config = Config { name: Some("unreadable".into()), ..few() };
     let test = || pct::holds(false);
     let told = text_of(|| pct::check_with(config, test));
-    let trace = told.lines().find_map(|line| line.strip_prefix("written: ")?.split(", ").next()).unwrap();
-    let (trace, sites) = (std::path::PathBuf::from(trace), std::path::Path::new(trace).with_extension("sites"));
+    let trace =
+        told.lines().find_map(|line| line.strip_prefix("written: ")?.split(", ").next()).unwrap();
+    let (trace, sites) =
+        (std::path::PathBuf::from(trace), std::path::Path::new(trace).with_extension("sites"));
     let (text, beside) = (fs::read_to_string(&trace).unwrap(), fs::read_to_string(&sites).unwrap());
     let of = || text_of(|| drop(pct::replay(Config::default(), &trace, test)));
     fs::write(&trace, text.replace("check 0", "check 7")).unwrap();
     assert_eq!(of(), "pct: line 5 of the trace has a fault of the kind 3");
     fs::write(&sites, beside.clone() + "nothing\n").unwrap();
     let line = beside.lines().count() + 1;
-    assert_eq!(of(), format!("pct: {}: line {line} is neither a name nor a place", sites.display()));
+    assert_eq!(
+        of(),
+        format!("pct: {}: line {line} is neither a name nor a place", sites.display())
+    );
     fs::write(&sites, beside.replace("file ", "files ")).unwrap();
     assert_eq!(of(), format!("pct: {}: line 3 has no file", sites.display()));
     fs::write(&sites, beside.replace("seed ", "seeds ")).unwrap();
@@ -74,7 +82,11 @@ fn a_single_run_that_starts_more_threads_is_told() {
     };
     let schedule = Schedule::order(&["t1", "main"]);
     let told = text_of(|| drop(pct::run(Config::default(), &schedule, test)));
-    assert_eq!(told, "pct: the run starts more threads than the 2 of the run in declared order: set Config::threads");
+    assert_eq!(
+        told,
+        "pct: the run starts more threads than the 2 of the run in declared order: \
+        set Config::threads"
+    );
     let config = Config { threads: Some(3), ..Config::default() };
     assert!(pct::run(config, &schedule, test).passed());
 }
@@ -83,7 +95,11 @@ fn a_single_run_that_starts_more_threads_is_told() {
 fn a_replay_that_passes_says_so() {
     let config = Config { name: Some("mended".into()), ..few() };
     let told = text_of(|| pct::check_with(config, || pct::holds(false)));
-    let trace = told.lines().find_map(|line| line.strip_prefix("written: ")?.split(", ").next()).unwrap().to_owned();
+    let trace = told
+        .lines()
+        .find_map(|line| line.strip_prefix("written: ")?.split(", ").next())
+        .unwrap()
+        .to_owned();
     let replayed = pct::replay(Config::default(), trace.as_ref(), || pct::holds(true));
     assert!(replayed.run.passed() && replayed.run.sentence().is_empty());
     assert!(replayed.notes[0].contains("the trace has check 0 = 0"), "{:?}", replayed.notes);
@@ -106,12 +122,19 @@ fn a_payload_that_is_no_text_is_told() {
 fn a_replay_that_departs_says_so() {
     let config = Config { name: Some("departs".into()), ..few() };
     let told = text_of(|| pct::check_with(config, || pct::holds(false)));
-    let trace = told.lines().find_map(|line| line.strip_prefix("written: ")?.split(", ").next()).unwrap().to_owned();
+    let trace = told
+        .lines()
+        .find_map(|line| line.strip_prefix("written: ")?.split(", ").next())
+        .unwrap()
+        .to_owned();
     let replayed = pct::replay(Config::default(), trace.as_ref(), || {
         pct::holds(true);
         pct::step();
     });
-    assert_eq!((replayed.departs, replayed.run.sentence()), (Some(2), "the run leaves the trace after 1 steps".into()));
+    assert_eq!(
+        (replayed.departs, replayed.run.sentence()),
+        (Some(2), "the run leaves the trace after 1 steps".into())
+    );
 }
 
 /// A handle that leaves its run, of a thread that stays parked.
@@ -125,7 +148,10 @@ fn a_join_outside_of_the_run_is_an_error() {
         pct::holds(false);
     });
     let error = kept.lock().unwrap().take().unwrap().join().unwrap_err();
-    assert_eq!(error.downcast_ref::<&str>(), Some(&"the thread is of a run that this thread isn't in"));
+    assert_eq!(
+        error.downcast_ref::<&str>(),
+        Some(&"the thread is of a run that this thread isn't in")
+    );
 }
 
 /// std's own sentences, where panics are as std's.
@@ -134,19 +160,26 @@ fn what_is_poisoned_is_told_as_std_does() {
     use pct::sync::{LazyLock, Once};
     let message = |act: &dyn Fn()| {
         let payload = std::panic::catch_unwind(std::panic::AssertUnwindSafe(act)).unwrap_err();
-        payload
-            .downcast_ref::<&str>()
-            .map_or_else(|| payload.downcast_ref::<String>().unwrap().clone(), |text| (*text).to_owned())
+        payload.downcast_ref::<&str>().map_or_else(
+            || payload.downcast_ref::<String>().unwrap().clone(),
+            |text| (*text).to_owned(),
+        )
     };
     pct::check_with(Config { panics: pct::Panics::AsStd, ..few() }, move || {
         let (once, lazy) = (Once::new(), LazyLock::<u32>::new(|| panic!("first")));
         assert_eq!(message(&|| once.call_once(|| panic!("first"))), "first");
-        assert_eq!(message(&|| once.call_once(|| ())), "Once instance has previously been poisoned");
+        assert_eq!(
+            message(&|| once.call_once(|| ())),
+            "Once instance has previously been poisoned"
+        );
         assert_eq!(message(&|| once.wait()), "Once instance has previously been poisoned");
         once.call_once_force(|state| assert!(state.is_poisoned()));
         once.wait();
         assert_eq!(message(&|| assert_eq!(*lazy, 1)), "first");
-        assert_eq!(message(&|| assert_eq!(*lazy, 1)), "LazyLock instance has previously been poisoned");
+        assert_eq!(
+            message(&|| assert_eq!(*lazy, 1)),
+            "LazyLock instance has previously been poisoned"
+        );
     });
 }
 
@@ -161,7 +194,8 @@ fn what_a_declaring_closure_captured_ends_the_check() {
         pct::check_with(few(), test);
     });
     let sentence =
-        "pct: tests/rules/sentences.rs:{named}: one of the mutexes was used by another run: it is a static, or the test \
+        "pct: tests/rules/sentences.rs:{named}: one of the mutexes was used by another run: it is \
+            a static, or the test \
                     captured it. Make it within the test";
     assert_eq!(told, filled(SOURCE, sentence));
 }

@@ -14,9 +14,12 @@ fn fails_with(test: impl pct::Test, texts: &[&str]) {
 
 #[test]
 fn a_spinning_thread_waits_for_a_change() {
-    for wait in [hint::spin_loop as fn(), thread::yield_now, || thread::sleep(Duration::from_secs(3600))] {
+    for wait in
+        [hint::spin_loop as fn(), thread::yield_now, || thread::sleep(Duration::from_secs(3600))]
+    {
         pct::check_with(few(), move || {
-            let (flag, other) = (Arc::new(AtomicBool::new(false)), Arc::new(AtomicBool::new(false)));
+            let (flag, other) =
+                (Arc::new(AtomicBool::new(false)), Arc::new(AtomicBool::new(false)));
             let (set, back) = (flag.clone(), other.clone());
             let thread = thread::spawn(move || {
                 set.store(true, SeqCst);
@@ -65,7 +68,8 @@ fn where_all_wait_so_it_is_a_livelock() {
             }
         },
         &[
-            "a livelock: main waits at tests/rules/spins.rs:{yields} for a change that nobody makes; t1 waits at tests/rules/spins.rs:{spins} for a \
+            "a livelock: main waits at tests/rules/spins.rs:{yields} for a change that nobody \
+                makes; t1 waits at tests/rules/spins.rs:{spins} for a \
              change that nobody makes",
             "down spin_main",
         ],
@@ -94,8 +98,12 @@ fn a_loop_without_a_wait_is_cut_with_its_line() {
         });
     });
     assert!(
-        told.starts_with(&filled(SOURCE, "cut after 100 steps, the last one by main at tests/rules/spins.rs:{round}. A loop that waits for another thread has to say \
-             so: std::hint::spin_loop, thread::yield_now or thread::sleep in it, taken from pct")),
+        told.starts_with(&filled(
+            SOURCE,
+            "cut after 100 steps, the last one by main at \
+            tests/rules/spins.rs:{round}. A loop that waits for another thread has to say \
+             so: std::hint::spin_loop, thread::yield_now or thread::sleep in it, taken from pct"
+        )),
         "{told}"
     );
 }
@@ -110,7 +118,10 @@ fn steps_of_ones_own() {
     let asks: Vec<String> = run.steps().into_iter().map(|step| step.ask).collect();
     assert_eq!(
         (asks, run.verdict()),
-        (vec!["yield".into(), "check 1".into(), "check 0".into()], filled(SOURCE, "failed main {fails}"))
+        (
+            vec!["yield".into(), "check 1".into(), "check 0".into()],
+            filled(SOURCE, "failed main {fails}")
+        )
     );
     let alone = || {
         pct::holds(false); //: alone

@@ -3,7 +3,9 @@
 use super::{fails_with, few};
 use pct::sync::atomic::{AtomicU32, Ordering::SeqCst};
 use pct::sync::mpsc::{self, RecvError, SendError, TryRecvError, TrySendError};
-use pct::sync::{Arc, Barrier, Condvar, LazyLock, Mutex, Once, OnceLock, RwLock, Semaphore, TryLockError};
+use pct::sync::{
+    Arc, Barrier, Condvar, LazyLock, Mutex, Once, OnceLock, RwLock, Semaphore, TryLockError,
+};
 use pct::{thread, Config, Schedule};
 use std::time::Duration;
 
@@ -86,7 +88,8 @@ fn readers_are_let_in_though_a_writer_waits() {
     });
 }
 
-/// The page's table of steps, row by row; those of Once, channels and threads stand with their types below.
+/// The page's table of steps, row by row; those of Once, channels and threads stand with their
+/// types below.
 #[test]
 fn each_call_has_the_steps_of_the_table() {
     let mutex = || {
@@ -137,7 +140,8 @@ fn each_call_has_the_steps_of_the_table() {
         drop(guard);
         thread.join().unwrap();
     };
-    let wanted = ["start t1", "lock m0", "release c0 m0", "begin", "lock m0", "unlock m0", "signal c0"];
+    let wanted =
+        ["start t1", "lock m0", "release c0 m0", "begin", "lock m0", "unlock m0", "signal c0"];
     assert_eq!(asks(waits), [&wanted[..], &["regain c0 m0", "unlock m0", "join t1"]].concat());
 }
 
@@ -162,7 +166,8 @@ fn barrier_and_semaphore() {
 #[test]
 fn once_and_its_cells() {
     both(|| {
-        let cells = Arc::new((OnceLock::new(), Once::new(), LazyLock::new(|| 7), AtomicU32::new(0)));
+        let cells =
+            Arc::new((OnceLock::new(), Once::new(), LazyLock::new(|| 7), AtomicU32::new(0)));
         let threads: Vec<_> = (0..2)
             .map(|number| {
                 let cells = cells.clone();
@@ -199,7 +204,10 @@ fn channels() {
         let mut got: Vec<i32> = receiver.iter().collect();
         got.sort_unstable();
         assert_eq!(got, [1, 2]);
-        assert_eq!((receiver.recv(), receiver.try_recv()), (Err(RecvError), Err(TryRecvError::Disconnected)));
+        assert_eq!(
+            (receiver.recv(), receiver.try_recv()),
+            (Err(RecvError), Err(TryRecvError::Disconnected))
+        );
         thread.join().unwrap();
         let (sender, receiver) = mpsc::sync_channel(1);
         sender.send(1).unwrap();
@@ -217,9 +225,19 @@ fn channels() {
         sender.send(1).unwrap();
         receiver.recv().unwrap();
     });
-    let (sent, ends) = (["lock m0", "signal c0", "unlock m0"], ["lock m0", "broadcast c1", "unlock m0"]);
+    let (sent, ends) =
+        (["lock m0", "signal c0", "unlock m0"], ["lock m0", "broadcast c1", "unlock m0"]);
     let receiver_ends = ["lock m0", "broadcast c1", "unlock m0"];
-    assert_eq!(steps, [&sent[..], &["lock m0", "unlock m0"], &receiver_ends, &["lock m0", "broadcast c0", "unlock m0"]].concat());
+    assert_eq!(
+        steps,
+        [
+            &sent[..],
+            &["lock m0", "unlock m0"],
+            &receiver_ends,
+            &["lock m0", "broadcast c0", "unlock m0"]
+        ]
+        .concat()
+    );
     let bounded = asks(|| {
         let (sender, receiver) = mpsc::sync_channel(1);
         drop(sender.clone());
@@ -228,7 +246,10 @@ fn channels() {
     });
     let cloned = ["lock m0", "unlock m0", "lock m0", "unlock m0"];
     let taken = ["lock m0", "broadcast c1", "unlock m0"];
-    assert_eq!(bounded, [&cloned[..], &sent, &taken, &ends, &["lock m0", "broadcast c0", "unlock m0"]].concat());
+    assert_eq!(
+        bounded,
+        [&cloned[..], &sent, &taken, &ends, &["lock m0", "broadcast c0", "unlock m0"]].concat()
+    );
 }
 
 #[test]

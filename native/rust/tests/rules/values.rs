@@ -14,10 +14,20 @@ macro_rules! width {
         #[test]
         fn $test() {
             let test = || {
-                let extremes = [0, 1, 2, $value::MAX, $value::MAX - 1, $value::MIN, $value::MIN + 1, $value::MAX / 2];
+                let extremes = [
+                    0,
+                    1,
+                    2,
+                    $value::MAX,
+                    $value::MAX - 1,
+                    $value::MIN,
+                    $value::MIN + 1,
+                    $value::MAX / 2,
+                ];
                 for first in extremes {
                     for by in extremes {
-                        let (ours, theirs) = (atomic::$name::new(first), std_atomic::$name::new(first));
+                        let (ours, theirs) =
+                            (atomic::$name::new(first), std_atomic::$name::new(first));
                         macro_rules! same {
                             ($call:ident) => {
                                 assert_eq!(
@@ -41,9 +51,15 @@ macro_rules! width {
                         same!(swap);
                         ours.store(first, SeqCst);
                         theirs.store(first, SeqCst);
-                        assert_eq!(ours.compare_exchange(by, 1, SeqCst, SeqCst), theirs.compare_exchange(by, 1, SeqCst, SeqCst));
+                        assert_eq!(
+                            ours.compare_exchange(by, 1, SeqCst, SeqCst),
+                            theirs.compare_exchange(by, 1, SeqCst, SeqCst)
+                        );
                         let next = |value: $value| value.checked_add(1);
-                        assert_eq!(ours.fetch_update(SeqCst, SeqCst, next), theirs.fetch_update(SeqCst, SeqCst, next));
+                        assert_eq!(
+                            ours.fetch_update(SeqCst, SeqCst, next),
+                            theirs.fetch_update(SeqCst, SeqCst, next)
+                        );
                         assert_eq!(ours.into_inner(), theirs.into_inner());
                     }
                 }
@@ -69,14 +85,18 @@ width!(usize_is_stds, AtomicUsize, usize);
 fn bool_is_stds() {
     let test = || {
         for (first, by) in [(false, false), (false, true), (true, false), (true, true)] {
-            let (ours, theirs) = (atomic::AtomicBool::new(first), std_atomic::AtomicBool::new(first));
+            let (ours, theirs) =
+                (atomic::AtomicBool::new(first), std_atomic::AtomicBool::new(first));
             assert_eq!(ours.fetch_and(by, SeqCst), theirs.fetch_and(by, SeqCst));
             assert_eq!(ours.fetch_nand(by, SeqCst), theirs.fetch_nand(by, SeqCst));
             assert_eq!(ours.fetch_or(by, SeqCst), theirs.fetch_or(by, SeqCst));
             assert_eq!(ours.fetch_xor(by, SeqCst), theirs.fetch_xor(by, SeqCst));
             assert_eq!(ours.fetch_not(SeqCst), theirs.fetch_not(SeqCst));
             assert_eq!(ours.swap(by, SeqCst), theirs.swap(by, SeqCst));
-            assert_eq!(ours.compare_exchange(by, !by, SeqCst, SeqCst), theirs.compare_exchange(by, !by, SeqCst, SeqCst));
+            assert_eq!(
+                ours.compare_exchange(by, !by, SeqCst, SeqCst),
+                theirs.compare_exchange(by, !by, SeqCst, SeqCst)
+            );
             assert_eq!(ours.load(SeqCst), theirs.load(SeqCst));
         }
     };
@@ -117,7 +137,8 @@ fn asks_are_read_write_add_and_cas() {
         let big = atomic::AtomicU64::new(u64::MAX);
         big.fetch_add(1, SeqCst);
     });
-    let asks: Vec<String> = run.steps().into_iter().map(|step| format!("{} = {}", step.ask, step.answer)).collect();
+    let asks: Vec<String> =
+        run.steps().into_iter().map(|step| format!("{} = {}", step.ask, step.answer)).collect();
     let wanted = [
         "read v0 = 250",
         "write v0 254 = 0",
@@ -131,7 +152,8 @@ fn asks_are_read_write_add_and_cas() {
     assert_eq!(asks, wanted);
 }
 
-/// A ring of two cells for one who puts and one who takes. The flag, its head, says which cells are full.
+/// A ring of two cells for one who puts and one who takes. The flag, its head, says which cells are
+/// full.
 struct Ring {
     cells: [UnsafeCell<u32>; 2],
     head: atomic::AtomicUsize,
@@ -139,14 +161,20 @@ struct Ring {
     is_guarded: bool,
 }
 
-// SAFETY: with the flag a cell is touched by one thread at a time; without it that is what the test shows.
+// SAFETY: with the flag a cell is touched by one thread at a time; without it that is what the test
+// shows.
 #[allow(unsafe_code)]
 unsafe impl Sync for Ring {}
 
 fn ring(is_guarded: bool) -> impl pct::Test {
     move || {
         let cells = [UnsafeCell::new(0), UnsafeCell::new(0)];
-        let ring = Arc::new(Ring { cells, head: atomic::AtomicUsize::new(0), tail: atomic::AtomicUsize::new(0), is_guarded });
+        let ring = Arc::new(Ring {
+            cells,
+            head: atomic::AtomicUsize::new(0),
+            tail: atomic::AtomicUsize::new(0),
+            is_guarded,
+        });
         let puts = ring.clone();
         let thread = thread::spawn(move || {
             for value in 0..2 {
@@ -177,9 +205,13 @@ fn a_ring_with_its_flag_has_no_race_and_without_it_one() {
     let with = pct::races(Config::default(), &Schedule::seed(1, 2), ring(true));
     assert_eq!((with.races, with.left_out), (vec![], Vec::<String>::new()));
     let without = pct::races(Config::default(), &Schedule::declared(), ring(false));
-    let told =
-        without.races.iter().map(|race| format!("{} {} {}", race.first.place.line, race.second.place.line, race.second.is_write));
+    let told = without.races.iter().map(|race| {
+        format!("{} {} {}", race.first.place.line, race.second.place.line, race.second.is_write)
+    });
     let wanted = filled(SOURCE, "{takes} {puts} true");
     assert_eq!(told.collect::<Vec<_>>(), [wanted.clone(), wanted]);
-    assert_eq!((without.races[0].first.thread.as_str(), without.races[0].second.thread.as_str()), ("main", "t1"));
+    assert_eq!(
+        (without.races[0].first.thread.as_str(), without.races[0].second.thread.as_str()),
+        ("main", "t1")
+    );
 }

@@ -73,15 +73,25 @@ impl AtomicBool {
     }
 
     /// Sets the value where it is `current`, and gives the old one: one step, `cas`.
-    #[deprecated(since = "0.1.0", note = "use compare_exchange or compare_exchange_weak instead, as in std")]
+    #[deprecated(
+        since = "0.1.0",
+        note = "use compare_exchange or compare_exchange_weak instead, as in std"
+    )]
     #[track_caller]
     pub fn compare_and_swap(&self, current: bool, new: bool, _order: Ordering) -> bool {
-        self.compare_exchange(current, new, Ordering::SeqCst, Ordering::SeqCst).unwrap_or_else(|found| found)
+        self.compare_exchange(current, new, Ordering::SeqCst, Ordering::SeqCst)
+            .unwrap_or_else(|found| found)
     }
 
     /// Sets the value where it is `current`: one step, `cas`.
     #[track_caller]
-    pub fn compare_exchange(&self, current: bool, new: bool, success: Ordering, failure: Ordering) -> Result<bool, bool> {
+    pub fn compare_exchange(
+        &self,
+        current: bool,
+        new: bool,
+        success: Ordering,
+        failure: Ordering,
+    ) -> Result<bool, bool> {
         match operate(self, Operation::Exchange { old: i64::from(current), new: i64::from(new) }) {
             Some(old) if (old != 0) == current => Ok(current),
             Some(old) => Err(old != 0),
@@ -91,7 +101,13 @@ impl AtomicBool {
 
     /// As `compare_exchange`: in a run it fails only where the value is another one.
     #[track_caller]
-    pub fn compare_exchange_weak(&self, current: bool, new: bool, success: Ordering, failure: Ordering) -> Result<bool, bool> {
+    pub fn compare_exchange_weak(
+        &self,
+        current: bool,
+        new: bool,
+        success: Ordering,
+        failure: Ordering,
+    ) -> Result<bool, bool> {
         match operate(self, Operation::Exchange { old: i64::from(current), new: i64::from(new) }) {
             Some(old) if (old != 0) == current => Ok(current),
             Some(old) => Err(old != 0),
@@ -101,7 +117,12 @@ impl AtomicBool {
 
     /// Loads, and exchanges until it succeeds or the function gives none: a step for each.
     #[track_caller]
-    pub fn fetch_update<F>(&self, set: Ordering, fetch: Ordering, mut update: F) -> Result<bool, bool>
+    pub fn fetch_update<F>(
+        &self,
+        set: Ordering,
+        fetch: Ordering,
+        mut update: F,
+    ) -> Result<bool, bool>
     where
         F: FnMut(bool) -> Option<bool>,
     {
@@ -117,13 +138,23 @@ impl AtomicBool {
 
     /// As `fetch_update`.
     #[track_caller]
-    pub fn try_update(&self, set: Ordering, fetch: Ordering, update: impl FnMut(bool) -> Option<bool>) -> Result<bool, bool> {
+    pub fn try_update(
+        &self,
+        set: Ordering,
+        fetch: Ordering,
+        update: impl FnMut(bool) -> Option<bool>,
+    ) -> Result<bool, bool> {
         self.fetch_update(set, fetch, update)
     }
 
     /// As `fetch_update`, with a function that always gives a value.
     #[track_caller]
-    pub fn update(&self, set: Ordering, fetch: Ordering, mut update: impl FnMut(bool) -> bool) -> bool {
+    pub fn update(
+        &self,
+        set: Ordering,
+        fetch: Ordering,
+        mut update: impl FnMut(bool) -> bool,
+    ) -> bool {
         self.fetch_update(set, fetch, |old| Some(update(old))).unwrap_or_else(|old| old)
     }
 

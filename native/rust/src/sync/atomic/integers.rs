@@ -63,16 +63,25 @@ macro_rules! integer {
             /// Sets the value, and gives the old one: one step, `cas`.
             #[track_caller]
             pub fn swap(&self, value: $value, order: Ordering) -> $value {
-                match operate(self, Operation::Change { change: |_, by| by, by: value as i64, sum: None }) {
+                let swap = Operation::Change { change: |_, by| by, by: value as i64, sum: None };
+                match operate(self, swap) {
                     Some(old) => old as $value,
                     None => self.inner.swap(value, order),
                 }
             }
 
             /// Sets the value where it is `current`, and gives the old one: one step, `cas`.
-            #[deprecated(since = "0.1.0", note = "use compare_exchange or compare_exchange_weak instead, as in std")]
+            #[deprecated(
+                since = "0.1.0",
+                note = "use compare_exchange or compare_exchange_weak instead, as in std"
+            )]
             #[track_caller]
-            pub fn compare_and_swap(&self, current: $value, new: $value, order: Ordering) -> $value {
+            pub fn compare_and_swap(
+                &self,
+                current: $value,
+                new: $value,
+                order: Ordering,
+            ) -> $value {
                 let failure = match order {
                     Ordering::Relaxed | Ordering::Release => Ordering::Relaxed,
                     Ordering::Acquire | Ordering::AcqRel => Ordering::Acquire,
@@ -115,7 +124,12 @@ macro_rules! integer {
 
             /// Loads, and exchanges until it succeeds or the function gives none: a step for each.
             #[track_caller]
-            pub fn fetch_update<F>(&self, set: Ordering, fetch: Ordering, mut update: F) -> Result<$value, $value>
+            pub fn fetch_update<F>(
+                &self,
+                set: Ordering,
+                fetch: Ordering,
+                mut update: F,
+            ) -> Result<$value, $value>
             where
                 F: FnMut($value) -> Option<$value>,
             {
@@ -142,36 +156,51 @@ macro_rules! integer {
 
             /// As `fetch_update`, with a function that always gives a value.
             #[track_caller]
-            pub fn update(&self, set: Ordering, fetch: Ordering, mut update: impl FnMut($value) -> $value) -> $value {
+            pub fn update(
+                &self,
+                set: Ordering,
+                fetch: Ordering,
+                mut update: impl FnMut($value) -> $value,
+            ) -> $value {
                 self.fetch_update(set, fetch, |old| Some(update(old))).unwrap_or_else(|old| old)
             }
 
-            /// Adds, and gives the old value: one step, `add` where the sum stays in i64 and in the type, else `cas`.
+            /// Adds, and gives the old value: one step, `add` where the sum stays in i64 and in the
+            /// type, else `cas`.
             #[track_caller]
             pub fn fetch_add(&self, by: $value, order: Ordering) -> $value {
                 let change = |old, by| (old as $value).wrapping_add(by as $value) as i64;
-                match operate(self, Operation::Change { change, by: by as i64, sum: Some(by as i64) }) {
+                let sum = Some(by as i64);
+                match operate(self, Operation::Change { change, by: by as i64, sum }) {
                     Some(old) => old as $value,
                     None => self.inner.fetch_add(by, order),
                 }
             }
 
-            /// Subtracts, and gives the old value: one step, as `fetch_add` of what is the other way round.
+            /// Subtracts, and gives the old value: one step, as `fetch_add` of what is the other
+            /// way round.
             #[track_caller]
             pub fn fetch_sub(&self, by: $value, order: Ordering) -> $value {
                 let change = |old, by| (old as $value).wrapping_sub(by as $value) as i64;
-                match operate(self, Operation::Change { change, by: by as i64, sum: (by as i64).checked_neg() }) {
+                let sum = (by as i64).checked_neg();
+                match operate(self, Operation::Change { change, by: by as i64, sum }) {
                     Some(old) => old as $value,
                     None => self.inner.fetch_sub(by, order),
                 }
             }
 
-            integer!(@changes $value fetch_and "the bits that both have" (|old: $value, by: $value| old & by));
-            integer!(@changes $value fetch_nand "the bits that not both have" (|old: $value, by: $value| !(old & by)));
-            integer!(@changes $value fetch_or "the bits that one has" (|old: $value, by: $value| old | by));
-            integer!(@changes $value fetch_xor "the bits that just one has" (|old: $value, by: $value| old ^ by));
-            integer!(@changes $value fetch_max "the greater value" (|old: $value, by: $value| old.max(by)));
-            integer!(@changes $value fetch_min "the lesser value" (|old: $value, by: $value| old.min(by)));
+            integer!(@changes $value fetch_and "the bits that both have"
+                (|old: $value, by: $value| old & by));
+            integer!(@changes $value fetch_nand "the bits that not both have"
+                (|old: $value, by: $value| !(old & by)));
+            integer!(@changes $value fetch_or "the bits that one has"
+                (|old: $value, by: $value| old | by));
+            integer!(@changes $value fetch_xor "the bits that just one has"
+                (|old: $value, by: $value| old ^ by));
+            integer!(@changes $value fetch_max "the greater value"
+                (|old: $value, by: $value| old.max(by)));
+            integer!(@changes $value fetch_min "the lesser value"
+                (|old: $value, by: $value| old.min(by)));
         }
 
         impl Default for $name {

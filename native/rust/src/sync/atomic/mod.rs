@@ -1,4 +1,5 @@
-//! Atomic types, as `std::sync::atomic` has them. Each operation is one step. Orderings are taken, and all mean `SeqCst`.
+//! Atomic types, as `std::sync::atomic` has them. Each operation is one step. Orderings are taken,
+//! and all mean `SeqCst`.
 
 mod boolean;
 mod integers;
@@ -6,7 +7,8 @@ mod pointer;
 
 pub use boolean::AtomicBool;
 pub use integers::{
-    AtomicI16, AtomicI32, AtomicI64, AtomicI8, AtomicIsize, AtomicU16, AtomicU32, AtomicU64, AtomicU8, AtomicUsize,
+    AtomicI16, AtomicI32, AtomicI64, AtomicI8, AtomicIsize, AtomicU16, AtomicU32, AtomicU64,
+    AtomicU8, AtomicUsize,
 };
 pub use pointer::AtomicPtr;
 pub use std::sync::atomic::Ordering;
@@ -83,12 +85,15 @@ impl Operation {
         }
     }
 
-    /// Whether the step was the one that the value wants. None where the book says otherwise than the object.
+    /// Whether the step was the one that the value wants. None where the book says otherwise than
+    /// the object.
     fn agrees(&self, value: i64, answer: Answer) -> Option<bool> {
         match (self, answer.kind) {
             (_, kind::YIELD | kind::WRITE) => Some(true),
             (_, kind::READ | kind::ADD) => (answer.value == value).then_some(true),
-            (Operation::Exchange { old, .. }, _) => ((answer.value == 1) == (*old == value)).then_some(true),
+            (Operation::Exchange { old, .. }, _) => {
+                ((answer.value == 1) == (*old == value)).then_some(true)
+            }
             (_, _) => Some(answer.value == 1),
         }
     }
@@ -117,15 +122,22 @@ pub(crate) fn operate<C: Cell>(cell: &C, operation: Operation) -> Option<i64> {
     })
 }
 
-/// Whether the step is what the object's value wants. Not where another thread changed it between the post and the step, which is to
-/// be made again.
-fn agree(live: &Live, me: u32, operation: Operation, value: i64, answer: Answer, place: Place) -> bool {
+/// Whether the step is what the object's value wants. Not where another thread changed it between
+/// the post and the step, which is to be made again.
+fn agree(
+    live: &Live,
+    me: u32,
+    operation: Operation,
+    value: i64,
+    answer: Answer,
+    place: Place,
+) -> bool {
     if answer.kind == kind::YIELD && operation.after(value).is_some() {
         live.changed(me);
     }
-    operation
-        .agrees(value, answer)
-        .unwrap_or_else(|| live.fail(format!("{place}: the book departs from an atomic's value, {value}: {answer:?}")))
+    operation.agrees(value, answer).unwrap_or_else(|| {
+        live.fail(format!("{place}: the book departs from an atomic's value, {value}: {answer:?}"))
+    })
 }
 
 fn ask(live: &Live, me: u32, number: Option<u32>, operation: Operation, place: Place) -> Answer {
@@ -134,7 +146,13 @@ fn ask(live: &Live, me: u32, number: Option<u32>, operation: Operation, place: P
 }
 
 /// The value of a static is kept in the run.
-fn operate_static<C: Cell>(live: &Live, me: u32, cell: &C, operation: Operation, place: Place) -> i64 {
+fn operate_static<C: Cell>(
+    live: &Live,
+    me: u32,
+    cell: &C,
+    operation: Operation,
+    place: Place,
+) -> i64 {
     cell.id().mark_static();
     let first = cell.get();
     let number = live.static_value(cell.id(), first, C::IS_NUMBERED, place).number;

@@ -1,4 +1,5 @@
-//! The atomic pointer. The book has no variables for pointers, so each operation is a step that touches nothing.
+//! The atomic pointer. The book has no variables for pointers, so each operation is a step that
+//! touches nothing.
 
 use super::{operate, Cell, Operation};
 use crate::objects::{Id, Kind};
@@ -69,19 +70,30 @@ impl<T> AtomicPtr<T> {
     /// Sets the value, and gives the old one.
     #[track_caller]
     pub fn swap(&self, value: *mut T, order: Ordering) -> *mut T {
-        operate(self, Operation::Store(number(value))).map_or_else(|| self.inner.swap(value, order), pointer)
+        operate(self, Operation::Store(number(value)))
+            .map_or_else(|| self.inner.swap(value, order), pointer)
     }
 
     /// Sets the value where it is `current`, and gives the old one.
-    #[deprecated(since = "0.1.0", note = "use compare_exchange or compare_exchange_weak instead, as in std")]
+    #[deprecated(
+        since = "0.1.0",
+        note = "use compare_exchange or compare_exchange_weak instead, as in std"
+    )]
     #[track_caller]
     pub fn compare_and_swap(&self, current: *mut T, new: *mut T, _order: Ordering) -> *mut T {
-        self.compare_exchange(current, new, Ordering::SeqCst, Ordering::SeqCst).unwrap_or_else(|found| found)
+        self.compare_exchange(current, new, Ordering::SeqCst, Ordering::SeqCst)
+            .unwrap_or_else(|found| found)
     }
 
     /// Sets the value where it is `current`.
     #[track_caller]
-    pub fn compare_exchange(&self, current: *mut T, new: *mut T, success: Ordering, failure: Ordering) -> Result<*mut T, *mut T> {
+    pub fn compare_exchange(
+        &self,
+        current: *mut T,
+        new: *mut T,
+        success: Ordering,
+        failure: Ordering,
+    ) -> Result<*mut T, *mut T> {
         match operate(self, Operation::Exchange { old: number(current), new: number(new) }) {
             Some(old) if old == number(current) => Ok(current),
             Some(old) => Err(pointer(old)),
@@ -107,7 +119,12 @@ impl<T> AtomicPtr<T> {
 
     /// Loads, and exchanges until it succeeds or the function gives none: a step for each.
     #[track_caller]
-    pub fn fetch_update<F>(&self, set: Ordering, fetch: Ordering, mut update: F) -> Result<*mut T, *mut T>
+    pub fn fetch_update<F>(
+        &self,
+        set: Ordering,
+        fetch: Ordering,
+        mut update: F,
+    ) -> Result<*mut T, *mut T>
     where
         F: FnMut(*mut T) -> Option<*mut T>,
     {
@@ -134,7 +151,12 @@ impl<T> AtomicPtr<T> {
 
     /// As `fetch_update`, with a function that always gives a value.
     #[track_caller]
-    pub fn update(&self, set: Ordering, fetch: Ordering, mut update: impl FnMut(*mut T) -> *mut T) -> *mut T {
+    pub fn update(
+        &self,
+        set: Ordering,
+        fetch: Ordering,
+        mut update: impl FnMut(*mut T) -> *mut T,
+    ) -> *mut T {
         self.fetch_update(set, fetch, |old| Some(update(old))).unwrap_or_else(|old| old)
     }
 
@@ -143,8 +165,14 @@ impl<T> AtomicPtr<T> {
     fn change(&self, change: fn(i64, i64) -> i64, by: usize) -> *mut T {
         let by = by as i64;
         let apart = |old: *mut T| Some(old.map_addr(|address| change(address as i64, by) as usize));
-        operate(self, Operation::Change { change, by, sum: None })
-            .map_or_else(|| self.inner.fetch_update(Ordering::SeqCst, Ordering::SeqCst, apart).unwrap_or_else(|old| old), pointer)
+        operate(self, Operation::Change { change, by, sum: None }).map_or_else(
+            || {
+                self.inner
+                    .fetch_update(Ordering::SeqCst, Ordering::SeqCst, apart)
+                    .unwrap_or_else(|old| old)
+            },
+            pointer,
+        )
     }
 
     /// Moves the pointer on by so many values, and gives the old one.
