@@ -48,10 +48,13 @@ def linked_paths(crate: pathlib.Path, **more: str) -> tuple[list[str], str]:
     return [path for it in told if it["reason"] == "build-script-executed" for path in it["linked_paths"]], done.stderr
 
 
+def wanted(folder: pathlib.Path) -> list[str]:
+    return [f"native={folder.resolve()}"]
+
+
 def finding(prefix: pathlib.Path, room: pathlib.Path) -> Checks:
     """Each way in which the library is found, and what is said where there is none."""
     crate, library = prefix / "share" / "pct" / "rust", prefix / "lib"
-    wanted = lambda folder: [f"native={folder.resolve()}"]
     yield "the library beside an installed crate", linked_paths(crate)[0] == wanted(library)
     inside, alone, other = room / "top" / "native" / "rust", room / "alone" / "far" / "off" / "crate", room / "other"
     for place in (inside, alone):

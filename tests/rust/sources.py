@@ -15,8 +15,9 @@ def functions_of(lines: list[str]) -> Iterator[tuple[int, int]]:
         begun = FUNCTION.match(line)
         head_ends = next((text for text in lines[first:] if text.rstrip().endswith((";", "{", "}"))), "")
         if begun and not head_ends.rstrip().endswith(";"):
-            is_end = lambda text: text.rstrip() == begun.group(1) + "}" or text.endswith(" }")
-            last = next((at for at in range(first, len(lines)) if is_end(lines[at])), first)
+            end = begun.group(1) + "}"
+            ends = (at for at in range(first, len(lines)) if lines[at].rstrip() == end or lines[at].endswith(" }"))
+            last = next(ends, first)
             yield first + 1, last - first + 1
 
 
