@@ -1,0 +1,21 @@
+// A read-write lock upgraded in place: a reader that wants to write waits until nobody reads, and it reads itself.
+pub fn test() -> impl pct::Test { pct::threads(|t| {
+let l = named("l", RwLock::new(()));
+let entry = named("entry", AtomicI64::new(0));
+
+{ let l = l.clone(); let entry = entry.clone(); t.thread("Fill", move || { let mut r0 = 0i64;  let mut l_held = Holds::default();
+  l_held.reads.push(l.read().unwrap());
+  r0 = entry.load(SeqCst);
+  if r0 == 0 {
+    l_held.write = Some(l.write().unwrap()); // still holding the lock to read
+    entry.store(7, SeqCst);
+    l_held.drop_one();
+  }
+  l_held.drop_one();
+}); }
+
+{ let l = l.clone(); let entry = entry.clone(); t.thread("Preload", move || {   let mut l_held = Holds::default();
+  l_held.write = Some(l.write().unwrap());
+  entry.store(7, SeqCst);
+  l_held.drop_one();
+}); } }) }
