@@ -78,27 +78,30 @@ static void tell(uint32_t threads, uint32_t steps) {
 static int check(void) {
     if (test.replay) return replay();
     if (test.campaign && !test.depth) sentence("--campaign needs --depth");
-    bool is_directed = test.finds || test.certifies, has_declared_failed;
+    bool are_seeds_meant = test.finds || test.certifies || test.campaign, has_declared_failed;
     uint32_t threads = (uint32_t)test.threads, steps;
     do {
         make_declared();
         has_declared_failed = has_failed();
         forget_kept();
-        if (has_declared_failed && !is_directed) keep();
+        if (has_declared_failed && !are_seeds_meant) keep();
         threads = threads > run->threads ? threads : run->threads;
         steps = test.steps ? (uint32_t)test.steps : run->steps ? run->steps : 1;
     } while (!make_seeds(&threads, steps));
-    if (test.campaign) print_report();
+    if (test.campaign) {
+        print_report();
+        return kept.steps != NULL;
+    }
     if (!kept.steps && has_declared_failed)
         printf("%s: no seed failed, but the run in declared order fails\n", base_of(test.program));
-    else if (!kept.steps && !test.campaign)
+    else if (!kept.steps)
         printf("%s: passed in %llu seeds; n %u, k %u\n", base_of(test.program),
                (unsigned long long)search.made, threads, steps);
     if (!kept.steps) return has_declared_failed;
     PctDirective found = { 0 };
-    if (is_directed)
+    if (test.finds || test.certifies)
         find(&found);
-    else if (!test.campaign)
+    else
         tell(threads, steps);
     if (test.certifies) certify(&found, steps > kept.run.steps ? steps : kept.run.steps);
     return 1;
@@ -171,12 +174,14 @@ void pct_name(const volatile void *at, const char *name) {
 }
 
 /* Claims a processor for the runs: one thread at a time goes, so a second one only costs. The claim
-   is a name that other tests of this system can't have at the same time. */
-static void pin(cpu_set_t *before) {
+   is a name that other tests of this system can't have at the same time, by a socket; -1 where none
+   was made. */
+static int pin(cpu_set_t *before) {
     struct sockaddr_un name = { .sun_family = AF_UNIX };
     int claim = socket(AF_UNIX, SOCK_DGRAM | SOCK_CLOEXEC, 0), processor = CPU_SETSIZE;
-    if (claim < 0 || sched_getaffinity(0, sizeof *before, before) != 0) return;
-    while (--processor >= 0) {
+    CPU_ZERO(before);
+    if (sched_getaffinity(0, sizeof *before, before) != 0) return claim;
+    while (claim >= 0 && --processor >= 0) {
         cpu_set_t one;
         int length = sprintf(name.sun_path + 1, "pct-test-processor-%d", processor);
         socklen_t bytes = (socklen_t)(sizeof name.sun_family + 1 + (size_t)length);
@@ -184,8 +189,9 @@ static void pin(cpu_set_t *before) {
         CPU_ZERO(&one);
         CPU_SET(processor, &one);
         sched_setaffinity(0, sizeof one, &one);
-        return;
+        return claim;
     }
+    return claim;
 }
 
 static int run_test(PctPlace place) {
@@ -198,10 +204,10 @@ static int run_test(PctPlace place) {
     if (shared == MAP_FAILED) sentence("no memory");
     run = &shared->run;
     traces = test.traces ? open_file(test.traces, "w") : NULL;
-    pin(&before);
-    int status = check();
+    int claim = pin(&before), status = check();
     fflush(stdout);
     sched_setaffinity(0, sizeof before, &before);
+    if (claim >= 0) close(claim);
     if (traces) fclose(traces);
     munmap(shared, sizeof *shared);
     return status;
