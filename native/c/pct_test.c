@@ -11,21 +11,18 @@
 
 /* The report that `pct campaign` writes. */
 static void print_report(void) {
-    PctGroup *groups = demand_memory(calloc(shared->row_count + 1, sizeof *groups));
-    PctCount made = pct_tell_groups(shared->rows, shared->row_count, groups, shared->row_count);
-    demand(made.status, "pct_tell_groups");
-    printf("campaign 1\nthreads %u\nsteps %u\ndepth %u\nlimit %u\n", job.threads, job.steps,
-           job.depth, (uint32_t)test.limit);
-    for (uint32_t i = 0; i < shared->row_count; i++) {
-        const PctRow *row = &shared->rows[i];
-        printf("%llu %u %s\n", (unsigned long long)row->seed, row->steps,
-               verdict_text(&row->verdict));
+    const char *names = names_text();
+    const PctFrame frame = { job.threads, job.steps, job.depth, (uint32_t)test.limit };
+    PctCount made = { PCT_NO_ROOM, 0 };
+    uint8_t *text = NULL;
+    while (made.status == PCT_NO_ROOM) {
+        text = demand_memory(realloc(text, made.count + 1));
+        made = pct_text_report((const uint8_t *)names, strlen(names), &frame, shared->rows,
+                               shared->row_count, text, made.count);
     }
-    printf("groups %u\n", (uint32_t)made.count);
-    for (uint32_t i = 0; i < made.count; i++)
-        printf("%u %u %llu %s\n", groups[i].count, groups[i].steps,
-               (unsigned long long)groups[i].first, verdict_text(&groups[i].verdict));
-    free(groups);
+    demand(made.status, "pct_text_report");
+    fwrite(text, 1, made.count, stdout);
+    free(text);
 }
 
 /* Makes the kept run again in a fresh child, whose output is seen. */
