@@ -170,16 +170,17 @@ void pct_name(const volatile void *at, const char *name) {
     named[named_count++].name = name;
 }
 
-/* Claims a processor for the runs: one thread at a time goes, so a second one only costs. The claim
-   is a name that other tests of this system can't have at the same time, by a socket; -1 where none
-   was made. */
+/* Claims a processor for the runs, from the one on which it goes on: one thread at a time goes, so
+   a second one only costs. The claim is a name that other tests of this system can't have at the
+   same time, by a socket; -1 where none was made. */
 static int pin(cpu_set_t *before) {
     struct sockaddr_un name = { .sun_family = AF_UNIX };
-    int claim = socket(AF_UNIX, SOCK_DGRAM | SOCK_CLOEXEC, 0), processor = CPU_SETSIZE;
+    int claim = socket(AF_UNIX, SOCK_DGRAM | SOCK_CLOEXEC, 0), here = sched_getcpu();
     CPU_ZERO(before);
-    if (sched_getaffinity(0, sizeof *before, before) != 0) return claim;
-    while (claim >= 0 && --processor >= 0) {
+    if (sched_getaffinity(0, sizeof *before, before) != 0 || here < 0) return claim;
+    for (int i = 0; claim >= 0 && i < CPU_SETSIZE; i++) {
         cpu_set_t one;
+        int processor = (here + i) % CPU_SETSIZE;
         int length = sprintf(name.sun_path + 1, "pct-test-processor-%d", processor);
         socklen_t bytes = (socklen_t)(sizeof name.sun_family + 1 + (size_t)length);
         if (!CPU_ISSET(processor, before) || bind(claim, (struct sockaddr *)&name, bytes)) continue;
