@@ -11,9 +11,9 @@
 
 /* Takes a line NUMBER FILE LINE or NUMBER FILE LINE near apart; a FILE may have spaces. */
 static bool read_place(char *line) {
-    char *file, *end = line + strlen(line), *near = strstr(line, " near");
+    char *file, *near = line + (strlen(line) > 5 ? strlen(line) - 5 : 0);
     unsigned long number = strtoul(line, &file, 10);
-    bool is_near = near && near + strlen(" near") == end;
+    bool is_near = strcmp(near, " near") == 0;
     if (is_near) *near = 0;
     char *last = strrchr(line, ' ');
     if (number < 1 || number > MOST_LINE || *file != ' ' || last <= file) return false;
@@ -75,9 +75,8 @@ static int replay(void) {
     make_child();
     bool departs = run->outcome.kind == PCT_DEPARTED;
     if (departs || run->end == MORE_THREADS) {
-        printf("the run departs from the trace at step %u: %s can't go there, or the run goes on "
-               "after "
-               "the trace's end\n",
+        printf("the run departs from the trace at step %u: %s can't go there, or it goes on past "
+               "the trace\n",
                run->steps + 1,
                departs ? run->names[PCT_THREADS][run->outcome.thread] : "a further thread");
         return 1;

@@ -123,19 +123,13 @@ static void put_step(FILE *to, uint32_t i, char *line) {
     fputc('}', to);
 }
 
-static void write_document(const char *trace) {
-    uint32_t many = run->steps + add_asking();
-    char **lines = lines_of_steps(shared->steps, many), command[9000];
+/* The kept run, whose asks at the end stand behind its steps. */
+static void put_run(FILE *to) {
+    uint32_t many = run->steps + add_asking(), ended = 0;
+    char **lines = lines_of_steps(shared->steps, many);
     const char(*names)[PCT_MOST_NAME + 1] =
         (const char(*)[PCT_MOST_NAME + 1]) run->names[PCT_THREADS];
-    FILE *to = open_file(test.json, "w");
-    fputs("{\"document\":1,\"writer\":\"pct_test.c\",\"title\":", to);
-    put_text(to, base_of(test.program));
-    fputs(",\"sources\":[", to);
-    put_sources(to, many);
-    fputs("],\"deal\":{", to);
-    put_deal(to);
-    fputs("},\"names\":{},\"headings\":[{\"run\":{\"seed\":", to);
+    fputs("{\"seed\":", to);
     if (!run->depth)
         fputs("null", to);
     else
@@ -149,10 +143,23 @@ static void write_document(const char *trace) {
     fprintf(to, "],\"limit\":%llu,\"steps\":[", (unsigned long long)test.limit);
     for (uint32_t i = 0; i < many; i++) put_step(to, i, lines[i]);
     fputs(many == run->steps ? "],\"asking\":[],\"ended\":[" : "],\"ended\":[", to);
-    for (uint32_t i = 0, ended = 0; i < run->threads; i++)
+    for (uint32_t i = 0; i < run->threads; i++)
         if (run->seats[i].has_ended) fprintf(to, "%s\"%s\"", ended++ ? "," : "", names[i]);
-    fprintf(to, "],\"verdict\":\"%s\"},\"again\":[{\"says\":\"shows this run again\",\"command\":",
-            verdict_text(&run->outcome));
+    fprintf(to, "],\"verdict\":\"%s\"}", verdict_text(&run->outcome));
+}
+
+static void write_document(const char *trace) {
+    FILE *to = open_file(test.json, "w");
+    char command[9000];
+    fputs("{\"document\":1,\"writer\":\"pct_test.c\",\"title\":", to);
+    put_text(to, base_of(test.program));
+    fputs(",\"sources\":[", to);
+    put_sources(to, run->steps + add_asking());
+    fputs("],\"deal\":{", to);
+    put_deal(to);
+    fputs("},\"names\":{},\"headings\":[{\"run\":", to);
+    put_run(to);
+    fputs(",\"again\":[{\"says\":\"shows this run again\",\"command\":", to);
     snprintf(command, sizeof command, "%s --replay %s", test.program, trace);
     put_text(to, command);
     fputs("}]}]}\n", to);

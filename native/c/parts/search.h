@@ -40,7 +40,7 @@ static bool has_kept_verdict(void) {
            memcmp(&run->outcome, &kept.run.outcome, sizeof run->outcome) == 0;
 }
 
-/* Whether the search goes on after a failing run: at most 20 of them are made, in 2 seconds. */
+/* Whether the search goes on after a failing run: for 20 of them, or 2 seconds after the first. */
 static bool goes_on(void) {
     struct timespec now;
     clock_gettime(CLOCK_MONOTONIC, &now);
