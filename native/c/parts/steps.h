@@ -109,7 +109,8 @@ int pct_futex_wake_at(volatile uint32_t *at, unsigned most, PctPlace place) {
 
 /* --- Threads --- */
 
-/* Destructors of the test's own keys may still ask: this one posts the end in the last round. */
+/* Destructors of the test's own keys may still ask: this one posts the end in the last round but
+   one, since the thread sanitizer takes leave of a thread in the last. */
 static void end_thread(void *rounds) {
     if ((uintptr_t)rounds > 1)
         pthread_setspecific(at_end, (void *)((uintptr_t)rounds - 1));
@@ -123,7 +124,7 @@ static void *thread_body(void *number) {
     uint32_t me = (uint32_t)(uintptr_t)number;
     Seat *seat = &run->seats[me];
     own_seat = me + 1;
-    pthread_setspecific(at_end, (void *)(uintptr_t)PTHREAD_DESTRUCTOR_ITERATIONS);
+    pthread_setspecific(at_end, (void *)(uintptr_t)(PTHREAD_DESTRUCTOR_ITERATIONS - 1));
     wait_at(&child.goes[me]);
     if (me >= test.declared)
         seat->value = seat->function(seat->argument);
