@@ -1,0 +1,36 @@
+// examples/lost_wakeup.pct in C++, each step in its line. See there.
+#include "pct_test.hpp"
+static pct::atomic<int> ready{0};
+static pct::mutex m;
+static pct::condition_variable is_ready;
+
+static void Waiter() { int r0 = 0;
+    r0 = ready.load();
+    if (r0 == 0) {
+        pct::unique_lock lock(m);       // the setter may have signalled since the read
+        is_ready.wait(lock);
+        lock.unlock();
+    }
+}
+
+static void Setter() {
+    ready.store(1);
+    m.lock();
+    is_ready.notify_one();
+    m.unlock();
+}
+
+static void reset() {
+    ready = 0;
+}
+
+int main(int count, char **words) {
+    static const char *const names[] = { "Waiter", "Setter" };
+    static void (*const functions[])() = { Waiter, Setter };
+    pct::name(ready, "ready");
+    pct::name(m, "m");
+    pct::name(is_ready, "is_ready");
+    pct_options(count, words);
+    pct_reset(reset);
+    return pct_threads(2, names, functions);
+}

@@ -1,0 +1,32 @@
+// examples/lost_update.pct in C, each step in its line. See there.
+#include "pct_test.h"
+static int counter = 0;
+
+static void A(void) { int r0 = 0;
+    r0 = pct_load(&counter);
+    pct_store(&counter, r0 + 1);        // B may have counted since the read
+}
+
+static void B(void) { int r0 = 0;
+    r0 = pct_load(&counter);
+    pct_store(&counter, r0 + 1);
+}
+
+static void Check(void) { int r0 = 0;
+    pct_join(0, NULL);                  // A
+    pct_join(1, NULL);                  // B
+    r0 = pct_load(&counter);
+    PCT_CHECK(r0 == 2);
+}
+
+static void reset(void) {
+    counter = 0;
+}
+
+int main(int count, char **words) {
+    static const char *const names[] = { "A", "B", "Check" };
+    static void (*const functions[])(void) = { A, B, Check };
+    pct_options(count, words);
+    pct_reset(reset);
+    return pct_threads(3, names, functions);
+}
