@@ -13,8 +13,8 @@ use Rattle.pct_top.specs.Refusing.{refusal_line}
 use Rattle.pct_top.specs.Saying.{SaysLine}
 use Rattle.pct_main.specs.declared.explanations.TheConstants.{EXPLANATIONS}
 use Rattle.pct_main.specs.declared.own.Own.{Own}
-use Rattle.pct_main.specs.declared.own.Own.TheVariants.{Help, Version, Explanation}
-use Rattle.pct_main.specs.declared.own.TheConstants.{HELP, VERSION}
+use Rattle.pct_main.specs.declared.own.Own.TheVariants.{Help, Version, Explanation, UnknownWord}
+use Rattle.pct_main.specs.declared.own.TheConstants.{HELP, VERSION, UNKNOWN}
 
 -- each word that is explained, with its text
 unfoldable pub explanations : List (List ℕ × List ℕ)
@@ -33,6 +33,12 @@ abbrev pub option_text : Own → List ℕ
 option_text Help = HELP.now
 option_text Version = VERSION.now
 option_text (Explanation text) = text.now
+option_text UnknownWord = UNKNOWN.now
+
+-- the text of a word's explanation, or that which names the words
+abbrev pub explained : Option (List ℕ) → List ℕ
+explained (Some text) = text
+explained None = UNKNOWN.now
 
 -- the text that the program answers words by, where it answers them by itself
 abbrev pub answer_to : List (List ℕ) → Option (List ℕ)
@@ -41,7 +47,7 @@ answer_to (word ∷ []) =
     if bytes_eq word (codes "--help") then Some HELP.now
     else (if bytes_eq word (codes "--version") then Some VERSION.now else None)
 answer_to (option ∷ word ∷ []) =
-    if bytes_eq option (codes "--explain") then explanation_of word else None
+    if bytes_eq option (codes "--explain") then Some (explained (explanation_of word)) else None
 answer_to (word ∷ other ∷ another ∷ words) = None
 
 -- The text was put on the output whole, and nothing was said. Where the output refused it, or there

@@ -52,6 +52,18 @@ what it usually comes from and what mends it.
   of the status    0 1 2 3 4 5 6 7 8
 ";
 
+/// What `pct --explain` answers of a word that it doesn't know.
+const UNKNOWN: &str = "\
+This is no word that pct prints. These are, and --explain says what each of them means:
+  of a script      NotUtf8 LineTooLong TooManyLines BadHeader BadToken BadStatement UnknownName
+                   TwiceNamed NumberRange NoEnd StrayEnd NoThread TooMany
+  of other files   TooLong BadHeader BadLine UnknownName OutOfOrder NoVerdict MoreAfterVerdict
+  of a verdict     passed failed stuck misuse fault cut
+  of a misuse      notowner semfull alreadystarted toomanyreads
+  of a fault       overflow zerodivisor spin
+  of the status    0 1 2 3 4 5 6 7 8
+";
+
 /// What `pct --version` answers.
 const VERSION: &str = "pct 0.1.0\n";
 
@@ -62,10 +74,12 @@ pub enum Own {
     Version,
     /// What a word means that the program prints.
     Explanation(&'static str),
+    /// The words that it prints, where another one is asked for.
+    UnknownWord,
 }
 
 impl Own {
-    /// The option that the words are: one word, or `--explain` and a word that is explained.
+    /// The option that the words are: one word, or `--explain` and another one.
     pub fn of_words(words: &[String]) -> Option<Own>
         ensures { option_map own.option_text result ≡ own.answer_to (texts_of words.now) }
     {
@@ -73,7 +87,10 @@ impl Own {
             [word] if word.as_str() == "--help" => Some(Own::Help),
             [word] if word.as_str() == "--version" => Some(Own::Version),
             [option, word] if option.as_str() == "--explain" => {
-                explanation_of(word.as_str()).map(Own::Explanation)
+                Some(match explanation_of(word.as_str()) {
+                    Some(text) => Own::Explanation(text),
+                    None => Own::UnknownWord,
+                })
             }
             _ => None,
         }
@@ -86,6 +103,7 @@ impl Own {
             Own::Help => HELP,
             Own::Version => VERSION,
             Own::Explanation(text) => text,
+            Own::UnknownWord => UNKNOWN,
         }
     }
 }
