@@ -10,7 +10,7 @@ _pct_hunt() {
     COMPREPLY=()
     case $COMP_CWORD,${COMP_WORDS[1]} in
     1,*) [[ $current == --* ]] && words='--page --why' ;;
-    2,--why) words='run races locks find expose certify campaign replay big --explain' ;;
+    2,--why) words='run races locks find expose certify campaign sweep replay big --explain' ;;
     *,--why | 2,--page | 4,--page) _pct_hunt_files "$current"; return ;;
     3,--page) words='--html' ;;
     *,--page) return ;;

@@ -23,7 +23,7 @@ function __pct_hunt_has_document
     test (count $words) -eq 3; and test $words[2] = --page
 end
 
-set -l commands run races locks find expose certify campaign replay big --explain
+set -l commands run races locks find expose certify campaign sweep replay big --explain
 complete -c pct-hunt -n __pct_hunt_begins -l page -r -F -d 'writes the page of a document'
 complete -c pct-hunt -n __pct_hunt_begins -l why -d 'why pct refuses words or files'
 complete -c pct-hunt -n __pct_hunt_wants_command -f -a "$commands"

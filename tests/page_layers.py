@@ -22,7 +22,7 @@ def layers(room):
     run = Reckoning(script, read(at("tests", "page", "rust_pool.trace")))
     found = walk(browser, page, run)
     yield f"a pool in Rust: its steps {found[:4]}", found == [] and len(run.steps) == 30
-    said = wrong_story(browser.story(), run, [(23, 24)])
+    said = wrong_story(browser.story(), run, [])
     yield f"a pool in Rust: its story {said}", not said
     told = browser.text("#told")
     yield "a pool in Rust: what went wrong", browser.text("#sentence") == \

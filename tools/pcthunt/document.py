@@ -225,7 +225,9 @@ def complete(document: Json, script: Script | None = None) -> Json:
         dealt, events = complete_run(run, document["deal"], texts).script, events_of(run)
         heading["kind"] = run["verdict"].split()[0]
         heading["sentence"] = sentence_of(run)
-        if len(events) <= MOST_STEPS_FOR_RACES:
+        if not script:  # a layer's variables are atomics, on which steps don't race
+            heading.setdefault("races", [])
+        elif len(events) <= MOST_STEPS_FOR_RACES:
             heading["races"] = [race._asdict() for race in races_of(dealt, events)]
         heading["locks"] = locks_of(dealt, events)
         races = heading.get("races", [])

@@ -50,7 +50,7 @@ def of_words(program: Program, words: list[str], said: str) -> str:
     number = int(said.split()[-1]) if said.split()[-1:] and said.split()[-1].isdecimal() else 1
     word = words[number - 1] if number <= len(words) else None
     if words[:1] == ["--explain"]:
-        what = "a word is missing" if len(words) < 2 else f"{shown(words[1])!r} is none of its words"
+        what = "a word is missing" if len(words) < 2 else "one word is wanted"
         return f"pct --explain: {what}; they are {explained(program)}"
     if number == 1:
         near = nearest(words[0], list(COMMANDS)) if words else None

@@ -1,34 +1,54 @@
 """Sweeps for the model, by brute force: the run of every order with every list of points, each made once."""
 
+from __future__ import annotations
+
 import itertools
 import json
 import math
-from collections import namedtuple
+from collections.abc import Iterator
+from typing import Any, NamedTuple
 
+from pctmodel.campaign import Frame
 from pctmodel.run import run
+from pctmodel.script import Script
 
 MOST_CHOICES = 100_000_000
 
-Choice = namedtuple("Choice", "order points")
-Ending = namedtuple("Ending", "choice steps verdict")
-SweptGroup = namedtuple("SweptGroup", "count steps first verdict")
+
+class Choice(NamedTuple):
+    order: list[str]
+    points: list[int]
 
 
-def orders_of(threads):
+class Ending(NamedTuple):
+    choice: Choice
+    steps: int
+    verdict: str
+
+
+class SweptGroup(NamedTuple):
+    count: int  # type: ignore[assignment]  # tuples have a method of that name
+    steps: int
+    first: int
+    verdict: str
+
+
+def orders_of(threads: list[str]) -> list[list[str]]:
     """All orders of threads: the last one varies slowest, from the last thread to the first."""
     if not threads:
         return [[]]
-    orders = []
+    orders: list[list[str]] = []
     for last in range(len(threads) - 1, -1, -1):
         orders += [[*order, threads[last]] for order in orders_of(threads[:last] + threads[last + 1 :])]
     return orders
 
 
-def has_too_many(script, depth, steps):
-    return math.factorial(len(script.threads)) * steps ** (depth - 1) > MOST_CHOICES
+def has_too_many(script: Script, depth: int, steps: int) -> bool:
+    points: int = steps ** (depth - 1)
+    return math.factorial(len(script.threads)) * points > MOST_CHOICES
 
 
-def endings_of(script, depth, steps, limit):
+def endings_of(script: Script, depth: int, steps: int, limit: int) -> list[Ending]:
     """How each choice ends, in their order: the points vary fastest, and of them the last."""
     endings = []
     for order in orders_of(list(script.threads)):
@@ -38,7 +58,7 @@ def endings_of(script, depth, steps, limit):
     return endings
 
 
-def groups_of_endings(endings):
+def groups_of_endings(endings: list[Ending]) -> list[SweptGroup]:
     """The verdicts but passed: those of most choices first, then of the fewest steps, then of the earliest choice."""
     groups = []
     for verdict in dict.fromkeys(ending.verdict for ending in endings if ending.verdict != "passed"):
@@ -48,7 +68,7 @@ def groups_of_endings(endings):
     return sorted(groups, key=lambda group: (-group.count, group.steps, group.first))
 
 
-def sweep_text(frame, endings):
+def sweep_text(frame: Frame, endings: list[Ending]) -> Iterator[str]:
     groups = groups_of_endings(endings)
     yield "sweep 1"
     for name, value in frame._asdict().items():
@@ -62,9 +82,9 @@ def sweep_text(frame, endings):
     yield f"passed {len(endings) - sum(group.count for group in groups)}"
 
 
-def sweep_json(frame, endings):
+def sweep_json(frame: Frame, endings: list[Ending]) -> str:
     groups = groups_of_endings(endings)
-    told = []
+    told: list[dict[str, Any]] = []
     for group in groups:
         choice = endings[group.first].choice
         told.append({"count": group.count, "order": choice.order, "points": choice.points, "steps": group.steps})

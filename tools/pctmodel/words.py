@@ -12,12 +12,13 @@ RANGES = {
     "--seed": (0, 2**64 - 1), "--from": (0, 2**64 - 1),
 }
 # The forms of options that a command may have. A form tells of each of its options whether it is needed.
-BY_ORDER = {"--order": True, "--points": False, "--limit": False}
-BY_SEED = {"--seed": True, "--depth": True, "--steps": False, "--limit": False}
-EXPOSE = {"--order": True, "--steps": True, "--limit": False}
-CERTIFY = {"--steps": True, "--limit": False}
-SWEEP = {"--depth": True, "--steps": False, "--limit": False, "--form": False}
-CAMPAIGN = {"--from": True, "--count": True, "--depth": True, "--steps": False, "--limit": False, "--form": False}
+Form = dict[str, bool]
+BY_ORDER: Form = {"--order": True, "--points": False, "--limit": False}
+BY_SEED: Form = {"--seed": True, "--depth": True, "--steps": False, "--limit": False}
+EXPOSE: Form = {"--order": True, "--steps": True, "--limit": False}
+CERTIFY: Form = {"--steps": True, "--limit": False}
+SWEEP: Form = {"--depth": True, "--steps": False, "--limit": False, "--form": False}
+CAMPAIGN: Form = {"--from": True, "--count": True, "--depth": True, "--steps": False, "--limit": False, "--form": False}
 # By command: how many words stand before the options, and the forms of these.
 COMMANDS: dict[str, tuple[int, list[Form]]] = {
     "run": (1, [BY_ORDER, BY_SEED]),
