@@ -1,6 +1,4 @@
 use Rattle.std.proofs.Common.{IsTrue}
-use Rattle.std.proofs.lemmas.Result.{err_from_is_err_and}
-use Rattle.c_values.proofs.laws.Refusals.{refusal}
 use Rattle.c_texts.proofs.SaidRows.{known_rows, written_rows}
 use Rattle.c_texts.proofs.report.rank_rows.Goals as goal
 
@@ -19,6 +17,6 @@ returns c =
     record {
       say = rows;
       known =
-        known_rows a.names.now a.numbers.now c.in_ok-rows.rows rows.say (c.are_known.ensures.0 test);
+          known_rows a.names.now a.numbers.now c.in_ok-rows.rows rows.say (c.are_known.ensures.0 test);
       ranking = c.in_ok-groups.ensures.ranking;
     }

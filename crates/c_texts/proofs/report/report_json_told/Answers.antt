@@ -40,7 +40,7 @@ returns c =
       groups = told.groups;
       says = c.in_ok-told.ensures;
       written =
-        c.from_vec.ensures ∙ c.in_ok-text.ensures.text
-        ∙ ap (λ (frame : Frame). json_of frame told.rows told.groups c.in_ok-known.known)
-        c.frame_of.ensures;
+          c.from_vec.ensures ∙ c.in_ok-text.ensures.text
+          ∙ ap (λ (frame : Frame). json_of frame told.rows told.groups c.in_ok-known.known)
+          c.frame_of.ensures;
     }
