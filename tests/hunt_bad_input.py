@@ -117,8 +117,8 @@ def interrupted_at(room, command, *more, first="0", by=signal.SIGINT):
     output and what is said."""
     mark = os.path.join(room, f"at-{command}-{first}-{by}{''.join(more)}")
     given = environment(PCT=at("tests", "hunt", "stand_in"), DELAYED=command, DELAYED_AT=mark, DELAYED_FROM=first)
-    with subprocess.Popen([*HUNT, SCRIPT, "--seeds", "300", "--depth", "2", "--quiet", *more], stdout=subprocess.PIPE,
-                          stderr=subprocess.PIPE, text=True, cwd=TOP, env=given,
+    words = [*HUNT, SCRIPT, "--seeds", "300", "--depth", "2", "--jobs", "4", "--quiet", *more]
+    with subprocess.Popen(words, stdout=subprocess.PIPE, stderr=subprocess.PIPE, text=True, cwd=TOP, env=given,
                           preexec_fn=heed_interruptions) as call:
         end = time.monotonic() + MOST_SECONDS
         while not os.path.exists(mark) and call.poll() is None and time.monotonic() < end:
