@@ -225,13 +225,14 @@ def text_of_case(name):
 
 def own_answer(words):
     """The lines of the program's own options; none for other words. Its help and its explanations are the cases'
-    texts."""
+    texts, and so are the words that it names where it is asked for another one."""
     if words == ["--version"]:
         return ["pct 0.1.0"]
     if words == ["--help"]:
         return text_of_case("own_help")
-    if len(words) == 2 and words[0] == "--explain" and words[1].isalnum():
-        return text_of_case(f"explain_{words[1]}")
+    if len(words) == 2 and words[0] == "--explain":
+        known = text_of_case(f"explain_{words[1]}") if words[1].isalnum() else None
+        return known or text_of_case("own_explain_of_a_part")
     return None
 
 
