@@ -14,7 +14,8 @@ pub record MayBound (threads steps points : ℕ) : Type 0 where
   pub few_steps : steps ≤ 100000
   pub few_points : points ≤ 7
 
--- the order that stands at the place, from 0, in the list of those that place the thread last; there
+-- the order that stands at the place, from 0, in the list of those that place the thread last;
+-- there
 -- is room for just the threads
 pub record IsOrderAt (threads low place room : ℕ) (order : List ℕ) : Type 0 where
   pub threads_few : AreFew threads

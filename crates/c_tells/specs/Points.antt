@@ -8,7 +8,8 @@ use Rattle.c_values.specs.declared.moment.PctMoment.{PctMoment}
 use Rattle.c_values.specs.Events.{AreSteps}
 use Rattle.c_values.specs.Moments.{moment_said}
 
--- one change point for each of at most 7 moments, in the run of these steps; `most` is in 1..100000,
+-- one change point for each of at most 7 moments, in the run of these steps; `most` is in
+-- 1..100000,
 -- and there is room for just so many
 pub record ArePointsOf (steps : List PctEvent) (most : ℕ) (moments : List PctMoment) (room : ℕ)
     (points : List ℕ) : Type 0 where

@@ -26,8 +26,8 @@ fn numbers_of(alloc: Global, moments: &[Moment]) -> Result<Vec<PctMoment>, NoMem
         .collect(alloc)
 }
 
-/// The moments of a run's change points: for each point that is a step and that no later one equals,
-/// its thread and the number of that thread's own step.
+/// The moments of a run's change points: for each point that is a step and that no later one
+/// equals, its thread and the number of that thread's own step.
 pub fn moments_told(
     alloc: Global,
     steps: &[PctEvent],

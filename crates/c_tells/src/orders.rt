@@ -48,8 +48,8 @@ pub fn order_told(
     Ok(low_order_at(alloc, threads, low, place)?)
 }
 
-/// In how many choices of an order of 1 to 7 threads and of at most 7 points in 1..steps, of at most
-/// 100,000 steps, a certified directive gives its verdict at least once.
+/// In how many choices of an order of 1 to 7 threads and of at most 7 points in 1..steps, of at
+/// most 100,000 steps, a certified directive gives its verdict at least once.
 pub fn bound_told(threads: u32, steps: u32, points: u32) -> Option<u128>
     ensures { MatchOption result (¬ MayBound threads steps points)
         (λ bound. MayBound threads steps points × (bound ≡ threads * steps ^ points)) }

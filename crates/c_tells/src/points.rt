@@ -9,8 +9,8 @@ use choices::points_of;
 use pct_ask::PointList;
 use std::alloc::Global;
 
-/// The change points that stand for moments in a run's steps: a moment that doesn't occur is `most`.
-/// There is room for just as many numbers as there are moments.
+/// The change points that stand for moments in a run's steps: a moment that doesn't occur is
+/// `most`. There is room for just as many numbers as there are moments.
 pub fn points_told(
     alloc: Global,
     steps: &[PctEvent],

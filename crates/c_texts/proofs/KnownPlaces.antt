@@ -97,7 +97,8 @@ pub some_bit : (thread bits : ℕ) (lines : List ℕ) → bits < 2 ^ length line
 some_bit thread bits [] few some = absurd (some (omega (arith, few)))
 some_bit thread bits (line ∷ lines) few some =
     let fewer : bits / 2 < 2 ^ length lines = omega (arith, few, pow-suc 2 (length lines)) in
-    some_step thread bits line lines some (λ left. some_bit (thread + 1) (bits / 2) lines fewer left)
+    some_step thread bits line lines some
+    (λ left. some_bit (thread + 1) (bits / 2) lines fewer left)
     (bits % 2 == 1) refl
 
 pub never : false ≡ true → ⊥

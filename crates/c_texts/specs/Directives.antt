@@ -12,7 +12,8 @@ use Rattle.c_values.specs.Outcomes.{outcome_numbers}
 use Rattle.c_texts.specs.declared.directives.PctDirective.{PctDirective}
 use Rattle.c_texts.specs.Known.{SaysKnown}
 
--- The numbers say the directive, and it has a text under the names: its threads have names, and there
+-- The numbers say the directive, and it has a text under the names: its threads have names, and
+-- there
 -- are at most 7 moments.
 pub record SaysDirective (names : NameLists) (numbers : PctDirective) (told : DirectiveText)
     : Type 0 where

@@ -4,7 +4,8 @@ ghost use Rattle.std.specs.Prelude.{◌≡◌, ◌≤◌, ◌↔◌, ◌⊎◌, 
 ghost use Rattle.pct_ask.specs.NameLists.{NameLists};
 ghost use Rattle.pct_ask.specs.Objects.{sizes_of_deal, sizes_of_names};
 ghost use Rattle.rank_now.specs.Order.{IsOrder};
-ghost use Rattle.trace_text.specs.Lawful.{HasObjects, NamesKnown, IsHead, IsStepCount, is_of_second};
+ghost use Rattle.trace_text.specs.Lawful.{HasObjects, NamesKnown, IsHead, IsStepCount};
+ghost use Rattle.trace_text.specs.Lawful.{is_of_second};
 ghost use Rattle.trace_text.specs.Trace.{head_of};
 ghost use Rattle.c_values.specs.Told.{Answers};
 ghost use Rattle.c_texts.specs.Traces.{head_by, IsPlainHead, IsHeadOf, SaysSteps};

@@ -1,4 +1,5 @@
--- The names of a test as a text (this project): a line for each, its kind's word and the name. Those
+-- The names of a test as a text (this project): a line for each, its kind's word and the name.
+-- Those
 -- of one kind stand in the order of their places.
 use Rattle.std.specs.Prelude.{ℕ, Bool, ◌&&◌, not, nat_lt, if◌then◌else◌, codes, bytes_eq}
 use Rattle.std.specs.Prelude.{List, [], ◌∷◌, length, Option, Some, None}
@@ -23,7 +24,8 @@ kind_in word =
     else (if bytes_eq word (codes "rwlock") then Some RwLock
     else None))))))
 
--- Whether a name may join those of a kind: it is a lawful name, stands for nothing yet, and there is
+-- Whether a name may join those of a kind: it is a lawful name, stands for nothing yet, and there
+-- is
 -- room.
 abbrev pub may_join : NameLists → NameKind → List ℕ → Bool
 may_join names kind name =

@@ -1,4 +1,5 @@
--- What a ranking's groups have from the rows, and that there is one ranking. The lemmas on verdicts,
+-- What a ranking's groups have from the rows, and that there is one ranking. The lemmas on
+-- verdicts,
 -- rows and groups that are handed on speak of definitions alone.
 use Rattle.std.proofs.Common.{List, get_or, sym, subst, ◌≡◌}
 use Rattle.std.specs.List.{All}

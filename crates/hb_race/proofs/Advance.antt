@@ -137,7 +137,8 @@ advanced s n e table next last counts after made step is stamped counted long lo
           ∙ twice p q (clock_entry table o u) (get_or made u 0)
           ∙ ap (λ k. cond (p || q) (max k (get_or made u 0)) k) (is.entries o u low)
           ∙ ap (λ k. cond (p || q) (max (clocks s n o u) k) (clocks s n o u)) (stamped u)
-          ∙ ap (λ b. cond b (max (clocks s n o u) (stamp s n u)) (clocks s n o u)) (sym (step.gives o));
+          ∙ ap (λ b. cond b (max (clocks s n o u) (stamp s n u)) (clocks s n o u))
+          (sym (step.gives o));
     }
 
 pub counted-is : (counts : List ℕ) (t u : ℕ) → t < length counts

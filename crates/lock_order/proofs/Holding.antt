@@ -205,7 +205,8 @@ module _ (events : List Event) (place : ℕ) (event : Event)
             ) in
             subst P same (subst Q (sym own) own_is)
         | inr (apart, there_before) ↦ (
-          λ has. (holds-other thread mutex apart).1 ((before thread those there_before mutex).0 has),
+          λ has. (holds-other thread mutex apart).1
+              ((before thread those there_before mutex).0 has),
           λ holds. (before thread those there_before mutex).1
               ((holds-other thread mutex apart).0 holds),
         )

@@ -13,7 +13,17 @@ use Rattle.pct_c.specs.contracts.loose.Loose as Loose
 use Rattle.pct_c.specs.contracts.held.Held as Held
 
 abbrev pub E : Bx
-E = record { row = Kept.the_row; laws = kept.the_row_laws; al = record { row = Heap.the_row; laws = heap.the_row_laws; g = ghosts; d = dict; drops = impl [] tnil dnil } }
+E = record {
+  row = Kept.the_row;
+  laws = kept.the_row_laws;
+  al = record {
+    row = Heap.the_row;
+    laws = heap.the_row_laws;
+    g = ghosts;
+    d = dict;
+    drops = impl [] tnil dnil;
+  };
+}
 
 abbrev pub FromParts : Slot 0
 FromParts = plain (λ _. Loose.the_row Kept.the_row Heap.the_row ghosts)

@@ -1,5 +1,6 @@
 -- What makes a book, and what doesn't.
-use Rattle.std.proofs.Common.{◌≡◌, ◌<◌, ℕ, Some, None, Option, refl, sym, subst, ◌∙◌, arith, inl, inr}
+use Rattle.std.proofs.Common.{◌≡◌, ◌<◌, ℕ, Some, None, Option, refl, sym, subst, ◌∙◌, arith, inl}
+use Rattle.std.proofs.Common.{inr}
 use Rattle.std.proofs.Common.{List, ◌⊎◌, ap}
 use Rattle.std.specs.Prelude.{◌↔◌, slice_index, Result, Ok, Err, IfOk, MatchOption}
 use Rattle.std.proofs.lemmas.List.{get_or-take, get_or_default, length-take}

@@ -217,7 +217,8 @@ steps-taken t line n p r old between new posts is turn may takes = record {
   lawful = takes.lawful;
 }
   where
-    taken : ((r.status ≡ 0) ⊎ ((r.status ≡ 1) ⊎ ((r.status ≡ 3) ⊎ ((r.status ≡ 4) ⊎ (r.status ≡ 5)))))
+    taken : ((r.status ≡ 0) ⊎ ((r.status ≡ 1)
+        ⊎ ((r.status ≡ 3) ⊎ ((r.status ≡ 4) ⊎ (r.status ≡ 5)))))
         → IsAnswered between t r.answer new
     taken (inl z) = (takes.done z).1
     taken (inr (inl z)) = (takes.ended z).1
@@ -237,7 +238,8 @@ steps-taken t line n p r old between new posts is turn may takes = record {
     }
 
     no-two : r.status ≡ 2
-        → ((r.status ≡ 0) ⊎ ((r.status ≡ 1) ⊎ ((r.status ≡ 3) ⊎ ((r.status ≡ 4) ⊎ (r.status ≡ 5))))) → ⊥
+        → ((r.status ≡ 0) ⊎ ((r.status ≡ 1) ⊎ ((r.status ≡ 3) ⊎ ((r.status ≡ 4) ⊎ (r.status ≡ 5)))))
+        → ⊥
     no-two two (inl z) = omega (arith, two, z)
     no-two two (inr (inl z)) = omega (arith, two, z)
     no-two two (inr (inr (inl z))) = omega (arith, two, z)
@@ -245,14 +247,16 @@ steps-taken t line n p r old between new posts is turn may takes = record {
     no-two two (inr (inr (inr (inr z)))) = omega (arith, two, z)
 
     none-else : r.status ≢ 0 → r.status ≢ 1
-        → ((r.status ≡ 0) ⊎ ((r.status ≡ 1) ⊎ ((r.status ≡ 3) ⊎ ((r.status ≡ 4) ⊎ (r.status ≡ 5))))) → ⊥
+        → ((r.status ≡ 0) ⊎ ((r.status ≡ 1) ⊎ ((r.status ≡ 3) ⊎ ((r.status ≡ 4) ⊎ (r.status ≡ 5)))))
+        → ⊥
     none-else a b (inl z) = a z
     none-else a b (inr (inl z)) = b z
     none-else a b (inr (inr (inl z))) = (takes.not_yet z).2 turn
     none-else a b (inr (inr (inr (inl z)))) = some-none between.outcome (takes.over z) turn.0
     none-else a b (inr (inr (inr (inr z)))) = takes.bad z may
 
-    by-cases : ((r.status ≡ 0) ⊎ ((r.status ≡ 1) ⊎ ((r.status ≡ 3) ⊎ ((r.status ≡ 4) ⊎ (r.status ≡ 5)))))
+    by-cases : ((r.status ≡ 0) ⊎ ((r.status ≡ 1)
+        ⊎ ((r.status ≡ 3) ⊎ ((r.status ≡ 4) ⊎ (r.status ≡ 5)))))
         → ((r.status ≡ 0) ⊎ ((r.status ≡ 1) ⊎ ((r.status ≡ 2) ⊎ ((r.status ≡ 4) ⊎ (r.status ≡ 5)))))
     by-cases (inl z) = inl z
     by-cases (inr (inl z)) = inr (inl z)

@@ -12,7 +12,8 @@ state_of (Points b) = b
 state_of (Moments b) = b
 state_of (Listed b) = b
 
--- What a call does to the book that is held before and after it. Where none is held, the status says
+-- What a call does to the book that is held before and after it. Where none is held, the status
+-- says
 -- so, and what is held stays.
 abbrev pub OnKept : (BookState → BookState → Type 0) → ℕ → Kept → Kept → Type 0
 OnKept Call status (OfBook old) (OfBook new) = Call (state_of old) (state_of new)

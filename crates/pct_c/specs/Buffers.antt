@@ -9,7 +9,8 @@ refusal_status Bad = 5
 refusal_status NoMemory = 6
 
 -- A list that is asked for. Done: it stands at the buffer's front, and the rest of the buffer is as
--- it was. No room: it is longer than the buffer. The count is its length then. Bad: there is no such
+-- it was. No room: it is longer than the buffer. The count is its length then. Bad: there is no
+-- such
 -- list. Nothing is written but where it is done.
 pub record Puts {T : Type 0} (Is : List T → Type 0) (status count : ℕ) (before after : List T)
     : Type 0 where
@@ -22,7 +23,8 @@ pub record Puts {T : Type 0} (Is : List T → Type 0) (status count : ℕ) (befo
   pub uncounted : (status ≡ 5) ⊎ (status ≡ 6) → count ≡ 0
   pub unwritten : status ≢ 0 → after ≡ before
 
--- A list that is asked for and has just the buffer's length. Done: it is the buffer. Bad: there is no
+-- A list that is asked for and has just the buffer's length. Done: it is the buffer. Bad: there is
+-- no
 -- such list. Nothing is written but where it is done.
 pub record Fills {T : Type 0} (Is : List T → Type 0) (status : ℕ) (before after : List T)
     : Type 0 where

@@ -15,7 +15,8 @@ use Rattle.pct_c.specs.Books.{state_of}
 abbrev pub IsLimit : ℕ → Type 0
 IsLimit limit = (1 ≤ limit) × (limit ≤ 100000)
 
--- What a book is made of is in range: the deal, the limit, at most 7 change points or moments, and an
+-- What a book is made of is in range: the deal, the limit, at most 7 change points or moments, and
+-- an
 -- order of all threads.
 pub record MayOrder (counts : PctDeal) (of_vars of_sems of_barriers : List ℤ) (by_order : List ℕ)
     (lowered of_limit : ℕ) : Type 0 where
@@ -37,7 +38,8 @@ abbrev pub IsMade : PctDeal → List ℤ → List ℤ → List ℤ → ℕ → P
 IsMade counts vars sems barriers limit plan book = (deal : Deal)
     × SaysDeal counts vars sems barriers deal × (state_of book ≡ new_book deal limit plan)
 
--- Done where a book may be made, and then the handle has it. Bad where it may not. With bad and with
+-- Done where a book may be made, and then the handle has it. Bad where it may not. With bad and
+-- with
 -- no memory the handle has what it had.
 pub record Makes (May : Type 0) (Made : Book → Type 0) (status : ℕ) (old new : Option Kept)
     : Type 0 where

@@ -33,7 +33,8 @@ abbrev pub AreTheRun : BookState → Type 0
 AreTheRun book = (posts : List (List Post)) (events : List Event)
     → IsRunOver book posts events → events ≡ book.trace
 
--- Done where an outcome stands: its numbers are told, and the book's steps are the run. Not yet where
+-- Done where an outcome stands: its numbers are told, and the book's steps are the run. Not yet
+-- where
 -- none stands.
 pub record TellsOutcome (status : ℕ) (before after : PctOutcome) (old new : BookState)
     : Type 0 where

@@ -27,7 +27,8 @@ pub record TellsBound (threads steps points : ℕ) (bound : PctBound) : Type 0 w
       → ¬ MayBound threads steps points × (bound.low ≡ 0) × (bound.high ≡ 0)
   pub statuses : (bound.status ≡ 0) ⊎ (bound.status ≡ 5)
 
--- A report on the order of mutexes that is asked for. Kind 1: an order, in the first buffer. Kind 2: a
+-- A report on the order of mutexes that is asked for. Kind 1: an order, in the first buffer. Kind
+-- 2: a
 -- cycle, in the second. Bad: there is no report. Where a list isn't put, its buffer is as it was.
 pub record TellsLocks (Is : LocksTold → Type 0) (locks : PctLocks) (old_order new_order : List ℕ)
     (old_cycle new_cycle : List PctNesting) : Type 0 where

@@ -20,7 +20,8 @@ pub record SaysChoice (book : BookState) (turn : PctTurn) : Type 0 where
       ↔ ((book.outcome ≡ None) × (choice_of book ≡ Some (Pick.Waits u)))
   pub over : (turn.choice ≡ 3) ↔ IsSome book.outcome
 
--- A thread of the book isn't in the middle of a post, and the numbers say an ask of what there is, or
+-- A thread of the book isn't in the middle of a post, and the numbers say an ask of what there is,
+-- or
 -- that it has ended.
 abbrev pub MayPost : BookState → ℕ → PctAsk → Option Ask → Type 0
 MayPost book t numbers ask = (t < book.deal.threads) × (standing_of book t ≡ Standing.Away)
@@ -51,7 +52,8 @@ pub record Posts (t line : ℕ) (numbers : PctAsk) (turn : PctTurn) (old new : B
   pub choice : SaysChoice new turn
   pub lawful : IsLawful new
 
--- A thread takes its step. Done or ended where it is its turn, and ended where that ends the run; not
+-- A thread takes its step. Done or ended where it is its turn, and ended where that ends the run;
+-- not
 -- yet where the turn is another's; over where the run was over; else bad.
 pub record Takes (t : ℕ) (turn : PctTurn) (old new : BookState) : Type 0 where
   pub done : turn.status ≡ 0
@@ -78,7 +80,8 @@ pub record PostsAndTakes (t line : ℕ) (numbers : PctAsk) (turn : PctTurn) (old
   pub its_turn : HasTurn between t
   pub taken : IsAnswered between t turn.answer new
 
--- A thread posts, and takes its step where it is its turn then: done or ended. Posted where it isn't.
+-- A thread posts, and takes its step where it is its turn then: done or ended. Posted where it
+-- isn't.
 pub record Steps (t line : ℕ) (numbers : PctAsk) (turn : PctTurn) (old new : BookState)
     : Type 0 where
   pub done : turn.status ≡ 0

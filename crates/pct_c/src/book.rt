@@ -1,7 +1,7 @@
 //! A book of turns under any of three policies: each call is that of turn_book.
 
-ghost use Rattle.std.specs.Prelude.{◌≡◌, ◌≢◌, ◌<◌, ◌≤◌, ◌↔◌, ℕ, ℤ, length, Some, None, Err, IfOk, IsSome, is_some};
-ghost use Rattle.std.specs.Prelude.{List, [], ◌++◌, All};
+ghost use Rattle.std.specs.Prelude.{◌≡◌, ◌≢◌, ◌<◌, ◌≤◌, ◌↔◌, ℕ, ℤ, length, Some, None, Err};
+ghost use Rattle.std.specs.Prelude.{List, [], ◌++◌, All, IfOk, IsSome, is_some};
 ghost use Rattle.pct_ask.specs.declared.event.Event.{Event};
 ghost use Rattle.pct_ask.specs.declared.event.Standing.{Standing};
 ghost use Rattle.pct_ask.specs.declared.ask.Post.{Post};

@@ -6,6 +6,7 @@ ghost use Rattle.pct_c.specs.Books.{state_of, OnKept, OnHeld};
 ghost use Rattle.pct_c.specs.Reading.{TellsLength, TellsSteps, TellsOutcome};
 
 use crate::book::Book;
+use crate::buffers::counted;
 use crate::handle::PctBook;
 use crate::kept::Kept;
 use crate::status::{BAD, DONE, NO_BOOK, NOT_YET, PctCount};
@@ -13,16 +14,6 @@ use c_values::{PctEvent, PctOutcome, numbers_of_event, numbers_of_outcome};
 use pct_ask::Event;
 use std::alloc::Global;
 use std::mem;
-
-fn counted(status: u32, count: usize) -> PctCount
-    ensures status { result.status ≡ status }
-    ensures count { result.count ≡ count }
-{
-    PctCount {
-        status,
-        count: count as u64,
-    }
-}
 
 fn length_kept(kept: &Kept) -> PctCount
     ensures { OnKept (TellsLength result) result.status kept.now kept.now }

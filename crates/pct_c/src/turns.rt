@@ -5,7 +5,8 @@ ghost use Rattle.turn_book.specs.Told.{IsLawful};
 ghost use Rattle.pct_ask.specs.declared.ask.Ask.{Ask};
 ghost use Rattle.pct_ask.specs.Objects.{sizes_of_deal, PostIsInRange};
 ghost use Rattle.pct_c.specs.Books.{state_of, OnKept, OnHeld};
-ghost use Rattle.pct_c.specs.Turns.{MayPost, MayTake, HasTurn, SaysChoice, Posts, Takes, Steps, TellsTurn};
+ghost use Rattle.pct_c.specs.Turns.{MayPost, MayTake, HasTurn, SaysChoice, Posts, Takes};
+ghost use Rattle.pct_c.specs.Turns.{Steps, TellsTurn};
 
 use crate::book::Book;
 use crate::handle::PctBook;

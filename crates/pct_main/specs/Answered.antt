@@ -5,7 +5,8 @@ use Rattle.pct_top.specs.Outside.{Outside}
 use Rattle.pct_top.specs.Call.{IsCall}
 use Rattle.pct_main.specs.Own.{answer_to, IsPut}
 
--- the program's own text is put, where there is one for the words, and no file is read; else it is a
+-- the program's own text is put, where there is one for the words, and no file is read; else it is
+-- a
 -- call of `pct`
 abbrev pub AnswersBy :
     Option (List ℕ) → List (List ℕ) → Outside → Outside → Status → Type 0

@@ -254,4 +254,5 @@ module _ (words : List (List ℕ)) (found left : Outside) where
       (refused_said (settings words) refusal first)
       (subst (λ (unread : Bool). LeavesShelf (settings words) unread found.shelf left.shelf)
       (refusal_is_read refusal) p.2)
-      (λ none files. said_exactly words (with_files files found) left refusal (p.1 none files) says))
+      (λ none files. said_exactly words (with_files files found) left refusal (p.1 none files)
+      says))

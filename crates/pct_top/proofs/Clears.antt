@@ -1,7 +1,9 @@
 -- What a sweep that is carried out says of its script.
 use Rattle.std.specs.Prelude.{Contains, ◌==◌, ◌-◌}
-use Rattle.std.proofs.Common.{◌≡◌, ◌≢◌, ℕ, zero, suc, ◌+◌, ◌*◌, ◌^◌, ◌<◌, ◌≤◌, Bool, true, false, inl, inr}
-use Rattle.std.proofs.Common.{List, length, take, Option, Some, Ok, refl, sym, ap, subst, ◌∙◌, arith}
+use Rattle.std.proofs.Common.{◌≡◌, ◌≢◌, ℕ, zero, suc, ◌+◌, ◌*◌, ◌^◌, ◌<◌, ◌≤◌, Bool, true, false}
+use Rattle.std.proofs.Common.{inl, inr}
+use Rattle.std.proofs.Common.{List, length, take, Option, Some, Ok, refl, sym, ap, subst, ◌∙◌}
+use Rattle.std.proofs.Common.{arith}
 use Rattle.std.proofs.Math.Nat.{mul-le-mul_left}
 use Rattle.std.proofs.lemmas.Bool.{cases_lt}
 use Rattle.std.proofs.lemmas.Bool.Decides.{nat_tests}
@@ -178,7 +180,8 @@ at_least setup swept verdict many counted some low = record {
   failing = λ failed.
       let there = counted.every verdict failed (omega (arith, some, low)) in
       let group = there.0 in
-      let fails = subst (IsFailure setup) (there.1).2 (counted.each (there.1).0 group (there.1).1) in (
+      let fails = subst (IsFailure setup) (there.1).2
+      (counted.each (there.1).0 group (there.1).1) in (
         group,
         there.1,
         there.2,

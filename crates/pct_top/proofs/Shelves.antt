@@ -148,7 +148,8 @@ words_are_read number (Err Read) h = absurd h
 words_are_read number (Err Write) h = absurd h
 words_are_read number (Err Memory) h = refl
 
-pub refusal_is_read : (refusal : Refusal) → is_read refusal ≡ is_read_fault (status_of_refusal refusal)
+pub refusal_is_read : (refusal : Refusal)
+    → is_read refusal ≡ is_read_fault (status_of_refusal refusal)
 refusal_is_read (Usage word) = refl
 refusal_is_read (Script line kind) = refl
 refusal_is_read (Trace line kind) = refl

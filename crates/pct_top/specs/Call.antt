@@ -262,7 +262,8 @@ pub record EndsExactly (words : List (List ℕ)) (found left : Outside) (status 
   pub ends : Ends words found left status
   pub exact : IsExact words found left status
 
--- What is promised of a call, whatever the command is. Where no file is read, it ends so whether the
+-- What is promised of a call, whatever the command is. Where no file is read, it ends so whether
+-- the
 -- files are told or not.
 pub record IsCall (words : List (List ℕ)) (found left : Outside) (status : Status) : Type 0 where
   pub ends : Ends words found left status

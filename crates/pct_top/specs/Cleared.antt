@@ -1,6 +1,9 @@
--- What a sweep says of a script, in the program's words: whether every choice of an order and change
--- points passes, how many choices lead to each verdict, and how a certificate agrees (this project).
-use Rattle.std.specs.Prelude.{◌≡◌, ◌≢◌, ◌↔◌, ℕ, ◌+◌, ◌-◌, ◌<◌, ◌≤◌, Bool, List, length, Option, Some}
+-- What a sweep says of a script, in the program's words: whether every choice of an order and
+-- change
+-- points passes, how many choices lead to each verdict, and how a certificate agrees (this
+-- project).
+use Rattle.std.specs.Prelude.{◌≡◌, ◌≢◌, ◌↔◌, ℕ, ◌+◌, ◌-◌, ◌<◌, ◌≤◌, Bool, List, length, Option}
+use Rattle.std.specs.Prelude.{Some}
 use Rattle.std.specs.Prelude.{Ok, Contains, take}
 use Rattle.pct_ask.specs.declared.Deal.{Deal}
 use Rattle.pct_ask.specs.declared.event.Event.{Event}

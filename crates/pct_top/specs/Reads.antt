@@ -10,7 +10,8 @@ pub record ReadMade : Type 0 where
   pub name : List ℕ
   pub failed : Bool
 
--- What a read leaves of the names of the failed reads: its file's name is added, or none is. That of
+-- What a read leaves of the names of the failed reads: its file's name is added, or none is. That
+-- of
 -- a failed read is.
 abbrev pub KeepsRead : ReadMade → List (List ℕ) → List (List ℕ) → Type 0
 KeepsRead read names names' =

@@ -124,7 +124,8 @@ groups-no_float : (names : NameLists) (groups : List SweptGroup)
     → items_have_float (items_of (map (swept_data names) groups)) ≡ false
 groups-no_float names [] = refl
 groups-no_float names (group ∷ groups) =
-    rw (order-no_float names group.order, points-no_float group.points) (groups-no_float names groups)
+    rw (order-no_float names group.order, points-no_float group.points)
+    (groups-no_float names groups)
 
 pub sweep-no_float : (frame : Frame) (choices : ℕ) (groups : List SweptGroup) (passed : ℕ)
     (names : NameLists) → has_float (sweep_data frame choices groups passed names) ≡ false

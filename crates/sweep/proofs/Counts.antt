@@ -1,7 +1,8 @@
 -- A sweep's groups are counted by the choices that have their verdicts.
 use Rattle.std.specs.Prelude.{slice_get, map, sum_by, count_by, flat_map, Contains, filter}
 use Rattle.std.proofs.Common.{◌≡◌, ◌≢◌, ℕ, zero, suc, ◌+◌, ◌*◌, ◌<◌, ◌≤◌, Bool, true, false, cond}
-use Rattle.std.proofs.Common.{Option, Some, None, List, [], ◌∷◌, ◌++◌, length, get_or, refl, sym, ap}
+use Rattle.std.proofs.Common.{Option, Some, None, List, [], ◌∷◌, ◌++◌, length, get_or, refl, sym}
+use Rattle.std.proofs.Common.{ap}
 use Rattle.std.proofs.Common.{subst, ◌∙◌, arith, append_assoc, append-nil}
 use Rattle.std.specs.Option.{option_map}
 use Rattle.std.proofs.lemmas.List.Sums.{sum_by-append, sum_by-cons, length-filter}
@@ -52,7 +53,8 @@ row-of : (setup : Setup) (place : ℕ) (choice : Choice) (row : Row)
     → row_of_choice setup place choice ≡ Some row → IsRowOf setup place choice row
 row-of setup place choice row is = by (leads setup choice.order choice.points) refl
   where
-    by : (o : Option Run) → leads setup choice.order choice.points ≡ o → IsRowOf setup place choice row
+    by : (o : Option Run) → leads setup choice.order choice.points ≡ o
+        → IsRowOf setup place choice row
     by None none = absurd (let e : None ≡ Some row =
         sym (ap (λ (o : Option Run). option_map (row_of_run place) o) none) ∙ is in cc)
     by (Some run) at =
@@ -483,7 +485,8 @@ module _ (setup : Setup) (swept : Swept) (is : IsSweep setup swept) where
       lists o.place p.place order points o.stands p.stands in
       let place = o.place * length lists + p.place in
       let r = row-at setup 0 cs rows is.are place (choice_of order points) at in
-      verdict_cases r.0.verdict Passed ((steps : ℕ) × RunsTo setup (choice_of order points) Passed steps)
+      verdict_cases r.0.verdict Passed
+      ((steps : ℕ) × RunsTo setup (choice_of order points) Passed steps)
       (λ e. (
         r.0.steps,
         record {

@@ -1,4 +1,5 @@
--- What is so of lists: of what passes a test in them, of sums over them, and of what stands at a place.
+-- What is so of lists: of what passes a test in them, of sums over them, and of what stands at a
+-- place.
 use Rattle.std.specs.Prelude.{slice_get, sum_by, Contains, filter}
 use Rattle.std.proofs.Common.{◌≡◌, ℕ, zero, suc, ◌+◌, ◌<◌, Bool, true, false}
 use Rattle.std.proofs.Common.{Option, Some, List, [], ◌∷◌, length, get_or, refl, sym, ap}

@@ -224,7 +224,8 @@ module _ (threads k many place : ℕ) (some : 1 ≤ k)
   pub choice-there : (lists : ℕ) (order list : List ℕ) → lists ≡ k ^ many
       → slice_get (orders (threads_below threads)) (place / lists) ≡ Some order
       → slice_get (pointlists k many) (place % lists) ≡ Some list
-      → ◌≡◌ {A = Option Choice} (slice_get (choices threads k many) place) (Some (choice_of order list))
+      → ◌≡◌ {A = Option Choice} (slice_get (choices threads k many) place)
+      (Some (choice_of order list))
   choice-there lists order list is at there =
       let O : ℕ → Type 0 = λ b. slice_get (orders (threads_below threads)) (place / b)
       ≡ Some order in

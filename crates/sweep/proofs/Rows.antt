@@ -113,7 +113,8 @@ none-counted setup place tally none counted =
       counted = counted;
     })
 
-pub ok-then : {A E : Type 0} (made : Result A E) (P Q : Type 0) → (P → Q) → OnOk made P → OnOk made Q
+pub ok-then : {A E : Type 0} (made : Result A E) (P Q : Type 0) → (P → Q) → OnOk made P
+    → OnOk made Q
 ok-then (Ok a) P Q then is = then is
 ok-then (Err e) P Q then is = tt
 

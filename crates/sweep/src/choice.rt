@@ -10,7 +10,8 @@ use choices::order_at;
 use pct_ask::{OrderList, PointList};
 use std::alloc::{AllocError as NoMemory, Global};
 
-/// An order of the threads, the highest first, and change points, which are numbers of steps from 1.
+/// An order of the threads, the highest first, and change points, which are numbers of steps
+/// from 1.
 #[derive(Debug, Drop)]
 pub struct Choice {
     pub order: OrderList,

@@ -1,5 +1,5 @@
-//! A gate at which two threads of each run meet, handed to each command: it makes so many runs, each
-//! with its threads at once.
+//! A gate at which two threads of each run meet, handed to each command: it makes so many runs,
+//! each with its threads at once.
 use crate::calls::{ADDERS, DIRECTIVE, SUM, words_of};
 use pct_outside::{Gate, MemoryShelf, MemorySink};
 use pct_top::pct;
@@ -12,8 +12,8 @@ use std::thread::{Threads, yield_now};
 
 const LOOKS: u64 = 10_000_000;
 
-/// Counts first arrivals, those with turn 0, of all threads. One of the two threads that comes to its
-/// n-th run looks until the other has, and notes that it has seen it.
+/// Counts first arrivals, those with turn 0, of all threads. One of the two threads that comes to
+/// its n-th run looks until the other has, and notes that it has seen it.
 #[derive(Drop)]
 struct CountingGate {
     pair: (u32, u32),

@@ -1,10 +1,15 @@
--- A line is found faulty exactly where it is, by the forms of lines: as far as no line before it is.
-use Rattle.std.specs.Prelude.{codes, ◌==◌, ◌&&◌, not, nat_le, nat_lt, is_some, is_none, if◌then◌else◌}
+-- A line is found faulty exactly where it is, by the forms of lines: as far as no line before it
+-- is.
+use Rattle.std.specs.Prelude.{codes, ◌==◌, ◌&&◌, not, nat_le, nat_lt, is_some, is_none}
+use Rattle.std.specs.Prelude.{if◌then◌else◌}
 use Rattle.std.specs.Option.{unwrap_or}
 use Rattle.std.specs.Str.{bytes_eq}
-use Rattle.std.proofs.Common.{◌≡◌, ◌≢◌, ◌⊎◌, ℕ, ℤ, ◌+◌, ◌-◌, ◌<◌, ◌≤◌, Bool, true, false, List, zero, suc, Option, Some, None, Result, Ok, Err, refl, sym, ap, ◌∙◌, inl, inr, arith}
+use Rattle.std.proofs.Common.{◌≡◌, ◌≢◌, ◌⊎◌, ℕ, ℤ, ◌+◌, ◌-◌, ◌<◌, ◌≤◌, Bool, true, false, List}
+use Rattle.std.proofs.Common.{zero, suc, Option, Some, None, Result, Ok, Err, refl, sym, ap, ◌∙◌}
+use Rattle.std.proofs.Common.{inl, inr, arith}
 use Rattle.std.proofs.lemmas.Bool.Decides.{nat_tests}
-use Rattle.std.proofs.lemmas.Bool.{and_parts, and_from, or_left, or_right, or_cases, or_parts, not-true, not-false}
+use Rattle.std.proofs.lemmas.Bool.{and_parts, and_from, or_left, or_right, or_cases, or_parts}
+use Rattle.std.proofs.lemmas.Bool.{not-true, not-false}
 use Rattle.pct_ask.specs.NameLists.{NameLists, AreNames}
 use Rattle.pct_ask.specs.VerdictText.{NamedVerdict}
 use Rattle.pct_ask.specs.declared.event.Event.{Event}
@@ -21,11 +26,15 @@ use Rattle.trace_text.specs.reader.StepLines.{row_of}
 use Rattle.trace_text.specs.declared.row.Row.{Row}
 use Rattle.trace_text.specs.declared.row.Row.TheVariants.{Step, End}
 use Rattle.trace_text.specs.declared.fault.TraceFault.{TraceFault}
-use Rattle.trace_text.specs.declared.fault.TraceFault.TheVariants.{TooLong, BadHeader, BadLine, UnknownName, OutOfOrder, NoVerdict, MoreAfterVerdict}
+use Rattle.trace_text.specs.declared.fault.TraceFault.TheVariants.{TooLong, BadHeader, BadLine}
+use Rattle.trace_text.specs.declared.fault.TraceFault.TheVariants.{UnknownName, OutOfOrder}
+use Rattle.trace_text.specs.declared.fault.TraceFault.TheVariants.{NoVerdict, MoreAfterVerdict}
 use Rattle.trace_text.proofs.AskForms.{first-or-second}
 use Rattle.trace_text.proofs.StepForms.{step-form, step-read}
 use Rattle.trace_text.proofs.EndForms.{never, end-form, end-read}
-use Rattle.trace_text.proofs.HeadForms.{three, version-form, version-read, same-version, one-or-two, order-form, order-read, unknown-told, unknown-read, points-form, points-read, limit-form, limit-read}
+use Rattle.trace_text.proofs.HeadForms.{three, version-form, version-read, same-version, one-or-two}
+use Rattle.trace_text.proofs.HeadForms.{order-form, order-read, unknown-told, unknown-read}
+use Rattle.trace_text.proofs.HeadForms.{points-form, points-read, limit-form, limit-read}
 use Rattle.trace_text.proofs.FaultTests as tests
 use Rattle.trace_text.proofs.FaultTests.{limit_of, row_at, is_verdict, has_verdict, is_in_body}
 use Rattle.trace_text.proofs.FaultTests.{number_in, number_before, is_past, has_unknown}
@@ -77,10 +86,19 @@ module _ (names : NameLists) (sound : AreNames names) (size : ℕ) (pieces : Lis
     form : HasForm names pieces k (forms.Step n thread line ask answer)
     unknown : event ≡ None → HasUnknown names (forms.Step n thread line ask answer)
 
-  step-found : (k n : ℕ) (event : Option Event) → 5 ≤ k → row_at names pieces k ≡ Some (Step n event) → IsStepFound k n event
+  step-found : (k n : ℕ) (event : Option Event) → 5 ≤ k
+      → row_at names pieces k ≡ Some (Step n event) → IsStepFound k n event
   step-found k n event low h =
-      let told = step-form names (version_of pieces) (text_at pieces k) n event (first-or-second (version_of pieces) which) (sym (row-is k) ∙ h) in
-      record { thread = told.thread; line = told.line; ask = told.ask; answer = told.answer; form = record { stands = low; spelled = told.words_are; of = told.of }; unknown = told.unknown }
+      let told = step-form names (version_of pieces) (text_at pieces k) n event
+      (first-or-second (version_of pieces) which) (sym (row-is k) ∙ h) in
+      record {
+        thread = told.thread;
+        line = told.line;
+        ask = told.ask;
+        answer = told.answer;
+        form = record { stands = low; spelled = told.words_are; of = told.of };
+        unknown = told.unknown;
+      }
 
   step-line : (k n : ℕ) (event : Option Event) → IsStepFound k n event → IsStepLine names pieces k n
   step-line k n event f = (f.thread, f.line, f.ask, f.answer, f.form)
@@ -90,29 +108,34 @@ module _ (names : NameLists) (sound : AreNames names) (size : ℕ) (pieces : Lis
       → (event : Option Event) × (row_at names pieces k ≡ Some (Step n event))
       × (HasUnknown names (forms.Step n thread line ask answer) → event ≡ None)
   step-row k n thread line ask answer form =
-      let read = step-read names (version_of pieces) (text_at pieces k) n thread line ask answer which form.spelled form.of in
+      let read = step-read names (version_of pieces) (text_at pieces k) n thread line ask answer
+      which form.spelled form.of in
       (read.event, row-is k ∙ read.is, read.unknown)
 
   end-found : (k : ℕ) (read : Option Verdict) → 5 ≤ k → row_at names pieces k ≡ Some (End read)
       → (verdict : NamedVerdict) × HasForm names pieces k (forms.End verdict)
       × (read ≡ None → HasUnknown names (forms.End verdict))
   end-found k read low h =
-      let told = end-form names (version_of pieces) (text_at pieces k) read which (sym (row-is k) ∙ h) in
+      let told = end-form names (version_of pieces) (text_at pieces k) read which
+      (sym (row-is k) ∙ h) in
       (told.verdict, record { stands = low; spelled = told.words_are; of = told.of }, told.unknown)
 
   end-row : (k : ℕ) (verdict : NamedVerdict) → HasForm names pieces k (forms.End verdict)
       → (read : Option Verdict) × (row_at names pieces k ≡ Some (End read))
       × (HasUnknown names (forms.End verdict) → read ≡ None)
   end-row k verdict form =
-      let read = end-read names (version_of pieces) (text_at pieces k) verdict sound which form.spelled form.of in
+      let read = end-read names (version_of pieces) (text_at pieces k) verdict sound which
+      form.spelled form.of in
       (read.read, row-is k ∙ read.is, read.unknown)
 
   -- ---- the body
 
-  verdict-found : (k : ℕ) → 5 ≤ k → is_verdict (row_at names pieces k) ≡ true → IsVerdictLine names pieces k
+  verdict-found : (k : ℕ) → 5 ≤ k → is_verdict (row_at names pieces k) ≡ true
+      → IsVerdictLine names pieces k
   verdict-found k low h = by (row_at names pieces k) refl h
     where
-      by : (row : Option Row) → row_at names pieces k ≡ row → is_verdict row ≡ true → IsVerdictLine names pieces k
+      by : (row : Option Row) → row_at names pieces k ≡ row → is_verdict row ≡ true
+          → IsVerdictLine names pieces k
       by None e t = absurd cc
       by (Some (Step n event)) e t = absurd cc
       by (Some (End read)) e t = let f = end-found k read low e in (f.0, f.1)
@@ -120,19 +143,26 @@ module _ (names : NameLists) (sound : AreNames names) (size : ℕ) (pieces : Lis
   verdict-row : (k : ℕ) → IsVerdictLine names pieces k → is_verdict (row_at names pieces k) ≡ true
   verdict-row k line = let read = end-row k line.0 line.1 in ap is_verdict read.1
 
-  no-verdicts : (n i : ℕ) → has_verdict names pieces n ≡ false → i < n → is_verdict (row_at names pieces (i + 5)) ≡ false
+  no-verdicts : (n i : ℕ) → has_verdict names pieces n ≡ false → i < n
+      → is_verdict (row_at names pieces (i + 5)) ≡ false
   no-verdicts zero i h low = absurd (omega arith)
-  no-verdicts (suc n) i h low = by (nat_lt i n) refl (λ less. no-verdicts n i (or_parts (has_verdict names pieces n) (is_verdict (row_at names pieces (n + 5))) h).0 less)
+  no-verdicts (suc n) i h low =
+      by (nat_lt i n) refl (λ less. no-verdicts n i
+      (or_parts (has_verdict names pieces n) (is_verdict (row_at names pieces (n + 5))) h).0 less)
     where
-      by : (b : Bool) → nat_lt i n ≡ b → (i < n → is_verdict (row_at names pieces (i + 5)) ≡ false) → is_verdict (row_at names pieces (i + 5)) ≡ false
+      by : (b : Bool) → nat_lt i n ≡ b → (i < n → is_verdict (row_at names pieces (i + 5)) ≡ false)
+          → is_verdict (row_at names pieces (i + 5)) ≡ false
       by true e before = before (grind (arith, nat_tests))
       by false e before = let same : i ≡ n = grind (arith, nat_tests) in
           ap (λ j. is_verdict (row_at names pieces (j + 5))) same
           ∙ (or_parts (has_verdict names pieces n) (is_verdict (row_at names pieces (n + 5))) h).1
 
-  some-verdict : (n : ℕ) → has_verdict names pieces n ≡ true → (i : ℕ) × (i < n) × (is_verdict (row_at names pieces (i + 5)) ≡ true)
+  some-verdict : (n : ℕ) → has_verdict names pieces n ≡ true
+      → (i : ℕ) × (i < n) × (is_verdict (row_at names pieces (i + 5)) ≡ true)
   some-verdict zero h = absurd cc
-  some-verdict (suc n) h = by (or_cases (has_verdict names pieces n) (is_verdict (row_at names pieces (n + 5))) h) (λ e. some-verdict n e)
+  some-verdict (suc n) h =
+      by (or_cases (has_verdict names pieces n) (is_verdict (row_at names pieces (n + 5))) h)
+      (λ e. some-verdict n e)
     where
       by : (has_verdict names pieces n ≡ true) ⊎ (is_verdict (row_at names pieces (n + 5)) ≡ true)
           → (has_verdict names pieces n ≡ true
@@ -143,15 +173,19 @@ module _ (names : NameLists) (sound : AreNames names) (size : ℕ) (pieces : Lis
 
   body-found : (k : ℕ) → is_in_body names pieces k ≡ true → IsInBody names pieces k
   body-found k h =
-      let low : 5 ≤ k = let t = (and_parts (nat_le 5 k) (not (has_verdict names pieces (k - 5))) h).0 in grind (arith, nat_tests) in
-      let none = not-true (has_verdict names pieces (k - 5)) (and_parts (nat_le 5 k) (not (has_verdict names pieces (k - 5))) h).1 in
+      let low : 5 ≤ k = let t = (and_parts (nat_le 5 k) (not (has_verdict names pieces (k - 5)))
+      h).0 in grind (arith, nat_tests) in
+      let none = not-true (has_verdict names pieces (k - 5))
+      (and_parts (nat_le 5 k) (not (has_verdict names pieces (k - 5))) h).1 in
       (low, λ j before line. no-line j before none line line.1.stands)
     where
-      no-line : (j : ℕ) → j < k → has_verdict names pieces (k - 5) ≡ false → IsVerdictLine names pieces j → 5 ≤ j → ⊥
+      no-line : (j : ℕ) → j < k → has_verdict names pieces (k - 5) ≡ false
+          → IsVerdictLine names pieces j → 5 ≤ j → ⊥
       no-line j before none line stands =
           let place : j - 5 + 5 ≡ j = omega arith in
           let free = no-verdicts (k - 5) (j - 5) none (omega arith) in
-          unequal (is_verdict (row_at names pieces j)) (verdict-row j line) (ap (λ i. is_verdict (row_at names pieces i)) (sym place) ∙ free)
+          unequal (is_verdict (row_at names pieces j)) (verdict-row j line)
+          (ap (λ i. is_verdict (row_at names pieces i)) (sym place) ∙ free)
 
   body-test : (k : ℕ) → IsInBody names pieces k → is_in_body names pieces k ≡ true
   body-test k body =
@@ -164,9 +198,11 @@ module _ (names : NameLists) (sound : AreNames names) (size : ℕ) (pieces : Lis
 
   -- ---- the head
 
-  head-found : (k : ℕ) → 1 ≤ k → k ≤ 4 → is_head_line names pieces k ≡ true → (form : Form) × HasForm names pieces k form
+  head-found : (k : ℕ) → 1 ≤ k → k ≤ 4 → is_head_line names pieces k ≡ true
+      → (form : Form) × HasForm names pieces k form
   head-found zero low high h = absurd (omega arith)
-  head-found (suc zero) low high h = let f = version-form (text_at pieces 1) h in (forms.Version f.0, record { stands = refl; spelled = f.1; of = f.2 })
+  head-found (suc zero) low high h = let f = version-form (text_at pieces 1) h in
+      (forms.Version f.0, record { stands = refl; spelled = f.1; of = f.2 })
   head-found (suc (suc zero)) low high h =
       let words = some-of (order_on_line names (text_at pieces 2)) h in
       let f = order-form names (version_of pieces) (text_at pieces 2) words.0 words.1 in
@@ -181,50 +217,72 @@ module _ (names : NameLists) (sound : AreNames names) (size : ℕ) (pieces : Lis
       (forms.Limit limit.0, record { stands = refl; spelled = f.0; of = f.1 })
   head-found (suc (suc (suc (suc (suc k))))) low high h = absurd (omega arith)
 
-  head-test : (k : ℕ) (form : Form) → k ≤ 4 → HasForm names pieces k form → is_head_line names pieces k ≡ true
-  head-test k (forms.Version v) high form = rw form.stands (ap is_some (version-read (text_at pieces 1) v (rw form.stands at form.spelled) form.of))
-  head-test k (forms.Order threads) high form = rw form.stands (ap is_some (order-read names (version_of pieces) (text_at pieces 2) threads (rw form.stands at form.spelled) form.of))
-  head-test k (forms.Points points) high form = rw form.stands (ap is_some (points-read names (version_of pieces) (text_at pieces 3) points (rw form.stands at form.spelled) form.of))
-  head-test k (forms.Limit limit) high form = rw form.stands (ap is_some (limit-read names (version_of pieces) (text_at pieces 4) limit (rw form.stands at form.spelled) form.of))
-  head-test k (forms.Step n thread line ask answer) high form = absurd (let low = form.stands in omega arith)
+  head-test : (k : ℕ) (form : Form) → k ≤ 4 → HasForm names pieces k form
+      → is_head_line names pieces k ≡ true
+  head-test k (forms.Version v) high form =
+      rw form.stands (ap is_some (version-read (text_at pieces 1) v (rw form.stands at form.spelled)
+      form.of))
+  head-test k (forms.Order threads) high form =
+      rw form.stands (ap is_some (order-read names (version_of pieces) (text_at pieces 2) threads
+      (rw form.stands at form.spelled) form.of))
+  head-test k (forms.Points points) high form =
+      rw form.stands (ap is_some (points-read names (version_of pieces) (text_at pieces 3) points
+      (rw form.stands at form.spelled) form.of))
+  head-test k (forms.Limit limit) high form =
+      rw form.stands (ap is_some (limit-read names (version_of pieces) (text_at pieces 4) limit
+      (rw form.stands at form.spelled) form.of))
+  head-test k (forms.Step n thread line ask answer) high form =
+      absurd (let low = form.stands in omega arith)
   head-test k (forms.End verdict) high form = absurd (let low = form.stands in omega arith)
 
   limit-test : (limit : ℕ) → HasForm names pieces 4 (forms.Limit limit) → limit_of pieces ≡ limit
-  limit-test limit form = ap (λ o. unwrap_or o 0) (limit-read names (version_of pieces) (text_at pieces 4) limit form.spelled form.of)
+  limit-test limit form =
+      ap (λ o. unwrap_or o 0) (limit-read names (version_of pieces) (text_at pieces 4) limit
+      form.spelled form.of)
 
-  body-row : (k : ℕ) (form : Form) → 5 ≤ k → HasForm names pieces k form → is_some (row_at names pieces k) ≡ true
+  body-row : (k : ℕ) (form : Form) → 5 ≤ k → HasForm names pieces k form
+      → is_some (row_at names pieces k) ≡ true
   body-row k (forms.Version v) low form = absurd (let at = form.stands in omega arith)
   body-row k (forms.Order threads) low form = absurd (let at = form.stands in omega arith)
   body-row k (forms.Points points) low form = absurd (let at = form.stands in omega arith)
   body-row k (forms.Limit limit) low form = absurd (let at = form.stands in omega arith)
-  body-row k (forms.Step n thread line ask answer) low form = ap is_some (step-row k n thread line ask answer form).1
+  body-row k (forms.Step n thread line ask answer) low form =
+      ap is_some (step-row k n thread line ask answer form).1
   body-row k (forms.End verdict) low form = ap is_some (end-row k verdict form).1
 
-  row-found : (k : ℕ) → 5 ≤ k → is_some (row_at names pieces k) ≡ true → (form : Form) × HasForm names pieces k form
+  row-found : (k : ℕ) → 5 ≤ k → is_some (row_at names pieces k) ≡ true
+      → (form : Form) × HasForm names pieces k form
   row-found k low h = by (row_at names pieces k) refl h
     where
-      by : (row : Option Row) → row_at names pieces k ≡ row → is_some row ≡ true → (form : Form) × HasForm names pieces k form
+      by : (row : Option Row) → row_at names pieces k ≡ row → is_some row ≡ true
+          → (form : Form) × HasForm names pieces k form
       by None e t = absurd cc
-      by (Some (Step n event)) e t = let f = step-found k n event low e in (forms.Step n f.thread f.line f.ask f.answer, f.form)
+      by (Some (Step n event)) e t = let f = step-found k n event low e in
+          (forms.Step n f.thread f.line f.ask f.answer, f.form)
       by (Some (End read)) e t = let f = end-found k read low e in (forms.End f.0, f.1)
 
   -- ---- a faulty line is found so
 
-  too_long-test : (k : ℕ) → IsFaulty size names pieces k TooLong → is_faulty size names pieces k TooLong ≡ true
+  too_long-test : (k : ℕ) → IsFaulty size names pieces k TooLong
+      → is_faulty size names pieces k TooLong ≡ true
   too_long-test k (inl large) =
       let one : (k == 1) ≡ true = let e = large.0 in grind (arith, nat_tests) in
       let big : nat_lt 16777216 size ≡ true = let e = large.1 in grind (arith, nat_tests) in
-      or_left ((k == 1) && nat_lt 16777216 size) (is_in_body names pieces k && is_past (limit_of pieces) (row_at names pieces k)) (and_from (k == 1) (nat_lt 16777216 size) one big)
+      or_left ((k == 1) && nat_lt 16777216 size)
+      (is_in_body names pieces k && is_past (limit_of pieces) (row_at names pieces k))
+      (and_from (k == 1) (nat_lt 16777216 size) one big)
   too_long-test k (inr far) =
       let step = far.4 in
       let read = step-row k far.2 step.0 step.1 step.2 step.3 step.4 in
       let past : nat_lt far.1 far.2 ≡ true = let e = far.5 in grind (arith, nat_tests) in
-      or_right ((k == 1) && nat_lt 16777216 size) (is_in_body names pieces k && is_past (limit_of pieces) (row_at names pieces k))
+      or_right ((k == 1) && nat_lt 16777216 size)
+      (is_in_body names pieces k && is_past (limit_of pieces) (row_at names pieces k))
       (and_from (is_in_body names pieces k) (is_past (limit_of pieces) (row_at names pieces k))
       (body-test k far.0) (ap (λ l. is_past l (row_at names pieces k)) (limit-test far.1 far.3)
       ∙ ap (is_past far.1) read.1 ∙ past))
 
-  bad_header-test : (k : ℕ) → IsFaulty size names pieces k BadHeader → is_faulty size names pieces k BadHeader ≡ true
+  bad_header-test : (k : ℕ) → IsFaulty size names pieces k BadHeader
+      → is_faulty size names pieces k BadHeader ≡ true
   bad_header-test k bad =
       let low : nat_le 1 k ≡ true = let e = bad.0 in grind (arith, nat_tests) in
       let high : nat_le k 4 ≡ true = let e = bad.1 in grind (arith, nat_tests) in
@@ -236,9 +294,11 @@ module _ (names : NameLists) (sound : AreNames names) (size : ℕ) (pieces : Lis
         f.0,
         f.1,
       )) in
-      all-three (nat_le 1 k) (nat_le k 4) (not (is_whole (line_at pieces k) && is_head_line names pieces k)) low high (ap not lost)
+      all-three (nat_le 1 k) (nat_le k 4)
+      (not (is_whole (line_at pieces k) && is_head_line names pieces k)) low high (ap not lost)
 
-  bad_line-test : (k : ℕ) → IsFaulty size names pieces k BadLine → is_faulty size names pieces k BadLine ≡ true
+  bad_line-test : (k : ℕ) → IsFaulty size names pieces k BadLine
+      → is_faulty size names pieces k BadLine ≡ true
   bad_line-test k bad =
       let lost = never (is_whole (line_at pieces k) && is_some (row_at names pieces k))
       (λ h. let f = row-found k bad.0.0
@@ -248,9 +308,13 @@ module _ (names : NameLists) (sound : AreNames names) (size : ℕ) (pieces : Lis
         f.0,
         f.1,
       )) in
-      all-three (is_in_body names pieces k) (has_byte pieces k) (not (is_whole (line_at pieces k) && is_some (row_at names pieces k))) (body-test k bad.0) bad.1 (ap not lost)
+      all-three (is_in_body names pieces k) (has_byte pieces k)
+      (not (is_whole (line_at pieces k) && is_some (row_at names pieces k))) (body-test k bad.0)
+      bad.1 (ap not lost)
 
-  late-unknown : (k : ℕ) → 5 ≤ k → IsOpen names pieces k → has_unknown (row_at names pieces k) ≡ true → is_faulty size names pieces k UnknownName ≡ true
+  late-unknown : (k : ℕ) → 5 ≤ k → IsOpen names pieces k
+      → has_unknown (row_at names pieces k) ≡ true
+      → is_faulty size names pieces k UnknownName ≡ true
   late-unknown k low free h =
       or_right ((k == 2) && has_unknown_thread names
       (order_on_line names (text_in (line_at pieces k))))
@@ -258,7 +322,8 @@ module _ (names : NameLists) (sound : AreNames names) (size : ℕ) (pieces : Lis
       (and_from (is_in_body names pieces k) (has_unknown (row_at names pieces k))
       (body-test k (low, free)) h)
 
-  order-unknown : (k : ℕ) (threads : List (List ℕ)) → HasForm names pieces k (forms.Order threads) → HasUnknown names (forms.Order threads) → is_faulty size names pieces k UnknownName ≡ true
+  order-unknown : (k : ℕ) (threads : List (List ℕ)) → HasForm names pieces k (forms.Order threads)
+      → HasUnknown names (forms.Order threads) → is_faulty size names pieces k UnknownName ≡ true
   order-unknown k threads form unknown =
       let two : (k == 2) ≡ true = let e = form.stands in grind (arith, nat_tests) in
       let lost : has_unknown_thread names (order_on_line names (text_in (line_at pieces k)))
@@ -271,7 +336,8 @@ module _ (names : NameLists) (sound : AreNames names) (size : ℕ) (pieces : Lis
       (and_from (k == 2) (has_unknown_thread names
       (order_on_line names (text_in (line_at pieces k)))) two lost)
 
-  unknown-test : (k : ℕ) (form : Form) → IsOpen names pieces k → HasForm names pieces k form → HasUnknown names form → is_faulty size names pieces k UnknownName ≡ true
+  unknown-test : (k : ℕ) (form : Form) → IsOpen names pieces k → HasForm names pieces k form
+      → HasUnknown names form → is_faulty size names pieces k UnknownName ≡ true
   unknown-test k (forms.Version v) at form unknown = absurd unknown
   unknown-test k (forms.Order threads) at form unknown = order-unknown k threads form unknown
   unknown-test k (forms.Points points) at form unknown = absurd unknown
@@ -283,36 +349,47 @@ module _ (names : NameLists) (sound : AreNames names) (size : ℕ) (pieces : Lis
       let read = end-row k verdict form in
       late-unknown k form.stands at (ap has_unknown read.1 ∙ ap is_none (read.2 unknown))
 
-  next-test : (k next : ℕ) → IsNextNumber names pieces k next → number_before names pieces k + 1 ≡ next
+  next-test : (k next : ℕ) → IsNextNumber names pieces k next
+      → number_before names pieces k + 1 ≡ next
   next-test k next (inl first) = rw (first.0, first.1) refl
   next-test k next (inr later) =
       let step = later.1 in
       let read = step-row (k - 1) later.0 step.0 step.1 step.2 step.3 step.4 in
       let far : nat_le k 5 ≡ false = let low = step.4.stands in grind (arith, nat_tests) in
-      let is : number_before names pieces k ≡ later.0 = by (nat_le k 5) (number_in (row_at names pieces (k - 1))) later.0 far (ap number_in read.1) in
+      let is : number_before names pieces k ≡ later.0 =
+      by (nat_le k 5) (number_in (row_at names pieces (k - 1))) later.0 far
+      (ap number_in read.1) in
       ap (λ n. n + 1) is ∙ sym later.2
     where
       by : (b : Bool) (x n : ℕ) → b ≡ false → x ≡ n → (if b then 0 else x) ≡ n
       by b x n p q = rw (p, q)
 
-  order-test : (k : ℕ) → IsFaulty size names pieces k OutOfOrder → is_faulty size names pieces k OutOfOrder ≡ true
+  order-test : (k : ℕ) → IsFaulty size names pieces k OutOfOrder
+      → is_faulty size names pieces k OutOfOrder ≡ true
   order-test k bad =
       let step = bad.3 in
       let read = step-row k bad.1 step.0 step.1 step.2 step.3 step.4 in
       let other : (bad.1 == bad.2) ≡ false = let e = bad.5 in grind (arith, nat_tests) in
-      and_from (is_in_body names pieces k) (is_other_number (number_before names pieces k + 1) (row_at names pieces k)) (body-test k bad.0)
-      (ap (λ n. is_other_number n (row_at names pieces k)) (next-test k bad.2 bad.4) ∙ ap (is_other_number bad.2) read.1 ∙ ap not other)
+      and_from (is_in_body names pieces k)
+      (is_other_number (number_before names pieces k + 1) (row_at names pieces k))
+      (body-test k bad.0)
+      (ap (λ n. is_other_number n (row_at names pieces k)) (next-test k bad.2 bad.4)
+      ∙ ap (is_other_number bad.2) read.1 ∙ ap not other)
 
-  fault-test : (k : ℕ) (kind : TraceFault) → IsFaulty size names pieces k kind → is_faulty size names pieces k kind ≡ true
+  fault-test : (k : ℕ) (kind : TraceFault) → IsFaulty size names pieces k kind
+      → is_faulty size names pieces k kind ≡ true
   fault-test k TooLong bad = too_long-test k bad
   fault-test k BadHeader bad = bad_header-test k bad
   fault-test k BadLine bad = bad_line-test k bad
   fault-test k UnknownName bad = unknown-test k bad.1 bad.0 bad.2 bad.3
   fault-test k OutOfOrder bad = order-test k bad
-  fault-test k NoVerdict bad = and_from (is_in_body names pieces k) (not (has_byte pieces k)) (body-test k bad.0) (ap not bad.1)
+  fault-test k NoVerdict bad =
+      and_from (is_in_body names pieces k) (not (has_byte pieces k)) (body-test k bad.0)
+      (ap not bad.1)
   fault-test k MoreAfterVerdict bad =
       let high : nat_le 6 k ≡ true = let low = bad.0.1.stands in grind (arith, nat_tests) in
-      all-three (nat_le 6 k) (is_verdict (row_at names pieces (k - 1))) (has_byte pieces k) high (verdict-row (k - 1) bad.0) bad.1
+      all-three (nat_le 6 k) (is_verdict (row_at names pieces (k - 1))) (has_byte pieces k) high
+      (verdict-row (k - 1) bad.0) bad.1
 
   -- ---- a line that is found faulty is so, where none before it is
 
@@ -326,31 +403,52 @@ module _ (names : NameLists) (sound : AreNames names) (size : ℕ) (pieces : Lis
   step-past k limit (Some (Step n event)) e h = (n, event, e, grind (arith, nat_tests))
   step-past k limit (Some (End read)) e h = absurd cc
 
-  limit-clean : is_faulty size names pieces 4 BadHeader ≡ false → HasForm names pieces 4 (forms.Limit (limit_of pieces))
+  limit-clean : is_faulty size names pieces 4 BadHeader ≡ false
+      → HasForm names pieces 4 (forms.Limit (limit_of pieces))
   limit-clean clean =
-      let told = (and_parts (is_whole (line_at pieces 4)) (is_some (limit_on_line (text_at pieces 4))) (not-false (is_whole (line_at pieces 4) && is_some (limit_on_line (text_at pieces 4))) clean)).1 in
+      let told = (and_parts (is_whole (line_at pieces 4))
+      (is_some (limit_on_line (text_at pieces 4)))
+      (not-false (is_whole (line_at pieces 4) && is_some (limit_on_line (text_at pieces 4)))
+      clean)).1 in
       let limit = some-of (limit_on_line (text_at pieces 4)) told in
       let form = limit-form names (version_of pieces) (text_at pieces 4) limit.0 limit.1 in
       let same : limit.0 ≡ limit_of pieces = sym (ap (λ o. unwrap_or o 0) limit.1) in
       rw (← same) (record { stands = refl; spelled = form.0; of = form.1 })
 
-  too_long-found : (k : ℕ) → IsClean k → is_faulty size names pieces k TooLong ≡ true → IsFaulty size names pieces k TooLong
-  too_long-found k clean h = by (or_cases ((k == 1) && nat_lt 16777216 size) (is_in_body names pieces k && is_past (limit_of pieces) (row_at names pieces k)) h)
+  too_long-found : (k : ℕ) → IsClean k → is_faulty size names pieces k TooLong ≡ true
+      → IsFaulty size names pieces k TooLong
+  too_long-found k clean h =
+      by (or_cases ((k == 1) && nat_lt 16777216 size)
+      (is_in_body names pieces k && is_past (limit_of pieces) (row_at names pieces k)) h)
     where
-      by : (((k == 1) && nat_lt 16777216 size) ≡ true) ⊎ ((is_in_body names pieces k && is_past (limit_of pieces) (row_at names pieces k)) ≡ true) → IsFaulty size names pieces k TooLong
+      by : (((k == 1) && nat_lt 16777216 size) ≡ true)
+          ⊎ ((is_in_body names pieces k && is_past (limit_of pieces) (row_at names pieces k))
+          ≡ true) → IsFaulty size names pieces k TooLong
       by (inl e) =
           let one = (and_parts (k == 1) (nat_lt 16777216 size) e).0 in
           let large = (and_parts (k == 1) (nat_lt 16777216 size) e).1 in
           inl (grind (arith, nat_tests), grind (arith, nat_tests))
       by (inr e) =
-          let body = body-found k (and_parts (is_in_body names pieces k) (is_past (limit_of pieces) (row_at names pieces k)) e).0 in
-          let past = step-past k (limit_of pieces) (row_at names pieces k) refl (and_parts (is_in_body names pieces k) (is_past (limit_of pieces) (row_at names pieces k)) e).1 in
+          let body = body-found k (and_parts (is_in_body names pieces k)
+          (is_past (limit_of pieces) (row_at names pieces k)) e).0 in
+          let past = step-past k (limit_of pieces) (row_at names pieces k) refl
+          (and_parts (is_in_body names pieces k)
+          (is_past (limit_of pieces) (row_at names pieces k)) e).1 in
           let low : 4 < k = let b = body.0 in omega arith in
-          inr (body, limit_of pieces, past.0, limit-clean (clean 4 BadHeader low), step-line k past.0 past.1 (step-found k past.0 past.1 body.0 past.2), past.3)
+          inr (
+            body,
+            limit_of pieces,
+            past.0,
+            limit-clean (clean 4 BadHeader low),
+            step-line k past.0 past.1 (step-found k past.0 past.1 body.0 past.2),
+            past.3,
+          )
 
-  bad_header-found : (k : ℕ) → is_faulty size names pieces k BadHeader ≡ true → IsFaulty size names pieces k BadHeader
+  bad_header-found : (k : ℕ) → is_faulty size names pieces k BadHeader ≡ true
+      → IsFaulty size names pieces k BadHeader
   bad_header-found k h =
-      let parts = three (nat_le 1 k) (nat_le k 4) (not (is_whole (line_at pieces k) && is_head_line names pieces k)) h in
+      let parts = three (nat_le 1 k) (nat_le k 4)
+      (not (is_whole (line_at pieces k) && is_head_line names pieces k)) h in
       let lost = not-true (is_whole (line_at pieces k) && is_head_line names pieces k) parts.2 in
       let low : 1 ≤ k = let t = parts.0 in grind (arith, nat_tests) in
       let high : k ≤ 4 = let t = parts.1 in grind (arith, nat_tests) in (
@@ -361,10 +459,13 @@ module _ (names : NameLists) (sound : AreNames names) (size : ℕ) (pieces : Lis
             (head-test k line.1 high line.2)) lost,
       )
 
-  bad_line-found : (k : ℕ) → is_faulty size names pieces k BadLine ≡ true → IsFaulty size names pieces k BadLine
+  bad_line-found : (k : ℕ) → is_faulty size names pieces k BadLine ≡ true
+      → IsFaulty size names pieces k BadLine
   bad_line-found k h =
-      let parts = three (is_in_body names pieces k) (has_byte pieces k) (not (is_whole (line_at pieces k) && is_some (row_at names pieces k))) h in
-      let lost = not-true (is_whole (line_at pieces k) && is_some (row_at names pieces k)) parts.2 in
+      let parts = three (is_in_body names pieces k) (has_byte pieces k)
+      (not (is_whole (line_at pieces k) && is_some (row_at names pieces k))) h in
+      let lost = not-true (is_whole (line_at pieces k) && is_some (row_at names pieces k))
+      parts.2 in
       let body = body-found k parts.0 in (
         body,
         parts.1,
@@ -374,13 +475,22 @@ module _ (names : NameLists) (sound : AreNames names) (size : ℕ) (pieces : Lis
             (body-row k line.1 body.0 line.2)) lost,
       )
 
-  order-found : (k : ℕ) (order : Option (List (List ℕ))) → k ≡ 2 → order_on_line names (text_at pieces 2) ≡ order → has_unknown_thread names order ≡ true → IsFaulty size names pieces k UnknownName
+  order-found : (k : ℕ) (order : Option (List (List ℕ))) → k ≡ 2
+      → order_on_line names (text_at pieces 2) ≡ order → has_unknown_thread names order ≡ true
+      → IsFaulty size names pieces k UnknownName
   order-found k None two e h = absurd cc
   order-found k (Some threads) two e h =
       let form = order-form names (version_of pieces) (text_at pieces 2) threads e in
-      rw two (λ j before line. let low = line.1.stands in omega arith, forms.Order threads, record { stands = refl; spelled = form.0; of = form.1 }, unknown-told names threads h)
+      rw two (
+        λ j before line. let low = line.1.stands in
+            omega arith,
+        forms.Order threads,
+        record { stands = refl; spelled = form.0; of = form.1 },
+        unknown-told names threads h,
+      )
 
-  row-unknown : (k : ℕ) (row : Option Row) → IsInBody names pieces k → row_at names pieces k ≡ row → has_unknown row ≡ true → IsFaulty size names pieces k UnknownName
+  row-unknown : (k : ℕ) (row : Option Row) → IsInBody names pieces k → row_at names pieces k ≡ row
+      → has_unknown row ≡ true → IsFaulty size names pieces k UnknownName
   row-unknown k None body e h = absurd cc
   row-unknown k (Some (Step n event)) body e h =
       let f = step-found k n event body.0 e in
@@ -389,15 +499,21 @@ module _ (names : NameLists) (sound : AreNames names) (size : ℕ) (pieces : Lis
       let f = end-found k read body.0 e in
       (body.1, forms.End f.0, f.1, f.2 (none-of read h))
 
-  unknown-found : (k : ℕ) → is_faulty size names pieces k UnknownName ≡ true → IsFaulty size names pieces k UnknownName
-  unknown-found k h = by (or_cases ((k == 2) && has_unknown_thread names (order_on_line names (text_in (line_at pieces k)))) (is_in_body names pieces k && has_unknown (row_at names pieces k)) h)
+  unknown-found : (k : ℕ) → is_faulty size names pieces k UnknownName ≡ true
+      → IsFaulty size names pieces k UnknownName
+  unknown-found k h =
+      by (or_cases ((k == 2) && has_unknown_thread names
+      (order_on_line names (text_in (line_at pieces k))))
+      (is_in_body names pieces k && has_unknown (row_at names pieces k)) h)
     where
       by : (((k == 2) && has_unknown_thread names
           (order_on_line names (text_in (line_at pieces k)))) ≡ true)
           ⊎ ((is_in_body names pieces k && has_unknown (row_at names pieces k)) ≡ true)
           → IsFaulty size names pieces k UnknownName
       by (inl e) =
-          let two : k ≡ 2 = let t = (and_parts (k == 2) (has_unknown_thread names (order_on_line names (text_in (line_at pieces k)))) e).0 in grind (arith, nat_tests) in
+          let two : k ≡ 2 = let t = (and_parts (k == 2)
+          (has_unknown_thread names (order_on_line names (text_in (line_at pieces k)))) e).0 in
+          grind (arith, nat_tests) in
           order-found k (order_on_line names (text_at pieces 2)) two refl
           (ap (λ j. has_unknown_thread names (order_on_line names (text_at pieces j))) (sym two)
           ∙ (and_parts (k == 2) (has_unknown_thread names
@@ -412,15 +528,19 @@ module _ (names : NameLists) (sound : AreNames names) (size : ℕ) (pieces : Lis
   earlier k body low = (omega arith, λ j before line. body.1 j (omega arith) line)
 
   -- the line before one of the body is a step's
-  step-before : (k : ℕ) → IsClean k → IsInBody names pieces k → 6 ≤ k → (n : ℕ) × (event : Option Event) × (row_at names pieces (k - 1) ≡ Some (Step n event))
+  step-before : (k : ℕ) → IsClean k → IsInBody names pieces k → 6 ≤ k
+      → (n : ℕ) × (event : Option Event) × (row_at names pieces (k - 1) ≡ Some (Step n event))
   step-before k clean body low =
       let before = earlier k body low in
       let test = body-test (k - 1) before in
-      let there = guarded-not (is_in_body names pieces (k - 1)) (has_byte pieces (k - 1)) (clean (k - 1) NoVerdict (omega arith)) test in
+      let there = guarded-not (is_in_body names pieces (k - 1)) (has_byte pieces (k - 1))
+      (clean (k - 1) NoVerdict (omega arith)) test in
       let line = whole (is_in_body names pieces (k - 1)) (has_byte pieces (k - 1))
       (is_whole (line_at pieces (k - 1)) && is_some (row_at names pieces (k - 1)))
       (clean (k - 1) BadLine (omega arith)) test there in
-      by (row_at names pieces (k - 1)) refl (and_parts (is_whole (line_at pieces (k - 1))) (is_some (row_at names pieces (k - 1))) line).1 before.0
+      by (row_at names pieces (k - 1)) refl
+      (and_parts (is_whole (line_at pieces (k - 1))) (is_some (row_at names pieces (k - 1)))
+      line).1 before.0
     where
       whole : (a b c : Bool) → (a && b && not c) ≡ false → a ≡ true → b ≡ true → c ≡ true
       whole a b true h p q = refl
@@ -428,62 +548,93 @@ module _ (names : NameLists) (sound : AreNames names) (size : ℕ) (pieces : Lis
       whole true false false h p q = absurd cc
       whole false b false h p q = absurd cc
 
-      by : (row : Option Row) → row_at names pieces (k - 1) ≡ row → is_some row ≡ true → 5 ≤ k - 1 → (n : ℕ) × (event : Option Event) × (row_at names pieces (k - 1) ≡ Some (Step n event))
+      by : (row : Option Row) → row_at names pieces (k - 1) ≡ row → is_some row ≡ true → 5 ≤ k - 1
+          → (n : ℕ) × (event : Option Event) × (row_at names pieces (k - 1) ≡ Some (Step n event))
       by None e t after = absurd cc
       by (Some (Step n event)) e t after = (n, event, e)
-      by (Some (End read)) e t after = let f = end-found (k - 1) read after e in absurd (body.1 (k - 1) (omega arith) (f.0, f.1))
+      by (Some (End read)) e t after = let f = end-found (k - 1) read after e in
+          absurd (body.1 (k - 1) (omega arith) (f.0, f.1))
 
-  next-found : (k : ℕ) → IsClean k → IsInBody names pieces k → IsNextNumber names pieces k (number_before names pieces k + 1)
+  next-found : (k : ℕ) → IsClean k → IsInBody names pieces k
+      → IsNextNumber names pieces k (number_before names pieces k + 1)
   next-found k clean body = by (nat_le k 5) refl
     where
-      by : (b : Bool) → nat_le k 5 ≡ b → IsNextNumber names pieces k ((if b then 0 else number_in (row_at names pieces (k - 1))) + 1)
+      by : (b : Bool) → nat_le k 5 ≡ b
+          → IsNextNumber names pieces k ((if b then 0 else number_in (row_at names pieces (k - 1)))
+          + 1)
       by true e = let low = body.0 in inl (grind (arith, nat_tests), refl)
       by false e =
           let far : 6 ≤ k = grind (arith, nat_tests) in
           let step = step-before k clean body far in
           let low : 5 ≤ k - 1 = omega arith in
-          inr (step.0, step-line (k - 1) step.0 step.1 (step-found (k - 1) step.0 step.1 low step.2), ap (λ r. number_in r + 1) step.2)
+          inr (
+            step.0,
+            step-line (k - 1) step.0 step.1
+                (step-found (k - 1) step.0 step.1 low step.2),
+            ap (λ r. number_in r + 1) step.2,
+          )
 
   step-other : (k next : ℕ) (row : Option Row) → row_at names pieces k ≡ row
       → is_other_number next row ≡ true
       → (n : ℕ) × (event : Option Event) × (row_at names pieces k ≡ Some (Step n event))
       × (n ≢ next)
   step-other k next None e h = absurd cc
-  step-other k next (Some (Step n event)) e h = let other = not-true (n == next) h in (n, event, e, grind (arith, nat_tests))
+  step-other k next (Some (Step n event)) e h = let other = not-true (n == next) h in
+      (n, event, e, grind (arith, nat_tests))
   step-other k next (Some (End read)) e h = absurd cc
 
-  out_of_order-found : (k : ℕ) → IsClean k → is_faulty size names pieces k OutOfOrder ≡ true → IsFaulty size names pieces k OutOfOrder
+  out_of_order-found : (k : ℕ) → IsClean k → is_faulty size names pieces k OutOfOrder ≡ true
+      → IsFaulty size names pieces k OutOfOrder
   out_of_order-found k clean h =
       let next = number_before names pieces k + 1 in
-      let body = body-found k (and_parts (is_in_body names pieces k) (is_other_number next (row_at names pieces k)) h).0 in
-      let other = step-other k next (row_at names pieces k) refl (and_parts (is_in_body names pieces k) (is_other_number next (row_at names pieces k)) h).1 in
-      (body, other.0, next, step-line k other.0 other.1 (step-found k other.0 other.1 body.0 other.2), next-found k clean body, other.3)
+      let body = body-found k (and_parts (is_in_body names pieces k)
+      (is_other_number next (row_at names pieces k)) h).0 in
+      let other = step-other k next (row_at names pieces k) refl
+      (and_parts (is_in_body names pieces k) (is_other_number next (row_at names pieces k))
+      h).1 in (
+        body,
+        other.0,
+        next,
+        step-line k other.0 other.1
+            (step-found k other.0 other.1 body.0 other.2),
+        next-found k clean body,
+        other.3,
+      )
 
-  fault-found : (k : ℕ) (kind : TraceFault) → IsClean k → is_faulty size names pieces k kind ≡ true → IsFaulty size names pieces k kind
+  fault-found : (k : ℕ) (kind : TraceFault) → IsClean k → is_faulty size names pieces k kind ≡ true
+      → IsFaulty size names pieces k kind
   fault-found k TooLong clean h = too_long-found k clean h
   fault-found k BadHeader clean h = bad_header-found k h
   fault-found k BadLine clean h = bad_line-found k h
   fault-found k UnknownName clean h = unknown-found k h
   fault-found k OutOfOrder clean h = out_of_order-found k clean h
-  fault-found k NoVerdict clean h =
-      (body-found k (and_parts (is_in_body names pieces k) (not (has_byte pieces k)) h).0, not-true (has_byte pieces k) (and_parts (is_in_body names pieces k) (not (has_byte pieces k)) h).1)
+  fault-found k NoVerdict clean h = (
+    body-found k (and_parts (is_in_body names pieces k) (not (has_byte pieces k)) h).0,
+    not-true (has_byte pieces k) (and_parts (is_in_body names pieces k)
+        (not (has_byte pieces k)) h).1,
+  )
   fault-found k MoreAfterVerdict clean h =
-      let parts = three (nat_le 6 k) (is_verdict (row_at names pieces (k - 1))) (has_byte pieces k) h in
+      let parts = three (nat_le 6 k) (is_verdict (row_at names pieces (k - 1))) (has_byte pieces k)
+      h in
       let low : 5 ≤ k - 1 = let t = parts.0 in grind (arith, nat_tests) in
       (verdict-found (k - 1) low parts.1, parts.2)
 
   -- ---- the first fault
 
-  none-faulty : (k : ℕ) (kind : TraceFault) → is_faulty size names pieces k kind ≡ false → ¬ IsFaulty size names pieces k kind
-  none-faulty k kind free bad = unequal (is_faulty size names pieces k kind) (fault-test k kind bad) free
+  none-faulty : (k : ℕ) (kind : TraceFault) → is_faulty size names pieces k kind ≡ false
+      → ¬ IsFaulty size names pieces k kind
+  none-faulty k kind free bad =
+      unequal (is_faulty size names pieces k kind) (fault-test k kind bad) free
 
-  first-fault : (line : ℕ) (kind : TraceFault) → IsFirstFound size names pieces line kind → IsFirstFault size names pieces line kind
+  first-fault : (line : ℕ) (kind : TraceFault) → IsFirstFound size names pieces line kind
+      → IsFirstFault size names pieces line kind
   first-fault line kind first = record {
     faulty = fault-found line kind (λ j other before. first.first_line j other before) first.faulty;
     first_kind = λ other low. none-faulty line other (first.first_kind other low);
     first_line = λ j other before. none-faulty j other (first.first_line j other before);
   }
 
-  pub told-read : {A : Type 0} (read : Result A Fault) → IsTold size names pieces read → IsRead size names pieces read
+  pub told-read : {A : Type 0} (read : Result A Fault) → IsTold size names pieces read
+      → IsRead size names pieces read
   told-read (Ok x) told = λ k kind. none-faulty k kind (told k kind)
   told-read (Err fault) told = first-fault fault.0 fault.1 told

@@ -130,7 +130,8 @@ module _ (deal : Deal) (limit : ℕ) (plan : Plan) (board : BoardState) (events 
         (λ e before after cut. omega (
           arith,
           kept.threads,
-          obeys-within plan deal (source plan deal board events) limit events kept.speaks kept.obeys e
+          obeys-within plan deal (source plan deal board events) limit events kept.speaks kept.obeys
+              e
               before after cut,
         )) ∙ ap (λ o. made t events ++ option_to_list o) (sym (next-told t));
     speaks = kept.speaks;

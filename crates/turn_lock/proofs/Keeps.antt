@@ -98,7 +98,8 @@ moved made s k id v w slot words homes at e l making lawful notes wide long free
       free = free;
       taken = taken;
       holds =
-          each (λ j u. u.held ≡ true → HoldsGate u slot (get_or words 0 0)) s.views id w mine others;
+          each (λ j u. u.held ≡ true → HoldsGate u slot (get_or words 0 0)) s.views id w mine
+          others;
       ties = each (λ j u. u.live ≡ true → Ties u slot.book) s.views id w tie ties;
       spent = λ j u t is h. let p = was s.views id v w at e l j u is in
           p.3 ∙ k.spent j p.0 t p.1 (serves-along t u p.0 p.2 h);

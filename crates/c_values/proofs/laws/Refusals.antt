@@ -11,7 +11,8 @@ handed : {A B : Type 0} (IsA : A → Type 0) (IsB : B → Type 0) (why : Refused
 handed IsA IsB Bad none some = λ told is. let found = some told is in none found.0 found.1
 handed IsA IsB NoMemory none some = tt
 
--- What is refused is refused for the same reason, where each thing that it asks for has one of those
+-- What is refused is refused for the same reason, where each thing that it asks for has one of
+-- those
 -- that the other call asks for.
 pub refusal : {A B : Type 0} (IsA : A → Type 0) (IsB : B → Type 0) (why again : Refused)
     (result : Result B Refused) → result ≡ Err again → again ≡ why

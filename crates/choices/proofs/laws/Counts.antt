@@ -44,7 +44,8 @@ at-flat f (z ∷ xs) (suc k) x y is at =
       get-right (f z) (flat_map f xs) rest.0 ∙ rest.2,
     )
 
-pub range-get : (from many k : ℕ) → k < many → slice_get (range_with_len from many) k ≡ Some (from + k)
+pub range-get : (from many k : ℕ) → k < many
+    → slice_get (range_with_len from many) k ≡ Some (from + k)
 range-get from zero k within = absurd (omega arith)
 range-get from (suc many) zero within =
     ap (λ x. Some x) (let e : from ≡ from + 0 = omega arith in e)

@@ -60,7 +60,8 @@ once-append a b one two apart = record {
   ];
 }
 
-pub in-map : {X Y : Type 0} (f : X → Y) (xs : List X) (k : ℕ) (y : Y) → slice_get (map f xs) k ≡ Some y
+pub in-map : {X Y : Type 0} (f : X → Y) (xs : List X) (k : ℕ) (y : Y)
+    → slice_get (map f xs) k ≡ Some y
     → (x : X) × (slice_get xs k ≡ Some x) × (f x ≡ y)
 in-map f [] k y is = absurd cc
 in-map f (x ∷ xs) zero y is = (x, refl, (let same : f x ≡ y = cc in same))

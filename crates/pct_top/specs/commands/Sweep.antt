@@ -68,7 +68,8 @@ sweep_report json script frame swept told =
 abbrev pub too_many_text : ℕ → List ℕ
 too_many_text threads = line_text (codes "toomany" ∷ decimal threads ∷ [])
 
--- The report on the choices is printed, and it is done where none of them fails. Where there are too
+-- The report on the choices is printed, and it is done where none of them fails. Where there are
+-- too
 -- many, a line says so.
 abbrev pub PrintsAnswer : Bool → ScriptText → Frame → Answer → Printed → Type 0
 PrintsAnswer json script frame (Whole swept) printed =

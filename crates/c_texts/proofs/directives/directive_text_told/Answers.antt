@@ -14,11 +14,13 @@ returns-in_err-said c =
     let k = c.in_ok-known in
     let r = c.from_residual-in_err-said in
     let p = err_from_is_err_and r.result r.ensures.1 in
-    refusal (λ (told : Directive). SaysDirective k.known a.directive.now (plain_directive told)) (IsDirectiveText a.names.now a.directive.now)
+    refusal (λ (told : Directive). SaysDirective k.known a.directive.now (plain_directive told))
+    (IsDirectiveText a.names.now a.directive.now)
     c.in_err-said.field-0.0 p.0 r.result p.1 p.2 c.in_err-said.ensures
     (λ text is.
     let same = same_names a.names.now k.known is.names k.ensures is.named in
-    let moved = subst (λ (n : NameLists). SaysDirective n a.directive.now (plain_directive is.told)) same is.says in
+    let moved = subst (λ (n : NameLists). SaysDirective n a.directive.now (plain_directive is.told))
+    same is.says in
     (is.told, moved))
 
 pub returns : goal.returns

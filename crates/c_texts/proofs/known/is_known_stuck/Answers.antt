@@ -16,4 +16,7 @@ pub returns-else-bits-ne0 : goal.returns-else-bits-ne0
 returns-else-bits-ne0 c =
     let lines = c.args.lines.now in
     let none = subst (λ (n : ℕ). rest_of 0 n lines ≡ []) (sym c.if-bits-ne0.false) (no_bits 0 lines)
-    in (λ t. absurd (zero_bits c.args.bits c.if-bits-ne0.false t), λ known. absurd (omega (arith, known.0, ap length none)))
+    in (
+      λ t. absurd (zero_bits c.args.bits c.if-bits-ne0.false t),
+      λ known. absurd (omega (arith, known.0, ap length none)),
+    )

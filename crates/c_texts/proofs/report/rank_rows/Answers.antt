@@ -17,6 +17,7 @@ returns c =
     record {
       say = rows;
       known =
-          known_rows a.names.now a.numbers.now c.in_ok-rows.rows rows.say (c.are_known.ensures.0 test);
+          known_rows a.names.now a.numbers.now c.in_ok-rows.rows rows.say
+          (c.are_known.ensures.0 test);
       ranking = c.in_ok-groups.ensures.ranking;
     }

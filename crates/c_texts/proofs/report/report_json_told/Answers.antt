@@ -17,7 +17,8 @@ returns-in_err-told c =
     let k = c.in_ok-known in
     let r = c.from_residual-in_err-told in
     let p = err_from_is_err_and r.result r.ensures.1 in
-    refusal (λ (told : Ranked). SaysReport k.known a.rows.now told.rows told.groups) (IsReportJson a.names.now a.frame.now a.rows.now)
+    refusal (λ (told : Ranked). SaysReport k.known a.rows.now told.rows told.groups)
+    (IsReportJson a.names.now a.frame.now a.rows.now)
     c.in_err-told.field-0.0 p.0 r.result p.1 p.2 c.in_err-told.ensures
     (λ text is.
     let same = same_names a.names.now k.known is.names k.ensures is.named in

@@ -17,12 +17,14 @@ returns-in_err-header c =
     let k = c.in_ok-known in
     let r = c.from_residual-in_err-header in
     let p = err_from_is_err_and r.result r.ensures.1 in
-    refusal (IsHeadOf k.known (head_by a.version a.limit a.order.now a.points.now)) (IsTraceText a.names.now (head_by a.version a.limit a.order.now a.points.now) a.steps.now
+    refusal (IsHeadOf k.known (head_by a.version a.limit a.order.now a.points.now))
+    (IsTraceText a.names.now (head_by a.version a.limit a.order.now a.points.now) a.steps.now
     a.verdict.now)
     c.in_err-header.field-0.0 p.0 r.result p.1 p.2 c.in_err-header.ensures
     (λ text is.
     let same = same_names a.names.now k.known is.names k.ensures is.named in
-    let moved = subst (λ (n : NameLists). IsHead n (head_by a.version a.limit a.order.now a.points.now)) same is.head_is in
+    let moved = subst (λ (n : NameLists).
+    IsHead n (head_by a.version a.limit a.order.now a.points.now)) same is.head_is in
     let header : Header =
     record { version = a.version; order = a.order.now; points = a.points.now; limit = a.limit } in
     (header, record { is = moved; same = refl }))
@@ -33,12 +35,14 @@ returns-in_err-events c =
     let k = c.in_ok-known in
     let r = c.from_residual-in_err-events in
     let p = err_from_is_err_and r.result r.ensures.1 in
-    refusal (SaysSteps k.known a.version a.limit a.steps.now) (IsTraceText a.names.now (head_by a.version a.limit a.order.now a.points.now) a.steps.now
+    refusal (SaysSteps k.known a.version a.limit a.steps.now)
+    (IsTraceText a.names.now (head_by a.version a.limit a.order.now a.points.now) a.steps.now
     a.verdict.now)
     c.in_err-events.field-0.0 p.0 r.result p.1 p.2 c.in_err-events.ensures
     (λ text is.
     let same = same_names a.names.now k.known is.names k.ensures is.named in
-    let moved = subst (λ (n : NameLists). SaysSteps n a.version a.limit a.steps.now is.events) same is.run in
+    let moved = subst (λ (n : NameLists). SaysSteps n a.version a.limit a.steps.now is.events) same
+    is.run in
     (is.events, moved))
 
 pub returns-in_err-said : goal.returns-in_err-said
@@ -47,7 +51,8 @@ returns-in_err-said c =
     let k = c.in_ok-known in
     let r = c.from_residual-in_err-said in
     let p = err_from_is_err_and r.result r.ensures.1 in
-    refusal (SaysKnown k.known a.verdict.now) (IsTraceText a.names.now (head_by a.version a.limit a.order.now a.points.now) a.steps.now
+    refusal (SaysKnown k.known a.verdict.now)
+    (IsTraceText a.names.now (head_by a.version a.limit a.order.now a.points.now) a.steps.now
     a.verdict.now)
     c.in_err-said.field-0.0 p.0 r.result p.1 p.2 c.in_err-said.ensures
     (λ text is.

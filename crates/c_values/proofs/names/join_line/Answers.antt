@@ -1,4 +1,5 @@
-use Rattle.std.proofs.Common.{◌≡◌, ◌∙◌, sym, subst, refl, length, Option, Some, None, true, false, IfOk}
+use Rattle.std.proofs.Common.{◌≡◌, ◌∙◌, sym, subst, refl, length, Option, Some, None, true, false}
+use Rattle.std.proofs.Common.{IfOk}
 use Rattle.pct_ask.specs.NameLists.{NameLists}
 use Rattle.pct_ask.specs.VerdictWords.{words_of}
 use Rattle.c_values.specs.NamesText.{with_words, joined_by}

@@ -25,8 +25,10 @@ loop-place-preserved c =
             | inl before ↦ c.loop-place.invariant.1 earlier nesting before
             | inr (last, same) ↦
                 let here : earlier ≡ place = last ∙ c.loop-place.invariant.0 in
-                let P : ℕ → Type 0 = λ next. IsFirstOfPair events (get_or ring place 0) next first in
-                let Q : ℕ → Type 0 = λ k. IsFirstOfPair events (get_or ring k 0) (next_in_ring ring k)
+                let P : ℕ → Type 0 = λ next. IsFirstOfPair events (get_or ring place 0) next
+                first in
+                let Q : ℕ → Type 0 = λ k. IsFirstOfPair events (get_or ring k 0)
+                (next_in_ring ring k)
                 first in
                 let R : Nesting → Type 0 = λ n.
                 IsFirstOfPair events (get_or ring earlier 0) (next_in_ring ring earlier) n in

@@ -28,8 +28,10 @@ returns-in_ok-own-in-Some c =
     let says = subst (λ (deal : Option Deal). IfSome deal (SaysDeal counts vars sems barriers))
     c.in-Some.is c.in_ok-deal.ensures.deal in
     ordered c.of_order.result c.by_moments-made.result
-    (MayOrder counts vars sems barriers c.args.order.now (length c.args.moments.now) c.args.limit → ⊥)
-    (IsMade counts vars sems barriers c.args.limit (ByEvents c.args.order.now (map moment_said c.args.moments.now)))
+    (MayOrder counts vars sems barriers c.args.order.now (length c.args.moments.now) c.args.limit
+    → ⊥)
+    (IsMade counts vars sems barriers c.args.limit
+    (ByEvents c.args.order.now (map moment_said c.args.moments.now)))
     c.of_order.ensures.made c.of_order.ensures.bad
     (λ book is. (
       c.in-Some.deal,
@@ -37,5 +39,6 @@ returns-in_ok-own-in-Some c =
       subst (λ (r : Result Book RankError). IfOk r (λ b. state_of b ≡ new_book c.in-Some.deal
           c.args.limit (ByEvents c.args.order.now (map moment_said c.args.moments.now)))) is made,
     ))
-    (λ at is may. wrong_is_no_order c.args.order.now at (c.by_moments-made.ensures.not_an_order at is)
+    (λ at is may. wrong_is_no_order c.args.order.now at
+    (c.by_moments-made.ensures.not_an_order at is)
     may.order)

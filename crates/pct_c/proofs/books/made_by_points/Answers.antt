@@ -21,14 +21,16 @@ returns-else-order-deal c =
     let says = subst (λ (deal : Option Deal). IfSome deal (SaysDeal counts vars sems barriers))
     c.in-Some.is c.in_ok-deal.ensures.deal in
     ordered c.of_order.result c.by_points.result
-    (MayOrder counts vars sems barriers c.args.order.now (length c.args.points.now) c.args.limit → ⊥)
+    (MayOrder counts vars sems barriers c.args.order.now (length c.args.points.now) c.args.limit
+    → ⊥)
     (IsMade counts vars sems barriers c.args.limit (ByPoints c.args.order.now c.args.points.now))
     c.of_order.ensures.made c.of_order.ensures.bad
     (λ book is. (
       c.in-Some.deal,
       says,
       subst (λ (r : Result Book RankError). IfOk r (λ b. state_of b
-          ≡ new_book c.in-Some.deal c.args.limit (ByPoints c.args.order.now c.args.points.now))) is c.by_points.ensures.made,
+          ≡ new_book c.in-Some.deal c.args.limit (ByPoints c.args.order.now c.args.points.now))) is
+          c.by_points.ensures.made,
     ))
     (λ at is may. wrong_is_no_order c.args.order.now at (c.by_points.ensures.not_an_order at is)
     may.order)

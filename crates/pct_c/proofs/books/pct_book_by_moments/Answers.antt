@@ -16,6 +16,7 @@ returns c =
     kept c.made_by_moments-made.result c.keep.result c.args.book.now.held.value
     c.keep.new.handle.held.value
     (MayOrder deal vars sems barriers c.args.order.now (length c.args.moments.now) c.args.limit)
-    (IsMade deal vars sems barriers c.args.limit (ByEvents c.args.order.now (map moment_said c.args.moments.now)))
+    (IsMade deal vars sems barriers c.args.limit
+    (ByEvents c.args.order.now (map moment_said c.args.moments.now)))
     c.made_by_moments-made.ensures c.keep.ensures.done c.keep.ensures.bad c.keep.ensures.statuses
     c.keep.ensures.stays

@@ -6,5 +6,6 @@ pub returns : goal.returns
 returns c =
     let a = c.args in
     puts (IsReportJson a.names.now a.frame.now a.rows.now) c.report_json_told-told.result
-    c.put.result.status c.put.result.count a.text.now c.put.new.buffer c.report_json_told-told.ensures
+    c.put.result.status c.put.result.count a.text.now c.put.new.buffer
+    c.report_json_told-told.ensures
     c.put.ensures

@@ -6,5 +6,6 @@ pub returns : goal.returns
 returns c =
     let a = c.args in
     puts (IsVerdictText a.names.now a.verdict.now)
-    c.verdict_text_told-told.result c.put.result.status c.put.result.count a.text.now c.put.new.buffer
+    c.verdict_text_told-told.result c.put.result.status c.put.result.count a.text.now
+    c.put.new.buffer
     c.verdict_text_told-told.ensures c.put.ensures

@@ -25,7 +25,8 @@ returns-in_ok-report_on-in-Campaign-clause-comes g c =
     rw c.in-Campaign.is (λ files told. c.in_ok-report_on-in-Campaign.ensures)
 
 pub returns-in_ok-big_of-in-Big-clause-comes : goal.returns-in_ok-big_of-in-Big-clause-comes
-returns-in_ok-big_of-in-Big-clause-comes g c = rw c.in-Big.is (λ files told. c.in_ok-big_of-in-Big.ensures)
+returns-in_ok-big_of-in-Big-clause-comes g c =
+    rw c.in-Big.is (λ files told. c.in_ok-big_of-in-Big.ensures)
 
 pub returns-in_ok-big_of-in-Big-clause-unread : goal.returns-in_ok-big_of-in-Big-clause-unread
 returns-in_ok-big_of-in-Big-clause-unread g c =

@@ -65,7 +65,8 @@ returns-in-Err-clause-unread g c = λ none files.
       shorts = g.O.Sink.shorts c.args.out.now;
     } in
     answers_refused (Ok c.args.settings.now) shelf shelf' out c.in-Err.refusal
-    (told_comes (OfTaken (Ok c.args.settings.now)) files (ReadFailed (Ok c.args.settings.now) shelf shelf')
+    (told_comes (OfTaken (Ok c.args.settings.now)) files
+    (ReadFailed (Ok c.args.settings.now) shelf shelf')
     (Err c.in-Err.refusal) (c.in-Err.ensures.unread none files))
 
 pub returns-in-Ok-clause-unread : goal.returns-in-Ok-clause-unread
@@ -89,7 +90,8 @@ returns-in-Ok-clause-unread g c = λ none files.
       shorts = g.O.Sink.shorts c.put_outcome.new.out;
     } in
     answers_put (Ok c.args.settings.now) shelf shelf' out out' c.in-Ok.outcome c.put_outcome.result
-    (told_comes (OfTaken (Ok c.args.settings.now)) files (ReadFailed (Ok c.args.settings.now) shelf shelf')
+    (told_comes (OfTaken (Ok c.args.settings.now)) files
+    (ReadFailed (Ok c.args.settings.now) shelf shelf')
     (Ok c.in-Ok.outcome) (c.in-Ok.ensures.unread none files)) c.put_outcome.ensures
 
 pub returns-in-Ok-clause-shelf : goal.returns-in-Ok-clause-shelf
@@ -113,5 +115,6 @@ returns-in-Ok-clause-shelf g c =
       shorts = g.O.Sink.shorts c.put_outcome.new.out;
     } in
     subst (λ (unread : Bool). LeavesShelf (Ok c.args.settings.now) unread shelf shelf')
-    (sym (put_is_read (printed_of c.in-Ok.outcome) out out' c.put_outcome.result c.put_outcome.ensures))
+    (sym (put_is_read (printed_of c.in-Ok.outcome) out out' c.put_outcome.result
+    c.put_outcome.ensures))
     c.in-Ok.ensures.shelf

@@ -157,7 +157,8 @@ speak-requires-clause-runs g c = λ κs lives.
       c.requires.crew.0 t,
       c.requires.crew.1 t,
       subst N (sym c.hear.ensures.answered)
-          (answer-running v w t mine None c.in-Answer.value took (c.requires.crew.0 t) now r.answered
+          (answer-running v w t mine None c.in-Answer.value took (c.requires.crew.0 t) now
+          r.answered
           here.1 (λ q is. none-owed q is) then next),
     )
 

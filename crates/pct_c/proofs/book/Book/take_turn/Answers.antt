@@ -33,7 +33,8 @@ returns-in-Moments-clause-answer c =
 
 pub returns-in-Moments-clause-not_yet : goal.returns-in-Moments-clause-not_yet
 returns-in-Moments-clause-not_yet c =
-    subst (AnswersNotYet c.take_turn-in-Moments.result c.args.thread c.take_turn-in-Moments.new.self)
+    subst (AnswersNotYet c.take_turn-in-Moments.result c.args.thread
+    c.take_turn-in-Moments.new.self)
     (sym (ap state_of c.in-Moments.is)) c.take_turn-in-Moments.ensures.not_yet
 
 pub returns-in-Listed-clause-answer : goal.returns-in-Listed-clause-answer

@@ -24,16 +24,20 @@ returns-in-Points-clause-whole c =
 
 pub returns-in-Moments-clause-prefix : goal.returns-in-Moments-clause-prefix
 returns-in-Moments-clause-prefix c =
-    subst (Begins c.trace-in-Moments.result.now) (sym (ap state_of c.in-Moments.is)) c.trace-in-Moments.ensures.prefix
+    subst (Begins c.trace-in-Moments.result.now) (sym (ap state_of c.in-Moments.is))
+    c.trace-in-Moments.ensures.prefix
 
 pub returns-in-Moments-clause-whole : goal.returns-in-Moments-clause-whole
 returns-in-Moments-clause-whole c =
-    subst (IsWhole c.trace-in-Moments.result.now) (sym (ap state_of c.in-Moments.is)) c.trace-in-Moments.ensures.whole
+    subst (IsWhole c.trace-in-Moments.result.now) (sym (ap state_of c.in-Moments.is))
+    c.trace-in-Moments.ensures.whole
 
 pub returns-in-Listed-clause-prefix : goal.returns-in-Listed-clause-prefix
 returns-in-Listed-clause-prefix c =
-    subst (Begins c.trace-in-Listed.result.now) (sym (ap state_of c.in-Listed.is)) c.trace-in-Listed.ensures.prefix
+    subst (Begins c.trace-in-Listed.result.now) (sym (ap state_of c.in-Listed.is))
+    c.trace-in-Listed.ensures.prefix
 
 pub returns-in-Listed-clause-whole : goal.returns-in-Listed-clause-whole
 returns-in-Listed-clause-whole c =
-    subst (IsWhole c.trace-in-Listed.result.now) (sym (ap state_of c.in-Listed.is)) c.trace-in-Listed.ensures.whole
+    subst (IsWhole c.trace-in-Listed.result.now) (sym (ap state_of c.in-Listed.is))
+    c.trace-in-Listed.ensures.whole

@@ -27,10 +27,12 @@ lies R s null_ptr x = tt
 
 crosses : (alloc : Global) (p : Ptr) (o : Option Kept.the_row.Denot) → Keyless (held_owns alloc p o)
 crosses alloc p None = tt
-crosses alloc p (Some x) = (lies Kept.the_row kept p x, heap.frees.frees alloc (raw (lone Kept.the_row.mir)) p)
+crosses alloc p (Some x) =
+    (lies Kept.the_row kept p x, heap.frees.frees alloc (raw (lone Kept.the_row.mir)) p)
 
 pub send : IsSend the_row
 send =
     let all : AllSend (fields the_type) = (search sendable, (handle.the_field_send, tt)) in
     owning_send the_type all (λ d. crosses d.alloc d.at d.value)
-    (λ k. quiet (to the_type) (exits_of k (fields the_type)) ((struct_send (shape the_type) all).leaving k))
+    (λ k. quiet (to the_type) (exits_of k (fields the_type))
+    ((struct_send (shape the_type) all).leaving k))

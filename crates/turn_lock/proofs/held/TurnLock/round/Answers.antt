@@ -65,7 +65,8 @@ returns-in-Some-clause-of g c =
     let t = turned old.seat.me c.grab-found.new.seat.me c.sweep-swept.new.seat.me _ got.1
     c.sweep-swept.ensures.same.1 got.2 _ _ _ _ serves (inside old _ serves) found.work
     c.wake.new.seat.me opened in (
-      c.wake.ensures.same.table ∙ c.open_gate.ensures.same.table ∙ c.sweep-swept.ensures.same.0.table
+      c.wake.ensures.same.table ∙ c.open_gate.ensures.same.table
+          ∙ c.sweep-swept.ensures.same.0.table
           ∙ c.grab-found.ensures.same.table ∙ c.requires.of.0,
       making-along _ _ _ c.requires.of.1 t.took.grown.making,
     )
