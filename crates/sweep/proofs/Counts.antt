@@ -1,14 +1,13 @@
 -- A sweep's groups are counted by the choices that have their verdicts.
-use Rattle.std.specs.Prelude.{slice_get, map, sum_by, count_by, flat_map, Contains, filter}
-use Rattle.std.proofs.Common.{◌≡◌, ◌≢◌, ℕ, zero, suc, ◌+◌, ◌*◌, ◌<◌, ◌≤◌, Bool, true, false, cond}
+use Rattle.std.specs.Prelude.{slice_get, map, sum_by, count_by, flat_map, Contains}
+use Rattle.std.proofs.Common.{◌≡◌, ◌≢◌, ℕ, zero, suc, ◌+◌, ◌*◌, ◌<◌, ◌≤◌, Bool, cond}
 use Rattle.std.proofs.Common.{Option, Some, None, List, [], ◌∷◌, ◌++◌, length, get_or, refl, sym}
 use Rattle.std.proofs.Common.{ap}
 use Rattle.std.proofs.Common.{subst, ◌∙◌, arith, append_assoc, append-nil}
 use Rattle.std.specs.Option.{option_map}
-use Rattle.std.proofs.lemmas.List.Sums.{sum_by-append, sum_by-cons, length-filter}
+use Rattle.std.proofs.lemmas.List.Sums.{sum_by-cons, length-filter}
 use Rattle.std.proofs.lemmas.List.Elements.{Contains-get_or}
 use Rattle.std.proofs.lemmas.Option.{slice_get_within}
-use Rattle.pct_ask.specs.declared.event.Event.{Event}
 use Rattle.pct_ask.specs.declared.event.Row.{Row}
 use Rattle.pct_ask.specs.declared.verdict.Verdict.{Verdict}
 use Rattle.pct_ask.specs.declared.verdict.Verdict.TheVariants.{Passed}
@@ -27,46 +26,17 @@ use Rattle.choices.proofs.laws.ListedOnce.{all-orders, all-points}
 use Rattle.choices.proofs.laws.ListedOnce.{listed-all}
 use Rattle.sweep.specs.Choices.{choice_of, choice_count}
 use Rattle.sweep.specs.declared.choice.Choice.{Choice}
-use Rattle.sweep.specs.Rows.{Setup, leads, row_of_run, row_of_choice, rows_from, choices_of}
+use Rattle.sweep.specs.Rows.{Setup, row_of_choice, rows_from, choices_of}
 use Rattle.sweep.specs.Swept.{IsSweep, hits_of, RunsTo, IsFailure, AllPass, IsCounted}
 use Rattle.sweep.specs.Swept.{SweepsAreCounted}
 use Rattle.sweep.specs.declared.sweeping.Swept.{Swept}
 use Rattle.sweep.proofs.Places.{get-flat, in-flat}
 use Rattle.sweep.proofs.Lists.{filter-item, filter-has, filter-first, sum-zero, sum-both}
-use Rattle.sweep.proofs.Lists.{sum-ones, sum-same, at-place, got, is-in}
+use Rattle.sweep.proofs.Lists.{sum-ones, sum-same, sum-flat, at-place, got, is-in}
 use Rattle.sweep.proofs.Rows.{length-choices}
+use Rattle.sweep.proofs.RowLemmas.{same-sym, IsRowOf, row-of, ones, has, length-filter-cons}
 
 -- ---- rows and choices
-
-same-sym : (v w : Verdict) → same_verdict v w ≡ same_verdict w v
-same-sym v w = verdict_cases v w (same_verdict v w ≡ same_verdict w v)
-    (λ e. same-true v w e ∙ sym (same-true w v (sym e)))
-    (λ n. same-false v w n ∙ sym (same-false w v (λ e. n (sym e))))
-
-record IsRowOf (setup : Setup) (place : ℕ) (choice : Choice) (row : Row) : Type 0 where
-  pub made : List Event
-  pub is_run : leads setup choice.order choice.points ≡ Some (made, row.verdict)
-  pub seed : row.seed ≡ place
-  pub steps : row.steps ≡ length made
-
-row-of : (setup : Setup) (place : ℕ) (choice : Choice) (row : Row)
-    → row_of_choice setup place choice ≡ Some row → IsRowOf setup place choice row
-row-of setup place choice row is = by (leads setup choice.order choice.points) refl
-  where
-    by : (o : Option Run) → leads setup choice.order choice.points ≡ o
-        → IsRowOf setup place choice row
-    by None none = absurd (let e : None ≡ Some row =
-        sym (ap (λ (o : Option Run). option_map (row_of_run place) o) none) ∙ is in cc)
-    by (Some run) at =
-        let e : Some (row_of_run place run) ≡ Some row =
-        sym (ap (λ (o : Option Run). option_map (row_of_run place) o) at) ∙ is in
-        let same : row_of_run place run ≡ row = cc in
-        record {
-          made = run.0;
-          is_run = at ∙ ap (λ (r : Row). Some (run.0, r.verdict)) same;
-          seed = ap (λ (r : Row). r.seed) (sym same);
-          steps = ap (λ (r : Row). r.steps) (sym same);
-        }
 
 -- the choice of a row, and the row of a choice
 choice-of : (setup : Setup) (place : ℕ) (cs : List Choice) (rows : List Row)
@@ -121,21 +91,6 @@ length-rows setup place (c ∷ cs) (r ∷ rows) are =
 
 -- ---- the rows of a verdict are as many as the choices that have it
 
-abbrev ones : Bool → ℕ
-ones b = cond b 1 0
-
-abbrev has : Setup → Verdict → Choice → Bool
-has setup verdict choice = has_verdict verdict (leads setup choice.order choice.points)
-
-length-filter-cons : {X : Type 0} (p : X → Bool) (x : X) (xs : List X)
-    → length (filter p (x ∷ xs)) ≡ cond (p x) 1 0 + length (filter p xs)
-length-filter-cons p x xs = by (p x) refl
-  where
-    by : (b : Bool) → p x ≡ b
-        → length (filter p (x ∷ xs)) ≡ cond (p x) 1 0 + length (filter p xs)
-    by true is = rw is (omega arith)
-    by false is = rw is (omega arith)
-
 rows-counted : (setup : Setup) (verdict : Verdict) (place : ℕ) (cs : List Choice) (rows : List Row)
     → map Some rows ≡ rows_from setup place cs
     → length (rows_with verdict rows) ≡ count_by (has setup verdict) cs
@@ -157,31 +112,10 @@ rows-counted setup verdict place (c ∷ cs) (r ∷ rows) are =
       one,
     )
 
-count-map : {X Y : Type 0} (f : Y → Bool) (g : X → Y) (xs : List X)
-    → count_by f (map g xs) ≡ count_by (λ x. f (g x)) xs
-count-map f g [] = refl
-count-map f g (x ∷ xs) =
-    omega (
-      arith,
-      sum_by-cons (λ y. cond (f y) 1 0) (g x) (map g xs),
-      sum_by-cons (λ x. cond (f (g x)) 1 0) x xs,
-      count-map f g xs,
-    )
-
 count-flat : (f : Choice → Bool) (os ls : List (List ℕ))
     → count_by f (flat_map (λ o. map (choice_of o) ls) os)
     ≡ sum_by (λ o. count_by (λ ps. f (choice_of o ps)) ls) os
-count-flat f [] ls = refl
-count-flat f (o ∷ os) ls =
-    let pair = choice_of o in
-    omega (
-      arith,
-      sum_by-append (λ c. cond (f c) 1 0) (map pair ls)
-          (flat_map (λ o. map (choice_of o) ls) os),
-      count-map f pair ls,
-      sum_by-cons (λ o. count_by (λ ps. f (choice_of o ps)) ls) o os,
-      count-flat f os ls,
-    )
+count-flat f os ls = sum-flat (λ c. cond (f c) 1 0) choice_of os ls
 
 -- ---- a verdict that some row has, has a group
 

@@ -1,10 +1,11 @@
 -- What is so of lists: of what passes a test in them, of sums over them, and of what stands at a
 -- place.
-use Rattle.std.specs.Prelude.{slice_get, sum_by, Contains, filter}
+use Rattle.std.specs.Prelude.{slice_get, sum_by, Contains, filter, map}
+use Rattle.std.specs.List.{flat_map}
 use Rattle.std.proofs.Common.{◌≡◌, ℕ, zero, suc, ◌+◌, ◌<◌, Bool, true, false}
 use Rattle.std.proofs.Common.{Option, Some, List, [], ◌∷◌, length, get_or, refl, sym, ap}
 use Rattle.std.proofs.Common.{◌∙◌, arith}
-use Rattle.std.proofs.lemmas.List.Sums.{sum_by-cons}
+use Rattle.std.proofs.lemmas.List.Sums.{sum_by-cons, sum_by-append}
 use Rattle.std.proofs.lemmas.Option.{slice_get_within, slice_get-get_or}
 
 -- ---- what passes a test, in a list and in its filter
@@ -113,6 +114,30 @@ sum-same f g (x ∷ xs) each =
       sum_by-cons g x xs,
       each 0 x refl,
       sum-same f g xs (λ k y at. each (suc k) y at),
+    )
+
+sum-map : {X Y : Type 0} (f : Y → ℕ) (g : X → Y) (xs : List X)
+    → sum_by f (map g xs) ≡ sum_by (λ x. f (g x)) xs
+sum-map f g [] = refl
+sum-map f g (x ∷ xs) =
+    omega (
+      arith,
+      sum_by-cons f (g x) (map g xs),
+      sum_by-cons (λ x. f (g x)) x xs,
+      sum-map f g xs,
+    )
+
+-- over all pairs
+pub sum-flat : {X Y Z : Type 0} (f : Z → ℕ) (g : X → Y → Z) (xs : List X) (ys : List Y)
+    → sum_by f (flat_map (λ x. map (g x) ys) xs) ≡ sum_by (λ x. sum_by (λ y. f (g x y)) ys) xs
+sum-flat f g [] ys = refl
+sum-flat f g (x ∷ xs) ys =
+    omega (
+      arith,
+      sum_by-append f (map (g x) ys) (flat_map (λ x. map (g x) ys) xs),
+      sum-map f (g x) ys,
+      sum_by-cons (λ x. sum_by (λ y. f (g x y)) ys) x xs,
+      sum-flat f g xs ys,
     )
 
 -- what stands in a list at a place

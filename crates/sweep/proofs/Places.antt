@@ -2,7 +2,7 @@
 use Rattle.std.specs.Prelude.{slice_get, map}
 use Rattle.std.specs.List.{flat_map, range_with_len}
 use Rattle.std.proofs.Common.{◌≡◌, ℕ, zero, suc, ◌+◌, ◌-◌, ◌*◌, ◌/◌, ◌%◌, ◌^◌, ◌<◌, ◌≤◌, Some, List}
-use Rattle.std.proofs.Common.{[], ◌∷◌, ◌++◌, length, sym, ap, subst, ◌∙◌, arith, append_assoc}
+use Rattle.std.proofs.Common.{[], ◌∷◌, ◌++◌, length, refl, sym, ap, subst, ◌∙◌, arith, append_assoc}
 use Rattle.std.proofs.Common.{append-nil, Option, None, inl, inr}
 use Rattle.std.proofs.Math.Nat.{div-add-mod, div-lt_iff_lt-mul, mod-lt, pow-suc, pow-zero}
 use Rattle.std.proofs.Math.Nat.{pow-le-pow_right, mul-le-mul_left, mul-div_cancel}
@@ -18,6 +18,7 @@ use Rattle.choices.specs.Laws.{IsOrderOf, ArePoints}
 use Rattle.choices.proofs.laws.ListedOnce.{all-orders, all-points, in-append, in-map}
 use Rattle.sweep.specs.Choices.{choice_of, choices, choice_count, most_choices, IsCountWithin}
 use Rattle.sweep.specs.declared.choice.Choice.{Choice}
+use Rattle.sweep.specs.Weights.{point_weight, weight}
 
 -- ---- what stands at a place
 
@@ -85,10 +86,8 @@ points-get k (suc many) place some within =
 
 -- ---- as the list of points is made
 
-module _ (k points i n place rest block : ℕ) (list : List ℕ) (some : 1 ≤ k)
-    (next : points - i ≡ suc n) (powered : block ≡ k ^ (points - i))
-    (low : rest < k ^ (points - i))
-    (so_far : list ++ digits k (points - i) rest ≡ digits k points place) where
+module _ (k points i n rest block : ℕ) (some : 1 ≤ k) (next : points - i ≡ suc n)
+    (powered : block ≡ k ^ (points - i)) (low : rest < k ^ (points - i)) where
   abbrev smaller : ℕ
   smaller = block / k
 
@@ -115,9 +114,11 @@ module _ (k points i n place rest block : ℕ) (list : List ℕ) (some : 1 ≤ k
         let P : ℕ → Type 0 = λ b. rest % smaller < b in
         subst P next-block (mod-lt rest some-smaller)
 
-    pub next-list : (pushed : List ℕ) → pushed ≡ list ++ (rest / smaller + 1) ∷ []
+    pub next-list : (place : ℕ) (list pushed : List ℕ)
+        → list ++ digits k (points - i) rest ≡ digits k points place
+        → pushed ≡ list ++ (rest / smaller + 1) ∷ []
         → pushed ++ digits k (points - (i + 1)) (rest % smaller) ≡ digits k points place
-    next-list pushed is =
+    next-list place list pushed so_far is =
         let F : ℕ → List ℕ = λ b.
         (list ++ (rest / b + 1) ∷ []) ++ digits k n (rest % b) in
         ap (λ l. l ++ digits k (points - (i + 1)) (rest % smaller)) is
@@ -126,6 +127,25 @@ module _ (k points i n place rest block : ℕ) (list : List ℕ) (some : 1 ≤ k
         ∙ append_assoc list ((rest / k ^ n + 1) ∷ []) (digits k n (rest % k ^ n))
         ∙ ap (λ m. list ++ digits k m rest) (sym next)
         ∙ so_far
+
+    -- the same of the weight of a list
+    pub next-weight : (long weighed whole : ℕ)
+        → weighed * weight k long (digits k (points - i) rest) ≡ whole
+        → weighed * point_weight k long (rest / smaller + 1)
+        * weight k long (digits k (points - (i + 1)) (rest % smaller)) ≡ whole
+    next-weight long weighed whole so_far =
+        let F : ℕ → ℕ = λ b.
+        weighed * point_weight k long (rest / b + 1) * weight k long (digits k n (rest % b)) in
+        ap (λ m. weighed * point_weight k long (rest / smaller + 1)
+        * weight k long (digits k m (rest % smaller))) after
+        ∙ ap F smaller-is
+        ∙ regrouped weighed (point_weight k long (rest / k ^ n + 1))
+        (weight k long (digits k n (rest % k ^ n)))
+        ∙ ap (λ m. weighed * weight k long (digits k m rest)) (sym next)
+        ∙ so_far
+      where
+        regrouped : (a b c : ℕ) → a * b * c ≡ a * (b * c)
+        regrouped a b c = grind arith
 
 pub list-there : (k points i place rest : ℕ) (list : List ℕ) → 1 ≤ k → place < k ^ points
     → points - i ≡ 0 → list ++ digits k (points - i) rest ≡ digits k points place
@@ -240,6 +260,32 @@ module _ (threads k many place : ℕ) (some : 1 ≤ k)
       ap (slice_get (choices threads k many)) whole
       ∙ get-flat choice_of (orders (threads_below threads)) (pointlists k many)
       q r order list (subst O is at) (subst L is there)
+
+pub item-at : {X : Type 0} (xs : List X) (k : ℕ) → k < length xs
+    → (x : X) × (slice_get xs k ≡ Some x)
+item-at [] k within = absurd (omega (arith, within))
+item-at (x ∷ xs) zero within = (x, refl)
+item-at (x ∷ xs) (suc k) within = item-at xs k (omega (arith, within))
+
+-- the points of the choice at a place
+pub points-there : (threads k many place : ℕ) (choice : Choice) → 1 ≤ k
+    → place < choice_count threads k many
+    → ◌≡◌ {A = Option Choice} (slice_get (choices threads k many) place) (Some choice)
+    → slice_get (pointlists k many) (place % k ^ many) ≡ Some choice.points
+points-there threads k many place choice some within at =
+    let os = orders (threads_below threads) in
+    let in_orders : place / k ^ many < length os =
+    omega (arith, order-place threads k many place some within, (all-orders threads).many_items) in
+    let order = item-at os (place / k ^ many) in_orders in
+    let small = list-place threads k many place some within in
+    let list = digits k many (place % k ^ many) in
+    let there = points-get k many (place % k ^ many) some small in
+    let made = choice-there threads k many place some within (k ^ many) order.0 list refl order.1
+    there in
+    let both : ◌≡◌ {A = Option Choice} (Some (choice_of order.0 list)) (Some choice) =
+    sym made ∙ at in
+    let same : choice_of order.0 list ≡ choice = cc in
+    there ∙ ap (λ (c : Choice). Some c.points) same
 
 -- ---- what stands in the list of choices
 pub in-flat : (os ls : List (List ℕ)) (k : ℕ) (c : Choice)

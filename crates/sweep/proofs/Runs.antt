@@ -1,8 +1,10 @@
 -- The tests of choices have the choices' runs.
 use Rattle.std.proofs.Common.{◌≡◌, ℕ, ◌+◌, ◌<◌, List, [], ◌∷◌, ◌++◌, Option, Some, Result}
-use Rattle.std.proofs.Common.{Ok, Err, Vec, Global, length, map, get_or, sym, ap, subst, ◌∙◌, arith}
-use Rattle.std.specs.Prelude.{IfOk}
-use Rattle.std.proofs.lemmas.Option.{slice_get_within, slice_get-get_or}
+use Rattle.std.proofs.Common.{Ok, Err, Vec, Global, length, map, take, refl, sym, ap, subst, ◌∙◌}
+use Rattle.std.proofs.Common.{arith, inl, inr, zero, suc}
+use Rattle.std.specs.Prelude.{IfOk, slice_get}
+use Rattle.std.proofs.lemmas.List.{length-append}
+use Rattle.std.proofs.lemmas.Option.{slice_get_within}
 use Rattle.pct_ask.specs.declared.Deal.{Deal}
 use Rattle.pct_ask.specs.Bodies.{Pending}
 use Rattle.policy_pick.specs.Plan.{ByPoints}
@@ -15,11 +17,13 @@ use Rattle.worker_run.specs.Batch.{Each}
 use Rattle.worker_run.specs.Tests.{IsTest, AreTests, IsRunOf}
 use Rattle.worker_run.specs.declared.batch.Test.{Test}
 use Rattle.worker_run.specs.declared.played.Played.{Played}
-use Rattle.worker_run.proofs.laws.ItemsByPlace.{places-more, get-within}
+use Rattle.worker_run.proofs.laws.ItemsByPlace.{get-within}
+use Rattle.choices.proofs.laws.ListedOnce.{in-append}
 use Rattle.sweep.specs.declared.choice.Choice.{Choice}
 use Rattle.sweep.specs.Rows.{Setup, leads}
 use Rattle.sweep.specs.Batches.{IsChoiceAt, IsChoiceTest, IsTestAt, AreChoiceTests, IsRunAt}
 use Rattle.sweep.specs.Batches.{AreChoiceRuns}
+use Rattle.sweep.proofs.Rows.{take-next}
 
 -- ---- tests
 
@@ -49,20 +53,52 @@ choice-tested setup place choice (Ok t) order points deal limit bodies at p d l 
 choice-tested setup place choice (Err e) order points deal limit bodies at p d l b ordered pointed
     dealt limited posting = tt
 
-pub no-tests : (setup : Setup) (start : ℕ) (tests : List ChoiceTest) → tests ≡ []
-    → AreChoiceTests setup start tests
-no-tests setup start tests none =
-    let A : List ChoiceTest → Type 0 = AreChoiceTests setup start in
-    subst A (sym none) (λ i test at. absurd cc)
+pub no-tests : (setup : Setup) (places : List ℕ) (tests : List ChoiceTest) → tests ≡ []
+    → AreChoiceTests setup (take 0 places) tests
+no-tests setup places tests none =
+    let A : List ChoiceTest → Type 0 = AreChoiceTests setup [] in
+    subst A (sym none) (record { long = refl; each = λ i place test at there. absurd cc })
 
-pub next-test : (setup : Setup) (start place : ℕ) (tests new : List ChoiceTest)
-    (test : ChoiceTest) → place ≡ start + length tests → new ≡ tests ++ test ∷ []
-    → IsTestAt setup place test → AreChoiceTests setup start tests → AreChoiceTests setup start new
-next-test setup start place tests new test at are is all =
-    let A : List ChoiceTest → Type 0 = AreChoiceTests setup start in
-    let T : ℕ → Type 0 = λ n. IsTestAt setup n test in
-    subst A (sym are)
-    (places-more (λ i. IsTestAt setup (start + i)) tests test all (subst T at is))
+-- the test of the next place
+pub next-test : (setup : Setup) (places : List ℕ) (k place : ℕ) (tests new : List ChoiceTest)
+    (test : ChoiceTest) → slice_get places k ≡ Some place → new ≡ tests ++ test ∷ []
+    → IsTestAt setup place test → AreChoiceTests setup (take k places) tests
+    → AreChoiceTests setup (take (k + 1) places) new
+next-test setup places k place tests new test at are is all =
+    let A : List ℕ → List ChoiceTest → Type 0 = AreChoiceTests setup in
+    let first = take k places in
+    subst (λ l. A l new) (sym (take-next places k place at))
+    (subst (A (first ++ place ∷ [])) (sym are) (record {
+      long = omega (
+        arith,
+        length-append tests (test ∷ []),
+        length-append first (place ∷ []),
+        all.long,
+      );
+      each = λ i p t there its. elim (in-append first (place ∷ []) i p there) [
+        | inl early ↦ elim (in-append tests (test ∷ []) i t its) [
+          | inl own ↦ all.each i p t early own
+          | inr late ↦
+              absurd (omega (arith, slice_get_within first i p early, late.1, all.long))
+        ]
+        | inr here ↦ elim (in-append tests (test ∷ []) i t its) [
+          | inl own ↦
+              absurd (omega (arith, slice_get_within tests i t own, here.1, all.long))
+          | inr late ↦
+              last p t here.0 late.0 here.2 late.2
+        ]
+      ];
+    }))
+  where
+    last : (p : ℕ) (t : ChoiceTest) (i j : ℕ) → slice_get (place ∷ []) i ≡ Some p
+        → slice_get (test ∷ []) j ≡ Some t → IsTestAt setup p t
+    last p t zero zero one two =
+        let same : place ≡ p = cc in
+        let same_test : test ≡ t = cc in
+        subst (λ p. IsTestAt setup p t) same
+        (subst (IsTestAt setup place) same_test is)
+    last p t (suc i) j one two = absurd cc
+    last p t zero (suc j) one two = absurd cc
 
 -- ---- runs
 
@@ -91,38 +127,27 @@ choice-run setup place test played sound is ran =
       short = omega (arith, ran.played.obeys.within, sound.few_steps);
     }
 
-choice-runs : (setup : Setup) (start : ℕ) (tests : List ChoiceTest) (runs : List Played)
-    → AreTests pending_of_body points_plan PointsStand tests → AreChoiceTests setup start tests
-    → Each (IsRunOf pending_of_body points_plan) tests runs → AreChoiceRuns setup start runs
-choice-runs setup start tests runs sound are ran i played at =
-    let within : i < length tests = omega (arith, slice_get_within runs i played at, ran.long) in
-    let found = get-within tests i within in
-    choice-run setup (start + i) found.0 played (sound i found.0 found.1)
-    (are i found.0 found.1) (ran.each i found.0 played found.1 at)
+choice-runs : (setup : Setup) (places : List ℕ) (tests : List ChoiceTest) (runs : List Played)
+    → AreTests pending_of_body points_plan PointsStand tests → AreChoiceTests setup places tests
+    → Each (IsRunOf pending_of_body points_plan) tests runs → AreChoiceRuns setup places runs
+choice-runs setup places tests runs sound are ran = record {
+  long = ran.long ∙ are.long;
+  each = λ i place played at there.
+      let within : i < length tests =
+      omega (arith, slice_get_within runs i played there, ran.long) in
+      let found = get-within tests i within in
+      choice-run setup place found.0 played (sound i found.0 found.1)
+      (are.each i place found.0 at found.1) (ran.each i found.0 played found.1 there);
+}
 
-module _ {E : Type 0} (setup : Setup) (start : ℕ) (tests : List ChoiceTest) where
+module _ {E : Type 0} (setup : Setup) (places : List ℕ) (tests : List ChoiceTest) where
   pub all-ran : (made : Result (Vec Played Global) E)
       → AreTests pending_of_body points_plan PointsStand tests
-      → AreChoiceTests setup start tests
+      → AreChoiceTests setup places tests
       → IfOk made (λ runs. Each (IsRunOf pending_of_body points_plan) tests runs.items)
-      → IfOk made (λ runs. AreChoiceRuns setup start runs.items)
-  all-ran (Ok runs) sound are ran = choice-runs setup start tests runs.items sound are ran
+      → IfOk made (λ runs. AreChoiceRuns setup places runs.items)
+  all-ran (Ok runs) sound are ran = choice-runs setup places tests runs.items sound are ran
   all-ran (Err e) sound are ran = tt
-
-pub as-many : {E : Type 0} (start : ℕ) (tests : List ChoiceTest)
-    (made : Result (Vec Played Global) E) (end : ℕ) → start + length tests ≡ end
-    → IfOk made (λ runs. Each (IsRunOf pending_of_body points_plan) tests runs.items)
-    → IfOk made (λ runs. start + length runs.items ≡ end)
-as-many start tests (Ok runs) end long ran = omega (arith, ran.long, long)
-as-many start tests (Err e) end long ran = tt
-
--- the run of a place among those that were made
-pub run-among : (setup : Setup) (start i place : ℕ) (runs : List Played) (played : Played)
-    → place ≡ start + i → i < length runs → played ≡ get_or runs i played
-    → AreChoiceRuns setup start runs → IsRunAt setup place played
-run-among setup start i place runs played at within is all =
-    let P : ℕ → Type 0 = λ p. IsRunAt setup p played in
-    subst P (sym at) (all i played (slice_get-get_or runs i played within ∙ ap Some (sym is)))
 
 -- a test that was run by itself
 pub one-ran : {E : Type 0} (setup : Setup) (place : ℕ) (test : ChoiceTest) (made : Result Played E)
@@ -146,8 +171,9 @@ one-ran setup place test (Ok played) sound is ran by_points =
 one-ran setup place test (Err e) sound is ran by_points = tt
 
 -- the same runs
-pub same-runs : (setup : Setup) (start : ℕ) (runs others : List Played) → others ≡ runs
-    → AreChoiceRuns setup start runs → AreChoiceRuns setup start others
-same-runs setup start runs others are all =
-    let A : List Played → Type 0 = AreChoiceRuns setup start in
-    subst A (sym are) all
+pub same-runs : (setup : Setup) (places others : List ℕ) (runs more : List Played)
+    → others ≡ places → more ≡ runs → AreChoiceRuns setup places runs
+    → AreChoiceRuns setup others more
+same-runs setup places others runs more same are all =
+    let A : List ℕ → List Played → Type 0 = AreChoiceRuns setup in
+    subst (λ l. A l more) (sym same) (subst (A places) (sym are) all)

@@ -1,12 +1,16 @@
 // The rows of choices, counted. Their runs are made at once where there is memory for that.
-ghost use Rattle.std.specs.Prelude.{◌≡◌, ◌≤◌, ◌<◌, ◌+◌, length, IfOk, OnOk, OnErr, Some};
+ghost use Rattle.std.specs.Prelude.{◌≡◌, ◌≤◌, ◌<◌, ◌+◌, ◌++◌, ◌^◌, List, length, replicate};
+ghost use Rattle.std.specs.Prelude.{max, All, IfOk, OnOk};
+ghost use Rattle.pct_ask.specs.declared.event.Row.{Row};
+ghost use Rattle.failure_rank.specs.Growing.{IsTally};
 ghost use Rattle.script_tree.specs.ScriptText.{ScriptText};
 ghost use Rattle.sweep.specs.Choices.{choice_count};
 ghost use Rattle.sweep.specs.Batches.{IsSweepTask, setup_of_task, IsRunAt, AreChoiceRuns};
-ghost use Rattle.sweep.specs.Batches.{HasCounted};
+ghost use Rattle.sweep.specs.Batches.{HasCounted, AreAbove, AreAhead};
 
+use crate::ahead::{Ahead, choices_ahead, stands_for};
 use crate::choice_tests::{choice_test, choice_tests};
-use crate::task::Task;
+use crate::task::{Reach, Task};
 use failure_rank::Tally;
 use pct_ask::Row;
 use pct_outside::Gate;
@@ -15,49 +19,106 @@ use std::sync::Wait;
 use std::thread::Threads;
 use worker_run::{Played, Test, run_many, run_threads};
 
-/// Counts the run of the choice at a place, before which all are counted.
+/// Counts a row so many times.
+fn add_copies(tally: &mut Tally, row: &Row, times: u32) -> Result<(), NoMemory>
+    requires { (rows : List Row) × IsTally rows tally.old × (length rows + times < 2 ^ 32) }
+    ensures { (rows : List Row) → IsTally rows tally.old
+        → OnOk result (IsTally (rows ++ replicate times row.now) tally.new) }
+{
+    for _copy in 0..times {
+        tally.add(row)?;
+    }
+    Ok(())
+}
+
+/// Counts the run of the next choice, for all choices for which it stands.
 fn count_run(
     task: &Task<'_>,
     tally: &mut Tally,
+    reach: Reach,
     place: u32,
     played: &Played,
-) -> Result<(), NoMemory>
+) -> Result<Reach, NoMemory>
     requires script { (script : ScriptText) × IsSweepTask script task.now }
-    requires place { place
-        < choice_count task.now.deal.now.threads task.now.steps task.now.points }
+    requires ahead { reach.place ≤ place }
+    requires place { place < task.now.choices }
+    requires above { (script : ScriptText) → IsSweepTask script task.now
+        → AreAbove (setup_of_task script task.now) reach.longest reach.place place }
     requires run { (script : ScriptText) → IsSweepTask script task.now
         → IsRunAt (setup_of_task script task.now) place played.now }
     requires before { (script : ScriptText) → IsSweepTask script task.now
-        → HasCounted (setup_of_task script task.now) place tally.old }
-    ensures { (script : ScriptText) → IsSweepTask script task.now
-        → OnOk result (HasCounted (setup_of_task script task.now) (place + 1) tally.new) }
+        → HasCounted (setup_of_task script task.now) reach tally.old }
+    ensures place { IfOk result (λ now. now.place ≡ place + 1) }
+    ensures longest { IfOk result (λ now. reach.longest ≤ now.longest) }
+    ensures counted { (script : ScriptText) → IsSweepTask script task.now
+        → IfOk result (λ now. HasCounted (setup_of_task script task.now) now tally.new) }
 {
-    let _ = task; // which the clauses name
-    tally.add(&Row {
+    let steps = played.events.len() as u32;
+    let row = Row {
         seed: u64::from(place),
-        steps: played.events.len() as u32,
+        steps,
         verdict: played.verdict(),
+    };
+    add_copies(tally, &row, stands_for(task, place, steps.max(1)))?;
+    Ok(Reach {
+        place: place + 1,
+        longest: reach.longest.max(steps),
     })
 }
 
-/// The runs of the choices from one place to before another, made at once.
-fn runs_of_choices<R: Threads + Wait + Sync, G: Gate>(
+/// Counts the runs of the choices that come next, up to one that is longer than all before it:
+/// behind that other choices come next.
+fn count_runs(
+    task: &Task<'_>,
+    tally: &mut Tally,
+    reach: Reach,
+    ahead: &Ahead,
+    runs: &[Played],
+) -> Result<Reach, NoMemory>
+    requires script { (script : ScriptText) × IsSweepTask script task.now }
+    requires within { ahead.now.end ≤ task.now.choices }
+    requires goes_on { reach.place < ahead.now.end }
+    requires ahead { (script : ScriptText) → IsSweepTask script task.now
+        → AreAhead (setup_of_task script task.now) reach.longest reach.place
+        ahead.now.places.items ahead.now.end }
+    requires runs { (script : ScriptText) → IsSweepTask script task.now
+        → AreChoiceRuns (setup_of_task script task.now) ahead.now.places.items runs.now }
+    requires before { (script : ScriptText) → IsSweepTask script task.now
+        → HasCounted (setup_of_task script task.now) reach tally.old }
+    ensures within { IfOk result (λ now. now.place ≤ task.now.choices) }
+    ensures goes_on { IfOk result (λ now. reach.place < now.place) }
+    ensures counted { (script : ScriptText) → IsSweepTask script task.now
+        → IfOk result (λ now. HasCounted (setup_of_task script task.now) now tally.new) }
+{
+    let mut now = reach;
+    for next in 0..runs.len() {
+        now = count_run(task, tally, now, ahead.places[next], &runs[next])?;
+        if now.longest > reach.longest {
+            return Ok(now);
+        }
+    }
+    Ok(Reach {
+        place: ahead.end,
+        longest: now.longest,
+    })
+}
+
+/// The runs of the choices at some places, made at once.
+fn runs_at<R: Threads + Wait + Sync, G: Gate>(
     rt: &R,
     alloc: Global,
     task: &Task<'_>,
-    start: u32,
-    end: u32,
+    places: &[u32],
     gate: &G,
 ) -> Result<Vec<Played>, NoMemory>
     requires script { (script : ScriptText) × IsSweepTask script task.now }
-    requires places { start ≤ end }
-    requires within { end
-        ≤ choice_count task.now.deal.now.threads task.now.steps task.now.points }
-    ensures long { IfOk result (λ runs. start + length runs.items ≡ end) }
-    ensures runs { (script : ScriptText) → IsSweepTask script task.now
-        → IfOk result (λ runs. AreChoiceRuns (setup_of_task script task.now) start runs.items) }
+    requires within { All (λ place. place
+        < choice_count task.now.deal.now.threads task.now.steps task.now.points) places.now }
+    ensures { (script : ScriptText) → IsSweepTask script task.now
+        → IfOk result (λ runs.
+        AreChoiceRuns (setup_of_task script task.now) places.now runs.items) }
 {
-    let tests = choice_tests(alloc, task, start, end)?;
+    let tests = choice_tests(alloc, task, places)?;
     run_many(rt, alloc, tests, gate)
 }
 
@@ -84,81 +145,69 @@ fn run_alone<R: Threads + Wait + Sync, G: Gate>(
     run_threads(rt, alloc, deal, policy, limit, bodies, gate)
 }
 
-/// Counts the runs of the next choices, from one place to before another.
-fn count_runs(
-    task: &Task<'_>,
-    tally: &mut Tally,
-    start: u32,
-    end: u32,
-    runs: &[Played],
-) -> Result<(), NoMemory>
-    requires script { (script : ScriptText) × IsSweepTask script task.now }
-    requires places { start ≤ end }
-    requires within { end
-        ≤ choice_count task.now.deal.now.threads task.now.steps task.now.points }
-    requires long { start + length runs.now ≡ end }
-    requires runs { (script : ScriptText) → IsSweepTask script task.now
-        → AreChoiceRuns (setup_of_task script task.now) start runs.now }
-    requires before { (script : ScriptText) → IsSweepTask script task.now
-        → HasCounted (setup_of_task script task.now) start tally.old }
-    ensures { (script : ScriptText) → IsSweepTask script task.now
-        → OnOk result (HasCounted (setup_of_task script task.now) end tally.new) }
-{
-    for place in start..end {
-        let played = &runs[(place - start) as usize];
-        count_run(task, tally, place, played)?;
-    }
-    Ok(())
-}
-
-/// Makes the runs of the next choices one after another, and counts them.
+/// Makes the runs of the choices that come next one after another, and counts them, up to one that
+/// is longer than all before it.
 fn count_alone<R: Threads + Wait + Sync, G: Gate>(
     rt: &R,
     alloc: Global,
     task: &Task<'_>,
     tally: &mut Tally,
-    start: u32,
-    end: u32,
+    reach: Reach,
+    ahead: &Ahead,
     gate: &G,
-) -> Result<(), NoMemory>
+) -> Result<Reach, NoMemory>
     requires script { (script : ScriptText) × IsSweepTask script task.now }
-    requires places { start ≤ end }
-    requires within { end
-        ≤ choice_count task.now.deal.now.threads task.now.steps task.now.points }
+    requires within { ahead.now.end ≤ task.now.choices }
+    requires goes_on { reach.place < ahead.now.end }
+    requires ahead { (script : ScriptText) → IsSweepTask script task.now
+        → AreAhead (setup_of_task script task.now) reach.longest reach.place
+        ahead.now.places.items ahead.now.end }
     requires before { (script : ScriptText) → IsSweepTask script task.now
-        → HasCounted (setup_of_task script task.now) start tally.old }
-    ensures { (script : ScriptText) → IsSweepTask script task.now
-        → OnOk result (HasCounted (setup_of_task script task.now) end tally.new) }
+        → HasCounted (setup_of_task script task.now) reach tally.old }
+    ensures within { IfOk result (λ now. now.place ≤ task.now.choices) }
+    ensures goes_on { IfOk result (λ now. reach.place < now.place) }
+    ensures counted { (script : ScriptText) → IsSweepTask script task.now
+        → IfOk result (λ now. HasCounted (setup_of_task script task.now) now tally.new) }
 {
-    for place in start..end {
+    let mut now = reach;
+    for next in 0..ahead.places.len() {
+        let place = ahead.places[next];
         let played = run_alone(rt, alloc, task, place, gate)?;
-        count_run(task, tally, place, &played)?;
+        now = count_run(task, tally, now, place, &played)?;
+        if now.longest > reach.longest {
+            return Ok(now);
+        }
     }
-    Ok(())
+    Ok(Reach {
+        place: ahead.end,
+        longest: now.longest,
+    })
 }
 
-/// Makes the runs of the next choices, from one place to before another, and counts them. They are
-/// made at once, or one after another where there is no memory for that.
-pub fn count_choices<R: Threads + Wait + Sync, G: Gate>(
+/// Makes the runs of the next choices, at most so many, counts them, and tells how far it came.
+/// They are made at once, or one after another where there is no memory for that.
+pub fn count_ahead<R: Threads + Wait + Sync, G: Gate>(
     rt: &R,
     alloc: Global,
     task: &Task<'_>,
     tally: &mut Tally,
-    start: u32,
-    end: u32,
+    reach: Reach,
+    most: usize,
     gate: &G,
-) -> Result<(), NoMemory>
+) -> Result<Reach, NoMemory>
     requires script { (script : ScriptText) × IsSweepTask script task.now }
-    requires places { start ≤ end }
-    requires within { end
-        ≤ choice_count task.now.deal.now.threads task.now.steps task.now.points }
+    requires some { 1 ≤ most }
+    requires within { reach.place < task.now.choices }
     requires before { (script : ScriptText) → IsSweepTask script task.now
-        → HasCounted (setup_of_task script task.now) start tally.old }
-    ensures { (script : ScriptText) → IsSweepTask script task.now
-        → OnOk result (HasCounted (setup_of_task script task.now) end tally.new) }
+        → HasCounted (setup_of_task script task.now) reach tally.old }
+    ensures within { IfOk result (λ now. now.place ≤ task.now.choices) }
+    ensures goes_on { IfOk result (λ now. reach.place < now.place) }
+    ensures counted { (script : ScriptText) → IsSweepTask script task.now
+        → IfOk result (λ now. HasCounted (setup_of_task script task.now) now tally.new) }
 {
-    match runs_of_choices(rt, alloc, task, start, end, gate) {
-        Ok(runs) => count_runs(task, tally, start, end, runs.as_slice()),
-        Err(NoMemory) => count_alone(rt, alloc, task, tally, start, end, gate),
+    let ahead = choices_ahead(alloc, task, reach, most)?;
+    match runs_at(rt, alloc, task, ahead.places.as_slice(), gate) {
+        Ok(runs) => count_runs(task, tally, reach, &ahead, runs.as_slice()),
+        Err(NoMemory) => count_alone(rt, alloc, task, tally, reach, &ahead, gate),
     }
 }

@@ -1,10 +1,13 @@
 //! The choices of an order and change points, each by its place among all.
 
 ghost use Rattle.std.specs.Prelude.{◌≡◌, ◌≤◌, ◌<◌, ◌*◌, ◌^◌, Some, IfOk, IfSome, slice_get};
+ghost use Rattle.std.specs.Prelude.{ℕ, List};
 ghost use Rattle.choices.specs.PointLists.{pointlists};
 ghost use Rattle.choices.specs.Orders.{factorial};
 ghost use Rattle.sweep.specs.Choices as listed;
 ghost use Rattle.sweep.specs.Choices.{most_choices, IsCountWithin};
+ghost use Rattle.sweep.specs.Weights as weights;
+ghost use Rattle.sweep.specs.Weights.{weight};
 
 use choices::order_at;
 use pct_ask::{OrderList, PointList};
@@ -56,7 +59,7 @@ pub fn choice_count(threads: u32, steps: u32, points: u32) -> Option<u32>
 }
 
 /// How many lists there are of so many change points.
-fn list_count(steps: u32, points: u32) -> u32
+pub fn list_count(steps: u32, points: u32) -> u32
     requires some { 1 ≤ steps }
     requires few { steps ^ points ≤ most_choices }
     ensures { result ≡ steps ^ points }
@@ -66,6 +69,42 @@ fn list_count(steps: u32, points: u32) -> u32
         count *= steps;
     }
     count
+}
+
+/// How many points lead to the run of a point, which has `length` steps: from that number on all
+/// points do, of which the first stands for all.
+fn point_weight(steps: u32, length: u32, point: u32) -> u32
+    requires within { point ≤ steps }
+    requires few { steps ≤ most_choices }
+    ensures { result ≡ weights.point_weight steps length point }
+{
+    if point < length {
+        1
+    } else if point == length {
+        steps + 1 - length
+    } else {
+        0
+    }
+}
+
+/// For how many lists the list of change points at a place, from 0, stands, where its run has
+/// `length` steps: for those that are the same below that number; for none where a point is above.
+pub fn weight_at(steps: u32, points: u32, length: u32, place: u32) -> u32
+    requires some { 1 ≤ steps }
+    requires few { steps ^ points ≤ most_choices }
+    requires place { place < steps ^ points }
+    ensures { (list : List ℕ) → slice_get (pointlists steps points) place ≡ Some list
+        → result ≡ weight steps length list }
+{
+    let mut weight = 1;
+    let mut block = list_count(steps, points);
+    let mut rest = place;
+    for _point in 0..points {
+        block /= steps;
+        weight *= point_weight(steps, length, rest / block + 1);
+        rest %= block;
+    }
+    weight
 }
 
 /// The list of change points at a place, from 0, among all lists of so many.

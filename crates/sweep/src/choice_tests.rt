@@ -1,5 +1,5 @@
 // The tests of a sweep's choices.
-ghost use Rattle.std.specs.Prelude.{◌≡◌, ◌≤◌, ◌<◌, ◌+◌, length, IfOk};
+ghost use Rattle.std.specs.Prelude.{◌≡◌, ◌<◌, All, IfOk};
 ghost use Rattle.script_tree.specs.ScriptText.{ScriptText};
 ghost use Rattle.script_body.specs.BodyPosts.{pending_of_body};
 ghost use Rattle.policy_pick.specs.Kept.{points_plan, PointsStand};
@@ -40,27 +40,24 @@ pub fn choice_test<'c>(
     )
 }
 
-/// The tests of the choices from one place to before another.
+/// The tests of the choices at some places.
 pub fn choice_tests<'c>(
     alloc: Global,
     task: &Task<'c>,
-    start: u32,
-    end: u32,
+    places: &[u32],
 ) -> Result<Vec<Test<Pct, ScriptBody<'c>>>, NoMemory>
     requires script { (script : ScriptText) × IsSweepTask script task.now }
-    requires places { start ≤ end }
-    requires within { end
-        ≤ choice_count task.now.deal.now.threads task.now.steps task.now.points }
-    ensures long { IfOk result (λ tests. start + length tests.items ≡ end) }
+    requires within { All (λ place. place
+        < choice_count task.now.deal.now.threads task.now.steps task.now.points) places.now }
     ensures asked { IfOk result
         (λ tests. AreTests pending_of_body points_plan PointsStand tests.items) }
     ensures of_choices { (script : ScriptText) → IsSweepTask script task.now
         → IfOk result (λ tests.
-        AreChoiceTests (setup_of_task script task.now) start tests.items) }
+        AreChoiceTests (setup_of_task script task.now) places.now tests.items) }
 {
-    let mut tests = Vec::with_capacity(alloc, (end - start) as usize)?;
-    for place in start..end {
-        let test = choice_test(alloc, task, place)?;
+    let mut tests = Vec::with_capacity(alloc, places.len())?;
+    for place in places {
+        let test = choice_test(alloc, task, *place)?;
         tests.push_reserved(test);
     }
     Ok(tests)

@@ -1,6 +1,7 @@
 //! Sweeps: a script run once under each choice of an order of its threads and change points.
 #![tactic(auto)]
 
+mod ahead;
 mod batches;
 mod choice;
 mod choice_tests;

@@ -4,9 +4,9 @@ ghost use Rattle.script_code.specs.Listing.{listing};
 ghost use Rattle.script_body.specs.Bodies.{bodies_of, AreOf};
 ghost use Rattle.sweep.specs.Swept.{Sweeps};
 
-use crate::batches::count_choices;
+use crate::batches::count_ahead;
 use crate::choice::choice_count;
-use crate::task::Task;
+use crate::task::{Reach, Task};
 use failure_rank::{Groups, Tally};
 use pct_ask::Deal;
 use pct_outside::Gate;
@@ -36,10 +36,24 @@ pub enum Answer {
     TooMany,
 }
 
-/// Runs a script's code once for each choice of an order of its threads and of so many change
-/// points, each from 1 to `steps`, in real threads, and counts how the runs end. A run has at most
-/// `limit` steps. Threads are started once for a batch of choices, whose runs may overlap in time.
-/// The gate is passed before each post.
+/// How many choices the next batch has. Behind a run that is longer than all before it other
+/// choices come next, so that a batch begins with one again and grows.
+fn next_size(size: usize, most: usize, is_longer: bool) -> usize
+    requires { 1 ≤ most }
+    ensures { 1 ≤ result }
+{
+    if is_longer {
+        1
+    } else {
+        size.saturating_mul(2).clamp(1, most)
+    }
+}
+
+/// Runs a script's code under each choice of an order of its threads and of so many change points,
+/// each from 1 to `steps`, in real threads, and counts how the runs end. A run has at most `limit`
+/// steps. Where a point isn't below the length of a run, all greater points repeat the run, which is
+/// made once and counted for each. Threads are started once for a batch of choices, whose runs may
+/// overlap in time. The gate is passed before each post.
 pub fn sweep<R: Threads + Wait + Sync, G: Gate>(
     rt: &R,
     alloc: Global,
@@ -74,14 +88,19 @@ pub fn sweep<R: Threads + Wait + Sync, G: Gate>(
         points,
         steps,
         limit,
+        choices,
     };
-    let size = batch_size(limit);
+    let most = batch_size(limit) as usize;
     let mut tally = Tally::new(alloc);
-    let mut place = 0;
-    'batches: while place < choices {
-        let end = place + size.min(choices - place);
-        count_choices(rt, alloc, &task, &mut tally, place, end, gate)?;
-        place = end;
+    let mut reach = Reach {
+        place: 0,
+        longest: 1,
+    };
+    let mut size = 1;
+    'batches: while reach.place < choices {
+        let next = count_ahead(rt, alloc, &task, &mut tally, reach, size, gate)?;
+        size = next_size(size, most, next.longest > reach.longest);
+        reach = next;
     }
     let passed = tally.passed();
     let groups = tally.into_groups(alloc)?;

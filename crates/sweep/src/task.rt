@@ -1,12 +1,13 @@
-// What is to be swept.
-ghost use Rattle.std.specs.Prelude.{◌≤◌};
+// What is to be swept, and how far a sweep has come.
+ghost use Rattle.std.specs.Prelude.{◌≡◌, ◌≤◌};
 ghost use Rattle.sweep.specs.Choices.{choice_count, most_choices};
 
 use pct_ask::Deal;
 use script_code::Code;
 
 /// What the runs of a sweep have in common: a script's code, what its threads share, how many
-/// change points a run has, from how many steps they are, and how many steps a run may have.
+/// change points a run has, from how many steps they are, and how many steps a run may have; and
+/// how many choices there are.
 #[derive(Clone, Copy)]
 pub struct Task<'a> {
     pub code: &'a Code,
@@ -14,10 +15,21 @@ pub struct Task<'a> {
     pub points: u32,
     pub steps: u32,
     pub limit: u32,
+    pub choices: u32,
     ghost few_points: { points ≤ 7 },
     ghost some_steps: { 1 ≤ steps },
     ghost few_steps: { steps ≤ 100000 },
     ghost some_limit: { 1 ≤ limit },
     ghost low_limit: { limit ≤ 100000 },
+    ghost whole: { choices ≡ choice_count deal.now.threads steps points },
     ghost few_choices: { choice_count deal.now.threads steps points ≤ most_choices },
+}
+
+/// How far a sweep has come.
+#[derive(Clone, Copy)]
+pub struct Reach {
+    /// The choices before this place are counted.
+    pub place: u32,
+    /// The number of steps of the longest of their runs, and at least 1.
+    pub longest: u32,
 }

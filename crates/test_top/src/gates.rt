@@ -89,8 +89,9 @@ fn expect_runs<R: Abort + Threads + Wait + Sync>(
 }
 
 /// Calls over the adders, the second file of each, and their runs: a campaign or a sweep without
-/// `--steps` makes one more to find how many there are.
-const ADDING: [(&str, &str, u64); 12] = [
+/// `--steps` makes one more to find how many there are, and a sweep makes those with points up to
+/// a run's eight steps.
+const ADDING: [(&str, &str, u64); 13] = [
     ("run s.pct --order A,B,C", "", 1),
     ("run s.pct --seed 7 --depth 2 --steps 8", "", 1),
     ("races s.pct --order A,B,C", "", 1),
@@ -104,6 +105,7 @@ const ADDING: [(&str, &str, u64); 12] = [
     ("campaign s.pct --from 1 --count 5 --depth 2", "", 6),
     ("sweep s.pct --depth 2 --steps 2", "", 12),
     ("sweep s.pct --depth 1", "", 7),
+    ("sweep s.pct --depth 3 --steps 20", "", 384),
     ("find s.pct --order A,B,C --points 1", "", 2),
     ("expose s.pct t.txt --order A,C,B --steps 8", DIRECTIVE, 1),
     ("certify s.pct t.txt --steps 8", DIRECTIVE, 2),

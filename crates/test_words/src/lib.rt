@@ -15,6 +15,8 @@ mod reports;
 #[cfg(test)]
 mod samples;
 #[cfg(test)]
+mod sweeps;
+#[cfg(test)]
 mod traces;
 #[cfg(test)]
 mod words;

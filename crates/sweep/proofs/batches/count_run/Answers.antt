@@ -1,7 +1,12 @@
--- The run's row is that of the choice at the place.
-use Rattle.std.proofs.Common.{arith}
+-- The run's row is that of the choice at the place, counted for those for which it stands.
+use Rattle.std.proofs.Common.{◌≡◌, length, take, refl, sym, ap, ◌∙◌, arith}
+use Rattle.std.specs.Prelude.{max}
+use Rattle.worker_run.specs.Run.{Run}
+use Rattle.std.proofs.Common.{Option, Some}
+use Rattle.sweep.specs.Weights.{weight, spread, often_in}
+use Rattle.sweep.specs.Rows.{choices_of}
 use Rattle.sweep.specs.Batches.{setup_of_task}
-use Rattle.sweep.proofs.Rows.{run-row, next-counted, ok-then}
+use Rattle.sweep.proofs.Steps.{pass-by, run-counted, run-fits}
 use Rattle.sweep.proofs.batches.count_run.Goals as goal
 
 pub verdict-requires : goal.verdict-requires
@@ -9,21 +14,47 @@ verdict-requires c =
     let run = (c.requires.run c.requires.script.0 c.requires.script.1).run in
     (run.verdict, run.ends)
 
-pub add-requires : goal.add-requires
-add-requires c =
-    let before = c.requires.before c.requires.script.0 c.requires.script.1 in (
-      before.rows,
+pub add_copies-requires : goal.add_copies-requires
+add_copies-requires c =
+    let task = c.args.task.now in
+    let script = c.requires.script.0 in
+    let of = c.requires.script.1 in
+    let setup = setup_of_task script task in
+    let is = c.requires.run script of in
+    let before = pass-by setup task.some_steps c.args.reach c.args.tally.now c.args.place
+    c.requires.ahead (omega (arith, c.requires.place, task.whole))
+    (c.requires.above script of) (c.requires.before script of) in (
+      spread (often_in setup) setup 0 (take c.args.place (choices_of setup)),
       before.counted,
-      omega (arith, before.long, c.requires.place, c.args.task.now.few_choices),
+      omega (
+        arith,
+        run-fits setup c.args.place is.choice c.stands_for.result is.at
+            (λ ran made.
+            let both : ◌≡◌ {A = Option Run} (Some (c.args.played.now.events, is.run.verdict))
+            (Some ran) = sym is.run.steps ∙ made in
+            let same : ◌≡◌ {A = Run} (c.args.played.now.events, is.run.verdict) ran = cc in
+            c.stands_for.ensures is.choice is.at
+            ∙ ap (λ n. weight task.steps n is.choice.points)
+            (c.max.ensures ∙ ap (λ n. max n 1)
+            (c.len-steps.ensures ∙ ap (λ (r : Run). length r.0) same))),
+        task.few_choices,
+      ),
     )
 
-pub returns : goal.returns
-returns c = λ script of.
-    let setup = setup_of_task script c.args.task.now in
-    let before = c.requires.before script of in
-    let run = c.requires.run script of in
-    ok-then c.add.result _ _
-    (λ counted. next-counted setup c.args.place c.args.tally.now c.add.new.self _ run.choice before
-    run.at (run-row setup c.args.place c.args.played.now _ run c.from.ensures c.len.ensures
-    c.verdict.ensures) counted)
-    (c.add.ensures before.rows before.counted)
+pub returns-clause-counted : goal.returns-clause-counted
+returns-clause-counted c = λ script of.
+    let task = c.args.task.now in
+    let setup = setup_of_task script task in
+    let is = c.requires.run script of in
+    let here = record c.args.reach { place = c.args.place } in
+    let before = pass-by setup task.some_steps c.args.reach c.args.tally.now c.args.place
+    c.requires.ahead (omega (arith, c.requires.place, task.whole))
+    (c.requires.above script of) (c.requires.before script of) in
+    let rows = spread (often_in setup) setup 0 (take c.args.place (choices_of setup)) in
+    run-counted setup here _ c.args.tally.now c.add_copies.new.tally c.args.played.now _
+    c.stands_for.result is before c.from.ensures c.len-steps.ensures c.verdict.ensures
+    (c.stands_for.ensures is.choice is.at
+    ∙ ap (λ n. weight task.steps n is.choice.points)
+    (c.max.ensures ∙ ap (λ n. max n 1) c.len-steps.ensures))
+    (c.in_ok-add_copies.ensures rows before.counted) refl
+    (c.max-2.ensures ∙ ap (λ n. max c.args.reach.longest n) c.len-steps.ensures)

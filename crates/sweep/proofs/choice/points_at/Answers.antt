@@ -8,16 +8,16 @@ nonzero_div-rest c =
     let at = c.loop-point in
     let n = c.args.points - (at._point + 1) in
     let next : c.args.points - at._point ≡ suc n = omega (arith, c.loop-point-test.true) in
-    some-smaller c.args.steps c.args.points at._point n c.args.place at.rest at.block at.list
-    c.requires.some next at.invariant.block at.invariant.low at.invariant.made
+    some-smaller c.args.steps c.args.points at._point n at.rest at.block c.requires.some next
+    at.invariant.block at.invariant.low
 
 pub nonzero_rem-rest : goal.nonzero_rem-rest
 nonzero_rem-rest c =
     let at = c.loop-point in
     let n = c.args.points - (at._point + 1) in
     let next : c.args.points - at._point ≡ suc n = omega (arith, c.loop-point-test.true) in
-    some-smaller c.args.steps c.args.points at._point n c.args.place at.rest at.block at.list
-    c.requires.some next at.invariant.block at.invariant.low at.invariant.made
+    some-smaller c.args.steps c.args.points at._point n at.rest at.block c.requires.some next
+    at.invariant.block at.invariant.low
 
 pub loop-point-preserved : goal.loop-point-preserved
 loop-point-preserved c =
@@ -25,15 +25,15 @@ loop-point-preserved c =
     let n = c.args.points - (at._point + 1) in
     let next : c.args.points - at._point ≡ suc n = omega (arith, c.loop-point-test.true) in
     record {
-      made = next-list c.args.steps c.args.points at._point n c.args.place at.rest at.block at.list
-          c.requires.some next at.invariant.block at.invariant.low at.invariant.made refl
-          c.try_push.new.self c.in_ok-try_push.ensures.ok;
+      made = next-list c.args.steps c.args.points at._point n at.rest at.block c.requires.some next
+          at.invariant.block at.invariant.low refl c.args.place at.list c.try_push.new.self
+          at.invariant.made c.in_ok-try_push.ensures.ok;
       block =
-          next-block c.args.steps c.args.points at._point n c.args.place at.rest at.block at.list
-          c.requires.some next at.invariant.block at.invariant.low at.invariant.made refl;
+          next-block c.args.steps c.args.points at._point n at.rest at.block c.requires.some next
+          at.invariant.block at.invariant.low refl;
       low =
-          next-rest c.args.steps c.args.points at._point n c.args.place at.rest at.block at.list
-          c.requires.some next at.invariant.block at.invariant.low at.invariant.made refl;
+          next-rest c.args.steps c.args.points at._point n at.rest at.block c.requires.some next
+          at.invariant.block at.invariant.low refl;
     }
 
 pub returns : goal.returns

@@ -1,4 +1,4 @@
-use Rattle.std.proofs.Common.{◌≡◌, ◌+◌, vec_len}
+use Rattle.std.proofs.Common.{◌≡◌, length, take, vec_len}
 use Rattle.std.specs.Prelude.{vec_capacity}
 use Rattle.policy_pick.specs.Kept.{points_plan, PointsStand}
 use Rattle.script_tree.specs.ScriptText.{ScriptText}
@@ -7,12 +7,12 @@ use Rattle.worker_run.specs.Tests.{AreTests}
 use Rattle.sweep.specs.Batches.{IsSweepTask, setup_of_task, AreChoiceTests}
 use Rattle.sweep.proofs.choice_tests.choice_tests.Given as goal
 
--- the tests so far are those of the choices before the place, and there is room for the others
+-- the tests so far are those of the places so far, and there is room for the others
 abbrev pub invariant-loop-place : goal.invariant-loop-place
 invariant-loop-place l = record {
-  long : l.start + vec_len l.tests ≡ l.place;
-  room : l.start + vec_capacity l.tests ≡ l.end;
+  long : vec_len l.tests ≡ l.place-index;
+  room : vec_capacity l.tests ≡ length l.places;
   asked : AreTests pending_of_body points_plan PointsStand l.tests.items;
   of_choices : (script : ScriptText) → IsSweepTask script l.task
-      → AreChoiceTests (setup_of_task script l.task) l.start l.tests.items;
+      → AreChoiceTests (setup_of_task script l.task) (take l.place-index l.places) l.tests.items;
 }

@@ -8,7 +8,8 @@ use Rattle.sweep.proofs.sweeping.sweep.Given as goal
 -- the choices before the place are counted
 abbrev pub invariant-batches : goal.invariant-batches
 invariant-batches g l = record {
-  within : l.place ≤ l.choices;
+  within : l.reach.place ≤ l.choices;
+  some : 1 ≤ l.size;
   counted : (script : ScriptText) → AreOf script (listing l.code) l.deal
       → HasCounted (record {
         deal = l.deal;
@@ -16,8 +17,8 @@ invariant-batches g l = record {
         many = l.points;
         steps = l.steps;
         limit = l.limit;
-      }) l.place l.tally;
+      }) l.reach l.tally;
 }
 
 abbrev pub decreases-batches : goal.decreases-batches
-decreases-batches g l = l.choices - l.place
+decreases-batches g l = l.choices - l.reach.place
