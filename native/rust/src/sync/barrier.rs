@@ -9,7 +9,7 @@ use crate::seat;
 use std::panic::Location;
 use std::sync;
 
-/// Where so many threads meet. In a run at most 1000.
+/// Where this many threads meet; in a run at most 1000.
 pub struct Barrier {
     pub(crate) id: Id,
     many: usize,
