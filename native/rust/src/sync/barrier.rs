@@ -27,7 +27,7 @@ impl BarrierWaitResult {
 }
 
 impl Barrier {
-    /// For so many threads. No step.
+    /// For this many threads. No step.
     pub const fn new(many: usize) -> Barrier {
         Barrier { id: Id::new(Kind::Barrier), many, inner: sync::Barrier::new(many) }
     }
