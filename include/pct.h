@@ -37,7 +37,7 @@ extern "C" {
 /* The version of this header. pct_tell_version answers that of the library. */
 #define PCT_VERSION 1
 
-/* At most so many: threads, and objects of each kind; steps of a run; change points; bytes of a name. */
+/* The greatest numbers of threads, and of objects of each kind; steps of a run; change points; bytes of a name. */
 #define PCT_MOST_THREADS 64
 #define PCT_MOST_OBJECTS 64
 #define PCT_MOST_STEPS 100000
@@ -197,7 +197,7 @@ typedef struct PctCount {
 } PctCount;
 
 /* What reading a text came to. Where a text has a fault, the status is PCT_BAD, and this is its first
-   faulty line, from 1, and what is wrong with it. A line of 0 is told of another argument. */
+   faulty line, from 1, and what is wrong with it. The line is 0 where another argument is bad. */
 typedef struct PctRead {
     uint32_t status;
     uint32_t line;

@@ -1,1 +1,1 @@
-"""What tools/hunt is made of: rounds of campaigns, headings of their failures, and what is told of each."""
+"""What tools/hunt is made of: rounds of campaigns, headings of their failures, and what is said of each."""

@@ -33,7 +33,7 @@ class Certified:
 
 @dataclass(frozen=True)
 class Sought:
-    """What came of a search."""
+    """The end of a search: what certifies, how many were tried, and else why none does."""
 
     certified: Certified | None
     tried: int
@@ -70,12 +70,16 @@ def candidates(script: Script, found: Directive, events: list[Event]) -> Iterato
 
 
 class Certifier:
+    """The search for a directive of a failure that certifies, by the model first and then by the program."""
+
     def __init__(self, program: Program, path: str, script: Script, room: str, limit: int) -> None:
         self.program, self.path, self.script, self.limit = program, path, script, limit
         self.file = os.path.join(room, "tried.directive")
         self.model_steps = 0
 
     def seek(self, found: Directive, events: list[Event], most: int) -> Sought:
+        """The first candidate that certifies, of at most `most`, with how many were tried; else why there is none: more
+        threads than a certificate has, or runs that are too long. Refused where a call of the program fails."""
         threads = len(self.script.threads)
         if threads > MOST_THREADS:
             return Sought(None, 0, f"the script has {threads} threads, and a certificate at most {MOST_THREADS}")
@@ -105,7 +109,7 @@ class Certifier:
         return False
 
     def certify(self, directive: Directive, steps: int, tried: int) -> Certified | None:
-        """The program's certificate, within so many steps or as many more as it asks for."""
+        """The program's certificate, within this many steps, or as many more as it asks for; None where it refutes."""
         keep(self.file, "".join(f"{line}\n" for line in directive_lines(directive)))
         while True:
             words = ["certify", self.path, self.file, "--steps", str(steps), "--limit", str(self.limit)]

@@ -1,4 +1,4 @@
-"""The words of pct-hunt, and what comes of them."""
+"""The words of pct-hunt, and what they make."""
 
 from __future__ import annotations
 
@@ -129,7 +129,7 @@ class Session:
         self.hunts: list[Hunt] = []
 
     def hunt(self, path: str) -> Result:
-        """What comes of one script."""
+        """The result of one script."""
         data = read(path, MOST_SCRIPT)
         keep(os.path.join(self.room, "script.pct"), data)
         try:
@@ -227,6 +227,8 @@ def interrupt(*_: object) -> None:
 
 
 def main() -> int:
+    """The status of a call by the words behind the program's name: 0 to 8 as docs/hunt.md has them, 130 where it was
+    interrupted."""
     words = sys.argv[1:]
     sys.setrecursionlimit(10000)
     if words[:1] == ["--page"]:

@@ -173,6 +173,7 @@ def nestings_in(events: list[Event]) -> list[Nesting]:
 
 
 def locks_of(script: Script, events: list[Event]) -> Json:
+    """The member `locks` of a heading: an order of the mutexes as a list of names, or a cycle of nestings."""
     report = lock_order(script, nestings_in(events))
     cycle = [it._asdict() for it in report if isinstance(it, Nesting)]
     return {"cycle": cycle} if cycle else {"order": report}

@@ -25,6 +25,7 @@ def expectation(path: str, text: str) -> tuple[str, str]:
 
 
 def check_expectation(path: str, wanted: str, where: str, script: Script) -> None:
+    """Refused with status 2 where what a script should come to is none of passes, fails or a verdict of its threads."""
     words = wanted.split()
     is_verdict = bool(words) and words[0] != "passed" and threads_of_verdict(words, 2, script) is not None
     if wanted not in ("passes", "fails") and not is_verdict:

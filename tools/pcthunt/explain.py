@@ -1,4 +1,4 @@
-"""What is told of a failing run: where values came from, who holds what since when, which signal came too early."""
+"""What is said of a failing run: where values came from, who holds what since when, which signal came too early."""
 
 from __future__ import annotations
 
@@ -170,7 +170,7 @@ class Story:
             self.of_barrier(ask[1])
 
     def of_holds(self, thread: str) -> None:
-        """What the thread holds and nobody was told to wait for."""
+        """What the thread holds and no sentence said to be waited for."""
         for held, number in self.held_by(thread):
             if (thread, number) not in self.told_holds:
                 self.tell(f"{thread} holds {held} since step {number} ({self.line(number)})")
@@ -253,12 +253,12 @@ class Story:
 
 
 def sentences_of(script: Script, run: Json, events: list[Event], races: list[Json]) -> list[str]:
-    """What is told of the run of a script."""
+    """The sentences on the run of a script."""
     return told_by(Story(script, run, events, watched(script, events)), races)
 
 
 def sentences_of_deal(script: Script, run: Json, events: list[Event], races: list[Json]) -> list[str]:
-    """What is told of a run whose threads' code isn't a script's; the script has the deal's threads and objects
+    """The sentences on a run whose threads' code isn't a script's; the script has the deal's threads and objects
     alone."""
     return told_by(Story(script, run, events, watched_events(events)), races)
 

@@ -43,6 +43,8 @@ class Failure:
 
 @dataclass
 class Heading:
+    """Failures that are one bug: by which places of steps they are, and each verdict among them."""
+
     key: tuple[str, ...]
     failures: list[Failure]
 

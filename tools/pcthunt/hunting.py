@@ -35,8 +35,8 @@ class Hunt:
         self.is_interrupted = False  # the explanation
 
     def run(self, crew: Crew, parts: Parts) -> Result:
-        """What comes of it. Where the search is interrupted, what it found is explained; where that is interrupted,
-        too, it is told as far as it went."""
+        """The result of the hunt. Where the search is interrupted, what it found is explained; where that is
+        interrupted, too, it is reported as far as it went."""
         progress = Progress(self.settings.is_quiet, self.settings.seconds)
         search = Search(self.settings, self.program, self.path, len(self.script.threads), parts, progress)
         rounds = search.run()

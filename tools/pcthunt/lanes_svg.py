@@ -116,6 +116,7 @@ def arrows(places: Places, number: int, step: Step) -> Iterator[str]:
 
 
 def svg_lines(picture: Picture) -> Iterator[str]:
+    """The lines of an SVG, in pixels of its own size, one row for each step of the picture."""
     places = Places(picture)
     yield (f'<svg xmlns="http://www.w3.org/2000/svg" width="{places.right:.0f}" '
            f'height="{places.bottom + 34:.0f}" role="img">')

@@ -14,7 +14,7 @@ FORBIDDEN = re.compile("[^\t\n\r\u0020-\ud7ff\ue000-\ufffd\U00010000-\U0010ffff]
 
 @dataclass
 class Outcome:
-    """What came of one script."""
+    """The result of one script, or why there is none."""
 
     path: str
     wanted: str  # passes, fails or a verdict

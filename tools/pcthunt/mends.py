@@ -35,8 +35,10 @@ def mended_text(text: str, line: int, mend: Mend) -> str | None:
 
 
 def header_edit(scope: Scope, version: int) -> tuple[tuple[int, tuple[str, ...]], ...]:
+    """The edit that puts a header of this version, 1 to 3, in the place of the script's."""
     return ((scope.header, (f"script {version}",)),)
 
 
 def write(form: str) -> str:
+    """The proposal to write a form."""
     return f"write `{form}`"

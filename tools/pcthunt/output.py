@@ -66,7 +66,7 @@ def umask() -> int:
 
 
 def read(name: str, most: int) -> bytes:
-    """At most so many bytes of the file."""
+    """The first bytes of the file, at most this many. Refused with status 6 where it can't be read."""
     try:
         with open(name, "rb") as file:
             return file.read(most)
@@ -75,7 +75,7 @@ def read(name: str, most: int) -> bytes:
 
 
 def shown(text: str) -> str:
-    """The text with what isn't printable told by its code, so that nothing of it acts on a terminal."""
+    """The text with what isn't printable written by its code, so that nothing of it acts on a terminal."""
     return "".join(it if it.isprintable() else it.encode("unicode_escape").decode() for it in text)
 
 

@@ -50,7 +50,7 @@ class Failing:
             world.step(thread)
 
     def ranks(self, points: list[int], steps: int) -> dict[str, int]:
-        """The priorities after so many steps of the run, under such points."""
+        """The priorities after this many steps of the run, under these points."""
         order = self.trace.order
         ranks = {name: len(points) + len(order) - place for place, name in enumerate(order)}
         for point, value in sorted((point, value) for value, point in enumerate(points, 1)):

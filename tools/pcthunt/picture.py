@@ -15,6 +15,8 @@ MOST_COLUMNS = 99
 
 @dataclass
 class Step:
+    """A step of a run, with what it changed for the other threads. Numbers count from 1, lines of the script too."""
+
     number: int
     thread: str
     line: int
@@ -29,6 +31,8 @@ class Step:
 
 @dataclass
 class Picture:
+    """A run as it is drawn: its threads in the order of their declaration, its steps and its verdict."""
+
     threads: list[str]
     steps: list[Step]
     verdict: str
@@ -65,7 +69,7 @@ def waiting_in(world: World) -> set[str]:
 
 
 def next_step(world: World, event: Event, number: int, lowered: int) -> Step:
-    """Makes the step in the world, and tells what it changed."""
+    """Makes the step in the world, and gives what it changed."""
     blocked, ended, waiting = blocked_in(world), ended_in(world), waiting_in(world)
     world.step(event.thread)
     still, others = blocked_in(world), waiting_in(world)
@@ -203,7 +207,7 @@ def narrow_lines(picture: Picture, columns: int) -> Iterator[str]:
 
 
 def text_lines(picture: Picture, columns: int = MOST_COLUMNS) -> Iterator[str]:
-    """The picture in so many columns at most."""
+    """The picture for a terminal: wide lanes where they take at most this many columns, else narrow ones."""
     lines = list(wide_lines(picture, columns))
     if max(map(len, lines)) > columns:
         lines = list(narrow_lines(picture, columns))

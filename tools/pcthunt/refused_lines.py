@@ -10,6 +10,7 @@ from pctmodel.script import DECLARATIONS, KEYWORDS, OBJECTS, REGISTERS, STATEMEN
 
 
 def bad_header(scope: Scope, line: str, number: int, lines: list[str]) -> Mend:
+    """What a first line that isn't blank lacks as a header, and the nearest one."""
     words = line.lstrip("\ufeff").split("#")[0].split()
     wanted = "the first line that isn't blank is `script 1`, `script 2` or `script 3`"
     if line.startswith("\ufeff"):
@@ -86,6 +87,7 @@ def token_mend(word: str, code: str) -> tuple[str, str]:
 
 
 def bad_statement(scope: Scope, line: str, number: int, lines: list[str]) -> Mend:
+    """What the tokens of a line lack as a statement of their place, and the nearest form."""
     words = cut_tokens(line) or [""]
     indent = line[:len(line) - len(line.lstrip())]
     for rule in (wrong_word, wrong_place, wrong_words):

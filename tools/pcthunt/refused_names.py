@@ -8,6 +8,7 @@ from pctmodel.script import DECLARATIONS, MOST_THREADS, OBJECTS, STATEMENTS, cut
 
 
 def unknown_name(scope: Scope, line: str, number: int, lines: list[str]) -> Mend:
+    """Which name of a line isn't declared with the kind that is needed, and the nearest that is."""
     words = cut_tokens(line) or []
     items = {**DECLARATIONS, **STATEMENTS}[words[0]].split()
     for place, item in enumerate(items, 1):
@@ -51,6 +52,7 @@ def declared_as(kind: str, name: str) -> str:
 
 
 def twice_named(scope: Scope, line: str, number: int, lines: list[str]) -> Mend:
+    """Which name a line declares again, and a name that is free."""
     words = cut_tokens(line) or []
     name = words[1]
     other = scope.unused(f"{name}2")
@@ -60,6 +62,7 @@ def twice_named(scope: Scope, line: str, number: int, lines: list[str]) -> Mend:
 
 
 def number_range(scope: Scope, line: str, number: int, lines: list[str]) -> Mend:
+    """Which number of a line is out of its range, and the range."""
     words = cut_tokens(line) or []
     ranges = {"sem": (0, 2**31 - 1, "the first value of a semaphore"), "barrier": (1, 1000, "the number of a barrier"),
               "var": (-2**63, 2**63 - 1, "the first value of a variable")}
@@ -71,6 +74,7 @@ def number_range(scope: Scope, line: str, number: int, lines: list[str]) -> Mend
 
 
 def no_end(scope: Scope, line: str, number: int, lines: list[str]) -> Mend:
+    """Which block or thread is open behind the last line."""
     after = Scope.before("\n".join([*lines[:number], "#"]).encode(), number + 1)
     opens = after.open_lines(line, number)
     what = ", ".join(f"`{text}` of line {at}" for at, text in opens) or "a block"
@@ -80,6 +84,7 @@ def no_end(scope: Scope, line: str, number: int, lines: list[str]) -> Mend:
 
 
 def stray_end(scope: Scope, line: str, number: int, lines: list[str]) -> Mend:
+    """An `end` or `else` that closes nothing."""
     word = line.split("#")[0].strip()
     if word == "end":
         last = scope.last_end
@@ -93,12 +98,14 @@ def stray_end(scope: Scope, line: str, number: int, lines: list[str]) -> Mend:
 
 
 def no_thread(scope: Scope, line: str, number: int, lines: list[str]) -> Mend:
+    """A script without a thread, and one to add."""
     name = scope.unused("A")
     return Mend("", f"the script has no thread; put `thread {name}`, its statements and `end` after this line",
                 (line, f"thread {name}", "  yield", "end"))
 
 
 def too_many(scope: Scope, line: str, number: int, lines: list[str]) -> Mend:
+    """Which limit a line is past: of threads, of objects of a kind, or of blocks within blocks."""
     words = cut_tokens(line) or [""]
     version = scope.script.version
     if words[0] == "thread" and version < 3:

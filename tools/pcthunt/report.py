@@ -18,7 +18,7 @@ MOST_ROWS = 120  # of the lanes that are printed
 
 @dataclass
 class Case:
-    """A heading with all that is told of it."""
+    """A heading with all that is said of it."""
 
     heading: Heading
     sentence: str
@@ -34,7 +34,7 @@ class Case:
 
 @dataclass
 class Result:
-    """What came of a hunt."""
+    """The result of a hunt."""
 
     title: str
     rounds: list[Round]

@@ -12,12 +12,16 @@ SEEDS = 2**64
 
 
 class Row(NamedTuple):
+    """The run of one seed, 0 to 2^64 - 1: how many steps it had, 0 to 100,000, and its verdict as a trace has it."""
+
     seed: int
     steps: int
     verdict: str
 
 
 class Group(NamedTuple):
+    """The runs of one verdict but passed: how many they are, the fewest steps, and the first seed."""
+
     count: int  # type: ignore[assignment]  # tuples have a method of that name
     steps: int
     first: int
@@ -25,6 +29,8 @@ class Group(NamedTuple):
 
 
 class Report(NamedTuple):
+    """A report of a campaign: the numbers of its head, its rows and groups, and the name of its file."""
+
     head: tuple[int, ...]
     rows: list[Row]
     groups: list[Group]
@@ -100,6 +106,8 @@ def json_report(name: str, line: str) -> Report:
 
 
 def reports_of(name: str, text: str) -> Iterator[Report]:
+    """The reports in a text, each as text or as JSON. Raises NoReport, with a sentence, at the first line that is
+    none."""
     lines = iter(text.splitlines())
     for line in lines:
         yield text_report(name, lines) if line == "campaign 1" else json_report(name, line)
@@ -151,6 +159,7 @@ def merged(reports: Sequence[Report]) -> Report:
 
 
 def text_lines(report: Report) -> Iterator[str]:
+    """The lines of a report as `pct campaign` writes it as text."""
     yield "campaign 1"
     yield from (f"{word} {value}" for word, value in zip(HEAD, report.head))
     yield from (" ".join(map(str, row)) for row in report.rows)
@@ -159,6 +168,7 @@ def text_lines(report: Report) -> Iterator[str]:
 
 
 def json_lines(report: Report) -> Iterator[str]:
+    """The one line of a report as `pct campaign` writes it as JSON."""
     groups = [group._asdict() for group in report.groups]
     value = {**dict(zip(HEAD, report.head)), "rows": report.rows, "groups": groups}
     yield json.dumps(value, sort_keys=True, separators=(",", ":"))

@@ -34,6 +34,8 @@ class Choice(NamedTuple):
 
 @dataclass
 class Round:
+    """A round of a hunt: its depth from 1 to 8, its seeds or the choices of its sweep, and what was run so far."""
+
     number: int
     depth: int
     first: int

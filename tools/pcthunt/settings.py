@@ -11,6 +11,8 @@ AT_DEPTH_1 = 200  # seeds of round 0
 
 @dataclass
 class Settings:
+    """What a hunt is asked for. Limits count steps, times seconds; no seconds are no end."""
+
     depth: int = 4
     seeds: int = 10000
     first: int = 0  # the first seed of each round

@@ -32,6 +32,7 @@ def read_ask(text: str) -> Ask:
 
 
 def ask_words(ask: Iterable[Any]) -> str:
+    """An ask as a trace has it."""
     return " ".join(map(str, ask))
 
 

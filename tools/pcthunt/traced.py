@@ -1,4 +1,4 @@
-"""The document of a script and a trace of it, for a page that shows a run which somebody has."""
+"""The document of a script and a trace of it, for a page that shows a run of which there is a trace."""
 
 from __future__ import annotations
 

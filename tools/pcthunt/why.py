@@ -24,7 +24,7 @@ WANTED_OF = {
 
 
 def why_words(program: Program, words: list[str]) -> int:
-    """Calls pct with the words; where it takes them, what it writes is written, and else it is told why not."""
+    """Calls pct with the words; where it takes them, what it writes is written, and else it is said why not."""
     answer = program.call(*words)
     if answer.status in (0, 1):
         put(answer.out)

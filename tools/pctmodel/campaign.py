@@ -26,6 +26,8 @@ class Group(NamedTuple):
 
 
 class Frame(NamedTuple):
+    """What all runs of a campaign share: threads, from how many steps points are drawn, depth and limit."""
+
     threads: int
     steps: int
     depth: int
@@ -70,6 +72,7 @@ def groups_of(rows: list[Row]) -> list[Group]:
 
 
 def text_lines(frame: Frame, rows: list[Row], groups: list[Group]) -> Iterator[str]:
+    """The lines of the report as text."""
     yield "campaign 1"
     for name, value in frame._asdict().items():
         yield f"{name} {value}"
@@ -81,6 +84,7 @@ def text_lines(frame: Frame, rows: list[Row], groups: list[Group]) -> Iterator[s
 
 
 def json_line(frame: Frame, rows: list[Row], groups: list[Group]) -> str:
+    """The report as one line of JSON."""
     report = {**frame._asdict(), "rows": rows, "groups": [group._asdict() for group in groups]}
     return json.dumps(report, sort_keys=True, separators=(",", ":"))
 

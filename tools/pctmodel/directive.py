@@ -17,12 +17,15 @@ Moment = tuple[str, int]  # a thread and the number of its own step
 
 @dataclass
 class Directive:
+    """A directive: its lowest thread, its moments as pairs of a thread and its own step from 1, and its verdict."""
+
     low: str = ""
     events: list[Moment] = field(default_factory=list)
     verdict: str = ""
 
 
 def directive_lines(directive: Directive) -> Iterator[str]:
+    """The lines of its file."""
     yield "directive 1"
     yield f"low {directive.low}"
     for thread, number in directive.events:
@@ -61,6 +64,7 @@ class DirectiveReader(LineReader[Directive]):
 
 
 def read_directive(data: bytes, script: Script) -> Directive:
+    """The directive of a file. Raises Faulty, with the line and the kind of its first fault, where it is none."""
     if len(data) > MOST_BYTES:
         raise Faulty(1, "TooLong")
     return DirectiveReader(data, script).read()

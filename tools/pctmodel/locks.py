@@ -43,6 +43,7 @@ def holds(events: list[Event], thread: str, mutex: str, place: int) -> bool:
 
 
 def nestings_of(script: Script, events: list[Event]) -> list[Nesting]:
+    """Each step that takes a mutex while its thread holds another one, by its number from 1."""
     found: list[Nesting] = []
     for place, event in enumerate(events):
         taken = mutex_taken(event)

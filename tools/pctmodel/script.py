@@ -55,6 +55,8 @@ class NoForm(Exception):
 
 @dataclass
 class Statement:
+    """A statement by its first word, with its line from 1, its register, its names, its values and its blocks."""
+
     word: str
     line: int
     register: str | None = None
@@ -68,6 +70,8 @@ class Statement:
 
 @dataclass
 class Thread:
+    """A thread: the line that begins it, its statements, and the line of its end."""
+
     line: int
     block: list[Statement]
     end_line: int = 0
@@ -75,6 +79,8 @@ class Thread:
 
 @dataclass
 class Script:
+    """A script of version 1 to 3."""
+
     version: int
     objects: dict[str, dict[str, int]]  # by kind: names with what they are at first
     threads: dict[str, Thread]  # by name
@@ -94,6 +100,7 @@ def is_blank(line: bytes) -> bool:
 
 
 def is_name(word: str, version: int = 1) -> bool:
+    """Whether a word is a name in that version: 1 to 32 characters, no keyword and no register."""
     form = re.fullmatch(r"[A-Za-z_][A-Za-z0-9_]{0,31}", word)
     return bool(form) and word not in KEYWORDS[version] and word not in REGISTERS
 
@@ -190,6 +197,8 @@ def read_form(statement: Statement, form: str, tokens: Tokens, version: int) -> 
 
 
 class Parser:
+    """A script as it is read line by line."""
+
     def __init__(self, data: bytes) -> None:
         self.lines = cut_lines(data)
         self.script = Script(0, {kind: {} for kind in OBJECTS}, {}, set())
@@ -326,6 +335,7 @@ class Parser:
 
 
 def parse(data: bytes) -> Script:
+    """The script of a text. Raises Faulty, with the line and the kind of the first fault, where it is none."""
     if len(data) > 1048576:
         raise Faulty(1, "TooMany")
     return Parser(data).read()

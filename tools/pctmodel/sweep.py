@@ -44,6 +44,7 @@ def orders_of(threads: list[str]) -> list[list[str]]:
 
 
 def has_too_many(script: Script, depth: int, steps: int) -> bool:
+    """Whether there are more than 100,000,000 choices of that depth, 1 to 8, with points from 1 to `steps`."""
     points: int = steps ** (depth - 1)
     return math.factorial(len(script.threads)) * points > MOST_CHOICES
 
@@ -69,6 +70,7 @@ def groups_of_endings(endings: list[Ending]) -> list[SweptGroup]:
 
 
 def sweep_text(frame: Frame, endings: list[Ending]) -> Iterator[str]:
+    """The lines of the report on a sweep as text."""
     groups = groups_of_endings(endings)
     yield "sweep 1"
     for name, value in frame._asdict().items():
@@ -83,6 +85,7 @@ def sweep_text(frame: Frame, endings: list[Ending]) -> Iterator[str]:
 
 
 def sweep_json(frame: Frame, endings: list[Ending]) -> str:
+    """The report on a sweep as one line of JSON."""
     groups = groups_of_endings(endings)
     told: list[dict[str, Any]] = []
     for group in groups:

@@ -28,6 +28,8 @@ Names = list[tuple[str, str]]  # with the kinds that their places need
 
 @dataclass
 class Trace:
+    """A trace: the head, the steps and the verdict of a run."""
+
     version: int = 0
     order: list[str] = field(default_factory=list)
     points: list[int] = field(default_factory=list)
@@ -37,11 +39,13 @@ class Trace:
 
 
 def step_line(number: int, event: Event) -> str:
+    """A step's line, with its number from 1."""
     ask = " ".join(map(str, event.ask))
     return f"{number} {event.thread} {event.line} {ask} = {event.answer}"
 
 
 def trace_lines(trace: Trace) -> Iterator[str]:
+    """The lines of a trace's file."""
     yield f"trace {trace.version}"
     yield "order " + " ".join(trace.order)
     yield " ".join(["points", *map(str, trace.points)])
@@ -205,6 +209,7 @@ class TraceReader(LineReader[Trace]):
 
 
 def read_trace(data: bytes, script: Script) -> Trace:
+    """The trace of a file. Raises Faulty, with the line and the kind of its first fault, where it is none."""
     if len(data) > 16777216:
         raise Faulty(1, "TooLong")
     return TraceReader(data, script).read()

@@ -61,6 +61,8 @@ def value_of(option: str, word: str) -> Any:
 
 
 def read_words(words: list[str]) -> Settings:
+    """What the words behind the program's name ask for. Raises NotTaken with the number of the first that isn't
+    taken."""
     if not words or words[0] not in COMMANDS:
         raise NotTaken(1)
     count, forms = COMMANDS[words[0]]

@@ -76,7 +76,7 @@ impl<T: Test> Search<T> {
     }
 
     /// With the run in declared order, with room for 64 threads: those that nobody starts change
-    /// nothing. It tells how many threads there are and how many steps.
+    /// nothing. It gives the number of threads and of steps.
     pub fn begin(test: Arc<T>, settings: Settings) -> Result<Search<T>, String> {
         let mut search = Search::new(test, settings)?;
         let mut order = Order::declared(64);
@@ -243,7 +243,7 @@ pub struct Group {
     pub verdict: String,
 }
 
-/// What the runs of many seeds came to.
+/// The runs of many seeds, and their failures in groups.
 #[derive(Clone, Debug, PartialEq, Eq)]
 pub struct Campaign {
     /// How many threads an order has.
@@ -252,7 +252,7 @@ pub struct Campaign {
     pub steps: u32,
     /// One more than the number of change points.
     pub depth: u32,
-    /// After so many steps a run was cut.
+    /// After how many steps a run was cut.
     pub limit: u32,
     /// The runs, in the order of their seeds.
     pub rows: Vec<Row>,

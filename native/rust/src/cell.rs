@@ -24,7 +24,7 @@ impl CellId {
 
 /// A cell for code that sees to its accesses itself. An access is no step. In the runs of
 /// [`races`](crate::races) it is kept, and two accesses that nothing orders, at least one of them
-/// by `with_mut`, are told.
+/// by `with_mut`, are reported.
 pub struct UnsafeCell<T: ?Sized> {
     id: CellId,
     inner: cell::UnsafeCell<T>,

@@ -9,7 +9,7 @@ use std::time::Duration;
 /// What a panic means.
 #[derive(Clone, Copy, Debug, Default, PartialEq, Eq)]
 pub enum Panics {
-    /// It fails the run, whoever might catch it.
+    /// It fails the run, also where it is caught.
     #[default]
     Fail,
     /// It unwinds as std's do: guards unlock by steps and poison, a join gives `Err`,
@@ -34,7 +34,7 @@ pub struct Config {
     /// From which steps change points are drawn, 1 to this number, at most 100,000. Without it, as
     /// many as the run in declared order takes.
     pub steps: Option<u32>,
-    /// After so many steps a run is cut: 10,000, at most 100,000.
+    /// After how many steps a run is cut: 10,000, at most 100,000.
     pub limit: u32,
     /// What a panic means.
     pub panics: Panics,

@@ -62,7 +62,7 @@ pub enum LockOrder {
     Cycle(Vec<Nesting>),
 }
 
-/// Makes one run, and tells the data races of its cells by happens-before: what orders two accesses
+/// Makes one run, and gives the data races of its cells by happens-before: what orders two accesses
 /// is a mutex given back and then taken, a spawn, a join, a wake-up, and every operation on one
 /// atomic.
 ///
@@ -168,7 +168,7 @@ fn left_out(ran: &Ran) -> Vec<String> {
     Kind::ALL.into_iter().filter_map(told).collect()
 }
 
-/// Makes one run, and tells an order in which it nested its mutexes, or nestings that go round.
+/// Makes one run, and gives an order in which it nested its mutexes, or nestings that go round.
 ///
 /// # Panics
 ///

@@ -9,7 +9,7 @@ use crate::seat;
 use std::panic::Location;
 use std::sync;
 
-/// Where so many threads meet. In a run at most 1000.
+/// Where this many threads meet; in a run at most 1000.
 pub struct Barrier {
     pub(crate) id: Id,
     many: usize,
@@ -27,7 +27,7 @@ impl BarrierWaitResult {
 }
 
 impl Barrier {
-    /// For so many threads. No step.
+    /// For this many threads. No step.
     pub const fn new(many: usize) -> Barrier {
         Barrier { id: Id::new(Kind::Barrier), many, inner: sync::Barrier::new(many) }
     }

@@ -146,7 +146,7 @@ impl<T> Shared<T> {
 /// Sends into a channel that takes any number of items.
 pub struct Sender<T>(Arc<Shared<T>>);
 
-/// Sends into a channel that takes so many items.
+/// Sends into a channel with a bound on its items.
 pub struct SyncSender<T>(Arc<Shared<T>>);
 
 /// Takes items out of a channel. As std's it isn't `Sync`.
@@ -163,7 +163,7 @@ pub fn channel<T>() -> (Sender<T>, Receiver<T>) {
     (Sender(shared.clone()), Receiver(shared, PhantomData))
 }
 
-/// A channel that takes so many items; with 0 a sender waits until its item is taken. No step.
+/// A channel that takes at most this many items; with 0 a sender waits until its item is taken. No step.
 pub fn sync_channel<T>(bound: usize) -> (SyncSender<T>, Receiver<T>) {
     let shared = made(Some(bound));
     (SyncSender(shared.clone()), Receiver(shared, PhantomData))

@@ -71,7 +71,7 @@ pub struct Once {
     inner: sync::Once,
 }
 
-/// What `call_once_force` tells its closure.
+/// What `call_once_force` gives its closure.
 pub struct OnceState {
     is_poisoned: bool,
     /// std's auto traits.

@@ -59,7 +59,7 @@ impl Semaphore {
         }
     }
 
-    /// Lowers the count where it is above 0, and tells whether it was: one step.
+    /// Lowers the count where it is above 0, and gives whether it was: one step.
     #[track_caller]
     pub fn try_down(&self) -> bool {
         let apart = || {

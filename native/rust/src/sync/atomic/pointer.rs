@@ -175,25 +175,25 @@ impl<T> AtomicPtr<T> {
         )
     }
 
-    /// Moves the pointer on by so many values, and gives the old one.
+    /// Moves the pointer on by this many values, and gives the old one.
     #[track_caller]
     pub fn fetch_ptr_add(&self, count: usize, _order: Ordering) -> *mut T {
         self.change(i64::wrapping_add, count.wrapping_mul(size_of::<T>()))
     }
 
-    /// Moves the pointer back by so many values, and gives the old one.
+    /// Moves the pointer back by this many values, and gives the old one.
     #[track_caller]
     pub fn fetch_ptr_sub(&self, count: usize, _order: Ordering) -> *mut T {
         self.change(i64::wrapping_sub, count.wrapping_mul(size_of::<T>()))
     }
 
-    /// Moves the pointer on by so many bytes, and gives the old one.
+    /// Moves the pointer on by this many bytes, and gives the old one.
     #[track_caller]
     pub fn fetch_byte_add(&self, count: usize, _order: Ordering) -> *mut T {
         self.change(i64::wrapping_add, count)
     }
 
-    /// Moves the pointer back by so many bytes, and gives the old one.
+    /// Moves the pointer back by this many bytes, and gives the old one.
     #[track_caller]
     pub fn fetch_byte_sub(&self, count: usize, _order: Ordering) -> *mut T {
         self.change(i64::wrapping_sub, count)
