@@ -41,6 +41,7 @@ pub record Home : Type 0 where
   pub plan : Plan
   pub serves : List Bool
 
+-- that of a seat
 abbrev pub home_of : {P : Type 0} {policy : Ghosts P} → Seat P policy → Home
 home_of seat = record {
   table = seat.seat.table_id;

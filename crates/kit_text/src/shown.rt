@@ -1,3 +1,4 @@
+use failure_rank::Groups;
 use pct_ask::{Blocked, FaultKind, MisuseKind, NameKind, Names, Verdict};
 use std::fmt::{Display, Formatter, Write};
 use std::{fmt, str};
@@ -106,5 +107,31 @@ impl Display for ShownVerdict<'_> {
             }
             Verdict::Cut => write!(f, "cut"),
         }
+    }
+}
+
+/// The failures of a campaign as a text, a line for each: how many runs had it, the fewest steps of
+/// one, the seed of the first one, and the verdict.
+#[derive(Clone, Copy)]
+pub struct ShownGroups<'a> {
+    pub groups: &'a Groups,
+    pub names: &'a Names,
+}
+
+impl Display for ShownGroups<'_> {
+    fn fmt<W: Write>(&self, f: &mut Formatter<W>) -> fmt::Result {
+        let names = self.names;
+        for group in self.groups.as_slice() {
+            let verdict = ShownVerdict {
+                verdict: &group.verdict,
+                names,
+            };
+            writeln!(
+                f,
+                "{} {} {} {verdict}",
+                group.count, group.steps, group.first
+            )?;
+        }
+        Ok(())
     }
 }
