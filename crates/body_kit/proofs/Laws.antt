@@ -11,13 +11,14 @@ use Rattle.policy_pick.specs.Plan.{Plan}
 use Rattle.policy_pick.specs.declared.policy.Policy.{Ghosts}
 use Rattle.turn_lock.specs.Calls.{ServesAll}
 use Rattle.turn_lock.specs.Rule.{HasFlag, Serves}
-use Rattle.turn_lock.specs.Views.{view}
+use Rattle.turn_lock.specs.Views.{view, HasSeat}
+use Rattle.turn_lock.specs.declared.held.TurnLock.{TurnLock}
 use Rattle.turn_lock.specs.declared.seat.Seat.{Seat}
 use Rattle.turn_lock.specs.declared.view.View.{View}
 use Rattle.turn_lock.proofs.laws.SeenBooks.{within-along}
 use Rattle.worker_run.specs.Played.{IsPlayed}
 use Rattle.body_kit.specs.Asking.{SeatGoesOn}
-use Rattle.body_kit.specs.Ports.{IsBack}
+use Rattle.body_kit.specs.Ports.{IsBack, Home, home_of}
 
 -- ---- bodies
 three-in-range : (sizes : Sizes) (one other last : Pending) → IsInRangeBody sizes one
@@ -64,6 +65,23 @@ back-along first second third one other = record {
   of = λ lock its. other.of lock (one.of lock its);
   on = goes-along (view first) (view second) (view third) one.on other.on;
 }
+
+-- a port is of the same locks and serves the same threads, whatever was asked by it
+pub same-locks : {P : Type 0} {policy : Ghosts P} (lock : TurnLock P) (old new : Seat P policy)
+    → home_of new ≡ home_of old → HasSeat lock old → HasSeat lock new
+same-locks lock old new same has = (
+  ap (λ (h : Home). h.table) same ∙ has.0,
+  record {
+    deal = ap (λ (h : Home). h.deal) same ∙ (has.1).deal;
+    limit = ap (λ (h : Home). h.limit) same ∙ (has.1).limit;
+    plan = ap (λ (h : Home). h.plan) same ∙ (has.1).plan;
+  },
+)
+
+pub same-threads : {P : Type 0} {policy : Ghosts P} (old new : Seat P policy) (t : ℕ)
+    → home_of new ≡ home_of old → Serves (view old) t → Serves (view new) t
+same-threads old new t same here =
+    subst (λ (l : List Bool). HasFlag l t) (sym (ap (λ (h : Home). h.serves) same)) here
 
 -- the threads of a test with three
 pub three-served : (v : View) → (v.seen).deal.threads ≡ 3 → Serves v 0 → Serves v 1 → Serves v 2

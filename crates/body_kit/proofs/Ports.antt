@@ -1,7 +1,7 @@
 -- A port between its calls: a seat that was split off, one that has gone on, and one that has seen
 -- how the run ended.
-use Rattle.std.proofs.Common.{◌≡◌, ℕ, ◌<◌, Bool, true, Some, None, Option, List, [], ◌∷◌, ◌++◌}
-use Rattle.std.proofs.Common.{length, refl, sym, ap, subst, ◌∙◌, arith}
+use Rattle.std.proofs.Common.{◌≡◌, ℕ, ℤ, ◌<◌, Bool, true, Some, None, Option, List, [], ◌∷◌, ◌++◌}
+use Rattle.std.proofs.Common.{inr, length, refl, sym, ap, subst, ◌∙◌, arith}
 use Rattle.std.specs.Prelude.{is_some}
 use Rattle.std.proofs.lemmas.List.{length-append}
 use Rattle.pct_ask.specs.declared.ask.Ask.{Ask}
@@ -27,8 +27,9 @@ use Rattle.turn_lock.proofs.laws.Serving.{alone-has}
 use Rattle.body_kit.specs.declared.asked.Asked.{Asked}
 use Rattle.body_kit.specs.declared.asked.Asked.TheVariants.{Answer, Over}
 use Rattle.body_kit.specs.Asking.{event_of_ask, end_post, IsGivenPost, IsToldOver, AskTells}
-use Rattle.body_kit.specs.Asking.{IsEnded, SeatGoesOn, over_of}
-use Rattle.body_kit.specs.Ports.{IsPortSeat, IsBack}
+use Rattle.body_kit.specs.Asking.{IsEnded, SeatGoesOn, over_of, asked_of, answer_in, PairTells}
+use Rattle.body_kit.specs.Asking.{IsAnsweredAsk}
+use Rattle.body_kit.specs.Ports.{IsPortSeat, IsBack, home_of}
 use Rattle.body_kit.proofs.Answered.{answered-owes}
 
 pub split-off : (v : View) (t : ℕ) → t < 64 → owes_of v.seen t ≡ true
@@ -136,6 +137,34 @@ goes-back own old new was is on = record {
 pub back-self : {P : Type 0} {policy : Ghosts P} (seat : Seat P policy) → IsLawful (view seat).seen
     → IsBack seat seat
 back-self seat lawful = record { of = λ lock its. its; on = stays-on (view seat) lawful }
+
+-- and its home is the same
+pub home-stays : {P : Type 0} {policy : Ghosts P} (own : TurnLock P) (old new : Seat P policy)
+    → HasSeat own old → HasSeat own new → SeatGoesOn (view old) (view new)
+    → home_of new ≡ home_of old
+home-stays own old new was is on =
+    let table = is.0 ∙ sym was.0 in
+    let same = (on.within).making in
+    let serves = on.serves in
+    λ i. record {
+      table = table i;
+      deal = (same.deal) i;
+      limit = (same.limit) i;
+      plan = (same.plan) i;
+      serves = serves i;
+    }
+
+-- ---- what a call of a port gives
+pub asked-back : (asked : Asked) → asked_of (answer_in asked) ≡ asked
+asked-back (Answer answer) = refl
+asked-back (Over outcome) = refl
+
+-- the second of two asks, once the first was answered
+pub then-second : (v u w : View) (t : ℕ) (first second : Ask) (line : ℕ) (value : ℤ)
+    → IsAnsweredAsk v t first line value u → (asked : Asked) → AskTells u t second line asked w
+    → PairTells v t first second line asked w
+then-second v u w t first second line value is (Answer answer) told = (u, value, is, told)
+then-second v u w t first second line value is (Over outcome) told = inr (u, value, is, told)
 
 -- an option with something in it
 pub some-of : {X : Type 0} (o : Option X) → is_some o ≡ true → (x : X) × (o ≡ Some x)

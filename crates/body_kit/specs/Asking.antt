@@ -1,5 +1,6 @@
 -- What a port is told, by what its seat has seen before and after (this project).
-use Rattle.std.specs.Prelude.{◌≡◌, ◌<◌, ℕ, ℤ, List, [], ◌∷◌, ◌++◌, Option, Some, None, IsSome}
+use Rattle.std.specs.Prelude.{◌≡◌, ◌<◌, ◌⊎◌, ℕ, ℤ, List, [], ◌∷◌, ◌++◌, Option, Some, None, IsSome}
+use Rattle.std.specs.Prelude.{Result, Ok, Err}
 use Rattle.pct_ask.specs.declared.ask.Ask.{Ask}
 use Rattle.pct_ask.specs.declared.ask.Post.{Post}
 use Rattle.pct_ask.specs.declared.event.Event.{Event}
@@ -12,6 +13,7 @@ use Rattle.turn_lock.specs.declared.turn.Turn.TheVariants as turns
 use Rattle.turn_lock.specs.declared.view.View.{View}
 use Rattle.body_kit.specs.declared.asked.Asked.{Asked}
 use Rattle.body_kit.specs.declared.asked.Asked.TheVariants.{Answer, Over}
+use Rattle.body_kit.specs.declared.asked.Over.{Over as End}
 
 -- what a thread posts that asks something on a line
 abbrev pub ask_post : Ask → ℕ → Post
@@ -55,6 +57,17 @@ abbrev pub AskTells : View → ℕ → Ask → ℕ → Asked → View → Type 0
 AskTells v t ask line (Answer answer) w = IsAnsweredAsk v t ask line answer w
 AskTells v t ask line (Over outcome) w = IsToldOver v t (ask_post ask line) outcome w
 
+-- What each answer to two asks on one line says. Where the run was over the second one may not have
+-- come about.
+abbrev pub PairTells : View → ℕ → Ask → Ask → ℕ → Asked → View → Type 0
+PairTells v t first second line (Answer answer) w =
+    (between : View) × (value : ℤ) × IsAnsweredAsk v t first line value between
+    × IsAnsweredAsk between t second line answer w
+PairTells v t first second line (Over outcome) w =
+    IsToldOver v t (ask_post first line) outcome w
+    ⊎ ((between : View) × (value : ℤ) × IsAnsweredAsk v t first line value between
+    × IsToldOver between t (ask_post second line) outcome w)
+
 -- the thread has posted its end, and took no step
 pub record IsEnded (v : View) (t : ℕ) (line : ℕ) (w : View) : Type 0 where
   pub pairs : pairs_of w.seen t ≡ pairs_of v.seen t
@@ -81,3 +94,13 @@ as_turn (Over outcome) = turns.Over outcome
 abbrev pub over_of : Asked → Option Outcome
 over_of (Answer answer) = None
 over_of (Over outcome) = Some outcome
+
+-- what was told, by what a call of a port gives
+abbrev pub asked_of : Result ℤ End → Asked
+asked_of (Ok answer) = Answer answer
+asked_of (Err over) = Over over.outcome
+
+-- and back
+abbrev pub answer_in : Asked → Result ℤ End
+answer_in (Answer answer) = Ok answer
+answer_in (Over outcome) = Err (record { outcome = outcome })

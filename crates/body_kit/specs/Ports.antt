@@ -1,6 +1,9 @@
 -- What a port keeps between its calls (this project).
-use Rattle.std.specs.Prelude.{◌≡◌, ℕ, true, Option, Some, None}
+use Rattle.std.specs.Prelude.{◌≡◌, ℕ, Bool, true, List, Option, Some, None}
+use Rattle.atomic_table.specs.Seated.{TableId}
+use Rattle.pct_ask.specs.declared.deal.Deal.{Deal}
 use Rattle.pct_ask.specs.declared.verdict.Outcome.{Outcome}
+use Rattle.policy_pick.specs.Plan.{Plan}
 use Rattle.policy_pick.specs.declared.policy.Policy.{Ghosts}
 use Rattle.turn_book.specs.Told.{IsLawful}
 use Rattle.turn_lock.specs.Seen.{owes_of}
@@ -28,3 +31,22 @@ IsPort lock seat t over = HasSeat lock seat × IsPortSeat (view seat) t over
 pub record IsBack {P : Type 0} {policy : Ghosts P} (old new : Seat P policy) : Type 0 where
   pub of : (lock : TurnLock P) → HasSeat lock old → HasSeat lock new
   pub on : SeatGoesOn (view old) (view new)
+
+-- What stays of a seat, whatever is asked by it: the table of its lock, what the test was made
+-- with, and which threads it serves.
+pub record Home : Type 0 where
+  pub table : TableId
+  pub deal : Deal
+  pub limit : ℕ
+  pub plan : Plan
+  pub serves : List Bool
+
+-- that of a seat
+abbrev pub home_of : {P : Type 0} {policy : Ghosts P} → Seat P policy → Home
+home_of seat = record {
+  table = seat.seat.table_id;
+  deal = (view seat).seen.deal;
+  limit = (view seat).seen.limit;
+  plan = (view seat).seen.plan;
+  serves = (view seat).serves;
+}

@@ -4,6 +4,7 @@
 
 mod asked;
 mod asking;
+mod asks;
 mod boxed;
 mod counts;
 mod error;
@@ -11,7 +12,7 @@ mod kit;
 mod port;
 mod run;
 
-pub use asked::Asked;
+pub use asked::Over;
 pub use error::KitError;
 pub use kit::Kit;
 pub use port::Port;

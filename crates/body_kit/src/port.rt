@@ -1,13 +1,14 @@
-ghost use Rattle.std.specs.Prelude.{◌≡◌, ℕ, Some, None};
+ghost use Rattle.std.specs.Prelude.{◌≡◌, ℕ, Some, None, Err};
 ghost use Rattle.pct_ask.specs.declared.verdict.Outcome.{Outcome};
 ghost use Rattle.pct_ask.specs.Objects.{sizes_of_deal, IsInRange};
 ghost use Rattle.turn_book.specs.Told.{IsLawful};
 ghost use Rattle.turn_lock.specs.Rule.{Serves};
 ghost use Rattle.turn_lock.specs.Views.{view, HasSeat};
-ghost use Rattle.body_kit.specs.Asking.{AskTells, IsEnded, over_of};
-ghost use Rattle.body_kit.specs.Ports.{IsPortSeat, IsBack};
+ghost use Rattle.body_kit.specs.Asking.{AskTells, IsEnded, answer_in, asked_of};
+ghost use Rattle.body_kit.specs.Asking.{over_of};
+ghost use Rattle.body_kit.specs.Ports.{IsPortSeat, IsBack, home_of};
 
-use crate::asked::Asked;
+use crate::asked::{Asked, Over};
 use crate::asking::{ask_once, end_once};
 use pct_ask::{Ask, Outcome};
 use policy_pick::{Pct, Policy};
@@ -22,6 +23,16 @@ fn over_of(asked: &Asked) -> Option<Outcome>
     match *asked {
         Asked::Answer(_) => None,
         Asked::Over(outcome) => Some(outcome),
+    }
+}
+
+/// The answer, or that there is none.
+fn answer_in(asked: Asked) -> Result<i64, Over>
+    ensures { result ≡ answer_in asked }
+{
+    match asked {
+        Asked::Answer(answer) => Ok(answer),
+        Asked::Over(outcome) => Err(Over { outcome }),
     }
 }
 
@@ -65,27 +76,29 @@ impl<'k> Port<'k> {
 
     /// The thread asks something, on a line of its own, and waits for its turn. Once it was told
     /// that the run is over it is told so again.
-    pub fn ask<R: Wait>(&mut self, rt: &R, ask: Ask, line: u32) -> Asked
+    pub fn ask<R: Wait>(&mut self, rt: &R, ask: Ask, line: u32) -> Result<i64, Over>
         requires in_range { IsInRange (sizes_of_deal (view self.old).seen.deal) ask }
+        ensures home { home_of self.new ≡ home_of self.old }
         ensures back { IsBack self.old self.new }
         ensures row { (t : ℕ) → Serves (view self.old) t
-            → AskTells (view self.old) t ask line result (view self.new) }
+            → AskTells (view self.old) t ask line (asked_of result) (view self.new) }
 
         // Where the run was over by what the port had seen, it is told just that.
         ensures later { (o : Outcome) → IsLawful (view self.old).seen
-            → (view self.old).seen.outcome ≡ Some o → result ≡ Asked.Over o }
+            → (view self.old).seen.outcome ≡ Some o → result ≡ Err (record { outcome = o }) }
     {
         if let Some(outcome) = self.over {
-            return Asked::Over(outcome);
+            return Err(Over { outcome });
         }
         let asked = ask_once(rt, self.lock, &mut self.seat, self.thread, ask, line);
         self.over = over_of(&asked);
-        asked
+        answer_in(asked)
     }
 
     /// The thread ends, on a line of its own, and its seat is given back. Where the run is over
     /// nothing is posted.
     pub fn end<R: Wait>(self, rt: &R, line: u32) -> Seat<Pct>
+        ensures home { home_of result ≡ home_of self.entry }
         ensures back { IsBack self.entry result }
         ensures ended { (t : ℕ) → Serves (view self.entry) t
             → IsEnded (view self.entry) t line (view result) }

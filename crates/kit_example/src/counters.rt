@@ -5,18 +5,17 @@ ghost use Rattle.turn_lock.specs.Seen.{owes_of};
 ghost use Rattle.turn_lock.specs.Rule.{Serves};
 ghost use Rattle.turn_lock.specs.Calls.{ServesAll};
 ghost use Rattle.turn_lock.specs.Views.{view, HasSeat};
+ghost use Rattle.body_kit.specs.Ports.{home_of};
 ghost use Rattle.kit_example.specs.Seats.{IsReadyFor, IsBackFrom};
 
-use body_kit::{Asked, Kit, KitError};
-use pct_ask::{Ask, Deal, EventList, Outcome, Sequence, Verdict};
+use body_kit::{Kit, KitError, Over, Port};
+use pct_ask::{Deal, EventList, Outcome, Sequence, Verdict};
 use policy_pick::Pct;
 use priority_draw::Words;
 use std::alloc::{AllocError as NoMemory, Global};
 use std::sync::Wait;
 use std::thread::{Threads, join};
 use turn_lock::Seat;
-
-const READ: Ask = Ask::Read { var: 0 };
 
 /// About how many steps a run has.
 const STEPS: u32 = 8;
@@ -37,15 +36,32 @@ fn deal(alloc: Global) -> Result<Deal, NoMemory>
     })
 }
 
-/// What was read, and 0 where the run is over.
-fn value_of(asked: Asked) -> i64 {
-    match asked {
-        Asked::Answer(value) => value,
-        Asked::Over(_) => 0,
-    }
+/// A thread reads a number, and writes the next.
+fn count_up<R: Wait>(rt: &R, port: &mut Port<'_>, line: u32) -> Result<(), Over>
+    requires line { line ≤ 8 }
+    requires vars { 1 ≤ length (home_of port.old).deal.vars }
+    ensures { home_of port.new ≡ home_of port.old }
+{
+    let seen = port.read(rt, 0, line)?;
+    let value = seen.wrapping_add(1);
+    port.write(rt, 0, value, line + 1)?;
+    Ok(())
 }
 
-/// A thread of the kit's reads a number, and writes the next.
+/// A thread waits for both counters, and checks the number.
+fn check_sum<R: Wait>(rt: &R, port: &mut Port<'_>) -> Result<(), Over>
+    requires vars { 1 ≤ length (home_of port.old).deal.vars }
+    requires threads { 2 ≤ (home_of port.old).deal.threads }
+    ensures { home_of port.new ≡ home_of port.old }
+{
+    port.join(rt, 0, 12)?;
+    port.join(rt, 1, 13)?;
+    let holds = port.read(rt, 0, 14)? == 2;
+    port.check(rt, holds, 15)?;
+    Ok(())
+}
+
+/// A counter's part, and its end.
 fn count<R: Wait>(rt: &R, kit: &Kit, mut seat: Seat<Pct>, thread: u32, line: u32) -> Seat<Pct>
     requires of { HasSeat kit.now seat }
     requires serves { Serves (view seat) thread }
@@ -56,13 +72,11 @@ fn count<R: Wait>(rt: &R, kit: &Kit, mut seat: Seat<Pct>, thread: u32, line: u32
     ensures serves { Serves (view result) thread }
 {
     let mut port = kit.port(&mut seat, thread);
-    let seen = value_of(port.ask(rt, READ, line));
-    let value = seen.wrapping_add(1);
-    port.ask(rt, Ask::Write { var: 0, value }, line + 1);
+    let _ = count_up(rt, &mut port, line);
     port.end(rt, line + 2)
 }
 
-/// A thread of the kit's waits for both counters, and checks the number.
+/// The part of the thread that checks, and its end.
 fn check<R: Wait>(rt: &R, kit: &Kit, mut seat: Seat<Pct>) -> Seat<Pct>
     requires of { HasSeat kit.now seat }
     requires serves { Serves (view seat) 2 }
@@ -73,10 +87,7 @@ fn check<R: Wait>(rt: &R, kit: &Kit, mut seat: Seat<Pct>) -> Seat<Pct>
     ensures serves { Serves (view result) 2 }
 {
     let mut port = kit.port(&mut seat, 2);
-    port.ask(rt, Ask::Join { thread: 0 }, 12);
-    port.ask(rt, Ask::Join { thread: 1 }, 13);
-    let holds = value_of(port.ask(rt, READ, 14)) == 2;
-    port.ask(rt, Ask::Check { holds }, 15);
+    let _ = check_sum(rt, &mut port);
     port.end(rt, 16)
 }
 

@@ -1,15 +1,15 @@
-use Rattle.std.proofs.Common.{ℕ}
-use Rattle.body_kit.proofs.Laws.{still-serves, back-along}
+use Rattle.std.proofs.Common.{ℕ, ◌∙◌}
+use Rattle.body_kit.proofs.Laws.{same-locks, same-threads}
 use Rattle.test_runs.proofs.ports.count.Goals as goal
 
 pub returns-clause-of : goal.returns-clause-of
 returns-clause-of g c =
-    (back-along _ _ _ c.ask.ensures.back
-    (back-along _ _ _ c.ask-2.ensures.back c.end.ensures.back)).of
-    c.args.kit.now c.port-port.ensures.of.1
+    same-locks c.args.kit.now c.port-port.result c.end.result
+    (c.end.ensures.home ∙ c.count_up.ensures)
+    c.port-port.ensures.of.1
 
 pub returns-clause-serves : goal.returns-clause-serves
 returns-clause-serves g c =
     let t : ℕ = c.args.thread in
-    still-serves _ _ t (back-along _ _ _ c.ask.ensures.back
-    (back-along _ _ _ c.ask-2.ensures.back c.end.ensures.back)).on c.port-port.ensures.own
+    same-threads c.port-port.result c.end.result t
+    (c.end.ensures.home ∙ c.count_up.ensures) c.port-port.ensures.own

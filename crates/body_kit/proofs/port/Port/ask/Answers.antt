@@ -1,11 +1,14 @@
-use Rattle.std.proofs.Common.{◌≡◌, ℕ, Some, Option, sym, ap, subst}
+use Rattle.std.proofs.Common.{◌≡◌, ℕ, Some, Option, sym, ap, subst, ◌∙◌}
 use Rattle.pct_ask.specs.declared.verdict.Outcome.{Outcome}
 use Rattle.turn_book.specs.Told.{IsLawful}
+use Rattle.turn_lock.specs.Rule.{Serves}
 use Rattle.turn_lock.specs.Views.{view}
 use Rattle.turn_lock.specs.declared.view.View.{View}
-use Rattle.body_kit.specs.Asking.{ask_post, IsToldOver}
+use Rattle.body_kit.specs.declared.asked.Asked.{Asked}
+use Rattle.body_kit.specs.Asking.{ask_post, IsToldOver, AskTells, answer_in, asked_of}
 use Rattle.body_kit.specs.Ports.{IsPortSeat}
 use Rattle.body_kit.proofs.Ports.{told-again, later-over, still-port, back-self, goes-back}
+use Rattle.body_kit.proofs.Ports.{asked-back, home-stays}
 use Rattle.body_kit.proofs.port.Port.ask.Goals as goal
 
 pub returns-in-Some-clause-row : goal.returns-in-Some-clause-row
@@ -29,6 +32,26 @@ invariant_of-self g c =
           (subst P c.in_default.is c.self.invariant.1) c.ask_once-asked.result told.row),
     )
 
+pub returns-clause-row : goal.returns-clause-row
+returns-clause-row g c = λ t serves.
+    let v = view c.self.inside.seat in
+    let w = view c.ask_once-asked.new.seat in
+    let asked = c.ask_once-asked.result in
+    let here = ap view c.self.view_is in
+    let same = c.self.invariant.1.only.alone t (subst (λ (x : View). Serves x t) (sym here) serves)
+    in
+    let told : AskTells v t c.args.ask c.args.line asked w =
+    subst (λ (x : ℕ). AskTells v x c.args.ask c.args.line asked w) (sym same)
+    c.ask_once-asked.ensures.row in
+    subst (λ (x : View × Asked). AskTells x.0 t c.args.ask c.args.line x.1 w)
+    (λ i. (here i, sym (ap asked_of c.answer_in.ensures ∙ asked-back asked) i)) told
+
+pub returns-clause-home : goal.returns-clause-home
+returns-clause-home g c =
+    rw (sym c.self.view_is) (home-stays c.self.inside.lock.now c.self.inside.seat
+    c.ask_once-asked.new.seat c.self.invariant.0 c.ask_once-asked.ensures.of
+    c.ask_once-asked.ensures.on)
+
 pub returns-clause-later : goal.returns-clause-later
 returns-clause-later g c = λ o lawful stands.
     let v = view c.self.inside.seat in
@@ -36,8 +59,8 @@ returns-clause-later g c = λ o lawful stands.
     let told = c.ask_once-asked.ensures in
     let Over : View → Type 0 = λ x. IsLawful x.seen × (x.seen.outcome ≡ Some o) in
     let was = subst Over (sym (ap view c.self.view_is)) (lawful, stands) in
-    later-over v w c.self.inside.thread c.args.ask c.args.line told.on o was.0 was.1
-    c.ask_once-asked.result told.row
+    c.answer_in.ensures ∙ ap answer_in (later-over v w c.self.inside.thread c.args.ask c.args.line
+    told.on o was.0 was.1 c.ask_once-asked.result told.row)
 
 pub returns-in-Some-clause-back : goal.returns-in-Some-clause-back
 returns-in-Some-clause-back g c =

@@ -3,7 +3,7 @@ use Rattle.turn_lock.specs.Rule.{Serves}
 use Rattle.turn_lock.specs.Views.{view}
 use Rattle.turn_lock.specs.declared.view.View.{View}
 use Rattle.body_kit.specs.Asking.{IsEnded}
-use Rattle.body_kit.proofs.Ports.{ended-late, back-self, goes-back, some-of}
+use Rattle.body_kit.proofs.Ports.{ended-late, back-self, goes-back, some-of, home-stays}
 use Rattle.body_kit.proofs.port.Port.end.Goals as goal
 
 pub returns-then-is_none-clause-ended : goal.returns-then-is_none-clause-ended
@@ -34,3 +34,8 @@ pub returns-then-is_none-clause-back : goal.returns-then-is_none-clause-back
 returns-then-is_none-clause-back g c =
     rw (sym c.self.view_is) (goes-back c.self.inside.lock.now c.self.inside.seat c.end_once.new.seat
     c.self.invariant.0 c.end_once.ensures.of c.end_once.ensures.on)
+
+pub returns-then-is_none-clause-home : goal.returns-then-is_none-clause-home
+returns-then-is_none-clause-home g c =
+    rw (sym c.self.view_is) (home-stays c.self.inside.lock.now c.self.inside.seat
+    c.end_once.new.seat c.self.invariant.0 c.end_once.ensures.of c.end_once.ensures.on)

@@ -1,0 +1,3 @@
+pub mod WrongOrders
+pub mod Blocked
+pub mod KnownBlocked
