@@ -8,3 +8,6 @@ mod texts;
 
 pub use shown::{ShownGroups, ShownVerdict};
 pub use texts::{TextError, show_report, show_run};
+
+#[cfg(test)]
+mod tests;
