@@ -1331,9 +1331,10 @@ static FILE *open_file(const char *name, const char *mode) {
 
 static char *read_file(const char *name) {
     FILE *file = open_file(name, "r");
-    char *text = NULL;
-    size_t room = 0;
-    if (getdelim(&text, &room, 0, file) < 0) sentence("%s can't be read, or is empty", name);
+    size_t bytes = fseek(file, 0, SEEK_END) == 0 ? (size_t)ftell(file) : 0;
+    char *text = calloc(bytes + 1, 1);
+    rewind(file);
+    if (!text || fread(text, 1, bytes, file) != bytes) sentence("%s can't be read", name);
     fclose(file);
     return text;
 }
