@@ -32,5 +32,9 @@ int main(int count, char **words) {
     static const char *const names[] = { "Adder", "Looker" }, *const others[] = { "A", "B" };
     pct_options(count, words);
     pct_reset(reset);
-    return pct_check(sets) | pct_check(passes) | run_two(names) | run_two(others);
+    int failed = pct_check(sets);
+    failed |= pct_check(passes);
+    failed |= run_two(names);
+    failed |= run_two(others);
+    return failed;
 }
