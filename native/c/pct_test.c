@@ -31,7 +31,7 @@
 #define MOST_POINTERS 4096   /* pointer values of a run */
 #define MOST_FAILING 20      /* failing runs, after which a search stops */
 #define MOST_TESTS 1024      /* of a main */
-#define MOST_TEXT (32 << 20) /* bytes of a trace of PCT_MOST_STEPS steps, and of a report */
+#define MOST_TEXT (16 << 20) /* bytes of a trace: 100,000 steps of 149 at most; and of a report */
 #define NOBODY UINT32_MAX
 #define BIT(n) ((uint64_t)1 << (n))
 #define LENGTH(list) (sizeof(list) / sizeof *(list))
@@ -1376,7 +1376,7 @@ static void put_text(FILE *to, const char *before, const char *text) {
 /* The least number of a place in a file. */
 static uint32_t first_place_in(const char *file) {
     uint32_t number = 1;
-    while (!shared->places[number].file || strcmp(shared->places[number].file, file)) number++;
+    while (!shared->places[number].file || strcmp(shared->places[number].file, file) != 0) number++;
     return number;
 }
 
