@@ -31,7 +31,7 @@
 #define MOST_POINTERS 4096   /* pointer values of a run */
 #define MOST_FAILING 20      /* failing runs, after which a search stops */
 #define MOST_TESTS 1024      /* of a main */
-#define MOST_TEXT (16 << 20) /* bytes of a trace: 100,000 steps of 149 at most; and of a report */
+#define MOST_TEXT (16 << 20) /* bytes of a trace: 100,000 steps of 149 at most */
 #define NOBODY UINT32_MAX
 #define BIT(n) ((uint64_t)1 << (n))
 #define LENGTH(list) (sizeof(list) / sizeof *(list))
@@ -1311,14 +1311,20 @@ static void tell_end(void) {
 
 /* The report that `pct campaign` writes. */
 static void print_report(void) {
-    static char text[MOST_TEXT];
+    uint32_t depth = (uint32_t)test.depth, limit = (uint32_t)test.limit;
+    const PctFrame frame = { shared->threads, shared->steps, depth, limit };
     Names names = names_of_run();
-    const PctFrame frame = { shared->threads, shared->steps, (uint32_t)test.depth,
-                             (uint32_t)test.limit };
-    PctCount made = pct_text_report(names.text, names.bytes, &frame, shared->rows, search.all,
-                                    (uint8_t *)text, sizeof text);
+    PctCount made = { PCT_NO_ROOM, 0 };
+    uint8_t *text = NULL;
+    while (made.status == PCT_NO_ROOM) {
+        text = realloc(text, made.count + 1);
+        if (!text) sentence("no memory");
+        made = pct_text_report(names.text, names.bytes, &frame, shared->rows, search.all, text,
+                               made.count);
+    }
     demand(made.status, "pct_text_report");
     fwrite(text, 1, made.count, stdout);
+    free(text);
 }
 
 /* --- Files --- */
