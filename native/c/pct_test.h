@@ -40,16 +40,18 @@ typedef struct PctPlace {
 
 /* --- The test --- */
 
-/* Takes the words of main: --seeds N, --depth D, --from SEED, --replay FILE, --find, --certify,
-   --lanes, --trace FILE, --json FILE, --campaign, --traces FILE, --isolate, --threads N, --steps K,
-   --limit STEPS, --patience SECONDS. A word that it doesn't know ends the program with 1. */
+/* Takes the words of main: --test NAME, --seeds N, --depth D, --from SEED, --replay FILE, --find,
+   --certify, --lanes, --trace FILE, --json FILE, --campaign, --traces FILE, --isolate, --threads N,
+   --steps K, --limit STEPS, --patience SECONDS. A word that it doesn't know, and a test that isn't
+   there, end the program with 1. */
 void pct_options(int count, char **words);
 
 /* This is called before each run, outside of it: it puts globals back. */
 void pct_reset(void (*reset)(void));
 
-/* Runs a test: 0 where no run failed, else 1. What is tested is a function whose run creates
-   threads, or `count` threads with their names and functions, which are numbered from 0. */
+/* Runs a test: 0 where no run failed, or where another test is asked for, else 1. What is tested is
+   a function whose run creates threads, or `count` threads with their names and functions, which
+   are numbered from 0. The test is called as that function, or the list of functions, is. */
 int pct_check_at(void (*test)(void), PctPlace place);
 int pct_threads_at(unsigned count, const char *const *names, void (*const *functions)(void),
                    PctPlace place);
@@ -114,6 +116,9 @@ typedef struct PctObject {
 int pct_object_init(PctObject *object, int64_t first, int64_t least, int64_t most);
 int pct_object_destroy(PctKind kind, PctObject *object);
 
+/* One step on it: 0, or where a try form didn't get it EBUSY, and EAGAIN of a semaphore. */
+int pct_object_at(PctKind kind, PctObject *object, PctAskKind ask, PctPlace place);
+
 /* --- Mutexes --- */
 
 enum { PCT_MUTEX_NORMAL, PCT_MUTEX_RECURSIVE, PCT_MUTEX_ERRORCHECK };
@@ -148,7 +153,7 @@ typedef struct pct_cond_t {
 #define PCT_COND_INITIALIZER \
     { PCT_OBJECT(0) }
 
-int pct_cond_at(pct_cond_t *cond, PctAskKind ask, PctPlace place);
+#define pct_cond_at(cond, ask, place) pct_object_at(PCT_CONDITIONS, &(cond)->object, (ask), (place))
 int pct_cond_wait_at(pct_cond_t *cond, pct_mutex_t *mutex, PctPlace place, const char *mutex_name);
 #define pct_cond_init(cond, attr) ((void)(attr), pct_object_init(&(cond)->object, 0, 0, 0))
 #define pct_cond_destroy(cond) pct_object_destroy(PCT_CONDITIONS, &(cond)->object)
@@ -167,9 +172,13 @@ typedef struct pct_sem_t {
 #define PCT_SEM_INITIALIZER(value) \
     { PCT_OBJECT(value) }
 
-int pct_sem_init(pct_sem_t *sem, int is_shared, unsigned value);
-int pct_sem_at(pct_sem_t *sem, PctAskKind ask, PctPlace place);
+/* 0, or -1 and errno. */
+int pct_by_errno(int refused);
 int pct_sem_getvalue_at(pct_sem_t *sem, int *value, PctPlace place);
+#define pct_sem_at(sem, ask, place) \
+    pct_by_errno(pct_object_at(PCT_SEMAPHORES, &(sem)->object, (ask), (place)))
+#define pct_sem_init(sem, is_shared, value) \
+    ((void)(is_shared), pct_by_errno(pct_object_init(&(sem)->object, (value), 0, INT32_MAX)))
 #define pct_sem_destroy(sem) pct_object_destroy(PCT_SEMAPHORES, &(sem)->object)
 #define pct_sem_wait(sem) pct_sem_at((sem), PCT_ASK_DOWN, PCT_OF(sem))
 #define pct_sem_trywait(sem) pct_sem_at((sem), PCT_ASK_TRY_DOWN, PCT_OF(sem))
@@ -202,7 +211,7 @@ typedef struct pct_rwlock_t {
 #define PCT_RWLOCK_INITIALIZER \
     { PCT_OBJECT(0) }
 
-int pct_rwlock_at(pct_rwlock_t *lock, PctAskKind ask, PctPlace place);
+#define pct_rwlock_at(lock, ask, place) pct_object_at(PCT_RWLOCKS, &(lock)->object, (ask), (place))
 #define pct_rwlock_init(lock, attr) ((void)(attr), pct_object_init(&(lock)->object, 0, 0, 0))
 #define pct_rwlock_destroy(lock) pct_object_destroy(PCT_RWLOCKS, &(lock)->object)
 #define pct_rwlock_rdlock(lock) pct_rwlock_at((lock), PCT_ASK_RD_LOCK, PCT_OF(lock))

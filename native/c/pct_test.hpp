@@ -207,17 +207,34 @@ template <std::ptrdiff_t Most = INT32_MAX> class counting_semaphore {
 
 using binary_semaphore = counting_semaphore<1>;
 
-/* Without a completion function and without the halves arrive and wait. */
-class barrier {
-    pct_barrier_t inner;
+namespace detail {
+struct no_completion {
+    void operator()() noexcept {}
+};
+} // namespace detail
+
+/* Without the halves arrive and wait. The last to arrive calls the completion function, as steps of
+ * its own, and the others wait for that at a second barrier. */
+template <class Completion = detail::no_completion> class barrier {
+    pct_barrier_t inner, completed;
+    Completion complete;
 
   public:
-    constexpr explicit barrier(std::ptrdiff_t count) : inner{ PCT_OBJECT(count) } {}
-    ~barrier() { pct_barrier_destroy(&inner); }
+    constexpr explicit barrier(std::ptrdiff_t count, Completion completion = Completion())
+        : inner{ PCT_OBJECT(count) }, completed{ PCT_OBJECT(count) },
+          complete(std::move(completion)) {}
+    ~barrier() {
+        pct_barrier_destroy(&inner);
+        pct_barrier_destroy(&completed);
+    }
     barrier(const barrier &) = delete;
     barrier &operator=(const barrier &) = delete;
     void arrive_and_wait(place at = place::here()) {
-        pct_barrier_wait_at(&inner, at.of("barrier"));
+        bool is_last = pct_barrier_wait_at(&inner, at.of("barrier")) != 0;
+        if constexpr (!std::is_same_v<Completion, detail::no_completion>) {
+            if (is_last) complete();
+            pct_barrier_wait_at(&completed, at.of("completed"));
+        }
     }
     const void *key() const { return &inner; }
 };

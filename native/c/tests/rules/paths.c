@@ -1,5 +1,5 @@
-// Two threads create one each: which one has its number first depends on the order, but by who created
-// it a thread is the same in all orders, so a directive that names one can be certified.
+// Two threads create one each: which one has its number first depends on the order, but by who
+// created it a thread is the same in all orders, so a directive that names one can be certified.
 #include "pct_test.h"
 
 static int x;
