@@ -8,6 +8,3 @@ mod texts;
 
 pub use shown::{ShownGroups, ShownVerdict};
 pub use texts::{TextError, show_report, show_run};
-
-#[cfg(test)]
-mod tests;
