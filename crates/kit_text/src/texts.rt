@@ -22,7 +22,7 @@ use trace_text::{Header, TraceFile, write_trace};
 pub enum TextError {
     /// A thread or an object has no name, there is a name too many, a line isn't in 1..=4096, or
     /// the order, the points or the limit are no run's.
-    #[error("the names and lines aren't those of a test")]
+    #[error("a name or a line isn't known")]
     Unknown,
     #[error("no memory")]
     NoMemory,
