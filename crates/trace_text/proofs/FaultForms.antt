@@ -41,21 +41,17 @@ use Rattle.trace_text.proofs.FaultTests.{number_in, number_before, is_past, has_
 use Rattle.trace_text.proofs.FaultTests.{is_other_number, is_head_line, has_unknown_thread}
 use Rattle.trace_text.proofs.FaultTests.{is_faulty, IsFirstFound}
 use Rattle.trace_text.proofs.FaultBodies.{IsTold, all-three}
+use Rattle.trace_text.proofs.FoundLines.{step-found, step-line, step-row, end-found, end-row}
+use Rattle.trace_text.proofs.FoundLines.{verdict-found, verdict-row, body-found, body-test}
+use Rattle.trace_text.proofs.FoundLines.{head-found, head-test, limit-test, body-row, row-found}
+use Rattle.trace_text.proofs.FoundLines.{some-of, unequal}
 
 -- ---- tests
-
-unequal : (a : Bool) → a ≡ true → a ≡ false → ⊥
-unequal true p q = cc
-unequal false p q = cc
 
 guarded-not : (a b : Bool) → (a && not b) ≡ false → a ≡ true → b ≡ true
 guarded-not a true h p = refl
 guarded-not true false h p = absurd cc
 guarded-not false false h p = absurd cc
-
-some-of : {A : Type 0} (o : Option A) → is_some o ≡ true → (x : A) × (o ≡ Some x)
-some-of None h = absurd cc
-some-of (Some x) h = (x, refl)
 
 none-of : {A : Type 0} (o : Option A) → is_none o ≡ true → o ≡ None
 none-of None h = refl
@@ -67,200 +63,6 @@ IsRead size names pieces (Ok x) = (k : ℕ) (kind : TraceFault) → ¬ IsFaulty 
 IsRead size names pieces (Err fault) = IsFirstFault size names pieces fault.0 fault.1
 
 module _ (names : NameLists) (sound : AreNames names) (size : ℕ) (pieces : List (List ℕ)) where
-  -- ---- what a line says
-
-  which : (version_of pieces ≡ 1) ⊎ (version_of pieces ≡ 2)
-  which = one-or-two (bytes_eq (text_at pieces 1) (codes "trace 2")) (version_of pieces) refl
-
-  versions : tests.version_of pieces ≡ version_of pieces
-  versions = same-version (text_at pieces 1)
-
-  row-is : (k : ℕ) → row_at names pieces k ≡ row_of names (version_of pieces) (text_at pieces k)
-  row-is k = ap (λ v. row_of names v (text_at pieces k)) versions
-
-  record IsStepFound (k n : ℕ) (event : Option Event) : Type 0 where
-    thread : List ℕ
-    line : ℕ
-    ask : AskForm
-    answer : ℤ
-    form : HasForm names pieces k (forms.Step n thread line ask answer)
-    unknown : event ≡ None → HasUnknown names (forms.Step n thread line ask answer)
-
-  step-found : (k n : ℕ) (event : Option Event) → 5 ≤ k
-      → row_at names pieces k ≡ Some (Step n event) → IsStepFound k n event
-  step-found k n event low h =
-      let told = step-form names (version_of pieces) (text_at pieces k) n event
-      (first-or-second (version_of pieces) which) (sym (row-is k) ∙ h) in
-      record {
-        thread = told.thread;
-        line = told.line;
-        ask = told.ask;
-        answer = told.answer;
-        form = record { stands = low; spelled = told.words_are; of = told.of };
-        unknown = told.unknown;
-      }
-
-  step-line : (k n : ℕ) (event : Option Event) → IsStepFound k n event → IsStepLine names pieces k n
-  step-line k n event f = (f.thread, f.line, f.ask, f.answer, f.form)
-
-  step-row : (k n : ℕ) (thread : List ℕ) (line : ℕ) (ask : AskForm) (answer : ℤ)
-      → HasForm names pieces k (forms.Step n thread line ask answer)
-      → (event : Option Event) × (row_at names pieces k ≡ Some (Step n event))
-      × (HasUnknown names (forms.Step n thread line ask answer) → event ≡ None)
-  step-row k n thread line ask answer form =
-      let read = step-read names (version_of pieces) (text_at pieces k) n thread line ask answer
-      which form.spelled form.of in
-      (read.event, row-is k ∙ read.is, read.unknown)
-
-  end-found : (k : ℕ) (read : Option Verdict) → 5 ≤ k → row_at names pieces k ≡ Some (End read)
-      → (verdict : NamedVerdict) × HasForm names pieces k (forms.End verdict)
-      × (read ≡ None → HasUnknown names (forms.End verdict))
-  end-found k read low h =
-      let told = end-form names (version_of pieces) (text_at pieces k) read which
-      (sym (row-is k) ∙ h) in
-      (told.verdict, record { stands = low; spelled = told.words_are; of = told.of }, told.unknown)
-
-  end-row : (k : ℕ) (verdict : NamedVerdict) → HasForm names pieces k (forms.End verdict)
-      → (read : Option Verdict) × (row_at names pieces k ≡ Some (End read))
-      × (HasUnknown names (forms.End verdict) → read ≡ None)
-  end-row k verdict form =
-      let read = end-read names (version_of pieces) (text_at pieces k) verdict sound which
-      form.spelled form.of in
-      (read.read, row-is k ∙ read.is, read.unknown)
-
-  -- ---- the body
-
-  verdict-found : (k : ℕ) → 5 ≤ k → is_verdict (row_at names pieces k) ≡ true
-      → IsVerdictLine names pieces k
-  verdict-found k low h = by (row_at names pieces k) refl h
-    where
-      by : (row : Option Row) → row_at names pieces k ≡ row → is_verdict row ≡ true
-          → IsVerdictLine names pieces k
-      by None e t = absurd cc
-      by (Some (Step n event)) e t = absurd cc
-      by (Some (End read)) e t = let f = end-found k read low e in (f.0, f.1)
-
-  verdict-row : (k : ℕ) → IsVerdictLine names pieces k → is_verdict (row_at names pieces k) ≡ true
-  verdict-row k line = let read = end-row k line.0 line.1 in ap is_verdict read.1
-
-  no-verdicts : (n i : ℕ) → has_verdict names pieces n ≡ false → i < n
-      → is_verdict (row_at names pieces (i + 5)) ≡ false
-  no-verdicts zero i h low = absurd (omega arith)
-  no-verdicts (suc n) i h low =
-      by (nat_lt i n) refl (λ less. no-verdicts n i
-      (or_parts (has_verdict names pieces n) (is_verdict (row_at names pieces (n + 5))) h).0 less)
-    where
-      by : (b : Bool) → nat_lt i n ≡ b → (i < n → is_verdict (row_at names pieces (i + 5)) ≡ false)
-          → is_verdict (row_at names pieces (i + 5)) ≡ false
-      by true e before = before (grind (arith, nat_tests))
-      by false e before = let same : i ≡ n = grind (arith, nat_tests) in
-          ap (λ j. is_verdict (row_at names pieces (j + 5))) same
-          ∙ (or_parts (has_verdict names pieces n) (is_verdict (row_at names pieces (n + 5))) h).1
-
-  some-verdict : (n : ℕ) → has_verdict names pieces n ≡ true
-      → (i : ℕ) × (i < n) × (is_verdict (row_at names pieces (i + 5)) ≡ true)
-  some-verdict zero h = absurd cc
-  some-verdict (suc n) h =
-      by (or_cases (has_verdict names pieces n) (is_verdict (row_at names pieces (n + 5))) h)
-      (λ e. some-verdict n e)
-    where
-      by : (has_verdict names pieces n ≡ true) ⊎ (is_verdict (row_at names pieces (n + 5)) ≡ true)
-          → (has_verdict names pieces n ≡ true
-          → (i : ℕ) × (i < n) × (is_verdict (row_at names pieces (i + 5)) ≡ true))
-          → (i : ℕ) × (i < suc n) × (is_verdict (row_at names pieces (i + 5)) ≡ true)
-      by (inl e) before = let b = before e in (b.0, let low = b.1 in omega arith, b.2)
-      by (inr e) before = (n, omega arith, e)
-
-  body-found : (k : ℕ) → is_in_body names pieces k ≡ true → IsInBody names pieces k
-  body-found k h =
-      let low : 5 ≤ k = let t = (and_parts (nat_le 5 k) (not (has_verdict names pieces (k - 5)))
-      h).0 in grind (arith, nat_tests) in
-      let none = not-true (has_verdict names pieces (k - 5))
-      (and_parts (nat_le 5 k) (not (has_verdict names pieces (k - 5))) h).1 in
-      (low, λ j before line. no-line j before none line line.1.stands)
-    where
-      no-line : (j : ℕ) → j < k → has_verdict names pieces (k - 5) ≡ false
-          → IsVerdictLine names pieces j → 5 ≤ j → ⊥
-      no-line j before none line stands =
-          let place : j - 5 + 5 ≡ j = omega arith in
-          let free = no-verdicts (k - 5) (j - 5) none (omega arith) in
-          unequal (is_verdict (row_at names pieces j)) (verdict-row j line)
-          (ap (λ i. is_verdict (row_at names pieces i)) (sym place) ∙ free)
-
-  body-test : (k : ℕ) → IsInBody names pieces k → is_in_body names pieces k ≡ true
-  body-test k body =
-      let low : nat_le 5 k ≡ true = let l = body.0 in grind (arith, nat_tests) in
-      let free = never (has_verdict names pieces (k - 5))
-      (λ h. let some = some-verdict (k - 5) h in
-      body.1 (some.0 + 5) (let l = some.1 in let b = body.0 in omega arith)
-      (verdict-found (some.0 + 5) (omega arith) some.2)) in
-      and_from (nat_le 5 k) (not (has_verdict names pieces (k - 5))) low (ap not free)
-
-  -- ---- the head
-
-  head-found : (k : ℕ) → 1 ≤ k → k ≤ 4 → is_head_line names pieces k ≡ true
-      → (form : Form) × HasForm names pieces k form
-  head-found zero low high h = absurd (omega arith)
-  head-found (suc zero) low high h = let f = version-form (text_at pieces 1) h in
-      (forms.Version f.0, record { stands = refl; spelled = f.1; of = f.2 })
-  head-found (suc (suc zero)) low high h =
-      let words = some-of (order_on_line names (text_at pieces 2)) h in
-      let f = order-form names (version_of pieces) (text_at pieces 2) words.0 words.1 in
-      (forms.Order words.0, record { stands = refl; spelled = f.0; of = f.1 })
-  head-found (suc (suc (suc zero))) low high h =
-      let points = some-of (points_on_line (text_at pieces 3)) h in
-      let f = points-form names (version_of pieces) (text_at pieces 3) points.0 points.1 in
-      (forms.Points points.0, record { stands = refl; spelled = f.0; of = f.1 })
-  head-found (suc (suc (suc (suc zero)))) low high h =
-      let limit = some-of (limit_on_line (text_at pieces 4)) h in
-      let f = limit-form names (version_of pieces) (text_at pieces 4) limit.0 limit.1 in
-      (forms.Limit limit.0, record { stands = refl; spelled = f.0; of = f.1 })
-  head-found (suc (suc (suc (suc (suc k))))) low high h = absurd (omega arith)
-
-  head-test : (k : ℕ) (form : Form) → k ≤ 4 → HasForm names pieces k form
-      → is_head_line names pieces k ≡ true
-  head-test k (forms.Version v) high form =
-      rw form.stands (ap is_some (version-read (text_at pieces 1) v (rw form.stands at form.spelled)
-      form.of))
-  head-test k (forms.Order threads) high form =
-      rw form.stands (ap is_some (order-read names (version_of pieces) (text_at pieces 2) threads
-      (rw form.stands at form.spelled) form.of))
-  head-test k (forms.Points points) high form =
-      rw form.stands (ap is_some (points-read names (version_of pieces) (text_at pieces 3) points
-      (rw form.stands at form.spelled) form.of))
-  head-test k (forms.Limit limit) high form =
-      rw form.stands (ap is_some (limit-read names (version_of pieces) (text_at pieces 4) limit
-      (rw form.stands at form.spelled) form.of))
-  head-test k (forms.Step n thread line ask answer) high form =
-      absurd (let low = form.stands in omega arith)
-  head-test k (forms.End verdict) high form = absurd (let low = form.stands in omega arith)
-
-  limit-test : (limit : ℕ) → HasForm names pieces 4 (forms.Limit limit) → limit_of pieces ≡ limit
-  limit-test limit form =
-      ap (λ o. unwrap_or o 0) (limit-read names (version_of pieces) (text_at pieces 4) limit
-      form.spelled form.of)
-
-  body-row : (k : ℕ) (form : Form) → 5 ≤ k → HasForm names pieces k form
-      → is_some (row_at names pieces k) ≡ true
-  body-row k (forms.Version v) low form = absurd (let at = form.stands in omega arith)
-  body-row k (forms.Order threads) low form = absurd (let at = form.stands in omega arith)
-  body-row k (forms.Points points) low form = absurd (let at = form.stands in omega arith)
-  body-row k (forms.Limit limit) low form = absurd (let at = form.stands in omega arith)
-  body-row k (forms.Step n thread line ask answer) low form =
-      ap is_some (step-row k n thread line ask answer form).1
-  body-row k (forms.End verdict) low form = ap is_some (end-row k verdict form).1
-
-  row-found : (k : ℕ) → 5 ≤ k → is_some (row_at names pieces k) ≡ true
-      → (form : Form) × HasForm names pieces k form
-  row-found k low h = by (row_at names pieces k) refl h
-    where
-      by : (row : Option Row) → row_at names pieces k ≡ row → is_some row ≡ true
-          → (form : Form) × HasForm names pieces k form
-      by None e t = absurd cc
-      by (Some (Step n event)) e t = let f = step-found k n event low e in
-          (forms.Step n f.thread f.line f.ask f.answer, f.form)
-      by (Some (End read)) e t = let f = end-found k read low e in (forms.End f.0, f.1)
-
   -- ---- a faulty line is found so
 
   too_long-test : (k : ℕ) → IsFaulty size names pieces k TooLong
@@ -273,12 +75,14 @@ module _ (names : NameLists) (sound : AreNames names) (size : ℕ) (pieces : Lis
       (and_from (k == 1) (nat_lt 16777216 size) one big)
   too_long-test k (inr far) =
       let step = far.4 in
-      let read = step-row k far.2 step.0 step.1 step.2 step.3 step.4 in
+      let read = step-row names sound size pieces k far.2 step.0 step.1 step.2 step.3 step.4 in
       let past : nat_lt far.1 far.2 ≡ true = let e = far.5 in grind (arith, nat_tests) in
       or_right ((k == 1) && nat_lt 16777216 size)
       (is_in_body names pieces k && is_past (limit_of pieces) (row_at names pieces k))
       (and_from (is_in_body names pieces k) (is_past (limit_of pieces) (row_at names pieces k))
-      (body-test k far.0) (ap (λ l. is_past l (row_at names pieces k)) (limit-test far.1 far.3)
+      (body-test names sound size pieces k far.0)
+      (ap (λ l. is_past l (row_at names pieces k))
+      (limit-test names sound size pieces far.1 far.3)
       ∙ ap (is_past far.1) read.1 ∙ past))
 
   bad_header-test : (k : ℕ) → IsFaulty size names pieces k BadHeader
@@ -287,7 +91,7 @@ module _ (names : NameLists) (sound : AreNames names) (size : ℕ) (pieces : Lis
       let low : nat_le 1 k ≡ true = let e = bad.0 in grind (arith, nat_tests) in
       let high : nat_le k 4 ≡ true = let e = bad.1 in grind (arith, nat_tests) in
       let lost = never (is_whole (line_at pieces k) && is_head_line names pieces k)
-      (λ h. let f = head-found k bad.0 bad.1
+      (λ h. let f = head-found names sound size pieces k bad.0 bad.1
       (and_parts (is_whole (line_at pieces k)) (is_head_line names pieces k) h).1 in
       bad.2 (
         (and_parts (is_whole (line_at pieces k)) (is_head_line names pieces k) h).0,
@@ -301,7 +105,7 @@ module _ (names : NameLists) (sound : AreNames names) (size : ℕ) (pieces : Lis
       → is_faulty size names pieces k BadLine ≡ true
   bad_line-test k bad =
       let lost = never (is_whole (line_at pieces k) && is_some (row_at names pieces k))
-      (λ h. let f = row-found k bad.0.0
+      (λ h. let f = row-found names sound size pieces k bad.0.0
       (and_parts (is_whole (line_at pieces k)) (is_some (row_at names pieces k)) h).1 in
       bad.2 (
         (and_parts (is_whole (line_at pieces k)) (is_some (row_at names pieces k)) h).0,
@@ -309,7 +113,8 @@ module _ (names : NameLists) (sound : AreNames names) (size : ℕ) (pieces : Lis
         f.1,
       )) in
       all-three (is_in_body names pieces k) (has_byte pieces k)
-      (not (is_whole (line_at pieces k) && is_some (row_at names pieces k))) (body-test k bad.0)
+      (not (is_whole (line_at pieces k) && is_some (row_at names pieces k)))
+      (body-test names sound size pieces k bad.0)
       bad.1 (ap not lost)
 
   late-unknown : (k : ℕ) → 5 ≤ k → IsOpen names pieces k
@@ -320,7 +125,7 @@ module _ (names : NameLists) (sound : AreNames names) (size : ℕ) (pieces : Lis
       (order_on_line names (text_in (line_at pieces k))))
       (is_in_body names pieces k && has_unknown (row_at names pieces k))
       (and_from (is_in_body names pieces k) (has_unknown (row_at names pieces k))
-      (body-test k (low, free)) h)
+      (body-test names sound size pieces k (low, free)) h)
 
   order-unknown : (k : ℕ) (threads : List (List ℕ)) → HasForm names pieces k (forms.Order threads)
       → HasUnknown names (forms.Order threads) → is_faulty size names pieces k UnknownName ≡ true
@@ -343,10 +148,10 @@ module _ (names : NameLists) (sound : AreNames names) (size : ℕ) (pieces : Lis
   unknown-test k (forms.Points points) at form unknown = absurd unknown
   unknown-test k (forms.Limit limit) at form unknown = absurd unknown
   unknown-test k (forms.Step n thread line ask answer) at form unknown =
-      let read = step-row k n thread line ask answer form in
+      let read = step-row names sound size pieces k n thread line ask answer form in
       late-unknown k form.stands at (ap has_unknown read.1 ∙ ap is_none (read.2 unknown))
   unknown-test k (forms.End verdict) at form unknown =
-      let read = end-row k verdict form in
+      let read = end-row names sound size pieces k verdict form in
       late-unknown k form.stands at (ap has_unknown read.1 ∙ ap is_none (read.2 unknown))
 
   next-test : (k next : ℕ) → IsNextNumber names pieces k next
@@ -354,7 +159,8 @@ module _ (names : NameLists) (sound : AreNames names) (size : ℕ) (pieces : Lis
   next-test k next (inl first) = rw (first.0, first.1) refl
   next-test k next (inr later) =
       let step = later.1 in
-      let read = step-row (k - 1) later.0 step.0 step.1 step.2 step.3 step.4 in
+      let read = step-row names sound size pieces (k - 1) later.0 step.0 step.1 step.2 step.3
+      step.4 in
       let far : nat_le k 5 ≡ false = let low = step.4.stands in grind (arith, nat_tests) in
       let is : number_before names pieces k ≡ later.0 =
       by (nat_le k 5) (number_in (row_at names pieces (k - 1))) later.0 far
@@ -368,11 +174,11 @@ module _ (names : NameLists) (sound : AreNames names) (size : ℕ) (pieces : Lis
       → is_faulty size names pieces k OutOfOrder ≡ true
   order-test k bad =
       let step = bad.3 in
-      let read = step-row k bad.1 step.0 step.1 step.2 step.3 step.4 in
+      let read = step-row names sound size pieces k bad.1 step.0 step.1 step.2 step.3 step.4 in
       let other : (bad.1 == bad.2) ≡ false = let e = bad.5 in grind (arith, nat_tests) in
       and_from (is_in_body names pieces k)
       (is_other_number (number_before names pieces k + 1) (row_at names pieces k))
-      (body-test k bad.0)
+      (body-test names sound size pieces k bad.0)
       (ap (λ n. is_other_number n (row_at names pieces k)) (next-test k bad.2 bad.4)
       ∙ ap (is_other_number bad.2) read.1 ∙ ap not other)
 
@@ -384,12 +190,13 @@ module _ (names : NameLists) (sound : AreNames names) (size : ℕ) (pieces : Lis
   fault-test k UnknownName bad = unknown-test k bad.1 bad.0 bad.2 bad.3
   fault-test k OutOfOrder bad = order-test k bad
   fault-test k NoVerdict bad =
-      and_from (is_in_body names pieces k) (not (has_byte pieces k)) (body-test k bad.0)
+      and_from (is_in_body names pieces k) (not (has_byte pieces k))
+      (body-test names sound size pieces k bad.0)
       (ap not bad.1)
   fault-test k MoreAfterVerdict bad =
       let high : nat_le 6 k ≡ true = let low = bad.0.1.stands in grind (arith, nat_tests) in
       all-three (nat_le 6 k) (is_verdict (row_at names pieces (k - 1))) (has_byte pieces k) high
-      (verdict-row (k - 1) bad.0) bad.1
+      (verdict-row names sound size pieces (k - 1) bad.0) bad.1
 
   -- ---- a line that is found faulty is so, where none before it is
 
@@ -429,7 +236,7 @@ module _ (names : NameLists) (sound : AreNames names) (size : ℕ) (pieces : Lis
           let large = (and_parts (k == 1) (nat_lt 16777216 size) e).1 in
           inl (grind (arith, nat_tests), grind (arith, nat_tests))
       by (inr e) =
-          let body = body-found k (and_parts (is_in_body names pieces k)
+          let body = body-found names sound size pieces k (and_parts (is_in_body names pieces k)
           (is_past (limit_of pieces) (row_at names pieces k)) e).0 in
           let past = step-past k (limit_of pieces) (row_at names pieces k) refl
           (and_parts (is_in_body names pieces k)
@@ -440,7 +247,8 @@ module _ (names : NameLists) (sound : AreNames names) (size : ℕ) (pieces : Lis
             limit_of pieces,
             past.0,
             limit-clean (clean 4 BadHeader low),
-            step-line k past.0 past.1 (step-found k past.0 past.1 body.0 past.2),
+            step-line names sound size pieces k past.0 past.1
+                (step-found names sound size pieces k past.0 past.1 body.0 past.2),
             past.3,
           )
 
@@ -456,7 +264,7 @@ module _ (names : NameLists) (sound : AreNames names) (size : ℕ) (pieces : Lis
         high,
         λ line. unequal (is_whole (line_at pieces k) && is_head_line names pieces k)
             (and_from (is_whole (line_at pieces k)) (is_head_line names pieces k) line.0
-            (head-test k line.1 high line.2)) lost,
+            (head-test names sound size pieces k line.1 high line.2)) lost,
       )
 
   bad_line-found : (k : ℕ) → is_faulty size names pieces k BadLine ≡ true
@@ -466,13 +274,13 @@ module _ (names : NameLists) (sound : AreNames names) (size : ℕ) (pieces : Lis
       (not (is_whole (line_at pieces k) && is_some (row_at names pieces k))) h in
       let lost = not-true (is_whole (line_at pieces k) && is_some (row_at names pieces k))
       parts.2 in
-      let body = body-found k parts.0 in (
+      let body = body-found names sound size pieces k parts.0 in (
         body,
         parts.1,
         λ line. unequal (is_whole (line_at pieces k)
             && is_some (row_at names pieces k))
             (and_from (is_whole (line_at pieces k)) (is_some (row_at names pieces k)) line.0
-            (body-row k line.1 body.0 line.2)) lost,
+            (body-row names sound size pieces k line.1 body.0 line.2)) lost,
       )
 
   order-found : (k : ℕ) (order : Option (List (List ℕ))) → k ≡ 2
@@ -493,10 +301,10 @@ module _ (names : NameLists) (sound : AreNames names) (size : ℕ) (pieces : Lis
       → has_unknown row ≡ true → IsFaulty size names pieces k UnknownName
   row-unknown k None body e h = absurd cc
   row-unknown k (Some (Step n event)) body e h =
-      let f = step-found k n event body.0 e in
+      let f = step-found names sound size pieces k n event body.0 e in
       (body.1, forms.Step n f.thread f.line f.ask f.answer, f.form, f.unknown (none-of event h))
   row-unknown k (Some (End read)) body e h =
-      let f = end-found k read body.0 e in
+      let f = end-found names sound size pieces k read body.0 e in
       (body.1, forms.End f.0, f.1, f.2 (none-of read h))
 
   unknown-found : (k : ℕ) → is_faulty size names pieces k UnknownName ≡ true
@@ -520,7 +328,7 @@ module _ (names : NameLists) (sound : AreNames names) (size : ℕ) (pieces : Lis
           (order_on_line names (text_in (line_at pieces k)))) e).1)
       by (inr e) =
           row-unknown k (row_at names pieces k)
-          (body-found k (and_parts (is_in_body names pieces k)
+          (body-found names sound size pieces k (and_parts (is_in_body names pieces k)
           (has_unknown (row_at names pieces k)) e).0) refl
           (and_parts (is_in_body names pieces k) (has_unknown (row_at names pieces k)) e).1
 
@@ -532,7 +340,7 @@ module _ (names : NameLists) (sound : AreNames names) (size : ℕ) (pieces : Lis
       → (n : ℕ) × (event : Option Event) × (row_at names pieces (k - 1) ≡ Some (Step n event))
   step-before k clean body low =
       let before = earlier k body low in
-      let test = body-test (k - 1) before in
+      let test = body-test names sound size pieces (k - 1) before in
       let there = guarded-not (is_in_body names pieces (k - 1)) (has_byte pieces (k - 1))
       (clean (k - 1) NoVerdict (omega arith)) test in
       let line = whole (is_in_body names pieces (k - 1)) (has_byte pieces (k - 1))
@@ -552,7 +360,8 @@ module _ (names : NameLists) (sound : AreNames names) (size : ℕ) (pieces : Lis
           → (n : ℕ) × (event : Option Event) × (row_at names pieces (k - 1) ≡ Some (Step n event))
       by None e t after = absurd cc
       by (Some (Step n event)) e t after = (n, event, e)
-      by (Some (End read)) e t after = let f = end-found (k - 1) read after e in
+      by (Some (End read)) e t after =
+          let f = end-found names sound size pieces (k - 1) read after e in
           absurd (body.1 (k - 1) (omega arith) (f.0, f.1))
 
   next-found : (k : ℕ) → IsClean k → IsInBody names pieces k
@@ -569,8 +378,8 @@ module _ (names : NameLists) (sound : AreNames names) (size : ℕ) (pieces : Lis
           let low : 5 ≤ k - 1 = omega arith in
           inr (
             step.0,
-            step-line (k - 1) step.0 step.1
-                (step-found (k - 1) step.0 step.1 low step.2),
+            step-line names sound size pieces (k - 1) step.0 step.1
+                (step-found names sound size pieces (k - 1) step.0 step.1 low step.2),
             ap (λ r. number_in r + 1) step.2,
           )
 
@@ -587,7 +396,7 @@ module _ (names : NameLists) (sound : AreNames names) (size : ℕ) (pieces : Lis
       → IsFaulty size names pieces k OutOfOrder
   out_of_order-found k clean h =
       let next = number_before names pieces k + 1 in
-      let body = body-found k (and_parts (is_in_body names pieces k)
+      let body = body-found names sound size pieces k (and_parts (is_in_body names pieces k)
       (is_other_number next (row_at names pieces k)) h).0 in
       let other = step-other k next (row_at names pieces k) refl
       (and_parts (is_in_body names pieces k) (is_other_number next (row_at names pieces k))
@@ -595,8 +404,8 @@ module _ (names : NameLists) (sound : AreNames names) (size : ℕ) (pieces : Lis
         body,
         other.0,
         next,
-        step-line k other.0 other.1
-            (step-found k other.0 other.1 body.0 other.2),
+        step-line names sound size pieces k other.0 other.1
+            (step-found names sound size pieces k other.0 other.1 body.0 other.2),
         next-found k clean body,
         other.3,
       )
@@ -609,7 +418,8 @@ module _ (names : NameLists) (sound : AreNames names) (size : ℕ) (pieces : Lis
   fault-found k UnknownName clean h = unknown-found k h
   fault-found k OutOfOrder clean h = out_of_order-found k clean h
   fault-found k NoVerdict clean h = (
-    body-found k (and_parts (is_in_body names pieces k) (not (has_byte pieces k)) h).0,
+    body-found names sound size pieces k
+        (and_parts (is_in_body names pieces k) (not (has_byte pieces k)) h).0,
     not-true (has_byte pieces k) (and_parts (is_in_body names pieces k)
         (not (has_byte pieces k)) h).1,
   )
@@ -617,7 +427,7 @@ module _ (names : NameLists) (sound : AreNames names) (size : ℕ) (pieces : Lis
       let parts = three (nat_le 6 k) (is_verdict (row_at names pieces (k - 1))) (has_byte pieces k)
       h in
       let low : 5 ≤ k - 1 = let t = parts.0 in grind (arith, nat_tests) in
-      (verdict-found (k - 1) low parts.1, parts.2)
+      (verdict-found names sound size pieces (k - 1) low parts.1, parts.2)
 
   -- ---- the first fault
 

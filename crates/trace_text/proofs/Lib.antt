@@ -19,6 +19,7 @@ pub mod Wholes
 pub mod FaultTests
 pub mod FaultLines
 pub mod FaultBodies
+pub mod FoundLines
 pub mod FaultForms
 pub mod Readings
 pub mod Sizes
