@@ -1,42 +1,35 @@
 -- A line is found faulty exactly where it is, by the forms of lines: as far as no line before it
 -- is.
-use Rattle.std.specs.Prelude.{codes, ◌==◌, ◌&&◌, not, nat_le, nat_lt, is_some, is_none}
+use Rattle.std.specs.Prelude.{◌==◌, ◌&&◌, not, nat_le, nat_lt, is_some, is_none}
 use Rattle.std.specs.Prelude.{if◌then◌else◌}
 use Rattle.std.specs.Option.{unwrap_or}
-use Rattle.std.specs.Str.{bytes_eq}
-use Rattle.std.proofs.Common.{◌≡◌, ◌≢◌, ◌⊎◌, ℕ, ℤ, ◌+◌, ◌-◌, ◌<◌, ◌≤◌, Bool, true, false, List}
-use Rattle.std.proofs.Common.{zero, suc, Option, Some, None, Result, Ok, Err, refl, sym, ap, ◌∙◌}
+use Rattle.std.proofs.Common.{◌≡◌, ◌≢◌, ◌⊎◌, ℕ, ◌+◌, ◌-◌, ◌<◌, ◌≤◌, Bool, true, false, List}
+use Rattle.std.proofs.Common.{Option, Some, None, Result, Ok, Err, refl, sym, ap, ◌∙◌}
 use Rattle.std.proofs.Common.{inl, inr, arith}
 use Rattle.std.proofs.lemmas.Bool.Decides.{nat_tests}
-use Rattle.std.proofs.lemmas.Bool.{and_parts, and_from, or_left, or_right, or_cases, or_parts}
+use Rattle.std.proofs.lemmas.Bool.{and_parts, and_from, or_left, or_right, or_cases}
 use Rattle.std.proofs.lemmas.Bool.{not-true, not-false}
 use Rattle.pct_ask.specs.NameLists.{NameLists, AreNames}
-use Rattle.pct_ask.specs.VerdictText.{NamedVerdict}
 use Rattle.pct_ask.specs.declared.event.Event.{Event}
-use Rattle.pct_ask.specs.declared.verdict.Verdict.{Verdict}
 use Rattle.trace_text.specs.Lines.{line_at, text_in, is_whole}
-use Rattle.trace_text.specs.reader.Heads.{order_on_line, points_on_line, limit_on_line}
+use Rattle.trace_text.specs.reader.Heads.{order_on_line, limit_on_line}
 use Rattle.trace_text.specs.Forms.{AskForm, Form, HasUnknown}
 use Rattle.trace_text.specs.Forms as forms
-use Rattle.trace_text.specs.Faults.{text_at, has_byte, version_of, HasForm, IsStepLine}
-use Rattle.trace_text.specs.Faults.{IsVerdictLine, IsOpen, IsInBody, IsNextNumber, IsFaulty}
+use Rattle.trace_text.specs.Faults.{text_at, has_byte, version_of, HasForm}
+use Rattle.trace_text.specs.Faults.{IsOpen, IsInBody, IsNextNumber, IsFaulty}
 use Rattle.trace_text.specs.Faults.{IsFirstFault}
 use Rattle.trace_text.specs.reader.Reading.{Fault}
-use Rattle.trace_text.specs.reader.StepLines.{row_of}
 use Rattle.trace_text.specs.declared.row.Row.{Row}
 use Rattle.trace_text.specs.declared.row.Row.TheVariants.{Step, End}
 use Rattle.trace_text.specs.declared.fault.TraceFault.{TraceFault}
 use Rattle.trace_text.specs.declared.fault.TraceFault.TheVariants.{TooLong, BadHeader, BadLine}
 use Rattle.trace_text.specs.declared.fault.TraceFault.TheVariants.{UnknownName, OutOfOrder}
 use Rattle.trace_text.specs.declared.fault.TraceFault.TheVariants.{NoVerdict, MoreAfterVerdict}
-use Rattle.trace_text.proofs.AskForms.{first-or-second}
-use Rattle.trace_text.proofs.StepForms.{step-form, step-read}
-use Rattle.trace_text.proofs.EndForms.{never, end-form, end-read}
-use Rattle.trace_text.proofs.HeadForms.{three, version-form, version-read, same-version, one-or-two}
+use Rattle.trace_text.proofs.EndForms.{never}
+use Rattle.trace_text.proofs.HeadForms.{three}
 use Rattle.trace_text.proofs.HeadForms.{order-form, order-read, unknown-told, unknown-read}
-use Rattle.trace_text.proofs.HeadForms.{points-form, points-read, limit-form, limit-read}
-use Rattle.trace_text.proofs.FaultTests as tests
-use Rattle.trace_text.proofs.FaultTests.{limit_of, row_at, is_verdict, has_verdict, is_in_body}
+use Rattle.trace_text.proofs.HeadForms.{limit-form}
+use Rattle.trace_text.proofs.FaultTests.{limit_of, row_at, is_verdict, is_in_body}
 use Rattle.trace_text.proofs.FaultTests.{number_in, number_before, is_past, has_unknown}
 use Rattle.trace_text.proofs.FaultTests.{is_other_number, is_head_line, has_unknown_thread}
 use Rattle.trace_text.proofs.FaultTests.{is_faulty, IsFirstFound}
