@@ -1,3 +1,4 @@
 pub mod Moments
 pub mod Orders
 pub mod Walks
+pub mod laws

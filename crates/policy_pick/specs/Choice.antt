@@ -1,7 +1,8 @@
 -- Who goes next: the choice that a policy's parameters make after a schedule, a list of threads,
 -- from what is known of each thread. (The threads of a run by PCT go by falling rank; lists, and
 -- what is known of a thread, are this project's.)
-use Rattle.std.specs.Prelude.{◌≡◌, ℕ, ◌<◌, Bool, true, false, ◌&&◌, ◌||◌, not, nat_le, List, length}
+use Rattle.std.specs.Prelude.{◌≡◌, ◌≢◌, ℕ, ◌<◌, Bool, true, false, ◌&&◌, ◌||◌, not, nat_le, List}
+use Rattle.std.specs.Prelude.{[], ◌∷◌, ◌++◌, length}
 use Rattle.std.specs.Prelude.{slice_get, slice_index, slice_index_or, Option, Some, None}
 use Rattle.std.specs.List.{find, list_all, range_with_len}
 use Rattle.rank_now.specs.Rank.{ranks, ranks_by_events}
@@ -74,6 +75,25 @@ choice (ByEvents order events) schedule chances =
     choice_by_rank (ranks_by_events order events schedule) chances
 choice (ByList listed) schedule chances =
     choice_by_list (slice_get listed (length schedule)) chances
+
+-- The thread's step changes no choice: whatever is known of the threads, who goes next is as before
+-- it.
+abbrev pub KeepsChoices : Plan → List ℕ → ℕ → Type 0
+KeepsChoices plan schedule thread =
+    (chances : List Chance)
+    → choice plan (schedule ++ thread ∷ []) chances ≡ choice plan schedule chances
+
+-- the later chances say the same of each thread but one
+pub record SameOthers (thread : ℕ) (earlier later : List Chance) : Type 0 where
+  pub threads : length later ≡ length earlier
+  pub others : (other : ℕ) → other < length earlier → other ≢ thread
+      → chance_of later other ≡ chance_of earlier other
+
+-- no thread but one is open in the later chances that wasn't in the earlier ones
+pub record OpensNoOther (thread : ℕ) (earlier later : List Chance) : Type 0 where
+  pub threads : length later ≡ length earlier
+  pub others : (other : ℕ) → other < length earlier → other ≢ thread
+      → is_open (chance_of later other) ≡ true → is_open (chance_of earlier other) ≡ true
 
 -- the target of an Unknown is Away
 abbrev pub HasAwayTarget : List Chance → Chance → Type 0

@@ -20,6 +20,12 @@ SpeaksOf (ByPoints order points) threads = threads ≡ length order
 SpeaksOf (ByEvents order events) threads = threads ≡ length order
 SpeaksOf (ByList listed) threads = (threads ≤ 64) × All (λ thread. thread < threads) listed
 
+-- it goes by an order, and not by a list
+abbrev pub GoesByRank : Plan → Type 0
+GoesByRank (ByPoints order points) = Unit {0}
+GoesByRank (ByEvents order events) = Unit {0}
+GoesByRank (ByList listed) = ⊥
+
 -- the thread is one of those
 abbrev pub IsThreadOf : Plan → ℕ → Type 0
 IsThreadOf plan thread = (threads : ℕ) × SpeaksOf plan threads × (thread < threads)

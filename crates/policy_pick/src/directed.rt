@@ -67,12 +67,23 @@ impl Policy for DirectedPolicy {
     }
 
     fn took(&mut self, thread: u32) {
+        self.took_and_kept(thread);
+    }
+
+    fn took_and_kept(&mut self, thread: u32) -> bool {
         let number = self.own[thread as usize] + 1;
         self.own[thread as usize] = number;
         let index = index_of_moment(&self.events, thread, number);
         if index > 0 {
             self.ranks.lower(thread, index);
+            false
+        } else {
+            true
         }
+    }
+
+    fn goes_by_rank(&self) -> bool {
+        true
     }
 
     ghost keeps = { λ policy schedule earlier later speaks known waits.

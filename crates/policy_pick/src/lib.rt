@@ -8,7 +8,7 @@ mod pct;
 mod policy;
 mod walk;
 
-pub use chance::{Chance, Pick};
+pub use chance::{Chance, Pick, is_open};
 pub use directed::DirectedPolicy;
 pub use listed::Listed;
 pub use pct::Pct;

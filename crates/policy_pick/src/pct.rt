@@ -71,11 +71,22 @@ impl Policy for Pct {
     }
 
     fn took(&mut self, thread: u32) {
+        self.took_and_kept(thread);
+    }
+
+    fn took_and_kept(&mut self, thread: u32) -> bool {
         self.taken += 1;
         let index = index_of_point(&self.points, self.taken);
         if index > 0 {
             self.ranks.lower(thread, index);
+            false
+        } else {
+            true
         }
+    }
+
+    fn goes_by_rank(&self) -> bool {
+        true
     }
 
     ghost keeps = { λ policy schedule earlier later speaks known waits.

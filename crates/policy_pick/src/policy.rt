@@ -1,8 +1,8 @@
-ghost use Rattle.std.specs.Prelude.{◌≡◌, ℕ, ◌<◌, List, [], ◌∷◌, ◌++◌, length};
+ghost use Rattle.std.specs.Prelude.{◌≡◌, ℕ, ◌<◌, List, [], ◌∷◌, ◌++◌, length, true};
 ghost use Rattle.policy_pick.specs.declared.chance.Chance.{Chance};
-ghost use Rattle.policy_pick.specs.Plan.{Plan, SpeaksOf, IsThreadOf};
+ghost use Rattle.policy_pick.specs.Plan.{Plan, SpeaksOf, IsThreadOf, GoesByRank};
 ghost use Rattle.policy_pick.specs.Choice.{choice, TargetsAreAway, IsSoundPick, KeepsKnown};
-ghost use Rattle.policy_pick.specs.Choice.{IsWaits};
+ghost use Rattle.policy_pick.specs.Choice.{IsWaits, KeepsChoices};
 
 use crate::chance::{Chance, Pick};
 
@@ -32,6 +32,31 @@ pub trait Policy: Send + Drop {
         ensures plan { plan self.new ≡ plan self.old }
         ensures stands { (schedule : List ℕ) → stands self.old schedule
             → stands self.new (schedule ++ thread ∷ []) };
+
+    /// As `took`, and true only where the step changes no choice: whatever is known of the threads,
+    /// who goes next is as before it. Where it is false, that may be so, too.
+    fn took_and_kept(&mut self, thread: u32) -> bool
+        requires thread { IsThreadOf (plan self.old) thread }
+        requires short { (schedule : List ℕ)
+            × stands self.old schedule
+            × (length schedule < 100000) }
+        ensures plan { plan self.new ≡ plan self.old }
+        ensures stands { (schedule : List ℕ) → stands self.old schedule
+            → stands self.new (schedule ++ thread ∷ []) }
+        ensures same { result ≡ true → (schedule : List ℕ) → stands self.old schedule
+            → KeepsChoices (plan self.old) schedule thread }
+    {
+        self.took(thread);
+        false
+    }
+
+    /// True only where it goes by ranks: the open thread of greatest rank is the one that goes, or
+    /// that is waited for.
+    fn goes_by_rank(&self) -> bool
+        ensures { result ≡ true → GoesByRank (plan self.now) }
+    {
+        false
+    }
 
     // A choice that waits for nobody stays, as what was not known becomes known.
     ghost keeps: { (policy : Self) (schedule : List ℕ) (earlier later : List Chance)

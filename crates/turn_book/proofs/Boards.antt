@@ -1,11 +1,12 @@
 -- The chances of all threads, from their standings, and the threads whose chance stays.
 use Rattle.std.proofs.Common.{◌≡◌, ◌≢◌, ℕ, zero, suc, ◌+◌, ◌<◌, Bool, true, false, cond, eqb}
+use Rattle.std.proofs.Common.{◌&&◌, ◌||◌}
 use Rattle.std.proofs.Common.{Option, Some, None, List, [], ◌∷◌, ◌++◌, length, set, take, map}
 use Rattle.std.proofs.Common.{replicate, refl, sym, ap, subst, ◌∙◌, arith, inl, inr, ◌⊎◌, eq-eqb}
 use Rattle.std.specs.Prelude.{is_none, slice_get}
 use Rattle.std.specs.Option.{option_map, option_map_or}
 use Rattle.std.specs.List.{All, cons_option, filter_map, range_with_len}
-use Rattle.std.proofs.lemmas.Bool.{cases_eq, cases_lt, false≢true, or_parts}
+use Rattle.std.proofs.lemmas.Bool.{cases_Bool, cases_eq, cases_lt, false≢true, or_parts}
 use Rattle.std.proofs.lemmas.List.{append-nil, length-replicate, length-set, map-set}
 use Rattle.std.proofs.lemmas.List.{get_or-replicate, get_or-set_other, get_or-set_same, get_or_past}
 use Rattle.std.proofs.lemmas.List.FromFn.{length-map-range_with_len, get_or-map-range_with_len}
@@ -23,7 +24,9 @@ use Rattle.pct_ask.specs.Objects.{Sizes, IsInRange, PostIsInRange}
 use Rattle.sync_store.specs.declared.touched.Touched.{Touched}
 use Rattle.sync_store.specs.Store.{StoreState, sizes_of, first_store}
 use Rattle.sync_store.specs.Enabled.{enabled}
+use Rattle.sync_store.specs.declared.ready.Ready.TheVariants.{Yes}
 use Rattle.sync_store.specs.Ready.{join_target, unknown_target, ready_by, away_by, ended_by}
+use Rattle.sync_store.specs.Ready.{readiness}
 use Rattle.sync_store.specs.Ready.{standing_is_away, standing_is_ended as is_ended_standing}
 use Rattle.sync_store.specs.Touched.{KeepsOthers, depends_on}
 use Rattle.policy_pick.specs.declared.chance.Chance.{Chance}
@@ -33,7 +36,7 @@ use Rattle.turn_book.specs.Chances.{NextPosts, is_unknown, is_ended, chance_by, 
 use Rattle.turn_book.specs.Chances.{chance_of_post, chance, chances, blocked_at, verdict_of_blocked}
 use Rattle.turn_book.specs.Told.{standing_by_ask, standing_by}
 use Rattle.turn_book.specs.Board.{IsBoard, next_posts_of, ask_of_post, ArePostsInRange, joins}
-use Rattle.turn_book.specs.Board.{concerns_ask, concerns}
+use Rattle.turn_book.specs.Board.{concerns_ask, concerns, may_wait}
 use Rattle.turn_book.proofs.laws.MorePosts.{readiness-same}
 
 -- ---- all chances
@@ -179,6 +182,19 @@ joins-other t v (asks.Join u) e is = λ same. let here : u ≡ t = let w : u ≡
     false≢true (sym e ∙ eq-eqb u t here)
 joins-other t v ask e is = absurd cc
 
+-- an ask that never has to wait may always take its step
+never-waits : (store : StoreState) (away ended : ℕ → Bool) (u : ℕ) (ask : Ask)
+    → may_wait ask ≡ false → readiness store away ended u ask ≡ Yes
+never-waits store away ended u (asks.Lock m) e = absurd (false≢true (sym e))
+never-waits store away ended u (asks.Regain condition m) e = absurd (false≢true (sym e))
+never-waits store away ended u (asks.Down s) e = absurd (false≢true (sym e))
+never-waits store away ended u (asks.Leave b) e = absurd (false≢true (sym e))
+never-waits store away ended u (asks.Join v) e = absurd (false≢true (sym e))
+never-waits store away ended u asks.Begin e = absurd (false≢true (sym e))
+never-waits store away ended u (asks.RdLock l) e = absurd (false≢true (sym e))
+never-waits store away ended u (asks.WrLock l) e = absurd (false≢true (sym e))
+never-waits store away ended u ask e = refl
+
 module _ (store after : StoreState) (posts : List (Option Post)) (t : ℕ) (post : Option Post)
     (object : Touched)
     (keeps : (ended : ℕ → Bool) (u : ℕ) (ask : Ask) → u ≢ t → depends_on u ask object ≡ false
@@ -194,15 +210,22 @@ module _ (store after : StoreState) (posts : List (Option Post)) (t : ℕ) (post
       ≡ chance_of_ask store (is_unknown (next_posts_of posts)) (is_ended (next_posts_of posts)) u
       ask
   kept-ask u None apart none = refl
-  kept-ask u (Some ask) apart none =
-      let parts = or_parts (depends_on u ask object) (joins t ask) none in
-      ap chance_by (
-      readiness-same after (is_unknown later) (is_ended later) (is_unknown (next_posts_of posts))
-      (is_ended (next_posts_of posts)) u ask (λ v e.
-      let same = other-post v (joins-other t v ask parts.1 e) in
-      (ap is_none same, ap (λ o. option_map_or (λ (p : Post). is_none p.ask) o false) same))
-      ∙ ap (ready_by (unknown_target (is_unknown (next_posts_of posts)) (join_target ask)))
-      (keeps (is_ended (next_posts_of posts)) u ask apart parts.0))
+  kept-ask u (Some ask) apart none = elim (cases_Bool (may_wait ask)) [
+    | inl waits ↦
+        let parts = or_parts (depends_on u ask object) (joins t ask)
+        (sym (ap (λ b. b && (depends_on u ask object || joins t ask)) waits) ∙ none) in
+        ap chance_by (
+        readiness-same after (is_unknown later) (is_ended later) (is_unknown (next_posts_of posts))
+        (is_ended (next_posts_of posts)) u ask (λ v e.
+        let same = other-post v (joins-other t v ask parts.1 e) in
+        (ap is_none same, ap (λ o. option_map_or (λ (p : Post). is_none p.ask) o false) same))
+        ∙ ap (ready_by (unknown_target (is_unknown (next_posts_of posts)) (join_target ask)))
+        (keeps (is_ended (next_posts_of posts)) u ask apart parts.0))
+    | inr never ↦
+        ap chance_by (never-waits after (is_unknown later) (is_ended later) u ask never
+        ∙ sym (never-waits store (is_unknown (next_posts_of posts)) (is_ended (next_posts_of posts))
+        u ask never))
+  ]
 
   kept-post : (u : ℕ) (p : Option Post) → u ≢ t → concerns_ask t object u (ask_of_post p) ≡ false
       → chance_of_post after (is_unknown later) (is_ended later) u p

@@ -1,5 +1,5 @@
 -- The threads that others join, and whom a step concerns that touches no object.
-use Rattle.std.proofs.Common.{◌≡◌, ◌≢◌, ◌||◌, ◌<◌, ℕ, Bool, true, false, List, Option, Some}
+use Rattle.std.proofs.Common.{◌≡◌, ◌≢◌, ◌||◌, ◌&&◌, ◌<◌, ℕ, Bool, true, false, List, Option, Some}
 use Rattle.std.proofs.Common.{None, set, get_or, replicate, refl, sym, ap, ◌∙◌, inl, inr, ne_eqb}
 use Rattle.std.proofs.Common.{eqb-true, arith}
 use Rattle.std.proofs.lemmas.Bool.{cases_Bool, false≢true}
@@ -7,10 +7,11 @@ use Rattle.pct_ask.specs.declared.ask.Ask.{Ask}
 use Rattle.pct_ask.specs.declared.ask.Ask.TheVariants.{Join, Begin}
 use Rattle.pct_ask.specs.declared.ask.Post.{Post}
 use Rattle.pct_ask.specs.Objects.{Sizes, PostIsInRange}
+use Rattle.sync_store.specs.declared.touched.Touched.{Touched}
 use Rattle.sync_store.specs.declared.touched.Touched.TheVariants.{Nothing}
 use Rattle.sync_store.specs.Touched.{depends_on}
 use Rattle.turn_book.specs.Board.{AreNoted, ask_of_post, concerns, concerns_ask, joins, joins_ask}
-use Rattle.turn_book.specs.Board.{next_posts_of}
+use Rattle.turn_book.specs.Board.{next_posts_of, may_wait, may_wait_ask}
 use Rattle.turn_book.proofs.Boards.{nothing-posted, set-listed}
 
 -- no ask depends on nothing
@@ -18,11 +19,17 @@ pub depends-on-nothing : (u : ℕ) (ask : Ask) → depends_on u ask Nothing ≡ 
 depends-on-nothing u Begin = refl
 depends-on-nothing u ask = refl
 
+and-false : (b : Bool) → (b && false) ≡ false
+and-false true = refl
+and-false false = refl
+
 -- ---- a step that touches no object
 alone-concerned : (t u : ℕ) (ask : Option Ask) → joins_ask t ask ≡ false
     → concerns_ask t Nothing u ask ≡ false
 alone-concerned t u None e = refl
-alone-concerned t u (Some ask) e = ap (λ b. b || joins t ask) (depends-on-nothing u ask) ∙ e
+alone-concerned t u (Some ask) e =
+    ap (λ b. may_wait ask && (b || joins t ask)) (depends-on-nothing u ask)
+    ∙ ap (λ b. may_wait ask && b) e ∙ and-false (may_wait ask)
 
 -- concerns its own thread and those that join it
 pub others-alone : (t u : ℕ) (post : Option Post) → u ≢ t → joins_ask t (ask_of_post post) ≡ false
@@ -30,6 +37,19 @@ pub others-alone : (t u : ℕ) (post : Option Post) → u ≢ t → joins_ask t 
 others-alone t u post apart e =
     ap (λ b. b || concerns_ask t Nothing u (ask_of_post post)) (ne_eqb u t apart)
     ∙ alone-concerned t u (ask_of_post post) e
+
+idle-concerned : (t : ℕ) (object : Touched) (u : ℕ) (ask : Option Ask) → may_wait_ask ask ≡ false
+    → concerns_ask t object u ask ≡ false
+idle-concerned t object u None e = refl
+idle-concerned t object u (Some ask) e =
+    ap (λ b. b && (depends_on u ask object || joins t ask)) e
+
+-- no step concerns another thread whose ask never has to wait
+pub others-idle : (t : ℕ) (object : Touched) (u : ℕ) (post : Option Post) → u ≢ t
+    → may_wait_ask (ask_of_post post) ≡ false → concerns t object u post ≡ false
+others-idle t object u post apart e =
+    ap (λ b. b || concerns_ask t object u (ask_of_post post)) (ne_eqb u t apart)
+    ∙ idle-concerned t object u (ask_of_post post) e
 
 -- ---- what is noted
 pub joined-within : (sizes : Sizes) (t : ℕ) (ask : Option Ask) → PostIsInRange sizes ask

@@ -1,8 +1,10 @@
 pub mod Boards
 pub mod Joined
+pub mod Waiters
 pub mod PostLists
 pub mod Books
 pub mod FirstBooks
 pub mod Takes
+pub mod Turning
 pub mod Fronts
 pub mod laws

@@ -1,9 +1,12 @@
 -- The board of a book: the store, and each thread's next post. Nothing here is needed to read a
 -- public contract.
-use Rattle.std.specs.Prelude.{◌≡◌, ◌≤◌, ℕ, ℤ, pos, Bool, true, false, ◌==◌, ◌||◌, List, length}
+use Rattle.std.specs.Prelude.{◌≡◌, ◌<◌, ◌≤◌, ℕ, ℤ, pos, Bool, true, false, ◌==◌, ◌||◌, ◌&&◌, List}
+use Rattle.std.specs.Prelude.{length}
 use Rattle.std.specs.Prelude.{map, Option, Some, None, slice_index_or, slice_set}
 use Rattle.pct_ask.specs.declared.ask.Ask.{Ask}
-use Rattle.pct_ask.specs.declared.ask.Ask.TheVariants.{Join}
+use Rattle.std.specs.Int.{bit_at}
+use Rattle.pct_ask.specs.declared.ask.Ask.TheVariants.{Lock, Regain, Down, Leave, Join, Begin}
+use Rattle.pct_ask.specs.declared.ask.Ask.TheVariants.{RdLock, WrLock}
 use Rattle.pct_ask.specs.declared.ask.Post.{Post}
 use Rattle.pct_ask.specs.declared.event.Event.{Event}
 use Rattle.pct_ask.specs.declared.event.Standing.{Standing}
@@ -14,6 +17,9 @@ use Rattle.sync_store.specs.Store.{StoreState, sizes_of}
 use Rattle.sync_store.specs.Effect.{Effect, Goes, Stops, effect, store_after}
 use Rattle.sync_store.specs.Touched.{depends_on}
 use Rattle.policy_pick.specs.declared.chance.Chance.{Chance}
+use Rattle.policy_pick.specs.declared.chance.Pick.{Pick}
+use Rattle.policy_pick.specs.Plan.{Plan}
+use Rattle.policy_pick.specs.Choice.{SameOthers, choice}
 use Rattle.turn_book.specs.Chances.{NextPosts, chances}
 use Rattle.turn_book.specs.Told.{standing_by}
 
@@ -78,17 +84,53 @@ AreNoted posts joined =
     (t u : ℕ) → joins_ask t (ask_of_post (next_posts_of posts u)) ≡ true
     → slice_index_or joined t false ≡ true
 
+-- whether an ask may have to wait: for an object, for the end of a thread or for its own start
+abbrev pub may_wait : Ask → Bool
+may_wait (Lock m) = true
+may_wait (Regain c m) = true
+may_wait (Down s) = true
+may_wait (Leave b) = true
+may_wait (Join u) = true
+may_wait Begin = true
+may_wait (RdLock l) = true
+may_wait (WrLock l) = true
+may_wait ask = false
+
+-- the same of an ask, where there is one
+abbrev pub may_wait_ask : Option Ask → Bool
+may_wait_ask None = false
+may_wait_ask (Some ask) = may_wait ask
+
+-- The bits of a word name threads that there are, each one whose next post may have to wait among
+-- them.
+pub record AreWaiters (threads : ℕ) (posts : List (Option Post)) (waiters : ℕ) : Type 0 where
+  pub each : (u : ℕ) → u < 64 → may_wait_ask (ask_of_post (next_posts_of posts u)) ≡ true
+      → bit_at waiters u ≡ 1
+  pub below : (u : ℕ) → u < 64 → bit_at waiters u ≡ 1 → u < threads
+
 -- a board that keeps these beside the store and the posts
 pub record IsNotedBoard (store : StoreState) (posts : List (Option Post)) (stands : List Standing)
-    (known : List Chance) (joined : List Bool) : Type 0 where
+    (known : List Chance) (joined : List Bool) (waiters : ℕ) : Type 0 where
   pub board : IsBoard store posts stands known
   pub noted : AreNoted posts joined
+  pub waiting : AreWaiters store.threads posts waiters
 
 abbrev pub concerns_ask : ℕ → Touched → ℕ → Option Ask → Bool
 concerns_ask t object u None = false
-concerns_ask t object u (Some ask) = depends_on u ask object || joins t ask
+concerns_ask t object u (Some ask) = may_wait ask && (depends_on u ask object || joins t ask)
 
 -- whether the chance of a thread u with this post may change where the thread t posts or takes a
 -- step that touches an object
 abbrev pub concerns : ℕ → Touched → ℕ → Option Post → Bool
 concerns t object u post = u == t || concerns_ask t object u (ask_of_post post)
+
+-- the chances of all threads of a board
+abbrev pub chances_on : BoardState → List Chance
+chances_on board = chances board.store.threads board.store (next_posts_of board.posts)
+
+-- It was the choice before some chances, of the thread alone, became these.
+pub record WasChosen (plan : Plan) (schedule : List ℕ) (t : ℕ) (next : Pick) (later : List Chance)
+    : Type 0 where
+  pub earlier : List Chance
+  pub others : SameOthers t earlier later
+  pub chosen : next ≡ choice plan schedule earlier

@@ -1,16 +1,18 @@
-ghost use Rattle.std.specs.Prelude.{◌≡◌, ◌<◌, length, replicate, Option, Some, None};
+ghost use Rattle.std.specs.Prelude.{◌≡◌, ◌<◌, length, replicate, Option, Some, None, true, false};
 ghost use Rattle.std.specs.Prelude.{slice_set, IfOk};
 ghost use Rattle.pct_ask.specs.declared.verdict.Verdict.{Verdict};
 ghost use Rattle.pct_ask.specs.Objects.{sizes_of_deal, PostIsInRange};
 ghost use Rattle.sync_store.specs.Store.{first_store, sizes_of};
 ghost use Rattle.policy_pick.specs.declared.chance.Chance.{Chance};
-ghost use Rattle.policy_pick.specs.Choice.{TargetsAreAway};
+ghost use Rattle.policy_pick.specs.Choice.{TargetsAreAway, SameOthers, OpensNoOther};
 ghost use Rattle.turn_book.specs.Chances.{chance, chances, rest_verdict};
 ghost use Rattle.turn_book.specs.Obeys.{outcome_by};
 ghost use Rattle.turn_book.specs.Told.{standing_by};
-ghost use Rattle.turn_book.specs.Board.{TakesStep, next_posts_of};
+ghost use Rattle.turn_book.specs.Board.{TakesStep, next_posts_of, chances_on};
 
-use crate::known::{asked, blocked_line, look_again, note_joined, standing_of, step_of};
+use crate::known::{
+    asked, blocked_line, look_again, note_joined, standing_of, step_of, with_waiter,
+};
 use pct_ask::{Blocked, Deal, Event, Outcome, Post, Standing, Verdict};
 use policy_pick::Chance;
 use std::alloc::{AllocError as NoMemory, Global};
@@ -26,6 +28,8 @@ pub struct Board {
     chances: Vec<Chance>,
     /// Of each thread, whether another one has ever asked for its end.
     joined: [bool; 64],
+    /// A bit for each thread, the lowest for thread 0: where its ask may have to wait, it is set.
+    waiters: u64,
 }
 
 impl Model for Board {
@@ -36,7 +40,7 @@ impl Model for Board {
     ghost view = { λ b. record { store = b.store; posts = b.posts.items } };
 
     ghost invariant = { λ b.
-        IsNotedBoard b.store b.posts.items b.standings.items b.chances.items b.joined };
+        IsNotedBoard b.store b.posts.items b.standings.items b.chances.items b.joined b.waiters };
 }
 
 impl Board {
@@ -55,6 +59,7 @@ impl Board {
             standings: several(alloc, Standing::Away, deal.threads)?,
             chances: several(alloc, Chance::Away, deal.threads)?,
             joined: [false; 64],
+            waiters: 0,
         })
     }
 
@@ -73,36 +78,45 @@ impl Board {
         self.chances.as_slice()
     }
 
-    /// A thread posts.
-    pub fn post(&mut self, thread: u32, post: Post)
+    /// A thread posts. It is true only where that has changed no other thread's chance.
+    pub fn post(&mut self, thread: u32, post: Post) -> bool
         requires thread { thread < length self.old.posts }
         requires in_range { PostIsInRange (sizes_of self.old.store) post.ask }
         ensures store { self.new.store ≡ self.old.store }
         ensures posts { self.new.posts ≡ slice_set self.old.posts thread (Some post) }
+        ensures alone { result ≡ true
+            → SameOthers thread (chances_on self.old) (chances_on self.new) }
     {
         let place = thread as usize;
         self.posts[place] = Some(post);
         self.standings[place] = standing_of(Some(post));
+        self.waiters = with_waiter(self.waiters, thread, post.ask);
         note_joined(&mut self.joined, post.ask);
+        let joined = self.joined[place];
         look_again(
             &self.store,
             self.posts.as_slice(),
             self.standings.as_slice(),
             thread,
             Touched::Nothing,
-            self.joined[place],
+            joined,
+            self.waiters,
             self.chances.as_mut_slice(),
         );
+        !joined
     }
 
     /// A thread takes the step that it asks. Its next post isn't known then. Where the step ends
-    /// the run, its verdict is noted.
-    pub fn step(&mut self, thread: u32, outcome: &mut Option<Outcome>) -> Event
+    /// the run, its verdict is noted. The second of the result is false only where no other thread
+    /// is open that wasn't before.
+    pub fn step(&mut self, thread: u32, outcome: &mut Option<Outcome>) -> (Event, bool)
         requires thread { thread < length self.old.posts }
         requires ready { chance self.old.store (next_posts_of self.old.posts) thread
             ≡ Chance.Ready }
-        ensures step { (ends : Option Verdict) × TakesStep self.old thread result ends self.new
+        ensures step { (ends : Option Verdict) × TakesStep self.old thread result.0 ends self.new
             × (outcome.new ≡ outcome_by ends outcome.old) }
+        ensures opens { result.1 ≡ false
+            → OpensNoOther thread (chances_on self.old) (chances_on self.new) }
         ensures sizes { sizes_of self.new.store ≡ sizes_of self.old.store }
     {
         let place = thread as usize;
@@ -111,16 +125,17 @@ impl Board {
                 let stepped = self.store.take_step(thread, line, &ask);
                 self.posts[place] = None;
                 self.standings[place] = Standing::Away;
-                look_again(
+                let opens = look_again(
                     &self.store,
                     self.posts.as_slice(),
                     self.standings.as_slice(),
                     thread,
                     Store::touched(&ask),
                     self.joined[place],
+                    self.waiters,
                     self.chances.as_mut_slice(),
                 );
-                step_of(thread, line, ask, stepped, outcome)
+                (step_of(thread, line, ask, stepped, outcome), opens)
             }
             None => unreachable!(),
         }

@@ -13,7 +13,7 @@ ghost use Rattle.turn_book.specs.declared.taken.Because.{Because};
 ghost use Rattle.turn_book.specs.Answers.{IsAnswerTaken, IsBecause};
 
 use crate::board::Board;
-use crate::settle::settle;
+use crate::settle::{after_post, after_step, settle};
 use crate::taken::{Because, Reply, Taken, reason};
 use pct_ask::{Deal, Event, EventList, Outcome, Post, Sequence, Standing};
 use policy_pick::{Pick, Policy};
@@ -85,9 +85,10 @@ impl<P: Policy> TurnBook<P> {
         ensures lawful { IsLawful self.new }
     {
         if self.outcome.is_none() {
-            self.board.post(thread, post);
+            let alone = self.board.post(thread, post);
+            let known = after_post(&self.policy, self.board.chances(), self.next, thread, alone);
             let full = self.trace.len() == self.limit as usize;
-            self.next = settle(&self.policy, &self.board, full, &mut self.outcome);
+            self.next = settle(&self.policy, &self.board, known, full, &mut self.outcome);
         }
     }
 
@@ -157,11 +158,12 @@ impl<P: Policy> TurnBook<P> {
         ensures answered { IsAnswered self.old thread result self.new }
         ensures lawful { IsLawful self.new }
     {
-        let event = self.board.step(thread, &mut self.outcome);
+        let (event, opens) = self.board.step(thread, &mut self.outcome);
         self.trace.push_reserved(event);
-        self.policy.took(thread);
+        let kept = self.policy.took_and_kept(thread);
+        let known = after_step(thread, kept, opens);
         let full = self.trace.len() == self.limit as usize;
-        self.next = settle(&self.policy, &self.board, full, &mut self.outcome);
+        self.next = settle(&self.policy, &self.board, known, full, &mut self.outcome);
         event.answer
     }
 

@@ -1,24 +1,24 @@
-ghost use Rattle.std.specs.Prelude.{◌≡◌, ◌<◌, ◌≤◌, ℕ, true, false, length, map, Some, None};
+ghost use Rattle.std.specs.Prelude.{◌≡◌, ◌≢◌, ◌<◌, ◌≤◌, ℕ, true, false, length, map, Some, None};
 ghost use Rattle.std.specs.Prelude.{slice_set, slice_index_or};
 ghost use Rattle.std.specs.Prelude.{MatchOption};
+ghost use Rattle.std.specs.Int.{bit_at};
 ghost use Rattle.std.specs.Option.{option_map};
 ghost use Rattle.pct_ask.specs.Objects.{PostIsInRange};
 ghost use Rattle.sync_store.specs.Store.{sizes_of};
 ghost use Rattle.sync_store.specs.Effect.{Effect, applied_of};
 ghost use Rattle.sync_store.specs.Stepped.{applied_by};
 ghost use Rattle.sync_store.specs.Ready.{away_by, ended_by};
-ghost use Rattle.policy_pick.specs.Choice.{chance_of};
+ghost use Rattle.policy_pick.specs.Choice.{chance_of, is_open, OpensNoOther};
 ghost use Rattle.turn_book.specs.Chances.{chance, chance_by, chance_of_post, chances};
 ghost use Rattle.turn_book.specs.Chances.{blocked_by_post};
 ghost use Rattle.turn_book.specs.Obeys.{outcome_by};
 ghost use Rattle.turn_book.specs.Told.{standing_by};
 ghost use Rattle.turn_book.specs.Board.{ArePostsInRange, ask_of_post, answer_of, verdict_of};
-ghost use Rattle.turn_book.specs.Board.{concerns};
+ghost use Rattle.turn_book.specs.Board.{concerns, may_wait, may_wait_ask, AreWaiters};
 ghost use Rattle.turn_book.specs.Board.{next_posts_of, joins_ask};
 
-use crate::objects::{depends_on, joins};
 use pct_ask::{Ask, Event, Outcome, Post, Standing};
-use policy_pick::Chance;
+use policy_pick::{Chance, is_open};
 use sync_store::{Applied, Ready, Stepped, Store, Touched};
 
 /// What is known of a thread with this next post.
@@ -131,16 +131,51 @@ fn chance_by(ready: Ready) -> Chance
     }
 }
 
-/// Whether a thread's chance may change where another thread posts or takes a step.
-fn concerns(thread: u32, touched: Touched, other: u32, post: Option<Post>) -> bool
-    ensures { result ≡ concerns thread touched other post }
+/// Whether an ask may have to wait: for an object, for the end of a thread or for its own start.
+fn may_wait(ask: &Ask) -> bool
+    ensures { result ≡ may_wait ask.now }
 {
-    if other == thread {
-        return true;
+    match *ask {
+        Ask::Lock { .. }
+        | Ask::Regain { .. }
+        | Ask::Down { .. }
+        | Ask::Leave { .. }
+        | Ask::Join { .. }
+        | Ask::Begin
+        | Ask::RdLock { .. }
+        | Ask::WrLock { .. } => true,
+        Ask::Read { .. }
+        | Ask::Write { .. }
+        | Ask::Add { .. }
+        | Ask::Cas { .. }
+        | Ask::TryLock { .. }
+        | Ask::Unlock { .. }
+        | Ask::Release { .. }
+        | Ask::Signal { .. }
+        | Ask::Broadcast { .. }
+        | Ask::TryDown { .. }
+        | Ask::Up { .. }
+        | Ask::Arrive { .. }
+        | Ask::Yield
+        | Ask::Check { .. }
+        | Ask::Fault { .. }
+        | Ask::Start { .. }
+        | Ask::TryRdLock { .. }
+        | Ask::TryWrLock { .. }
+        | Ask::RwUnlock { .. } => false,
     }
-    match asked(post) {
-        None => false,
-        Some((_, ask)) => depends_on(other, &ask, touched) || joins(thread, &ask),
+}
+
+/// The threads of the bits, with this one where its ask may have to wait, and else without it.
+pub fn with_waiter(waiters: u64, thread: u32, ask: Option<Ask>) -> u64
+    requires { thread < 64 }
+    ensures this { may_wait_ask ask ≡ true → bit_at result thread ≡ 1 }
+    ensures others { (u : ℕ) → u < 64 → u ≢ thread → bit_at result u ≡ bit_at waiters u }
+{
+    let bit = 1u64 << thread;
+    match ask {
+        Some(ask) if may_wait(&ask) => waiters | bit,
+        _ => waiters & !bit,
     }
 }
 
@@ -180,7 +215,8 @@ fn look_at(
 }
 
 /// Looks again at the threads that the post or the step of a thread concerns. Where it touches no
-/// object and nobody joins the thread, that is the thread alone.
+/// object and nobody joins the thread, that is the thread alone, and else it may be any whose ask
+/// may have to wait. It is false only where no other thread is open that wasn't before.
 pub fn look_again(
     store: &Store,
     posts: &[Option<Post>],
@@ -188,49 +224,68 @@ pub fn look_again(
     thread: u32,
     touched: Touched,
     joined: bool,
+    waiters: u64,
     known: &mut [Chance],
-)
+) -> bool
     requires thread { thread < store.now.threads }
     requires threads { length posts.now ≡ store.now.threads }
     requires few { store.now.threads ≤ 64 }
     requires in_range { ArePostsInRange store.now posts.now }
     requires standings { standings.now ≡ map standing_by posts.now }
+    requires waiters { AreWaiters store.now.threads posts.now waiters }
     requires as_many { length known.old ≡ store.now.threads }
     requires joined { joined ≡ false
         → (u : ℕ) → joins_ask thread (ask_of_post (next_posts_of posts.now u)) ≡ false }
     requires others { (u : ℕ) → u < store.now.threads
         → concerns thread touched u (next_posts_of posts.now u) ≡ false
         → chance_of known.old u ≡ chance store.now (next_posts_of posts.now) u }
-    ensures { known.new ≡ chances store.now.threads store.now (next_posts_of posts.now) }
+    ensures chances { known.new ≡ chances store.now.threads store.now (next_posts_of posts.now) }
+    ensures opens { result ≡ false → OpensNoOther thread known.old known.new }
 {
+    look_at(store, posts, standings, thread, known);
     match touched {
-        Touched::Nothing if !joined => look_at(store, posts, standings, thread, known),
-        _ => look_at_all(store, posts, standings, thread, touched, known),
+        Touched::Nothing if !joined => false,
+        _ => look_at_waiters(store, posts, standings, thread, waiters, known),
     }
 }
 
-/// Looks again at each thread that the post or the step of a thread concerns.
-fn look_at_all(
+/// Looks again at each of the threads of the bits. It is false only where none of them, but for the
+/// one thread, is open that wasn't before.
+fn look_at_waiters(
     store: &Store,
     posts: &[Option<Post>],
     standings: &[Standing],
     thread: u32,
-    touched: Touched,
+    waiters: u64,
     known: &mut [Chance],
-)
+) -> bool
     requires threads { length posts.now ≡ store.now.threads }
     requires few { store.now.threads ≤ 64 }
     requires in_range { ArePostsInRange store.now posts.now }
     requires standings { standings.now ≡ map standing_by posts.now }
+    requires waiters { AreWaiters store.now.threads posts.now waiters }
     requires as_many { length known.old ≡ store.now.threads }
-    requires others { (u : ℕ) → u < store.now.threads
-        → concerns thread touched u (next_posts_of posts.now u) ≡ false
+    requires others { (u : ℕ) → u < store.now.threads → bit_at waiters u ≡ 0
         → chance_of known.old u ≡ chance store.now (next_posts_of posts.now) u }
-    ensures { known.new ≡ chances store.now.threads store.now (next_posts_of posts.now) }
+    ensures chances { known.new ≡ chances store.now.threads store.now (next_posts_of posts.now) }
+    ensures opens { result ≡ false → OpensNoOther thread known.old known.new }
 {
-    for (other, post) in posts.iter().enumerate() {
-        if concerns(thread, touched, other as u32, *post) {
-            known[other] = chance_of(store, standings, other as u32, *post);
-        }
+    let mut opens = false;
+    let mut left = waiters;
+    while left != 0 {
+        let other = left.trailing_zeros();
+        left &= !(1u64 << other);
+        let post = posts[other as usize];
+        let chance = chance_of(store, standings, other, post);
+        opens = opens | is_opened(known[other as usize], chance);
+        known[other as usize] = chance;
     }
+    opens
+}
+
+/// Whether a thread is open that wasn't before.
+fn is_opened(before: Chance, after: Chance) -> bool
+    ensures { result ≡ false → is_open after ≡ true → is_open before ≡ true }
+{
+    is_open(after) && !is_open(before)
 }

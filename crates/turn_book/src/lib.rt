@@ -5,7 +5,6 @@
 mod board;
 mod book;
 mod known;
-mod objects;
 mod settle;
 mod taken;
 

@@ -24,3 +24,4 @@ pub use brief::Brief;
 pub use held::TurnLock;
 pub use seat::Seat;
 pub use turn::Turn;
+pub use turning::{answer, ask};

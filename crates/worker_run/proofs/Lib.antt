@@ -8,6 +8,7 @@ pub mod Wholes
 pub mod Eachs
 pub mod Staged
 pub mod Casts
+pub mod LoneBooks
 pub mod Loops
 pub mod Backs
 pub mod Joins

@@ -18,7 +18,7 @@ use std::sync::Wait;
 use turn_lock::{Brief, Seat, TurnLock};
 
 /// Whether there is a runner.
-fn has_runner<B: Body>(runners: &[Option<Runner<B>>]) -> bool
+pub fn has_runner<B: Body>(runners: &[Option<Runner<B>>]) -> bool
     ensures some { result ≡ true
         → (place : ℕ) × (runner : Runner B) × (runner_at runners.now place ≡ Some runner) }
     ensures none { result ≡ false → (place : ℕ) → runner_at runners.now place ≡ None }

@@ -1,10 +1,12 @@
 //! Runs of the bodies of a test under a policy, each body in a thread of its own.
 #![tactic(auto)]
 
+mod alone;
 mod batch;
 mod batch_sizes;
 mod by_order;
 mod crew;
+mod each;
 mod lent;
 mod many;
 mod ordered;
@@ -19,6 +21,6 @@ pub use batch::Test;
 pub use batch_sizes::batch_size;
 pub use by_order::{WholeRun, run_by_events, run_by_points};
 pub use lent::run_on;
-pub use many::run_many;
+pub use many::{Serve, run_many, run_many_by};
 pub use played::Played;
 pub use run::{run_here, run_threads};

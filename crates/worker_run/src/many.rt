@@ -6,6 +6,8 @@ ghost use Rattle.worker_run.specs.Batches.{AreCrews};
 ghost use Rattle.worker_run.specs.Tests.{IsTest, AreTests, IsRunOf, AllTold, IsLockOf, IsFirstCrew};
 
 use crate::batch::{Crew, Stage, Test};
+use crate::crew::has_runner;
+use crate::each::run_each;
 use crate::lent::runners_of;
 use crate::places::rooms_of;
 use crate::played::Played;
@@ -144,6 +146,66 @@ fn runs_of<P: Policy, B: Body>(
     runs
 }
 
+/// Who serves the bodies of many tests.
+#[derive(Clone, Copy, Debug, PartialEq, Eq)]
+pub enum Serve {
+    /// A thread for each place up to the largest number of threads.
+    Threads,
+    /// The calling thread, one test after another.
+    Caller,
+}
+
+/// Whether the caller served a body of one of the tests.
+fn caller_served<P: Policy, B: Body>(crews: &[Crew<P, B>]) -> bool {
+    for place in 0..crews.len() {
+        if has_runner(crews[place].runners.as_slice()) {
+            return true;
+        }
+    }
+    false
+}
+
+/// Runs many tests, as `run_many` or with all bodies served by the caller. Where a thread couldn't
+/// be started, `serve` is the caller afterwards, so that no thread is started for further tests.
+/// Where there is no memory, runs that were made before are lost.
+pub fn run_many_by<R: Threads + Wait + Sync, P: Policy, B: Body, G: Gate>(
+    rt: &R,
+    alloc: Global,
+    tests: Vec<Test<P, B>>,
+    gate: &G,
+    serve: &mut Serve,
+) -> Result<Vec<Played>, NoMemory>
+    requires tests { AreTests B.pending P.plan P.stands tests.items }
+    ensures runs { IfOk result (λ runs. Each (IsRunOf B.pending P.plan) tests.items runs.items) }
+    ensures caller { serve.old ≡ Serve.Caller → serve.new ≡ Serve.Caller }
+{
+    match *serve {
+        Serve::Caller => run_each(rt, alloc, tests, gate),
+        Serve::Threads => run_by_threads(rt, alloc, tests, gate, serve),
+    }
+}
+
+/// As `run_many`, and notes that the caller is to serve where a thread couldn't be started.
+fn run_by_threads<R: Threads + Wait + Sync, P: Policy, B: Body, G: Gate>(
+    rt: &R,
+    alloc: Global,
+    tests: Vec<Test<P, B>>,
+    gate: &G,
+    serve: &mut Serve,
+) -> Result<Vec<Played>, NoMemory>
+    requires tests { AreTests B.pending P.plan P.stands tests.items }
+    ensures runs { IfOk result (λ runs. Each (IsRunOf B.pending P.plan) tests.items runs.items) }
+{
+    let runs = Vec::with_capacity(alloc, tests.len())?;
+    let first = Snapshot::of(&tests);
+    let (locks, crews) = casts_of(alloc, tests)?;
+    let crews = play_tests(rt, alloc, &first, locks.as_slice(), crews, gate)?;
+    if caller_served(crews.as_slice()) {
+        *serve = Serve::Caller;
+    }
+    Ok(runs_of(first, locks, crews, runs))
+}
+
 /// Runs many tests. A thread is started for each place up to the largest number of threads; it
 /// serves its body of the first test, then that of the second, and so on, each until it has ended
 /// or its run is over. Bodies that no thread can be started for are served by the caller. The gate
@@ -157,9 +219,6 @@ pub fn run_many<R: Threads + Wait + Sync, P: Policy, B: Body, G: Gate>(
     requires tests { AreTests B.pending P.plan P.stands tests.items }
     ensures runs { IfOk result (λ runs. Each (IsRunOf B.pending P.plan) tests.items runs.items) }
 {
-    let runs = Vec::with_capacity(alloc, tests.len())?;
-    let first = Snapshot::of(&tests);
-    let (locks, crews) = casts_of(alloc, tests)?;
-    let crews = play_tests(rt, alloc, &first, locks.as_slice(), crews, gate)?;
-    Ok(runs_of(first, locks, crews, runs))
+    let mut serve = Serve::Threads;
+    run_by_threads(rt, alloc, tests, gate, &mut serve)
 }

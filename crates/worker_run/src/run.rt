@@ -1,4 +1,5 @@
-ghost use Rattle.std.specs.Prelude.{◌≡◌, ◌≤◌, [], List, length, map, IfOk, ℕ};
+ghost use Rattle.std.specs.Prelude.{◌≡◌, ◌≤◌, [], List, length, map, IfOk, ℕ, Some};
+ghost use Rattle.pct_ask.specs.declared.verdict.Outcome.{Outcome};
 ghost use Rattle.pct_ask.specs.Objects.{sizes_of_deal};
 ghost use Rattle.pct_ask.specs.Bodies.{Pending, AreInRange};
 ghost use Rattle.rank_now.specs.declared.moment.Moment.{Moment};
@@ -10,7 +11,7 @@ ghost use Rattle.turn_lock.specs.Views.{view, HasSeat};
 ghost use Rattle.worker_run.specs.Run.{run, directed_run};
 ghost use Rattle.worker_run.specs.Played.{IsPlayed, IsRun, HasPlayed};
 
-use crate::crew::serve_all;
+use crate::alone::serve_alone;
 use crate::lent::{run_on, runners_of};
 use crate::played::Played;
 use pct_ask::{Body, Deal};
@@ -41,6 +42,19 @@ pub fn new_lock<P: Policy>(
     TurnLock::new(alloc, book)
 }
 
+/// The run of a book, which is over.
+fn played_of<P: Policy>(book: TurnBook<P>) -> Played
+    requires over { (outcome : Outcome) × (book.outcome ≡ Some outcome) }
+    ensures events { result.events ≡ book.trace }
+    ensures outcome { book.outcome ≡ Some result.outcome }
+{
+    let (events, outcome) = book.into_parts();
+    match outcome {
+        Some(outcome) => Played { events, outcome },
+        None => unreachable!(),
+    }
+}
+
 /// The run of the lock's book, which is over.
 pub fn finish<P: Policy>(lock: TurnLock<P>, seat: Seat<P>) -> Played
     requires of { HasSeat lock seat }
@@ -51,11 +65,7 @@ pub fn finish<P: Policy>(lock: TurnLock<P>, seat: Seat<P>) -> Played
         → IsPlayed (first_book lock).plan (first_book lock).deal bodies
         (first_book lock).limit result.events result.outcome }
 {
-    let (events, outcome) = lock.close(seat).into_parts();
-    match outcome {
-        Some(outcome) => Played { events, outcome },
-        None => unreachable!(),
-    }
+    played_of(lock.close(seat))
 }
 
 /// Runs the bodies of a test, one for each thread, under a policy, and stops after `limit` steps.
@@ -85,9 +95,9 @@ pub fn run_here<R: Wait, P: Policy, B: Body, G: Gate>(
         (map B.pending bodies.items) order events limit) played.events played.outcome) }
 {
     let mut runners = runners_of(alloc, bodies)?;
-    let (lock, mut seat) = new_lock(alloc, deal, policy, limit)?;
-    serve_all(rt, &lock, &mut seat, runners.as_mut_slice(), gate);
-    Ok(finish(lock, seat))
+    let mut book = TurnBook::new(alloc, deal, policy, limit)?; // which is served with no lock
+    serve_alone(rt, &mut book, runners.as_mut_slice(), gate);
+    Ok(played_of(book))
 }
 
 /// The same run, each body in a thread of its own.

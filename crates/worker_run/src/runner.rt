@@ -17,7 +17,7 @@ use std::sync::Wait;
 use turn_lock::{Brief, Seat, TurnLock};
 
 /// Whether the run is over.
-fn is_over(words: Brief) -> bool
+pub fn is_over(words: Brief) -> bool
     ensures { (turn : Turn) → words ≡ brief turn → result ≡ is_over turn }
 {
     matches!(words, Brief::Over)

@@ -187,9 +187,36 @@ fn go_on<R: Wait, P: Policy, B: Body, G: Gate>(
     crews
 }
 
-/// Goes on where no thread could be started: the crews take the place's parts in again.
-#[cycle(teams)]
-fn go_without<R: Threads + Wait + Sync, P: Policy, B: Body, G: Gate>(
+/// The caller serves the bodies of all places, and no thread is started for them.
+#[cycle(without)]
+fn serve_places<R: Wait, P: Policy, B: Body, G: Gate>(
+    rt: &R,
+    stages: &Vec<Stage<P, B>>,
+    mut crews: Vec<Crew<P, B>>,
+    mut places: Vec<Vec<Part<P, B>>>,
+    gate: &G,
+) -> Vec<Crew<P, B>>
+    requires crews { AreCrews B.pending stages.now.items crews.items }
+    requires places { ArePlaces B.pending stages.now.items places.items }
+    requires few { length places.items ≤ 64 }
+    ensures { AreTold B.pending stages.now.items crews.items places.items result.items }
+{
+    match places.pop() {
+        None => {
+            serve_crews(rt, stages.as_slice(), crews.as_mut_slice(), gate);
+            crews
+        }
+        Some(parts) => {
+            let thread = places.len() as u32;
+            go_without(rt, stages, crews, places, parts, thread, gate)
+        }
+    }
+}
+
+/// Goes on where no thread could be started: the crews take the place's parts in again, and those
+/// of the places before it, since the next start would fail, too, or the one after it.
+#[cycle(without)]
+fn go_without<R: Wait, P: Policy, B: Body, G: Gate>(
     rt: &R,
     stages: &Vec<Stage<P, B>>,
     mut crews: Vec<Crew<P, B>>,
@@ -211,7 +238,7 @@ fn go_without<R: Threads + Wait + Sync, P: Policy, B: Body, G: Gate>(
         parts.as_mut_slice(),
         thread,
     );
-    let mut all = start_places(rt, stages, crews, places, gate);
+    let mut all = serve_places(rt, stages, crews, places, gate);
     join_parts(stages.as_slice(), all.as_mut_slice(), parts.as_mut_slice());
     all
 }

@@ -9,6 +9,3 @@ decreases-start_place g l = 4 * length l.places.items + 3
 
 abbrev pub decreases-start_place-scope : goal.decreases-start_place-scope
 decreases-start_place-scope g l = 4 * length l.places.items + 2
-
-abbrev pub decreases-go_without : goal.decreases-go_without
-decreases-go_without g l = 4 * length l.places.items + 1

@@ -1,6 +1,7 @@
 use Rattle.std.proofs.Common.{replicate, false}
 use Rattle.turn_book.proofs.Boards.{new-board}
 use Rattle.turn_book.proofs.Joined.{nothing-noted}
+use Rattle.turn_book.proofs.Waiters.{nobody-waits}
 use Rattle.turn_book.proofs.board.Board.new.Goals as goal
 
 pub invariant_of-result : goal.invariant_of-result
@@ -17,4 +18,5 @@ invariant_of-result c =
     record {
       board = new-board deal store posts stands known first none away chances;
       noted = nothing-noted deal.threads posts (replicate 64 false) none;
+      waiting = nobody-waits store.threads deal.threads posts none;
     }

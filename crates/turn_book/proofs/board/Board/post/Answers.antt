@@ -10,7 +10,10 @@ use Rattle.turn_book.specs.Told.{standing_by}
 use Rattle.turn_book.specs.Board.{BoardState, ask_of_post, next_posts_of, concerns, joins_ask}
 use Rattle.turn_book.proofs.Boards.{standings-set, length-known, length-chances, others-kept}
 use Rattle.turn_book.proofs.Boards.{board-set, front-taken}
+use Rattle.policy_pick.specs.Choice.{SameOthers}
+use Rattle.turn_book.specs.Board.{AreWaiters, chances_on}
 use Rattle.turn_book.proofs.Joined.{joined-within, not-noted, noted-set}
+use Rattle.turn_book.proofs.Waiters.{waiters-post, post-alone, not-so}
 use Rattle.turn_book.proofs.board.Board.post.Goals as goal
 
 pub look_again-requires-clause-standings : goal.look_again-requires-clause-standings
@@ -79,7 +82,7 @@ invariant_of-self c =
     let next = next_posts_of (set posts t post) in
     let board = c.self.invariant.board in
     let looked : known ≡ chances n f.store next =
-    c.look_again.ensures ∙ ap
+    c.look_again.ensures.chances ∙ ap
     (λ ps. chances n f.store (next_posts_of ps)) c.as_slice.ensures.value in
     let long : f.chances.len ≡ length known =
     f.chances.ok.0
@@ -96,7 +99,57 @@ invariant_of-self c =
     let is = c.standing_of.ensures in
     let front = front-taken _ _ _ long ∙ looked in
     let kept = c.note_joined.ensures.kept in
+    let same : length f.posts.items ≡ length c.args.self.now.posts =
+    ap (λ (b : BoardState). length b.posts) c.self.view_is in
     record {
       board = board-set f.store posts stands was board f.store t post stand _ refl range is front;
       noted = noted-set posts f.joined after t post c.self.invariant.noted kept one;
+      waiting = waiters-post f.store.threads posts f.waiters c.with_waiter-self-inside.result t post
+          (omega (arith, c.requires.thread, board.threads, same)) board.threads
+          c.self.invariant.waiting
+          c.with_waiter-self-inside.ensures.this c.with_waiter-self-inside.ensures.others;
     }
+
+pub with_waiter-self-inside-requires : goal.with_waiter-self-inside-requires
+with_waiter-self-inside-requires c =
+    let board = c.self.invariant.board in
+    let long : length c.self.inside.posts.items ≡ length c.args.self.now.posts =
+    ap (λ (b : BoardState). length b.posts) c.self.view_is in
+    omega (arith, c.requires.thread, board.threads, board.few)
+
+pub look_again-requires-clause-waiters : goal.look_again-requires-clause-waiters
+look_again-requires-clause-waiters c =
+    let f = c.self.inside in
+    let posts = f.posts.items in
+    let t : ℕ = c.args.thread in
+    let post : Option Post = Some c.args.post in
+    let board = c.self.invariant.board in
+    let same : length f.posts.items ≡ length c.args.self.now.posts =
+    ap (λ (b : BoardState). length b.posts) c.self.view_is in
+    let P : List (Option Post) → Type 0 =
+    λ ps. AreWaiters f.store.threads ps c.with_waiter-self-inside.result in
+    subst P (sym c.as_slice.ensures.value)
+    (waiters-post f.store.threads posts f.waiters c.with_waiter-self-inside.result t post
+    (omega (arith, c.requires.thread, board.threads, same)) board.threads c.self.invariant.waiting
+    c.with_waiter-self-inside.ensures.this c.with_waiter-self-inside.ensures.others)
+
+pub returns-clause-alone : goal.returns-clause-alone
+returns-clause-alone c = λ alone.
+    let f = c.self.inside in
+    let posts = f.posts.items in
+    let t : ℕ = c.args.thread in
+    let post : Option Post = Some c.args.post in
+    let board = c.self.invariant.board in
+    let after = c.note_joined.new.joined in
+    let kept = c.note_joined.ensures.kept in
+    let R : BoardState → Type 0 = λ b. PostIsInRange (sizes_of b.store) (c.args.post).ask in
+    let range = subst R (sym c.self.view_is) c.requires.in_range in
+    let one : (v : ℕ) → joins_ask v (ask_of_post post) ≡ true → get_or after v false ≡ true =
+    λ v joins.
+    let within = joined-within (sizes_of f.store) v (c.args.post).ask range joins in
+    c.note_joined.ensures.noted v (omega (arith, within, board.few)) joins in
+    let noted = noted-set posts f.joined after t post c.self.invariant.noted kept one in
+    let P : BoardState → Type 0 = λ b. SameOthers t (chances_on b)
+    (chances f.store.threads f.store (next_posts_of (set posts t post))) in
+    subst P c.self.view_is (post-alone f.store posts f.standings.items f.chances.items board t post
+    (λ u. not-noted (set posts t post) after t noted (not-so (get_or after t false) alone) u))

@@ -12,11 +12,15 @@ use Rattle.turn_book.specs.Told.{standing_by}
 use Rattle.turn_book.specs.Board.{ask_of_post, next_posts_of, concerns, joins_ask}
 use Rattle.turn_book.proofs.Boards.{standings-set, length-known, length-chances, others-kept}
 use Rattle.turn_book.proofs.Boards.{board-set, front-taken}
+use Rattle.policy_pick.specs.declared.chance.Chance.{Chance}
+use Rattle.policy_pick.specs.Choice.{OpensNoOther}
+use Rattle.turn_book.specs.Board.{AreWaiters, BoardState, chances_on}
 use Rattle.turn_book.proofs.Joined.{not-noted, noted-set}
+use Rattle.turn_book.proofs.Waiters.{waiters-step}
 use Rattle.turn_book.proofs.board.Board.step.Goals as goal
 
-pub look_again-requires-clause-standings : goal.look_again-requires-clause-standings
-look_again-requires-clause-standings c =
+pub look_again-opens-requires-clause-standings : goal.look_again-opens-requires-clause-standings
+look_again-opens-requires-clause-standings c =
     let f = c.self.inside in
     let stands = f.standings.items in
     let was = c.self.invariant.board.standings in
@@ -24,16 +28,16 @@ look_again-requires-clause-standings c =
     ∙ standings-set f.posts.items stands c.args.thread None Away was refl
     ∙ ap (map standing_by) (sym c.as_slice.ensures.value)
 
-pub look_again-requires-clause-as_many : goal.look_again-requires-clause-as_many
-look_again-requires-clause-as_many c =
+pub look_again-opens-requires-clause-as_many : goal.look_again-opens-requires-clause-as_many
+look_again-opens-requires-clause-as_many c =
     let f = c.self.inside in
     let known = f.chances.items in
     ap length c.as_mut_slice.ensures.value
     ∙ length-known f.store f.posts.items f.standings.items known c.self.invariant.board
     ∙ sym (ap (λ (s : Sizes). s.threads) c.take_step-stepped.ensures.sizes)
 
-pub look_again-requires-clause-others : goal.look_again-requires-clause-others
-look_again-requires-clause-others c = λ u within none.
+pub look_again-opens-requires-clause-others : goal.look_again-opens-requires-clause-others
+look_again-opens-requires-clause-others c = λ u within none.
     let f = c.self.inside in
     let after = c.take_step-stepped.new.self in
     let known = f.chances.items in
@@ -51,8 +55,8 @@ look_again-requires-clause-others c = λ u within none.
     ap (λ cs. chance_of cs u) c.as_mut_slice.ensures.value
     ∙ subst P (sym c.as_slice.ensures.value) (kept others u within) none
 
-pub look_again-requires-clause-joined : goal.look_again-requires-clause-joined
-look_again-requires-clause-joined c = λ none u.
+pub look_again-opens-requires-clause-joined : goal.look_again-opens-requires-clause-joined
+look_again-opens-requires-clause-joined c = λ none u.
     let f = c.self.inside in
     let posts = f.posts.items in
     let t = c.args.thread in
@@ -72,12 +76,13 @@ invariant_of-self c =
     let t = c.args.thread in
     let after = c.take_step-stepped.new.self in
     let n = after.threads in
-    let known = c.look_again.new.known in
+    let known = c.look_again-opens.new.known in
     let next = next_posts_of (set posts t None) in
     let board = c.self.invariant.board in
     let sizes = c.take_step-stepped.ensures.sizes in
     let looked : known ≡ chances n after next =
-    c.look_again.ensures ∙ ap (λ ps. chances n after (next_posts_of ps)) c.as_slice.ensures.value in
+    c.look_again-opens.ensures.chances
+    ∙ ap (λ ps. chances n after (next_posts_of ps)) c.as_slice.ensures.value in
     let many = ap (λ (s : Sizes). s.threads) sizes in
     let long : f.chances.len ≡ length known =
     f.chances.ok.0
@@ -88,4 +93,37 @@ invariant_of-self c =
       board = board-set f.store posts stands was board after t None Away _ sizes tt refl front;
       noted = noted-set posts f.joined f.joined t None c.self.invariant.noted (λ v e. e) (λ v joins.
           absurd (false≢true joins));
+      waiting =
+          waiters-step f.store.threads after.threads posts f.waiters t many
+          c.self.invariant.waiting;
     }
+
+pub look_again-opens-requires-clause-waiters : goal.look_again-opens-requires-clause-waiters
+look_again-opens-requires-clause-waiters c =
+    let f = c.self.inside in
+    let after = c.take_step-stepped.new.self in
+    let many = ap (λ (s : Sizes). s.threads) c.take_step-stepped.ensures.sizes in
+    let P : List (Option Post) → Type 0 = λ ps. AreWaiters after.threads ps f.waiters in
+    subst P (sym c.as_slice.ensures.value)
+    (waiters-step f.store.threads after.threads f.posts.items f.waiters c.args.thread many
+    c.self.invariant.waiting)
+
+pub returns-clause-opens : goal.returns-clause-opens
+returns-clause-opens c = λ none.
+    let f = c.self.inside in
+    let posts = f.posts.items in
+    let t : ℕ = c.args.thread in
+    let after = c.take_step-stepped.new.self in
+    let n = after.threads in
+    let board = c.self.invariant.board in
+    let known = c.look_again-opens.new.known in
+    let next = next_posts_of (set posts t None) in
+    let looked : known ≡ chances n after next =
+    c.look_again-opens.ensures.chances
+    ∙ ap (λ ps. chances n after (next_posts_of ps)) c.as_slice.ensures.value in
+    let was : c.as_mut_slice.result.now ≡ chances f.store.threads f.store (next_posts_of posts) =
+    c.as_mut_slice.ensures.value ∙ board.chances in
+    let O : List Chance × List Chance → Type 0 = λ x. OpensNoOther t x.0 x.1 in
+    let P : BoardState → Type 0 = λ b. OpensNoOther t (chances_on b) (chances n after next) in
+    subst P c.self.view_is (subst O (λ i. (was i, looked i))
+    (c.look_again-opens.ensures.opens none))

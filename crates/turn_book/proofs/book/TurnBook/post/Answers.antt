@@ -1,4 +1,4 @@
-use Rattle.std.proofs.Common.{◌≡◌, ◌<◌, eqb, None, refl, sym, ap, subst, ◌∙◌, arith}
+use Rattle.std.proofs.Common.{◌≡◌, ◌<◌, eqb, length, None, refl, sym, ap, subst, ◌∙◌, arith}
 use Rattle.std.proofs.Common.{vec_capacity}
 use Rattle.turn_book.specs.Told.{BookState, IsLawful, standing_of, IsPosted}
 use Rattle.turn_book.proofs.Books.{lawful-told}
@@ -6,7 +6,30 @@ use Rattle.turn_book.specs.Posts.{schedule_of}
 use Rattle.turn_book.specs.Board.{next_posts_of}
 use Rattle.turn_book.specs.Kept.{book_of_parts}
 use Rattle.turn_book.proofs.Books.{standing-told, away-none, none-from, kept-post, posts-after}
+use Rattle.turn_book.proofs.Boards.{length-chances}
+use Rattle.turn_book.proofs.Books.{threads-store}
+use Rattle.turn_book.proofs.Turning.{post-known}
+use Rattle.sync_store.specs.Store.{StoreState}
 use Rattle.turn_book.proofs.book.TurnBook.post.Goals as goal
+
+pub after_post-known-requires-clause-thread : goal.after_post-known-requires-clause-thread
+after_post-known-requires-clause-thread g c =
+    let f = c.self.inside in
+    let kept = c.self.invariant.0 in
+    let within : c.args.thread < (f.deal).threads =
+    omega (arith, c.requires.thread, ap (λ (b : BookState). (b.deal).threads) c.self.view_is) in
+    let after = c.post-alone.new.self in
+    let store = ap (λ (s : StoreState). s.threads) c.post-alone.ensures.store in
+    let long = ap length c.chances.ensures.chances
+    ∙ length-chances (after.store).threads after.store (next_posts_of after.posts) in
+    omega (
+      arith,
+      within,
+      store,
+      long,
+      threads-store f.deal f.limit (g.P.Policy.plan f.policy)
+          f.board f.trace.items f.next f.outcome (vec_capacity f.trace) kept,
+    )
 
 pub invariant_of-self : goal.invariant_of-self
 invariant_of-self g c =
@@ -21,11 +44,16 @@ invariant_of-self g c =
     f.outcome (vec_capacity f.trace) kept c.args.thread)
     ∙ ap (λ (b : BookState). standing_of b c.args.thread) c.self.view_is ∙ c.requires.away) in (
       kept-post f.deal f.limit (g.P.Policy.plan f.policy) f.board f.trace.items f.next f.outcome
-          (vec_capacity f.trace) kept running c.args.thread c.args.post c.post.new.self within away
-          c.post.ensures.store c.post.ensures.posts (eqb c.len.result f.limit)
+          (vec_capacity f.trace) kept running c.args.thread c.args.post c.post-alone.new.self within
+          away
+          c.post-alone.ensures.store c.post-alone.ensures.posts (eqb c.len.result f.limit)
           c.settle-self-inside.result c.settle-self-inside.new.outcome
           (ap (λ n. eqb n f.limit) (c.len.ensures ∙ f.trace.ok.0))
-          (c.settle-self-inside.ensures.pick (schedule_of f.trace.items) c.self.invariant.1)
+          (c.settle-self-inside.ensures.pick (schedule_of f.trace.items) c.self.invariant.1
+          (post-known f.deal f.limit (g.P.Policy.plan f.policy) f.board f.trace.items f.next
+          f.outcome (vec_capacity f.trace) kept running c.args.thread c.post-alone.result
+          c.post-alone.new.self c.chances.result.now c.after_post-known.result
+          c.post-alone.ensures.alone c.chances.ensures.chances c.after_post-known.ensures))
           (c.settle-self-inside.ensures.outcome None running),
       c.self.invariant.1,
     )
@@ -44,21 +72,22 @@ returns-then-is_none-clause-posted g c = λ open_now.
     ∙ ap (λ (b : BookState). standing_of b c.args.thread) c.self.view_is ∙ c.requires.away) in
     let P : BookState → Type 0 = λ b.
     IsPosted b c.args.thread c.args.post
-    (book_of_parts f.deal f.limit (g.P.Policy.plan f.policy) (c.post.new.self).posts
+    (book_of_parts f.deal f.limit (g.P.Policy.plan f.policy) (c.post-alone.new.self).posts
     f.trace.items c.settle-self-inside.new.outcome) in
     subst P c.self.view_is (record {
       making = record { deal = refl; limit = refl; plan = refl };
       trace = refl;
       posts =
           posts-after f.deal f.limit (g.P.Policy.plan f.policy) f.board f.trace.items f.next
-          f.outcome (vec_capacity f.trace) kept running c.args.thread c.args.post c.post.new.self
-          within away c.post.ensures.store c.post.ensures.posts;
+          f.outcome (vec_capacity f.trace) kept running c.args.thread c.args.post
+          c.post-alone.new.self
+          within away c.post-alone.ensures.store c.post-alone.ensures.posts;
     })
 
 pub returns-then-is_none-clause-lawful : goal.returns-then-is_none-clause-lawful
 returns-then-is_none-clause-lawful g c =
     let f = c.self.inside in
-    lawful-told f.deal f.limit (g.P.Policy.plan f.policy) c.post.new.self f.trace.items
+    lawful-told f.deal f.limit (g.P.Policy.plan f.policy) c.post-alone.new.self f.trace.items
     c.settle-self-inside.result c.settle-self-inside.new.outcome (vec_capacity f.trace)
     (invariant_of-self g c).0
 

@@ -13,11 +13,17 @@ use Rattle.turn_book.specs.Obeys.{outcome_by}
 use Rattle.turn_book.specs.Posts.{schedule_of}
 use Rattle.turn_book.specs.Kept.{posts_by, book_of_parts, IsKept}
 use Rattle.turn_book.proofs.Books.{choice-told, next-told, pick_now, turn-ready, kept-step}
-use Rattle.turn_book.proofs.Books.{posts-same}
+use Rattle.turn_book.proofs.Books.{posts-same, threads-store}
+use Rattle.turn_book.proofs.Turning.{step-right}
+use Rattle.std.specs.Prelude.{IfSome}
+use Rattle.std.proofs.lemmas.List.{get_or-set_same}
+use Rattle.pct_ask.specs.Objects.{Sizes}
+use Rattle.policy_pick.specs.Choice.{choice}
+use Rattle.turn_book.specs.Board.{chances_on, next_posts_of}
 use Rattle.turn_book.proofs.book.TurnBook.step.Goals as goal
 
-pub step-event-requires-clause-thread : goal.step-event-requires-clause-thread
-step-event-requires-clause-thread g c =
+pub step-opens-requires-clause-thread : goal.step-opens-requires-clause-thread
+step-opens-requires-clause-thread g c =
     let f = c.self.inside in
     let kept = c.self.invariant.0 in
     let running : f.outcome ≡ None = ap (λ (b : BookState). b.outcome) c.self.view_is
@@ -36,8 +42,8 @@ step-event-requires-clause-thread g c =
           f.trace.items f.next f.outcome (vec_capacity f.trace) kept running c.args.thread turn).0,
     )
 
-pub step-event-requires-clause-ready : goal.step-event-requires-clause-ready
-step-event-requires-clause-ready g c =
+pub step-opens-requires-clause-ready : goal.step-opens-requires-clause-ready
+step-opens-requires-clause-ready g c =
     let f = c.self.inside in
     let kept = c.self.invariant.0 in
     let running : f.outcome ≡ None = ap (λ (b : BookState). b.outcome) c.self.view_is
@@ -65,30 +71,50 @@ invariant_of-self g c =
     (choice-told f.deal f.limit (g.P.Policy.plan f.policy) f.board f.trace.items f.next
     f.outcome (vec_capacity f.trace) kept) ∙ ap choice_of c.self.view_is ∙ c.requires.turn in
     cc in
-    let plan = g.P.Policy.plan c.took.new.self in
+    let plan = g.P.Policy.plan c.took_and_kept-kept.new.self in
     let K : Plan → Type 0 = λ p. IsKept f.deal f.limit p f.board f.trace.items f.next f.outcome
     (vec_capacity f.trace) in
-    let event = c.step-event.result in
-    let after = c.step-event.new.self in
-    let taken = c.step-event.ensures.step.1 in
+    let event = c.step-opens.result.0 in
+    let after = c.step-opens.new.self in
+    let taken = c.step-opens.ensures.step.1 in
     let trace = c.push_reserved.new.self in
     let items = c.push_reserved.ensures.items in
-    let Stands : List ℕ → Type 0 = g.P.Policy.stands c.took.new.self in
+    let Stands : List ℕ → Type 0 = g.P.Policy.stands c.took_and_kept-kept.new.self in
     let threads : schedule_of (f.trace.items ++ event ∷ []) ≡ schedule_of f.trace.items ++ t ∷ [] =
     map-append (λ (e : Event). e.thread) f.trace.items (event ∷ [])
     ∙ ap (λ u. schedule_of f.trace.items ++ u ∷ []) taken.thread in
     let stands = subst Stands (sym threads)
-    (c.took.ensures.stands (schedule_of f.trace.items) c.self.invariant.1) in
+    (c.took_and_kept-kept.ensures.stands (schedule_of f.trace.items) c.self.invariant.1) in
+    let ready = turn-ready f.deal f.limit (g.P.Policy.plan f.policy) f.board f.trace.items f.next
+    f.outcome (vec_capacity f.trace) kept running t turn in
+    let many : (after.store).threads ≡ (f.deal).threads =
+    ap (λ (s : Sizes). s.threads) c.step-opens.ensures.sizes
+    ∙ threads-store f.deal f.limit (g.P.Policy.plan f.policy) f.board f.trace.items f.next f.outcome
+    (vec_capacity f.trace) kept in
+    let none : next_posts_of after.posts t ≡ None =
+    ap (λ ps. next_posts_of ps t) taken.posts
+    ∙ get_or-set_same (f.board).posts t None None (omega (arith, kept.threads, ready.0)) in
+    let found = c.after_step-known.result in
+    let R : Plan × List ℕ → Type 0 = λ x.
+    IfSome found (λ pick. pick ≡ choice x.0 x.1 (chances_on after)) in
+    let right = subst R (λ i. (sym c.took_and_kept-kept.ensures.plan i, sym threads i))
+    (step-right f.deal f.limit (g.P.Policy.plan f.policy) f.board f.trace.items f.next f.outcome
+    (vec_capacity f.trace) kept running t c.took_and_kept-kept.result c.step-opens.result.1 after
+    found turn (omega (arith, many, ready.0)) none
+    (λ yes. c.took_and_kept-kept.ensures.same yes (schedule_of f.trace.items) c.self.invariant.1)
+    c.step-opens.ensures.opens c.after_step-known.ensures) in
     let goes_on = kept-step f.deal f.limit plan f.board f.trace.items f.next f.outcome
-    (vec_capacity f.trace) (subst K (sym c.took.ensures.plan) kept) running t event
-    c.step-event.ensures.step.0 after
-    (ap (λ p. pick_now p f.deal f.board f.trace.items) c.took.ensures.plan ∙ turn) taken
+    (vec_capacity f.trace) (subst K (sym c.took_and_kept-kept.ensures.plan) kept) running t event
+    c.step-opens.ensures.step.0 after
+    (ap (λ p. pick_now p f.deal f.board f.trace.items) c.took_and_kept-kept.ensures.plan ∙ turn)
+    taken
     (eqb c.len.result f.limit) c.settle-self-inside.result c.settle-self-inside.new.outcome
-    c.step-event.ensures.sizes
+    c.step-opens.ensures.sizes
     (ap (λ n. eqb n f.limit) (c.len.ensures ∙ trace.ok.0 ∙ ap length items))
-    (c.settle-self-inside.ensures.pick (schedule_of (f.trace.items ++ event ∷ [])) stands)
-    (c.settle-self-inside.ensures.outcome c.step-event.ensures.step.0
-    (c.step-event.ensures.step.2 ∙ ap (outcome_by c.step-event.ensures.step.0) running)) in
+    (c.settle-self-inside.ensures.pick (schedule_of (f.trace.items ++ event ∷ [])) stands
+    right)
+    (c.settle-self-inside.ensures.outcome c.step-opens.ensures.step.0
+    (c.step-opens.ensures.step.2 ∙ ap (outcome_by c.step-opens.ensures.step.0) running)) in
     let Q : List Event → Type 0 = λ es.
     IsKept f.deal f.limit plan after es c.settle-self-inside.result
     c.settle-self-inside.new.outcome (vec_capacity f.trace) in
@@ -112,22 +138,22 @@ returns-clause-answered g c =
     (choice-told f.deal f.limit (g.P.Policy.plan f.policy) f.board f.trace.items f.next
     f.outcome (vec_capacity f.trace) kept) ∙ ap choice_of c.self.view_is ∙ c.requires.turn in
     cc in
-    let event = c.step-event.result in
-    let after = c.step-event.new.self in
-    let taken = c.step-event.ensures.step.1 in
+    let event = c.step-opens.result.0 in
+    let after = c.step-opens.new.self in
+    let taken = c.step-opens.ensures.step.1 in
     let items = c.push_reserved.ensures.items in
     let P : BookState → Type 0 = λ b.
     IsAnswered b t (to_z w64 (of_z w64 event.answer))
-    (book_of_parts f.deal f.limit (g.P.Policy.plan c.took.new.self) after.posts
+    (book_of_parts f.deal f.limit (g.P.Policy.plan c.took_and_kept-kept.new.self) after.posts
     c.push_reserved.new.self.items c.settle-self-inside.new.outcome) in
     subst P c.self.view_is (record {
       event = event;
-      making = record { deal = refl; limit = refl; plan = c.took.ensures.plan };
+      making = record { deal = refl; limit = refl; plan = c.took_and_kept-kept.ensures.plan };
       trace = items;
       posts =
           ap (λ es. posts_by es after.posts) items
           ∙ posts-same f.deal f.limit (g.P.Policy.plan f.policy) f.board f.trace.items f.next
-          f.outcome (vec_capacity f.trace) kept running t event c.step-event.ensures.step.0 after
+          f.outcome (vec_capacity f.trace) kept running t event c.step-opens.ensures.step.0 after
           turn taken;
       thread = taken.thread;
       answer = sym (to_z-of_z w64 event.answer (search rules));
@@ -139,6 +165,6 @@ returns-clause-answered g c =
 pub returns-clause-lawful : goal.returns-clause-lawful
 returns-clause-lawful g c =
     let f = c.self.inside in
-    lawful-told f.deal f.limit (g.P.Policy.plan c.took.new.self) c.step-event.new.self
+    lawful-told f.deal f.limit (g.P.Policy.plan c.took_and_kept-kept.new.self) c.step-opens.new.self
     c.push_reserved.new.self.items c.settle-self-inside.result c.settle-self-inside.new.outcome
     (vec_capacity c.push_reserved.new.self) (invariant_of-self g c).0

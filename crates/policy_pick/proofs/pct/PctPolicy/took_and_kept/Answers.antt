@@ -4,8 +4,9 @@ use Rattle.rank_now.specs.Positions.{passes_at}
 use Rattle.rank_now.specs.Rank.{index_of_point, ranks}
 use Rattle.rank_now.proofs.laws.Positions.{greatest-le}
 use Rattle.rank_now.proofs.laws.GivenOnce.{ranks-same, ranks-free}
-use Rattle.policy_pick.specs.Kept.{PointsKept, PointsStand}
-use Rattle.policy_pick.proofs.pct.PctPolicy.took.Goals as goal
+use Rattle.policy_pick.specs.Choice.{choice_by_rank, KeepsChoices}
+use Rattle.policy_pick.specs.Kept.{PointsKept, PointsStand, points_plan}
+use Rattle.policy_pick.proofs.pct.PctPolicy.took_and_kept.Goals as goal
 
 pub lower-requires-clause-low : goal.lower-requires-clause-low
 lower-requires-clause-low c =
@@ -67,3 +68,18 @@ returns-else-index-gt0-clause-stands c = λ schedule stood.
           stands.values ∙ ranks-same f.ranks.order f.points.items schedule c.args.thread
           (omega (arith, c.if-index-gt0.false, index));
     }
+
+pub returns-else-index-gt0-clause-same : goal.returns-else-index-gt0-clause-same
+returns-else-index-gt0-clause-same c = λ kept schedule stood.
+    let f = c.self.inside in
+    let P : PointsKept → Type 0 = λ kept. PointsStand kept schedule in
+    let stands = subst P (sym c.self.view_is) stood in
+    let index : c.index_of_point-index.result
+    ≡ index_of_point f.points.items (length schedule + 1) =
+    c.index_of_point-index.ensures ∙ ap (λ points. index_of_point points (f.taken + 1))
+    c.deref.ensures.value ∙ ap (λ taken. index_of_point f.points.items (taken + 1))
+    stands.taken in
+    let same = ranks-same f.ranks.order f.points.items schedule c.args.thread
+    (omega (arith, c.if-index-gt0.false, index)) in
+    let K : PointsKept → Type 0 = λ kept. KeepsChoices (points_plan kept) schedule c.args.thread in
+    subst K c.self.view_is (λ chances. ap (λ rs. choice_by_rank rs chances) (sym same))

@@ -4,9 +4,10 @@ use Rattle.std.proofs.lemmas.List.{get_or_read}
 use Rattle.std.proofs.lemmas.List.Sums.{count_by-le-length}
 use Rattle.rank_now.proofs.laws.GivenOnce.{ranks_by_events-same, ranks_by_events-free}
 use Rattle.rank_now.specs.Rank.{ranks_by_events}
-use Rattle.policy_pick.specs.Kept.{EventsKept, EventsStand, own_counts}
+use Rattle.policy_pick.specs.Choice.{choice_by_rank, KeepsChoices}
+use Rattle.policy_pick.specs.Kept.{EventsKept, EventsStand, events_plan, own_counts}
 use Rattle.policy_pick.proofs.Moments.{own_counts-threads, own_counts-at, own_counts-after, step-is}
-use Rattle.policy_pick.proofs.directed.DirectedPolicyPolicy.took.Goals as goal
+use Rattle.policy_pick.proofs.directed.DirectedPolicyPolicy.took_and_kept.Goals as goal
 
 pub overflow_add-number : goal.overflow_add-number
 overflow_add-number c =
@@ -102,3 +103,20 @@ returns-else-index-gt0-clause-stands c = λ schedule stood.
           own_counts-after f.ranks.order schedule f.own.items c.args.thread (c.index.result.now + 1)
           stands.own step.own;
     }
+
+pub returns-else-index-gt0-clause-same : goal.returns-else-index-gt0-clause-same
+returns-else-index-gt0-clause-same c = λ kept schedule stood.
+    let f = c.self.inside in
+    let P : EventsKept → Type 0 = λ kept. EventsStand kept schedule in
+    let stands = subst P (sym c.self.view_is) stood in
+    let order : f.ranks.order ≡ c.args.self.now.order =
+    ap (λ (kept : EventsKept). kept.order) c.self.view_is in
+    let within : c.args.thread < length f.ranks.order =
+    omega (arith, ap length order, c.requires.thread.1, c.requires.thread.2) in
+    let step = step-is f.ranks.order f.own.items f.events.items c.deref.result.now schedule
+    c.args.thread c.index.result.now c.index_of_moment-index.result stands.own within
+    c.index.ensures c.deref.ensures.value c.index_of_moment-index.ensures in
+    let same = ranks_by_events-same f.ranks.order f.events.items schedule c.args.thread
+    (omega (arith, c.if-index-gt0.false, step.given)) in
+    let K : EventsKept → Type 0 = λ kept. KeepsChoices (events_plan kept) schedule c.args.thread in
+    subst K c.self.view_is (λ chances. ap (λ rs. choice_by_rank rs chances) (sym same))

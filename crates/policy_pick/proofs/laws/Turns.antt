@@ -1,0 +1,168 @@
+-- Who goes next after a step or a post of the thread of the choice, where no other thread is open
+-- that wasn't before.
+use Rattle.std.proofs.Common.{◌≡◌, ◌≢◌, ℕ, ◌<◌, true, List, length, Option, Some, None, sym}
+use Rattle.std.proofs.Common.{ap, subst, ◌∙◌, arith, ◌⊎◌, inl, inr}
+use Rattle.std.specs.List.{find}
+use Rattle.std.proofs.lemmas.Bool.{cases_eq}
+use Rattle.rank_now.specs.Rank.{ranks, ranks_by_events}
+use Rattle.std.specs.Prelude.{slice_get}
+use Rattle.policy_pick.specs.declared.chance.Chance.{Chance}
+use Rattle.policy_pick.specs.declared.chance.Chance.TheVariants.{Away, Ready, Blocked, Unknown}
+use Rattle.policy_pick.specs.declared.chance.Chance.TheVariants.{Ended}
+use Rattle.policy_pick.specs.declared.chance.Pick.{Pick}
+use Rattle.policy_pick.specs.declared.chance.Pick.TheVariants.{Thread, Waits, Departs}
+use Rattle.policy_pick.specs.Plan.{Plan, ByPoints, ByEvents, ByList, GoesByRank}
+use Rattle.policy_pick.specs.Choice.{chance_of, is_open, pick_at, threads_of_chances, is_highest}
+use Rattle.policy_pick.specs.Choice.{choice_by_rank, choice_by_number, choice_by_list, choice}
+use Rattle.policy_pick.specs.Choice.{SameOthers, OpensNoOther, HasAwayTarget, TargetsAreAway}
+use Rattle.policy_pick.specs.Laws.Finds.{find-is, found-or-none, IsFirstMatch}
+use Rattle.policy_pick.specs.Laws.Walks.{open_at, highest-parts, highest-from, false-by}
+use Rattle.policy_pick.specs.Laws.Walks.{rank-stops, rank-ends, number-stops, number-ends}
+
+pub same-opens : (thread : ℕ) (earlier later : List Chance) → SameOthers thread earlier later
+    → OpensNoOther thread earlier later
+same-opens thread earlier later same = record {
+  threads = same.threads;
+  others = λ other within apart goes. sym (ap is_open (same.others other within apart)) ∙ goes;
+}
+
+-- ---- what a pick at a thread tells of it
+thread-at : (at thread : ℕ) (c : Chance) → pick_at (Thread at) at c ≡ Thread thread → at ≡ thread
+thread-at at thread Away e = absurd cc
+thread-at at thread Ready e = cc
+thread-at at thread Blocked e = absurd cc
+thread-at at thread (Unknown target) e = absurd cc
+thread-at at thread Ended e = absurd cc
+
+none-departs : (at thread : ℕ) (c : Chance) → pick_at (Departs at) at c ≡ Thread thread → ⊥
+none-departs at thread Away e = cc
+none-departs at thread Ready e = cc
+none-departs at thread Blocked e = cc
+none-departs at thread (Unknown target) e = cc
+none-departs at thread Ended e = cc
+
+waits-at : (ready : Pick) (at thread : ℕ) (c : Chance) → ready ≢ Waits thread
+    → pick_at ready at c ≡ Waits thread → (at ≡ thread) ⊎ (c ≡ Unknown thread)
+waits-at ready at thread Away not e = inl cc
+waits-at ready at thread Ready not e = absurd (not e)
+waits-at ready at thread Blocked not e = absurd cc
+waits-at ready at thread (Unknown target) not e =
+    let same : target ≡ thread = cc in inr (ap (λ t. Unknown t) same)
+waits-at ready at thread Ended not e = absurd cc
+
+-- ---- the walk by falling rank
+module _ (ranks : List ℕ) (thread : ℕ) (earlier later : List Chance)
+    (opens : OpensNoOther thread earlier later) (goes : open_at later thread ≡ true) where
+  open-was : IsFirstMatch (is_highest ranks earlier) (length earlier) thread → (other : ℕ)
+      → other < length earlier → open_at later other ≡ true → open_at earlier other ≡ true
+  open-was first other within is = elim (cases_eq other thread) [
+    | inl same ↦
+        ap (open_at earlier) same ∙ (highest-parts ranks earlier thread first.passes).0
+    | inr apart ↦ opens.others other within apart is
+  ]
+
+  -- stops where it stopped
+  still-stops : IsFirstMatch (is_highest ranks earlier) (length earlier) thread
+      → choice_by_rank ranks later ≡ pick_at (Thread thread) thread (chance_of later thread)
+  still-stops first =
+      let leads = (highest-parts ranks earlier thread first.passes).1 in
+      let there : thread < length later = omega (arith, opens.threads, first.within) in
+      let found : find (is_highest ranks later) (threads_of_chances later) ≡ Some thread =
+      find-is (is_highest ranks later) 0 (length later) thread (omega arith) (omega arith)
+      (highest-from ranks later thread goes (λ other p o.
+      let within : other < length earlier = omega (arith, opens.threads) in
+      leads other within (open-was first other within o)))
+      (λ k p q. false-by (is_highest ranks later k) (λ h.
+      let parts = highest-parts ranks later k h in
+      let here : k < length earlier = omega (arith, first.within) in
+      let was = highest-from ranks earlier k (open-was first k here parts.0)
+      (λ other w o.
+      let a = leads other w o in let b = parts.1 thread there goes in omega arith) in
+      let not = first.before k q in
+      cc)) in
+      rank-stops ranks later thread found
+
+-- where the thread went, and is away now, it is waited for
+rank-step : (ranks : List ℕ) (thread : ℕ) (earlier later : List Chance)
+    → OpensNoOther thread earlier later → choice_by_rank ranks earlier ≡ Thread thread
+    → chance_of later thread ≡ Away → choice_by_rank ranks later ≡ Waits thread
+rank-step ranks thread earlier later opens was away =
+    elim (found-or-none (is_highest ranks earlier) (length earlier)) [
+      | inl w ↦
+          let same = thread-at w.0 thread (chance_of earlier w.0)
+          (sym (rank-stops ranks earlier w.0 w.1) ∙ was) in
+          let F : ℕ → Type 0 = IsFirstMatch (is_highest ranks earlier) (length earlier) in
+          still-stops ranks thread earlier later opens (ap is_open away) (subst F same w.2)
+          ∙ ap (pick_at (Thread thread) thread) away
+      | inr w ↦ absurd (let none = rank-ends ranks earlier w.0 in cc)
+    ]
+
+-- where it was waited for, and is ready now, it goes
+rank-post : (ranks : List ℕ) (thread : ℕ) (earlier later : List Chance)
+    → SameOthers thread earlier later → TargetsAreAway later
+    → choice_by_rank ranks earlier ≡ Waits thread → chance_of later thread ≡ Ready
+    → choice_by_rank ranks later ≡ Thread thread
+rank-post ranks thread earlier later same targets was ready =
+    elim (found-or-none (is_highest ranks earlier) (length earlier)) [
+      | inl w ↦
+          let stops = sym (rank-stops ranks earlier w.0 w.1) ∙ was in
+          let not : Thread w.0 ≢ Waits thread = λ e. cc in
+          let F : ℕ → Type 0 = IsFirstMatch (is_highest ranks earlier) (length earlier) in
+          let at : w.0 ≡ thread =
+          elim (waits-at (Thread w.0) w.0 thread (chance_of earlier w.0) not stops) [
+            | inl is ↦ is
+            | inr unknown ↦ elim (cases_eq w.0 thread) [
+              | inl is ↦ is
+              | inr apart ↦
+                  let stays = same.others w.0 w.2.within apart ∙ unknown in
+                  let H : Chance → Type 0 = HasAwayTarget later in
+                  let away = (subst H stays (targets w.0
+                  (omega (arith, same.threads, w.2.within)))).1 in
+                  absurd (let e : Away ≡ Ready = sym away ∙ ready in cc)
+            ]
+          ] in
+          still-stops ranks thread earlier later (same-opens thread earlier later same)
+          (ap is_open ready) (subst F at w.2)
+          ∙ ap (pick_at (Thread thread) thread) ready
+      | inr w ↦ absurd (let none = rank-ends ranks earlier w.0 in cc)
+    ]
+
+-- ---- the walk by rising number gives no thread its turn
+number-none : (chances : List Chance) (thread : ℕ) → choice_by_number chances ≡ Thread thread → ⊥
+number-none chances thread is = elim (found-or-none (open_at chances) (length chances)) [
+  | inl w ↦ none-departs w.0 thread (chance_of chances w.0)
+      (sym (number-stops chances w.0 w.1) ∙ is)
+  | inr w ↦ let none = number-ends chances w.0 in cc
+]
+
+list-step : (next : Option ℕ) (thread : ℕ) (earlier later : List Chance)
+    → choice_by_list next earlier ≡ Thread thread → chance_of later thread ≡ Away
+    → choice_by_list next later ≡ Waits thread
+list-step None thread earlier later was away = absurd (number-none earlier thread was)
+list-step (Some other) thread earlier later was away =
+    let same = thread-at other thread (chance_of earlier other) was in
+    ap (λ t. pick_at (Thread t) t (chance_of later t)) same
+    ∙ ap (pick_at (Thread thread) thread) away
+
+-- ---- the choice of a plan
+-- The thread that had the turn is away, and no other is open that wasn't: it is waited for.
+pub choice-step : (plan : Plan) (schedule : List ℕ) (thread : ℕ) (earlier later : List Chance)
+    → OpensNoOther thread earlier later → choice plan schedule earlier ≡ Thread thread
+    → chance_of later thread ≡ Away → choice plan schedule later ≡ Waits thread
+choice-step (ByPoints order points) schedule thread earlier later opens was away =
+    rank-step (ranks order points schedule) thread earlier later opens was away
+choice-step (ByEvents order events) schedule thread earlier later opens was away =
+    rank-step (ranks_by_events order events schedule) thread earlier later opens was away
+choice-step (ByList listed) schedule thread earlier later opens was away =
+    list-step (slice_get listed (length schedule)) thread earlier later was away
+
+-- The thread that was waited for is ready, and nothing else has changed: it goes.
+pub choice-post : (plan : Plan) (schedule : List ℕ) (thread : ℕ) (earlier later : List Chance)
+    → GoesByRank plan → SameOthers thread earlier later → TargetsAreAway later
+    → choice plan schedule earlier ≡ Waits thread → chance_of later thread ≡ Ready
+    → choice plan schedule later ≡ Thread thread
+choice-post (ByPoints order points) schedule thread earlier later by same targets was ready =
+    rank-post (ranks order points schedule) thread earlier later same targets was ready
+choice-post (ByEvents order events) schedule thread earlier later by same targets was ready =
+    rank-post (ranks_by_events order events schedule) thread earlier later same targets was ready
+choice-post (ByList listed) schedule thread earlier later by same targets was ready = absurd by
