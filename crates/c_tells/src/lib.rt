@@ -1,5 +1,10 @@
-//! What the steps of runs tell, from numbers to numbers: moments, change points and orders, races,
-//! the order in which mutexes are taken, and failures in groups.
+//! What the steps of runs say, from numbers to numbers.
+//!
+//! What is proved, by call and clause; in parentheses the definitions:
+//!
+//! - Moments, points and orders as in `choices`, races as in `hb_race`, locks as in `lock_order`,
+//!   groups as in `failure_rank`; these are `moments_told`; `points_told`; `order_count_told`;
+//!   `order_told`; `bound_told`; `races_told`; `locks_told`; `groups_told`.
 #![tactic(auto)]
 
 mod groups;

@@ -1,4 +1,10 @@
-//! Runs, verdicts, directives and reports as texts, from numbers; and directives as numbers.
+//! Runs, verdicts, directives and reports as texts, from numbers.
+//!
+//! What is proved, by call and clause; in parentheses the definitions:
+//!
+//! - Each is the text of what the numbers say, or its length, or that there is none:
+//!   `trace_text_told`; `verdict_text_told`; `directive_text_told`; `numbers_of_directive`
+//!   (`TellsDirective`); `report_told`; `report_json_told` (`SaysReport`).
 #![tactic(auto)]
 
 mod directives;

@@ -1,5 +1,16 @@
-//! What the core's library takes from C and gives to it, as numbers: asks, steps, outcomes, deals,
-//! names and moments. Each is read as the value of the other crates that it says, or as none.
+//! Asks, steps, outcomes, deals, names and moments as the numbers that C takes and gives.
+//!
+//! What is proved, by call and clause; in parentheses the definitions:
+//!
+//! - Numbers say an ask, a step, a moment or a verdict, or nothing; an ask, a step, a moment or an
+//!   outcome is said by the numbers that are written of it: `ask_of`; `numbers_of_ask`
+//!   (`ask_said`); `event_of`; `events_of`; `steps_of`; `numbers_of_event` (`event_said`);
+//!   `moments_of`; `numbers_of_moment` (`moment_said`); `verdict_of` (`verdict_said`);
+//!   `numbers_of_verdict`; `numbers_of_outcome` (`outcome_numbers`); `rows_of`.
+//! - A deal has the counts and first values that the numbers say, and names those of a text's
+//!   lines; none exactly where some are out of range or may not stand beside the others: `deal_of`:
+//!   `deal`, `lawful` (`SaysDeal`, `AreLawfulCounts`); `deal_said`; `deal_of_names`; `names_of`;
+//!   `names_said`; `kind_of` (`names_of_text`).
 #![tactic(auto)]
 
 mod ask;

@@ -1,5 +1,9 @@
-//! Directives: a thread that is lowest, the moments after which a thread is lowered, and the
-//! verdict that is to come of it. They are written as texts, and read back.
+//! Directive files (`Directive`).
+//!
+//! What is proved, by call and clause; in parentheses the definitions:
+//!
+//! - Written as defined, read exactly by their grammar, or their first fault: `write_directive`:
+//!   `text`, `directive`; `read_directive`: `answer`, `directive`, `fault`; the law `one_answer`.
 #![tactic(auto)]
 
 mod directive;

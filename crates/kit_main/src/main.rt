@@ -1,5 +1,10 @@
 //! A small test in Rust, run by boxed bodies: two threads count up, and a third finds that a count
 //! was lost.
+//!
+//! What is proved, by call and clause; in parentheses the definitions:
+//!
+//! - `show` puts the trace of its bodies' run whole and says whether it passed, or WriteFault where
+//!   the output's count of faults rose: `show`: `shows`, `write_fault` (`Shows`).
 #![tactic(auto)]
 
 ghost use Rattle.std.specs.Prelude.{◌≡◌, [], ◌∷◌, pos, IfOk};

@@ -1,5 +1,12 @@
-//! What tests in Rattle tell, as texts: verdicts, the traces of runs and the reports of campaigns.
-//! What can't be written is refused.
+//! What tests in Rattle tell: a verdict and a campaign's groups are displayed, a run's trace and a
+//! report are written.
+//!
+//! What is proved, by call and clause; in parentheses the definitions:
+//!
+//! - A trace and a report are written, without conditions, exactly where there are names and lines
+//!   for all of it, and are the texts that the program writes: `show_run`: `text`, `known`,
+//!   `unknown` (`IsShowable`); `show_report`: `text`, `known`, `unknown` (`IsReportable`). What
+//!   `ShownVerdict` and `ShownGroups` display no clause says.
 #![tactic(auto)]
 
 mod known;

@@ -1,5 +1,9 @@
-//! The large script, for measuring: eight threads that add one to eight variables, some of them
-//! without a mutex, and a last one that adds the variables up.
+//! The script of `pct big`.
+//!
+//! What is proved, by call and clause; in parentheses the definitions:
+//!
+//! - The script of that many pieces, its text, and its number of lines: `large_script`;
+//!   `print_large`: `layout`, `spelled`; `line_count`.
 #![tactic(auto)]
 
 mod large;

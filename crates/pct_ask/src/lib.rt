@@ -1,4 +1,37 @@
-//! What a thread of a test asks for, what it is told, and how a run ends.
+//! The types of asks, posts, events and verdicts, of what threads share (`Deal`) and of their code
+//! (`Body`); names, numbers, lines and the texts of verdicts; `Sequence`, the list type.
+//!
+//! What is proved, by call and clause; in parentheses the definitions:
+//!
+//! - A body goes on by its answers: `Body::post`; `Body::answer` (`pending`).
+//! - A list is its items, a copy is equal, a refused push changes nothing: `Sequence::new`;
+//!   `Sequence::from_vec`; `Sequence::len`; `Sequence::get`; `Sequence::as_slice`;
+//!   `Sequence::try_push`: `ok`, `err`; `Sequence::copy`; `Deal::copy`.
+//! - An ask names only what a deal has, exactly where the deal says so: `Deal::has_objects_of`
+//!   (`IsInRange`).
+//! - Names have one place each among their kind and are lawful; a name is found exactly where it is
+//!   there, and a refused `add` changes nothing: `Names::new`; `Names::add`: `place`, `added`,
+//!   `unchanged`; `Names::find`: `place`, `lawful`; `Names::name`: `name`; `Names::count`: `count`;
+//!   `Names::contains`: `found` (`AreNames`); `name_at`; `is_lawful_name`; `is_among`; `is_letter`;
+//!   `is_word_byte`.
+//! - Decimals are written and read exactly, each the inverse of the other; a text that is the
+//!   canonical decimal of no number in the range is none: `read_number`: `spelled`, `fits`,
+//!   `every`; `number_in`: `number`, `most`; `write_number`: `written`, `unchanged`; of steps, 1 to
+//!   100,000: `step_count`, `step_counts`; of lines, 1 to 4096: `line_number`.
+//! - Lines are the pieces between LFs; a text is cut into a first line and the rest, into pieces
+//!   between separators, and a line into words: `split_lines`; `Lines`: `next_gives`, `remaining`
+//!   (`lines_of`); `cut_line`: `pieces`, `shorter` (`pieces_of`); `first_pieces`; `first_words`
+//!   (`words_of`).
+//! - Blocked threads stand in rising order, each with its line, also as bits and lines; verdicts
+//!   and outcomes are compared whole: `Blocked::new`; `Blocked::push`; `Blocked::get`: `line`,
+//!   `rising`; `Blocked::numbers`: `bits`, `lines`; `Verdict::is`; `Outcome::is`.
+//! - A verdict's text is written as defined and read back; it has no form exactly where it is no
+//!   verdict's text by form, and an unknown name where one of its names is no thread's:
+//!   `write_verdict`: `written`, `read_back`, `unchanged`; `read_verdict`: `read`, `only`
+//!   (`ReadsAs`).
+//! - Each fault and each register has its word, and a word is read as what it stands for; words and
+//!   numbers are written behind a space: `fault_word`; `fault_kind`; `register_word`;
+//!   `register_of`; `write_spaced_word`: `written`; `write_spaced_number`.
 #![tactic(auto)]
 
 mod ask;

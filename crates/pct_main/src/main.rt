@@ -1,5 +1,11 @@
-//! The program `pct`: a tester for threaded code that shows the orderings that ordinary runs seldom
-//! meet.
+//! The program: the host's words, files and streams, joined to `pct`.
+//!
+//! What is proved, by call and clause; in parentheses the definitions:
+//!
+//! - Which words it answers by itself, and with which text: `--help`, `--version`, and `--explain`
+//!   before one word; all others are a call of `pct`; the text is put whole, or the refusal is
+//!   said, by status; all but the first of the host's words are the words: `Own::of_words`;
+//!   `put_answer`; `answer_words`; `words_of`.
 #![tactic(auto)]
 
 ghost use Rattle.std.specs.Prelude.{◌≡◌, drop};

@@ -1,6 +1,27 @@
-//! What stands outside of the tester: the files that it reads, the streams that it writes, and the
-//! gate that its threads pass. Each is a trait, with an implementation in memory for tests and one
-//! over the host.
+//! Files, streams and gates: the traits `Shelf`, `Sink` and `Gate`, in memory and over the host.
+//!
+//! What is proved, by call and clause; in parentheses the definitions:
+//!
+//! - A read gives the first bytes of the file, as many as were asked for or as it has, and changes
+//!   no file; of failed names it adds its own or none, and fails only with its own:
+//!   `Shelf::read_up_to`: `most`, `first`, `files`, `failed`, `cause` (`FirstOf`).
+//! - A put appends its piece, or after a refusal a prefix of it; counts never fall, and a put that
+//!   is refused raised its own (or found it at 2^64 - 1): `Sink::put`: `whole`, `part`, `failed`,
+//!   `short`, `faults`, `shorts` (`Rose`).
+//! - In memory a shelf holds what was added and a sink what was put; both fail at the calls that
+//!   they were made to fail at, the sure ones only out of memory; an `add` that is refused changes
+//!   nothing: `MemoryShelf::add`: `ok`, `err`; `MemoryShelf::read_up_to`: `refused`, `after`;
+//!   `SureShelf::add`: `ok`, `err`; `SureShelf::read_up_to`: `sure`, `same`, `first`;
+//!   `MemorySink::put`: `fails`, `after`; `MemorySink::bytes`; `SureSink::put`: `written`,
+//!   `counted`, `sure`; `SureSink::bytes`.
+//! - The host's do the same and tell no bytes; each failed read and each fault of a put is counted
+//!   once: `HostShelf::read_up_to`: `kept`, `most`, `failed`, `cause`; `HostSink::put`: `counted`,
+//!   `counted_short`, `failed`, `short`.
+//! - At first nothing was put, no read has failed, and all counts are 0: `MemoryShelf::new`;
+//!   `SureShelf::new`; `MemorySink::new`; `SureSink::new`; `HostShelf::new`; `HostSink::output`;
+//!   `HostSink::errors`.
+//! - Gates: `PairGate::met` reports no meeting where threads look no times, by what `PairGate::new`
+//!   was given; whom a gate holds no clause says, that of `OpenGate::new` neither.
 #![tactic(auto)]
 
 mod calls;

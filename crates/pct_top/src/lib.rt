@@ -1,4 +1,17 @@
-//! The program's words, its runs and what it writes.
+//! `pct`, the program's call.
+//!
+//! What is proved, by call and clause; in parentheses the definitions:
+//!
+//! - The call's one clause, as above: `pct` (`IsCall.ends`, `IsCall.exact`, `IsCall.complete`,
+//!   `IsCall.refused`, `IsCall.shelf`, `IsCall.unread`, `Output`, `OfCommand`, `OfOrdered`,
+//!   `OfSeed`, `OfDrawn`, `OfCampaign`, `OfReplay`, `OfBig`, `OfExpose`, `OfCertify`, `OfSweep`,
+//!   `OfReport`, `PrintsRaces`, `PrintsLocks`, `PrintsFound`).
+//! - Words are read as defined and keep their ranges; a Word names exactly the first that isn't
+//!   taken: `read_words`: `settings`, `lawful`; `Text::copy_of`; `Text::as_str`.
+//! - A refusal has its status and its line: `Refusal::status` (`status_of_refusal`); `say`
+//!   (`SaysLine`, `refusal_line`).
+//! - Laws: `runs_are_confirmed`, `exposed_are_confirmed`, `certified_are_counted`,
+//!   `swept_are_cleared`, `certified_are_swept`, `found_are_taken_up`, `one_failed_read`.
 #![tactic(auto)]
 
 mod cleared;

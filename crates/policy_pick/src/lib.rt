@@ -1,4 +1,15 @@
-//! Who goes next in a run: policies, which pick a thread from what is known of each one.
+//! Who goes next: policies over what is known of each thread, by order and change points (`Pct`),
+//! by order and moments (`DirectedPolicy`), or by a list (`Listed`).
+//!
+//! What is proved, by call and clause; in parentheses the definitions:
+//!
+//! - Each pick is the choice of its plan after the steps so far; a picked thread is ready, one that
+//!   is waited for is away, and where nobody is picked nobody can go on: `Policy::pick`: `choice`,
+//!   `sound` (`IsSoundPick`).
+//! - A step counts as one: `Policy::took`: `plan`, `stands`; made by `Pct::new`: `plan`, `stands`,
+//!   `not_an_order`; `DirectedPolicy::new`: `plan`, `stands`, `not_an_order`; `Listed::new`:
+//!   `plan`, `stands`.
+//! - A choice that waits for nobody stays as more becomes known: `Policy`: `keeps`.
 #![tactic(auto)]
 
 mod chance;

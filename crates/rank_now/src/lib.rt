@@ -1,5 +1,16 @@
-//! The priorities of a PCT schedule: each thread has a value, no two threads have the same one, and
-//! of the threads that may go on the one with the greatest value does.
+//! The priorities of a run: `Ranks` keeps a distinct value for each thread, which a change point or
+//! a moment (`Moment`) lowers.
+//!
+//! What is proved, by call and clause; in parentheses the definitions:
+//!
+//! - The values are PCT's ranks of the whole schedule, stay distinct, and the order stays: a
+//!   lowered thread keeps its place below all that weren't lowered: `Ranks::new`: `order`,
+//!   `values`, `distinct`, `by_points`, `by_events`; `Ranks::lower`: `order`, `values`, `distinct`,
+//!   `by_points`, `by_events`; `Ranks::value`; `Ranks::greatest`: `value`, `bound`.
+//! - `holder` gives the thread with a value, or says that none has it; `walk` the one with that
+//!   many above it: `Ranks::holder`: `some`, `none`; `Ranks::walk`: `at_place`, `only`.
+//! - A list that is no order is refused exactly at the first place whose thread isn't there or was
+//!   named before: `Ranks::new`: `not_an_order`.
 #![tactic(auto)]
 
 mod moment;

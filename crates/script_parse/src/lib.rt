@@ -1,4 +1,10 @@
-//! Texts as scripts.
+//! From a text to a `Script`.
+//!
+//! What is proved, by call and clause; in parentheses the definitions:
+//!
+//! - `parse` gives exactly the script that the text spells, and else exactly the first fault of its
+//!   first faulty line: `parse`: `found`, `only`, `fault`. Each text has one of the two, and a
+//!   printed script is read as that script: the laws `one_answer`, `print_is_read`.
 #![tactic(auto)]
 
 mod ahead;

@@ -1,4 +1,12 @@
-//! Scripts: the statements of a test's threads, and what they ask.
+//! The script language: statements, `Script`, the grammar and its faults, what threads ask, and the
+//! canonical layout.
+//!
+//! What is proved, by call and clause; in parentheses the definitions:
+//!
+//! - A script keeps its limits; its names are its own; its deal counts them and has its first
+//!   values: `Script`: `sound` (`IsScript`); `Script::names`; `Script::deal` (`IsDealOf`).
+//! - `print_script` gives the canonical layout, which within the limits spells the same script with
+//!   the lines of the print: `print_script`: `layout`, `spelled`.
 #![tactic(auto)]
 
 mod expr;

@@ -1,5 +1,18 @@
-//! The objects that the threads of a test share: when an ask may take its step, and what the step
-//! does.
+//! The objects that threads share: when an ask is enabled, and what its step does. `Store` is their
+//! state.
+//!
+//! What is proved, by call and clause; in parentheses the definitions:
+//!
+//! - The first store is that of its deal; whether a thread was started: `Store::new`: `first`,
+//!   `sizes`; `Store::is_started`.
+//! - `ready` says whether an ask is enabled, and Unknown exactly for a join of a thread whose next
+//!   post isn't known: `Store::ready`: `unknown`, `ready`.
+//! - `apply` makes exactly the defined step and answer, and where it ends the run (Failed, Misuse,
+//!   Fault) leaves the store as it was; `take_step` makes the same step, without the verdict:
+//!   `Store::apply`: `store`, `applied`, `unchanged` (`effect`); `Store::take_step`: `store`,
+//!   `applied`; `Stepped::applied`.
+//! - Another thread's ask that doesn't name the touched object is as enabled afterwards as before:
+//!   `Store::apply`: `others` (`KeepsOthers`); `Store::touched`.
 #![tactic(auto)]
 
 mod applied;

@@ -1,5 +1,23 @@
-//! The turns of the threads of a test: each thread posts what it asks, and a policy says whose turn
-//! it is.
+//! The book of turns: threads post what they ask, the policy says whose turn it is.
+//!
+//! What is proved, by call and clause; in parentheses the definitions:
+//!
+//! - In whatever order threads post and take, the steps obey the policy over the posts, and the
+//!   outcome is exactly what is settled (Passed or Stuck where nobody can go on, Cut at the limit):
+//!   `TurnBook::new`: `made`, `lawful`; `TurnBook::post`: `posted`, `over`, `lawful`;
+//!   `TurnBook::take`: `answered`, `unchanged`, `lawful`; `TurnBook::outcome`: `outcome`, `lawful`
+//!   (`outcome_after`, `rest_verdict`).
+//! - The steps begin each whole run over these posts and any more, and are it once an outcome
+//!   stands: `TurnBook::trace`: `lawful`, `prefix`, `whole` (`IsRunOver`, `IsLawful.obeys`,
+//!   `IsLawful.outcome`).
+//! - Each answer comes exactly by the choice: Over where an outcome stood before, NotYet where the
+//!   choice is another thread's or waits; nobody is granted where an outcome stands or the choice
+//!   is no thread: `TurnBook::take`: `over`, `answer`, `turn`, `away`; `TurnBook::granted`;
+//!   `TurnBook::awaited`.
+//! - What is known of a thread's next post, the deal and the parts are the book's; `take_turn` and
+//!   `is_over` answer in brief: `TurnBook::standing`; `TurnBook::deal`; `TurnBook::is_over`;
+//!   `TurnBook::into_parts`: `events`, `outcome`, `lawful`; `TurnBook::take_turn`: `over`,
+//!   `answer`, `not_yet`.
 #![tactic(auto)]
 
 mod board;

@@ -1,4 +1,20 @@
-//! Runs of the bodies of a test under a policy, each body in a thread of its own.
+//! Runs of bodies under a policy, each body in a thread of its own, or all served by the caller.
+//!
+//! What is proved, by call and clause; in parentheses the definitions:
+//!
+//! - The steps obey the policy over the bodies, and the outcome is what is settled over them; by an
+//!   order and points they are the run, by an order and moments the directed run: `run_threads`:
+//!   `played`, `run`, `directed`; `run_here`: `played`, `run`, `directed` (`IsPlayed`, `run`,
+//!   `next_thread`, `rank`, `cut_at`); with the verdict `run_by_points`: `run`, `played`;
+//!   `run_by_events`: `directed`, `played`; `Played::into_whole`: `events`, `verdict`.
+//! - `run_many` answers as many runs as tests, each what `run_threads` promises of its test:
+//!   `run_many`: `runs` (`Each`, `IsRunOf`); a test is made by `Test::by_points` and
+//!   `Test::by_events`, a verdict given by `Played::verdict`. At most 64 tests of one limit, of
+//!   640,000 steps together, are worth that: `batch_size`: `says`, `few_tests`, `few_steps`,
+//!   `some`.
+//! - After Ok of `run_on` the lent seat serves all threads again and has seen that run with its
+//!   outcome, also where a thread can't be started; out of memory leaves it as it was: `run_on`:
+//!   `of`, `all`, `played`, `no_memory` (`HasPlayed`).
 #![tactic(auto)]
 
 mod alone;
