@@ -32,6 +32,13 @@ impl<T> Sequence<T> {
         Sequence { items }
     }
 
+    /// The items, with the memory that they stand in.
+    pub fn into_vec(self) -> Vec<T>
+        ensures { result.items ≡ self }
+    {
+        self.items
+    }
+
     #[allow(clippy::len_without_is_empty)]
     pub fn len(&self) -> usize
         ensures { result ≡ length self.now }
