@@ -1,5 +1,5 @@
 ghost use Rattle.std.specs.Prelude.{◌≡◌, ◌≢◌, ◌<◌, ◌≤◌, ◌↔◌, ℕ, ℤ, [], ◌++◌, List, length, Some};
-ghost use Rattle.std.specs.Prelude.{None, IfOk, IsSome, is_some};
+ghost use Rattle.std.specs.Prelude.{None, IfOk, IsSome, is_some, vec_capacity};
 ghost use Rattle.pct_ask.specs.declared.ask.Post.{Post};
 ghost use Rattle.pct_ask.specs.declared.event.Event.{Event};
 ghost use Rattle.pct_ask.specs.declared.event.Standing.{Standing};
@@ -61,8 +61,27 @@ impl<P: Policy> TurnBook<P> {
         ensures made { IfOk result (λ book. book ≡ new_book deal limit (P.plan policy)) }
         ensures lawful { IfOk result IsLawful }
     {
+        TurnBook::new_in(alloc, deal, policy, limit, Sequence::new(alloc))
+    }
+
+    /// As `new`, in the memory of a trace that nobody needs any more. Where that is too small, or
+    /// there was none, memory is taken.
+    pub fn new_in(
+        alloc: Global,
+        deal: Deal,
+        policy: P,
+        limit: u32,
+        spare: EventList,
+    ) -> Result<TurnBook<P>, NoMemory>
+        requires some_steps { 1 ≤ limit }
+        requires few_steps { limit ≤ 100000 }
+        requires stands { P.stands policy [] }
+        requires speaks { SpeaksOf (P.plan policy) deal.threads }
+        ensures made { IfOk result (λ book. book ≡ new_book deal limit (P.plan policy)) }
+        ensures lawful { IfOk result IsLawful }
+    {
         let board = Board::new(alloc, &deal)?;
-        let trace = Vec::with_capacity(alloc, limit as usize)?;
+        let trace = cleared(spare, limit as usize)?;
         let next = policy.pick(board.chances());
         Ok(TurnBook {
             deal,
@@ -247,4 +266,15 @@ impl<P: Policy> TurnBook<P> {
     {
         (Sequence::from_vec(self.trace), self.outcome)
     }
+}
+
+/// An empty list in the memory of another one, with room for so many items.
+fn cleared(spare: EventList, room: usize) -> Result<Vec<Event>, NoMemory>
+    ensures items { IfOk result (λ items. items.items ≡ []) }
+    ensures room { IfOk result (λ items. room ≤ vec_capacity items) }
+{
+    let mut items = spare.into_vec();
+    items.clear();
+    items.reserve_exact(room)?;
+    Ok(items)
 }

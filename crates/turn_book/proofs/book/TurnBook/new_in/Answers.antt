@@ -8,7 +8,7 @@ use Rattle.turn_book.specs.Kept.{posts_by}
 use Rattle.turn_book.proofs.Boards.{length-chances}
 use Rattle.turn_book.proofs.PostLists.{posts-none}
 use Rattle.turn_book.proofs.FirstBooks.{kept-new, choice-first}
-use Rattle.turn_book.proofs.book.TurnBook.new.Goals as goal
+use Rattle.turn_book.proofs.book.TurnBook.new_in.Goals as goal
 
 pub pick-next-requires-clause-threads : goal.pick-next-requires-clause-threads
 pick-next-requires-clause-threads g c =
@@ -28,7 +28,7 @@ invariant_of-result g c =
       kept-new c.args.deal c.args.limit (g.P.Policy.plan c.args.policy) board c.pick-next.result
           c.in_ok-trace.trace.items (vec_capacity c.in_ok-trace.trace) c.in_ok-board.ensures.board
           c.in_ok-board.ensures.sizes c.requires.speaks c.requires.some_steps c.requires.few_steps
-          (omega (arith, c.in_ok-trace.ensures.capacity, c.in_ok-trace.ensures.exact)) none
+          (omega (arith, c.in_ok-trace.ensures.room)) none
           (choice-first (g.P.Policy.plan c.args.policy) board c.chances.result.now
           c.pick-next.result c.chances.ensures.chances
           (c.pick-next.ensures.choice [] c.requires.stands)),
