@@ -9,9 +9,12 @@
 //!   `run_by_events`: `directed`, `played`; `Played::into_whole`: `events`, `verdict`.
 //! - `run_many` answers as many runs as tests, each what `run_threads` promises of its test:
 //!   `run_many`: `runs` (`Each`, `IsRunOf`); a test is made by `Test::by_points` and
-//!   `Test::by_events`, a verdict given by `Played::verdict`. At most 64 tests of one limit, of
-//!   640,000 steps together, are worth that: `batch_size`: `says`, `few_tests`, `few_steps`,
-//!   `some`.
+//!   `Test::by_events`, a verdict given by `Played::verdict`.
+//! - Batch after batch, in memory that is used again: by threads `run_many_by`: `runs`, `caller`; by
+//!   the caller `run_by_caller`: `run`, `by`. Neither depends on what `Serving` holds, of which
+//!   clauses say only who serves: `Serving::new`; `Serving::is_by_caller`;
+//!   `Serving::leave_to_caller`; `Serving::next_trace`; `Serving::take_back`;
+//!   `Serving::take_all_back`.
 //! - After Ok of `run_on` the lent seat serves all threads again and has seen that run with its
 //!   outcome, also where a thread can't be started; out of memory leaves it as it was: `run_on`:
 //!   `of`, `all`, `played`, `no_memory` (`HasPlayed`).
@@ -19,10 +22,9 @@
 
 mod alone;
 mod batch;
-mod batch_sizes;
+mod by_caller;
 mod by_order;
 mod crew;
-mod each;
 mod lent;
 mod many;
 mod ordered;
@@ -31,12 +33,14 @@ mod places;
 mod played;
 mod run;
 mod runner;
+mod serving;
 mod teams;
 
 pub use batch::Test;
-pub use batch_sizes::batch_size;
+pub use by_caller::run_by_caller;
 pub use by_order::{WholeRun, run_by_events, run_by_points};
 pub use lent::run_on;
-pub use many::{Serve, run_many, run_many_by};
+pub use many::{RUNS_AT_ONCE, run_many, run_many_by};
 pub use played::Played;
 pub use run::{run_here, run_threads};
+pub use serving::{Serve, Serving};

@@ -7,13 +7,13 @@ ghost use Rattle.worker_run.specs.Tests.{IsTest, AreTests, IsRunOf, AllTold, IsL
 
 use crate::batch::{Crew, Stage, Test};
 use crate::crew::has_runner;
-use crate::each::run_each;
 use crate::lent::runners_of;
 use crate::places::rooms_of;
 use crate::played::Played;
 use crate::run::{finish, new_lock};
+use crate::serving::{Serve, Serving};
 use crate::teams::play_stages;
-use pct_ask::Body;
+use pct_ask::{Body, EventList};
 use pct_outside::Gate;
 use policy_pick::Policy;
 use std::alloc::{AllocError as NoMemory, Global};
@@ -22,10 +22,12 @@ use std::sync::Wait;
 use std::thread::Threads;
 use turn_lock::TurnLock;
 
-/// A test's lock, and its crew before the first post, which has all of its threads.
+/// A test's lock, and its crew before the first post, which has all of its threads. The run's steps
+/// stand in the memory of a trace that nobody needs any more.
 fn cast_of<P: Policy, B: Body>(
     alloc: Global,
     test: Test<P, B>,
+    trace: EventList,
 ) -> Result<(TurnLock<P>, Crew<P, B>), NoMemory>
     requires test { IsTest B.pending P.plan P.stands test }
     ensures lock { IfOk result (λ r. IsLockOf P.plan test r.0) }
@@ -38,7 +40,7 @@ fn cast_of<P: Policy, B: Body>(
         limit,
         bodies,
     } = test;
-    let (lock, seat) = new_lock(alloc, deal, policy, limit)?;
+    let (lock, seat) = new_lock(alloc, deal, policy, limit, trace)?;
     let runners = runners_of(alloc, bodies)?;
     Ok((lock, Crew { seat, runners }))
 }
@@ -47,16 +49,18 @@ fn cast_of<P: Policy, B: Body>(
 fn casts_of<P: Policy, B: Body>(
     alloc: Global,
     tests: Vec<Test<P, B>>,
+    serving: &mut Serving,
 ) -> Result<(Vec<TurnLock<P>>, Vec<Crew<P, B>>), NoMemory>
     requires tests { AreTests B.pending P.plan P.stands tests.items }
     ensures locks { IfOk result (λ r. Each (IsLockOf P.plan) tests.items r.0.items) }
     ensures crews { IfOk result (λ r. Each (IsFirstCrew P.plan) tests.items r.1.items) }
     ensures of { IfOk result (λ r. Each (λ lock crew. HasSeat lock crew.seat) r.0.items r.1.items) }
+    ensures by { serving.new.by ≡ serving.old.by }
 {
     let mut locks = Vec::with_capacity(alloc, tests.len())?;
     let mut crews = Vec::with_capacity(alloc, tests.len())?;
     for test in tests {
-        let (lock, crew) = cast_of(alloc, test)?;
+        let (lock, crew) = cast_of(alloc, test, serving.next_trace(alloc))?;
         locks.push(lock)?;
         crews.push(crew)?;
     }
@@ -146,14 +150,10 @@ fn runs_of<P: Policy, B: Body>(
     runs
 }
 
-/// Who serves the bodies of many tests.
-#[derive(Clone, Copy, Debug, PartialEq, Eq)]
-pub enum Serve {
-    /// A thread for each place up to the largest number of threads.
-    Threads,
-    /// The calling thread, one test after another.
-    Caller,
-}
+/// How many tests are worth being run at once, where there are many. 2,000 seeds of a bounded buffer
+/// took 0.35 seconds of processor time one by one, 0.14 in batches of 16 runs, 0.12 of 64 or 128,
+/// and 0.13 of 256.
+pub const RUNS_AT_ONCE: u32 = 64;
 
 /// Whether the caller served a body of one of the tests.
 fn caller_served<P: Policy, B: Body>(crews: &[Crew<P, B>]) -> bool {
@@ -165,43 +165,26 @@ fn caller_served<P: Policy, B: Body>(crews: &[Crew<P, B>]) -> bool {
     false
 }
 
-/// Runs many tests, as `run_many` or with all bodies served by the caller. Where a thread couldn't
-/// be started, `serve` is the caller afterwards, so that no thread is started for further tests.
-/// Where there is no memory, runs that were made before are lost.
+/// Runs many tests as `run_many` does, in the memory of traces that were taken back. Where a thread
+/// couldn't be started, the caller is to serve what comes next. Where there is no memory, runs that
+/// were made before are lost.
 pub fn run_many_by<R: Threads + Wait + Sync, P: Policy, B: Body, G: Gate>(
     rt: &R,
     alloc: Global,
     tests: Vec<Test<P, B>>,
+    serving: &mut Serving,
     gate: &G,
-    serve: &mut Serve,
 ) -> Result<Vec<Played>, NoMemory>
     requires tests { AreTests B.pending P.plan P.stands tests.items }
     ensures runs { IfOk result (λ runs. Each (IsRunOf B.pending P.plan) tests.items runs.items) }
-    ensures caller { serve.old ≡ Serve.Caller → serve.new ≡ Serve.Caller }
-{
-    match *serve {
-        Serve::Caller => run_each(rt, alloc, tests, gate),
-        Serve::Threads => run_by_threads(rt, alloc, tests, gate, serve),
-    }
-}
-
-/// As `run_many`, and notes that the caller is to serve where a thread couldn't be started.
-fn run_by_threads<R: Threads + Wait + Sync, P: Policy, B: Body, G: Gate>(
-    rt: &R,
-    alloc: Global,
-    tests: Vec<Test<P, B>>,
-    gate: &G,
-    serve: &mut Serve,
-) -> Result<Vec<Played>, NoMemory>
-    requires tests { AreTests B.pending P.plan P.stands tests.items }
-    ensures runs { IfOk result (λ runs. Each (IsRunOf B.pending P.plan) tests.items runs.items) }
+    ensures caller { serving.old.by ≡ Serve.Caller → serving.new.by ≡ Serve.Caller }
 {
     let runs = Vec::with_capacity(alloc, tests.len())?;
     let first = Snapshot::of(&tests);
-    let (locks, crews) = casts_of(alloc, tests)?;
+    let (locks, crews) = casts_of(alloc, tests, serving)?;
     let crews = play_tests(rt, alloc, &first, locks.as_slice(), crews, gate)?;
     if caller_served(crews.as_slice()) {
-        *serve = Serve::Caller;
+        serving.leave_to_caller();
     }
     Ok(runs_of(first, locks, crews, runs))
 }
@@ -219,6 +202,6 @@ pub fn run_many<R: Threads + Wait + Sync, P: Policy, B: Body, G: Gate>(
     requires tests { AreTests B.pending P.plan P.stands tests.items }
     ensures runs { IfOk result (λ runs. Each (IsRunOf B.pending P.plan) tests.items runs.items) }
 {
-    let mut serve = Serve::Threads;
-    run_by_threads(rt, alloc, tests, gate, &mut serve)
+    let mut serving = Serving::new(alloc, Serve::Threads);
+    run_many_by(rt, alloc, tests, &mut serving, gate)
 }

@@ -14,7 +14,7 @@ ghost use Rattle.worker_run.specs.Played.{IsPlayed, IsRun, HasPlayed};
 use crate::alone::serve_alone;
 use crate::lent::{run_on, runners_of};
 use crate::played::Played;
-use pct_ask::{Body, Deal};
+use pct_ask::{Body, Deal, EventList, Sequence};
 use pct_outside::Gate;
 use policy_pick::Policy;
 use std::alloc::{AllocError as NoMemory, Global};
@@ -23,12 +23,14 @@ use std::thread::Threads;
 use turn_book::TurnBook;
 use turn_lock::{Seat, TurnLock};
 
-/// A lock for a run, and its first seat.
+/// A lock for a run, and its first seat. The run's steps stand in the memory of a trace that nobody
+/// needs any more.
 pub fn new_lock<P: Policy>(
     alloc: Global,
     deal: Deal,
     policy: P,
     limit: u32,
+    trace: EventList,
 ) -> Result<(TurnLock<P>, Seat<P>), NoMemory>
     requires some_steps { 1 ≤ limit }
     requires few_steps { limit ≤ 100000 }
@@ -38,7 +40,7 @@ pub fn new_lock<P: Policy>(
     ensures of { IfOk result (λ r. HasSeat r.0 r.1) }
     ensures view { IfOk result (λ r. view r.1 ≡ first_view (new_book deal limit (P.plan policy))) }
 {
-    let book = TurnBook::new(alloc, deal, policy, limit)?;
+    let book = TurnBook::new_in(alloc, deal, policy, limit, trace)?;
     TurnLock::new(alloc, book)
 }
 
@@ -94,8 +96,38 @@ pub fn run_here<R: Wait, P: Policy, B: Body, G: Gate>(
         → P.plan policy ≡ ByEvents order events → IfOk result (λ played. IsRun (directed_run deal
         (map B.pending bodies.items) order events limit) played.events played.outcome) }
 {
+    let trace = Sequence::new(alloc);
+    run_here_in(rt, alloc, deal, policy, limit, bodies, trace, gate)
+}
+
+/// As `run_here`, with the run's steps in the memory of a trace that nobody needs any more.
+pub fn run_here_in<R: Wait, P: Policy, B: Body, G: Gate>(
+    rt: &R,
+    alloc: Global,
+    deal: Deal,
+    policy: P,
+    limit: u32,
+    bodies: Vec<B>,
+    trace: EventList,
+    gate: &G,
+) -> Result<Played, NoMemory>
+    requires some_steps { 1 ≤ limit }
+    requires few_steps { limit ≤ 100000 }
+    requires stands { P.stands policy [] }
+    requires speaks { SpeaksOf (P.plan policy) deal.threads }
+    requires bodies { length bodies.items ≡ deal.threads }
+    requires in_range { AreInRange (sizes_of_deal deal) (map B.pending bodies.items) }
+    ensures played { IfOk result (λ played. IsPlayed (P.plan policy) deal
+        (map B.pending bodies.items) limit played.events played.outcome) }
+    ensures run { (order points : List ℕ)
+        → P.plan policy ≡ ByPoints order points → IfOk result (λ played. IsRun (run deal
+        (map B.pending bodies.items) order points limit) played.events played.outcome) }
+    ensures directed { (order : List ℕ) (events : List Moment)
+        → P.plan policy ≡ ByEvents order events → IfOk result (λ played. IsRun (directed_run deal
+        (map B.pending bodies.items) order events limit) played.events played.outcome) }
+{
     let mut runners = runners_of(alloc, bodies)?;
-    let mut book = TurnBook::new(alloc, deal, policy, limit)?; // which is served with no lock
+    let mut book = TurnBook::new_in(alloc, deal, policy, limit, trace)?; // served with no lock
     serve_alone(rt, &mut book, runners.as_mut_slice(), gate);
     Ok(played_of(book))
 }
@@ -125,7 +157,7 @@ pub fn run_threads<R: Threads + Wait + Sync, P: Policy, B: Body, G: Gate>(
         → P.plan policy ≡ ByEvents order events → IfOk result (λ played. IsRun (directed_run deal
         (map B.pending bodies.items) order events limit) played.events played.outcome) }
 {
-    let (lock, mut seat) = new_lock(alloc, deal, policy, limit)?;
+    let (lock, mut seat) = new_lock(alloc, deal, policy, limit, Sequence::new(alloc))?;
     run_on(rt, alloc, &lock, &mut seat, bodies, gate)?;
     Ok(finish(lock, seat))
 }

@@ -25,6 +25,7 @@ loop-test-init g c = record {
   crews = no-items (IsFirstCrew g.P.Policy.plan) [] _ refl c.in_ok-crews.ensures.items;
   of = no-items (λ lock crew. HasSeat lock crew.seat) _ _ c.in_ok-locks.ensures.items
       c.in_ok-crews.ensures.items;
+  by = refl;
 }
 
 pub cast_of-requires-clause-test : goal.cast_of-requires-clause-test
@@ -68,6 +69,7 @@ loop-test-preserved g c =
       of = subst O (λ i. (locks i, crews i))
           (each-more (λ lock crew. HasSeat lock crew.seat) at.locks.items at.crews.items
           c.in_ok-lock.lock c.in_ok-lock.crew at.invariant.of c.in_ok-lock.ensures.of);
+      by = c.next_trace.ensures ∙ at.invariant.by;
     }
 
 pub returns : goal.returns
@@ -87,4 +89,5 @@ returns g c =
       locks = subst L all at.invariant.locks;
       crews = subst C all at.invariant.crews;
       of = at.invariant.of;
+      by = at.invariant.by;
     }

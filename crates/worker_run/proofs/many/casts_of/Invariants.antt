@@ -13,4 +13,5 @@ invariant-loop-test g l = record {
   locks : Each (IsLockOf g.P.Policy.plan) l.yielded l.locks.items;
   crews : Each (IsFirstCrew g.P.Policy.plan) l.yielded l.crews.items;
   of : Each (λ lock crew. HasSeat lock crew.seat) l.locks.items l.crews.items;
+  by : l.serving.by ≡ l.initial.serving.by;
 }

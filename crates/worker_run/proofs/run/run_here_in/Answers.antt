@@ -10,7 +10,7 @@ use Rattle.worker_run.specs.Played.{IsPlayed}
 use Rattle.worker_run.proofs.Follows.{points-run, events-run}
 use Rattle.worker_run.proofs.Plays.{here-range, here-unposted, here-all, here-crew, here-played}
 use Rattle.worker_run.proofs.Plays.{first-owe, has-played}
-use Rattle.worker_run.proofs.run.run_here.Goals as goal
+use Rattle.worker_run.proofs.run.run_here_in.Goals as goal
 
 pub serve_alone-requires-clause-crew : goal.serve_alone-requires-clause-crew
 serve_alone-requires-clause-crew g c = λ κs lives.

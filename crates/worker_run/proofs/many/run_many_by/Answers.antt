@@ -4,7 +4,7 @@ use Rattle.turn_lock.specs.Views.{HasSeat}
 use Rattle.turn_lock.specs.declared.held.TurnLock.{TurnLock}
 use Rattle.worker_run.specs.Batch.{Each, IsSeatOf}
 use Rattle.worker_run.specs.declared.batch.Test.{Test}
-use Rattle.worker_run.proofs.many.run_by_threads.Goals as goal
+use Rattle.worker_run.proofs.many.run_many_by.Goals as goal
 
 pub play_tests-requires-clause-tests : goal.play_tests-requires-clause-tests
 play_tests-requires-clause-tests g c = λ κs lives i test at.
