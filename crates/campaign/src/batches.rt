@@ -1,4 +1,4 @@
-// The rows of seeds, whose runs are made at once where there is memory for that.
+// The rows of seeds, whose runs are made at once by threads, or one after another by the caller.
 ghost use Rattle.std.specs.Prelude.{◌≡◌, ◌≤◌, ◌+◌, length, IfOk, OnOk, Some, vec_capacity};
 ghost use Rattle.script_tree.specs.ScriptText.{ScriptText};
 ghost use Rattle.campaign.specs.Rows.{Setup, row_of_seed};
@@ -12,7 +12,7 @@ use pct_outside::Gate;
 use std::alloc::{AllocError as NoMemory, Global};
 use std::sync::Wait;
 use std::thread::Threads;
-use worker_run::{Played, Test, run_many, run_threads};
+use worker_run::{Played, Serving, run_by_caller, run_many_by};
 
 /// What a row has of a seed's run.
 fn row_of(seed: u64, played: &Played) -> Row
@@ -27,13 +27,14 @@ fn row_of(seed: u64, played: &Played) -> Row
     }
 }
 
-/// The runs of the seeds from one place to before another, made at once.
+/// The runs of the seeds from one place to before another, made at once by threads.
 fn runs_of_seeds<R: Threads + Wait + Sync, G: Gate>(
     rt: &R,
     alloc: Global,
     task: &Task<'_>,
     start: usize,
     end: usize,
+    serving: &mut Serving,
     gate: &G,
 ) -> Result<Vec<Played>, NoMemory>
     requires script { (script : ScriptText) × IsTaskOf script task.now }
@@ -44,7 +45,7 @@ fn runs_of_seeds<R: Threads + Wait + Sync, G: Gate>(
         AreSeedRuns (setup_of_task script task.now) task.now.first start runs.items) }
 {
     let tests = seed_tests(alloc, task, start, end)?;
-    run_many(rt, alloc, tests, gate)
+    run_many_by(rt, alloc, tests, serving, gate)
 }
 
 /// Adds the rows of the next seeds by their runs.
@@ -66,35 +67,34 @@ fn push_rows(task: &Task<'_>, rows: &mut Vec<Row>, runs: &[Played])
     }
 }
 
-/// The row of a seed, whose run is made by itself.
-fn row_of_seed<R: Threads + Wait + Sync, G: Gate>(
+/// The row of a seed, whose run the caller makes.
+fn row_of_seed<R: Wait, G: Gate>(
     rt: &R,
     alloc: Global,
     task: &Task<'_>,
     seed: u64,
+    serving: &mut Serving,
     gate: &G,
 ) -> Result<Row, NoMemory>
     requires script { (script : ScriptText) × IsTaskOf script task.now }
     ensures { (script : ScriptText) → IsTaskOf script task.now
         → IfOk result (λ row. row_of_seed (setup_of_task script task.now) seed ≡ Some row) }
 {
-    let Test {
-        deal,
-        policy,
-        limit,
-        bodies,
-    } = seed_test(alloc, task, seed)?;
-    let played = run_threads(rt, alloc, deal, policy, limit, bodies, gate)?;
-    Ok(row_of(seed, &played))
+    let test = seed_test(alloc, task, seed)?;
+    let played = run_by_caller(rt, alloc, test, serving, gate)?;
+    let row = row_of(seed, &played);
+    serving.take_back(played)?;
+    Ok(row)
 }
 
-/// Adds the rows of the next seeds, up to a place, whose runs are made one after another.
-fn add_alone<R: Threads + Wait + Sync, G: Gate>(
+/// Adds the rows of the next seeds, up to a place, whose runs the caller makes one after another.
+fn add_alone<R: Wait, G: Gate>(
     rt: &R,
     alloc: Global,
     task: &Task<'_>,
     rows: &mut Vec<Row>,
     end: usize,
+    serving: &mut Serving,
     gate: &G,
 ) -> Result<(), NoMemory>
     requires script { (script : ScriptText) × IsTaskOf script task.now }
@@ -107,20 +107,21 @@ fn add_alone<R: Threads + Wait + Sync, G: Gate>(
         → AreFirstRows (setup_of_task script task.now) task.now.first rows.new.items }
 {
     for place in rows.len()..end {
-        let row = row_of_seed(rt, alloc, task, task.seed_at(place), gate)?;
+        let row = row_of_seed(rt, alloc, task, task.seed_at(place), serving, gate)?;
         rows.push_reserved(row);
     }
     Ok(())
 }
 
-/// Adds the rows of the next seeds, up to a place. Their runs are made at once, or one after
-/// another where there is no memory for that.
+/// Adds the rows of the next seeds, up to a place. Their runs are made at once by threads, or one
+/// after another by the caller, who serves what comes next, too, where there is no memory for that.
 pub fn add_rows<R: Threads + Wait + Sync, G: Gate>(
     rt: &R,
     alloc: Global,
     task: &Task<'_>,
     rows: &mut Vec<Row>,
     end: usize,
+    serving: &mut Serving,
     gate: &G,
 ) -> Result<(), NoMemory>
     requires script { (script : ScriptText) × IsTaskOf script task.now }
@@ -132,11 +133,17 @@ pub fn add_rows<R: Threads + Wait + Sync, G: Gate>(
         → AreFirstRows (setup_of_task script task.now) task.now.first rows.old.items
         → AreFirstRows (setup_of_task script task.now) task.now.first rows.new.items }
 {
-    match runs_of_seeds(rt, alloc, task, rows.len(), end, gate) {
+    if serving.is_by_caller() {
+        return add_alone(rt, alloc, task, rows, end, serving, gate);
+    }
+    match runs_of_seeds(rt, alloc, task, rows.len(), end, serving, gate) {
         Ok(runs) => {
             push_rows(task, rows, runs.as_slice());
-            Ok(())
+            serving.take_all_back(runs)
         }
-        Err(NoMemory) => add_alone(rt, alloc, task, rows, end, gate),
+        Err(NoMemory) => {
+            serving.leave_to_caller();
+            add_alone(rt, alloc, task, rows, end, serving, gate)
+        }
     }
 }

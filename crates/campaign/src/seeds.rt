@@ -12,7 +12,60 @@ use script_code::Code;
 use std::alloc::{AllocError as NoMemory, Global};
 use std::sync::Wait;
 use std::thread::Threads;
-use worker_run::batch_size;
+use worker_run::{RUNS_AT_ONCE, Serve, Serving};
+
+/// A campaign as `campaign` gives it, whose bodies are served by threads or by the caller. Where a
+/// thread couldn't be started, or there was no memory for threads, the caller serves the rest.
+pub fn campaign_by<R: Threads + Wait + Sync, G: Gate>(
+    rt: &R,
+    alloc: Global,
+    code: &Code,
+    deal: &Deal,
+    first: u64,
+    count: u32,
+    depth: u32,
+    steps: u32,
+    limit: u32,
+    serve: Serve,
+    gate: &G,
+) -> Result<RowList, NoMemory>
+    requires script { (script : ScriptText) × AreOf script (listing code.now) deal.now }
+    requires some_seeds { 1 ≤ count }
+    requires few_seeds { count ≤ 100000 }
+    requires some_depth { 1 ≤ depth }
+    requires little_depth { depth ≤ 8 }
+    requires some_steps { 1 ≤ steps }
+    requires few_steps { steps ≤ 100000 }
+    requires some_limit { 1 ≤ limit }
+    requires low_limit { limit ≤ 100000 }
+    // Row by row it is the run of the row's seed.
+    ensures { (script : ScriptText) → AreOf script (listing code.now) deal.now
+        → IfOk result (λ rows. map Some rows ≡ rows_of (record {
+          deal = deal.now;
+          bodies = bodies_of script;
+          depth = depth;
+          steps = steps;
+          limit = limit;
+        }) first count) }
+{
+    let task = Task {
+        code,
+        deal,
+        first,
+        depth,
+        steps,
+        limit,
+    };
+    let total = count as usize;
+    let size = RUNS_AT_ONCE as usize;
+    let mut serving = Serving::new(alloc, serve);
+    let mut rows = Vec::with_capacity(alloc, total)?;
+    'batches: while rows.len() < total {
+        let end = rows.len() + size.min(total - rows.len());
+        add_rows(rt, alloc, &task, &mut rows, end, &mut serving, gate)?;
+    }
+    Ok(RowList::from_vec(rows))
+}
 
 /// Runs a script's code once for each of `count` seeds from `first` on, in real threads; after the
 /// last seed, 2^64 - 1, comes 0. Threads are started once for a batch of seeds, whose runs may
@@ -50,20 +103,8 @@ pub fn campaign<R: Threads + Wait + Sync, G: Gate>(
           limit = limit;
         }) first count) }
 {
-    let task = Task {
-        code,
-        deal,
-        first,
-        depth,
-        steps,
-        limit,
-    };
-    let total = count as usize;
-    let size = batch_size(limit) as usize;
-    let mut rows = Vec::with_capacity(alloc, total)?;
-    'batches: while rows.len() < total {
-        let end = rows.len() + size.min(total - rows.len());
-        add_rows(rt, alloc, &task, &mut rows, end, gate)?;
-    }
-    Ok(RowList::from_vec(rows))
+    let serve = Serve::Threads;
+    campaign_by(
+        rt, alloc, code, deal, first, count, depth, steps, limit, serve, gate,
+    )
 }

@@ -16,7 +16,7 @@ use Rattle.rank_now.specs.declared.moment.Moment.{Moment}
 use Rattle.script_body.specs.BodyPosts.{pending_of_body}
 use Rattle.script_body.specs.declared.body.ScriptBody.{ScriptBody}
 use Rattle.worker_run.specs.Run.{Run, directed_run}
-use Rattle.worker_run.specs.Played.{IsPlayed, IsRun}
+use Rattle.worker_run.specs.Played.{IsRun}
 use Rattle.worker_run.specs.Batch.{Each}
 use Rattle.worker_run.specs.Tests.{IsTest, AreTests, IsRunOf}
 use Rattle.worker_run.specs.declared.batch.Test.{Test}
@@ -118,17 +118,12 @@ module _ {E : Type 0} (setup : DirectedSetup) (start : ℕ) (tests : List OrderT
 pub one-ran : {E : Type 0} (setup : DirectedSetup) (place : ℕ) (test : OrderTest)
     (made : Result Played E) → IsTest pending_of_body events_plan EventsStand test
     → IsTestAt setup place test
-    → IfOk made (λ played. IsPlayed (events_plan test.policy) test.deal
-    (map pending_of_body test.bodies.items) test.limit played.events played.outcome)
-    → ((order : List ℕ) (events : List Moment) → events_plan test.policy ≡ ByEvents order events
-    → IfOk made
-    (λ played. IsRun (directed_run test.deal (map pending_of_body test.bodies.items) order events
-    test.limit) played.events played.outcome))
+    → IfOk made (IsRunOf pending_of_body events_plan test)
     → IfOk made (IsRunAt setup place)
-one-ran setup place test (Ok played) sound is ran run = λ order at.
-    order-run setup order test played sound (is order at) ran.obeys.within
-    (run order setup.directive.events (is order at).plan)
-one-ran setup place test (Err e) sound is ran run = tt
+one-ran setup place test (Ok played) sound is ran = λ order at.
+    order-run setup order test played sound (is order at) ran.played.obeys.within
+    (ran.by_events order setup.directive.events (is order at).plan)
+one-ran setup place test (Err e) sound is ran = tt
 
 pub as-many : {E : Type 0} (start : ℕ) (tests : List OrderTest)
     (made : Result (Vec Played Global) E) (end : ℕ) → start + length tests ≡ end

@@ -1,5 +1,5 @@
 // The orders that place a directive's thread last, tried from one place on. Their runs are made at
-// once where there is memory for that.
+// once by threads, or one after another by the caller.
 ghost use Rattle.std.specs.Prelude.{◌≡◌, ◌≤◌, ◌<◌, ◌+◌, ◌-◌, length, IfOk};
 ghost use Rattle.script_tree.specs.ScriptText.{ScriptText};
 ghost use Rattle.choices.specs.Orders.{factorial};
@@ -15,14 +15,15 @@ use pct_outside::Gate;
 use std::alloc::{AllocError as NoMemory, Global};
 use std::sync::Wait;
 use std::thread::Threads;
-use worker_run::{Played, Test, run_many, run_threads};
+use worker_run::{Played, Serving, run_by_caller, run_many_by};
 
-/// The run of the order at a place, made by itself.
-fn run_alone<R: Threads + Wait + Sync, G: Gate>(
+/// The run of the order at a place, made by the caller.
+fn run_alone<R: Wait, G: Gate>(
     rt: &R,
     alloc: Global,
     task: &Task<'_>,
     place: u32,
+    serving: &mut Serving,
     gate: &G,
 ) -> Result<Played, NoMemory>
     requires script { (script : ScriptText) × IsDirectedTask script task.now }
@@ -30,22 +31,18 @@ fn run_alone<R: Threads + Wait + Sync, G: Gate>(
     ensures { (script : ScriptText) → IsDirectedTask script task.now
         → IfOk result (IsRunAt (directed_setup script task.now) place) }
 {
-    let Test {
-        deal,
-        policy,
-        limit,
-        bodies,
-    } = order_test(alloc, task, place)?;
-    run_threads(rt, alloc, deal, policy, limit, bodies, gate)
+    let test = order_test(alloc, task, place)?;
+    run_by_caller(rt, alloc, test, serving, gate)
 }
 
-/// The runs of the orders from one place to before another, made at once.
+/// The runs of the orders from one place to before another, made at once by threads.
 fn runs_of_orders<R: Threads + Wait + Sync, G: Gate>(
     rt: &R,
     alloc: Global,
     task: &Task<'_>,
     start: u32,
     end: u32,
+    serving: &mut Serving,
     gate: &G,
 ) -> Result<Vec<Played>, NoMemory>
     requires script { (script : ScriptText) × IsDirectedTask script task.now }
@@ -56,7 +53,7 @@ fn runs_of_orders<R: Threads + Wait + Sync, G: Gate>(
         → IfOk result (λ runs. AreOrderRuns (directed_setup script task.now) start runs.items) }
 {
     let tests = order_tests(alloc, task, start, end)?;
-    run_many(rt, alloc, tests, gate)
+    run_many_by(rt, alloc, tests, serving, gate)
 }
 
 /// Tries the next orders, up to a place, at once. Where there is no memory the rows may be more
@@ -67,6 +64,7 @@ fn try_at_once<R: Threads + Wait + Sync, G: Gate>(
     task: &Task<'_>,
     rows: &mut CertifyRows,
     end: u32,
+    serving: &mut Serving,
     gate: &G,
 ) -> Result<Option<Certified>, NoMemory>
     requires script { (script : ScriptText) × IsDirectedTask script task.now }
@@ -81,23 +79,25 @@ fn try_at_once<R: Threads + Wait + Sync, G: Gate>(
         → IfOk result (IsDecided (directed_setup script task.now) rows.new end) }
 {
     let start = rows.len() as u32;
-    let runs = runs_of_orders(rt, alloc, task, start, end, gate)?;
+    let runs = runs_of_orders(rt, alloc, task, start, end, serving, gate)?;
     for place in start..end {
         let played = &runs[(place - start) as usize];
         if let Some(certified) = add_row(alloc, task, rows, place, played)? {
             return Ok(Some(certified));
         }
     }
+    serving.take_all_back(runs)?;
     Ok(None)
 }
 
-/// Tries the next orders, up to a place, one after another.
-fn try_alone<R: Threads + Wait + Sync, G: Gate>(
+/// Tries the next orders, up to a place, one after another, by the caller.
+fn try_alone<R: Wait, G: Gate>(
     rt: &R,
     alloc: Global,
     task: &Task<'_>,
     rows: &mut CertifyRows,
     end: u32,
+    serving: &mut Serving,
     gate: &G,
 ) -> Result<Option<Certified>, NoMemory>
     requires script { (script : ScriptText) × IsDirectedTask script task.now }
@@ -111,22 +111,25 @@ fn try_alone<R: Threads + Wait + Sync, G: Gate>(
         → IfOk result (IsDecided (directed_setup script task.now) rows.new end) }
 {
     for place in rows.len() as u32..end {
-        let played = run_alone(rt, alloc, task, place, gate)?;
+        let played = run_alone(rt, alloc, task, place, serving, gate)?;
         if let Some(certified) = add_row(alloc, task, rows, place, &played)? {
             return Ok(Some(certified));
         }
+        serving.take_back(played)?;
     }
     Ok(None)
 }
 
-/// Tries the next orders, up to a place: at once, or one after another where there is no memory for
-/// that. Adds a row for each that is led to the verdict, and answers at the first that isn't.
+/// Tries the next orders, up to a place: at once by threads, or one after another by the caller, who
+/// serves what comes next, too, where there is no memory for threads. Adds a row for each order that
+/// is led to the verdict, and answers at the first that isn't.
 pub fn try_orders<R: Threads + Wait + Sync, G: Gate>(
     rt: &R,
     alloc: Global,
     task: &Task<'_>,
     rows: &mut CertifyRows,
     end: u32,
+    serving: &mut Serving,
     gate: &G,
 ) -> Result<Option<Certified>, NoMemory>
     requires script { (script : ScriptText) × IsDirectedTask script task.now }
@@ -139,8 +142,14 @@ pub fn try_orders<R: Threads + Wait + Sync, G: Gate>(
     ensures answer { (script : ScriptText) → IsDirectedTask script task.now
         → IfOk result (IsDecided (directed_setup script task.now) rows.new end) }
 {
-    match try_at_once(rt, alloc, task, rows, end, gate) {
+    if serving.is_by_caller() {
+        return try_alone(rt, alloc, task, rows, end, serving, gate);
+    }
+    match try_at_once(rt, alloc, task, rows, end, serving, gate) {
         Ok(answer) => Ok(answer),
-        Err(NoMemory) => try_alone(rt, alloc, task, rows, end, gate),
+        Err(NoMemory) => {
+            serving.leave_to_caller();
+            try_alone(rt, alloc, task, rows, end, serving, gate)
+        }
     }
 }

@@ -17,14 +17,13 @@ use script_code::Code;
 use std::alloc::{AllocError as NoMemory, Global};
 use std::sync::Wait;
 use std::thread::Threads;
-use worker_run::batch_size;
+use worker_run::{RUNS_AT_ONCE, Serve, Serving};
 
 const MOST_THREADS: u32 = 7;
 
-/// Runs a script under each order that places a directive's thread last, and tells whether each
-/// leads to the directive's verdict within `steps` steps. Runs are made at once in batches, of one
-/// order first and then of twice as many each time.
-pub fn certify<R: Threads + Wait + Sync, G: Gate>(
+/// As `certify`, with bodies that are served by threads or by the caller. Where a thread couldn't be
+/// started, or there was no memory for threads, the caller serves the rest.
+pub fn certify_by<R: Threads + Wait + Sync, G: Gate>(
     rt: &R,
     alloc: Global,
     code: &Code,
@@ -32,6 +31,7 @@ pub fn certify<R: Threads + Wait + Sync, G: Gate>(
     directive: &Directive,
     steps: u32,
     limit: u32,
+    serve: Serve,
     gate: &G,
 ) -> Result<Certified, NoMemory>
     requires script { (script : ScriptText) × AreOf script (listing code.now) deal.now }
@@ -56,16 +56,43 @@ pub fn certify<R: Threads + Wait + Sync, G: Gate>(
     };
     let mut rows = CertifyRows::new(alloc);
     let total = order_count(threads - 1);
-    let most = batch_size(limit);
+    let most = RUNS_AT_ONCE;
+    let mut serving = Serving::new(alloc, serve);
     let mut size: u32 = 1;
     let mut end = 0;
     'batches: while end < total {
         end += size.min(total - end);
-        if let Some(certified) = try_orders(rt, alloc, &task, &mut rows, end, gate)? {
+        if let Some(certified) = try_orders(rt, alloc, &task, &mut rows, end, &mut serving, gate)? {
             return Ok(certified);
         }
         size = most.min(2 * size);
     }
     let bound = bound_of(threads, steps, directive.events.len());
     Ok(Certified::Yes { bound, rows })
+}
+
+/// Runs a script under each order that places a directive's thread last, and tells whether each
+/// leads to the directive's verdict within `steps` steps. Runs are made at once in batches, of one
+/// order first and then of twice as many each time.
+pub fn certify<R: Threads + Wait + Sync, G: Gate>(
+    rt: &R,
+    alloc: Global,
+    code: &Code,
+    deal: &Deal,
+    directive: &Directive,
+    steps: u32,
+    limit: u32,
+    gate: &G,
+) -> Result<Certified, NoMemory>
+    requires script { (script : ScriptText) × AreOf script (listing code.now) deal.now }
+    requires low { directive.now.low < deal.now.threads }
+    requires some_steps { 1 ≤ steps }
+    requires few_steps { steps ≤ 100000 }
+    requires some_limit { 1 ≤ limit }
+    requires small_limit { limit ≤ 100000 }
+    ensures { (script : ScriptText) → AreOf script (listing code.now) deal.now
+        → IfOk result (Certifies deal.now (bodies_of script) directive.now steps limit) }
+{
+    let serve = Serve::Threads;
+    certify_by(rt, alloc, code, deal, directive, steps, limit, serve, gate)
 }

@@ -9,8 +9,8 @@
 //!   `IsExposed.is_run`, `IsExposed.short`, `RunsTooLong`).
 //! - `certify` says yes exactly where there are at most seven threads and every order with the
 //!   directive's thread last leads to its verdict in at most k steps: with a row for each such
-//!   order and its points, and the count; else the first order that doesn't: `certify`, its clause
-//!   (`Certifies`, `IsCertified.guarantees`, `IsCertified.rows_are`, `IsCertified.bound_is`,
+//!   order and its points, and the count; else the first order that doesn't, whoever serves:
+//!   `certify`, its clause; `certify_by`, its clause (`Certifies`, `IsCertified.guarantees`, `IsCertified.rows_are`, `IsCertified.bound_is`,
 //!   `IsCertified.counted`, `IsFirstOther`, `IsRefuted`, `IsTooLongUnder`).
 //! - There is one certificate, and one exposure: the law `one_certificate`: `guaranteed`,
 //!   `certified`, `exposed`.
@@ -28,5 +28,5 @@ mod task;
 
 pub use answers::{Certified, CertifyRow, CertifyRows, Exposed};
 pub use certificate::one_certificate;
-pub use certifying::certify;
+pub use certifying::{certify, certify_by};
 pub use exposing::expose;

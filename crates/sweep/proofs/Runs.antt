@@ -12,7 +12,7 @@ use Rattle.policy_pick.specs.Kept.{PointsKept, points_plan, PointsStand}
 use Rattle.script_body.specs.BodyPosts.{pending_of_body}
 use Rattle.script_body.specs.declared.body.ScriptBody.{ScriptBody}
 use Rattle.worker_run.specs.Run.{Run, run}
-use Rattle.worker_run.specs.Played.{IsPlayed, IsRun}
+use Rattle.worker_run.specs.Played.{IsRun}
 use Rattle.worker_run.specs.Batch.{Each}
 use Rattle.worker_run.specs.Tests.{IsTest, AreTests, IsRunOf}
 use Rattle.worker_run.specs.declared.batch.Test.{Test}
@@ -152,23 +152,10 @@ module _ {E : Type 0} (setup : Setup) (places : List ℕ) (tests : List ChoiceTe
 -- a test that was run by itself
 pub one-ran : {E : Type 0} (setup : Setup) (place : ℕ) (test : ChoiceTest) (made : Result Played E)
     → IsTest pending_of_body points_plan PointsStand test → IsTestAt setup place test
-    → IfOk made (λ played. IsPlayed (points_plan test.policy) test.deal
-    (map pending_of_body test.bodies.items) test.limit played.events played.outcome)
-    → ((order points : List ℕ) → points_plan test.policy ≡ ByPoints order points
-    → IfOk made (λ played. IsRun (run test.deal (map pending_of_body test.bodies.items) order points
-    test.limit) played.events played.outcome))
+    → IfOk made (IsRunOf pending_of_body points_plan test)
     → IfOk made (IsRunAt setup place)
-one-ran setup place test (Ok played) sound is ran by_points =
-    let choice = is.0 in
-    let R : Option Run → Type 0 = λ r. IsRun r played.events played.outcome in
-    record {
-      choice = choice;
-      at = is.1;
-      run = subst R (same-run setup choice test is.2)
-          (by_points choice.order choice.points (is.2).plan);
-      short = omega (arith, ran.obeys.within, sound.few_steps);
-    }
-one-ran setup place test (Err e) sound is ran by_points = tt
+one-ran setup place test (Ok played) sound is ran = choice-run setup place test played sound is ran
+one-ran setup place test (Err e) sound is ran = tt
 
 -- the same runs
 pub same-runs : (setup : Setup) (places others : List ℕ) (runs more : List Played)

@@ -1,4 +1,5 @@
-// The rows of choices, counted. Their runs are made at once where there is memory for that.
+// The rows of choices, counted. Their runs are made at once by threads, or one after another by the
+// caller.
 ghost use Rattle.std.specs.Prelude.{◌≡◌, ◌≤◌, ◌<◌, ◌+◌, ◌++◌, ◌^◌, List, length, replicate};
 ghost use Rattle.std.specs.Prelude.{max, All, IfOk, OnOk};
 ghost use Rattle.pct_ask.specs.declared.event.Row.{Row};
@@ -17,7 +18,7 @@ use pct_outside::Gate;
 use std::alloc::{AllocError as NoMemory, Global};
 use std::sync::Wait;
 use std::thread::Threads;
-use worker_run::{Played, Test, run_many, run_threads};
+use worker_run::{Played, Serving, run_by_caller, run_many_by};
 
 /// Counts a row so many times.
 fn add_copies(tally: &mut Tally, row: &Row, times: u32) -> Result<(), NoMemory>
@@ -103,12 +104,13 @@ fn count_runs(
     })
 }
 
-/// The runs of the choices at some places, made at once.
+/// The runs of the choices at some places, made at once by threads.
 fn runs_at<R: Threads + Wait + Sync, G: Gate>(
     rt: &R,
     alloc: Global,
     task: &Task<'_>,
     places: &[u32],
+    serving: &mut Serving,
     gate: &G,
 ) -> Result<Vec<Played>, NoMemory>
     requires script { (script : ScriptText) × IsSweepTask script task.now }
@@ -119,15 +121,16 @@ fn runs_at<R: Threads + Wait + Sync, G: Gate>(
         AreChoiceRuns (setup_of_task script task.now) places.now runs.items) }
 {
     let tests = choice_tests(alloc, task, places)?;
-    run_many(rt, alloc, tests, gate)
+    run_many_by(rt, alloc, tests, serving, gate)
 }
 
-/// The run of the choice at a place, made by itself.
-fn run_alone<R: Threads + Wait + Sync, G: Gate>(
+/// The run of the choice at a place, made by the caller.
+fn run_alone<R: Wait, G: Gate>(
     rt: &R,
     alloc: Global,
     task: &Task<'_>,
     place: u32,
+    serving: &mut Serving,
     gate: &G,
 ) -> Result<Played, NoMemory>
     requires script { (script : ScriptText) × IsSweepTask script task.now }
@@ -136,24 +139,20 @@ fn run_alone<R: Threads + Wait + Sync, G: Gate>(
     ensures { (script : ScriptText) → IsSweepTask script task.now
         → IfOk result (IsRunAt (setup_of_task script task.now) place) }
 {
-    let Test {
-        deal,
-        policy,
-        limit,
-        bodies,
-    } = choice_test(alloc, task, place)?;
-    run_threads(rt, alloc, deal, policy, limit, bodies, gate)
+    let test = choice_test(alloc, task, place)?;
+    run_by_caller(rt, alloc, test, serving, gate)
 }
 
-/// Makes the runs of the choices that come next one after another, and counts them, up to one that
-/// is longer than all before it.
-fn count_alone<R: Threads + Wait + Sync, G: Gate>(
+/// Makes the runs of the choices that come next one after another by the caller, and counts them, up
+/// to one that is longer than all before it.
+fn count_alone<R: Wait, G: Gate>(
     rt: &R,
     alloc: Global,
     task: &Task<'_>,
     tally: &mut Tally,
     reach: Reach,
     ahead: &Ahead,
+    serving: &mut Serving,
     gate: &G,
 ) -> Result<Reach, NoMemory>
     requires script { (script : ScriptText) × IsSweepTask script task.now }
@@ -172,8 +171,9 @@ fn count_alone<R: Threads + Wait + Sync, G: Gate>(
     let mut now = reach;
     for next in 0..ahead.places.len() {
         let place = ahead.places[next];
-        let played = run_alone(rt, alloc, task, place, gate)?;
+        let played = run_alone(rt, alloc, task, place, serving, gate)?;
         now = count_run(task, tally, now, place, &played)?;
+        serving.take_back(played)?;
         if now.longest > reach.longest {
             return Ok(now);
         }
@@ -185,7 +185,8 @@ fn count_alone<R: Threads + Wait + Sync, G: Gate>(
 }
 
 /// Makes the runs of the next choices, at most so many, counts them, and tells how far it came.
-/// They are made at once, or one after another where there is no memory for that.
+/// They are made at once by threads, or one after another by the caller, who serves what comes next,
+/// too, where there is no memory for threads.
 pub fn count_ahead<R: Threads + Wait + Sync, G: Gate>(
     rt: &R,
     alloc: Global,
@@ -193,6 +194,7 @@ pub fn count_ahead<R: Threads + Wait + Sync, G: Gate>(
     tally: &mut Tally,
     reach: Reach,
     most: usize,
+    serving: &mut Serving,
     gate: &G,
 ) -> Result<Reach, NoMemory>
     requires script { (script : ScriptText) × IsSweepTask script task.now }
@@ -206,8 +208,18 @@ pub fn count_ahead<R: Threads + Wait + Sync, G: Gate>(
         → IfOk result (λ now. HasCounted (setup_of_task script task.now) now tally.new) }
 {
     let ahead = choices_ahead(alloc, task, reach, most)?;
-    match runs_at(rt, alloc, task, ahead.places.as_slice(), gate) {
-        Ok(runs) => count_runs(task, tally, reach, &ahead, runs.as_slice()),
-        Err(NoMemory) => count_alone(rt, alloc, task, tally, reach, &ahead, gate),
+    if serving.is_by_caller() {
+        return count_alone(rt, alloc, task, tally, reach, &ahead, serving, gate);
+    }
+    match runs_at(rt, alloc, task, ahead.places.as_slice(), serving, gate) {
+        Ok(runs) => {
+            let now = count_runs(task, tally, reach, &ahead, runs.as_slice())?;
+            serving.take_all_back(runs)?;
+            Ok(now)
+        }
+        Err(NoMemory) => {
+            serving.leave_to_caller();
+            count_alone(rt, alloc, task, tally, reach, &ahead, serving, gate)
+        }
     }
 }

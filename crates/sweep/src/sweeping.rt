@@ -14,7 +14,7 @@ use script_code::Code;
 use std::alloc::{AllocError as NoMemory, Global};
 use std::sync::Wait;
 use std::thread::Threads;
-use worker_run::batch_size;
+use worker_run::{RUNS_AT_ONCE, Serve, Serving};
 
 /// What all choices of an order and change points lead to.
 #[derive(Debug, Drop)]
@@ -50,10 +50,11 @@ fn next_size(size: usize, most: usize, is_longer: bool) -> usize
 }
 
 /// Runs a script's code under each choice of an order of its threads and of so many change points,
-/// each from 1 to `steps`, in real threads, and counts how the runs end. A run has at most `limit`
-/// steps. Where a point isn't below the length of a run, all greater points repeat the run, which is
-/// made once and counted for each. Threads are started once for a batch of choices, whose runs may
-/// overlap in time. The gate is passed before each post.
+/// each from 1 to `steps`, and counts how the runs end. The bodies are served by threads or by the
+/// caller. A run has at most `limit` steps. Where a point isn't below the length of a run, all
+/// greater points repeat the run, which is made once and counted for each. Threads are started once
+/// for a batch of choices, whose runs may overlap in time; where one couldn't be started, or there
+/// was no memory for threads, the caller serves the rest. The gate is passed before each post.
 pub fn sweep<R: Threads + Wait + Sync, G: Gate>(
     rt: &R,
     alloc: Global,
@@ -62,6 +63,7 @@ pub fn sweep<R: Threads + Wait + Sync, G: Gate>(
     points: u32,
     steps: u32,
     limit: u32,
+    serve: Serve,
     gate: &G,
 ) -> Result<Answer, NoMemory>
     requires script { (script : ScriptText) × AreOf script (listing code.now) deal.now }
@@ -90,7 +92,8 @@ pub fn sweep<R: Threads + Wait + Sync, G: Gate>(
         limit,
         choices,
     };
-    let most = batch_size(limit) as usize;
+    let most = RUNS_AT_ONCE as usize;
+    let mut serving = Serving::new(alloc, serve);
     let mut tally = Tally::new(alloc);
     let mut reach = Reach {
         place: 0,
@@ -98,7 +101,16 @@ pub fn sweep<R: Threads + Wait + Sync, G: Gate>(
     };
     let mut size = 1;
     'batches: while reach.place < choices {
-        let next = count_ahead(rt, alloc, &task, &mut tally, reach, size, gate)?;
+        let next = count_ahead(
+            rt,
+            alloc,
+            &task,
+            &mut tally,
+            reach,
+            size,
+            &mut serving,
+            gate,
+        )?;
         size = next_size(size, most, next.longest > reach.longest);
         reach = next;
     }

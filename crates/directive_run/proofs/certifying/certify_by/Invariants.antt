@@ -3,7 +3,7 @@ use Rattle.script_tree.specs.ScriptText.{ScriptText}
 use Rattle.script_code.specs.Listing.{listing}
 use Rattle.script_body.specs.Bodies.{bodies_of, AreOf}
 use Rattle.directive_run.specs.Tested.{AreFirstCertifyRows}
-use Rattle.directive_run.proofs.certifying.certify.Given as goal
+use Rattle.directive_run.proofs.certifying.certify_by.Given as goal
 
 -- a row for each order before the end of the last batch
 abbrev pub invariant-batches : goal.invariant-batches

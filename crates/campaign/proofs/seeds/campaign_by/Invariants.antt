@@ -4,7 +4,7 @@ use Rattle.script_tree.specs.ScriptText.{ScriptText}
 use Rattle.script_code.specs.Listing.{listing}
 use Rattle.script_body.specs.Bodies.{bodies_of, AreOf}
 use Rattle.campaign.specs.Batches.{AreFirstRows}
-use Rattle.campaign.proofs.seeds.campaign.Given as goal
+use Rattle.campaign.proofs.seeds.campaign_by.Given as goal
 
 -- the rows so far are those of the first seeds, and there is room for the others
 abbrev pub invariant-batches : goal.invariant-batches
