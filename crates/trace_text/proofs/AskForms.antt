@@ -1,37 +1,35 @@
 -- An ask is read of the words of its form, and of nothing else.
-use Rattle.std.specs.Prelude.{codes, map, if◌then◌else◌}
-use Rattle.std.specs.Str.{bytes_eq}
-use Rattle.std.proofs.Common.{◌≡◌, ◌⊎◌, ℕ, ◌≤◌, Bool, true, false, ◌||◌, List, [], ◌∷◌, ℤ, Option}
-use Rattle.std.proofs.Common.{Some, None, refl, ap, ◌∙◌, inl, inr, arith}
-use Rattle.pct_ask.specs.Words.{is_name, is_among}
+use Rattle.std.specs.Prelude.{if◌then◌else◌}
+use Rattle.std.proofs.Common.{◌≡◌, ◌⊎◌, ℕ, ◌≤◌, Bool, true, false, List, [], ◌∷◌, ℤ, Option}
+use Rattle.std.proofs.Common.{Some, None, refl, sym, ap, ◌∙◌, inl, inr}
+use Rattle.pct_ask.specs.Words.{is_name}
 use Rattle.pct_ask.specs.NameLists.{NameLists, list_of, place_of}
-use Rattle.pct_ask.specs.Numbers.{number_text}
-use Rattle.pct_ask.specs.VerdictText.{fault_word}
 use Rattle.pct_ask.specs.VerdictWords.{fault_kind}
-use Rattle.pct_ask.specs.TraceText.{check_word}
 use Rattle.pct_ask.specs.declared.names.NameKind.{NameKind}
-use Rattle.pct_ask.specs.declared.names.NameKind.TheVariants as kinds
 use Rattle.pct_ask.specs.declared.ask.FaultKind.{FaultKind}
+use Rattle.pct_ask.specs.declared.ask.FaultKind.TheVariants.{Overflow, ZeroDivisor, Spin}
 use Rattle.pct_ask.specs.declared.ask.Ask.{Ask}
-use Rattle.pct_ask.specs.declared.ask.Ask.TheVariants as asks
-use Rattle.pct_ask.proofs.laws.SameWords.{same-word}
 use Rattle.pct_ask.proofs.laws.VerdictForms.{fault_word-read}
+use Rattle.trace_text.specs.Verbs.{verb_operands, verb_word, verb_in, listed, mapped, Each, SomeOf}
 use Rattle.trace_text.specs.reader.Numbers.{i64_in}
-use Rattle.trace_text.specs.reader.Asks.{has_form, object_at, object, kind_of, ask_of, bare_ask}
-use Rattle.trace_text.specs.reader.Asks.{holds_of, with_operand, plain_ask, on_object, ask_on_kind}
-use Rattle.trace_text.specs.reader.Asks.{ask_on_one, ask_with_value, both_objects, on_both}
-use Rattle.trace_text.specs.reader.Asks.{ask_on_two}
-use Rattle.trace_text.specs.reader.Asks.{exchange}
-use Rattle.trace_text.specs.reader.Asks.{ask_on_three}
+use Rattle.trace_text.specs.reader.Asks.{has_form, object_at, object, holds_of, plain, operand_in}
+use Rattle.trace_text.specs.reader.Asks.{both, read_as, operands_in, ask_of, made, asked, verb_ask}
+use Rattle.trace_text.specs.reader.Asks.{ask_of_words}
 use Rattle.trace_text.specs.declared.asks.WordsRead.{WordsRead}
 use Rattle.trace_text.specs.declared.asks.WordsRead.TheVariants.{Is, NoForm, UnknownName}
-use Rattle.trace_text.specs.Forms.{Verb, AskForm, verb_word, verb_kind, verb_since, words_of_ask}
-use Rattle.trace_text.specs.Forms.{IsName, IsAskOf, AsksUnknown}
-use Rattle.trace_text.specs.Forms as forms
-use Rattle.trace_text.proofs.Values.{Some-i64_in}
-use Rattle.trace_text.proofs.AskWords.{Among, kind-among, holds-by}
-use Rattle.trace_text.proofs.KnownAsks.{second}
-use Rattle.trace_text.proofs.KnownAsks.{ask_in}
+use Rattle.trace_text.specs.declared.verbs.Verb.{Verb}
+use Rattle.trace_text.specs.declared.verbs.OperandKind.{OperandKind}
+use Rattle.trace_text.specs.declared.verbs.OperandKind.TheVariants as kinds
+use Rattle.trace_text.specs.declared.verbs.Operand.{Operand}
+use Rattle.trace_text.specs.declared.verbs.Operand.TheVariants as operands
+use Rattle.trace_text.specs.declared.verbs.Operands.{Operands}
+use Rattle.trace_text.specs.declared.verbs.Operands.TheVariants.{Bare, One, Two, Three}
+use Rattle.trace_text.specs.Forms.{OperandForm, Name, Value, Holds, Cause, AskForm, ask_form}
+use Rattle.trace_text.specs.Forms.{operand_word, words_of_ask, IsName, IsOperandForm, IsAskOf}
+use Rattle.trace_text.specs.Forms.{IsUnknownOperand, AsksUnknown}
+use Rattle.trace_text.proofs.Values.{Some-i64_in, i64_in-Some}
+use Rattle.trace_text.proofs.VerbTable.{verb-told, verb-found, known-since, since-known, makes}
+use Rattle.trace_text.proofs.AskWords.{holds-word, operands-told, ask_in, listed-ask, HasFewWords}
 
 -- words with no form, and words whose names are known
 no-form : {A : Type 0} (read : WordsRead A) → NoForm ≡ read → has_form read ≡ true → ⊥
@@ -41,18 +39,6 @@ no-form UnknownName e form = cc
 
 not-unknown : {A : Type 0} (x : A) (read : WordsRead A) → Is x ≡ read → read ≡ UnknownName → ⊥
 not-unknown x read e unknown = cc
-
-either : {A B C D : Type 0} → (A → C) → (B → D) → A ⊎ B → C ⊎ D
-either f g (inl x) = inl (f x)
-either f g (inr y) = inr (g y)
-
-pub first-or-second : (version : ℕ) → (version ≡ 1) ⊎ (version ≡ 2) → 1 ≤ version
-first-or-second version (inl one) = omega arith
-first-or-second version (inr two) = omega arith
-
-pub not-first : (version : ℕ) → (version ≡ 1) ⊎ (version ≡ 2) → 2 ≤ version → version ≡ 2
-not-first version (inl one) h = absurd (omega arith)
-not-first version (inr two) h = two
 
 -- ---- an object
 
@@ -81,83 +67,266 @@ pub placed-form : (place : Option ℕ) → has_form (object_at place) ≡ true
 placed-form None = refl
 placed-form (Some id) = refl
 
--- ---- verbs
+-- ---- what is read has a form, and an unknown name
 
-abbrev HasAll : (Verb → Type 0) → List Verb → Type 0
-HasAll P [] = Unit {0}
-HasAll P (verb ∷ verbs) = P verb × HasAll P verbs
+read_as-form : {A B : Type 0} (make : A → B) (read : WordsRead A)
+    → has_form (read_as make read) ≡ has_form read
+read_as-form make (Is x) = refl
+read_as-form make NoForm = refl
+read_as-form make UnknownName = refl
 
-among-by : (word : List ℕ) (P : Verb → Type 0) (verb : Verb) (verbs : List Verb) (b : Bool) → P verb
-    → bytes_eq word (verb_word verb) ≡ b → (b || is_among word (map verb_word verbs)) ≡ true
-    → (is_among word (map verb_word verbs) ≡ true → (v : Verb) × (word ≡ verb_word v) × P v)
-    → (v : Verb) × (word ≡ verb_word v) × P v
-among-by word P verb verbs true p e h others = (verb, same-word word (verb_word verb) e, p)
-among-by word P verb verbs false p e h others = others h
+read_as-unknown : {A B : Type 0} (make : A → B) (read : WordsRead A)
+    → read_as make read ≡ UnknownName → read ≡ UnknownName
+read_as-unknown make (Is x) h = absurd cc
+read_as-unknown make NoForm h = absurd cc
+read_as-unknown make UnknownName h = refl
 
-verb-among : (word : List ℕ) (P : Verb → Type 0) (verbs : List Verb) → HasAll P verbs
-    → is_among word (map verb_word verbs) ≡ true → (v : Verb) × (word ≡ verb_word v) × P v
-verb-among word P [] all h = absurd cc
-verb-among word P (verb ∷ verbs) all h =
-    among-by word P verb verbs (bytes_eq word (verb_word verb)) all.0 refl h
-    (λ later. verb-among word P verbs all.1 later)
+both-form : {A B : Type 0} (a : WordsRead A) (b : WordsRead B) → has_form (both a b) ≡ true
+    → (has_form a ≡ true) × (has_form b ≡ true)
+both-form (Is x) (Is y) h = (refl, refl)
+both-form (Is x) UnknownName h = (refl, refl)
+both-form UnknownName (Is y) h = (refl, refl)
+both-form UnknownName UnknownName h = (refl, refl)
+both-form a b h = absurd cc
 
-abbrev IsVerb : ℕ → NameKind → Verb → Type 0
-IsVerb version kind verb = (verb_kind verb ≡ kind) × (verb_since verb ≤ version)
+form-both : {A B : Type 0} (a : WordsRead A) (b : WordsRead B) → has_form a ≡ true
+    → has_form b ≡ true → has_form (both a b) ≡ true
+form-both (Is x) (Is y) p q = refl
+form-both (Is x) UnknownName p q = refl
+form-both UnknownName (Is y) p q = refl
+form-both UnknownName UnknownName p q = refl
+form-both NoForm b p q = absurd cc
+form-both (Is x) NoForm p q = absurd cc
+form-both UnknownName NoForm p q = absurd cc
 
-verb-of : (version : ℕ) (word : List ℕ) (kind : NameKind) → 1 ≤ version → Among version word kind
-    → (v : Verb) × (word ≡ verb_word v) × IsVerb version kind v
-verb-of version word kinds.Thread some h =
-    verb-among word (IsVerb version kinds.Thread) (forms.Join ∷ forms.Start ∷ [])
-    ((refl, some), ((refl, some), tt)) h.0
-verb-of version word kinds.Var some h =
-    verb-among word (IsVerb version kinds.Var) (forms.Read ∷ []) ((refl, some), tt) h.0
-verb-of version word kinds.Mutex some h =
-    verb-among word (IsVerb version kinds.Mutex) (forms.Lock ∷ forms.TryLock ∷ forms.Unlock ∷ [])
-    ((refl, some), ((refl, some), ((refl, some), tt))) h.0
-verb-of version word kinds.Cond some h =
-    verb-among word (IsVerb version kinds.Cond) (forms.Signal ∷ forms.Broadcast ∷ [])
-    ((refl, some), ((refl, some), tt)) h.0
-verb-of version word kinds.Sem some h =
-    verb-among word (IsVerb version kinds.Sem) (forms.Down ∷ forms.TryDown ∷ forms.Up ∷ [])
-    ((refl, some), ((refl, some), ((refl, some), tt))) h.0
-verb-of version word kinds.Barrier some h =
-    verb-among word (IsVerb version kinds.Barrier) (forms.Arrive ∷ forms.Leave ∷ [])
-    ((refl, some), ((refl, some), tt)) h.0
-verb-of version word kinds.RwLock some h =
-    let two : 2 ≤ version = let v = h.1 in omega arith in
-    verb-among word (IsVerb version kinds.RwLock)
-    (forms.RdLock ∷ forms.WrLock ∷ forms.TryRdLock ∷ forms.TryWrLock ∷ forms.RwUnlock ∷ [])
-    ((refl, two), ((refl, two), ((refl, two), ((refl, two), ((refl, two), tt))))) h.0
+both-unknown : {A B : Type 0} (a : WordsRead A) (b : WordsRead B) → both a b ≡ UnknownName
+    → (a ≡ UnknownName) ⊎ (b ≡ UnknownName)
+both-unknown UnknownName b h = inl refl
+both-unknown (Is x) UnknownName h = inr refl
+both-unknown a b h = absurd cc
 
-kind-second : (version : ℕ) (verb : Verb) → (version ≡ 1) ⊎ (version ≡ 2) → 2 ≤ version
-    → kind_of 2 (verb_word verb) ≡ Some (verb_kind verb)
-    → kind_of version (verb_word verb) ≡ Some (verb_kind verb)
-kind-second version verb which h k =
-    second version (verb_word verb) (Some (verb_kind verb)) (not-first version which h) k
+unknown-both : {A B : Type 0} (a : WordsRead A) (b : WordsRead B) → has_form a ≡ true
+    → has_form b ≡ true → (a ≡ UnknownName) ⊎ (b ≡ UnknownName) → both a b ≡ UnknownName
+unknown-both (Is x) (Is y) p q (inl h) = absurd cc
+unknown-both (Is x) (Is y) p q (inr h) = absurd cc
+unknown-both (Is x) UnknownName p q h = refl
+unknown-both UnknownName (Is y) p q h = refl
+unknown-both UnknownName UnknownName p q h = refl
+unknown-both NoForm b p q h = absurd cc
+unknown-both (Is x) NoForm p q h = absurd cc
+unknown-both UnknownName NoForm p q h = absurd cc
 
-pub kind-verb : (version : ℕ) (verb : Verb) → (version ≡ 1) ⊎ (version ≡ 2)
-    → verb_since verb ≤ version
-    → kind_of version (verb_word verb) ≡ Some (verb_kind verb)
-kind-verb version forms.Read which h = refl
-kind-verb version forms.Lock which h = refl
-kind-verb version forms.TryLock which h = refl
-kind-verb version forms.Unlock which h = refl
-kind-verb version forms.Signal which h = refl
-kind-verb version forms.Broadcast which h = refl
-kind-verb version forms.Down which h = refl
-kind-verb version forms.TryDown which h = refl
-kind-verb version forms.Up which h = refl
-kind-verb version forms.Arrive which h = refl
-kind-verb version forms.Leave which h = refl
-kind-verb version forms.Join which h = refl
-kind-verb version forms.Start which h = refl
-kind-verb version forms.RdLock which h = kind-second version forms.RdLock which h refl
-kind-verb version forms.WrLock which h = kind-second version forms.WrLock which h refl
-kind-verb version forms.TryRdLock which h = kind-second version forms.TryRdLock which h refl
-kind-verb version forms.TryWrLock which h = kind-second version forms.TryWrLock which h refl
-kind-verb version forms.RwUnlock which h = kind-second version forms.RwUnlock which h refl
+plain-form : {A : Type 0} (make : A → Operand) (read : Option A)
+    → has_form (plain make read) ≡ true → (x : A) × (read ≡ Some x)
+plain-form make None h = absurd cc
+plain-form make (Some x) h = (x, refl)
 
--- ---- what is read as an ask is one by form
+plain-known : {A : Type 0} (make : A → Operand) (read : Option A)
+    → plain make read ≡ UnknownName → ⊥
+plain-known make None h = cc
+plain-known make (Some x) h = cc
+
+-- ---- an operand
+
+-- the word is that of an operand by form, which is an unknown name where one was read
+record IsOperandWord (names : NameLists) (kind : OperandKind) (word : List ℕ)
+    (read : WordsRead Operand) : Type 0 where
+  form : OperandForm
+  word_is : word ≡ operand_word form
+  of : IsOperandForm kind form
+  unknown : read ≡ UnknownName → IsUnknownOperand names kind form
+
+operand-form : (names : NameLists) (kind : OperandKind) (word : List ℕ)
+    → has_form (operand_in names kind word) ≡ true
+    → IsOperandWord names kind word (operand_in names kind word)
+operand-form names (kinds.Object kind) word h =
+    let place = λ (id : ℕ). operands.Place id in
+    let o = object-inv names kind word (sym (read_as-form place (object names kind word)) ∙ h) in
+    record {
+      form = Name word;
+      word_is = refl;
+      of = o.0;
+      unknown = λ none. o.1 (read_as-unknown place (object names kind word) none);
+    }
+operand-form names kinds.Value word h =
+    let make = λ (z : ℤ). operands.Value z in
+    let i = plain-form make (i64_in word) h in
+    let v = Some-i64_in word i.0 i.1 in
+    record {
+      form = Value i.0;
+      word_is = v.0;
+      of = v.1;
+      unknown = λ none. absurd (plain-known make (i64_in word) none);
+    }
+operand-form names kinds.Holds word h =
+    let make = λ (b : Bool). operands.Holds b in
+    let i = plain-form make (holds_of word) h in
+    record {
+      form = Holds i.0;
+      word_is = holds-word word i.0 i.1;
+      of = tt;
+      unknown = λ none. absurd (plain-known make (holds_of word) none);
+    }
+operand-form names kinds.Cause word h =
+    let make = λ (k : FaultKind). operands.Cause k in
+    let i = plain-form make (fault_kind word) h in
+    record {
+      form = Cause i.0;
+      word_is = fault_word-read word i.0 i.1;
+      of = tt;
+      unknown = λ none. absurd (plain-known make (fault_kind word) none);
+    }
+
+-- what is read of the word of an operand by form: an unknown name where it is one
+record IsOperandRead (names : NameLists) (kind : OperandKind) (form : OperandForm) : Type 0 where
+  has : has_form (operand_in names kind (operand_word form)) ≡ true
+  unknown : IsUnknownOperand names kind form
+      → operand_in names kind (operand_word form) ≡ UnknownName
+
+operand-read : (names : NameLists) (kind : OperandKind) (form : OperandForm)
+    → IsOperandForm kind form → IsOperandRead names kind form
+operand-read names (kinds.Object kind) (Name name) of =
+    let place = λ (id : ℕ). operands.Place id in
+    let at = object-lawful names kind name of in
+    record {
+      has = ap (λ (o : WordsRead ℕ). has_form (read_as place o)) at
+          ∙ read_as-form place (object_at (place_of name (list_of kind names)))
+          ∙ placed-form (place_of name (list_of kind names));
+      unknown = λ none. ap (λ (o : WordsRead ℕ). read_as place o) at
+          ∙ ap (λ (p : Option ℕ). read_as place (object_at p)) none;
+    }
+operand-read names kinds.Value (Value z) of = record {
+  has = ap (λ (o : Option ℤ). has_form (plain (λ (v : ℤ). operands.Value v) o)) (i64_in-Some z of);
+  unknown = λ none. absurd none;
+}
+operand-read names kinds.Holds (Holds true) of = record
+    { has = refl; unknown = λ none. absurd none }
+operand-read names kinds.Holds (Holds false) of = record
+    { has = refl; unknown = λ none. absurd none }
+operand-read names kinds.Cause (Cause Overflow) of = record
+    { has = refl; unknown = λ none. absurd none }
+operand-read names kinds.Cause (Cause ZeroDivisor) of = record
+    { has = refl; unknown = λ none. absurd none }
+operand-read names kinds.Cause (Cause Spin) of = record
+    { has = refl; unknown = λ none. absurd none }
+operand-read names kind form of = absurd of
+
+-- ---- the operands of an ask
+
+record AreOperandWords (names : NameLists) (ks : Operands OperandKind) (words : Operands (List ℕ))
+    (read : WordsRead (Operands Operand)) : Type 0 where
+  forms : Operands OperandForm
+  words_are : words ≡ mapped operand_word forms
+  of : Each IsOperandForm ks forms
+  unknown : read ≡ UnknownName → SomeOf (IsUnknownOperand names) ks forms
+
+either : {A B C D : Type 0} → (A → C) → (B → D) → A ⊎ B → C ⊎ D
+either f g (inl x) = inl (f x)
+either f g (inr y) = inr (g y)
+
+operands-form : (names : NameLists) (ks : Operands OperandKind) (words : Operands (List ℕ))
+    → has_form (operands_in names ks words) ≡ true
+    → AreOperandWords names ks words (operands_in names ks words)
+operands-form names Bare Bare h = record {
+  forms = Bare;
+  words_are = refl;
+  of = tt;
+  unknown = λ none. absurd cc;
+}
+operands-form names (One k) (One a) h =
+    let make = λ (o : Operand). One o in
+    let p = operand_in names k a in
+    let x = operand-form names k a (sym (read_as-form make p) ∙ h) in
+    record {
+      forms = One x.form;
+      words_are = ap (λ w. One w) x.word_is;
+      of = x.of;
+      unknown = λ none. x.unknown (read_as-unknown make p none);
+    }
+operands-form names (Two k l) (Two a b) h =
+    let make = λ (o : Operand × Operand). Two o.0 o.1 in
+    let p = operand_in names k a in
+    let q = operand_in names l b in
+    let f = both-form p q (sym (read_as-form make (both p q)) ∙ h) in
+    let x = operand-form names k a f.0 in
+    let y = operand-form names l b f.1 in
+    record {
+      forms = Two x.form y.form;
+      words_are = ap (λ w. Two w b) x.word_is ∙ ap (λ w. Two (operand_word x.form) w) y.word_is;
+      of = (x.of, y.of);
+      unknown = λ none. either x.unknown y.unknown
+          (both-unknown p q (read_as-unknown make (both p q) none));
+    }
+operands-form names (Three k l m) (Three a b c) h =
+    let make = λ (o : Operand × (Operand × Operand)). Three o.0 o.1.0 o.1.1 in
+    let p = operand_in names k a in
+    let q = operand_in names l b in
+    let r = operand_in names m c in
+    let f = both-form p (both q r) (sym (read_as-form make (both p (both q r))) ∙ h) in
+    let g = both-form q r f.1 in
+    let x = operand-form names k a f.0 in
+    let y = operand-form names l b g.0 in
+    let z = operand-form names m c g.1 in
+    record {
+      forms = Three x.form y.form z.form;
+      words_are = ap (λ w. Three w b c) x.word_is
+          ∙ ap (λ w. Three (operand_word x.form) w c) y.word_is
+          ∙ ap (λ w. Three (operand_word x.form) (operand_word y.form) w) z.word_is;
+      of = (x.of, y.of, z.of);
+      unknown = λ none. either x.unknown
+          (λ (others : both q r ≡ UnknownName). either y.unknown z.unknown
+          (both-unknown q r others))
+          (both-unknown p (both q r) (read_as-unknown make (both p (both q r)) none));
+    }
+operands-form names ks words h = absurd cc
+
+record AreOperandsRead (names : NameLists) (ks : Operands OperandKind)
+    (forms : Operands OperandForm) : Type 0 where
+  has : has_form (operands_in names ks (mapped operand_word forms)) ≡ true
+  unknown : SomeOf (IsUnknownOperand names) ks forms
+      → operands_in names ks (mapped operand_word forms) ≡ UnknownName
+
+operands-read : (names : NameLists) (ks : Operands OperandKind) (forms : Operands OperandForm)
+    → Each IsOperandForm ks forms → AreOperandsRead names ks forms
+operands-read names Bare Bare of = record { has = refl; unknown = λ none. absurd none }
+operands-read names (One k) (One a) of =
+    let make = λ (o : Operand). One o in
+    let x = operand-read names k a of in
+    record {
+      has = read_as-form make (operand_in names k (operand_word a)) ∙ x.has;
+      unknown = λ none. ap (read_as make) (x.unknown none);
+    }
+operands-read names (Two k l) (Two a b) of =
+    let make = λ (o : Operand × Operand). Two o.0 o.1 in
+    let p = operand_in names k (operand_word a) in
+    let q = operand_in names l (operand_word b) in
+    let x = operand-read names k a of.0 in
+    let y = operand-read names l b of.1 in
+    record {
+      has = read_as-form make (both p q) ∙ form-both p q x.has y.has;
+      unknown = λ none. ap (read_as make)
+          (unknown-both p q x.has y.has (either x.unknown y.unknown none));
+    }
+operands-read names (Three k l m) (Three a b c) of =
+    let make = λ (o : Operand × (Operand × Operand)). Three o.0 o.1.0 o.1.1 in
+    let p = operand_in names k (operand_word a) in
+    let q = operand_in names l (operand_word b) in
+    let r = operand_in names m (operand_word c) in
+    let x = operand-read names k a of.0 in
+    let y = operand-read names l b of.1 in
+    let z = operand-read names m c of.2 in
+    let others = form-both q r y.has z.has in
+    record {
+      has = read_as-form make (both p (both q r)) ∙ form-both p (both q r) x.has others;
+      unknown = λ none. ap (read_as make)
+          (unknown-both p (both q r) x.has others
+          (either x.unknown
+          (λ (some : IsUnknownOperand names l b ⊎ IsUnknownOperand names m c).
+          unknown-both q r y.has z.has (either y.unknown z.unknown some)) none));
+    }
+operands-read names ks forms of = absurd of
+
+-- ---- an ask
 
 -- the words are those of an ask by form, which has an unknown name where one was read
 pub record IsAskWords (names : NameLists) (version : ℕ) (words : List (List ℕ))
@@ -167,264 +336,98 @@ pub record IsAskWords (names : NameLists) (version : ℕ) (words : List (List �
   pub of : IsAskOf version ask
   pub unknown : read ≡ UnknownName → AsksUnknown names ask
 
-pair : (a b x y : List ℕ) → a ≡ x → b ≡ y → a ∷ b ∷ [] ≡ x ∷ y ∷ []
-pair a b x y p q = rw (p, q)
+asked-form : (verb : Verb) (read : WordsRead (Operands Operand)) → has_form (asked verb read) ≡ true
+    → has_form read ≡ true
+asked-form verb (Is operands) h = refl
+asked-form verb NoForm h = absurd cc
+asked-form verb UnknownName h = refl
 
-triple : (a b c x y z : List ℕ) → a ≡ x → b ≡ y → c ≡ z → a ∷ b ∷ c ∷ [] ≡ x ∷ y ∷ z ∷ []
-triple a b c x y z p q r = rw (p, q, r)
+made-known : (ask : Option Ask) → made ask ≡ UnknownName → ⊥
+made-known None h = cc
+made-known (Some ask) h = cc
 
-four : (a b c d x y z w : List ℕ) → a ≡ x → b ≡ y → c ≡ z → d ≡ w
-    → a ∷ b ∷ c ∷ d ∷ [] ≡ x ∷ y ∷ z ∷ w ∷ []
-four a b c d x y z w p q r s = rw (p, q, r, s)
+asked-unknown : (verb : Verb) (read : WordsRead (Operands Operand))
+    → asked verb read ≡ UnknownName → read ≡ UnknownName
+asked-unknown verb (Is operands) h = absurd (made-known (ask_of verb operands) h)
+asked-unknown verb NoForm h = absurd cc
+asked-unknown verb UnknownName h = refl
 
-bare-form : (names : NameLists) (version : ℕ) (word : List ℕ) (read : WordsRead Ask)
-    → bare_ask word ≡ read → has_form read ≡ true → IsAskWords names version (word ∷ []) read
-bare-form names version word read h form = by (bytes_eq word (codes "yield"))
-    (bytes_eq word (codes "begin")) refl refl h
+words-form : (names : NameLists) (version : ℕ) (word : List ℕ) (words : Operands (List ℕ))
+    (read : WordsRead Ask) → 1 ≤ version → ask_of_words names version word words ≡ read
+    → has_form read ≡ true → IsAskWords names version (word ∷ listed words) read
+unfolding ask_of_words
+words-form names version word words read some h form = by (verb_in version word) refl h
   where
-    by : (a b : Bool) → bytes_eq word (codes "yield") ≡ a → bytes_eq word (codes "begin") ≡ b
-        → (if◌then◌else◌ {A = WordsRead Ask} a (Is asks.Yield)
-        (if b then Is asks.Begin else NoForm)) ≡ read → IsAskWords names version (word ∷ []) read
-    by true b ea eb k = record {
-      ask = forms.Yield;
-      words_are =
-          ap (λ w. w ∷ []) (same-word word (codes "yield") ea);
-      of = tt;
-      unknown =
-          λ unknown. absurd (not-unknown asks.Yield read k unknown);
-    }
-    by false true ea eb k = record {
-      ask = forms.Begin;
-      words_are =
-          ap (λ w. w ∷ []) (same-word word (codes "begin") eb);
-      of = tt;
-      unknown =
-          λ unknown. absurd (not-unknown asks.Begin read k unknown);
-    }
-    by false false ea eb k = absurd (no-form read k form)
-
-operand-inv : {A : Type 0} (ask : A → Ask) (operand : Option A) (read : WordsRead Ask)
-    → with_operand ask operand ≡ read → has_form read ≡ true
-    → (x : A) × (operand ≡ Some x) × (Is (ask x) ≡ read)
-operand-inv ask None read h form = absurd (no-form read h form)
-operand-inv ask (Some x) read h form = (x, refl, h)
-
-plain-form : (names : NameLists) (version : ℕ) (word operand : List ℕ) (read : WordsRead Ask)
-    → plain_ask word operand ≡ read → has_form read ≡ true
-    → IsAskWords names version (word ∷ operand ∷ []) read
-plain-form names version word operand read h form =
-    by (bytes_eq word (codes "check")) (bytes_eq word (codes "fault")) refl refl h
-  where
-    by : (a b : Bool) → bytes_eq word (codes "check") ≡ a → bytes_eq word (codes "fault") ≡ b
-        → (if◌then◌else◌ {A = WordsRead Ask} a (with_operand asks.Check (holds_of operand))
-        (if b then with_operand asks.Fault (fault_kind operand) else NoForm)) ≡ read
-        → IsAskWords names version (word ∷ operand ∷ []) read
-    by true b ea eb k =
-        let m = operand-inv (λ (holds : Bool). asks.Check holds) (holds_of operand) read k form in
-        let spelled = holds-by operand m.0 (bytes_eq operand (codes "1"))
-        (bytes_eq operand (codes "0")) refl refl m.1 in
+    by : (found : Option Verb) → verb_in version word ≡ found → verb_ask names found words ≡ read
+        → IsAskWords names version (word ∷ listed words) read
+    by None e k = absurd (no-form read k form)
+    by (Some verb) e k =
+        let v = verb-told version word verb e in
+        let o = operands-form names (verb_operands verb) words
+        (asked-form verb (operands_in names (verb_operands verb) words) (ap has_form k ∙ form)) in
         record {
-          ask = forms.Check m.0;
-          words_are =
-              pair word operand (codes "check") (check_word m.0) (same-word word (codes "check") ea)
-              spelled;
-          of = tt;
-          unknown = λ unknown. absurd
-              (not-unknown (asks.Check m.0) read m.2 unknown);
+          ask = ask_form verb o.forms;
+          words_are = ap (λ w. w ∷ listed words) v.0
+              ∙ ap (λ ws. verb_word verb ∷ listed ws) o.words_are;
+          of = (known-since version verb some v.1, o.of);
+          unknown = λ unknown. o.unknown
+              (asked-unknown verb (operands_in names (verb_operands verb) words) (k ∙ unknown));
         }
-    by false true ea eb k =
-        let m = operand-inv (λ (kind : FaultKind). asks.Fault kind) (fault_kind operand) read k
-        form in
-        let spelled = fault_word-read operand m.0 m.1 in
-        record {
-          ask = forms.Fault m.0;
-          words_are =
-              pair word operand (codes "fault") (fault_word m.0) (same-word word (codes "fault") eb)
-              spelled;
-          of = tt;
-          unknown = λ unknown. absurd
-              (not-unknown (asks.Fault m.0) read m.2 unknown);
-        }
-    by false false ea eb k = absurd (no-form read k form)
-
--- an ask of an object has its form, and an unknown name only of it
-place-inv : (ask : ℕ → Ask) (place : WordsRead ℕ) (read : WordsRead Ask)
-    → on_object ask place ≡ read → has_form read ≡ true
-    → (has_form place ≡ true) × (read ≡ UnknownName → place ≡ UnknownName)
-place-inv ask (Is x) read h form = (refl, λ unknown. absurd (not-unknown (ask x) read h unknown))
-place-inv ask NoForm read h form = absurd (no-form read h form)
-place-inv ask UnknownName read h form = (refl, λ unknown. refl)
-
-on-form : (names : NameLists) (version : ℕ) (kind : NameKind) (word operand : List ℕ)
-    (read : WordsRead Ask) → 1 ≤ version → kind_of version word ≡ Some kind
-    → ask_on_kind names (Some kind) word operand ≡ read → has_form read ≡ true
-    → IsAskWords names version (word ∷ operand ∷ []) read
-on-form names version kind word operand read some k h form =
-    let m = place-inv (ask_of kind word) (object names kind operand) read h form in
-    let o = object-inv names kind operand m.0 in
-    let verb = verb-of version word kind some (kind-among version word kind k) in
-    record {
-      ask = forms.On verb.0 operand;
-      words_are = ap (λ w. w ∷ operand ∷ []) verb.1;
-      of = (verb.2.1, o.0);
-      unknown = λ unknown. ap (λ kd. place_of operand (list_of kd names)) verb.2.0
-          ∙ o.1 (m.1 unknown);
-    }
-
-one-form : (names : NameLists) (version : ℕ) (word operand : List ℕ) (read : WordsRead Ask)
-    → 1 ≤ version → ask_on_one names version word operand ≡ read → has_form read ≡ true
-    → IsAskWords names version (word ∷ operand ∷ []) read
-unfolding ask_on_one
-one-form names version word operand read some h form = by (kind_of version word) refl h
-  where
-    by : (kind : Option NameKind) → kind_of version word ≡ kind
-        → ask_on_kind names kind word operand ≡ read
-        → IsAskWords names version (word ∷ operand ∷ []) read
-    by None k b = plain-form names version word operand read b form
-    by (Some kind) k b = on-form names version kind word operand read some k b form
-
-value-inv : (ask : ℕ → ℤ → Ask) (place : WordsRead ℕ) (value : Option ℤ) (read : WordsRead Ask)
-    → ask_with_value ask place value ≡ read → has_form read ≡ true
-    → (v : ℤ) × (value ≡ Some v) × (has_form place ≡ true) × (read ≡ UnknownName
-    → place ≡ UnknownName)
-value-inv ask place None read h form = absurd (no-form read h form)
-value-inv ask place (Some v) read h form = let m =
-    place-inv (λ x. ask x v) place read h form in (v, refl, m.0, m.1)
-
-on_both-inv : (ask : ℕ → ℕ → Ask) (c m : WordsRead ℕ) (read : WordsRead Ask)
-    → on_both ask (both_objects c m) ≡ read
-    → has_form read ≡ true → (has_form c ≡ true) × (has_form m ≡ true) × (read ≡ UnknownName
-    → (c ≡ UnknownName) ⊎ (m ≡ UnknownName))
-on_both-inv ask NoForm m read h form = absurd (no-form read h form)
-on_both-inv ask UnknownName (Is y) read h form = (refl, refl, λ unknown. inl refl)
-on_both-inv ask UnknownName NoForm read h form = absurd (no-form read h form)
-on_both-inv ask UnknownName UnknownName read h form = (refl, refl, λ unknown. inl refl)
-on_both-inv ask (Is x) (Is y) read h form = (
-  refl,
-  refl,
-  λ unknown. absurd
-      (not-unknown (ask x y) read h unknown),
-)
-on_both-inv ask (Is x) NoForm read h form = absurd (no-form read h form)
-on_both-inv ask (Is x) UnknownName read h form = (refl, refl, λ unknown. inr refl)
-
-two-by : (names : NameLists) (version : ℕ) (word a b : List ℕ) (read : WordsRead Ask)
-    (w p r g : Bool) → has_form read ≡ true → bytes_eq word (codes "write") ≡ w
-    → bytes_eq word (codes "add") ≡ p → bytes_eq word (codes "release") ≡ r
-    → bytes_eq word (codes "regain") ≡ g
-    → (if w then ask_with_value asks.Write (object names kinds.Var a) (i64_in b) else
-    (if p then ask_with_value asks.Add (object names kinds.Var a) (i64_in b) else
-    (if r then on_both asks.Release (both_objects (object names kinds.Cond a)
-    (object names kinds.Mutex b))
-    else (if g
-    then on_both asks.Regain (both_objects (object names kinds.Cond a) (object names kinds.Mutex b))
-    else NoForm)))) ≡ read → IsAskWords names version (word ∷ a ∷ b ∷ []) read
-two-by names version word a b read true p r g form ew ep er eg h =
-    let i = value-inv asks.Write (object names kinds.Var a) (i64_in b) read h form in
-    let o = object-inv names kinds.Var a i.2 in
-    let v = Some-i64_in b i.0 i.1 in
-    record {
-      ask = forms.Write a i.0;
-      words_are =
-          triple word a b (codes "write") a (number_text i.0) (same-word word (codes "write") ew)
-          refl
-          v.0;
-      of = (o.0, v.1);
-      unknown = λ unknown. o.1 (i.3 unknown);
-    }
-two-by names version word a b read false true r g form ew ep er eg h =
-    let i = value-inv asks.Add (object names kinds.Var a) (i64_in b) read h form in
-    let o = object-inv names kinds.Var a i.2 in
-    let v = Some-i64_in b i.0 i.1 in
-    record {
-      ask = forms.Add a i.0;
-      words_are =
-          triple word a b (codes "add") a (number_text i.0) (same-word word (codes "add") ep) refl
-          v.0;
-      of = (o.0, v.1);
-      unknown = λ unknown. o.1 (i.3 unknown);
-    }
-two-by names version word a b read false false true g form ew ep er eg h =
-    let i = on_both-inv asks.Release (object names kinds.Cond a) (object names kinds.Mutex b) read h
-    form in
-    let c = object-inv names kinds.Cond a i.0 in
-    let m = object-inv names kinds.Mutex b i.1 in
-    record {
-      ask = forms.Release a b;
-      words_are =
-          ap (λ x. x ∷ a ∷ b ∷ []) (same-word word (codes "release") er);
-      of = (c.0, m.0);
-      unknown =
-          λ unknown. either c.1 m.1 (i.2 unknown);
-    }
-two-by names version word a b read false false false true form ew ep er eg h =
-    let i = on_both-inv asks.Regain (object names kinds.Cond a) (object names kinds.Mutex b) read h
-    form in
-    let c = object-inv names kinds.Cond a i.0 in
-    let m = object-inv names kinds.Mutex b i.1 in
-    record {
-      ask = forms.Regain a b;
-      words_are =
-          ap (λ x. x ∷ a ∷ b ∷ []) (same-word word (codes "regain") eg);
-      of = (c.0, m.0);
-      unknown =
-          λ unknown. either c.1 m.1 (i.2 unknown);
-    }
-two-by names version word a b read false false false false form ew ep er eg h =
-    absurd (no-form read h form)
-
-two-form : (names : NameLists) (version : ℕ) (word a b : List ℕ) (read : WordsRead Ask)
-    → ask_on_two names word a b ≡ read → has_form read ≡ true
-    → IsAskWords names version (word ∷ a ∷ b ∷ []) read
-unfolding ask_on_two
-two-form names version word a b read h form =
-    two-by names version word a b read (bytes_eq word (codes "write")) (bytes_eq word (codes "add"))
-    (bytes_eq word (codes "release")) (bytes_eq word (codes "regain")) form refl refl refl refl
-    h
-
-exchange-inv : (place : WordsRead ℕ) (old new : Option ℤ) (read : WordsRead Ask)
-    → exchange place old new ≡ read → has_form read ≡ true
-    → (u : ℤ) × (v : ℤ) × (old ≡ Some u) × (new ≡ Some v) × (has_form
-    place ≡ true) × (read ≡ UnknownName → place ≡ UnknownName)
-exchange-inv place None new read h form = absurd (no-form read h form)
-exchange-inv place (Some u) None read h form = absurd (no-form read h form)
-exchange-inv place (Some u) (Some v) read h form = let m =
-    place-inv (λ x. asks.Cas x u v) place read h form in (u, v, refl, refl, m.0, m.1)
-
-three-by : (names : NameLists) (version : ℕ) (word a b c : List ℕ) (read : WordsRead Ask) (w : Bool)
-    → has_form read ≡ true → bytes_eq word (codes "cas") ≡ w
-    → (if w then exchange (object names kinds.Var a) (i64_in b) (i64_in c) else NoForm) ≡ read
-    → IsAskWords names version (word ∷ a ∷ b ∷ c ∷ []) read
-three-by names version word a b c read true form ew h =
-    let i = exchange-inv (object names kinds.Var a) (i64_in b) (i64_in c) read h form in
-    let o = object-inv names kinds.Var a i.4 in
-    let u = Some-i64_in b i.0 i.2 in
-    let v = Some-i64_in c i.1 i.3 in
-    record {
-      ask = forms.Cas a i.0 i.1;
-      words_are =
-          four word a b c (codes "cas") a (number_text i.0) (number_text i.1)
-          (same-word word (codes "cas") ew) refl u.0 v.0;
-      of = (o.0, u.1, v.1);
-      unknown =
-          λ unknown. o.1 (i.5 unknown);
-    }
-three-by names version word a b c read false form ew h = absurd (no-form read h form)
-
-three-form : (names : NameLists) (version : ℕ) (word a b c : List ℕ) (read : WordsRead Ask)
-    → ask_on_three names word a b c ≡ read → has_form read ≡ true
-    → IsAskWords names version (word ∷ a ∷ b ∷ c ∷ []) read
-unfolding ask_on_three
-three-form names version word a b c read h form =
-    three-by names version word a b c read (bytes_eq word (codes "cas")) form refl h
 
 pub ask-form : (names : NameLists) (version : ℕ) (words : List (List ℕ)) (read : WordsRead Ask)
     → 1 ≤ version → ask_in names version words ≡ read → has_form read ≡ true
     → IsAskWords names version words read
-ask-form names version [] read some h form = absurd (no-form read h form)
-ask-form names version (a ∷ []) read some h form = bare-form names version a read h form
-ask-form names version (a ∷ b ∷ []) read some h form = one-form names version a b read some h form
-ask-form names version (a ∷ b ∷ c ∷ []) read some h form = two-form names version a b c read h form
+ask-form names version (a ∷ []) read some h form =
+    words-form names version a Bare read some h form
+ask-form names version (a ∷ b ∷ []) read some h form =
+    words-form names version a (One b) read some h form
+ask-form names version (a ∷ b ∷ c ∷ []) read some h form =
+    words-form names version a (Two b c) read some h form
 ask-form names version (a ∷ b ∷ c ∷ d ∷ []) read some h form =
-    three-form names version a b c d read h form
-ask-form names version (a ∷ b ∷ c ∷ d ∷ e ∷ words) read some h form = absurd (no-form read h form)
+    words-form names version a (Three b c d) read some h form
+ask-form names version words read some h form = absurd (no-form read h form)
+
+-- what is read of the words of an ask by form: an unknown name where it has one
+pub record IsAskRead (names : NameLists) (version : ℕ) (ask : AskForm) : Type 0 where
+  pub read : WordsRead Ask
+  pub is : ask_in names version (words_of_ask ask) ≡ read
+  pub form : has_form read ≡ true
+  pub unknown : AsksUnknown names ask → read ≡ UnknownName
+
+asked-has : (names : NameLists) (verb : Verb) (words : Operands (List ℕ))
+    → has_form (operands_in names (verb_operands verb) words) ≡ true
+    → has_form (asked verb (operands_in names (verb_operands verb) words)) ≡ true
+asked-has names verb words h = by (operands_in names (verb_operands verb) words) refl h
+  where
+    by : (read : WordsRead (Operands Operand)) → operands_in names (verb_operands verb) words ≡ read
+        → has_form read ≡ true → has_form (asked verb read) ≡ true
+    by (Is operands) e k =
+        let t = operands-told names (verb_operands verb) words operands e in
+        let m = makes names verb operands t.are in
+        ap (λ (a : Option Ask). has_form (made a)) m.1
+    by NoForm e k = absurd cc
+    by UnknownName e k = refl
+
+pub ask-read : (names : NameLists) (version : ℕ) (ask : AskForm) → (version ≡ 1) ⊎ (version ≡ 2)
+    → IsAskOf version ask → IsAskRead names version ask
+unfolding ask_of_words
+ask-read names version ask which of =
+    let words = mapped operand_word ask.operands in
+    let r = operands-read names (verb_operands ask.verb) ask.operands of.1 in
+    let known = since-known version ask.verb which of.0 in
+    record {
+      read = asked ask.verb (operands_in names (verb_operands ask.verb) words);
+      is = listed-ask names version (verb_word ask.verb) words
+          ∙ ap (λ (v : Option Verb). verb_ask names v words) (verb-found version ask.verb known);
+      form = asked-has names ask.verb words r.has;
+      unknown = λ none. ap (asked ask.verb) (r.unknown none);
+    }
+
+few-listed : (word : List ℕ) (words : Operands (List ℕ)) → HasFewWords (word ∷ listed words)
+few-listed word Bare = tt
+few-listed word (One a) = tt
+few-listed word (Two a b) = tt
+few-listed word (Three a b c) = tt
+
+pub few-ask_words : (ask : AskForm) → HasFewWords (words_of_ask ask)
+few-ask_words ask = few-listed (verb_word ask.verb) (mapped operand_word ask.operands)

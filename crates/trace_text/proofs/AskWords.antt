@@ -1,233 +1,67 @@
 -- An ask is read of its words, and of nothing else.
-use Rattle.std.specs.Prelude.{codes, ◌==◌, ◌&&◌, if◌then◌else◌}
+use Rattle.std.specs.Prelude.{codes, if◌then◌else◌}
 use Rattle.std.specs.Str.{bytes_eq}
-use Rattle.std.proofs.Common.{◌≡◌, ℕ, ◌<◌, Bool, true, false, ◌||◌, List, [], ◌∷◌, length, get_or}
-use Rattle.std.proofs.Common.{ℤ, Option, Some, None, refl, sym, ap, ◌∙◌, arith}
-use Rattle.std.proofs.lemmas.Bool.Decides.{nat_tests}
-use Rattle.std.proofs.lemmas.Option.{same_Some}
-use Rattle.pct_ask.specs.Words.{is_among}
-use Rattle.pct_ask.specs.NameLists.{NameLists, list_of}
-use Rattle.pct_ask.specs.Numbers.{number_text}
-use Rattle.pct_ask.specs.VerdictText.{fault_word}
+use Rattle.std.proofs.Common.{◌≡◌, ℕ, Bool, true, false, List, [], ◌∷◌, Option, Some, None, refl}
+use Rattle.std.proofs.Common.{sym, ap, ◌∙◌, ℤ}
+use Rattle.pct_ask.specs.NameLists.{NameLists, AreNames}
 use Rattle.pct_ask.specs.VerdictWords.{fault_kind}
 use Rattle.pct_ask.specs.TraceText.{ask_words, check_word}
-use Rattle.pct_ask.specs.declared.names.NameKind.{NameKind}
-use Rattle.pct_ask.specs.declared.names.NameKind.TheVariants.{Thread, Var, Mutex, Cond, Sem}
-use Rattle.pct_ask.specs.declared.names.NameKind.TheVariants.{Barrier, RwLock}
 use Rattle.pct_ask.specs.declared.ask.FaultKind.{FaultKind}
+use Rattle.pct_ask.specs.declared.ask.FaultKind.TheVariants.{Overflow, ZeroDivisor, Spin}
 use Rattle.pct_ask.specs.declared.ask.Ask.{Ask}
-use Rattle.pct_ask.specs.declared.ask.Ask.TheVariants.{Read, Write, Add, Cas, Lock, TryLock, Unlock}
-use Rattle.pct_ask.specs.declared.ask.Ask.TheVariants.{Release, Regain, Signal, Broadcast, Down}
-use Rattle.pct_ask.specs.declared.ask.Ask.TheVariants.{TryDown, Up, Arrive, Leave, Join, Yield}
-use Rattle.pct_ask.specs.declared.ask.Ask.TheVariants.{Check, Fault, Start, Begin, RdLock, WrLock}
-use Rattle.pct_ask.specs.declared.ask.Ask.TheVariants.{TryRdLock, TryWrLock, RwUnlock}
+use Rattle.pct_ask.specs.declared.ask.Ask.TheVariants as asks
 use Rattle.pct_ask.proofs.laws.SameWords.{same-word}
 use Rattle.pct_ask.proofs.laws.VerdictForms.{fault_word-read}
 use Rattle.trace_text.specs.Lawful.{IsAsk}
+use Rattle.trace_text.specs.Verbs.{verb_operands, verb_word, verb_in, listed, Each}
 use Rattle.trace_text.specs.reader.Numbers.{i64_in}
-use Rattle.trace_text.specs.reader.Asks.{object, object_words, kind_of, ask_of, bare_ask, holds_of}
-use Rattle.trace_text.specs.reader.Asks.{with_operand, on_object, ask_on_kind}
-use Rattle.trace_text.specs.reader.Asks.{ask_on_one}
-use Rattle.trace_text.specs.reader.Asks.{ask_with_value, both_objects, on_both, ask_on_two}
-use Rattle.trace_text.specs.reader.Asks.{exchange}
-use Rattle.trace_text.specs.reader.Asks.{ask_on_three}
+use Rattle.trace_text.specs.reader.Asks.{object, holds_of, plain, operand_in, both, read_as}
+use Rattle.trace_text.specs.reader.Asks.{operands_in, ask_of, made, asked, verb_ask, ask_of_words}
 use Rattle.trace_text.specs.declared.asks.WordsRead.{WordsRead}
 use Rattle.trace_text.specs.declared.asks.WordsRead.TheVariants.{Is, NoForm, UnknownName}
-use Rattle.trace_text.proofs.Names.{known-object}
-use Rattle.trace_text.proofs.Values.{Some-i64_in}
+use Rattle.trace_text.specs.declared.verbs.Verb.{Verb}
+use Rattle.trace_text.specs.declared.verbs.OperandKind.{OperandKind}
+use Rattle.trace_text.specs.declared.verbs.OperandKind.TheVariants as kinds
+use Rattle.trace_text.specs.declared.verbs.Operand.{Operand}
+use Rattle.trace_text.specs.declared.verbs.Operand.TheVariants.{Place, Value, Holds, Cause}
+use Rattle.trace_text.specs.declared.verbs.Operands.{Operands}
+use Rattle.trace_text.specs.declared.verbs.Operands.TheVariants.{Bare, One, Two, Three}
+use Rattle.trace_text.proofs.Names.{known-object, object-known}
+use Rattle.trace_text.proofs.Values.{Some-i64_in, i64_in-Some}
+use Rattle.trace_text.proofs.VerbTable.{verb-told, verb-found, parts, IsOperand}
+use Rattle.trace_text.proofs.VerbTable.{operand_word, operand_words, words_of_parts}
+use Rattle.trace_text.proofs.VerbTable.{parts-words, parts-make, made-parts, lawful-known}
+use Rattle.trace_text.proofs.VerbTable.{lawful-operands, lawful-parts}
 
--- the words are the ask's, and the ask is one of the test
-pub record IsTold (names : NameLists) (version : ℕ) (words : List (List ℕ)) (ask : Ask) : Type
-    0 where
-  pub words_are : words ≡ ask_words names ask
-  pub lawful : IsAsk names version ask
+-- ---- what is read of words is of these words
 
--- ---- the kind of object
-
-abbrev pub Knows : ℕ → NameKind → Type 0
-Knows version Thread = Unit {0}
-Knows version Var = Unit {0}
-Knows version Mutex = Unit {0}
-Knows version Cond = Unit {0}
-Knows version Sem = Unit {0}
-Knows version Barrier = Unit {0}
-Knows version RwLock = version ≡ 2
-
-abbrev pub Among : ℕ → List ℕ → NameKind → Type 0
-Among version word kind = (is_among word (object_words kind) ≡ true) × Knows version kind
-
-kind-by : (version : ℕ) (word : List ℕ) (kind : NameKind) (t v m c s b two l : Bool)
-    → is_among word (object_words Thread) ≡ t → is_among word (object_words Var) ≡ v
-    → is_among word (object_words Mutex) ≡ m → is_among word (object_words Cond) ≡ c
-    → is_among word (object_words Sem) ≡ s → is_among word (object_words Barrier) ≡ b
-    → (version == 2) ≡ two → is_among word (object_words RwLock) ≡ l
-    → (if t then Some Thread else (if v then Some Var else
-    (if m then Some Mutex else (if c then Some Cond else
-    (if s then Some Sem else (if b then Some Barrier else
-    (if two && l then Some RwLock else None))))))) ≡ Some kind → Among version word kind
-kind-by version word kind true v m c s b two l et ev em ec es eb e2 el h =
-    rw (← same_Some Thread kind h) (et, tt)
-kind-by version word kind false true m c s b two l et ev em ec es eb e2 el h =
-    rw (← same_Some Var kind h) (ev, tt)
-kind-by version word kind false false true c s b two l et ev em ec es eb e2 el h =
-    rw (← same_Some Mutex kind h) (em, tt)
-kind-by version word kind false false false true s b two l et ev em ec es eb e2 el h =
-    rw (← same_Some Cond kind h) (ec, tt)
-kind-by version word kind false false false false true b two l et ev em ec es eb e2 el h =
-    rw (← same_Some Sem kind h) (es, tt)
-kind-by version word kind false false false false false true two l et ev em ec es eb e2 el h =
-    rw (← same_Some Barrier kind h) (eb, tt)
-kind-by version word kind false false false false false false true true et ev em ec es eb e2 el h =
-    let second : version ≡ 2 = grind (arith, nat_tests) in
-    rw (← same_Some RwLock kind h) (el, second)
-kind-by version word kind false false false false false false true false et ev em ec es eb e2 el h =
-    absurd cc
-kind-by version word kind false false false false false false false l et ev em ec es eb e2 el h =
-    absurd cc
-
-pub kind-among : (version : ℕ) (word : List ℕ) (kind : NameKind) → kind_of version word ≡ Some kind
-    → Among version word kind
-kind-among version word kind h =
-    kind-by version word kind (is_among word (object_words Thread))
-    (is_among word (object_words Var)) (is_among word (object_words Mutex))
-    (is_among word (object_words Cond)) (is_among word (object_words Sem))
-    (is_among word (object_words Barrier)) (version == 2) (is_among word (object_words RwLock))
-    refl refl refl refl refl refl refl refl h
-
--- ---- asks of one object
-
-one-of-two : (names : NameLists) (version : ℕ) (word name x y : List ℕ) (p q : Ask) (a b : Bool)
-    → bytes_eq word x ≡ a → bytes_eq word y ≡ b → (a || (b || false)) ≡ true
-    → IsTold names version (x ∷ name ∷ []) p → IsTold names version (y ∷ name ∷ []) q
-    → IsTold names version (word ∷ name ∷ []) (if a then p else q)
-one-of-two names version word name x y p q true b ea eb h tp tq = rw (same-word word x ea) tp
-one-of-two names version word name x y p q false true ea eb h tp tq = rw (same-word word y eb) tq
-one-of-two names version word name x y p q false false ea eb h tp tq = absurd cc
-
-one-of-three : (names : NameLists) (version : ℕ) (word name x y z : List ℕ) (p q r : Ask)
-    (a b c : Bool) → bytes_eq word x ≡ a → bytes_eq word y ≡ b → bytes_eq word z ≡ c
-    → (a || (b || (c || false))) ≡ true → IsTold names version (x ∷ name ∷ []) p
-    → IsTold names version (y ∷ name ∷ []) q → IsTold names version (z ∷ name ∷ []) r
-    → IsTold names version (word ∷ name ∷ []) (if a then p else (if b then q else r))
-one-of-three names version word name x y z p q r true b c ea eb ec h tp tq tr =
-    rw (same-word word x ea) tp
-one-of-three names version word name x y z p q r false b c ea eb ec h tp tq tr =
-    one-of-two names version word name y z q r b c eb ec h tq tr
-
-one-of-five : (names : NameLists) (version : ℕ) (word name x y z u v : List ℕ) (p q r s t : Ask)
-    (a b c d e : Bool) → bytes_eq word x ≡ a → bytes_eq word y ≡ b → bytes_eq word z ≡ c
-    → bytes_eq word u ≡ d → bytes_eq word v ≡ e → (a || (b || (c || (d || (e || false))))) ≡ true
-    → IsTold names version (x ∷ name ∷ []) p → IsTold names version (y ∷ name ∷ []) q
-    → IsTold names version (z ∷ name ∷ []) r → IsTold names version (u ∷ name ∷ []) s
-    → IsTold names version (v ∷ name ∷ []) t
-    → IsTold names version (word ∷ name ∷ [])
-    (if a then p else (if b then q else (if c then r else (if d then s else t))))
-one-of-five names version word name x y z u v p q r s t true b c d e ea eb ec ed ee h tp tq tr ts
-    tt' = rw (same-word word x ea) tp
-one-of-five names version word name x y z u v p q r s t false true c d e ea eb ec ed ee h tp tq tr
-    ts tt' = rw (same-word word y eb) tq
-one-of-five names version word name x y z u v p q r s t false false c d e ea eb ec ed ee h tp tq tr
-    ts tt' = one-of-three names version word name z u v r s t c d e ec ed ee h tr ts tt'
-
-told-on : (names : NameLists) (version : ℕ) (kind : NameKind) (word : List ℕ) (id : ℕ)
-    → Among version word kind → id < length (list_of kind names)
-    → IsTold names version (word ∷ get_or (list_of kind names) id [] ∷ []) (ask_of kind word id)
-told-on names version Thread word id k h =
-    one-of-two names version word (get_or names.threads id []) (codes "join") (codes "start")
-    (Join id) (Start id) (bytes_eq word (codes "join")) (bytes_eq word (codes "start")) refl
-    refl k.0 (record { words_are = refl; lawful = h }) (record { words_are = refl; lawful = h })
-told-on names version Var word id k h = by (bytes_eq word (codes "read")) refl k.0
-  where
-    by : (a : Bool) → bytes_eq word (codes "read") ≡ a → (a || false) ≡ true
-        → IsTold names version (word ∷ get_or names.vars id [] ∷ []) (Read id)
-    by true e t = record {
-      words_are = ap (λ w. w ∷ get_or names.vars id [] ∷ []) (same-word word (codes "read") e);
-      lawful = h;
-    }
-    by false e t = absurd cc
-told-on names version Mutex word id k h =
-    one-of-three names version word (get_or names.mutexes id []) (codes "lock") (codes "trylock")
-    (codes "unlock") (Lock id) (TryLock id) (Unlock id) (bytes_eq word (codes "lock"))
-    (bytes_eq word (codes "trylock")) (bytes_eq word (codes "unlock")) refl refl refl k.0
-    (record { words_are = refl; lawful = h }) (record { words_are = refl; lawful = h })
-    (record { words_are = refl; lawful = h })
-told-on names version Cond word id k h =
-    one-of-two names version word (get_or names.conds id []) (codes "signal") (codes "broadcast")
-    (Signal id) (Broadcast id) (bytes_eq word (codes "signal"))
-    (bytes_eq word (codes "broadcast")) refl refl k.0 (record { words_are = refl; lawful = h })
-    (record { words_are = refl; lawful = h })
-told-on names version Sem word id k h =
-    one-of-three names version word (get_or names.sems id []) (codes "down") (codes "trydown")
-    (codes "up") (Down id) (TryDown id) (Up id) (bytes_eq word (codes "down"))
-    (bytes_eq word (codes "trydown")) (bytes_eq word (codes "up")) refl refl refl k.0
-    (record { words_are = refl; lawful = h }) (record { words_are = refl; lawful = h })
-    (record { words_are = refl; lawful = h })
-told-on names version Barrier word id k h =
-    one-of-two names version word (get_or names.barriers id []) (codes "arrive") (codes "leave")
-    (Arrive id) (Leave id) (bytes_eq word (codes "arrive")) (bytes_eq word (codes "leave")) refl
-    refl k.0 (record { words_are = refl; lawful = h }) (record { words_are = refl; lawful = h })
-told-on names version RwLock word id k h =
-    one-of-five names version word (get_or names.rwlocks id []) (codes "rdlock") (codes "wrlock")
-    (codes "tryrdlock") (codes "trywrlock") (codes "rwunlock") (RdLock id) (WrLock id)
-    (TryRdLock id) (TryWrLock id) (RwUnlock id) (bytes_eq word (codes "rdlock"))
-    (bytes_eq word (codes "wrlock")) (bytes_eq word (codes "tryrdlock"))
-    (bytes_eq word (codes "trywrlock")) (bytes_eq word (codes "rwunlock")) refl refl refl refl
-    refl k.0 (record { words_are = refl; lawful = (h, k.1) })
-    (record { words_are = refl; lawful = (h, k.1) })
-    (record { words_are = refl; lawful = (h, k.1) })
-    (record { words_are = refl; lawful = (h, k.1) })
-    (record { words_are = refl; lawful = (h, k.1) })
-
--- ---- asks that are read
-
-is_is : (x y : Ask) → Is x ≡ Is y → x ≡ y
+is_is : {A : Type 0} (x y : A) → Is x ≡ Is y → x ≡ y
 is_is x y e = cc
 
-operand-told : {A : Type 0} (ask : A → Ask) (operand : Option A) (told : Ask)
-    → with_operand ask operand ≡ Is told → (x : A) × (operand ≡ Some x) × (ask x ≡ told)
-operand-told ask None told h = absurd cc
-operand-told ask (Some x) told h = (x, refl, is_is (ask x) told h)
+read_as-told : {A B : Type 0} (make : A → B) (read : WordsRead A) (what : B)
+    → read_as make read ≡ Is what → (x : A) × (read ≡ Is x) × (make x ≡ what)
+read_as-told make (Is x) what h = (x, refl, is_is (make x) what h)
+read_as-told make NoForm what h = absurd cc
+read_as-told make UnknownName what h = absurd cc
 
-object-told : (ask : ℕ → Ask) (place : WordsRead ℕ) (told : Ask) → on_object ask place ≡ Is told
-    → (x : ℕ) × (place ≡ Is x) × (ask x ≡ told)
-object-told ask (Is x) told h = (x, refl, is_is (ask x) told h)
-object-told ask NoForm told h = absurd cc
-object-told ask UnknownName told h = absurd cc
+both-told : {A B : Type 0} (a : WordsRead A) (b : WordsRead B) (what : A × B)
+    → both a b ≡ Is what → (a ≡ Is what.0) × (b ≡ Is what.1)
+both-told (Is x) (Is y) what h =
+    let same : (x, y) ≡ what = is_is (x, y) what h in
+    (ap (λ p. Is p.0) same, ap (λ p. Is p.1) same)
+both-told NoForm b what h = absurd cc
+both-told (Is x) NoForm what h = absurd cc
+both-told (Is x) UnknownName what h = absurd cc
+both-told UnknownName NoForm what h = absurd cc
+both-told UnknownName (Is y) what h = absurd cc
+both-told UnknownName UnknownName what h = absurd cc
 
-same-told : (names : NameLists) (version : ℕ) (words others : List (List ℕ)) (ask other : Ask)
-    → others ≡ words → other ≡ ask → IsTold names version others other
-    → IsTold names version words ask
-same-told names version words others ask other p q told = rw (← p, ← q) told
+plain-told : {A : Type 0} (make : A → Operand) (read : Option A) (operand : Operand)
+    → plain make read ≡ Is operand → (x : A) × (read ≡ Some x) × (make x ≡ operand)
+plain-told make None operand h = absurd cc
+plain-told make (Some x) operand h = (x, refl, is_is (make x) operand h)
 
-pair : (a b x y : List ℕ) → x ≡ a → y ≡ b → x ∷ y ∷ [] ≡ a ∷ b ∷ []
-pair a b x y p q = rw (p, q)
-
-triple : (a b c x y z : List ℕ) → x ≡ a → y ≡ b → z ≡ c → x ∷ y ∷ z ∷ [] ≡ a ∷ b ∷ c ∷ []
-triple a b c x y z p q r = rw (p, q, r)
-
-four : (a b c d x y z w : List ℕ) → x ≡ a → y ≡ b → z ≡ c → w ≡ d
-    → x ∷ y ∷ z ∷ w ∷ [] ≡ a ∷ b ∷ c ∷ d ∷ []
-four a b c d x y z w p q r s = rw (p, q, r, s)
-
-bare-by : (names : NameLists) (version : ℕ) (word : List ℕ) (ask : Ask) (a b : Bool)
-    → bytes_eq word (codes "yield") ≡ a → bytes_eq word (codes "begin") ≡ b
-    → (if◌then◌else◌ {A = WordsRead Ask} a (Is Yield) (if b then Is Begin else NoForm)) ≡ Is ask
-    → IsTold names version (word ∷ []) ask
-bare-by names version word ask true b ea eb h =
-    let is : Yield ≡ ask = cc in rw (← is)
-    (record { words_are = ap (λ w. w ∷ []) (same-word word (codes "yield") ea); lawful = tt })
-bare-by names version word ask false true ea eb h =
-    let is : Begin ≡ ask = cc in rw (← is)
-    (record { words_are = ap (λ w. w ∷ []) (same-word word (codes "begin") eb); lawful = tt })
-bare-by names version word ask false false ea eb h = absurd cc
-
-pub bare-told : (names : NameLists) (version : ℕ) (word : List ℕ) (ask : Ask)
-    → bare_ask word ≡ Is ask → IsTold names version (word ∷ []) ask
-bare-told names version word ask h =
-    bare-by names version word ask (bytes_eq word (codes "yield")) (bytes_eq word (codes "begin"))
-    refl refl h
-
-pub holds-by : (word : List ℕ) (holds : Bool) (a b : Bool) → bytes_eq word (codes "1") ≡ a
+holds-by : (word : List ℕ) (holds : Bool) (a b : Bool) → bytes_eq word (codes "1") ≡ a
     → bytes_eq word (codes "0") ≡ b → (if a then Some true else (if b then Some false else None))
     ≡ Some holds → word ≡ check_word holds
 holds-by word holds true b ea eb h = let is : true ≡ holds = cc in
@@ -236,147 +70,215 @@ holds-by word holds false true ea eb h = let is : false ≡ holds = cc in
     same-word word (codes "0") eb ∙ ap check_word is
 holds-by word holds false false ea eb h = absurd cc
 
-plain-by : (names : NameLists) (version : ℕ) (word operand : List ℕ) (ask : Ask) (a b : Bool)
-    → bytes_eq word (codes "check") ≡ a → bytes_eq word (codes "fault") ≡ b
-    → (if◌then◌else◌ {A = WordsRead Ask} a (with_operand Check (holds_of operand))
-    (if b then with_operand Fault (fault_kind operand) else NoForm)) ≡ Is ask
-    → IsTold names version (word ∷ operand ∷ []) ask
-plain-by names version word operand ask true b ea eb h =
-    let m = operand-told (λ (holds : Bool). Check holds) (holds_of operand) ask h in
-    let spelled = holds-by operand m.0 (bytes_eq operand (codes "1")) (bytes_eq operand (codes "0"))
-    refl refl m.1 in
-    same-told names version (word ∷ operand ∷ []) (codes "check" ∷ check_word m.0 ∷ []) ask
-    (Check m.0) (pair word operand (codes "check") (check_word m.0)
-    (sym (same-word word (codes "check") ea)) (sym spelled)) m.2
-    (record { words_are = refl; lawful = tt })
-plain-by names version word operand ask false true ea eb h =
-    let m = operand-told (λ (kind : FaultKind). Fault kind) (fault_kind operand) ask h in
-    let spelled = fault_word-read operand m.0 m.1 in
-    same-told names version (word ∷ operand ∷ []) (codes "fault" ∷ fault_word m.0 ∷ []) ask
-    (Fault m.0) (pair word operand (codes "fault") (fault_word m.0)
-    (sym (same-word word (codes "fault") eb)) (sym spelled)) m.2
-    (record { words_are = refl; lawful = tt })
-plain-by names version word operand ask false false ea eb h = absurd cc
+pub holds-word : (word : List ℕ) (holds : Bool) → holds_of word ≡ Some holds
+    → word ≡ check_word holds
+holds-word word holds h =
+    holds-by word holds (bytes_eq word (codes "1")) (bytes_eq word (codes "0")) refl refl h
 
-one-by : (names : NameLists) (version : ℕ) (kind : Option NameKind) (word operand : List ℕ)
-    (ask : Ask) → kind_of version word ≡ kind → ask_on_kind names kind word operand ≡ Is ask
-    → IsTold names version (word ∷ operand ∷ []) ask
-one-by names version None word operand ask k h =
-    plain-by names version word operand ask (bytes_eq word (codes "check"))
-    (bytes_eq word (codes "fault")) refl refl h
-one-by names version (Some kind) word operand ask k h =
-    let i = object-told (ask_of kind word) (object names kind operand) ask h in
-    let at = known-object names kind operand i.0 i.1 in
-    let told = told-on names version kind word i.0 (kind-among version word kind k) at.0 in
-    same-told names version (word ∷ operand ∷ []) (word ∷ get_or (list_of kind names) i.0 [] ∷ [])
-    ask (ask_of kind word i.0) (pair word operand word (get_or (list_of kind names) i.0 []) refl
-    at.1) i.2 told
+-- the word is the operand's, which is one of its kind
+record IsToldOperand (names : NameLists) (kind : OperandKind) (word : List ℕ) (operand : Operand)
+    : Type 0 where
+  word_is : word ≡ operand_word names kind operand
+  is : IsOperand names kind operand
 
-pub one-told : (names : NameLists) (version : ℕ) (word operand : List ℕ) (ask : Ask)
-    → ask_on_one names version word operand ≡ Is ask
-    → IsTold names version (word ∷ operand ∷ []) ask
-unfolding ask_on_one
-one-told names version word operand ask h =
-    one-by names version (kind_of version word) word operand ask refl h
+same-operand : (names : NameLists) (kind : OperandKind) (word : List ℕ) (a b : Operand) → a ≡ b
+    → IsToldOperand names kind word a → IsToldOperand names kind word b
+same-operand names kind word a b e told = rw (← e) told
 
-value-told : (ask : ℕ → ℤ → Ask) (place : WordsRead ℕ) (value : Option ℤ) (told : Ask)
-    → ask_with_value ask place value ≡ Is told → (x : ℕ) × (v : ℤ) × (place ≡ Is x) × (value ≡ Some
-    v) × (ask x v ≡ told)
-value-told ask place None told h = absurd cc
-value-told ask place (Some v) told h = let i =
-    object-told (λ x. ask x v) place told h in (i.0, v, i.1, refl, i.2)
+operand-told : (names : NameLists) (kind : OperandKind) (word : List ℕ) (operand : Operand)
+    → operand_in names kind word ≡ Is operand → IsToldOperand names kind word operand
+operand-told names (kinds.Object kind) word operand h =
+    let i = read_as-told (λ (id : ℕ). Place id) (object names kind word) operand h in
+    let at = known-object names kind word i.0 i.1 in
+    same-operand names (kinds.Object kind) word (Place i.0) operand i.2
+    (record { word_is = sym at.1; is = at.0 })
+operand-told names kinds.Value word operand h =
+    let i = plain-told (λ (z : ℤ). Value z) (i64_in word) operand h in
+    let v = Some-i64_in word i.0 i.1 in
+    same-operand names kinds.Value word (Value i.0) operand i.2
+    (record { word_is = v.0; is = v.1 })
+operand-told names kinds.Holds word operand h =
+    let i = plain-told (λ (b : Bool). Holds b) (holds_of word) operand h in
+    same-operand names kinds.Holds word (Holds i.0) operand i.2
+    (record { word_is = holds-word word i.0 i.1; is = tt })
+operand-told names kinds.Cause word operand h =
+    let i = plain-told (λ (k : FaultKind). Cause k) (fault_kind word) operand h in
+    same-operand names kinds.Cause word (Cause i.0) operand i.2
+    (record { word_is = fault_word-read word i.0 i.1; is = tt })
 
-on_both-told : (ask : ℕ → ℕ → Ask) (c m : WordsRead ℕ) (told : Ask)
-    → on_both ask (both_objects c m) ≡ Is told
-    → (x : ℕ) × (y : ℕ) × (c ≡ Is x) × (m ≡ Is y) × (ask x y ≡ told)
-on_both-told ask NoForm m told h = absurd cc
-on_both-told ask UnknownName (Is y) told h = absurd cc
-on_both-told ask UnknownName NoForm told h = absurd cc
-on_both-told ask UnknownName UnknownName told h = absurd cc
-on_both-told ask (Is x) NoForm told h = absurd cc
-on_both-told ask (Is x) UnknownName told h = absurd cc
-on_both-told ask (Is x) (Is y) told h = (x, y, refl, refl, is_is (ask x y) told h)
+pub record AreToldOperands (names : NameLists) (ks : Operands OperandKind) (words : Operands (List ℕ))
+    (operands : Operands Operand) : Type 0 where
+  pub words_are : words ≡ operand_words names ks operands
+  pub are : Each (IsOperand names) ks operands
 
-two-by : (names : NameLists) (version : ℕ) (word a b : List ℕ) (ask : Ask) (w p r g : Bool)
-    → bytes_eq word (codes "write") ≡ w → bytes_eq word (codes "add") ≡ p
-    → bytes_eq word (codes "release") ≡ r → bytes_eq word (codes "regain") ≡ g
-    → (if w then ask_with_value Write (object names Var a) (i64_in b) else
-    (if p then ask_with_value Add (object names Var a) (i64_in b) else
-    (if r then on_both Release (both_objects (object names Cond a) (object names Mutex b)) else
-    (if g then on_both Regain (both_objects (object names Cond a) (object names Mutex b)) else
-    NoForm))))
-    ≡ Is
-    ask → IsTold names version (word ∷ a ∷ b ∷ []) ask
-two-by names version word a b ask true p r g ew ep er eg h =
-    let i = value-told Write (object names Var a) (i64_in b) ask h in
-    let at = known-object names Var a i.0 i.2 in
-    let v = Some-i64_in b i.1 i.3 in
-    same-told names version (word ∷ a ∷ b ∷ [])
-    (codes "write" ∷ get_or names.vars i.0 [] ∷ number_text i.1 ∷ []) ask (Write i.0 i.1)
-    (triple word a b (codes "write") (get_or names.vars i.0 []) (number_text i.1)
-    (sym (same-word word (codes "write") ew)) at.1 (sym v.0)) i.4
-    (record { words_are = refl; lawful = (at.0, v.1) })
-two-by names version word a b ask false true r g ew ep er eg h =
-    let i = value-told Add (object names Var a) (i64_in b) ask h in
-    let at = known-object names Var a i.0 i.2 in
-    let v = Some-i64_in b i.1 i.3 in
-    same-told names version (word ∷ a ∷ b ∷ [])
-    (codes "add" ∷ get_or names.vars i.0 [] ∷ number_text i.1 ∷ []) ask (Add i.0 i.1)
-    (triple word a b (codes "add") (get_or names.vars i.0 []) (number_text i.1)
-    (sym (same-word word (codes "add") ep)) at.1 (sym v.0)) i.4
-    (record { words_are = refl; lawful = (at.0, v.1) })
-two-by names version word a b ask false false true g ew ep er eg h =
-    let i = on_both-told Release (object names Cond a) (object names Mutex b) ask h in
-    let c = known-object names Cond a i.0 i.2 in
-    let m = known-object names Mutex b i.1 i.3 in
-    same-told names version (word ∷ a ∷ b ∷ [])
-    (codes "release" ∷ get_or names.conds i.0 [] ∷ get_or names.mutexes i.1 [] ∷ []) ask
-    (Release i.0 i.1) (triple word a b (codes "release") (get_or names.conds i.0 [])
-    (get_or names.mutexes i.1 []) (sym (same-word word (codes "release") er)) c.1 m.1) i.4
-    (record { words_are = refl; lawful = (c.0, m.0) })
-two-by names version word a b ask false false false true ew ep er eg h =
-    let i = on_both-told Regain (object names Cond a) (object names Mutex b) ask h in
-    let c = known-object names Cond a i.0 i.2 in
-    let m = known-object names Mutex b i.1 i.3 in
-    same-told names version (word ∷ a ∷ b ∷ [])
-    (codes "regain" ∷ get_or names.conds i.0 [] ∷ get_or names.mutexes i.1 [] ∷ []) ask
-    (Regain i.0 i.1) (triple word a b (codes "regain") (get_or names.conds i.0 [])
-    (get_or names.mutexes i.1 []) (sym (same-word word (codes "regain") eg)) c.1 m.1) i.4
-    (record { words_are = refl; lawful = (c.0, m.0) })
-two-by names version word a b ask false false false false ew ep er eg h = absurd cc
+same-operands : (names : NameLists) (ks : Operands OperandKind) (words : Operands (List ℕ))
+    (a b : Operands Operand) → a ≡ b → AreToldOperands names ks words a
+    → AreToldOperands names ks words b
+same-operands names ks words a b e told = rw (← e) told
 
-pub two-told : (names : NameLists) (version : ℕ) (word a b : List ℕ) (ask : Ask)
-    → ask_on_two names word a b ≡ Is ask → IsTold names version (word ∷ a ∷ b ∷ []) ask
-unfolding ask_on_two
-two-told names version word a b ask h =
-    two-by names version word a b ask (bytes_eq word (codes "write")) (bytes_eq word (codes "add"))
-    (bytes_eq word (codes "release")) (bytes_eq word (codes "regain")) refl refl refl refl h
+pub operands-told : (names : NameLists) (ks : Operands OperandKind) (words : Operands (List ℕ))
+    (operands : Operands Operand) → operands_in names ks words ≡ Is operands
+    → AreToldOperands names ks words operands
+operands-told names Bare Bare operands h =
+    let bare : Operands Operand = Bare in
+    same-operands names Bare Bare bare operands (is_is bare operands h)
+    (record { words_are = refl; are = tt })
+operands-told names (One k) (One a) operands h =
+    let i = read_as-told (λ (o : Operand). One o) (operand_in names k a) operands h in
+    let x = operand-told names k a i.0 i.1 in
+    same-operands names (One k) (One a) (One i.0) operands i.2
+    (record { words_are = ap (λ w. One w) x.word_is; are = x.is })
+operands-told names (Two k l) (Two a b) operands h =
+    let i = read_as-told (λ (o : Operand × Operand). Two o.0 o.1)
+    (both (operand_in names k a) (operand_in names l b)) operands h in
+    let t = both-told (operand_in names k a) (operand_in names l b) i.0 i.1 in
+    let x = operand-told names k a i.0.0 t.0 in
+    let y = operand-told names l b i.0.1 t.1 in
+    same-operands names (Two k l) (Two a b) (Two i.0.0 i.0.1) operands i.2
+    (record {
+      words_are = ap (λ w. Two w b) x.word_is
+          ∙ ap (λ w. Two (operand_word names k i.0.0) w) y.word_is;
+      are = (x.is, y.is);
+    })
+operands-told names (Three k l m) (Three a b c) operands h =
+    let i = read_as-told (λ (o : Operand × (Operand × Operand)). Three o.0 o.1.0 o.1.1)
+    (both (operand_in names k a) (both (operand_in names l b) (operand_in names m c))) operands
+    h in
+    let t = both-told (operand_in names k a)
+    (both (operand_in names l b) (operand_in names m c)) i.0 i.1 in
+    let u = both-told (operand_in names l b) (operand_in names m c) i.0.1 t.1 in
+    let x = operand-told names k a i.0.0 t.0 in
+    let y = operand-told names l b i.0.1.0 u.0 in
+    let z = operand-told names m c i.0.1.1 u.1 in
+    same-operands names (Three k l m) (Three a b c) (Three i.0.0 i.0.1.0 i.0.1.1) operands i.2
+    (record {
+      words_are = ap (λ w. Three w b c) x.word_is
+          ∙ ap (λ w. Three (operand_word names k i.0.0) w c) y.word_is
+          ∙ ap (λ w. Three (operand_word names k i.0.0) (operand_word names l i.0.1.0) w) z.word_is;
+      are = (x.is, y.is, z.is);
+    })
+operands-told names ks words operands h = absurd cc
 
-exchange-told : (place : WordsRead ℕ) (old new : Option ℤ) (told : Ask)
-    → exchange place old new ≡ Is told → (x : ℕ) × (u : ℤ) × (v : ℤ) × (place ≡ Is x) × (old ≡ Some
-    u) × (new ≡ Some v) × (Cas x u v ≡ told)
-exchange-told place None new told h = absurd cc
-exchange-told place (Some u) None told h = absurd cc
-exchange-told place (Some u) (Some v) told h = let i =
-    object-told (λ x. Cas x u v) place told h in (i.0, u, v, i.1, refl, refl, i.2)
+-- the words are the ask's, and the ask is one of the test
+pub record IsTold (names : NameLists) (version : ℕ) (words : List (List ℕ)) (ask : Ask) : Type
+    0 where
+  pub words_are : words ≡ ask_words names ask
+  pub lawful : IsAsk names version ask
 
-three-by : (names : NameLists) (version : ℕ) (word a b c : List ℕ) (ask : Ask) (w : Bool)
-    → bytes_eq word (codes "cas") ≡ w → (if w then exchange (object names Var a) (i64_in b)
-    (i64_in c) else NoForm) ≡ Is ask → IsTold names version (word ∷ a ∷ b ∷ c ∷ []) ask
-three-by names version word a b c ask true ew h =
-    let i = exchange-told (object names Var a) (i64_in b) (i64_in c) ask h in
-    let at = known-object names Var a i.0 i.3 in
-    let u = Some-i64_in b i.1 i.4 in
-    let v = Some-i64_in c i.2 i.5 in
-    same-told names version (word ∷ a ∷ b ∷ c ∷ [])
-    (codes "cas" ∷ get_or names.vars i.0 [] ∷ number_text i.1 ∷ number_text i.2 ∷ []) ask
-    (Cas i.0 i.1 i.2) (four word a b c (codes "cas") (get_or names.vars i.0 [])
-    (number_text i.1) (number_text i.2) (sym (same-word word (codes "cas") ew)) at.1 (sym u.0)
-    (sym v.0)) i.6 (record { words_are = refl; lawful = (at.0, u.1, v.1) })
-three-by names version word a b c ask false ew h = absurd cc
+asked-told : (verb : Verb) (read : WordsRead (Operands Operand)) (ask : Ask)
+    → asked verb read ≡ Is ask
+    → (operands : Operands Operand) × (read ≡ Is operands) × (ask_of verb operands ≡ Some ask)
+asked-told verb (Is operands) ask h = (operands, refl, by (ask_of verb operands) h)
+  where
+    by : (found : Option Ask) → made found ≡ Is ask → found ≡ Some ask
+    by None k = absurd cc
+    by (Some other) k = ap (λ x. Some x) (is_is other ask k)
+asked-told verb NoForm ask h = absurd cc
+asked-told verb UnknownName ask h = absurd cc
 
-pub three-told : (names : NameLists) (version : ℕ) (word a b c : List ℕ) (ask : Ask)
-    → ask_on_three names word a b c ≡ Is ask → IsTold names version (word ∷ a ∷ b ∷ c ∷ []) ask
-unfolding ask_on_three
-three-told names version word a b c ask h =
-    three-by names version word a b c ask (bytes_eq word (codes "cas")) refl h
+words-told : (names : NameLists) (version : ℕ) (word : List ℕ) (words : Operands (List ℕ))
+    (ask : Ask) → ask_of_words names version word words ≡ Is ask
+    → IsTold names version (word ∷ listed words) ask
+unfolding ask_of_words
+words-told names version word words ask h = by (verb_in version word) refl h
+  where
+    by : (found : Option Verb) → verb_in version word ≡ found
+        → verb_ask names found words ≡ Is ask
+        → IsTold names version (word ∷ listed words) ask
+    by None e k = absurd cc
+    by (Some verb) e k =
+        let v = verb-told version word verb e in
+        let o = asked-told verb (operands_in names (verb_operands verb) words) ask k in
+        let t = operands-told names (verb_operands verb) words o.0 o.1 in
+        let p = made-parts names verb o.0 ask t.are o.2 in
+        record {
+          words_are = ap (λ w. w ∷ listed words) v.0
+              ∙ ap (λ ws. verb_word verb ∷ listed ws) t.words_are
+              ∙ sym (parts-words names ask ∙ ap (words_of_parts names) p);
+          lawful = lawful-parts names version ask verb o.0 p v.1 t.are;
+        }
+
+-- ---- words of an ask are read as the ask
+
+operand-known : (names : NameLists) (kind : OperandKind) (operand : Operand) → AreNames names
+    → IsOperand names kind operand
+    → operand_in names kind (operand_word names kind operand) ≡ Is operand
+operand-known names (kinds.Object kind) (Place id) sound h =
+    ap (λ (o : WordsRead ℕ). read_as (λ (i : ℕ). Place i) o) (object-known names kind id sound h)
+operand-known names kinds.Value (Value z) sound h =
+    ap (λ (o : Option ℤ). plain (λ (v : ℤ). Value v) o) (i64_in-Some z h)
+operand-known names kinds.Holds (Holds true) sound h = refl
+operand-known names kinds.Holds (Holds false) sound h = refl
+operand-known names kinds.Cause (Cause Overflow) sound h = refl
+operand-known names kinds.Cause (Cause ZeroDivisor) sound h = refl
+operand-known names kinds.Cause (Cause Spin) sound h = refl
+operand-known names kind operand sound h = absurd h
+
+operands-known : (names : NameLists) (ks : Operands OperandKind) (operands : Operands Operand)
+    → AreNames names → Each (IsOperand names) ks operands
+    → operands_in names ks (operand_words names ks operands) ≡ Is operands
+operands-known names Bare Bare sound h = refl
+operands-known names (One k) (One a) sound h = rw (operand-known names k a sound h)
+operands-known names (Two k l) (Two a b) sound h =
+    rw (operand-known names k a sound h.0, operand-known names l b sound h.1)
+operands-known names (Three k l m) (Three a b c) sound h =
+    rw (
+      operand-known names k a sound h.0,
+      operand-known names l b sound h.1,
+      operand-known names m c sound h.2,
+    )
+operands-known names ks operands sound h = absurd h
+
+-- what is read of an ask's words, by how many there are
+abbrev pub ask_in : NameLists → ℕ → List (List ℕ) → WordsRead Ask
+ask_in names version (word ∷ []) = ask_of_words names version word Bare
+ask_in names version (word ∷ a ∷ []) = ask_of_words names version word (One a)
+ask_in names version (word ∷ a ∷ b ∷ []) = ask_of_words names version word (Two a b)
+ask_in names version (word ∷ a ∷ b ∷ c ∷ []) = ask_of_words names version word (Three a b c)
+ask_in names version words = NoForm
+
+pub listed-ask : (names : NameLists) (version : ℕ) (word : List ℕ) (words : Operands (List ℕ))
+    → ask_in names version (word ∷ listed words) ≡ ask_of_words names version word words
+listed-ask names version word Bare = refl
+listed-ask names version word (One a) = refl
+listed-ask names version word (Two a b) = refl
+listed-ask names version word (Three a b c) = refl
+
+pub ask-known : (names : NameLists) (version : ℕ) (ask : Ask) → AreNames names
+    → IsAsk names version ask → ask_in names version (ask_words names ask) ≡ Is ask
+unfolding ask_of_words
+ask-known names version ask sound h =
+    let verb = (parts ask).0 in
+    let operands = (parts ask).1 in
+    let words = operand_words names (verb_operands verb) operands in
+    ap (ask_in names version) (parts-words names ask)
+    ∙ listed-ask names version (verb_word verb) words
+    ∙ ap (λ (v : Option Verb). verb_ask names v words)
+    (verb-found version verb (lawful-known names version ask h))
+    ∙ ap (asked verb)
+    (operands-known names (verb_operands verb) operands sound
+    (lawful-operands names version ask h))
+    ∙ ap made (parts-make ask)
+
+-- an ask has one word to four
+abbrev pub HasFewWords : List (List ℕ) → Type 0
+HasFewWords [] = ⊥
+HasFewWords (a ∷ []) = Unit {0}
+HasFewWords (a ∷ b ∷ []) = Unit {0}
+HasFewWords (a ∷ b ∷ c ∷ []) = Unit {0}
+HasFewWords (a ∷ b ∷ c ∷ d ∷ []) = Unit {0}
+HasFewWords (a ∷ b ∷ c ∷ d ∷ e ∷ words) = ⊥
+
+pub few-words : (names : NameLists) (ask : Ask) → HasFewWords (ask_words names ask)
+few-words names (asks.Read x) = tt
+few-words names ask = tt
+
+-- and what is read of few words is the ask of which they are
+pub ask-told : (names : NameLists) (version : ℕ) (words : List (List ℕ)) (ask : Ask)
+    → ask_in names version words ≡ Is ask → IsTold names version words ask
+ask-told names version (a ∷ []) ask h = words-told names version a Bare ask h
+ask-told names version (a ∷ b ∷ []) ask h = words-told names version a (One b) ask h
+ask-told names version (a ∷ b ∷ c ∷ []) ask h = words-told names version a (Two b c) ask h
+ask-told names version (a ∷ b ∷ c ∷ d ∷ []) ask h =
+    words-told names version a (Three b c d) ask h
+ask-told names version words ask h = absurd cc

@@ -14,7 +14,8 @@ use Rattle.pct_ask.specs.VerdictWords.{words_of}
 use Rattle.trace_text.specs.Lawful.{is_of_second}
 use Rattle.pct_ask.specs.VerdictWords.{line_number}
 use Rattle.trace_text.specs.reader.Numbers.{i64_in, natural_of}
-use Rattle.trace_text.specs.reader.Asks.{object, ask_on_three}
+use Rattle.trace_text.specs.reader.Asks.{object, ask_of_words}
+use Rattle.trace_text.specs.declared.verbs.Operands.TheVariants.{Three}
 use Rattle.trace_text.specs.declared.asks.WordsRead.{WordsRead}
 use Rattle.trace_text.specs.reader.StepLines.{tells_reads, end_of, numbered_step, step_in_words}
 use Rattle.trace_text.specs.reader.StepLines.{step_of_words, row_of}
@@ -119,8 +120,8 @@ row-step names version text other = rw other
 -- the words of a step whose ask has four
 pub nine-words : (names : NameLists) (version : ℕ) (words : List (Bor (List ℕ))) (d : Bor (List ℕ))
     (ask : WordsRead Ask) (result : Option Row) → length words ≡ 9
-    → ask ≡ ask_on_three names (get_or words 3 d).now (get_or words 4 d).now (get_or words 5 d).now
-    (get_or words 6 d).now
+    → ask ≡ ask_of_words names version (get_or words 3 d).now
+    (Three (get_or words 4 d).now (get_or words 5 d).now (get_or words 6 d).now)
     → result ≡ step_in_words names (get_or words 0 d).now (get_or words 1 d).now
     (get_or words 2 d).now ask (get_or words 7 d).now (get_or words 8 d).now
     → result ≡ step_of_words names version (seen words)

@@ -10,7 +10,8 @@ use Rattle.pct_ask.specs.NameLists.{AreNames, list_of, all_names}
 use Rattle.pct_ask.specs.declared.names.NameKind.{NameKind}
 use Rattle.pct_ask.specs.declared.names.NameKind.TheVariants.{Thread, Var, Mutex, Cond, Sem}
 use Rattle.pct_ask.specs.declared.names.NameKind.TheVariants.{Barrier, RwLock}
-use Rattle.trace_text.specs.reader.Asks.{ask_on_one}
+use Rattle.trace_text.specs.Verbs.{verb_in}
+use Rattle.trace_text.specs.reader.Asks.{ask_of_words}
 use Rattle.trace_text.specs.Faults.{IsTraceFault}
 use Rattle.pct_ask.specs.Numbers.{number_in}
 use Rattle.trace_text.specs.reader.Numbers.{i64_in}
@@ -82,20 +83,20 @@ head-without-end = found (codes "trace 1\norder A B\npoints\nlimit 9") 4 BadHead
 
 pub leading-zero : IsTraceFault (codes
     "trace 1\norder A B\npoints\nlimit 9\n01 A 4 read x = 0\nverdict cut\n") some_names 5 BadLine
-unfolding row_of step_in_words ask_on_one i64_in number_in digits
+unfolding row_of step_in_words ask_of_words verb_in i64_in number_in digits
 leading-zero =
     found (codes "trace 1\norder A B\npoints\nlimit 9\n01 A 4 read x = 0\nverdict cut\n") 5 BadLine
     refl
 
 pub cut-line : IsTraceFault (codes "trace 1\norder A B\npoints\nlimit 9\n1 A 4 re") some_names 5
     BadLine
-unfolding row_of step_in_words ask_on_one i64_in number_in digits
+unfolding row_of step_in_words ask_of_words verb_in i64_in number_in digits
 cut-line = found (codes "trace 1\norder A B\npoints\nlimit 9\n1 A 4 re") 5 BadLine refl
 
 pub lock-of-second-version : IsTraceFault
     (codes "trace 1\norder A B\npoints\nlimit 9\n1 A 5 rdlock l = 0\nverdict cut\n") some_names 5
     BadLine
-unfolding row_of step_in_words ask_on_one i64_in number_in digits
+unfolding row_of step_in_words ask_of_words verb_in i64_in number_in digits
 lock-of-second-version =
     found (codes "trace 1\norder A B\npoints\nlimit 9\n1 A 5 rdlock l = 0\nverdict cut\n") 5 BadLine
     refl
@@ -103,7 +104,7 @@ lock-of-second-version =
 pub unknown-variable : IsTraceFault
     (codes "trace 1\norder A B\npoints\nlimit 9\n1 A 4 read y = 0\nverdict cut\n") some_names 5
     UnknownName
-unfolding row_of step_in_words ask_on_one i64_in number_in digits
+unfolding row_of step_in_words ask_of_words verb_in i64_in number_in digits
 unknown-variable =
     found (codes "trace 1\norder A B\npoints\nlimit 9\n1 A 4 read y = 0\nverdict cut\n") 5
     UnknownName refl
@@ -111,32 +112,32 @@ unknown-variable =
 pub first-is-second : IsTraceFault
     (codes "trace 1\norder A B\npoints\nlimit 9\n2 A 4 read x = 0\nverdict cut\n") some_names 5
     OutOfOrder
-unfolding row_of step_in_words ask_on_one i64_in number_in digits
+unfolding row_of step_in_words ask_of_words verb_in i64_in number_in digits
 first-is-second =
     found (codes "trace 1\norder A B\npoints\nlimit 9\n2 A 4 read x = 0\nverdict cut\n") 5
     OutOfOrder refl
 
 pub step-zero : IsTraceFault (codes
     "trace 1\norder A B\npoints\nlimit 9\n0 A 4 read x = 0\nverdict cut\n") some_names 5 OutOfOrder
-unfolding row_of step_in_words ask_on_one i64_in number_in digits
+unfolding row_of step_in_words ask_of_words verb_in i64_in number_in digits
 step-zero =
     found (codes "trace 1\norder A B\npoints\nlimit 9\n0 A 4 read x = 0\nverdict cut\n") 5
     OutOfOrder refl
 
 pub past-the-limit : IsTraceFault (codes
     "trace 1\norder A B\npoints\nlimit 1\n2 A 4 read y = 0\nverdict cut\n") some_names 5 TooLong
-unfolding row_of step_in_words ask_on_one i64_in number_in digits
+unfolding row_of step_in_words ask_of_words verb_in i64_in number_in digits
 past-the-limit =
     found (codes "trace 1\norder A B\npoints\nlimit 1\n2 A 4 read y = 0\nverdict cut\n") 5 TooLong
     refl
 
 pub no-verdict : IsTraceFault (codes "trace 1\norder A B\npoints\nlimit 9\n1 A 4 yield = 0\n")
     some_names 6 NoVerdict
-unfolding row_of step_in_words ask_on_one i64_in number_in digits
+unfolding row_of step_in_words ask_of_words verb_in i64_in number_in digits
 no-verdict = found (codes "trace 1\norder A B\npoints\nlimit 9\n1 A 4 yield = 0\n") 6 NoVerdict refl
 
 pub after-the-verdict : IsTraceFault (codes "trace 1\norder A B\npoints\nlimit 9\nverdict cut\nx\n")
     some_names 6 MoreAfterVerdict
-unfolding row_of step_in_words ask_on_one i64_in number_in digits
+unfolding row_of step_in_words ask_of_words verb_in i64_in number_in digits
 after-the-verdict =
     found (codes "trace 1\norder A B\npoints\nlimit 9\nverdict cut\nx\n") 6 MoreAfterVerdict refl

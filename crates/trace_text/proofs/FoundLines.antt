@@ -21,7 +21,7 @@ use Rattle.trace_text.specs.Faults.{IsVerdictLine, IsInBody}
 use Rattle.trace_text.specs.reader.StepLines.{row_of}
 use Rattle.trace_text.specs.declared.row.Row.{Row}
 use Rattle.trace_text.specs.declared.row.Row.TheVariants.{Step, End}
-use Rattle.trace_text.proofs.AskForms.{first-or-second}
+use Rattle.trace_text.proofs.VerbTable.{first-or-second}
 use Rattle.trace_text.proofs.StepForms.{step-form, step-read}
 use Rattle.trace_text.proofs.EndForms.{never, end-form, end-read}
 use Rattle.trace_text.proofs.HeadForms.{version-form, version-read, same-version, one-or-two}

@@ -3,11 +3,10 @@ pub mod HeadWords
 pub mod Ends
 pub mod Bodies
 pub mod Names
+pub mod VerbTable
 pub mod AskWords
-pub mod KnownAsks
 pub mod StepWords
 pub mod AskForms
-pub mod AskReadings
 pub mod Bytes
 pub mod Written
 pub mod Rows

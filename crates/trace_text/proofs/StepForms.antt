@@ -27,13 +27,12 @@ use Rattle.trace_text.specs.Forms.{AsksUnknown, IsUndeclared}
 use Rattle.trace_text.specs.Forms as forms
 use Rattle.trace_text.specs.declared.row.Row.TheVariants.{Step}
 use Rattle.trace_text.proofs.Values.{i64_in-Some, Some-i64_in}
-use Rattle.trace_text.proofs.KnownAsks.{ask_in}
+use Rattle.trace_text.proofs.AskWords.{ask_in}
 use Rattle.trace_text.proofs.StepWords.{natural-decimal, decimal-natural, step_words, read-words}
 use Rattle.trace_text.proofs.Ends.{row-step}
 use Rattle.trace_text.proofs.Rows.{end-no-step, digit-first}
 use Rattle.trace_text.proofs.AskForms.{object-inv, object-lawful, placed-form, ask-form}
-use Rattle.trace_text.proofs.AskReadings.{ask-read}
-use Rattle.trace_text.proofs.AskReadings.{few-ask_words}
+use Rattle.trace_text.proofs.AskForms.{ask-read, few-ask_words}
 
 -- ---- what is read as a step is one by form
 

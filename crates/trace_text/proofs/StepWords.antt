@@ -24,7 +24,7 @@ use Rattle.trace_text.specs.declared.asks.WordsRead.TheVariants.{Is, NoForm, Unk
 use Rattle.trace_text.specs.declared.row.Row.TheVariants.{Step}
 use Rattle.trace_text.proofs.Names.{object-known, known-object}
 use Rattle.trace_text.proofs.Values.{i64_in-Some, Some-i64_in, fits-natural}
-use Rattle.trace_text.proofs.KnownAsks.{ask_in, ask-known, ask-told, HasFewWords, few-words}
+use Rattle.trace_text.proofs.AskWords.{ask_in, ask-known, ask-told, HasFewWords, few-words}
 
 -- ---- numbers from 0 on
 

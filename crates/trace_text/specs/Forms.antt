@@ -13,40 +13,28 @@ use Rattle.pct_ask.specs.declared.names.NameKind.TheVariants as kinds
 use Rattle.pct_ask.specs.declared.ask.FaultKind.{FaultKind}
 use Rattle.pct_ask.specs.declared.verdict.MisuseKind.TheVariants.{TooManyReads}
 use Rattle.trace_text.specs.Lawful.{IsValue, IsStepCount}
+use Rattle.trace_text.specs.Verbs.{verb_word, verb_operands, verb_since, listed, mapped, Each}
+use Rattle.trace_text.specs.Verbs.{SomeOf}
+use Rattle.trace_text.specs.declared.verbs.Verb.{Verb}
+use Rattle.trace_text.specs.declared.verbs.OperandKind.{OperandKind}
+use Rattle.trace_text.specs.declared.verbs.OperandKind.TheVariants as operands
+use Rattle.trace_text.specs.declared.verbs.Operands.{Operands}
 
--- what is asked of one object, with no number
-pub data Verb : Type 0 where
-  Read : Verb
-  Lock : Verb
-  TryLock : Verb
-  Unlock : Verb
-  Signal : Verb
-  Broadcast : Verb
-  Down : Verb
-  TryDown : Verb
-  Up : Verb
-  Arrive : Verb
-  Leave : Verb
-  Join : Verb
-  Start : Verb
-  RdLock : Verb
-  WrLock : Verb
-  TryRdLock : Verb
-  TryWrLock : Verb
-  RwUnlock : Verb
+-- an operand: an object by its name, a number, whether a check holds, or a fault
+pub data OperandForm : Type 0 where
+  Name : (name : List ℕ) → OperandForm
+  Value : (value : ℤ) → OperandForm
+  Holds : (holds : Bool) → OperandForm
+  Cause : (kind : FaultKind) → OperandForm
 
--- what a step asks, with its objects by their names
-pub data AskForm : Type 0 where
-  On : (verb : Verb) (object : List ℕ) → AskForm
-  Write : (var : List ℕ) (value : ℤ) → AskForm
-  Add : (var : List ℕ) (value : ℤ) → AskForm
-  Cas : (var : List ℕ) (old new : ℤ) → AskForm
-  Release : (cond mutex : List ℕ) → AskForm
-  Regain : (cond mutex : List ℕ) → AskForm
-  Yield : AskForm
-  Begin : AskForm
-  Check : (holds : Bool) → AskForm
-  Fault : (kind : FaultKind) → AskForm
+-- what a step asks
+pub record AskForm : Type 0 where
+  pub verb : Verb
+  pub operands : Operands OperandForm
+
+-- the ask of a verb with these operands
+abbrev pub ask_form : Verb → Operands OperandForm → AskForm
+ask_form verb operands = record { verb = verb; operands = operands }
 
 -- what a line says: the four lines of the head, a step and the verdict
 pub data Form : Type 0 where
@@ -59,61 +47,16 @@ pub data Form : Type 0 where
 
 -- ---- the words of a form
 
--- the word of a verb
-abbrev pub verb_word : Verb → List ℕ
-verb_word Read = codes "read"
-verb_word Lock = codes "lock"
-verb_word TryLock = codes "trylock"
-verb_word Unlock = codes "unlock"
-verb_word Signal = codes "signal"
-verb_word Broadcast = codes "broadcast"
-verb_word Down = codes "down"
-verb_word TryDown = codes "trydown"
-verb_word Up = codes "up"
-verb_word Arrive = codes "arrive"
-verb_word Leave = codes "leave"
-verb_word Join = codes "join"
-verb_word Start = codes "start"
-verb_word RdLock = codes "rdlock"
-verb_word WrLock = codes "wrlock"
-verb_word TryRdLock = codes "tryrdlock"
-verb_word TryWrLock = codes "trywrlock"
-verb_word RwUnlock = codes "rwunlock"
-
--- the kind of object that a verb asks something of
-abbrev pub verb_kind : Verb → NameKind
-verb_kind Read = kinds.Var
-verb_kind Lock = kinds.Mutex
-verb_kind TryLock = kinds.Mutex
-verb_kind Unlock = kinds.Mutex
-verb_kind Signal = kinds.Cond
-verb_kind Broadcast = kinds.Cond
-verb_kind Down = kinds.Sem
-verb_kind TryDown = kinds.Sem
-verb_kind Up = kinds.Sem
-verb_kind Arrive = kinds.Barrier
-verb_kind Leave = kinds.Barrier
-verb_kind Join = kinds.Thread
-verb_kind Start = kinds.Thread
-verb_kind RdLock = kinds.RwLock
-verb_kind WrLock = kinds.RwLock
-verb_kind TryRdLock = kinds.RwLock
-verb_kind TryWrLock = kinds.RwLock
-verb_kind RwUnlock = kinds.RwLock
+-- an operand as a word
+abbrev pub operand_word : OperandForm → List ℕ
+operand_word (Name name) = name
+operand_word (Value value) = signed_decimal value
+operand_word (Holds holds) = check_word holds
+operand_word (Cause kind) = fault_word kind
 
 -- an ask as words
 abbrev pub words_of_ask : AskForm → List (List ℕ)
-words_of_ask (On verb object) = verb_word verb ∷ object ∷ []
-words_of_ask (Write var value) = codes "write" ∷ var ∷ signed_decimal value ∷ []
-words_of_ask (Add var value) = codes "add" ∷ var ∷ signed_decimal value ∷ []
-words_of_ask (Cas var old new) =
-    codes "cas" ∷ var ∷ signed_decimal old ∷ signed_decimal new ∷ []
-words_of_ask (Release cond mutex) = codes "release" ∷ cond ∷ mutex ∷ []
-words_of_ask (Regain cond mutex) = codes "regain" ∷ cond ∷ mutex ∷ []
-words_of_ask Yield = codes "yield" ∷ []
-words_of_ask Begin = codes "begin" ∷ []
-words_of_ask (Check holds) = codes "check" ∷ check_word holds ∷ []
-words_of_ask (Fault kind) = codes "fault" ∷ fault_word kind ∷ []
+words_of_ask ask = verb_word ask.verb ∷ listed (mapped operand_word ask.operands)
 
 -- a line as words
 abbrev pub words_of_form : Form → List (List ℕ)
@@ -138,15 +81,6 @@ StandsAt k (Limit limit) = k ≡ 4
 StandsAt k (Step number thread line ask answer) = 5 ≤ k
 StandsAt k (End verdict) = 5 ≤ k
 
--- the first version of traces that has a verb: read-write locks came with the second
-abbrev pub verb_since : Verb → ℕ
-verb_since RdLock = 2
-verb_since WrLock = 2
-verb_since TryRdLock = 2
-verb_since TryWrLock = 2
-verb_since RwUnlock = 2
-verb_since verb = 1
-
 -- the first version of traces that has a verdict: one misuse comes from read-write locks alone
 abbrev pub verdict_since : NamedVerdict → ℕ
 verdict_since (NamedMisuse name line TooManyReads) = 2
@@ -158,18 +92,18 @@ verdict_since verdict = 1
 abbrev pub IsName : List ℕ → Type 0
 IsName word = is_name 1 word ≡ true
 
--- an ask of a trace of this version: it is known there, its names are lawful and its numbers i64s
+-- an operand of a kind: a name is lawful and a number an i64
+abbrev pub IsOperandForm : OperandKind → OperandForm → Type 0
+IsOperandForm (operands.Object kind) (Name name) = IsName name
+IsOperandForm operands.Value (Value value) = IsValue value
+IsOperandForm operands.Holds (Holds holds) = Unit {0}
+IsOperandForm operands.Cause (Cause kind) = Unit {0}
+IsOperandForm kind operand = ⊥
+
+-- an ask of a trace of this version: its verb is known there, and its operands are such as it has
 abbrev pub IsAskOf : ℕ → AskForm → Type 0
-IsAskOf version (On verb object) = (verb_since verb ≤ version) × IsName object
-IsAskOf version (Write var value) = IsName var × IsValue value
-IsAskOf version (Add var value) = IsName var × IsValue value
-IsAskOf version (Cas var old new) = IsName var × IsValue old × IsValue new
-IsAskOf version (Release cond mutex) = IsName cond × IsName mutex
-IsAskOf version (Regain cond mutex) = IsName cond × IsName mutex
-IsAskOf version Yield = Unit {0}
-IsAskOf version Begin = Unit {0}
-IsAskOf version (Check holds) = Unit {0}
-IsAskOf version (Fault kind) = Unit {0}
+IsAskOf version ask =
+    (verb_since ask.verb ≤ version) × Each IsOperandForm (verb_operands ask.verb) ask.operands
 
 -- A line of a trace of this version, for a test with these names: the order has as many different
 -- lawful names as there are threads, there are at most 7 points, counts of steps are in 1..100000,
@@ -192,17 +126,15 @@ IsLineOf names version (End verdict) =
 abbrev pub IsUndeclared : NameLists → NameKind → List ℕ → Type 0
 IsUndeclared names kind name = place_of name (list_of kind names) ≡ None
 
+-- an operand is a name that isn't declared with this kind
+abbrev pub IsUnknownOperand : NameLists → OperandKind → OperandForm → Type 0
+IsUnknownOperand names (operands.Object kind) (Name name) = IsUndeclared names kind name
+IsUnknownOperand names kind operand = ⊥
+
 -- some name in the ask isn't declared with the kind that its place needs
 abbrev pub AsksUnknown : NameLists → AskForm → Type 0
-AsksUnknown names (On verb object) = IsUndeclared names (verb_kind verb) object
-AsksUnknown names (Write var value) = IsUndeclared names kinds.Var var
-AsksUnknown names (Add var value) = IsUndeclared names kinds.Var var
-AsksUnknown names (Cas var old new) = IsUndeclared names kinds.Var var
-AsksUnknown names (Release cond mutex) =
-    IsUndeclared names kinds.Cond cond ⊎ IsUndeclared names kinds.Mutex mutex
-AsksUnknown names (Regain cond mutex) =
-    IsUndeclared names kinds.Cond cond ⊎ IsUndeclared names kinds.Mutex mutex
-AsksUnknown names ask = ⊥
+AsksUnknown names ask =
+    SomeOf (IsUnknownOperand names) (verb_operands ask.verb) ask.operands
 
 -- some name in the line isn't declared with the kind that its place needs
 abbrev pub HasUnknown : NameLists → Form → Type 0

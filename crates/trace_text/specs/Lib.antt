@@ -1,6 +1,7 @@
 pub mod Lawful
 pub mod Trace
 pub mod Lines
+pub mod Verbs
 pub mod Forms
 pub mod Faults
 pub mod Answers

@@ -10,10 +10,13 @@ use Rattle.pct_ask.specs.declared.verdict.Verdict.TheVariants.{Stuck, Cut}
 use Rattle.pct_ask.specs.Numbers.{number_in}
 use Rattle.trace_text.specs.reader.Numbers.{i64_in}
 use Rattle.trace_text.specs.reader.StepLines.{row_of, step_in_words}
-use Rattle.trace_text.specs.reader.Asks.{ask_on_one}
+use Rattle.trace_text.specs.Verbs.{verb_in}
+use Rattle.trace_text.specs.reader.Asks.{ask_of_words}
 use Rattle.trace_text.specs.Faults.{version_of}
 use Rattle.trace_text.specs.Forms as forms
-use Rattle.trace_text.specs.Forms.{Order, Points, Limit, End, On, Cas, Release, words_of_form}
+use Rattle.trace_text.specs.Forms.{Order, Points, Limit, End, Name, Value, ask_form, words_of_form}
+use Rattle.trace_text.specs.declared.verbs.Verb.TheVariants as verbs
+use Rattle.trace_text.specs.declared.verbs.Operands.TheVariants.{One, Two, Three}
 use Rattle.pct_ask.specs.Pieces.{pieces_of}
 use Rattle.trace_text.specs.declared.row.Row.TheVariants.{Step}
 
@@ -31,24 +34,24 @@ some_names = record {
 
 pub a_read : row_of some_names 1 (codes "1 A 4 read x = 0")
     ≡ Some (Step 1 (Some (record { thread = 0; line = 4; ask = Read 0; answer = pos 0 })))
-unfolding row_of step_in_words ask_on_one i64_in number_in digits
+unfolding row_of step_in_words ask_of_words verb_in i64_in number_in digits
 a_read = refl
 
 pub unknown_name : row_of some_names 1 (codes "1 A 4 read y = 0") ≡ Some (Step 1 None)
-unfolding row_of step_in_words ask_on_one i64_in number_in digits
+unfolding row_of step_in_words ask_of_words verb_in i64_in number_in digits
 unknown_name = refl
 
 pub leading_zero : row_of some_names 1 (codes "01 A 4 read x = 0") ≡ None
-unfolding row_of step_in_words ask_on_one i64_in number_in digits
+unfolding row_of step_in_words ask_of_words verb_in i64_in number_in digits
 leading_zero = refl
 
 pub rdlock_in_second : row_of some_names 2 (codes "1 A 4 rdlock l = 0")
     ≡ Some (Step 1 (Some (record { thread = 0; line = 4; ask = RdLock 0; answer = pos 0 })))
-unfolding row_of step_in_words ask_on_one i64_in number_in digits
+unfolding row_of step_in_words ask_of_words verb_in i64_in number_in digits
 rdlock_in_second = refl
 
 pub second_version_in_first : row_of some_names 1 (codes "1 A 4 rdlock l = 0") ≡ None
-unfolding row_of step_in_words ask_on_one i64_in number_in digits
+unfolding row_of step_in_words ask_of_words verb_in i64_in number_in digits
 second_version_in_first = refl
 
 -- two steps of a trace of the second version
@@ -81,17 +84,17 @@ unfolding digits
 a_limit = refl
 
 pub a_step : words_of (codes "3 B 8 read x = 7")
-    ≡ words_of_form (forms.Step 3 (codes "B") 8 (On forms.Read (codes "x")) (pos 7))
+    ≡ words_of_form (forms.Step 3 (codes "B") 8 (ask_form verbs.Read (One (Name (codes "x")))) (pos 7))
 unfolding digits
 a_step = refl
 
 pub a_wait : words_of (codes "12 A 9 release c m = 0")
-    ≡ words_of_form (forms.Step 12 (codes "A") 9 (Release (codes "c") (codes "m")) (pos 0))
+    ≡ words_of_form (forms.Step 12 (codes "A") 9 (ask_form verbs.Release (Two (Name (codes "c")) (Name (codes "m")))) (pos 0))
 unfolding digits
 a_wait = refl
 
 pub an_exchange : words_of (codes "2 A 5 cas x -1 20 = 1")
-    ≡ words_of_form (forms.Step 2 (codes "A") 5 (Cas (codes "x") (negsuc 0) (pos 20)) (pos 1))
+    ≡ words_of_form (forms.Step 2 (codes "A") 5 (ask_form verbs.Cas (Three (Name (codes "x")) (Value (negsuc 0)) (Value (pos 20)))) (pos 1))
 unfolding digits
 an_exchange = refl
 

@@ -1,68 +1,16 @@
 //! The words of asks.
 
 ghost use Rattle.std.specs.Prelude.{◌≡◌};
+ghost use Rattle.trace_text.specs.Verbs.{mapped};
 ghost use Rattle.trace_text.specs.reader.Asks as asks;
 
 use crate::number::i64_in;
-use pct_ask::{Ask, NameKind, Names, fault_kind, is_among, is_lawful_name};
-
-pub const READ: &[u8] = b"read";
-
-pub const WRITE: &[u8] = b"write";
-
-pub const ADD: &[u8] = b"add";
-
-pub const CAS: &[u8] = b"cas";
-
-pub const LOCK: &[u8] = b"lock";
-
-pub const TRY_LOCK: &[u8] = b"trylock";
-
-pub const UNLOCK: &[u8] = b"unlock";
-
-pub const RELEASE: &[u8] = b"release";
-
-pub const REGAIN: &[u8] = b"regain";
-
-pub const SIGNAL: &[u8] = b"signal";
-
-pub const BROADCAST: &[u8] = b"broadcast";
-
-pub const DOWN: &[u8] = b"down";
-
-pub const TRY_DOWN: &[u8] = b"trydown";
-
-pub const UP: &[u8] = b"up";
-
-pub const ARRIVE: &[u8] = b"arrive";
-
-pub const LEAVE: &[u8] = b"leave";
-
-pub const JOIN: &[u8] = b"join";
-
-pub const YIELD: &[u8] = b"yield";
-
-pub const CHECK: &[u8] = b"check";
+use crate::verbs::{Operand, OperandKind, Operands, Verb, verb_in};
+use pct_ask::{Ask, NameKind, Names, fault_kind, is_lawful_name};
 
 pub const HOLDS: &[u8] = b"1";
 
 pub const FAILS: &[u8] = b"0";
-
-pub const FAULT: &[u8] = b"fault";
-
-pub const START: &[u8] = b"start";
-
-pub const BEGIN: &[u8] = b"begin";
-
-pub const RD_LOCK: &[u8] = b"rdlock";
-
-pub const WR_LOCK: &[u8] = b"wrlock";
-
-pub const TRY_RD_LOCK: &[u8] = b"tryrdlock";
-
-pub const TRY_WR_LOCK: &[u8] = b"trywrlock";
-
-pub const RW_UNLOCK: &[u8] = b"rwunlock";
 
 /// What words of a line are read as: an object, or an ask.
 #[derive(Clone, Copy)]
@@ -111,85 +59,6 @@ pub fn object(names: &Names, kind: NameKind, word: &[u8]) -> WordsRead<u32>
     }
 }
 
-/// The kind of object that a word asks something of.
-fn kind_of(version: u32, word: &[u8]) -> Option<NameKind>
-    ensures { result ≡ asks.kind_of version word.now }
-{
-    if is_among(word, &[JOIN, START]) {
-        Some(NameKind::Thread)
-    } else if is_among(word, &[READ]) {
-        Some(NameKind::Var)
-    } else if is_among(word, &[LOCK, TRY_LOCK, UNLOCK]) {
-        Some(NameKind::Mutex)
-    } else if is_among(word, &[SIGNAL, BROADCAST]) {
-        Some(NameKind::Cond)
-    } else if is_among(word, &[DOWN, TRY_DOWN, UP]) {
-        Some(NameKind::Sem)
-    } else if is_among(word, &[ARRIVE, LEAVE]) {
-        Some(NameKind::Barrier)
-    } else if version == 2
-        && is_among(
-            word,
-            &[RD_LOCK, WR_LOCK, TRY_RD_LOCK, TRY_WR_LOCK, RW_UNLOCK],
-        )
-    {
-        Some(NameKind::RwLock)
-    } else {
-        None
-    }
-}
-
-/// What a word asks of the object at a place.
-fn ask_of(kind: NameKind, word: &[u8], id: u32) -> Ask
-    ensures { result ≡ asks.ask_of kind word.now id }
-{
-    match kind {
-        NameKind::Thread if word == JOIN => Ask::Join { thread: id },
-        NameKind::Thread => Ask::Start { thread: id },
-        NameKind::Var => Ask::Read { var: id },
-        NameKind::Mutex if word == LOCK => Ask::Lock { mutex: id },
-        NameKind::Mutex if word == TRY_LOCK => Ask::TryLock { mutex: id },
-        NameKind::Mutex => Ask::Unlock { mutex: id },
-        NameKind::Cond if word == SIGNAL => Ask::Signal { cond: id },
-        NameKind::Cond => Ask::Broadcast { cond: id },
-        NameKind::Sem if word == DOWN => Ask::Down { sem: id },
-        NameKind::Sem if word == TRY_DOWN => Ask::TryDown { sem: id },
-        NameKind::Sem => Ask::Up { sem: id },
-        NameKind::Barrier if word == ARRIVE => Ask::Arrive { barrier: id },
-        NameKind::Barrier => Ask::Leave { barrier: id },
-        NameKind::RwLock => read_write_ask(word, id),
-    }
-}
-
-fn read_write_ask(word: &[u8], rwlock: u32) -> Ask
-    ensures { result ≡ asks.ask_of NameKind.RwLock word.now rwlock }
-{
-    if word == RD_LOCK {
-        Ask::RdLock { rwlock }
-    } else if word == WR_LOCK {
-        Ask::WrLock { rwlock }
-    } else if word == TRY_RD_LOCK {
-        Ask::TryRdLock { rwlock }
-    } else if word == TRY_WR_LOCK {
-        Ask::TryWrLock { rwlock }
-    } else {
-        Ask::RwUnlock { rwlock }
-    }
-}
-
-/// An ask of one word.
-pub fn bare_ask(word: &[u8]) -> WordsRead<Ask>
-    ensures { result ≡ asks.bare_ask word.now }
-{
-    if word == YIELD {
-        WordsRead::Is(Ask::Yield)
-    } else if word == BEGIN {
-        WordsRead::Is(Ask::Begin)
-    } else {
-        WordsRead::NoForm
-    }
-}
-
 fn holds_of(word: &[u8]) -> Option<bool>
     ensures { result ≡ asks.holds_of word.now }
 {
@@ -202,75 +71,40 @@ fn holds_of(word: &[u8]) -> Option<bool>
     }
 }
 
-/// An ask with an operand that is no object.
-fn plain_ask(word: &[u8], operand: &[u8]) -> WordsRead<Ask>
-    ensures { result ≡ asks.plain_ask word.now operand.now }
+/// An operand, by its word.
+fn operand_in(names: &Names, kind: OperandKind, word: &[u8]) -> WordsRead<Operand>
+    ensures { result ≡ asks.operand_in names.now kind word.now }
 {
-    if word == CHECK {
-        match holds_of(operand) {
-            Some(holds) => WordsRead::Is(Ask::Check { holds }),
+    match kind {
+        OperandKind::Object(kind) => placed(object(names, kind, word)),
+        OperandKind::Value => match i64_in(word) {
+            Some(value) => WordsRead::Is(Operand::Value(value)),
             None => WordsRead::NoForm,
-        }
-    } else if word == FAULT {
-        match fault_kind(operand) {
-            Some(kind) => WordsRead::Is(Ask::Fault { kind }),
+        },
+        OperandKind::Holds => match holds_of(word) {
+            Some(holds) => WordsRead::Is(Operand::Holds(holds)),
             None => WordsRead::NoForm,
-        }
-    } else {
-        WordsRead::NoForm
+        },
+        OperandKind::Cause => match fault_kind(word) {
+            Some(kind) => WordsRead::Is(Operand::Cause(kind)),
+            None => WordsRead::NoForm,
+        },
     }
 }
 
-fn object_ask(kind: NameKind, word: &[u8], object: WordsRead<u32>) -> WordsRead<Ask>
-    ensures { result ≡ asks.on_object (asks.ask_of kind word.now) object }
+fn placed(object: WordsRead<u32>) -> WordsRead<Operand>
+    ensures { result ≡ asks.placed object }
 {
     match object {
-        WordsRead::Is(id) => WordsRead::Is(ask_of(kind, word, id)),
+        WordsRead::Is(id) => WordsRead::Is(Operand::Place(id)),
         WordsRead::NoForm => WordsRead::NoForm,
         WordsRead::UnknownName => WordsRead::UnknownName,
     }
 }
 
-/// An ask of two words.
-#[tactic(auto, unfolding(crate::specs::reader::Asks::ask_on_one))]
-pub fn ask_on_one(names: &Names, version: u32, word: &[u8], operand: &[u8]) -> WordsRead<Ask>
-    ensures { result ≡ asks.ask_on_one names.now version word.now operand.now }
-{
-    match kind_of(version, word) {
-        None => plain_ask(word, operand),
-        Some(kind) => object_ask(kind, word, object(names, kind, operand)),
-    }
-}
-
-fn write(var: WordsRead<u32>, value: Option<i64>) -> WordsRead<Ask>
-    ensures { result ≡ asks.ask_with_value Ask.Write var value }
-{
-    let Some(value) = value else {
-        return WordsRead::NoForm;
-    };
-    match var {
-        WordsRead::Is(var) => WordsRead::Is(Ask::Write { var, value }),
-        WordsRead::NoForm => WordsRead::NoForm,
-        WordsRead::UnknownName => WordsRead::UnknownName,
-    }
-}
-
-fn add(var: WordsRead<u32>, value: Option<i64>) -> WordsRead<Ask>
-    ensures { result ≡ asks.ask_with_value Ask.Add var value }
-{
-    let Some(value) = value else {
-        return WordsRead::NoForm;
-    };
-    match var {
-        WordsRead::Is(var) => WordsRead::Is(Ask::Add { var, value }),
-        WordsRead::NoForm => WordsRead::NoForm,
-        WordsRead::UnknownName => WordsRead::UnknownName,
-    }
-}
-
-/// Two objects, where each has a form and the names of both are known.
-fn both(first: WordsRead<u32>, second: WordsRead<u32>) -> WordsRead<(u32, u32)>
-    ensures { result ≡ asks.both_objects first second }
+/// Two things, where each has a form and the names of both are known.
+fn both<A: Copy, B: Copy>(first: WordsRead<A>, second: WordsRead<B>) -> WordsRead<(A, B)>
+    ensures { result ≡ asks.both first second }
 {
     match first {
         WordsRead::Is(first) => match second {
@@ -287,76 +121,163 @@ fn both(first: WordsRead<u32>, second: WordsRead<u32>) -> WordsRead<(u32, u32)>
     }
 }
 
-fn release(objects: WordsRead<(u32, u32)>) -> WordsRead<Ask>
-    ensures { result ≡ asks.on_both Ask.Release objects }
+fn one(operand: WordsRead<Operand>) -> WordsRead<Operands<Operand>>
+    ensures { result ≡ asks.one operand }
 {
-    match objects {
-        WordsRead::Is((cond, mutex)) => WordsRead::Is(Ask::Release { cond, mutex }),
+    match operand {
+        WordsRead::Is(operand) => WordsRead::Is(Operands::One(operand)),
         WordsRead::NoForm => WordsRead::NoForm,
         WordsRead::UnknownName => WordsRead::UnknownName,
     }
 }
 
-fn regain(objects: WordsRead<(u32, u32)>) -> WordsRead<Ask>
-    ensures { result ≡ asks.on_both Ask.Regain objects }
+fn two(operands: WordsRead<(Operand, Operand)>) -> WordsRead<Operands<Operand>>
+    ensures { result ≡ asks.two operands }
 {
-    match objects {
-        WordsRead::Is((cond, mutex)) => WordsRead::Is(Ask::Regain { cond, mutex }),
+    match operands {
+        WordsRead::Is((first, second)) => WordsRead::Is(Operands::Two(first, second)),
         WordsRead::NoForm => WordsRead::NoForm,
         WordsRead::UnknownName => WordsRead::UnknownName,
     }
 }
 
-/// An ask of three words.
-#[tactic(auto, unfolding(crate::specs::reader::Asks::ask_on_two))]
-pub fn ask_on_two(names: &Names, word: &[u8], first: &[u8], second: &[u8]) -> WordsRead<Ask>
-    ensures { result ≡ asks.ask_on_two names.now word.now first.now second.now }
+fn three(operands: WordsRead<(Operand, (Operand, Operand))>) -> WordsRead<Operands<Operand>>
+    ensures { result ≡ asks.three operands }
 {
-    if word == WRITE {
-        write(object(names, NameKind::Var, first), i64_in(second))
-    } else if word == ADD {
-        add(object(names, NameKind::Var, first), i64_in(second))
-    } else if word == RELEASE {
-        let cond = object(names, NameKind::Cond, first);
-        release(both(cond, object(names, NameKind::Mutex, second)))
-    } else if word == REGAIN {
-        let cond = object(names, NameKind::Cond, first);
-        regain(both(cond, object(names, NameKind::Mutex, second)))
-    } else {
-        WordsRead::NoForm
-    }
-}
-
-fn exchange(var: WordsRead<u32>, old: Option<i64>, new: Option<i64>) -> WordsRead<Ask>
-    ensures { result ≡ asks.exchange var old new }
-{
-    let Some(old) = old else {
-        return WordsRead::NoForm;
-    };
-    let Some(new) = new else {
-        return WordsRead::NoForm;
-    };
-    match var {
-        WordsRead::Is(var) => WordsRead::Is(Ask::Cas { var, old, new }),
+    match operands {
+        WordsRead::Is((first, (second, third))) => {
+            WordsRead::Is(Operands::Three(first, second, third))
+        }
         WordsRead::NoForm => WordsRead::NoForm,
         WordsRead::UnknownName => WordsRead::UnknownName,
     }
 }
 
-/// An ask of four words.
-#[tactic(auto, unfolding(crate::specs::reader::Asks::ask_on_three))]
-pub fn ask_on_three(
+/// As many operands as there are kinds, each of its own.
+fn operands_in(
     names: &Names,
-    word: &[u8],
-    var: &[u8],
-    old: &[u8],
-    new: &[u8],
-) -> WordsRead<Ask>
-    ensures { result ≡ asks.ask_on_three names.now word.now var.now old.now new.now }
+    kinds: Operands<OperandKind>,
+    words: Operands<&[u8]>,
+) -> WordsRead<Operands<Operand>>
+    ensures { result ≡ asks.operands_in names.now kinds (mapped (λ w. w.now) words.entry) }
 {
-    if word == CAS {
-        exchange(object(names, NameKind::Var, var), i64_in(old), i64_in(new))
-    } else {
-        WordsRead::NoForm
+    match (kinds, words) {
+        (Operands::Bare, Operands::Bare) => WordsRead::Is(Operands::Bare),
+        (Operands::One(k), Operands::One(a)) => one(operand_in(names, k, a)),
+        (Operands::Two(k, l), Operands::Two(a, b)) => {
+            two(both(operand_in(names, k, a), operand_in(names, l, b)))
+        }
+        (Operands::Three(k, l, m), Operands::Three(a, b, c)) => {
+            let others = both(operand_in(names, l, b), operand_in(names, m, c));
+            three(both(operand_in(names, k, a), others))
+        }
+        _ => WordsRead::NoForm,
+    }
+}
+
+fn bare_ask(verb: Verb) -> Option<Ask>
+    ensures { result ≡ asks.bare_ask verb }
+{
+    match verb {
+        Verb::Yield => Some(Ask::Yield),
+        Verb::Begin => Some(Ask::Begin),
+        _ => None,
+    }
+}
+
+fn object_ask(verb: Verb, id: u32) -> Option<Ask>
+    ensures { result ≡ asks.object_ask verb id }
+{
+    let ask = match verb {
+        Verb::Read => Ask::Read { var: id },
+        Verb::Lock => Ask::Lock { mutex: id },
+        Verb::TryLock => Ask::TryLock { mutex: id },
+        Verb::Unlock => Ask::Unlock { mutex: id },
+        Verb::Signal => Ask::Signal { cond: id },
+        Verb::Broadcast => Ask::Broadcast { cond: id },
+        Verb::Down => Ask::Down { sem: id },
+        Verb::TryDown => Ask::TryDown { sem: id },
+        Verb::Up => Ask::Up { sem: id },
+        Verb::Arrive => Ask::Arrive { barrier: id },
+        Verb::Leave => Ask::Leave { barrier: id },
+        Verb::Join => Ask::Join { thread: id },
+        Verb::Start => Ask::Start { thread: id },
+        Verb::RdLock => Ask::RdLock { rwlock: id },
+        Verb::WrLock => Ask::WrLock { rwlock: id },
+        Verb::TryRdLock => Ask::TryRdLock { rwlock: id },
+        Verb::TryWrLock => Ask::TryWrLock { rwlock: id },
+        Verb::RwUnlock => Ask::RwUnlock { rwlock: id },
+        _ => return None,
+    };
+    Some(ask)
+}
+
+fn change_ask(verb: Verb, var: u32, value: i64) -> Option<Ask>
+    ensures { result ≡ asks.change_ask verb var value }
+{
+    match verb {
+        Verb::Write => Some(Ask::Write { var, value }),
+        Verb::Add => Some(Ask::Add { var, value }),
+        _ => None,
+    }
+}
+
+fn wait_ask(verb: Verb, cond: u32, mutex: u32) -> Option<Ask>
+    ensures { result ≡ asks.wait_ask verb cond mutex }
+{
+    match verb {
+        Verb::Release => Some(Ask::Release { cond, mutex }),
+        Verb::Regain => Some(Ask::Regain { cond, mutex }),
+        _ => None,
+    }
+}
+
+/// What a verb asks with these operands, where they are such as it has.
+fn ask_of(verb: Verb, operands: Operands<Operand>) -> Option<Ask>
+    ensures { result ≡ asks.ask_of verb operands }
+{
+    match operands {
+        Operands::Bare => bare_ask(verb),
+        Operands::One(Operand::Place(id)) => object_ask(verb, id),
+        Operands::One(Operand::Holds(holds)) => Some(Ask::Check { holds }),
+        Operands::One(Operand::Cause(kind)) => Some(Ask::Fault { kind }),
+        Operands::Two(Operand::Place(var), Operand::Value(value)) => change_ask(verb, var, value),
+        Operands::Two(Operand::Place(cond), Operand::Place(mutex)) => wait_ask(verb, cond, mutex),
+        Operands::Three(Operand::Place(var), Operand::Value(old), Operand::Value(new)) => {
+            Some(Ask::Cas { var, old, new })
+        }
+        _ => None,
+    }
+}
+
+fn asked(verb: Verb, operands: WordsRead<Operands<Operand>>) -> WordsRead<Ask>
+    ensures { result ≡ asks.asked verb operands }
+{
+    match operands {
+        WordsRead::Is(operands) => match ask_of(verb, operands) {
+            Some(ask) => WordsRead::Is(ask),
+            None => WordsRead::NoForm,
+        },
+        WordsRead::NoForm => WordsRead::NoForm,
+        WordsRead::UnknownName => WordsRead::UnknownName,
+    }
+}
+
+/// An ask, by its first word and those of its operands.
+#[tactic(auto, unfolding(crate::specs::reader::Asks::ask_of_words))]
+pub fn ask_of_words(
+    names: &Names,
+    version: u32,
+    word: &[u8],
+    operands: Operands<&[u8]>,
+) -> WordsRead<Ask>
+    ensures { result ≡ asks.ask_of_words names.now version word.now (mapped (λ w. w.now) operands.entry) }
+{
+    match verb_in(version, word) {
+        Some(verb) => asked(
+            verb,
+            operands_in(names, verb.signature().operands, operands),
+        ),
+        None => WordsRead::NoForm,
     }
 }

@@ -17,6 +17,7 @@ mod head;
 mod number;
 mod reading;
 mod row;
+mod verbs;
 mod writing;
 
 pub use fault::{TraceError, TraceFault};

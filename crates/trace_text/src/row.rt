@@ -11,9 +11,10 @@ ghost use Rattle.trace_text.specs.reader.StepLines as lines;
 ghost use Rattle.trace_text.specs.reader.Reading as reading;
 ghost use Rattle.pct_ask.specs.Pieces.{seen};
 
-use crate::asks::{WordsRead, ask_on_one, ask_on_three, ask_on_two, bare_ask, object};
+use crate::asks::{WordsRead, ask_of_words, object};
 use crate::fault::TraceFault;
 use crate::number::{i64_in, natural_of};
+use crate::verbs::Operands;
 use pct_ask::{
     Ask, Event, MisuseKind, NameKind, Names, Verdict, VerdictRead, first_words, line_number,
     read_verdict,
@@ -108,8 +109,8 @@ fn step_in_words(names: &Names, around: &Around<'_>, ask: WordsRead<Ask>) -> Opt
     numbered_step(number, thread, line, ask, answer)
 }
 
-fn bare_step(names: &Names, words: &[&[u8]]) -> Option<Row>
-    ensures { (version : ℕ) → length words.now ≡ 6
+fn bare_step(names: &Names, version: u32, words: &[&[u8]]) -> Option<Row>
+    ensures { length words.now ≡ 6
         → result ≡ lines.step_of_words names.now version (seen words.now) }
 {
     let [number, thread, line, word, sign, answer] = words else {
@@ -122,7 +123,8 @@ fn bare_step(names: &Names, words: &[&[u8]]) -> Option<Row>
         sign,
         answer,
     };
-    step_in_words(names, &around, bare_ask(word))
+    let ask = ask_of_words(names, version, word, Operands::Bare);
+    step_in_words(names, &around, ask)
 }
 
 fn step_on_one(names: &Names, version: u32, words: &[&[u8]]) -> Option<Row>
@@ -139,11 +141,12 @@ fn step_on_one(names: &Names, version: u32, words: &[&[u8]]) -> Option<Row>
         sign,
         answer,
     };
-    step_in_words(names, &around, ask_on_one(names, version, word, a))
+    let ask = ask_of_words(names, version, word, Operands::One(a));
+    step_in_words(names, &around, ask)
 }
 
-fn step_on_two(names: &Names, words: &[&[u8]]) -> Option<Row>
-    ensures { (version : ℕ) → length words.now ≡ 8
+fn step_on_two(names: &Names, version: u32, words: &[&[u8]]) -> Option<Row>
+    ensures { length words.now ≡ 8
         → result ≡ lines.step_of_words names.now version (seen words.now) }
 {
     let [number, thread, line, word, a, b, sign, answer] = words else {
@@ -156,11 +159,12 @@ fn step_on_two(names: &Names, words: &[&[u8]]) -> Option<Row>
         sign,
         answer,
     };
-    step_in_words(names, &around, ask_on_two(names, word, a, b))
+    let ask = ask_of_words(names, version, word, Operands::Two(a, b));
+    step_in_words(names, &around, ask)
 }
 
-fn step_on_three(names: &Names, words: &[&[u8]]) -> Option<Row>
-    ensures { (version : ℕ) → length words.now ≡ 9
+fn step_on_three(names: &Names, version: u32, words: &[&[u8]]) -> Option<Row>
+    ensures { length words.now ≡ 9
         → result ≡ lines.step_of_words names.now version (seen words.now) }
 {
     let [number, thread, line, word, a, b, c, sign, answer] = words else {
@@ -173,7 +177,8 @@ fn step_on_three(names: &Names, words: &[&[u8]]) -> Option<Row>
         sign,
         answer,
     };
-    step_in_words(names, &around, ask_on_three(names, word, a, b, c))
+    let ask = ask_of_words(names, version, word, Operands::Three(a, b, c));
+    step_in_words(names, &around, ask)
 }
 
 /// The step that the words of a line tell. The words of its ask are one to four.
@@ -181,13 +186,13 @@ fn read_step(names: &Names, version: u32, words: &[&[u8]]) -> Option<Row>
     ensures { result ≡ lines.step_of_words names.now version (seen words.now) }
 {
     if words.len() == 6 {
-        bare_step(names, words)
+        bare_step(names, version, words)
     } else if words.len() == 7 {
         step_on_one(names, version, words)
     } else if words.len() == 8 {
-        step_on_two(names, words)
+        step_on_two(names, version, words)
     } else if words.len() == 9 {
-        step_on_three(names, words)
+        step_on_three(names, version, words)
     } else {
         None
     }

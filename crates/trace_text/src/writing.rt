@@ -13,17 +13,16 @@ ghost use Rattle.trace_text.specs.Answers.{AnswersTrace};
 ghost use Rattle.trace_text.specs.Lawful.{IsValue, HasObjects, IsAsk, NamesKnown, IsStep, IsHead};
 ghost use Rattle.trace_text.specs.Lawful.{is_of_second};
 ghost use Rattle.trace_text.specs.Spaced.{behind_spaces};
+ghost use Rattle.trace_text.specs.Verbs.{verb_word};
 ghost use Rattle.trace_text.specs.Trace.{head_of, file_of_parts, IsTrace};
 ghost use Rattle.trace_text.specs.declared.file.TraceFile.{TraceFile};
 ghost use Rattle.trace_text.specs.declared.fault.TraceError.{TraceError};
 
-use crate::asks::{
-    ADD, ARRIVE, BEGIN, BROADCAST, CAS, CHECK, DOWN, FAILS, FAULT, HOLDS, JOIN, LEAVE, LOCK,
-    RD_LOCK, READ, REGAIN, RELEASE, RW_UNLOCK, SIGNAL, START, TRY_DOWN, TRY_LOCK, TRY_RD_LOCK,
-    TRY_WR_LOCK, UNLOCK, UP, WR_LOCK, WRITE, YIELD,
-};
+use crate::asks::{FAILS, HOLDS};
 use crate::fault::TraceError;
 use crate::file::{Header, TraceFile};
+use crate::verbs::Verb;
+use NameKind::{Barrier, Cond, Mutex, RwLock, Sem, Thread, Var};
 use pct_ask::{
     Ask, Event, NameKind, Names, Verdict, fault_word, write_number, write_spaced_number,
     write_spaced_word, write_verdict,
@@ -64,7 +63,7 @@ fn push_name(out: &mut Vec<u8>, names: &Names, kind: NameKind, id: u32) -> Resul
 fn push_object(
     out: &mut Vec<u8>,
     names: &Names,
-    word: &[u8],
+    verb: Verb,
     kind: NameKind,
     id: u32,
 ) -> Result<(), NoMemory>
@@ -72,9 +71,9 @@ fn push_object(
     ensures { OnOk result
         (out.new.items
         ≡ out.old.items
-        ++ behind_spaces (word.now ∷ slice_index_or (list_of kind names.now) id [] ∷ [])) }
+        ++ behind_spaces (verb_word verb ∷ slice_index_or (list_of kind names.now) id [] ∷ [])) }
 {
-    push_word(out, word)?;
+    push_word(out, verb.word())?;
     push_name(out, names, kind, id)
 }
 
@@ -82,7 +81,7 @@ fn push_object(
 fn push_wait(
     out: &mut Vec<u8>,
     names: &Names,
-    word: &[u8],
+    verb: Verb,
     cond: u32,
     mutex: u32,
 ) -> Result<(), NoMemory>
@@ -92,10 +91,10 @@ fn push_wait(
         (out.new.items
         ≡ out.old.items
         ++ behind_spaces
-        (word.now ∷ slice_index_or names.now.conds cond []
+        (verb_word verb ∷ slice_index_or names.now.conds cond []
         ∷ slice_index_or names.now.mutexes mutex [] ∷ [])) }
 {
-    push_object(out, names, word, NameKind::Cond, cond)?;
+    push_object(out, names, verb, NameKind::Cond, cond)?;
     push_name(out, names, NameKind::Mutex, mutex)
 }
 
@@ -103,7 +102,7 @@ fn push_wait(
 fn push_change(
     out: &mut Vec<u8>,
     names: &Names,
-    word: &[u8],
+    verb: Verb,
     var: u32,
     value: i64,
 ) -> Result<(), NoMemory>
@@ -112,17 +111,17 @@ fn push_change(
         (out.new.items
         ≡ out.old.items
         ++ behind_spaces
-        (word.now ∷ slice_index_or names.now.vars var [] ∷ signed_decimal value ∷ [])) }
+        (verb_word verb ∷ slice_index_or names.now.vars var [] ∷ signed_decimal value ∷ [])) }
 {
-    push_object(out, names, word, NameKind::Var, var)?;
+    push_object(out, names, verb, NameKind::Var, var)?;
     push_value(out, value)
 }
 
-fn push_pair(out: &mut Vec<u8>, word: &[u8], operand: &[u8]) -> Result<(), NoMemory>
+fn push_pair(out: &mut Vec<u8>, verb: Verb, operand: &[u8]) -> Result<(), NoMemory>
     ensures { OnOk result
-        (out.new.items ≡ out.old.items ++ behind_spaces (word.now ∷ operand.now ∷ [])) }
+        (out.new.items ≡ out.old.items ++ behind_spaces (verb_word verb ∷ operand.now ∷ [])) }
 {
-    push_word(out, word)?;
+    push_word(out, verb.word())?;
     push_word(out, operand)
 }
 
@@ -141,7 +140,7 @@ fn push_cas(out: &mut Vec<u8>, names: &Names, var: u32, old: i64, new: i64) -> R
         (codes "cas" ∷ slice_index_or names.now.vars var [] ∷ signed_decimal old
         ∷ signed_decimal new ∷ [])) }
 {
-    push_change(out, names, CAS, var, old)?;
+    push_change(out, names, Verb::Cas, var, old)?;
     push_value(out, new)
 }
 
@@ -152,33 +151,33 @@ fn push_ask(out: &mut Vec<u8>, names: &Names, version: u32, ask: Ask) -> Result<
         (out.new.items ≡ out.old.items ++ behind_spaces (ask_words names.now ask)) }
 {
     match ask {
-        Ask::Read { var } => push_object(out, names, READ, NameKind::Var, var),
-        Ask::Write { var, value } => push_change(out, names, WRITE, var, value),
-        Ask::Add { var, value } => push_change(out, names, ADD, var, value),
+        Ask::Read { var } => push_object(out, names, Verb::Read, Var, var),
+        Ask::Write { var, value } => push_change(out, names, Verb::Write, var, value),
+        Ask::Add { var, value } => push_change(out, names, Verb::Add, var, value),
         Ask::Cas { var, old, new } => push_cas(out, names, var, old, new),
-        Ask::Lock { mutex } => push_object(out, names, LOCK, NameKind::Mutex, mutex),
-        Ask::TryLock { mutex } => push_object(out, names, TRY_LOCK, NameKind::Mutex, mutex),
-        Ask::Unlock { mutex } => push_object(out, names, UNLOCK, NameKind::Mutex, mutex),
-        Ask::Release { cond, mutex } => push_wait(out, names, RELEASE, cond, mutex),
-        Ask::Regain { cond, mutex } => push_wait(out, names, REGAIN, cond, mutex),
-        Ask::Signal { cond } => push_object(out, names, SIGNAL, NameKind::Cond, cond),
-        Ask::Broadcast { cond } => push_object(out, names, BROADCAST, NameKind::Cond, cond),
-        Ask::Down { sem } => push_object(out, names, DOWN, NameKind::Sem, sem),
-        Ask::TryDown { sem } => push_object(out, names, TRY_DOWN, NameKind::Sem, sem),
-        Ask::Up { sem } => push_object(out, names, UP, NameKind::Sem, sem),
-        Ask::Arrive { barrier } => push_object(out, names, ARRIVE, NameKind::Barrier, barrier),
-        Ask::Leave { barrier } => push_object(out, names, LEAVE, NameKind::Barrier, barrier),
-        Ask::Join { thread } => push_object(out, names, JOIN, NameKind::Thread, thread),
-        Ask::Yield => push_word(out, YIELD),
-        Ask::Check { holds } => push_pair(out, CHECK, check_word(holds)),
-        Ask::Fault { kind } => push_pair(out, FAULT, fault_word(kind)),
-        Ask::Start { thread } => push_object(out, names, START, NameKind::Thread, thread),
-        Ask::Begin => push_word(out, BEGIN),
-        Ask::RdLock { rwlock } => push_object(out, names, RD_LOCK, NameKind::RwLock, rwlock),
-        Ask::WrLock { rwlock } => push_object(out, names, WR_LOCK, NameKind::RwLock, rwlock),
-        Ask::TryRdLock { rwlock } => push_object(out, names, TRY_RD_LOCK, NameKind::RwLock, rwlock),
-        Ask::TryWrLock { rwlock } => push_object(out, names, TRY_WR_LOCK, NameKind::RwLock, rwlock),
-        Ask::RwUnlock { rwlock } => push_object(out, names, RW_UNLOCK, NameKind::RwLock, rwlock),
+        Ask::Lock { mutex } => push_object(out, names, Verb::Lock, Mutex, mutex),
+        Ask::TryLock { mutex } => push_object(out, names, Verb::TryLock, Mutex, mutex),
+        Ask::Unlock { mutex } => push_object(out, names, Verb::Unlock, Mutex, mutex),
+        Ask::Release { cond, mutex } => push_wait(out, names, Verb::Release, cond, mutex),
+        Ask::Regain { cond, mutex } => push_wait(out, names, Verb::Regain, cond, mutex),
+        Ask::Signal { cond } => push_object(out, names, Verb::Signal, Cond, cond),
+        Ask::Broadcast { cond } => push_object(out, names, Verb::Broadcast, Cond, cond),
+        Ask::Down { sem } => push_object(out, names, Verb::Down, Sem, sem),
+        Ask::TryDown { sem } => push_object(out, names, Verb::TryDown, Sem, sem),
+        Ask::Up { sem } => push_object(out, names, Verb::Up, Sem, sem),
+        Ask::Arrive { barrier } => push_object(out, names, Verb::Arrive, Barrier, barrier),
+        Ask::Leave { barrier } => push_object(out, names, Verb::Leave, Barrier, barrier),
+        Ask::Join { thread } => push_object(out, names, Verb::Join, Thread, thread),
+        Ask::Yield => push_word(out, Verb::Yield.word()),
+        Ask::Check { holds } => push_pair(out, Verb::Check, check_word(holds)),
+        Ask::Fault { kind } => push_pair(out, Verb::Fault, fault_word(kind)),
+        Ask::Start { thread } => push_object(out, names, Verb::Start, Thread, thread),
+        Ask::Begin => push_word(out, Verb::Begin.word()),
+        Ask::RdLock { rwlock } => push_object(out, names, Verb::RdLock, RwLock, rwlock),
+        Ask::WrLock { rwlock } => push_object(out, names, Verb::WrLock, RwLock, rwlock),
+        Ask::TryRdLock { rwlock } => push_object(out, names, Verb::TryRdLock, RwLock, rwlock),
+        Ask::TryWrLock { rwlock } => push_object(out, names, Verb::TryWrLock, RwLock, rwlock),
+        Ask::RwUnlock { rwlock } => push_object(out, names, Verb::RwUnlock, RwLock, rwlock),
     }
 }
 

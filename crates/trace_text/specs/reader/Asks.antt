@@ -1,22 +1,30 @@
 -- How the words of an ask are read (this project). They are no form of an ask, or they are an ask,
 -- or would be one if each name were declared with the kind that its place needs.
-use Rattle.std.specs.Prelude.{ℕ, ℤ, ◌==◌, ◌&&◌, Bool, true, false, if◌then◌else◌, List, [], ◌∷◌}
+use Rattle.std.specs.Prelude.{ℕ, ℤ, Bool, true, false, if◌then◌else◌, List}
 use Rattle.std.specs.Prelude.{Option, Some, None, codes}
 use Rattle.std.specs.Str.{bytes_eq}
-use Rattle.pct_ask.specs.Words.{is_name, is_among}
+use Rattle.pct_ask.specs.Words.{is_name}
 use Rattle.pct_ask.specs.NameLists.{NameLists, list_of, place_of}
 use Rattle.pct_ask.specs.VerdictWords.{fault_kind}
 use Rattle.pct_ask.specs.declared.names.NameKind.{NameKind}
-use Rattle.pct_ask.specs.declared.names.NameKind.TheVariants.{Thread, Var, Mutex, Cond, Sem}
-use Rattle.pct_ask.specs.declared.names.NameKind.TheVariants.{Barrier, RwLock}
 use Rattle.pct_ask.specs.declared.ask.Ask.{Ask}
-use Rattle.pct_ask.specs.declared.ask.Ask.TheVariants.{Read, Write, Add, Cas, Lock, TryLock, Unlock}
-use Rattle.pct_ask.specs.declared.ask.Ask.TheVariants.{Release, Regain, Signal, Broadcast, Down}
-use Rattle.pct_ask.specs.declared.ask.Ask.TheVariants.{TryDown, Up, Arrive, Leave, Join, Yield}
-use Rattle.pct_ask.specs.declared.ask.Ask.TheVariants.{Check, Fault, Start, Begin, RdLock, WrLock}
-use Rattle.pct_ask.specs.declared.ask.Ask.TheVariants.{TryRdLock, TryWrLock, RwUnlock}
+use Rattle.pct_ask.specs.declared.ask.Ask.TheVariants as asks
+use Rattle.trace_text.specs.Verbs.{verb_operands, verb_in}
 use Rattle.trace_text.specs.declared.asks.WordsRead.{WordsRead}
 use Rattle.trace_text.specs.declared.asks.WordsRead.TheVariants.{Is, NoForm, UnknownName}
+use Rattle.trace_text.specs.declared.verbs.Verb.{Verb}
+use Rattle.trace_text.specs.declared.verbs.Verb.TheVariants.{Read, Write, Add, Lock, TryLock}
+use Rattle.trace_text.specs.declared.verbs.Verb.TheVariants.{Unlock, Release, Regain, Signal}
+use Rattle.trace_text.specs.declared.verbs.Verb.TheVariants.{Broadcast, Down, TryDown, Up, Arrive}
+use Rattle.trace_text.specs.declared.verbs.Verb.TheVariants.{Leave, Join, Yield, Start, Begin}
+use Rattle.trace_text.specs.declared.verbs.Verb.TheVariants.{RdLock, WrLock, TryRdLock, TryWrLock}
+use Rattle.trace_text.specs.declared.verbs.Verb.TheVariants.{RwUnlock}
+use Rattle.trace_text.specs.declared.verbs.OperandKind.{OperandKind}
+use Rattle.trace_text.specs.declared.verbs.OperandKind.TheVariants as kinds
+use Rattle.trace_text.specs.declared.verbs.Operand.{Operand}
+use Rattle.trace_text.specs.declared.verbs.Operand.TheVariants.{Place, Value, Holds, Cause}
+use Rattle.trace_text.specs.declared.verbs.Operands.{Operands}
+use Rattle.trace_text.specs.declared.verbs.Operands.TheVariants.{Bare, One, Two, Three}
 use Rattle.trace_text.specs.reader.Numbers.{i64_in}
 
 -- whether words have the form, be their names known or not
@@ -41,52 +49,7 @@ abbrev pub object : NameLists → NameKind → List ℕ → WordsRead ℕ
 object names kind word =
     if is_name 1 word then object_at (place_of word (list_of kind names)) else NoForm
 
--- the words that ask something of one object of a kind, with nothing more
-abbrev pub object_words : NameKind → List (List ℕ)
-object_words Thread = codes "join" ∷ codes "start" ∷ []
-object_words Var = codes "read" ∷ []
-object_words Mutex = codes "lock" ∷ codes "trylock" ∷ codes "unlock" ∷ []
-object_words Cond = codes "signal" ∷ codes "broadcast" ∷ []
-object_words Sem = codes "down" ∷ codes "trydown" ∷ codes "up" ∷ []
-object_words Barrier = codes "arrive" ∷ codes "leave" ∷ []
-object_words RwLock =
-    codes "rdlock" ∷ codes "wrlock" ∷ codes "tryrdlock" ∷ codes "trywrlock" ∷ codes "rwunlock" ∷ []
-
--- the kind of object that a word asks something of: the first version of traces has no read-write
--- locks
-abbrev pub kind_of : ℕ → List ℕ → Option NameKind
-kind_of version word =
-    if is_among word (object_words Thread) then Some Thread
-    else (if is_among word (object_words Var) then Some Var
-    else (if is_among word (object_words Mutex) then Some Mutex
-    else (if is_among word (object_words Cond) then Some Cond
-    else (if is_among word (object_words Sem) then Some Sem
-    else (if is_among word (object_words Barrier) then Some Barrier
-    else (if version == 2 && is_among word (object_words RwLock) then Some RwLock else None))))))
-
--- what a word asks of the object at a place
-abbrev pub ask_of : NameKind → List ℕ → ℕ → Ask
-ask_of Thread word id = if bytes_eq word (codes "join") then Join id else Start id
-ask_of Var word id = Read id
-ask_of Mutex word id =
-    if bytes_eq word (codes "lock") then Lock id
-    else (if bytes_eq word (codes "trylock") then TryLock id else Unlock id)
-ask_of Cond word id = if bytes_eq word (codes "signal") then Signal id else Broadcast id
-ask_of Sem word id =
-    if bytes_eq word (codes "down") then Down id
-    else (if bytes_eq word (codes "trydown") then TryDown id else Up id)
-ask_of Barrier word id = if bytes_eq word (codes "arrive") then Arrive id else Leave id
-ask_of RwLock word id =
-    if bytes_eq word (codes "rdlock") then RdLock id
-    else (if bytes_eq word (codes "wrlock") then WrLock id
-    else (if bytes_eq word (codes "tryrdlock") then TryRdLock id
-    else (if bytes_eq word (codes "trywrlock") then TryWrLock id else RwUnlock id)))
-
--- yield, begin
-abbrev pub bare_ask : List ℕ → WordsRead Ask
-bare_ask word =
-    if bytes_eq word (codes "yield") then Is Yield
-    else (if bytes_eq word (codes "begin") then Is Begin else NoForm)
+-- ---- operands
 
 -- what a check found: 1 where it holds, 0 where it fails
 abbrev pub holds_of : List ℕ → Option Bool
@@ -94,71 +57,127 @@ holds_of word =
     if bytes_eq word (codes "1") then Some true
     else (if bytes_eq word (codes "0") then Some false else None)
 
--- an ask with an operand that is no object, where the operand is read
-abbrev pub with_operand : {T : Type 0} → (T → Ask) → Option T → WordsRead Ask
-with_operand ask None = NoForm
-with_operand ask (Some operand) = Is (ask operand)
+-- an operand that is no object, where it is read
+abbrev pub plain : {T : Type 0} → (T → Operand) → Option T → WordsRead Operand
+plain operand None = NoForm
+plain operand (Some value) = Is (operand value)
 
--- check 1, check 0, fault overflow, fault zerodivisor, fault spin
-abbrev pub plain_ask : List ℕ → List ℕ → WordsRead Ask
-plain_ask word operand =
-    if bytes_eq word (codes "check") then with_operand Check (holds_of operand)
-    else (if bytes_eq word (codes "fault") then with_operand Fault (fault_kind operand) else NoForm)
+-- something made of what is read
+abbrev pub read_as : {A B : Type 0} → (A → B) → WordsRead A → WordsRead B
+read_as make (Is what) = Is (make what)
+read_as make NoForm = NoForm
+read_as make UnknownName = UnknownName
 
--- an ask of one object
-abbrev pub on_object : (ℕ → Ask) → WordsRead ℕ → WordsRead Ask
-on_object ask (Is id) = Is (ask id)
-on_object ask NoForm = NoForm
-on_object ask UnknownName = UnknownName
+-- an object as an operand
+abbrev pub placed : WordsRead ℕ → WordsRead Operand
+placed object = read_as (λ id. Place id) object
 
--- an ask of two words, where the first asks something of an object of this kind, or of none
-abbrev pub ask_on_kind : NameLists → Option NameKind → List ℕ → List ℕ → WordsRead Ask
-ask_on_kind names None word operand = plain_ask word operand
-ask_on_kind names (Some kind) word operand =
-    on_object (ask_of kind word) (object names kind operand)
+-- an operand of a kind
+abbrev pub operand_in : NameLists → OperandKind → List ℕ → WordsRead Operand
+operand_in names (kinds.Object kind) word = placed (object names kind word)
+operand_in names kinds.Value word = plain Value (i64_in word)
+operand_in names kinds.Holds word = plain Holds (holds_of word)
+operand_in names kinds.Cause word = plain Cause (fault_kind word)
 
--- an ask of two words
-unfoldable pub ask_on_one : NameLists → ℕ → List ℕ → List ℕ → WordsRead Ask
-ask_on_one names version word operand = ask_on_kind names (kind_of version word) word operand
+-- two things that are read, where each has a form and the names of both are known
+abbrev pub both : {A B : Type 0} → WordsRead A → WordsRead B → WordsRead (A × B)
+both NoForm second = NoForm
+both first NoForm = NoForm
+both UnknownName second = UnknownName
+both first UnknownName = UnknownName
+both (Is first) (Is second) = Is (first, second)
 
--- an ask of an object and with a number, where the number is read
-abbrev pub ask_with_value : (ℕ → ℤ → Ask) → WordsRead ℕ → Option ℤ → WordsRead Ask
-ask_with_value ask place None = NoForm
-ask_with_value ask place (Some value) = on_object (λ id. ask id value) place
+-- one operand as the operands
+abbrev pub one : WordsRead Operand → WordsRead (Operands Operand)
+one operand = read_as (λ o. One o) operand
 
--- two objects, where each has a form and the names of both are known
-abbrev pub both_objects : WordsRead ℕ → WordsRead ℕ → WordsRead (ℕ × ℕ)
-both_objects NoForm second = NoForm
-both_objects first NoForm = NoForm
-both_objects UnknownName second = UnknownName
-both_objects first UnknownName = UnknownName
-both_objects (Is first) (Is second) = Is (first, second)
+-- two operands as the operands
+abbrev pub two : WordsRead (Operand × Operand) → WordsRead (Operands Operand)
+two operands = read_as (λ o. Two o.0 o.1) operands
 
--- an ask of two objects
-abbrev pub on_both : (ℕ → ℕ → Ask) → WordsRead (ℕ × ℕ) → WordsRead Ask
-on_both ask (Is objects) = Is (ask objects.0 objects.1)
-on_both ask NoForm = NoForm
-on_both ask UnknownName = UnknownName
+-- three operands as the operands
+abbrev pub three : WordsRead (Operand × (Operand × Operand)) → WordsRead (Operands Operand)
+three operands = read_as (λ o. Three o.0 o.1.0 o.1.1) operands
 
--- an ask of three words: write X V, add X V, release C M, regain C M
-unfoldable pub ask_on_two : NameLists → List ℕ → List ℕ → List ℕ → WordsRead Ask
-ask_on_two names word a b =
-    if bytes_eq word (codes "write") then ask_with_value Write (object names Var a) (i64_in b)
-    else (if bytes_eq word (codes "add") then ask_with_value Add (object names Var a) (i64_in b)
-    else (if bytes_eq word (codes "release")
-    then on_both Release (both_objects (object names Cond a) (object names Mutex b))
-    else (if bytes_eq word (codes "regain")
-    then on_both Regain (both_objects (object names Cond a) (object names Mutex b))
-    else NoForm)))
+-- as many operands as there are kinds, each of its own
+abbrev pub operands_in : NameLists → Operands OperandKind → Operands (List ℕ)
+    → WordsRead (Operands Operand)
+operands_in names Bare Bare = Is Bare
+operands_in names (One k) (One a) = one (operand_in names k a)
+operands_in names (Two k l) (Two a b) = two (both (operand_in names k a) (operand_in names l b))
+operands_in names (Three k l m) (Three a b c) =
+    three (both (operand_in names k a) (both (operand_in names l b) (operand_in names m c)))
+operands_in names kinds words = NoForm
 
--- an exchange, where its two numbers are read
-abbrev pub exchange : WordsRead ℕ → Option ℤ → Option ℤ → WordsRead Ask
-exchange place None new = NoForm
-exchange place (Some old) None = NoForm
-exchange place (Some old) (Some new) = on_object (λ id. Cas id old new) place
+-- ---- asks
 
--- an ask of four words: cas X OLD NEW
-unfoldable pub ask_on_three : NameLists → List ℕ → List ℕ → List ℕ → List ℕ → WordsRead Ask
-ask_on_three names word a b c =
-    if bytes_eq word (codes "cas") then exchange (object names Var a) (i64_in b) (i64_in c)
-    else NoForm
+-- what a verb asks with no operand
+abbrev pub bare_ask : Verb → Option Ask
+bare_ask Yield = Some asks.Yield
+bare_ask Begin = Some asks.Begin
+bare_ask verb = None
+
+-- what a verb asks of one object
+abbrev pub object_ask : Verb → ℕ → Option Ask
+object_ask Read id = Some (asks.Read id)
+object_ask Lock id = Some (asks.Lock id)
+object_ask TryLock id = Some (asks.TryLock id)
+object_ask Unlock id = Some (asks.Unlock id)
+object_ask Signal id = Some (asks.Signal id)
+object_ask Broadcast id = Some (asks.Broadcast id)
+object_ask Down id = Some (asks.Down id)
+object_ask TryDown id = Some (asks.TryDown id)
+object_ask Up id = Some (asks.Up id)
+object_ask Arrive id = Some (asks.Arrive id)
+object_ask Leave id = Some (asks.Leave id)
+object_ask Join id = Some (asks.Join id)
+object_ask Start id = Some (asks.Start id)
+object_ask RdLock id = Some (asks.RdLock id)
+object_ask WrLock id = Some (asks.WrLock id)
+object_ask TryRdLock id = Some (asks.TryRdLock id)
+object_ask TryWrLock id = Some (asks.TryWrLock id)
+object_ask RwUnlock id = Some (asks.RwUnlock id)
+object_ask verb id = None
+
+-- what a verb asks of a variable with a number
+abbrev pub change_ask : Verb → ℕ → ℤ → Option Ask
+change_ask Write var value = Some (asks.Write var value)
+change_ask Add var value = Some (asks.Add var value)
+change_ask verb var value = None
+
+-- what a verb asks of a condition and a mutex
+abbrev pub wait_ask : Verb → ℕ → ℕ → Option Ask
+wait_ask Release cond mutex = Some (asks.Release cond mutex)
+wait_ask Regain cond mutex = Some (asks.Regain cond mutex)
+wait_ask verb cond mutex = None
+
+-- what a verb asks with these operands, where they are such as it has
+abbrev pub ask_of : Verb → Operands Operand → Option Ask
+ask_of verb Bare = bare_ask verb
+ask_of verb (One (Place id)) = object_ask verb id
+ask_of verb (One (Holds holds)) = Some (asks.Check holds)
+ask_of verb (One (Cause kind)) = Some (asks.Fault kind)
+ask_of verb (Two (Place var) (Value value)) = change_ask verb var value
+ask_of verb (Two (Place cond) (Place mutex)) = wait_ask verb cond mutex
+ask_of verb (Three (Place var) (Value old) (Value new)) = Some (asks.Cas var old new)
+ask_of verb operands = None
+
+-- an ask that is made
+abbrev pub made : Option Ask → WordsRead Ask
+made None = NoForm
+made (Some ask) = Is ask
+
+-- an ask whose operands are read
+abbrev pub asked : Verb → WordsRead (Operands Operand) → WordsRead Ask
+asked verb (Is operands) = made (ask_of verb operands)
+asked verb NoForm = NoForm
+asked verb UnknownName = UnknownName
+
+-- the ask of a verb, where the word is one, with the words of its operands
+abbrev pub verb_ask : NameLists → Option Verb → Operands (List ℕ) → WordsRead Ask
+verb_ask names None words = NoForm
+verb_ask names (Some verb) words = asked verb (operands_in names (verb_operands verb) words)
+
+-- an ask by its first word and the words of its operands
+unfoldable pub ask_of_words : NameLists → ℕ → List ℕ → Operands (List ℕ) → WordsRead Ask
+ask_of_words names version word words = verb_ask names (verb_in version word) words

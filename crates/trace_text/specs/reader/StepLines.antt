@@ -11,11 +11,10 @@ use Rattle.pct_ask.specs.declared.event.Event.{Event}
 use Rattle.pct_ask.specs.declared.verdict_text.VerdictRead.{VerdictRead}
 use Rattle.pct_ask.specs.declared.verdict_text.VerdictRead.TheVariants.{Is, NoForm, UnknownName}
 use Rattle.trace_text.specs.reader.Numbers.{i64_in, natural_of}
-use Rattle.trace_text.specs.reader.Asks.{has_form, known_words, object, bare_ask, ask_on_one}
-use Rattle.trace_text.specs.reader.Asks.{ask_on_two}
-use Rattle.trace_text.specs.reader.Asks.{ask_on_three}
+use Rattle.trace_text.specs.reader.Asks.{has_form, known_words, object, ask_of_words}
 use Rattle.trace_text.specs.Lawful.{is_of_second}
 use Rattle.trace_text.specs.declared.asks.WordsRead.{WordsRead}
+use Rattle.trace_text.specs.declared.verbs.Operands.TheVariants.{Bare, One, Two, Three}
 use Rattle.trace_text.specs.declared.row.Row.{Row}
 use Rattle.trace_text.specs.declared.row.Row.TheVariants.{Step, End}
 
@@ -54,13 +53,13 @@ step_in_words names number thread line ask sign answer =
 -- STEP THREAD LINE ASK = ANSWER, where ASK has one word to four
 abbrev pub step_of_words : NameLists → ℕ → List (List ℕ) → Option Row
 step_of_words names version (number ∷ thread ∷ line ∷ word ∷ sign ∷ answer ∷ []) =
-    step_in_words names number thread line (bare_ask word) sign answer
+    step_in_words names number thread line (ask_of_words names version word Bare) sign answer
 step_of_words names version (number ∷ thread ∷ line ∷ word ∷ a ∷ sign ∷ answer ∷ []) =
-    step_in_words names number thread line (ask_on_one names version word a) sign answer
+    step_in_words names number thread line (ask_of_words names version word (One a)) sign answer
 step_of_words names version (number ∷ thread ∷ line ∷ word ∷ a ∷ b ∷ sign ∷ answer ∷ []) =
-    step_in_words names number thread line (ask_on_two names word a b) sign answer
+    step_in_words names number thread line (ask_of_words names version word (Two a b)) sign answer
 step_of_words names version (number ∷ thread ∷ line ∷ word ∷ a ∷ b ∷ c ∷ sign ∷ answer ∷ []) =
-    step_in_words names number thread line (ask_on_three names word a b c) sign answer
+    step_in_words names number thread line (ask_of_words names version word (Three a b c)) sign answer
 step_of_words names version words = None
 
 -- the text of a verdict of the second version alone, where it is a verdict

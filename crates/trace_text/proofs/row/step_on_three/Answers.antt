@@ -4,5 +4,5 @@ use Rattle.trace_text.proofs.row.step_on_three.Goals as goal
 
 pub returns : goal.returns
 returns c =
-    λ version long. nine-words c.args.names.now version c.args.words.now _ c.ask_on_three.result
-    c.step_in_words.result long c.ask_on_three.ensures c.step_in_words.ensures
+    λ long. nine-words c.args.names.now c.args.version c.args.words.now _ c.ask_of_words-ask.result
+    c.step_in_words.result long c.ask_of_words-ask.ensures c.step_in_words.ensures
