@@ -3,23 +3,19 @@ use Rattle.std.specs.Prelude.{codes, decimal, map}
 use Rattle.std.specs.Fmt.{signed_decimal}
 use Rattle.std.specs.List.{All, flat_map, join_with_byte}
 use Rattle.std.proofs.Common.{◌≡◌, ◌⊎◌, ℕ, ◌+◌, ◌*◌, ◌<◌, ◌≤◌, Bool, true, false, List, [], ◌∷◌}
-use Rattle.std.proofs.Common.{◌++◌, length, get_or, ℤ, pos, negsuc, inl, inr, arith, length-append}
+use Rattle.std.proofs.Common.{◌++◌, length, get_or, ℤ, pos, negsuc, sym, inl, inr, arith}
+use Rattle.std.proofs.Common.{length-append}
+use Rattle.std.proofs.Math.Path.{subst}
 use Rattle.std.proofs.lemmas.Fmt.{length-decimal-le, length_signed_le}
 use Rattle.std.proofs.lemmas.List.Elements.{All-head, All-tail}
 use Rattle.pct_ask.specs.NameLists.{NameLists, list_of, AreNames}
 use Rattle.pct_ask.specs.Numbers.{number_text}
-use Rattle.pct_ask.specs.VerdictText.{thread_name, fault_word, verdict_words, named_verdict}
+use Rattle.pct_ask.specs.VerdictText.{thread_name, verdict_words, named_verdict}
 use Rattle.pct_ask.specs.TraceText.{ask_words, check_word, event_words, step_lines}
 use Rattle.pct_ask.specs.TraceText.{verdict_line_words, line_text, trace_text}
 use Rattle.pct_ask.specs.declared.names.NameKind.{NameKind}
-use Rattle.pct_ask.specs.declared.names.NameKind.TheVariants.{Thread, Var, Mutex, Cond, Sem}
-use Rattle.pct_ask.specs.declared.names.NameKind.TheVariants.{Barrier, RwLock}
+use Rattle.pct_ask.specs.declared.names.NameKind.TheVariants.{Thread}
 use Rattle.pct_ask.specs.declared.ask.Ask.{Ask}
-use Rattle.pct_ask.specs.declared.ask.Ask.TheVariants.{Read, Write, Add, Cas, Lock, TryLock, Unlock}
-use Rattle.pct_ask.specs.declared.ask.Ask.TheVariants.{Release, Regain, Signal, Broadcast, Down}
-use Rattle.pct_ask.specs.declared.ask.Ask.TheVariants.{TryDown, Up, Arrive, Leave, Join, Yield}
-use Rattle.pct_ask.specs.declared.ask.Ask.TheVariants.{Check, Fault, Start, Begin, RdLock, WrLock}
-use Rattle.pct_ask.specs.declared.ask.Ask.TheVariants.{TryRdLock, TryWrLock, RwUnlock}
 use Rattle.pct_ask.specs.declared.event.Event.{Event}
 use Rattle.pct_ask.proofs.laws.NameParts.{name-short}
 use Rattle.pct_ask.proofs.laws.TextSizes.{size, size-append, length-join, line-short, fault-short}
@@ -27,7 +23,18 @@ use Rattle.pct_ask.proofs.laws.TextSizes.{verdict-size}
 use Rattle.trace_text.specs.Lawful.{IsAsk, IsStep, IsStepCount, IsValue}
 use Rattle.trace_text.specs.Trace.{head_of, IsWritableFile}
 use Rattle.trace_text.specs.declared.file.TraceFile.{TraceFile}
+use Rattle.trace_text.specs.Verbs.{verb_word, verb_operands, listed, Each}
+use Rattle.trace_text.specs.declared.verbs.Verb.{Verb}
+use Rattle.trace_text.specs.declared.verbs.Verb.TheVariants as verbs
+use Rattle.trace_text.specs.declared.verbs.OperandKind.{OperandKind}
+use Rattle.trace_text.specs.declared.verbs.OperandKind.TheVariants as kinds
+use Rattle.trace_text.specs.declared.verbs.Operand.{Operand}
+use Rattle.trace_text.specs.declared.verbs.Operand.TheVariants.{Place, Value, Holds, Cause}
+use Rattle.trace_text.specs.declared.verbs.Operands.{Operands}
+use Rattle.trace_text.specs.declared.verbs.Operands.TheVariants.{Bare, One, Two, Three}
 use Rattle.trace_text.proofs.Names.{name-lawful}
+use Rattle.trace_text.proofs.VerbTable.{IsOperand, operand_word, operand_words, parts, parts-words}
+use Rattle.trace_text.proofs.VerbTable.{lawful-operands}
 use Rattle.trace_text.proofs.Heads.{order-named}
 
 length-line : (word : List ℕ) (words : List (List ℕ))
@@ -50,83 +57,65 @@ value-short (pos n) fits =
 value-short (negsuc n) fits =
     length_signed_le 19 (negsuc n) (omega (arith, fits.sfits)) (omega (arith, fits.sfits))
 
-one-size : (names : NameLists) (kind : NameKind) (word : List ℕ) (id : ℕ) → AreNames names
-    → length word ≤ 12 → id < length (list_of kind names)
-    → size (word ∷ get_or (list_of kind names) id [] ∷ []) ≤ 79
-one-size names kind word id sound w h = let n = kind-short names kind id sound h in omega arith
-
-two-size : (word a b : List ℕ) → length word ≤ 12 → length a ≤ 32 → length b ≤ 32
-    → size (word ∷ a ∷ b ∷ []) ≤ 79
-two-size word a b p q r = omega arith
-
-three-size : (word a b c : List ℕ) → length word ≤ 3 → length a ≤ 32 → length b ≤ 20 → length c ≤ 20
-    → size (word ∷ a ∷ b ∷ c ∷ []) ≤ 79
-three-size word a b c p q r s = omega arith
-
-plain-size : (word operand : List ℕ) → length word ≤ 12 → length operand ≤ 12
-    → size (word ∷ operand ∷ []) ≤ 79
-plain-size word operand p q = omega arith
-
 check-short : (holds : Bool) → length (check_word holds) ≤ 12
 check-short true = omega arith
 check-short false = omega arith
 
+-- how many bytes an operand of a kind has at most, and operands with their spaces
+abbrev room : OperandKind → ℕ
+room (kinds.Object kind) = 32
+room kinds.Value = 20
+room kinds.Holds = 12
+room kinds.Cause = 12
+
+abbrev rooms : Operands OperandKind → ℕ
+rooms Bare = 0
+rooms (One k) = room k + 1
+rooms (Two k l) = room k + room l + 2
+rooms (Three k l m) = room k + room l + room m + 3
+
+operand-short : (names : NameLists) (kind : OperandKind) (operand : Operand) → AreNames names
+    → IsOperand names kind operand → length (operand_word names kind operand) ≤ room kind
+operand-short names (kinds.Object kind) (Place id) sound h = kind-short names kind id sound h
+operand-short names kinds.Value (Value z) sound h = value-short z h
+operand-short names kinds.Holds (Holds holds) sound h = check-short holds
+operand-short names kinds.Cause (Cause kind) sound h = fault-short kind
+operand-short names kind operand sound h = absurd h
+
+operands-size : (names : NameLists) (ks : Operands OperandKind) (operands : Operands Operand)
+    → AreNames names → Each (IsOperand names) ks operands
+    → size (listed (operand_words names ks operands)) ≤ rooms ks
+operands-size names Bare Bare sound h = omega arith
+operands-size names (One k) (One a) sound h =
+    let x = operand-short names k a sound h in omega arith
+operands-size names (Two k l) (Two a b) sound h =
+    let x = operand-short names k a sound h.0 in
+    let y = operand-short names l b sound h.1 in
+    omega arith
+operands-size names (Three k l m) (Three a b c) sound h =
+    let x = operand-short names k a sound h.0 in
+    let y = operand-short names l b sound h.1 in
+    let z = operand-short names m c sound h.2 in
+    omega arith
+operands-size names ks operands sound h = absurd h
+
+verb-size : (verb : Verb) → length (verb_word verb) + rooms (verb_operands verb) ≤ 78
+verb-size verbs.Read = omega arith
+verb-size verb = omega arith
+
+head-size : (word : List ℕ) (words : List (List ℕ)) (most : ℕ) → size words ≤ most
+    → length word + most ≤ 78 → size (word ∷ words) ≤ 79
+head-size word words most p q = omega arith
+
 ask-size : (names : NameLists) (version : ℕ) (ask : Ask) → AreNames names → IsAsk names version ask
     → size (ask_words names ask) ≤ 79
-ask-size names version (Read x) sound h = one-size names Var (codes "read") x sound (omega arith) h
-ask-size names version (Write x value) sound h =
-    two-size (codes "write") (get_or names.vars x []) (number_text value) (omega arith)
-    (kind-short names Var x sound h.0) (let v = value-short value h.1 in omega arith)
-ask-size names version (Add x value) sound h =
-    two-size (codes "add") (get_or names.vars x []) (number_text value) (omega arith)
-    (kind-short names Var x sound h.0) (let v = value-short value h.1 in omega arith)
-ask-size names version (Cas x old new) sound h =
-    three-size (codes "cas") (get_or names.vars x []) (number_text old) (number_text new)
-    (omega arith) (kind-short names Var x sound h.0) (value-short old h.1) (value-short new h.2)
-ask-size names version (Lock m) sound h =
-    one-size names Mutex (codes "lock") m sound (omega arith) h
-ask-size names version (TryLock m) sound h =
-    one-size names Mutex (codes "trylock") m sound (omega arith) h
-ask-size names version (Unlock m) sound h =
-    one-size names Mutex (codes "unlock") m sound (omega arith) h
-ask-size names version (Release c m) sound h =
-    two-size (codes "release") (get_or names.conds c []) (get_or names.mutexes m []) (omega arith)
-    (kind-short names Cond c sound h.0) (kind-short names Mutex m sound h.1)
-ask-size names version (Regain c m) sound h =
-    two-size (codes "regain") (get_or names.conds c []) (get_or names.mutexes m []) (omega arith)
-    (kind-short names Cond c sound h.0) (kind-short names Mutex m sound h.1)
-ask-size names version (Signal c) sound h =
-    one-size names Cond (codes "signal") c sound (omega arith) h
-ask-size names version (Broadcast c) sound h =
-    one-size names Cond (codes "broadcast") c sound (omega arith) h
-ask-size names version (Down s) sound h = one-size names Sem (codes "down") s sound (omega arith) h
-ask-size names version (TryDown s) sound h =
-    one-size names Sem (codes "trydown") s sound (omega arith) h
-ask-size names version (Up s) sound h = one-size names Sem (codes "up") s sound (omega arith) h
-ask-size names version (Arrive b) sound h =
-    one-size names Barrier (codes "arrive") b sound (omega arith) h
-ask-size names version (Leave b) sound h =
-    one-size names Barrier (codes "leave") b sound (omega arith) h
-ask-size names version (Join t) sound h =
-    one-size names Thread (codes "join") t sound (omega arith) h
-ask-size names version Yield sound h = omega arith
-ask-size names version (Check holds) sound h =
-    plain-size (codes "check") (check_word holds) (omega arith) (check-short holds)
-ask-size names version (Fault kind) sound h =
-    plain-size (codes "fault") (fault_word kind) (omega arith) (fault-short kind)
-ask-size names version (Start t) sound h =
-    one-size names Thread (codes "start") t sound (omega arith) h
-ask-size names version Begin sound h = omega arith
-ask-size names version (RdLock l) sound h =
-    one-size names RwLock (codes "rdlock") l sound (omega arith) h.0
-ask-size names version (WrLock l) sound h =
-    one-size names RwLock (codes "wrlock") l sound (omega arith) h.0
-ask-size names version (TryRdLock l) sound h =
-    one-size names RwLock (codes "tryrdlock") l sound (omega arith) h.0
-ask-size names version (TryWrLock l) sound h =
-    one-size names RwLock (codes "trywrlock") l sound (omega arith) h.0
-ask-size names version (RwUnlock l) sound h =
-    one-size names RwLock (codes "rwunlock") l sound (omega arith) h.0
+ask-size names version ask sound h =
+    let verb = (parts ask).0 in
+    let ks = verb_operands verb in
+    subst (λ (words : List (List ℕ)). size words ≤ 79) (sym (parts-words names ask))
+    (head-size (verb_word verb) (listed (operand_words names ks (parts ask).1)) (rooms ks)
+    (operands-size names ks (parts ask).1 sound (lawful-operands names version ask h))
+    (verb-size verb))
 
 step-sum : (number name line : List ℕ) (ask : List (List ℕ)) (answer : List ℕ) → length number ≤ 6
     → length name ≤ 32 → length line ≤ 4 → size ask ≤ 79 → length answer ≤ 20
