@@ -11,7 +11,6 @@
 
 #include <fcntl.h>
 #include <limits.h>
-#include <poll.h>
 #include <sched.h>
 #include <semaphore.h>
 #include <signal.h>
@@ -20,18 +19,15 @@
 #include <stdlib.h>
 #include <string.h>
 #include <sys/mman.h>
-#include <sys/socket.h>
 #include <sys/syscall.h>
-#include <sys/un.h>
 #include <sys/wait.h>
 #include <unistd.h>
 
-#define MOST 64              /* threads, and objects of each kind */
-#define MOST_LINE 4096       /* the greatest line of a trace */
-#define MOST_POINTERS 4096   /* pointer values of a run */
-#define MOST_FAILING 20      /* failing runs, after which a search stops */
-#define MOST_TESTS 1024      /* of a main */
-#define MOST_TEXT (16 << 20) /* bytes of a trace: 100,000 steps of 149 at most */
+#define MOST 64            /* threads, and objects of each kind */
+#define MOST_LINE 4096     /* the greatest line of a trace */
+#define MOST_POINTERS 4096 /* pointer values of a run */
+#define MOST_FAILING 20    /* failing runs, after which a search stops */
+#define MOST_TESTS 1024    /* of a main */
 #define NOBODY UINT32_MAX
 #define BIT(n) ((uint64_t)1 << (n))
 #define LENGTH(list) (sizeof(list) / sizeof *(list))
@@ -52,6 +48,12 @@ static const struct {
     { "rwlock", "rwlocks", "\"%s\"" },
 };
 
+/* Asks whose answer is 1 where they got it, and asks that change nothing which others may see. */
+static const uint64_t TRIES = BIT(PCT_ASK_TRY_LOCK) | BIT(PCT_ASK_TRY_DOWN) |
+                              BIT(PCT_ASK_TRY_RD_LOCK) | BIT(PCT_ASK_TRY_WR_LOCK),
+                      IDLE = BIT(PCT_ASK_YIELD) | BIT(PCT_ASK_BEGIN) | BIT(PCT_ASK_JOIN) |
+                             BIT(PCT_ASK_CHECK_HOLDS);
+
 /* --- What stands in shared memory, and what a child inherits --- */
 
 /* What a thread asks next. Of an access of memory the ask is made when the book waits for it, by
@@ -62,20 +64,17 @@ typedef struct Late {
     enum { AWAY, BROUGHT, POSTED, ENDED } state;
     uint32_t line, form;
     void *at;
-    int64_t x, y;
+    int64_t x, y, old, new; /* old, new: what stands at the address, and what the access makes it */
 } Late;
 
 /* By what a run goes. */
 typedef struct Plan {
-    enum { BY_SEED, BY_POINTS, BY_MOMENTS, BY_LIST } policy;
+    enum { BY_SEED, BY_POINTS, BY_DIRECTIVE, BY_LIST } policy;
+    bool is_loud; /* what its threads print is seen */
     uint64_t seed;
-    uint32_t depth; /* 0 where no seed drew the order */
-    uint32_t threads, order[MOST], point_count, points[PCT_MOST_POINTS];
-    uint32_t moment_count, listed; /* listed: how many of `list` */
-    PctMoment moments[PCT_MOST_POINTS];
-    bool is_loud, prints;
-    bool keeps_paths; /* a thread has the number that the kept run gave to who was created by the
-                         same thread, as the same one */
+    uint32_t depth, threads, listed; /* depth: 0 where no seed drew the order */
+    uint32_t order[MOST], point_count, points[PCT_MOST_POINTS];
+    PctDirective directive;
 } Plan;
 
 typedef struct Seat {
@@ -92,9 +91,6 @@ typedef struct Seat {
     Late late;
 } Seat;
 
-/* How a run ended. Of DIED the verdict is that of an assertion that fails in the last line. */
-typedef enum EndKind { GOES, OUTCOME, MORE_THREADS, DIED, SENTENCE } EndKind;
-
 typedef struct Run {
     Plan plan;
     uint32_t threads;             /* one more than the greatest that was used */
@@ -110,9 +106,11 @@ typedef struct Run {
     } variables[MOST];
     uint32_t pointer_count;
     uint64_t waiting, waits, news; /* threads in pct_yield; semaphores for it; see pct_yield_at */
-    EndKind end;
+    /* How it ended. Of DIED the verdict is that of an assertion that fails in the last line. */
+    enum End { GOES, OUTCOME, MORE_THREADS, DIED, SENTENCE } end;
     PctOutcome outcome;
-    char told[512]; /* of DIED and SENTENCE */
+    char told[512];                   /* of DIED and SENTENCE */
+    PctEvent log[PCT_MOST_STEPS + 1]; /* its steps */
 } Run;
 
 /* A near step stands in an operator or in a header of std's, after this place. */
@@ -124,25 +122,18 @@ typedef struct Place {
 
 static struct Shared {
     Run run;
-    uint32_t threads, steps;  /* n and k */
-    uint32_t next, left;      /* of the search: its next run, and how many are left with it */
-    uint32_t deal[PCT_KINDS]; /* how many objects the deal has, and their first values */
+    uint32_t threads, steps;               /* n and k */
+    uint32_t all, next, left, least_depth; /* of the search: its runs, the next, how many to come */
+    uint32_t deal[PCT_KINDS];              /* how many objects the deal has, and their values */
     int64_t deal_first[PCT_KINDS][MOST];
     uint32_t stamp;    /* of this run */
     uint64_t asks;     /* how many were made, by which the watchdog sees that the run goes on */
     bool is_sanitized; /* a sanitizer has ended the child */
     Place places[MOST_LINE + 1]; /* by their numbers, the lines of traces */
-    PctEvent log[PCT_MOST_STEPS + 1];
     PctRow rows[PCT_MOST_STEPS];
 } * shared;
 static Run *run;
-static uint32_t list[PCT_MOST_STEPS]; /* of a run by a list, who takes each step */
-
-/* A failing run that is kept while others are made. */
-static struct {
-    Run run; /* that GOES where none is kept */
-    PctEvent log[PCT_MOST_STEPS + 1];
-} kept;
+static Run kept; /* a failing run, while others are made; that GOES where there is none */
 
 static struct {
     void (*reset)(void), (*const *functions)(void);
@@ -150,17 +141,12 @@ static struct {
     uint32_t declared;
     PctPlace place;
     const char *program, *only, *replay, *trace, *json, *traces;
-    char *sites;   /* of a replay, the names and places of its file of sites */
-    bool is_there; /* the test that is to be run */
+    char *names_in_sites; /* of the trace that is replayed */
+    bool is_there;        /* the test that is to be run */
     char name[64], title[400];
     uint64_t from, seeds, depth, threads, steps, limit, patience;
     uint64_t finds, certifies, lanes, campaign, isolate;
 } test = { .program = "test", .from = 1, .seeds = 1000, .limit = 10000, .patience = 10 };
-
-static struct {
-    uint32_t all, least_depth, failed; /* all: how many runs it has */
-    struct timespec first;             /* when the first one failed */
-} search;
 
 static struct {
     PctBook book;
@@ -174,13 +160,14 @@ static struct {
 } named[4 * MOST];
 static uint32_t named_count;
 static void *pointers[MOST_POINTERS];
-static char *written; /* of a replay, the steps of its trace that are to come */
+static uint32_t list[PCT_MOST_STEPS]; /* of a replay, who takes each step */
+static char *written;                 /* and the steps of its trace that are to come */
 static FILE *traces;
 static pthread_key_t at_end;
 static _Thread_local uint32_t own_seat; /* one more than the thread's number */
 
 /* Ends the child without a sanitizer's looks at threads and memory that a failing run leaves. */
-static void __attribute__((noreturn)) leave(EndKind end) {
+static void __attribute__((noreturn)) leave(enum End end) {
     run->end = end;
     fflush(NULL);
     syscall(SYS_exit_group, 0);
@@ -189,23 +176,24 @@ static void __attribute__((noreturn)) leave(EndKind end) {
 
 /* The check ends with this sentence: a run's is told by the runner. */
 static void __attribute__((format(printf, 1, 2), noreturn)) sentence(const char *form, ...) {
-    char text[512];
+    char told[sizeof run->told];
     va_list words;
     va_start(words, form);
-    vsnprintf(text, sizeof text, form, words);
+    vsnprintf(told, sizeof told, form, words);
     va_end(words);
     if (child.runs) {
-        memcpy(run->told, text, sizeof text);
+        memcpy(run->told, told, sizeof told);
         leave(SENTENCE);
     }
-    fprintf(stderr, "pct: %s\n", text);
+    fprintf(stderr, "pct: %s\n", told);
+    test.only = NULL; /* no other sentence follows */
     exit(1);
 }
 
 static void demand(uint32_t status, const char *call) {
-    if (status != PCT_DONE)
-        sentence("a fault of the layer: %s answered the status %u", call, status);
+    if (status != PCT_DONE) sentence("a fault of the layer: %s answered %u", call, status);
 }
+#define DEMAND(call) demand((call), #call)
 
 /* --- Places --- */
 
@@ -214,19 +202,30 @@ static const char *base_of(const char *path) {
     return slash ? slash + 1 : path;
 }
 
-static bool is_own_line(const Place *place, uint32_t number) {
-    return !place->is_near && place->line == (int)number && !strcmp(place->file, test.place.file);
+static const char *place_text(Place place) {
+    static char words[300];
+    const char *file = place.file ? base_of(place.file) : "?";
+    snprintf(words, sizeof words, "%s%s:%d", place.is_near ? "after " : "", file, place.line);
+    return words;
+}
+
+static const char *who(uint32_t thread) { return run->names[PCT_THREADS][thread]; }
+
+static Place at_itself(PctPlace place) { return (Place){ place.file, place.line, false }; }
+
+static bool is_own_line(const Place *place, int number) {
+    return !place->is_near && place->line == number && !strcmp(place->file, test.place.file);
 }
 
 /* A line of the test's file is its own number; other places have numbers from 4096 down, in the
    order in which runs come to them. */
 static uint32_t number_of_place(Place place) {
-    bool is_own = place.line <= MOST_LINE && is_own_line(&place, (uint32_t)place.line);
-    for (uint32_t number = is_own ? (uint32_t)place.line : MOST_LINE; number > 0; number--) {
+    bool is_own = place.line <= MOST_LINE && is_own_line(&place, place.line);
+    for (int number = is_own ? place.line : MOST_LINE; number > 0; number--) {
         Place *known = &shared->places[number];
         if (!known->file) *known = place;
         bool is_there = known->line == place.line && known->is_near == place.is_near;
-        if (is_there && strcmp(known->file, place.file) == 0) return number;
+        if (is_there && strcmp(known->file, place.file) == 0) return (uint32_t)number;
     }
     sentence("steps stand at more than %d places", MOST_LINE);
 }
@@ -240,22 +239,43 @@ static uint32_t line_at(uint32_t me, PctPlace place) {
     return number_of_place((Place){ last->file, last->line, is_near });
 }
 
-static const char *place_text(uint32_t number) {
-    static char text[300];
-    Place place = shared->places[number];
-    const char *near = place.is_near ? "after " : "";
-    snprintf(text, sizeof text, "%s%s:%d", near, base_of(place.file), place.line);
-    return text;
+static const char *line_text(uint32_t line) { return place_text(shared->places[line]); }
+
+/* The number of the thread that is at a place. */
+static uint32_t me_at(PctPlace place) {
+    if (!own_seat)
+        sentence("%s can't be a step: %s", place_text(at_itself(place)),
+                 child.runs ? "its thread was started past pct_create" : "no run is going on");
+    return own_seat - 1;
 }
 
-/* --- Names --- */
+/* --- Texts: all are the library's --- */
+
+/* The last one that was written, up to the next one. */
+static char *text;
+static size_t room;
+#define ROOM (uint8_t *)text, room
+#define BYTES(names) (const uint8_t *)(names), strlen(names)
+
+/* Whether the library has written its text; where not, it has the room now that it needs. */
+static bool is_written(PctCount made) {
+    if (made.status != PCT_NO_ROOM && made.count < room) {
+        demand(made.status, "a text of the library");
+        text[made.count] = 0;
+        return true;
+    }
+    room = 2 * made.count + 4096;
+    text = realloc(text, room);
+    if (!text) sentence("no memory");
+    return false;
+}
 
 /* Whether the library takes the name: keywords of scripts and registers are none. */
 static bool is_lawful(const char *name) {
     char names[PCT_MOST_NAME + 16];
     const PctOutcome passed = { .kind = PCT_PASSED };
-    int length = snprintf(names, sizeof names, "thread %s\n", name);
-    return pct_text_verdict((uint8_t *)names, (size_t)length, &passed, NULL, 0).status != PCT_BAD;
+    sprintf(names, "thread %s\n", name);
+    return pct_text_verdict(BYTES(names), &passed, NULL, 0).status != PCT_BAD;
 }
 
 static bool is_taken(const char *name) {
@@ -265,9 +285,9 @@ static bool is_taken(const char *name) {
 }
 
 /* What a thread, an object or a test is called in the source, as letters, digits and _. */
-static void make_stem(char *stem, size_t room, const char *called) {
+static void make_stem(char *stem, size_t most, const char *called) {
     size_t length = 0;
-    for (; called && *called && length + 1 < room; called++) {
+    for (; called && *called && length + 1 < most; called++) {
         bool is_letter = (*called | 32) >= 'a' && (*called | 32) <= 'z';
         if (is_letter || (length && *called >= '0' && *called <= '9'))
             stem[length++] = *called;
@@ -295,50 +315,38 @@ static const char *called_of(const volatile void *at, const char *called) {
     return called;
 }
 
-/* --- Texts: all are the library's --- */
-
-typedef struct Names {
-    const uint8_t *text;
-    size_t bytes;
-} Names;
-
 /* The lines of names of the run's threads and objects; they stand until the next call. */
-static Names names_of_run(void) {
-    static char text[PCT_KINDS * MOST * (PCT_MOST_NAME + 10)];
-    char *to = text;
+static const char *names_of_run(void) {
+    static char names[PCT_KINDS * MOST * (PCT_MOST_NAME + 10)];
+    char *to = names;
+    *to = 0;
     for (uint32_t i = 0; i < PCT_KINDS * MOST; i++) {
         uint32_t kind = i / MOST, number = i % MOST;
         if (number >= run->many[kind]) continue;
         if (!run->names[kind][number][0]) give_name((PctKind)kind, number, NULL);
         to += sprintf(to, "%s %s\n", KINDS[kind].word, run->names[kind][number]);
     }
-    return (Names){ (const uint8_t *)text, (size_t)(to - text) };
+    return names;
 }
 
-/* The trace of these steps; it stands until the next call. */
+/* The trace of these steps. */
 static char *trace_text(const PctEvent *steps, uint32_t count) {
-    static char text[MOST_TEXT];
     const PctOutcome passed = { .kind = PCT_PASSED }, *outcome = &run->outcome;
-    Names names = names_of_run();
-    uint32_t version = run->many[PCT_RWLOCKS] ? 2 : 1;
+    const Plan *plan = &run->plan;
+    const char *names = names_of_run();
+    uint32_t version = run->many[PCT_RWLOCKS] ? 2 : 1, limit = (uint32_t)test.limit;
     if (outcome->kind == 0 || outcome->kind == PCT_DEPARTED) outcome = &passed;
-    PctCount made =
-        pct_text_trace(names.text, names.bytes, version, (uint32_t)test.limit, run->plan.order,
-                       run->many[PCT_THREADS], run->plan.points, run->plan.point_count, steps,
-                       count, outcome, (uint8_t *)text, sizeof text - 1);
-    demand(made.status, "pct_text_trace");
-    text[made.count] = 0;
+    while (
+        !is_written(pct_text_trace(BYTES(names), version, limit, plan->order, plan->threads,
+                                   plan->points, plan->point_count, steps, count, outcome, ROOM)))
+        continue;
     return text;
 }
 
 static const char *verdict_text(void) {
-    static char text[MOST * (PCT_MOST_NAME + 8)];
-    Names names = names_of_run();
-    PctCount made =
-        pct_text_verdict(names.text, names.bytes, &run->outcome, (uint8_t *)text, sizeof text - 1);
-    demand(made.status, "pct_text_verdict");
-    text[made.count] = 0;
-    return text;
+    char *verdict = strstr(trace_text(NULL, 0), "\nverdict ") + strlen("\nverdict ");
+    *strchr(verdict, '\n') = 0;
+    return verdict;
 }
 
 /* Where the steps of a trace begin, behind the four lines of its head. */
@@ -347,7 +355,7 @@ static char *steps_in(char *trace) {
     return trace;
 }
 
-/* A step as its trace has it, behind its number; it stands until the next text. */
+/* A step as its trace has it, behind its number. */
 static char *step_text(const PctEvent *step) {
     char *line = steps_in(trace_text(step, 1));
     *strchr(line, '\n') = 0;
@@ -360,90 +368,74 @@ static char *ask_text(const PctEvent *step) {
     return ask;
 }
 
-/* A step of a replay, beside that of the trace. */
-static void print_step(void) {
-    const PctEvent *step = &shared->log[run->steps - 1];
-    char said[400], *line = strsep(&written, "\n");
-    snprintf(said, sizeof said, "%u %s", run->steps, step_text(step));
-    printf("%s    %s\n", said, place_text(step->line));
-    if (line && *line >= '0' && *line <= '9' && strcmp(said, line) != 0)
-        printf("    the trace has %s\n", line);
-    fflush(stdout);
-}
-
-static void write_all_traces(void) {
-    if (!traces) return;
-    fputs(trace_text(shared->log, run->steps), traces);
-    fflush(traces);
-}
-
 /* --- The book --- */
 
 static void open_book(void) {
-    const uint32_t *many = shared->deal, threads = run->many[PCT_THREADS];
-    const uint32_t vars = many[PCT_VARIABLES], sems = many[PCT_SEMAPHORES];
-    const uint32_t barriers = many[PCT_BARRIERS], limit = (uint32_t)test.limit;
-    const int64_t *var = shared->deal_first[PCT_VARIABLES],
-                  *sem = shared->deal_first[PCT_SEMAPHORES];
-    const int64_t *barrier = shared->deal_first[PCT_BARRIERS];
-    const PctDeal deal = { threads, many[PCT_MUTEXES], many[PCT_CONDITIONS], many[PCT_RWLOCKS] };
-    uint32_t status;
-    if (run->plan.policy == BY_LIST)
-        status = pct_book_by_list(&child.book, &deal, var, vars, sem, sems, barrier, barriers, list,
-                                  run->plan.listed, limit);
-    else if (run->plan.policy == BY_MOMENTS)
-        status = pct_book_by_moments(&child.book, &deal, var, vars, sem, sems, barrier, barriers,
-                                     run->plan.order, threads, run->plan.moments,
-                                     run->plan.moment_count, limit);
+    const Plan *plan = &run->plan;
+    const PctDirective *directive = &plan->directive;
+    const uint32_t *many = shared->deal, limit = (uint32_t)test.limit;
+    const int64_t(*first)[MOST] = shared->deal_first;
+    const PctDeal deal = { plan->threads, many[PCT_MUTEXES], many[PCT_CONDITIONS],
+                           many[PCT_RWLOCKS] };
+#define DEALT \
+    &child.book, &deal, first[PCT_VARIABLES], many[PCT_VARIABLES], first[PCT_SEMAPHORES], \
+        many[PCT_SEMAPHORES], first[PCT_BARRIERS], many[PCT_BARRIERS]
+    if (plan->policy == BY_LIST)
+        DEMAND(pct_book_by_list(DEALT, list, plan->listed, limit));
+    else if (plan->policy == BY_DIRECTIVE)
+        DEMAND(pct_book_by_moments(DEALT, plan->order, plan->threads, directive->moments,
+                                   directive->count, limit));
     else
-        status = pct_book_by_points(&child.book, &deal, var, vars, sem, sems, barrier, barriers,
-                                    run->plan.order, threads, run->plan.points,
-                                    run->plan.point_count, limit);
-    demand(status, "pct_book_by_points, by_moments or by_list");
+        DEMAND(pct_book_by_points(DEALT, plan->order, plan->threads, plan->points,
+                                  plan->point_count, limit));
     child.turn = pct_book_next(&child.book);
+}
+
+/* Has the book's answer to a call. */
+static void turn(PctTurn answered) {
+    child.turn = answered;
+    if (answered.status != PCT_ENDED) demand(answered.status, "the book");
 }
 
 /* Posts a thread's step that is the next one from a place of the log on, or else what stands. */
 static void post_next(uint32_t thread, uint32_t from) {
     const Late *late = &run->seats[thread].late;
-    while (from < run->steps && shared->log[from].thread != thread) from++;
-    bool is_logged = from < run->steps;
-    if (!is_logged && late->state != POSTED && late->state != ENDED) return;
-    const PctAsk *ask = is_logged ? &shared->log[from].ask : &late->ask;
-    uint32_t line = is_logged ? shared->log[from].line : late->line;
-    child.turn = pct_book_post(&child.book, thread, line, ask);
-    demand(child.turn.status, "pct_book_post");
+    while (from < run->steps && run->log[from].thread != thread) from++;
+    if (from < run->steps)
+        turn(pct_book_post(&child.book, thread, run->log[from].line, &run->log[from].ask));
+    else if (late->state == POSTED || late->state == ENDED)
+        turn(pct_book_post(&child.book, thread, late->line, &late->ask));
 }
 
 /* The same run so far in a new book: of a mended deal, whose new objects no step has touched, or
    with another ask that is posted and not taken. */
 static void rebuild(void) {
     open_book();
-    for (uint32_t thread = 0; thread < run->many[PCT_THREADS]; thread++) post_next(thread, 0);
+    for (uint32_t thread = 0; thread < run->plan.threads; thread++) post_next(thread, 0);
     for (uint32_t i = 0; i < run->steps; i++) {
-        child.turn = pct_book_take(&child.book, shared->log[i].thread);
-        demand(child.turn.status, "pct_book_take");
-        post_next(shared->log[i].thread, i + 1);
+        turn(pct_book_take(&child.book, run->log[i].thread));
+        post_next(run->log[i].thread, i + 1);
     }
 }
 
 /* --- Numbers of objects --- */
 
-/* The number of an object that is gone and stands as the new one, or NOBODY. */
-static uint32_t number_of_gone(PctKind kind, int64_t first) {
-    uint32_t number = 0;
-    while (number < MOST && !(run->gone[kind] & BIT(number) && run->now[kind][number] == first))
-        number++;
-    if (number == MOST) return NOBODY;
-    run->gone[kind] &= ~BIT(number);
-    return number;
-}
-
-/* The number of an object that this run hasn't used, or NOBODY. Where the deal hasn't got it as it
-   begins, the deal is mended. */
-static uint32_t new_number(PctKind kind, int64_t first, const char *called) {
+/* The number of an object that this run hasn't used, or where there is none of one that is gone and
+   stands as the new one; NOBODY of a variable for which none is left. Where the deal hasn't got the
+   object as it begins, the deal is mended. */
+static uint32_t new_number(PctKind kind, int64_t first, const char *called, PctPlace place) {
     uint32_t number = run->many[kind], *deal = &shared->deal[kind];
-    if (number == MOST) return number_of_gone(kind, first);
+    for (uint32_t i = 0; i < MOST && number == MOST; i++)
+        if (run->gone[kind] & BIT(i) && run->now[kind][i] == first) {
+            run->gone[kind] &= ~BIT(i);
+            return i;
+        }
+    if (number == MOST && kind == PCT_VARIABLES) return NOBODY;
+    if (number == MOST)
+        sentence("%s: a run has at most 64 objects of a kind at a time (%s)%s",
+                 place_text(at_itself(place)), KINDS[kind].word,
+                 kind == PCT_SEMAPHORES ? ", and who waits in pct_yield or at a futex has one"
+                                        : "");
     give_name(kind, number, called);
     run->many[kind]++;
     run->first[kind][number] = run->now[kind][number] = first;
@@ -459,12 +451,9 @@ static bool is_of_run(const PctObject *object) {
 }
 
 static uint32_t number_of(PctKind kind, PctObject *object, PctPlace place) {
+    me_at(place);
     if (is_of_run(object)) return (uint32_t)object->id;
-    const char *file = place.file ? base_of(place.file) : "?";
-    uint32_t number = new_number(kind, object->first, called_of(object, place.name));
-    if (number == NOBODY)
-        sentence("%s:%d: a run has at most 64 objects of a kind at a time (%s)", file, place.line,
-                 KINDS[kind].word);
+    uint32_t number = new_number(kind, object->first, called_of(object, place.name), place);
     object->id = (uint64_t)shared->stamp << 32 | number;
     return number;
 }
@@ -510,29 +499,27 @@ static int64_t normal(int64_t value, unsigned form) {
     return is_signed ? (int64_t)high >> shift : (int64_t)(high >> shift);
 }
 
-static int64_t read_memory(const volatile void *at, unsigned form) {
-    int64_t value = 0;
-    memcpy(&value, (const void *)at, form & 15);
-    return normal(value, form);
-}
-
-static int64_t changed_by(const Late *late, int64_t old) {
+static int64_t changed_by(const Late *late) {
     switch (late->access) {
-    case PCT_LOAD: return old;
-    case PCT_ADD: return normal((int64_t)((uint64_t)old + (uint64_t)late->x), late->form);
-    case PCT_CAS: return old == late->x ? late->y : old;
-    case PCT_AND: return old & late->x;
-    case PCT_OR: return old | late->x;
-    case PCT_XOR: return old ^ late->x;
+    case PCT_LOAD: return late->old;
+    case PCT_ADD: return normal((int64_t)((uint64_t)late->old + (uint64_t)late->x), late->form);
+    case PCT_CAS: return late->old == late->x ? late->y : late->old;
+    case PCT_AND: return late->old & late->x;
+    case PCT_OR: return late->old | late->x;
+    case PCT_XOR: return late->old ^ late->x;
     default: return late->x;
     }
 }
 
-/* Does the access; the value before. */
-static int64_t do_access(const Late *late) {
-    int64_t old = read_memory(late->at, late->form), new = changed_by(late, old);
-    if (new != old) memcpy(late->at, &new, late->form & 15);
-    return old;
+static void read_memory(Late *late) {
+    late->old = 0;
+    memcpy(&late->old, late->at, late->form & 15);
+    late->old = normal(late->old, late->form);
+    late->new = changed_by(late);
+}
+
+static void write_memory(const Late *late) {
+    if (late->new != late->old) memcpy(late->at, &late->new, late->form & 15);
 }
 
 static bool is_access(const Late *late) {
@@ -552,68 +539,71 @@ static uint32_t sleeper_at(const volatile void *at) {
 /* Those whom a wake at a futex wakes: a bit for each. */
 static uint64_t wake_sleepers(const Late *late) {
     uint64_t woken = 0;
-    uint32_t sleeper = sleeper_at(late->at);
-    for (int64_t left = late->x; left > 0 && sleeper != NOBODY; left--) {
+    for (int64_t left = late->x; left > 0 && sleeper_at(late->at) != NOBODY; left--) {
+        uint32_t sleeper = sleeper_at(late->at);
         woken |= BIT(sleeper);
         run->seats[sleeper].sleeps_at = NULL;
-        sleeper = sleeper_at(late->at);
     }
     return woken;
 }
 
-/* What a thread asks, of an access by the value that stands. For want of a variable that stays a
+/* Makes what a thread asks of memory, by what stands there. For want of a variable that stays a
    step that touches nothing. */
-static PctAsk ask_of(const Late *late) {
-    uint32_t variable = late->ask.a, form = late->form;
+static void look(Late *late) {
+    PctAsk *ask = &late->ask;
+    uint32_t form = late->form;
+    int64_t sum;
     if (late->access == PCT_WAKE) {
         uint32_t sleeper = late->x > 0 ? sleeper_at(late->at) : NOBODY;
-        if (sleeper == NOBODY) return (PctAsk)PCT_ASK(PCT_ASK_YIELD, 0, 0, 0, 0);
-        return (PctAsk)PCT_ASK(PCT_ASK_UP, run->seats[sleeper].semaphore - 1, 0, 0, 0);
+        ask->kind = sleeper == NOBODY ? PCT_ASK_YIELD : PCT_ASK_UP;
+        ask->a = sleeper == NOBODY ? 0 : run->seats[sleeper].semaphore - 1;
     }
-    if (!is_access(late) || late->ask.kind == PCT_ASK_YIELD) return late->ask;
-    int64_t old = read_memory(late->at, form), new = changed_by(late, old), sum;
-    bool is_sum = late->access == PCT_ADD && !__builtin_add_overflow(old, late->x, &sum) &&
-                  sum == new && !(form & PCT_POINTER);
-    if (late->access == PCT_LOAD) return (PctAsk)PCT_ASK(PCT_ASK_READ, variable, 0, 0, 0);
-    if (late->access == PCT_STORE)
-        return (PctAsk)PCT_ASK(PCT_ASK_WRITE, variable, 0, code_of(new, form), 0);
-    if (is_sum) return (PctAsk)PCT_ASK(PCT_ASK_ADD, variable, 0, late->x, 0);
-    bool is_cas = late->access == PCT_CAS;
-    int64_t from = code_of(is_cas ? late->x : old, form),
-            to = code_of(is_cas ? late->y : new, form);
-    return (PctAsk)PCT_ASK(PCT_ASK_CAS, variable, 0, from, to);
+    if (!is_access(late)) return;
+    read_memory(late);
+    if (ask->kind == PCT_ASK_YIELD) return;
+    bool is_sum = late->access == PCT_ADD && !(form & PCT_POINTER) &&
+                  !__builtin_add_overflow(late->old, late->x, &sum) && sum == late->new;
+    if (late->access == PCT_LOAD) return;
+    if (is_sum) {
+        *ask = (PctAsk)PCT_ASK(PCT_ASK_ADD, ask->a, 0, late->x, 0);
+        return;
+    }
+    bool is_store = late->access == PCT_STORE, is_cas = late->access == PCT_CAS;
+    int64_t from = code_of(is_store ? late->new : is_cas ? late->x : late->old, form);
+    int64_t to = is_store ? 0 : code_of(is_cas ? late->y : late->new, form);
+    *ask = (PctAsk)PCT_ASK(is_store ? PCT_ASK_WRITE : PCT_ASK_CAS, ask->a, 0, from, to);
 }
 
-/* Memory has to be as the last step left it, else the run fails. */
-static void look_at_memory(uint32_t thread) {
-    const Late *late = &run->seats[thread].late;
+/* Looks once more as the step is taken: memory has to be as the last step left it, else the run
+   fails. */
+static void look_again(uint32_t thread) {
+    Late *late = &run->seats[thread].late;
     uint32_t variable = late->ask.a, step = run->variables[variable % MOST].step;
     char before[48] = "before the step";
+    look(late);
     if (!is_access(late) || late->ask.kind == PCT_ASK_YIELD) return;
-    int64_t stands = code_of(read_memory(late->at, late->form), late->form);
-    if (stands == run->now[PCT_VARIABLES][variable]) return;
+    if (code_of(late->old, late->form) == run->now[PCT_VARIABLES][variable]) return;
     if (step) snprintf(before, sizeof before, "between the steps %u and", step);
     snprintf(run->told, sizeof run->told, "%s was changed without pct_store %s %u, %s, %s",
-             run->names[PCT_VARIABLES][variable], before, run->steps + 1,
-             run->names[PCT_THREADS][thread], place_text(late->line));
+             run->names[PCT_VARIABLES][variable], before, run->steps + 1, who(thread),
+             line_text(late->line));
     run->baton = thread;
     leave(DIED);
 }
 
 /* The step of an access on the memory itself, after its answer; whether it changed something. */
-static bool perform(Seat *seat, int64_t answer) {
-    const Late *late = &seat->late;
+static bool perform(const Late *late, int64_t answer) {
     uint32_t kind = late->ask.kind, variable = late->ask.a;
-    int64_t old = do_access(late), new = changed_by(late, old), wanted = code_of(old, late->form);
-    seat->answer = old;
-    if (kind == PCT_ASK_YIELD) return new != old;
-    if (kind == PCT_ASK_CAS) wanted = late->access != PCT_CAS || old == late->x;
+    int64_t wanted = code_of(late->old, late->form);
+    write_memory(late);
+    if (kind == PCT_ASK_YIELD) return late->new != late->old;
+    if (kind == PCT_ASK_CAS) wanted = late->access != PCT_CAS || late->old == late->x;
     if (kind != PCT_ASK_WRITE && answer != wanted)
         sentence("a fault of the layer: step %u and the memory of %s differ", run->steps,
                  run->names[PCT_VARIABLES][variable]);
-    run->now[PCT_VARIABLES][variable] = code_of(new, late->form);
+    run->now[PCT_VARIABLES][variable] = code_of(late->new, late->form);
     run->variables[variable].step = run->steps;
-    return new != old;
+    return late->new != late->old;
 }
 
 /* --- The baton --- */
@@ -622,22 +612,21 @@ static void wait_at(sem_t *gate) {
     while (sem_wait(gate) != 0) continue;
 }
 
-static bool is_try(uint32_t ask) {
-    return ask == PCT_ASK_TRY_LOCK || ask == PCT_ASK_TRY_DOWN || ask == PCT_ASK_TRY_RD_LOCK ||
-           ask == PCT_ASK_TRY_WR_LOCK;
-}
-
 /* Whether a thread that looks again and again may see what a step changed. */
 static bool is_change(const PctAsk *ask, int64_t answer) {
-    switch (ask->kind) {
-    case PCT_ASK_YIELD:
-    case PCT_ASK_BEGIN:
-    case PCT_ASK_JOIN:
-    case PCT_ASK_CHECK_HOLDS: return false;
-    case PCT_ASK_UP:
-    case PCT_ASK_DOWN: return !(run->waits & BIT(ask->a));
-    default: return !is_try(ask->kind) || answer == 1;
-    }
+    bool is_raised = ask->kind == PCT_ASK_UP || ask->kind == PCT_ASK_DOWN;
+    if (is_raised && run->waits & BIT(ask->a)) return false;
+    return !(IDLE & BIT(ask->kind)) && (answer == 1 || !(TRIES & BIT(ask->kind)));
+}
+
+/* A step of a replay, beside that of the trace. */
+static void print_step(const PctEvent *step) {
+    char said[400], *line = strsep(&written, "\n");
+    snprintf(said, sizeof said, "%u %s", run->steps, step_text(step));
+    printf("%s    %s\n", said, line_text(step->line));
+    if (line && *line >= '0' && *line <= '9' && strcmp(said, line) != 0)
+        printf("    the trace has %s\n", line);
+    fflush(stdout);
 }
 
 /* A thread's step was taken: it is logged, and done on the memory. */
@@ -645,32 +634,24 @@ static void took(uint32_t thread, int64_t answer) {
     Seat *seat = &run->seats[thread];
     Late *late = &seat->late;
     uint32_t kind = late->ask.kind;
-    shared->log[run->steps++] = (PctEvent){ thread, late->line, late->ask, answer };
+    PctEvent *step = &run->log[run->steps++];
+    *step = (PctEvent){ thread, late->line, late->ask, answer };
     run->baton = thread;
     late->state = AWAY;
-    seat->answer = late->access == PCT_WAKE ? (int64_t)wake_sleepers(late) : answer;
     if (kind == PCT_ASK_UP || kind == PCT_ASK_DOWN || (kind == PCT_ASK_TRY_DOWN && answer))
         run->now[PCT_SEMAPHORES][late->ask.a] += kind == PCT_ASK_UP ? 1 : -1;
-    seat->has_changed = is_access(late) ? perform(seat, answer) : is_change(&late->ask, answer);
+    seat->answer = is_access(late) ? late->old : answer;
+    if (late->access == PCT_WAKE) seat->answer = (int64_t)wake_sleepers(late);
+    seat->has_changed = is_access(late) ? perform(late, answer) : is_change(&late->ask, answer);
     if (seat->has_changed) run->news |= ~BIT(thread);
-    if (run->plan.prints) print_step();
+    if (run->plan.policy == BY_LIST) print_step(step);
 }
 
-/* Posts what a thread brought, for which the book waits. */
-static void post(uint32_t thread) {
-    Late *late = &run->seats[thread].late;
-    if (late->state != BROUGHT)
-        sentence("a fault of the layer: the book waits for %s, which brought no ask",
-                 run->names[PCT_THREADS][thread]);
-    late->ask = ask_of(late);
-    late->state = late->ask.kind == PCT_ASK_NONE ? ENDED : POSTED;
-    child.turn = pct_book_post(&child.book, thread, late->line, &late->ask);
-    demand(child.turn.status, "pct_book_post");
-}
-
-static bool is_same_ask(const PctAsk *one, const PctAsk *other) {
-    return one->kind == other->kind && one->a == other->a && one->b == other->b &&
-           one->x == other->x && one->y == other->y;
+static bool is_same_step(const PctEvent *one, const PctEvent *other) {
+    const PctAsk *ask = &one->ask, *asked = &other->ask;
+    return one->thread == other->thread && one->line == other->line &&
+           one->answer == other->answer && ask->kind == asked->kind && ask->a == asked->a &&
+           ask->b == asked->b && ask->x == asked->x && ask->y == asked->y;
 }
 
 /* Takes the step of a thread whose turn it is; whether the run goes on with it. Between its post
@@ -678,37 +659,41 @@ static bool is_same_ask(const PctAsk *one, const PctAsk *other) {
    posted anew. */
 static bool take(uint32_t thread) {
     Late *late = &run->seats[thread].late;
-    PctAsk posted = late->ask;
-    look_at_memory(thread);
-    late->ask = ask_of(late);
-    if (!is_same_ask(&posted, &late->ask)) rebuild();
-    child.turn = pct_book_take(&child.book, thread);
-    bool goes_on = child.turn.status != PCT_ENDED;
-    if (goes_on) demand(child.turn.status, "pct_book_take");
+    PctEvent posted = { .ask = late->ask }, now = posted;
+    look_again(thread);
+    now.ask = late->ask;
+    if (!is_same_step(&posted, &now)) rebuild();
+    turn(pct_book_take(&child.book, thread));
     took(thread, child.turn.answer);
-    return goes_on;
+    return child.turn.status != PCT_ENDED;
 }
 
-/* The book has come to the run's end. Where it didn't pass, the child ends. */
-static void close_run(void) {
-    demand(pct_book_outcome(&child.book, &run->outcome), "pct_book_outcome");
+static void write_all_traces(void) {
+    if (!traces) return;
+    fputs(trace_text(run->log, run->steps), traces);
+    fflush(traces);
+}
+
+/* The only place where asks are posted, as the book waits for them, and steps taken. Who has the
+   baton next; nobody where the run is over. Where it didn't pass, the child ends. */
+static uint32_t next_thread(void) {
+    while (child.turn.choice == PCT_CHOICE_TURN || child.turn.choice == PCT_CHOICE_WAITS) {
+        uint32_t thread = child.turn.thread;
+        Late *late = &run->seats[thread].late;
+        bool is_turn = child.turn.choice == PCT_CHOICE_TURN;
+        if (is_turn && take(thread)) return thread;
+        if (is_turn) continue;
+        if (late->state != BROUGHT)
+            sentence("a fault of the layer: %s brought no ask", who(thread));
+        look(late);
+        late->state = late->ask.kind == PCT_ASK_NONE ? ENDED : POSTED;
+        turn(pct_book_post(&child.book, thread, late->line, &late->ask));
+    }
+    DEMAND(pct_book_outcome(&child.book, &run->outcome));
     run->end = OUTCOME;
     write_all_traces();
     if (run->outcome.kind != PCT_PASSED) leave(OUTCOME);
     sem_post(&child.over);
-}
-
-/* The only place where asks are posted and steps taken. Who has the baton next; nobody where the
-   run is over. */
-static uint32_t next_thread(void) {
-    while (child.turn.choice == PCT_CHOICE_TURN || child.turn.choice == PCT_CHOICE_WAITS) {
-        uint32_t thread = child.turn.thread;
-        if (child.turn.choice == PCT_CHOICE_WAITS)
-            post(thread);
-        else if (take(thread))
-            return thread;
-    }
-    close_run();
     return NOBODY;
 }
 
@@ -742,19 +727,18 @@ static void wake_waiters(uint32_t me) {
     }
 }
 
-static uint32_t me_at(PctPlace place) {
-    if (!own_seat)
-        sentence("%s:%d can't be a step: %s", place.file ? base_of(place.file) : "?", place.line,
-                 child.runs ? "its thread was started past pct_create" : "no run is going on");
-    return own_seat - 1;
-}
-
 /* --- Steps --- */
 
-static int64_t step(uint32_t kind, uint32_t a, uint32_t b, PctPlace place) {
-    uint32_t me = me_at(place), line = line_at(me, place);
+/* Brings what the thread here asks; what its step gives. */
+static int64_t ask_at(PctPlace place, Late late) {
+    uint32_t me = me_at(place);
+    late.line = line_at(me, place);
     wake_waiters(me);
-    return bring(me, (Late){ .ask = PCT_ASK(kind, a, b, 0, 0), .line = line });
+    return bring(me, late);
+}
+
+static int64_t step(uint32_t kind, uint32_t a, uint32_t b, PctPlace place) {
+    return ask_at(place, (Late){ .ask = PCT_ASK(kind, a, b, 0, 0) });
 }
 
 void pct_step_at(PctPlace place) { step(PCT_ASK_YIELD, 0, 0, place); }
@@ -766,11 +750,7 @@ void pct_check_step(bool holds, PctPlace place) {
 /* The semaphore at which a thread waits for others' steps. */
 static uint32_t own_semaphore(uint32_t me, PctPlace place) {
     uint32_t *own = &run->seats[me].semaphore;
-    if (!*own) *own = 1 + new_number(PCT_SEMAPHORES, 0, "waits");
-    if (!*own)
-        sentence("%s: a run has at most 64 semaphores at a time, and each thread that waits in "
-                 "pct_yield or at a futex has one",
-                 place_text(line_at(me, place)));
+    if (!*own) *own = 1 + new_number(PCT_SEMAPHORES, 0, "waits", place);
     run->waits |= BIT(*own - 1);
     return *own - 1;
 }
@@ -783,7 +763,7 @@ void pct_yield_at(PctPlace place) {
     bool has_news = run->news & BIT(me);
     run->news &= ~BIT(me);
     if (has_news) {
-        step(PCT_ASK_YIELD, 0, 0, place);
+        pct_step_at(place);
         return;
     }
     uint32_t semaphore = own_semaphore(me, place);
@@ -791,36 +771,39 @@ void pct_yield_at(PctPlace place) {
     step(PCT_ASK_DOWN, semaphore, 0, place);
 }
 
-/* The variable at an address; NOBODY where none is left. */
-static uint32_t variable_at(void *at, unsigned form, PctPlace place) {
-    int64_t first = code_of(read_memory(at, form), form);
-    uint32_t number = 0, bytes = form & 15, many = run->many[PCT_VARIABLES];
-    while (number < many && run->variables[number].at != at) number++;
+/* Finds the variable of an access. Where none is left, its step touches nothing. */
+static void find_variable(Late *late, PctPlace place) {
+    uint32_t number = 0, bytes = late->form & 15, many = run->many[PCT_VARIABLES];
+    while (number < many && run->variables[number].at != late->at) number++;
     if (number == many) {
-        number = new_number(PCT_VARIABLES, first, called_of(at, place.name));
-        if (number == NOBODY) return NOBODY;
-        run->variables[number].at = at;
+        read_memory(late);
+        number = new_number(PCT_VARIABLES, code_of(late->old, late->form),
+                            called_of(late->at, place.name), place);
+        if (number == NOBODY) return;
+        run->variables[number].at = late->at;
         run->variables[number].bytes = bytes;
         run->variables[number].step = 0;
     }
     if (run->variables[number].bytes != bytes)
         sentence("%s is used with %u bytes, and was with %u", run->names[PCT_VARIABLES][number],
                  bytes, run->variables[number].bytes);
-    return number;
+    late->ask = (PctAsk)PCT_ASK(PCT_ASK_READ, number, 0, 0, 0);
 }
 
 int64_t pct_access(PctAccess access, volatile void *at, unsigned form, int64_t x, int64_t y,
                    PctPlace place) {
-    Late late = { .access = access, .at = (void *)at, .form = form, .x = normal(x, form) };
+    Late late = { PCT_ASK(PCT_ASK_YIELD, 0, 0, 0, 0), .access = access, .form = form };
+    late.at = (void *)at;
+    late.x = normal(x, form);
     late.y = normal(y, form);
-    if (!own_seat && !child.runs) return do_access(&late);
-    uint32_t me = me_at(place);
-    late.line = line_at(me, place);
-    wake_waiters(me);
-    uint32_t variable = access == PCT_WAKE ? NOBODY : variable_at(late.at, form, place);
-    late.ask.kind = variable == NOBODY ? PCT_ASK_YIELD : PCT_ASK_READ;
-    late.ask.a = variable == NOBODY ? 0 : variable;
-    return bring(me, late);
+    if (!own_seat && !child.runs) {
+        read_memory(&late);
+        write_memory(&late);
+        return late.old;
+    }
+    wake_waiters(me_at(place));
+    if (access != PCT_WAKE) find_variable(&late, place);
+    return ask_at(place, late);
 }
 
 bool pct_cas_at(volatile void *at, unsigned form, int64_t expected, int64_t value, PctPlace place) {
@@ -881,13 +864,12 @@ static void start_real(uint32_t thread) {
         sentence("the system has no further thread");
 }
 
-/* Where paths are kept a thread has the number that belongs to its creator and to how many that has
-   created, and another one than all those where the kept run has none. */
+/* By a directive a thread has the number that the kept run gave to who was created by the same
+   thread, as the same one, and another one than all those where that run has none. */
 static uint32_t number_of_thread(uint32_t me) {
-    uint32_t nth = ++run->seats[me].children, fresh = run->threads;
-    for (uint32_t number = test.declared; run->plan.keeps_paths && number < run->plan.threads;
-         number++) {
-        const Seat *seat = &kept.run.seats[number];
+    uint32_t nth = ++run->seats[me].children, fresh = run->threads, number = test.declared;
+    for (; run->plan.policy == BY_DIRECTIVE && number < run->plan.threads; number++) {
+        const Seat *seat = &kept.seats[number];
         if (seat->nth == nth && seat->parent == me) return number;
         if (seat->nth && fresh == number) fresh++;
     }
@@ -898,9 +880,9 @@ int pct_create_at(pct_thread_t *thread, const pthread_attr_t *attr, void *(*func
                   void *argument, PctPlace place) {
     uint32_t me = me_at(place), number = number_of_thread(me), line = line_at(me, place);
     int state = PTHREAD_CREATE_JOINABLE;
-    if (number >= MOST) sentence("%s: a run has at most 64 threads", place_text(line));
+    if (number >= MOST) sentence("%s: a run has at most 64 threads", line_text(line));
     if (number >= run->threads) run->threads = number + 1;
-    if (number >= run->many[PCT_THREADS]) leave(MORE_THREADS);
+    if (number >= run->plan.threads) leave(MORE_THREADS);
     if (attr) pthread_attr_getdetachstate(attr, &state);
     Seat *seat = &run->seats[number];
     seat->function = function;
@@ -950,7 +932,8 @@ void pct_exit(void *value) {
 
 int pct_object_at(PctKind kind, PctObject *object, PctAskKind ask, PctPlace place) {
     int64_t answer = step(ask, number_of(kind, object, place), 0, place);
-    return !is_try(ask) || answer ? 0 : ask == PCT_ASK_TRY_DOWN ? EAGAIN : EBUSY;
+    if (answer || !(TRIES & BIT(ask))) return 0;
+    return ask == PCT_ASK_TRY_DOWN ? EAGAIN : EBUSY;
 }
 
 int pct_mutex_init(pct_mutex_t *mutex, int kind) {
@@ -970,22 +953,19 @@ static uint32_t number_of_mutex(pct_mutex_t *mutex, PctPlace place) {
     return number_of(PCT_MUTEXES, &mutex->object, place);
 }
 
-/* A call to which a mutex of another kind than the normal one answers without a step of its own:
-   the number that refuses it, or 0 where it is taken once more, or once less. */
-static int count_again(pct_mutex_t *mutex, PctAskKind ask, bool is_own, PctPlace place) {
-    step(PCT_ASK_YIELD, 0, 0, place);
-    if (ask == PCT_ASK_UNLOCK && !is_own) return EPERM;
-    if (mutex->kind == PCT_MUTEX_ERRORCHECK) return ask == PCT_ASK_LOCK ? EDEADLK : EBUSY;
-    mutex->depth += ask == PCT_ASK_UNLOCK ? UINT32_MAX : 1;
-    return 0;
-}
-
+/* A mutex of another kind than the normal one answers some calls without a step of its own: it is
+   taken once more, or once less, or it refuses. */
 int pct_mutex_at(pct_mutex_t *mutex, PctAskKind ask, PctPlace place) {
     uint32_t me = me_at(place), number = number_of_mutex(mutex, place);
     bool is_own = mutex->owner == me + 1, is_unlock = ask == PCT_ASK_UNLOCK;
     bool is_counted = is_unlock ? !is_own || mutex->depth > 1 : is_own;
-    if (mutex->kind != PCT_MUTEX_NORMAL && is_counted)
-        return count_again(mutex, ask, is_own, place);
+    if (mutex->kind != PCT_MUTEX_NORMAL && is_counted) {
+        pct_step_at(place);
+        if (is_unlock && !is_own) return EPERM;
+        if (mutex->kind == PCT_MUTEX_ERRORCHECK) return ask == PCT_ASK_LOCK ? EDEADLK : EBUSY;
+        mutex->depth += is_unlock ? UINT32_MAX : 1;
+        return 0;
+    }
     if (!step(ask, number, 0, place) && ask == PCT_ASK_TRY_LOCK) return EBUSY;
     mutex->owner = is_unlock ? 0 : me + 1;
     mutex->depth = !is_unlock;
@@ -997,7 +977,7 @@ int pct_cond_wait_at(pct_cond_t *cond, pct_mutex_t *mutex, PctPlace place, const
     uint32_t number = number_of(PCT_CONDITIONS, &cond->object, place), me = me_at(place);
     uint32_t other = number_of_mutex(mutex, of_mutex), depth = mutex->depth;
     if (mutex->kind == PCT_MUTEX_ERRORCHECK && mutex->owner != me + 1) {
-        step(PCT_ASK_YIELD, 0, 0, place);
+        pct_step_at(place);
         return EPERM;
     }
     step(PCT_ASK_RELEASE, number, other, place);
@@ -1015,7 +995,7 @@ int pct_by_errno(int refused) {
 
 int pct_sem_getvalue_at(pct_sem_t *sem, int *value, PctPlace place) {
     uint32_t number = number_of(PCT_SEMAPHORES, &sem->object, place);
-    step(PCT_ASK_YIELD, 0, 0, place);
+    pct_step_at(place);
     *value = (int)run->now[PCT_SEMAPHORES][number];
     return 0;
 }
@@ -1038,45 +1018,40 @@ int pct_once_at(pct_once_t *once, void (*function)(void), PctPlace place) {
 
 /* The search goes on with the next seed. */
 static void pass_on(void) {
-    PctRow row = { run->plan.seed, run->steps, run->outcome };
-    if (test.campaign) shared->rows[shared->next] = row;
-    shared->next = (shared->next + 1) % search.all;
+    if (test.campaign)
+        shared->rows[shared->next] = (PctRow){ run->plan.seed, run->steps, run->outcome };
+    shared->next = (shared->next + 1) % shared->all;
     shared->left--;
 }
 
 /* Draws the order and the change points of the search's next seed, depth after depth. */
 static void draw(Plan *plan) {
     plan->seed = test.from + shared->next % test.seeds;
-    plan->depth = (uint32_t)(search.least_depth + shared->next / test.seeds);
+    plan->depth = (uint32_t)(shared->least_depth + shared->next / test.seeds);
     plan->threads = shared->threads;
     plan->point_count = plan->depth - 1;
-    demand(pct_draw(plan->seed, plan->threads, shared->steps, plan->depth, plan->order,
-                    plan->threads, plan->points, plan->point_count),
-           "pct_draw");
-}
-
-static void seat_threads(void) {
-    Place place = { test.place.file, test.place.line, false };
-    for (uint32_t thread = 0; thread < MOST; thread++) {
-        Seat *seat = &run->seats[thread];
-        seat->last = test.place;
-        seat->late.line = number_of_place(place);
-        seat->late.ask.kind = PCT_ASK_BEGIN;
-        seat->late.state = thread < test.declared ? AWAY : POSTED;
-        if (thread < test.declared) give_name(PCT_THREADS, thread, test.names[thread]);
-    }
+    DEMAND(pct_draw(plan->seed, plan->threads, shared->steps, plan->depth, plan->order,
+                    plan->threads, plan->points, plan->point_count));
 }
 
 static void make_run(void) {
     Plan plan = run->plan;
-    memset(run, 0, sizeof *run);
+    memset(run, 0, offsetof(Run, log));
     shared->stamp++;
     if (plan.policy == BY_SEED) draw(&plan);
     run->plan = plan;
     run->many[PCT_THREADS] = plan.threads;
     run->threads = test.declared;
     run->news = UINT64_MAX;
-    seat_threads();
+    for (uint32_t thread = 0; thread < MOST; thread++) {
+        Seat *seat = &run->seats[thread];
+        bool is_declared = thread < test.declared;
+        seat->last = test.place;
+        seat->late = (Late){ PCT_ASK(PCT_ASK_BEGIN, 0, 0, 0, 0), .state = POSTED };
+        seat->late.line = number_of_place(at_itself(test.place));
+        if (is_declared) give_name(PCT_THREADS, thread, test.names[thread]);
+        if (is_declared) seat->late.state = AWAY;
+    }
     if (test.reset) test.reset();
     child.runs = true;
     rebuild();
@@ -1092,8 +1067,13 @@ static void mark_sanitized(void) { shared->is_sanitized = true; }
 
 void __sanitizer_set_death_callback(void (*callback)(void)) __attribute__((weak));
 
-/* Makes runs until one doesn't pass. What they print is dropped, but for those that are told. */
+/* Makes runs until one doesn't pass, on the processor that it has, since one thread at a time goes.
+   What they print is dropped, but for those that are told. */
 static void __attribute__((noreturn)) be_child(void) {
+    cpu_set_t here;
+    CPU_ZERO(&here);
+    CPU_SET(sched_getcpu(), &here);
+    sched_setaffinity(0, sizeof here, &here);
     int nothing = run->plan.is_loud ? -1 : open("/dev/null", O_WRONLY);
     if (nothing >= 0 && (dup2(nothing, 1) < 0 || dup2(nothing, 2) < 0)) _exit(1);
     if (__sanitizer_set_death_callback) __sanitizer_set_death_callback(mark_sanitized);
@@ -1117,9 +1097,8 @@ static const char *cause_of(int status, bool is_hung) {
     };
     static char cause[80];
     uint32_t signal = WIFSIGNALED(status) ? (uint32_t)WTERMSIG(status) : 0;
-    bool is_known = signal < LENGTH(SIGNALS) && SIGNALS[signal];
     if (shared->is_sanitized) return "a sanitizer's report";
-    if (is_known && !is_hung) return SIGNALS[signal];
+    if (!is_hung && signal < LENGTH(SIGNALS) && SIGNALS[signal]) return SIGNALS[signal];
     snprintf(cause, sizeof cause, signal ? "signal %u" : "exit(%u)",
              signal ? signal : (uint32_t)WEXITSTATUS(status));
     if (is_hung) snprintf(cause, sizeof cause, "no step for %u seconds", (uint32_t)test.patience);
@@ -1129,120 +1108,93 @@ static const char *cause_of(int status, bool is_hung) {
 /* The child died in its run, or the memory isn't what the steps left: to the trace that is an
    assertion which fails in the last line of who had the baton. */
 static void died(const char *cause) {
-    PctEvent end = { .thread = run->baton, .ask.kind = PCT_ASK_CHECK_FAILS };
-    PctPlace last = run->seats[run->baton].last;
-    end.line = number_of_place((Place){ last.file, last.line, false });
+    uint32_t thread = run->baton;
+    uint32_t line = number_of_place(at_itself(run->seats[thread].last));
     if (run->end == GOES)
         snprintf(run->told, sizeof run->told, "%s after step %u, %s, %s", cause, run->steps,
-                 run->names[PCT_THREADS][end.thread], place_text(end.line));
-    shared->log[run->steps++] = end;
-    run->outcome = (PctOutcome){ .kind = PCT_FAILED, .thread = end.thread, .line = end.line };
+                 who(thread), line_text(line));
+    run->log[run->steps++] =
+        (PctEvent){ .thread = thread, .line = line, .ask.kind = PCT_ASK_CHECK_FAILS };
+    run->outcome = (PctOutcome){ .kind = PCT_FAILED, .thread = thread, .line = line };
     run->end = DIED;
     write_all_traces();
 }
 
-/* Waits for the child's end. One that makes no step for too long is killed. */
-static bool is_hung(pid_t pid, int ending) {
-    struct pollfd end = { .fd = ending, .events = POLLIN };
-    uint64_t asks = shared->asks;
-    for (uint64_t waited = 0; poll(&end, 1, 100) == 0; waited += 100) {
-        if (asks != shared->asks) waited = 0;
-        asks = shared->asks;
-        if (waited >= test.patience * 1000) return kill(pid, SIGKILL) == 0;
-    }
-    return false;
-}
-
-/* Makes a child, whose runs go by the plan; what became of the last one stands in the run. */
-static void make_child(Plan plan) {
-    int ends[2], status = 0;
+/* Makes a child, whose runs go by the plan, and waits for its end; what became of the last run
+   stands there. Whether that has failed. A child that makes no step for too long is killed. */
+static bool make_child(Plan plan) {
+    uint64_t asks = shared->asks, waited = 0; /* milliseconds */
+    int status = 0;
+    bool is_hung = false;
     run->plan = plan;
     run->end = GOES;
     shared->is_sanitized = false;
     fflush(NULL);
-    if (pipe2(ends, O_CLOEXEC) != 0) sentence("there is no pipe");
     pid_t pid = fork();
     if (pid < 0) sentence("there is no child");
     if (pid == 0) be_child();
-    close(ends[1]);
-    bool hung = is_hung(pid, ends[0]);
-    close(ends[0]);
-    while (waitpid(pid, &status, 0) < 0 && errno == EINTR) continue;
+    for (; waitpid(pid, &status, WNOHANG) == 0; waited++) {
+        usleep(1000);
+        if (asks != shared->asks) waited = 0;
+        asks = shared->asks;
+        is_hung = is_hung || waited >= test.patience * 1000;
+        if (is_hung) kill(pid, SIGKILL);
+    }
+    const char *cause = cause_of(status, is_hung);
     if (run->end == GOES || run->end == DIED)
-        died(cause_of(status, hung));
+        died(cause);
     else if (status != 0)
-        sentence("%s between two runs, after that of seed %llu", cause_of(status, hung),
+        sentence("%s between two runs, after that of seed %llu", cause,
                  (unsigned long long)run->plan.seed);
     if (run->end == SENTENCE) sentence("%s", run->told);
-}
-
-static bool has_failed(void) { return run->end == DIED || run->outcome.kind != PCT_PASSED; }
-
-/* The run in declared order, with room for 64 threads, since those that nobody starts change
-   nothing; whether it fails. */
-static bool make_declared(void) {
-    Plan plan = { .policy = BY_POINTS, .threads = MOST };
-    for (uint32_t i = 0; i < MOST; i++) plan.order[i] = i;
-    make_child(plan);
-    run->plan.threads = run->many[PCT_THREADS] = run->threads;
-    return has_failed();
+    return run->end == DIED || run->outcome.kind != PCT_PASSED;
 }
 
 /* --- A search --- */
 
-static void keep(void) {
-    kept.run = *run;
-    memcpy(kept.log, shared->log, run->steps * sizeof *kept.log);
+static void copy_run(Run *to, const Run *from) {
+    memcpy(to, from, offsetof(Run, log) + from->steps * sizeof *from->log);
 }
-
-static void take_up_kept(void) {
-    *run = kept.run;
-    memcpy(shared->log, kept.log, run->steps * sizeof *kept.log);
-}
-
-/* Whether a failing run of so many steps is kept in place of what is. */
-static bool is_shorter(uint32_t steps) { return kept.run.end == GOES || steps < kept.run.steps; }
 
 static bool has_kept_verdict(void) {
-    return run->end == kept.run.end &&
-           memcmp(&run->outcome, &kept.run.outcome, sizeof run->outcome) == 0;
+    return run->end == kept.end && memcmp(&run->outcome, &kept.outcome, sizeof run->outcome) == 0;
 }
 
-static void begin_search(uint32_t threads) {
-    shared->threads = threads;
-    shared->left = search.all;
-    search.failed = 0;
-    kept.run.end = GOES;
-}
-
-/* Whether the search goes on after a failing run: for 20 of them, or 2 seconds after the first. */
-static bool goes_on(void) {
+static uint64_t milliseconds(void) {
     struct timespec now;
     clock_gettime(CLOCK_MONOTONIC, &now);
-    if (search.failed++ == 0) search.first = now;
-    int64_t seconds = now.tv_sec - search.first.tv_sec;
-    bool is_late = seconds > 2 || (seconds == 2 && now.tv_nsec >= search.first.tv_nsec);
-    return test.campaign || (search.failed < MOST_FAILING && !is_late);
+    return (uint64_t)now.tv_sec * 1000 + (uint64_t)now.tv_nsec / 1000000;
 }
 
-/* Makes the runs of the seeds. One that starts a further thread than an order has is thrown away:
-   the next child begins its seed again, with one more, and all seeds are run so, since n is one for
+/* Makes the run in declared order, with room for 64 threads, since those that nobody starts change
+   nothing; whether it fails. */
+static bool make_declared(void) {
+    Plan plan = { .policy = BY_POINTS, .threads = MOST };
+    for (uint32_t i = 0; i < MOST; i++) plan.order[i] = i;
+    bool has_failed = make_child(plan);
+    run->plan.threads = run->many[PCT_THREADS] = run->threads;
+    return has_failed;
+}
+
+/* Makes the runs of the seeds, and keeps the shortest one that fails; how many do. It goes on after
+   the first one for 20 of them or 2 seconds. A run that starts a further thread is thrown away: the
+   next child begins its seed again, with one more, and all seeds are run so, since n is one for
    all. */
-static void search_seeds(void) {
-    bool is_over = false;
-    search.all = (uint32_t)(test.depth ? test.seeds : 3 * test.seeds);
-    search.least_depth = (uint32_t)(test.depth ? test.depth : 1);
-    begin_search(shared->threads);
-    while (shared->left > 0 && !is_over) {
-        make_child((Plan){ .policy = BY_SEED });
-        if (run->end == MORE_THREADS) {
-            begin_search(run->threads);
-        } else if (has_failed()) {
-            if (is_shorter(run->steps)) keep();
-            pass_on();
-            is_over = !goes_on();
-        }
+static uint32_t search_seeds(uint32_t threads) {
+    uint32_t failed = 0;
+    uint64_t end = UINT64_MAX;
+    shared->threads = threads;
+    shared->left = shared->all;
+    kept.end = GOES;
+    while (shared->left > 0 && (test.campaign || (failed < MOST_FAILING && milliseconds() < end))) {
+        bool has_failed = make_child((Plan){ .policy = BY_SEED });
+        if (run->end == MORE_THREADS) return search_seeds(run->threads);
+        if (!has_failed) continue;
+        if (failed++ == 0) end = milliseconds() + 2000;
+        if (kept.end == GOES || run->steps < kept.steps) copy_run(&kept, run);
+        pass_on();
     }
+    return failed;
 }
 
 /* --- What is told of a run --- */
@@ -1256,75 +1208,64 @@ static void print_verdict(void) {
     putchar('\n');
 }
 
-/* Puts what threads have posted that ask at the end behind the run's steps; how many they are. */
+/* Puts what threads have posted that ask at the end behind the run's steps; where those end. */
 static uint32_t add_asking(void) {
-    uint32_t many = 0;
+    uint32_t end = run->steps;
     for (uint32_t thread = 0; thread < run->threads && run->end == OUTCOME; thread++) {
         const Late *late = &run->seats[thread].late;
         if (late->state == POSTED && late->ask.kind != PCT_ASK_BEGIN)
-            shared->log[run->steps + many++] = (PctEvent){ thread, late->line, late->ask, 0 };
+            run->log[end++] = (PctEvent){ thread, late->line, late->ask, 0 };
     }
-    return many;
+    return end;
 }
 
 /* A line of the lanes: v1 is the first change point, and ! stands before what is waited for. */
 static void print_lane(uint32_t i, int width) {
-    const PctEvent *step = &shared->log[i];
+    const PctEvent *step = &run->log[i];
     bool is_step = i < run->steps;
-    char cell[200], number[16] = "";
+    char cell[200];
     int used = snprintf(cell, sizeof cell - 8, "%s%s", is_step ? "" : "! ", ask_text(step));
     for (uint32_t point = 0; point < run->plan.point_count; point++)
         if (run->plan.points[point] == i + 1) sprintf(cell + used, " v%u", point + 1);
-    if (is_step) snprintf(number, sizeof number, "%u", i + 1);
-    printf("%6s  %*s%-*s  %s\n", number, width * (int)step->thread, "",
-           width * (int)(run->threads - step->thread) - 2, cell, place_text(step->line));
+    printf("%6.0u  %*s%-*s  %s\n", is_step ? i + 1 : 0, width * (int)step->thread, "",
+           width * (int)(run->threads - step->thread) - 2, cell, line_text(step->line));
 }
 
 /* A lane for each thread, from left to right. */
 static void print_lanes(void) {
-    uint32_t many = run->steps + add_asking();
+    uint32_t end = add_asking();
     int width = 0;
-    for (uint32_t i = 0; i < many; i++) {
-        int length = (int)strlen(ask_text(&shared->log[i])) + 6;
+    for (uint32_t i = 0; i < end; i++) {
+        int length = (int)strlen(ask_text(&run->log[i])) + 6;
         width = length > width ? length : width;
     }
     printf("%6s", "step");
-    for (uint32_t i = 0; i < run->threads; i++)
-        printf("  %-*s", width - 2, run->names[PCT_THREADS][i]);
+    for (uint32_t i = 0; i < run->threads; i++) printf("  %-*s", width - 2, who(i));
     printf("  place\n");
-    for (uint32_t i = 0; i < many; i++) print_lane(i, width);
+    for (uint32_t i = 0; i < end; i++) print_lane(i, width);
     printf("verdict %s\n", verdict_text());
 }
 
 /* Where a run is stuck who waits for what, and where it is cut where its last steps stand. */
 static void tell_end(void) {
     bool is_stuck = run->outcome.kind == PCT_STUCK;
-    uint32_t many = is_stuck ? add_asking() : 0;
-    for (uint32_t i = run->steps; i < run->steps + many; i++)
-        printf("  %s waits at %s: %s\n", run->names[PCT_THREADS][shared->log[i].thread],
-               place_text(shared->log[i].line), ask_text(&shared->log[i]));
+    uint32_t end = is_stuck ? add_asking() : 0;
+    for (const PctEvent *ask = &run->log[run->steps]; ask < &run->log[end]; ask++)
+        printf("  %s waits at %s: %s\n", who(ask->thread), line_text(ask->line), ask_text(ask));
     if (is_stuck) printf("  no wait ends by itself, that of a timed form neither\n");
     if (run->outcome.kind == PCT_CUT)
         printf("  its last step stands at %s: a loop that looks again and again wants pct_yield\n",
-               place_text(shared->log[run->steps - 1].line));
+               line_text(run->log[run->steps - 1].line));
 }
 
 /* The report that `pct campaign` writes. */
 static void print_report(void) {
     uint32_t depth = (uint32_t)test.depth, limit = (uint32_t)test.limit;
     const PctFrame frame = { shared->threads, shared->steps, depth, limit };
-    Names names = names_of_run();
-    PctCount made = { PCT_NO_ROOM, 0 };
-    uint8_t *text = NULL;
-    while (made.status == PCT_NO_ROOM) {
-        text = realloc(text, made.count + 1);
-        if (!text) sentence("no memory");
-        made = pct_text_report(names.text, names.bytes, &frame, shared->rows, search.all, text,
-                               made.count);
-    }
-    demand(made.status, "pct_text_report");
-    fwrite(text, 1, made.count, stdout);
-    free(text);
+    const char *names = names_of_run();
+    while (!is_written(pct_text_report(BYTES(names), &frame, shared->rows, shared->all, ROOM)))
+        continue;
+    fputs(text, stdout);
 }
 
 /* --- Files --- */
@@ -1338,11 +1279,15 @@ static FILE *open_file(const char *name, const char *mode) {
 static char *read_file(const char *name) {
     FILE *file = open_file(name, "r");
     size_t bytes = fseek(file, 0, SEEK_END) == 0 ? (size_t)ftell(file) : 0;
-    char *text = calloc(bytes + 1, 1);
+    char *whole = calloc(bytes + 1, 1);
     rewind(file);
-    if (!text || fread(text, 1, bytes, file) != bytes) sentence("%s can't be read", name);
+    if (!whole || fread(whole, 1, bytes, file) != bytes) sentence("%s can't be read", name);
     fclose(file);
-    return text;
+    return whole;
+}
+
+static void close_file(FILE *file, const char *name) {
+    if (fclose(file) != 0) sentence("%s can't be written", name);
 }
 
 /* A trace's other file: FILE.trace has FILE.sites. */
@@ -1356,46 +1301,41 @@ static const char *sites_name(const char *trace) {
 
 static void write_trace(const char *name) {
     FILE *trace = open_file(name, "w"), *sites = open_file(sites_name(name), "w");
-    fputs(trace_text(shared->log, run->steps), trace);
+    fputs(trace_text(run->log, run->steps), trace);
     fprintf(sites, "sites 2\nseed %llu\nfile %s\ntest %s\n%s", (unsigned long long)run->plan.seed,
-            test.place.file, test.name, names_of_run().text);
-    for (uint32_t number = MOST_LINE; number > 0; number--) {
+            test.place.file, test.name, names_of_run());
+    for (int number = MOST_LINE; number > 0; number--) {
         const Place *place = &shared->places[number];
         if (place->file && !is_own_line(place, number))
-            fprintf(sites, "%u %s %d %s\n", number, place->is_near ? "near" : "at", place->line,
+            fprintf(sites, "%d %s %d %s\n", number, place->is_near ? "near" : "at", place->line,
                     place->file);
     }
-    if (fclose(trace) != 0 || fclose(sites) != 0) sentence("%s can't be written", name);
+    close_file(trace, name);
+    close_file(sites, sites_name(name));
 }
 
 /* --- The first part of the document --- */
 
-static void put_text(FILE *to, const char *before, const char *text) {
+static void put_text(FILE *to, const char *before, const char *words) {
     fprintf(to, "%s\"", before);
-    for (; *text; text++) {
-        bool is_escaped = (unsigned char)*text < ' ' || *text == '"' || *text == '\\';
-        fprintf(to, is_escaped ? "\\u%04x" : "%c", (unsigned char)*text);
+    for (; *words; words++) {
+        bool is_escaped = (unsigned char)*words < ' ' || *words == '"' || *words == '\\';
+        fprintf(to, is_escaped ? "\\u%04x" : "%c", (unsigned char)*words);
     }
     fputc('"', to);
-}
-
-/* The least number of a place in a file. */
-static uint32_t first_place_in(const char *file) {
-    uint32_t number = 1;
-    while (!shared->places[number].file || strcmp(shared->places[number].file, file) != 0) number++;
-    return number;
 }
 
 /* Each file in which a step stands, with its text. */
 static void put_sources(FILE *to) {
     const char *before = ",\"sources\":[{\"file\":";
-    for (uint32_t number = 1; number <= MOST_LINE; number++) {
-        const char *file = shared->places[number].file;
-        if (!file || first_place_in(file) != number) continue;
-        char *text = access(file, R_OK) == 0 ? read_file(file) : NULL;
-        put_text(to, before, file);
-        put_text(to, ",\"text\":", text ? text : "");
-        free(text);
+    for (const Place *place = shared->places + 1; place <= shared->places + MOST_LINE; place++) {
+        const Place *first = shared->places + 1; /* one in the same file */
+        while (place->file && (!first->file || strcmp(first->file, place->file) != 0)) first++;
+        if (!place->file || first != place) continue;
+        char *whole = access(place->file, R_OK) == 0 ? read_file(place->file) : NULL;
+        put_text(to, before, place->file);
+        put_text(to, ",\"text\":", whole ? whole : "");
+        free(whole);
         before = "},{\"file\":";
     }
 }
@@ -1412,40 +1352,34 @@ static void put_objects(FILE *to, uint32_t kind) {
 }
 
 static void put_steps(FILE *to, const char *before, uint32_t from, uint32_t end) {
+    fputs(before, to);
     for (uint32_t i = from; i < end; i++) {
-        const PctEvent *step = &shared->log[i];
+        const PctEvent *step = &run->log[i];
         Place place = shared->places[step->line];
-        fprintf(to, "%s{\"thread\":\"%s\",\"ask\":\"%s\",\"line\":%d", i > from ? "," : before,
-                run->names[PCT_THREADS][step->thread], ask_text(step), place.line);
+        fprintf(to, "%s{\"thread\":\"%s\",\"ask\":\"%s\",\"line\":%d", i > from ? "," : "",
+                who(step->thread), ask_text(step), place.line);
         if (i < run->steps) fprintf(to, ",\"answer\":\"%lld\"", (long long)step->answer);
         put_text(to, ",\"file\":", place.file);
         fputc('}', to);
     }
-    if (from == end) fputs(before, to);
 }
 
-/* Those threads of an order, or of all, that have ended where that is asked. */
-static void put_threads(FILE *to, const uint32_t *order, uint32_t many, bool have_ended) {
-    const char *comma = "";
-    for (uint32_t i = 0; i < many; i++) {
-        uint32_t thread = order ? order[i] : i;
-        if (have_ended && run->seats[thread].late.state != ENDED) continue;
-        fprintf(to, "%s\"%s\"", comma, run->names[PCT_THREADS][thread]);
-        comma = ",";
-    }
+static void put_threads(FILE *to, const char *before, const uint32_t *threads, uint32_t many) {
+    fputs(before, to);
+    for (uint32_t i = 0; i < many; i++) fprintf(to, "%s\"%s\"", i ? "," : "", who(threads[i]));
 }
 
 static void put_run(FILE *to) {
     const Plan *plan = &run->plan;
-    uint32_t end = run->steps + add_asking();
+    uint32_t end = add_asking(), ended[MOST], many = 0;
+    for (uint32_t thread = 0; thread < run->threads; thread++)
+        if (run->seats[thread].late.state == ENDED) ended[many++] = thread;
     fprintf(to, "{\"limit\":%llu,\"verdict\":\"%s\",\"seed\":", (unsigned long long)test.limit,
             verdict_text());
     fprintf(to, plan->depth ? "{\"seed\":\"%llu\",\"depth\":%u,\"steps\":%u}" : "null",
             (unsigned long long)plan->seed, plan->depth, shared->steps);
-    fputs(",\"order\":[", to);
-    put_threads(to, plan->order, plan->threads, false);
-    fputs("],\"ended\":[", to);
-    put_threads(to, NULL, run->threads, true);
+    put_threads(to, ",\"order\":[", plan->order, plan->threads);
+    put_threads(to, "],\"ended\":[", ended, many);
     put_steps(to, "],\"steps\":[", 0, run->steps);
     put_steps(to, "],\"asking\":[", run->steps, end);
     fputs("],\"points\":[", to);
@@ -1466,115 +1400,99 @@ static void write_document(const char *trace) {
     put_run(to);
     put_text(to, ",\"again\":[{\"says\":\"shows this run again\",\"command\":", command);
     fputs("}]}]}\n", to);
-    if (fclose(to) != 0) sentence("%s can't be written", test.json);
+    close_file(to, test.json);
 }
 
 /* --- A replay --- */
 
-/* The test whose trace is to be replayed, where no other is asked for: the fourth line of the file
-   of sites names it. */
-static void read_test_of_trace(void) {
-    char *line = NULL;
-    test.sites = read_file(sites_name(test.replay));
-    for (int head = 0; head < 4 && test.sites; head++) line = strsep(&test.sites, "\n");
-    if (!test.sites || strncmp(line, "test ", 5) != 0)
-        sentence("%s: its fourth line names no test", sites_name(test.replay));
+/* Reads the sites of the trace that is to be replayed: the test that it is of, where no other is
+   asked for, the names of its run, and the places. */
+static void read_sites(void) {
+    const char *name = sites_name(test.replay);
+    char *rest = read_file(name), *line = rest, *names;
+    for (int head = 0; head < 4 && rest; head++) line = strsep(&rest, "\n");
+    if (!rest || strncmp(line, "test ", 5) != 0)
+        sentence("%s: its fourth line names no test", name);
     if (!test.only) test.only = line + 5;
+    names = rest;
+    while (*rest >= 'a' && strchr(rest, '\n')) rest = strchr(rest, '\n') + 1;
+    test.names_in_sites = strndup(names, (size_t)(rest - names));
+    while ((line = strsep(&rest, "\n")) && *line) {
+        uint32_t number = 0;
+        int at, file = 0;
+        char how[5];
+        sscanf(line, "%u %4s %d %n", &number, how, &at, &file);
+        if (number < 1 || number > MOST_LINE || !file)
+            sentence("%s: `%s` is neither a name nor a place", name, line);
+        shared->places[number] = (Place){ line + file, at, strcmp(how, "near") == 0 };
+    }
 }
 
-/* Takes a line NUMBER at LINE FILE or NUMBER near LINE FILE apart. */
-static bool read_place(const char *text) {
-    uint32_t number = 0;
-    int line, file = 0;
-    char how[5];
-    sscanf(text, "%u %4s %d %n", &number, how, &line, &file);
-    if (number < 1 || number > MOST_LINE || !file) return false;
-    shared->places[number] = (Place){ text + file, line, strcmp(how, "near") == 0 };
-    return true;
-}
-
-/* The names in a file of sites; the places behind them go to the shared ones. */
-static Names read_sites(void) {
-    char *places = test.sites, *line;
-    while (*places >= 'a' && strchr(places, '\n')) places = strchr(places, '\n') + 1;
-    Names names = { (const uint8_t *)test.sites, (size_t)(places - test.sites) };
-    while ((line = strsep(&places, "\n")) && *line)
-        if (!read_place(line))
-            sentence("%s: `%s` is neither a name nor a place", sites_name(test.replay), line);
-    return names;
-}
-
-/* By the trace, whose threads take turns as they are listed. */
-static Plan read_trace(const char *text) {
-    Plan plan = { .policy = BY_LIST, .is_loud = true, .prints = true };
+/* By a trace, whose threads take turns as they are listed. */
+static Plan read_trace(const char *whole) {
+    Plan plan = { .policy = BY_LIST, .is_loud = true };
     PctTrace trace = PCT_TRACE_NONE;
-    Names names = read_sites();
-    PctRead got =
-        pct_text_read_trace(&trace, names.text, names.bytes, (const uint8_t *)text, strlen(text));
+    PctRead got = pct_text_read_trace(&trace, BYTES(test.names_in_sites), BYTES(whole));
     if (got.status != PCT_DONE) sentence("%s: line %u has a fault", test.replay, got.line);
     PctHead head = pct_text_trace_head(&trace);
     plan.threads = (uint32_t)head.threads;
     plan.point_count = (uint32_t)head.points;
     plan.listed = (uint32_t)head.steps;
-    demand(pct_text_trace_order(&trace, plan.order, plan.threads, plan.points, plan.point_count),
-           "pct_text_trace_order");
-    demand(pct_text_trace_steps(&trace, 0, shared->log, plan.listed), "pct_text_trace_steps");
-    for (uint32_t i = 0; i < plan.listed; i++) list[i] = shared->log[i].thread;
+    DEMAND(pct_text_trace_order(&trace, plan.order, plan.threads, plan.points, plan.point_count));
+    DEMAND(pct_text_trace_steps(&trace, 0, run->log, plan.listed));
+    for (uint32_t i = 0; i < plan.listed; i++) list[i] = run->log[i].thread;
     test.limit = head.limit;
     pct_text_trace_free(&trace);
     return plan;
 }
 
-/* Makes the run of a trace file again, and prints its steps. */
-static int replay(void) {
-    char *text = read_file(test.replay);
-    Plan plan = read_trace(text);
-    written = steps_in(text);
-    make_child(plan);
-    bool departs = run->outcome.kind == PCT_DEPARTED;
+/* Makes the run of a trace file again, and prints its steps; whether it fails. */
+static bool replay(void) {
+    char *whole = read_file(test.replay);
+    Plan plan = read_trace(whole);
+    written = steps_in(whole);
+    bool has_failed = make_child(plan), departs = run->outcome.kind == PCT_DEPARTED;
     if (departs || run->end == MORE_THREADS) {
         printf("the run departs from the trace at step %u: %s can't go there, or it goes on past "
                "the trace\n",
-               run->steps + 1,
-               departs ? run->names[PCT_THREADS][run->outcome.thread] : "a further thread");
-        return 1;
+               run->steps + 1, departs ? who(run->outcome.thread) : "a further thread");
+        return true;
     }
     printf("verdict ");
     print_verdict();
     tell_end();
-    printf("the trace has the %s", strstr(text, "\nverdict ") + 1);
-    return has_failed();
+    printf("the trace has the %s", strstr(whole, "\nverdict ") + 1);
+    return has_failed;
 }
 
 /* --- Directives --- */
 
-/* Makes the run of an order and of moments. A thread is known by who created it, as which. */
-static void make_directed(const uint32_t *order, const PctDirective *directive) {
-    Plan plan = { .policy = BY_MOMENTS, .threads = kept.run.plan.threads, .keeps_paths = true };
+/* Makes the run of an order and of a directive's moments; whether it has the kept run's verdict.
+   A thread is known by who created it, as which. */
+static bool make_directed(const uint32_t *order, const PctDirective *directive) {
+    Plan plan = { .policy = BY_DIRECTIVE, .threads = kept.plan.threads, .directive = *directive };
     memcpy(plan.order, order, plan.threads * sizeof *order);
-    memcpy(plan.moments, directive->moments, sizeof plan.moments);
-    plan.moment_count = directive->count;
     make_child(plan);
+    return has_kept_verdict();
 }
 
 /* The moments of the kept run without those that its verdict doesn't need. */
-static void find(PctDirective *found) {
-    const Plan *plan = &kept.run.plan;
-    PctCount made = pct_tell_moments(kept.log, kept.run.steps, plan->points, plan->point_count,
-                                     found->moments, PCT_MOST_POINTS);
+static PctDirective find(void) {
+    const Plan *plan = &kept.plan;
+    PctDirective found = { .low = plan->order[plan->threads - 1], .verdict = kept.outcome };
+    PctCount made = pct_tell_moments(kept.log, kept.steps, plan->points, plan->point_count,
+                                     found.moments, PCT_MOST_POINTS);
     demand(made.status, "pct_tell_moments");
-    found->count = (uint32_t)made.count;
-    found->low = plan->order[plan->threads - 1];
-    found->verdict = kept.run.outcome;
-    for (uint32_t place = 0; place < found->count;) {
-        PctDirective less = *found;
+    found.count = (uint32_t)made.count;
+    for (uint32_t place = 0; place < found.count;) {
+        PctDirective less = found;
         PctMoment *left_out = &less.moments[place];
         memmove(left_out, left_out + 1, (--less.count - place) * sizeof *left_out);
-        make_directed(plan->order, &less);
-        bool is_same = has_kept_verdict();
-        if (is_same) *found = less;
+        bool is_same = make_directed(plan->order, &less);
+        if (is_same) found = less;
         place = is_same ? 0 : place + 1;
     }
+    return found;
 }
 
 static void print_bound(PctBound bound) {
@@ -1589,22 +1507,22 @@ static void print_bound(PctBound bound) {
 static bool is_certified(const PctDirective *found, const uint32_t *order, uint32_t most,
                          FILE *lines) {
     uint32_t points[PCT_MOST_POINTS];
-    make_directed(order, found);
-    bool is_long = run->steps > most, is_same = !is_long && has_kept_verdict();
+    bool has_verdict = make_directed(order, found), is_long = run->steps > most;
+    bool is_same = has_verdict && !is_long;
     FILE *to = is_same ? lines : stdout;
     fputs(is_same ? "order" : is_long ? "toolong order" : "refuted order", to);
-    for (uint32_t i = 0; i < kept.run.plan.threads; i++)
-        fprintf(to, " %s", kept.run.names[PCT_THREADS][order[i]]);
-    if (is_long) printf(" steps %u\n", run->steps);
-    if (!is_long && !is_same) {
+    for (uint32_t i = 0; i < kept.plan.threads; i++)
+        fprintf(to, " %s", kept.names[PCT_THREADS][order[i]]);
+    if (is_long) {
+        printf(" steps %u\n", run->steps);
+    } else if (!is_same) {
         printf(" verdict ");
         print_verdict();
     }
     if (!is_same) return false;
-    fprintf(lines, " points");
-    demand(pct_tell_points(shared->log, run->steps, most, found->moments, found->count, points,
-                           found->count),
-           "pct_tell_points");
+    DEMAND(pct_tell_points(run->log, run->steps, most, found->moments, found->count, points,
+                           found->count));
+    fputs(" points", lines);
     for (uint32_t i = 0; i < found->count; i++) fprintf(lines, " %u", points[i]);
     fputc('\n', lines);
     return true;
@@ -1613,76 +1531,67 @@ static bool is_certified(const PctDirective *found, const uint32_t *order, uint3
 /* Whether each order that places the directive's thread last leads to the verdict, within so many
    steps. */
 static void certify(const PctDirective *found, uint32_t most) {
-    uint32_t threads = kept.run.plan.threads, order[MOST] = { 0 };
+    uint32_t threads = kept.plan.threads, order[MOST] = { 0 };
     PctCount orders = pct_tell_order_count(threads);
     if (orders.status != PCT_DONE) {
         printf("certify takes at most 7 threads, and there are %u\n", threads);
         return;
     }
-    char *text = NULL;
+    char *whole = NULL;
     size_t length = 0;
-    FILE *lines = open_memstream(&text, &length);
+    FILE *lines = open_memstream(&whole, &length);
     bool is_whole = lines != NULL;
     if (!lines) sentence("no memory");
     for (uint32_t place = 0; place < orders.count && is_whole; place++) {
-        demand(pct_tell_order(threads, found->low, place, order, threads), "pct_tell_order");
+        DEMAND(pct_tell_order(threads, found->low, place, order, threads));
         is_whole = is_certified(found, order, most, lines);
     }
     fclose(lines);
-    if (is_whole) fputs(text, stdout);
+    if (is_whole) fputs(whole, stdout);
     if (is_whole) print_bound(pct_tell_bound(threads, most, found->count));
-    free(text);
+    free(whole);
 }
 
 /* What makes the kept failure again, and whether it does in each order. */
 static void tell_directive(void) {
-    char text[4096];
-    PctDirective found = { 0 };
-    find(&found);
-    take_up_kept();
-    Names names = names_of_run();
-    PctCount made =
-        pct_text_directive(names.text, names.bytes, &found, (uint8_t *)text, sizeof text);
-    demand(made.status, "pct_text_directive");
-    printf("%.*s", (int)made.count, text);
+    PctDirective found = find();
+    copy_run(run, &kept);
+    const char *names = names_of_run();
+    while (!is_written(pct_text_directive(BYTES(names), &found, ROOM))) continue;
+    fputs(text, stdout);
     if (test.certifies) certify(&found, run->steps > shared->steps ? run->steps : shared->steps);
 }
 
 /* --- A check --- */
 
-static bool is_same_step(const PctEvent *one, const PctEvent *other) {
-    return one->thread == other->thread && one->line == other->line &&
-           is_same_ask(&one->ask, &other->ask) && one->answer == other->answer;
-}
-
 /* Makes the kept run again in a fresh child, whose output is seen. */
 static void confirm(void) {
-    Plan plan = kept.run.plan;
+    Plan plan = kept.plan;
     plan.policy = BY_POINTS;
     plan.is_loud = true;
-    make_child(plan);
-    if (run->end != MORE_THREADS && !has_failed()) {
+    if (!make_child(plan)) {
         printf("it passes in a fresh process: what globals carry over from run to run is the "
                "likely cause; give pct_reset, or --isolate\n");
         return;
     }
-    uint32_t same = 0, least = run->steps < kept.run.steps ? run->steps : kept.run.steps;
-    while (same < least && is_same_step(&shared->log[same], &kept.log[same])) same++;
-    if (same < least || run->steps != kept.run.steps || !has_kept_verdict())
+    uint32_t same = 0, least = run->steps < kept.steps ? run->steps : kept.steps;
+    while (same < least && is_same_step(&run->log[same], &kept.log[same])) same++;
+    if (same < least || run->steps != kept.steps || !has_kept_verdict())
         printf("in a fresh process it is another run from step %u on: the code isn't "
                "deterministic, or globals carry over\n",
                same + 1);
 }
 
-static void tell(void) {
+/* Tells the kept run, the shortest one of so many that fail. */
+static void tell(uint32_t failed) {
     char name[sizeof test.title + 6];
     const char *trace = test.trace ? test.trace : name;
     snprintf(name, sizeof name, "%s.trace", test.title);
     printf("%s: failed in %u of the %u seeds that were run; n %u, k %u; the shortest run:\n",
-           test.title, search.failed, search.all - shared->left, shared->threads, shared->steps);
+           test.title, failed, shared->all - shared->left, shared->threads, shared->steps);
     fflush(stdout);
     confirm();
-    take_up_kept();
+    copy_run(run, &kept);
     if (run->plan.depth)
         printf("seed %llu, depth %u, ", (unsigned long long)run->plan.seed, run->plan.depth);
     else
@@ -1696,57 +1605,61 @@ static void tell(void) {
     printf("the trace is in %s; again: %s --replay %s\n", trace, test.program, trace);
 }
 
-static int check(void) {
+/* Makes the test's runs, and tells of them; whether it fails. */
+static bool check(void) {
     bool are_seeds_meant = test.finds || test.certifies || test.campaign;
     if (test.replay) return replay();
     if (test.campaign && !test.depth) sentence("--campaign needs --depth");
     bool has_declared_failed = make_declared();
-    uint32_t declared_steps = run->steps;
-    shared->threads = test.threads > run->threads ? (uint32_t)test.threads : run->threads;
-    shared->steps = test.steps ? (uint32_t)test.steps : run->steps ? run->steps : 1;
-    search_seeds();
-    if (has_declared_failed && !are_seeds_meant && is_shorter(declared_steps)) {
+    uint32_t steps = run->steps, threads = (uint32_t)test.threads;
+    shared->steps = test.steps ? (uint32_t)test.steps : steps ? steps : 1;
+    shared->all = (uint32_t)(test.depth ? test.seeds : 3 * test.seeds);
+    shared->least_depth = test.depth ? (uint32_t)test.depth : 1;
+    uint32_t failed = search_seeds(threads > run->threads ? threads : run->threads);
+    bool is_shortest = has_declared_failed && (kept.end == GOES || steps < kept.steps);
+    if (is_shortest && !are_seeds_meant) {
         make_declared();
-        keep();
+        copy_run(&kept, run);
     }
     if (test.campaign)
         print_report();
-    else if (kept.run.end == GOES && has_declared_failed)
+    else if (kept.end == GOES && has_declared_failed)
         printf("%s: no seed failed, but the run in declared order fails\n", test.title);
-    else if (kept.run.end == GOES)
-        printf("%s: passed in %u seeds; n %u, k %u\n", test.title, search.all, shared->threads,
+    else if (kept.end == GOES)
+        printf("%s: passed in %u seeds; n %u, k %u\n", test.title, shared->all, shared->threads,
                shared->steps);
     else if (are_seeds_meant)
         tell_directive();
     else
-        tell();
-    return kept.run.end != GOES || (has_declared_failed && !test.campaign);
+        tell(failed);
+    return kept.end != GOES || (has_declared_failed && !test.campaign);
 }
 
 /* --- What main calls --- */
 
-static const struct {
+/* An option takes a text, or a number from the least to the most; of a flag the most is 0. */
+static const struct Option {
     const char *word;
-    uint64_t least, most, *number;
     const char **text;
+    uint64_t *number, least, most;
 } OPTIONS[] = {
-    { "--test", 0, 0, NULL, &test.only },
-    { "--seeds", 1, PCT_MOST_STEPS, &test.seeds, NULL },
-    { "--depth", 1, PCT_MOST_POINTS + 1, &test.depth, NULL },
-    { "--from", 0, UINT64_MAX, &test.from, NULL },
-    { "--threads", 1, MOST, &test.threads, NULL },
-    { "--steps", 1, PCT_MOST_STEPS, &test.steps, NULL },
-    { "--limit", 1, PCT_MOST_STEPS - MOST, &test.limit, NULL },
-    { "--patience", 1, 3600, &test.patience, NULL },
-    { "--replay", 0, 0, NULL, &test.replay },
-    { "--trace", 0, 0, NULL, &test.trace },
-    { "--json", 0, 0, NULL, &test.json },
-    { "--traces", 0, 0, NULL, &test.traces },
-    { "--find", 0, 0, &test.finds, NULL },
-    { "--certify", 0, 0, &test.certifies, NULL },
-    { "--lanes", 0, 0, &test.lanes, NULL },
-    { "--campaign", 0, 0, &test.campaign, NULL },
-    { "--isolate", 0, 0, &test.isolate, NULL },
+    { "--test", &test.only, NULL, 0, 0 },
+    { "--seeds", NULL, &test.seeds, 1, PCT_MOST_STEPS },
+    { "--depth", NULL, &test.depth, 1, PCT_MOST_POINTS + 1 },
+    { "--from", NULL, &test.from, 0, UINT64_MAX },
+    { "--threads", NULL, &test.threads, 1, MOST },
+    { "--steps", NULL, &test.steps, 1, PCT_MOST_STEPS },
+    { "--limit", NULL, &test.limit, 1, PCT_MOST_STEPS - MOST },
+    { "--patience", NULL, &test.patience, 1, 3600 },
+    { "--replay", &test.replay, NULL, 0, 0 },
+    { "--trace", &test.trace, NULL, 0, 0 },
+    { "--json", &test.json, NULL, 0, 0 },
+    { "--traces", &test.traces, NULL, 0, 0 },
+    { "--find", NULL, &test.finds, 0, 0 },
+    { "--certify", NULL, &test.certifies, 0, 0 },
+    { "--lanes", NULL, &test.lanes, 0, 0 },
+    { "--campaign", NULL, &test.campaign, 0, 0 },
+    { "--isolate", NULL, &test.isolate, 0, 0 },
 };
 
 static void __attribute__((noreturn)) refuse(const char *word) {
@@ -1756,40 +1669,34 @@ static void __attribute__((noreturn)) refuse(const char *word) {
     exit(1);
 }
 
-static uint64_t number_in(const char *word, uint64_t least, uint64_t most) {
-    char *end;
-    errno = 0;
-    uint64_t number = strtoull(word, &end, 10);
-    if (errno || *end || *word < '0' || *word > '9' || number < least || number > most)
-        refuse(word);
-    return number;
-}
-
 /* As the program ends: a test that was asked for and isn't there is no pass. */
 static void miss_test(void) {
-    if (test.is_there) return;
+    if (!test.only || test.is_there) return;
     fprintf(stderr, "pct: no test is called %s\n", test.only);
     fflush(NULL);
     _exit(1);
 }
 
 void pct_options(int count, char **words) {
-    test.program = count > 0 ? words[0] : "test";
+    const struct Option *end = OPTIONS + LENGTH(OPTIONS);
+    if (count > 0) test.program = words[0];
     for (int i = 1; i < count; i++) {
-        size_t at = 0;
-        while (at < LENGTH(OPTIONS) && strcmp(OPTIONS[at].word, words[i]) != 0) at++;
-        if (at == LENGTH(OPTIONS)) refuse(words[i]);
-        bool is_flag = !OPTIONS[at].text && OPTIONS[at].most == 0;
-        if (!is_flag && ++i == count) refuse(words[i - 1]);
-        if (OPTIONS[at].text)
-            *OPTIONS[at].text = words[i];
-        else if (is_flag)
-            *OPTIONS[at].number = 1;
-        else
-            *OPTIONS[at].number = number_in(words[i], OPTIONS[at].least, OPTIONS[at].most);
+        const struct Option *option = OPTIONS;
+        while (option < end && strcmp(option->word, words[i]) != 0) option++;
+        bool is_flag = option < end && !option->text && option->most == 0;
+        if (option == end || (!is_flag && i + 1 == count)) refuse(words[i]);
+        const char *word = is_flag ? "1" : words[++i];
+        char *rest;
+        if (option->text) {
+            *option->text = word;
+            continue;
+        }
+        errno = 0;
+        uint64_t number = *option->number = strtoull(word, &rest, 10);
+        bool is_bad = errno || *rest || *word < '0' || *word > '9';
+        if (is_bad || (!is_flag && (number < option->least || number > option->most))) refuse(word);
     }
-    if (test.replay) read_test_of_trace();
-    if (test.only) atexit(miss_test);
+    atexit(miss_test);
 }
 
 void pct_reset(void (*reset)(void)) { test.reset = reset; }
@@ -1800,64 +1707,42 @@ void pct_name(const volatile void *at, const char *name) {
     named[named_count++].name = name;
 }
 
-/* Claims a processor for the runs, from the one on which it goes on: one thread at a time goes, so
-   a second one only costs. The claim is a name that other tests of this system can't have at the
-   same time, by a socket; -1 where none was made. */
-static int pin(cpu_set_t *before) {
-    struct sockaddr_un name = { .sun_family = AF_UNIX };
-    cpu_set_t one;
-    int claim = socket(AF_UNIX, SOCK_DGRAM | SOCK_CLOEXEC, 0), here = sched_getcpu();
-    bool is_known = here >= 0 && sched_getaffinity(0, sizeof *before, before) == 0;
-    CPU_ZERO(&one);
-    for (int i = 0; is_known && claim >= 0 && i < CPU_SETSIZE; i++) {
-        int processor = (here + i) % CPU_SETSIZE;
-        int length = sprintf(name.sun_path + 1, "pct-test-processor-%d", processor);
-        socklen_t bytes = (socklen_t)(sizeof name.sun_family + 1 + (size_t)length);
-        if (!CPU_ISSET(processor, before) || bind(claim, (struct sockaddr *)&name, bytes)) continue;
-        CPU_SET(processor, &one);
-        sched_setaffinity(0, sizeof one, &one);
-        break;
-    }
-    return claim;
+/* Makes room that is shared with children, and checks the test with it; whether it fails. */
+static bool check_shared(void) {
+    int protection = PROT_READ | PROT_WRITE, flags = MAP_SHARED | MAP_ANONYMOUS | MAP_NORESERVE;
+    shared = mmap(NULL, sizeof *shared, protection, flags, -1, 0);
+    if (shared == MAP_FAILED) sentence("no memory");
+    run = &shared->run;
+    if (test.replay) read_sites();
+    bool is_meant = !test.only || strcmp(test.only, test.name) == 0;
+    test.is_there |= is_meant;
+    traces = test.traces && is_meant ? open_file(test.traces, "w") : NULL;
+    bool has_failed = is_meant && check();
+    fflush(stdout);
+    if (traces) fclose(traces);
+    munmap(shared, sizeof *shared);
+    return has_failed;
 }
 
 /* A test is called as it was given, with a number behind where others before it are called so. */
-static void name_test(const char *called) {
-    static char stems[MOST_TESTS][sizeof test.name - 8];
-    static uint32_t count;
-    uint32_t same = 1;
-    if (count == MOST_TESTS) sentence("a program has at most %d tests", MOST_TESTS);
-    make_stem(stems[count], sizeof stems[count], called);
-    for (uint32_t i = 0; i < count; i++) same += strcmp(stems[i], stems[count]) == 0;
-    snprintf(test.name, sizeof test.name, same > 1 ? "%s_%u" : "%s", stems[count++], same);
-    snprintf(test.title, sizeof test.title, "%s.%s", base_of(test.program), test.name);
-}
-
 int pct_threads_at(unsigned count, const char *const *names, void (*const *functions)(void),
                    PctPlace place) {
-    cpu_set_t before = { 0 };
-    int protection = PROT_READ | PROT_WRITE, flags = MAP_SHARED | MAP_ANONYMOUS | MAP_NORESERVE;
+    static char stems[MOST_TESTS][sizeof test.name - 8];
+    static uint32_t tests;
+    uint32_t same = 1;
+    if (tests == MOST_TESTS) sentence("a program has at most %d tests", MOST_TESTS);
     if (count < 1 || count > MOST) sentence("a test has 1 to 64 threads");
+    if (pct_tell_version() != PCT_VERSION)
+        sentence("the library that was linked has another version than pct.h");
     test.names = names;
     test.functions = functions;
     test.declared = count;
     test.place = place;
-    name_test(place.name);
-    if (test.only && strcmp(test.only, test.name) != 0) return 0;
-    test.is_there = true;
-    if (pct_tell_version() != PCT_VERSION)
-        sentence("the library that was linked has another version than pct.h");
-    shared = mmap(NULL, sizeof *shared, protection, flags, -1, 0);
-    if (shared == MAP_FAILED) sentence("no memory");
-    run = &shared->run;
-    traces = test.traces ? open_file(test.traces, "w") : NULL;
-    int claim = pin(&before), status = check();
-    fflush(stdout);
-    sched_setaffinity(0, sizeof before, &before);
-    if (claim >= 0) close(claim);
-    if (traces) fclose(traces);
-    munmap(shared, sizeof *shared);
-    return status;
+    make_stem(stems[tests], sizeof stems[tests], place.name);
+    for (uint32_t i = 0; i < tests; i++) same += strcmp(stems[i], stems[tests]) == 0;
+    snprintf(test.name, sizeof test.name, same > 1 ? "%s_%u" : "%s", stems[tests++], same);
+    snprintf(test.title, sizeof test.title, "%s.%s", base_of(test.program), test.name);
+    return check_shared();
 }
 
 int pct_check_at(void (*body)(void), PctPlace place) {
