@@ -141,8 +141,9 @@ static struct {
     uint32_t declared;
     PctPlace place;
     const char *program, *only, *replay, *trace, *json, *traces;
-    char *names_in_sites; /* of the trace that is replayed */
-    bool is_there;        /* the test that is to be run */
+    const char *traced; /* the names of the trace that is replayed, as lines of so many bytes */
+    size_t traced_bytes;
+    bool is_there; /* the test that is to be run */
     char name[64], title[400];
     uint64_t from, seeds, depth, threads, steps, limit, patience;
     uint64_t finds, certifies, lanes, campaign, isolate;
@@ -1406,17 +1407,17 @@ static void write_document(const char *trace) {
 /* --- A replay --- */
 
 /* Reads the sites of the trace that is to be replayed: the test that it is of, where no other is
-   asked for, the names of its run, and the places. */
-static void read_sites(void) {
+   asked for, the names of its run, and the places. The names and places stand in what it gives. */
+static char *read_sites(void) {
     const char *name = sites_name(test.replay);
-    char *rest = read_file(name), *line = rest, *names;
+    char *whole = read_file(name), *rest = whole, *line = whole;
     for (int head = 0; head < 4 && rest; head++) line = strsep(&rest, "\n");
     if (!rest || strncmp(line, "test ", 5) != 0)
         sentence("%s: its fourth line names no test", name);
-    if (!test.only) test.only = line + 5;
-    names = rest;
+    if (!test.only) test.only = strdup(line + 5);
+    test.traced = rest;
     while (*rest >= 'a' && strchr(rest, '\n')) rest = strchr(rest, '\n') + 1;
-    test.names_in_sites = strndup(names, (size_t)(rest - names));
+    test.traced_bytes = (size_t)(rest - test.traced);
     while ((line = strsep(&rest, "\n")) && *line) {
         uint32_t number = 0;
         int at, file = 0;
@@ -1426,13 +1427,15 @@ static void read_sites(void) {
             sentence("%s: `%s` is neither a name nor a place", name, line);
         shared->places[number] = (Place){ line + file, at, strcmp(how, "near") == 0 };
     }
+    return whole;
 }
 
 /* By a trace, whose threads take turns as they are listed. */
 static Plan read_trace(const char *whole) {
     Plan plan = { .policy = BY_LIST, .is_loud = true };
     PctTrace trace = PCT_TRACE_NONE;
-    PctRead got = pct_text_read_trace(&trace, BYTES(test.names_in_sites), BYTES(whole));
+    PctRead got =
+        pct_text_read_trace(&trace, (const uint8_t *)test.traced, test.traced_bytes, BYTES(whole));
     if (got.status != PCT_DONE) sentence("%s: line %u has a fault", test.replay, got.line);
     PctHead head = pct_text_trace_head(&trace);
     plan.threads = (uint32_t)head.threads;
@@ -1713,7 +1716,7 @@ static bool check_shared(void) {
     shared = mmap(NULL, sizeof *shared, protection, flags, -1, 0);
     if (shared == MAP_FAILED) sentence("no memory");
     run = &shared->run;
-    if (test.replay) read_sites();
+    char *sites = test.replay ? read_sites() : NULL;
     bool is_meant = !test.only || strcmp(test.only, test.name) == 0;
     test.is_there |= is_meant;
     traces = test.traces && is_meant ? open_file(test.traces, "w") : NULL;
@@ -1721,6 +1724,7 @@ static bool check_shared(void) {
     fflush(stdout);
     if (traces) fclose(traces);
     munmap(shared, sizeof *shared);
+    free(sites);
     return has_failed;
 }
 

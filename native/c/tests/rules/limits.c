@@ -1,4 +1,4 @@
-// One more than there may be: -DMOST=mutexes() or threads().
+// One more than there may be: -DMOST=mutexes(), threads() or waits().
 #include "pct_test.h"
 
 static pct_mutex_t many[65];
@@ -36,6 +36,17 @@ static inline __attribute__((unused)) void variables(void) {
     for (int i = 0; i < 80; i++)
         cells[i] = 0;
     pct_forget(cells, sizeof cells);
+}
+
+// A thread that waits in pct_yield has a semaphore, too.
+static inline __attribute__((unused)) void waits(void) {
+    static pct_sem_t sems[64];
+    for (int i = 0; i < 64; i++) {
+        pct_sem_init(&sems[i], 0, 1);
+        pct_sem_wait(&sems[i]);
+    }
+    pct_yield();
+    pct_yield();
 }
 
 static void test(void) { MOST; }
