@@ -20,7 +20,7 @@ use Rattle.pct_top.specs.declared.settings.Settings.TheVariants.{RunSeed, Big, R
 use Rattle.pct_top.specs.declared.settings.WordsError.{WordsError}
 use Rattle.pct_ask.specs.Numbers.{number_in, onto_front, step_count, step_counts}
 use Rattle.pct_ask.proofs.laws.Decimals.{number_in-Some}
-use Rattle.pct_top.specs.Values.{items_of, order_in, points_in, seed_in, depth_in, is_json}
+use Rattle.pct_top.specs.Values.{items_of, order_in, points_in, seed_in, depth_in, form_in}
 use Rattle.pct_top.specs.Values.{pieces_in}
 use Rattle.pct_top.specs.Options.{no_options, with_option_value, next_option, OptionsOrWord}
 use Rattle.pct_top.specs.Options.{lawful_or, with_option}
@@ -29,11 +29,12 @@ use Rattle.pct_top.specs.Settings.{default_limit, settings_or, made_of, limit_of
 use Rattle.pct_top.specs.Settings.{run_by}
 use Rattle.pct_top.specs.Settings.{run_with, campaign_by, campaign_with, big_with, big_by}
 use Rattle.pct_top.specs.Settings.{files_with, MadeOfFiles, made_over, settings_over, replay_with}
-use Rattle.pct_top.specs.Settings.{expose_by, expose_with, certify_with, settings_of, ReadsWordsAs}
+use Rattle.pct_top.specs.Settings.{expose_by, expose_with, certify_by, certify_with, settings_of}
+use Rattle.pct_top.specs.Settings.{ReadsWordsAs}
 use Rattle.pct_top.specs.Table.{command_named}
 use Rattle.pct_top.specs.Settings.{sweep_by, sweep_with, settings_by, settings}
 use Rattle.pct_top.specs.Settings.{ArePoints, IsDepth, AreLawful}
-use Rattle.pct_top.proofs.OptionLists.{changed}
+use Rattle.pct_top.proofs.OptionLists.{kept}
 
 -- ---- ranges
 
@@ -81,101 +82,45 @@ points_fit value points is = by (nat_le (length (items_of value)) 7) refl is
         let few : length (items_of value) ≤ 7 = grind (arith, nat_tests) in
         (omega (arith, few, counts.long), counts.fit)
 
-record AreInRange (o : Options) : Type 0 where
-  points : IfSome o.points ArePoints
-  limit : IfSome o.limit IsStepCount
-  depth : IfSome o.depth IsDepth
-  steps : IfSome o.steps IsStepCount
-  count : IfSome o.count IsStepCount
-
-at-none : AreInRange no_options
-at-none = record { points = tt; limit = tt; depth = tt; steps = tt; count = tt }
+-- what has a range is in it: the points, the limit, the depth, the steps and the count
+abbrev AreInRange : Options → Type 0
+AreInRange o =
+    IfSome o.points ArePoints × IfSome o.limit IsStepCount × IfSome o.depth IsDepth
+    × IfSome o.steps IsStepCount × IfSome o.count IsStepCount
 
 range-kept : (o : Options) (name : OptionName) (word : ℕ) (value : List ℕ) (more : Options)
     → AreInRange o → lawful_or word (with_option_value o word name value) ≡ Ok more
     → AreInRange more
-range-kept o Order word value more r is =
-    let x = changed (λ items. record o { order = Some (record { items = items; word = word }) })
-    word (order_in value) more is in
-    subst AreInRange x.2 (record {
-      points = r.points;
-      limit = r.limit;
-      depth = r.depth;
-      steps = r.steps;
-      count = r.count;
-    })
-range-kept o Points word value more r is =
-    let x = changed (λ points. record o { points = Some points }) word (points_in value) more is in
-    subst AreInRange x.2 (record {
-      points = points_fit value x.0 x.1;
-      limit = r.limit;
-      depth = r.depth;
-      steps = r.steps;
-      count = r.count;
-    })
-range-kept o Limit word value more r is =
-    let x = changed (λ limit. record o { limit = Some limit }) word (step_count value) more is in
-    subst AreInRange x.2 (record {
-      points = r.points;
-      limit = bounded 1 100000 value x.0 x.1;
-      depth = r.depth;
-      steps = r.steps;
-      count = r.count;
-    })
-range-kept o Seed word value more r is =
-    let x = changed (λ seed. record o { seed = Some seed }) word (seed_in value) more is in
-    subst AreInRange x.2 (record {
-      points = r.points;
-      limit = r.limit;
-      depth = r.depth;
-      steps = r.steps;
-      count = r.count;
-    })
-range-kept o Depth word value more r is =
-    let x = changed (λ depth. record o { depth = Some depth }) word (depth_in value) more is in
-    subst AreInRange x.2 (record {
-      points = r.points;
-      limit = r.limit;
-      depth = bounded 1 8 value x.0 x.1;
-      steps = r.steps;
-      count = r.count;
-    })
-range-kept o Steps word value more r is =
-    let x = changed (λ steps. record o { steps = Some steps }) word (step_count value) more is in
-    subst AreInRange x.2 (record {
-      points = r.points;
-      limit = r.limit;
-      depth = r.depth;
-      steps = bounded 1 100000 value x.0 x.1;
-      count = r.count;
-    })
-range-kept o From word value more r is =
-    let x = changed (λ from. record o { from = Some from }) word (seed_in value) more is in
-    subst AreInRange x.2 (record {
-      points = r.points;
-      limit = r.limit;
-      depth = r.depth;
-      steps = r.steps;
-      count = r.count;
-    })
-range-kept o Count word value more r is =
-    let x = changed (λ many. record o { count = Some many }) word (step_count value) more is in
-    subst AreInRange x.2 (record {
-      points = r.points;
-      limit = r.limit;
-      depth = r.depth;
-      steps = r.steps;
-      count = bounded 1 100000 value x.0 x.1;
-    })
-range-kept o Form word value more r is =
-    let x = changed (λ json. record o { json = Some json }) word (is_json value) more is in
-    subst AreInRange x.2 (record {
-      points = r.points;
-      limit = r.limit;
-      depth = r.depth;
-      steps = r.steps;
-      count = r.count;
-    })
+range-kept o Order word value more r =
+    kept (λ items. record o { order = Some (record { items = items; word = word }) }) AreInRange
+    word (order_in value) more (λ items at. r)
+range-kept o Points word value more r =
+    kept (λ points. record o { points = Some points }) AreInRange word (points_in value) more
+    (λ points at. (points_fit value points at, r.1, r.2, r.3, r.4))
+range-kept o Limit word value more r =
+    kept (λ limit. record o { limit = Some limit }) AreInRange word (step_count value) more
+    (λ limit at. (r.0, bounded 1 100000 value limit at, r.2, r.3, r.4))
+range-kept o Seed word value more r =
+    kept (λ seed. record o { seed = Some seed }) AreInRange word (seed_in value) more
+    (λ seed at. r)
+range-kept o Depth word value more r =
+    kept (λ depth. record o { depth = Some depth }) AreInRange word (depth_in value) more
+    (λ depth at. (r.0, r.1, bounded 1 8 value depth at, r.3, r.4))
+range-kept o Steps word value more r =
+    kept (λ steps. record o { steps = Some steps }) AreInRange word (step_count value) more
+    (λ steps at. (r.0, r.1, r.2, bounded 1 100000 value steps at, r.4))
+range-kept o From word value more r =
+    kept (λ from. record o { from = Some from }) AreInRange word (seed_in value) more
+    (λ from at. r)
+range-kept o Count word value more r =
+    kept (λ many. record o { count = Some many }) AreInRange word (step_count value) more
+    (λ many at. (r.0, r.1, r.2, r.3, bounded 1 100000 value many at))
+range-kept o Form word value more r =
+    kept (λ form. record o { form = Some form }) AreInRange word (form_in value) more
+    (λ form at. r)
+
+none-given : AreInRange no_options
+none-given = (tt, tt, tt, tt, tt)
 
 next-kept : (o : Options) (number : ℕ) (value : List ℕ) (name : Option OptionName) (more : Options)
     → AreInRange o → with_option o number value name ≡ Ok more → AreInRange more
@@ -207,7 +152,7 @@ all-kept command (word ∷ value ∷ words) o number last r is =
 
 limit-fits : (o : Options) → AreInRange o → IsStepCount (limit_of o)
 unfolding default_limit
-limit-fits o r = by o.limit r.limit
+limit-fits o r = by o.limit r.1
   where
     by : (limit : Option ℕ) → IfSome limit IsStepCount → IsStepCount (unwrap_or limit default_limit)
     by None h = (omega arith, omega arith)
@@ -221,6 +166,20 @@ points-or (Some points) h = h
 AreMade : (Options → Option Settings) → Type 0
 AreMade make = (o : Options) (s : Settings) → AreInRange o → make o ≡ Some s → AreLawful s
 
+-- what is made of a value is lawful, where it is of each value in its range
+module _ (Fits : ℕ → Type 0) (s : Settings) where
+  of-some : (make : ℕ → Settings) (given : Option ℕ) → IfSome given Fits
+      → ((n : ℕ) → Fits n → AreLawful (make n)) → option_map make given ≡ Some s → AreLawful s
+  of-some make None fits each is = absurd cc
+  of-some make (Some n) fits each is = let same : make n ≡ s = cc in
+      subst AreLawful same (each n fits)
+
+  then-some : (make : ℕ → Option Settings) (given : Option ℕ) → IfSome given Fits
+      → ((n : ℕ) → Fits n → make n ≡ Some s → AreLawful s)
+      → option_and_then make given ≡ Some s → AreLawful s
+  then-some make None fits each is = absurd cc
+  then-some make (Some n) fits each is = each n fits is
+
 run-made : (report : Report) (file : List ℕ) → AreMade (run_with report file)
 unfolding AreMade
 run-made report file = λ o s r is. by o s r o.order is
@@ -228,35 +187,29 @@ run-made report file = λ o s r is. by o s r o.order is
     by : (o : Options) (s : Settings) → AreInRange o → (order : Option NamedOrder)
         → run_by report file o order ≡ Some s → AreLawful s
     by o s r (Some order) is = let same : run_by_order report file o order ≡ s = cc in
-        subst AreLawful same (points-or o.points r.points, limit-fits o r)
+        subst AreLawful same (points-or o.points r.0, limit-fits o r)
     by o s r None is =
         option_and_then_some (λ seed. option_map
         (λ depth. RunSeed file seed depth o.steps (limit_of o) report) o.depth) o.seed s is
-        (λ seed at made.
-        let parts = map_parts (λ depth. RunSeed file seed depth o.steps (limit_of o) report) o.depth
-        s made in
-        let depth : IfSome (Some parts.0) IsDepth = subst (λ x. IfSome x IsDepth) parts.1 r.depth in
-        subst AreLawful parts.2 (depth, r.steps, limit-fits o r))
+        (λ seed at.
+        of-some IsDepth s (λ depth. RunSeed file seed depth o.steps (limit_of o) report) o.depth
+        r.2 (λ depth fits. (fits, r.3, limit-fits o r)))
 
 campaign-made : (file : List ℕ) → AreMade (campaign_with file)
 unfolding AreMade
 campaign-made file = λ o s r is.
     option_and_then_some (λ first. option_and_then
     (λ many. option_map (campaign_by file o first many) o.depth) o.count) o.from s is
-    (λ first at made.
-    option_and_then_some (λ many. option_map (campaign_by file o first many) o.depth) o.count s made
-    (λ many told more.
-    let parts = map_parts (campaign_by file o first many) o.depth s more in
-    let depth : IfSome (Some parts.0) IsDepth = subst (λ x. IfSome x IsDepth) parts.1 r.depth in
-    let number : IfSome (Some many) IsStepCount = subst (λ x. IfSome x IsStepCount) told r.count in
-    subst AreLawful parts.2 (number, depth, r.steps, limit-fits o r)))
+    (λ first at.
+    then-some IsStepCount s (λ many. option_map (campaign_by file o first many) o.depth) o.count
+    r.4 (λ many counted.
+    of-some IsDepth s (campaign_by file o first many) o.depth r.2
+    (λ depth fits. (counted, fits, r.3, limit-fits o r))))
 
 sweep-made : (file : List ℕ) → AreMade (sweep_with file)
 unfolding AreMade
-sweep-made file = λ o s r is.
-    let parts = map_parts (sweep_by file o) o.depth s is in
-    let depth : IfSome (Some parts.0) IsDepth = subst (λ x. IfSome x IsDepth) parts.1 r.depth in
-    subst AreLawful parts.2 (depth, r.steps, limit-fits o r)
+sweep-made file = λ o s r.
+    of-some IsDepth s (sweep_by file o) o.depth r.2 (λ depth fits. (fits, r.3, limit-fits o r))
 
 big-made : (pieces : ℕ) → (1 ≤ pieces) × (pieces ≤ 100) → AreMade (big_with pieces)
 unfolding AreMade
@@ -271,19 +224,15 @@ expose-made : (file directive : List ℕ) → AreMade (expose_with file directiv
 unfolding AreMade
 expose-made file directive = λ o s r is.
     option_and_then_some (λ order. option_map (expose_by file directive o order) o.steps) o.order s
-    is (λ order at made.
-    let parts = map_parts (expose_by file directive o order) o.steps s made in
-    let steps : IfSome (Some parts.0) IsStepCount =
-    subst (λ x. IfSome x IsStepCount) parts.1 r.steps in
-    subst AreLawful parts.2 (steps, limit-fits o r))
+    is (λ order at.
+    of-some IsStepCount s (expose_by file directive o order) o.steps r.3
+    (λ steps fits. (fits, limit-fits o r)))
 
 certify-made : (file directive : List ℕ) → AreMade (certify_with file directive)
 unfolding AreMade
-certify-made file directive = λ o s r is.
-    let parts = map_parts (λ steps. Certify file directive steps (limit_of o)) o.steps s is in
-    let steps : IfSome (Some parts.0) IsStepCount =
-    subst (λ x. IfSome x IsStepCount) parts.1 r.steps in
-    subst AreLawful parts.2 (steps, limit-fits o r)
+certify-made file directive = λ o s r.
+    of-some IsStepCount s (certify_by file directive o) o.steps r.3
+    (λ steps fits. (fits, limit-fits o r))
 
 taken-lawful : (next : ℕ) (made : Option Settings) (s : Settings)
     → ((t : Settings) → made ≡ Some t → AreLawful t) → settings_or next made ≡ Ok s → AreLawful s
@@ -303,7 +252,7 @@ made-lawful make next command first words s lawful is =
     by (Err n) was e = absurd cc
     by (Ok o) was e =
         taken-lawful next (make o) s (λ t made.
-        lawful o t (all-kept command words no_options first o at-none was) made) e
+        lawful o t (all-kept command words no_options first o none-given was) made) e
 
 -- what a command makes of two files and options is lawful, where the options are in range
 files-lawful : (make : MadeOfFiles) → ((file second : List ℕ) → AreMade (make file second))

@@ -1,13 +1,14 @@
 -- The settings that options make.
-use Rattle.std.proofs.Common.{◌≡◌, ℕ, Bool, false, List, [], Some, None, sym, ap, ◌∙◌}
+use Rattle.std.proofs.Common.{◌≡◌, ℕ, Bool, List, [], Some, None, sym, ap, ◌∙◌}
 use Rattle.std.specs.Option.{option_map, option_and_then, unwrap_or}
 use Rattle.pct_top.specs.declared.options.Options.{Options}
 use Rattle.pct_top.specs.declared.options.NamedOrder.{NamedOrder}
 use Rattle.pct_top.specs.declared.settings.Report.{Report}
 use Rattle.pct_top.specs.declared.settings.Settings.TheVariants.{RunOrder, RunSeed, Campaign}
 use Rattle.pct_top.specs.declared.settings.Settings.TheVariants.{Expose, Certify, Sweep}
+use Rattle.pct_top.specs.Options.{is_json}
 use Rattle.pct_top.specs.Settings.{default_limit, limit_of, run_by, run_with, campaign_by}
-use Rattle.pct_top.specs.Settings.{campaign_with, expose_by, expose_with, certify_with}
+use Rattle.pct_top.specs.Settings.{campaign_with, expose_by, expose_with, certify_by, certify_with}
 use Rattle.pct_top.specs.Settings.{sweep_by, sweep_with}
 
 pub ordered_made : (report : Report) (file : List ℕ) (o : Options) (order : NamedOrder)
@@ -33,7 +34,7 @@ seeded_made report file o seed depth limit unordered given deep limited =
 
 pub campaign_is : (file : List ℕ) (o : Options) (first many depth limit : ℕ) (json : Bool)
     → o.from ≡ Some first → o.count ≡ Some many → o.depth ≡ Some depth
-    → limit ≡ unwrap_or o.limit 10000 → json ≡ unwrap_or o.json false
+    → limit ≡ unwrap_or o.limit 10000 → json ≡ is_json o
     → Some (Campaign file first many depth o.steps limit json) ≡ campaign_with file o
 unfolding default_limit
 campaign_is file o first many depth limit json from counted deep limited form =
@@ -41,7 +42,7 @@ campaign_is file o first many depth limit json from counted deep limited form =
     (λ m. option_map (campaign_by file o f m) o.depth) o.count)) from
     ∙ ap (option_and_then (λ m. option_map (campaign_by file o first m) o.depth)) counted
     ∙ ap (option_map (campaign_by file o first many)) deep
-    ∙ ap (λ (n : ℕ). Some (Campaign file first many depth o.steps n (unwrap_or o.json false)))
+    ∙ ap (λ (n : ℕ). Some (Campaign file first many depth o.steps n (is_json o)))
     (sym limited)
     ∙ ap (λ (j : Bool). Some (Campaign file first many depth o.steps limit j)) (sym form))
 
@@ -59,14 +60,14 @@ pub certified_is : (file directive : List ℕ) (o : Options) (steps limit : ℕ)
     → Some (Certify file directive steps limit) ≡ certify_with file directive o
 unfolding default_limit
 certified_is file directive o steps limit counted limited =
-    sym (ap (option_map (λ k. Certify file directive k (limit_of o))) counted
+    sym (ap (option_map (certify_by file directive o)) counted
     ∙ ap (λ (n : ℕ). Some (Certify file directive steps n)) (sym limited))
 
 pub swept_is : (file : List ℕ) (o : Options) (depth limit : ℕ) (json : Bool)
-    → o.depth ≡ Some depth → limit ≡ unwrap_or o.limit 10000 → json ≡ unwrap_or o.json false
+    → o.depth ≡ Some depth → limit ≡ unwrap_or o.limit 10000 → json ≡ is_json o
     → Some (Sweep file depth o.steps limit json) ≡ sweep_with file o
 unfolding default_limit
 swept_is file o depth limit json deep limited form =
     sym (ap (option_map (sweep_by file o)) deep
-    ∙ ap (λ (n : ℕ). Some (Sweep file depth o.steps n (unwrap_or o.json false))) (sym limited)
+    ∙ ap (λ (n : ℕ). Some (Sweep file depth o.steps n (is_json o))) (sym limited)
     ∙ ap (λ (j : Bool). Some (Sweep file depth o.steps limit j)) (sym form))

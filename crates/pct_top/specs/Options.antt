@@ -1,5 +1,5 @@
 -- The options of the commands, by cases on the list of their words (this project).
-use Rattle.std.specs.Prelude.{◌≡◌, ℕ, ◌+◌, ◌&&◌, Bool, if◌then◌else◌, List, [], ◌∷◌, Option, Some}
+use Rattle.std.specs.Prelude.{◌≡◌, ℕ, ◌+◌, ◌&&◌, Bool, true, false, if◌then◌else◌, List, [], ◌∷◌, Option, Some}
 use Rattle.std.specs.Prelude.{None, is_some, is_none, Result, Ok, Err, codes}
 use Rattle.std.specs.Option.{option_map, option_and_then}
 use Rattle.std.specs.Str.{bytes_eq}
@@ -10,9 +10,11 @@ use Rattle.pct_top.specs.declared.options.OptionName.TheVariants.{Steps, From, C
 use Rattle.pct_top.specs.declared.options.Options.{Options}
 use Rattle.pct_top.specs.declared.settings.WordsError.{WordsError}
 use Rattle.pct_top.specs.declared.settings.WordsError.TheVariants.{Word, NoMemory}
+use Rattle.pct_top.specs.declared.values.ReportForm.{ReportForm}
+use Rattle.pct_top.specs.declared.values.ReportForm.TheVariants.{Text, Json}
 use Rattle.pct_top.specs.Table.{takes_option}
 use Rattle.pct_ask.specs.Numbers.{step_count}
-use Rattle.pct_top.specs.Values.{order_in, points_in, seed_in, depth_in, is_json}
+use Rattle.pct_top.specs.Values.{order_in, points_in, seed_in, depth_in, form_in}
 
 -- the option that a word begins
 abbrev pub option_named : List ℕ → Option OptionName
@@ -38,7 +40,7 @@ no_options = record {
   steps = None;
   from = None;
   count = None;
-  json = None;
+  form = None;
 }
 
 -- the option wasn't given before
@@ -51,7 +53,7 @@ is_new o Depth = is_none o.depth
 is_new o Steps = is_none o.steps
 is_new o From = is_none o.from
 is_new o Count = is_none o.count
-is_new o Form = is_none o.json
+is_new o Form = is_none o.form
 
 -- the options with one more, whose value is the word of this number; none where the value isn't
 -- lawful
@@ -74,7 +76,17 @@ with_option_value o word From value =
 with_option_value o word Count value =
     option_map (λ count. record o { count = Some count }) (step_count value)
 with_option_value o word Form value =
-    option_map (λ json. record o { json = Some json }) (is_json value)
+    option_map (λ form. record o { form = Some form }) (form_in value)
+
+-- whether a form is given and is JSON
+abbrev pub is_json_form : Option ReportForm → Bool
+is_json_form None = false
+is_json_form (Some Text) = false
+is_json_form (Some Json) = true
+
+-- whether the report is to be JSON: it is a text where no form is given
+abbrev pub is_json : Options → Bool
+is_json o = is_json_form o.form
 
 -- the option that a word begins here, where it is new and the command takes it
 abbrev pub next_option : Command → Options → List ℕ → Option OptionName
@@ -125,7 +137,7 @@ abbrev pub option_count : Options → ℕ
 option_count o =
     one_if (is_some o.order) + one_if (is_some o.points) + one_if (is_some o.limit)
     + one_if (is_some o.seed) + one_if (is_some o.depth) + one_if (is_some o.steps)
-    + one_if (is_some o.from) + one_if (is_some o.count) + one_if (is_some o.json)
+    + one_if (is_some o.from) + one_if (is_some o.count) + one_if (is_some o.form)
 
 -- ---- what calls answer, want of memory aside
 

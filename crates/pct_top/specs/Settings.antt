@@ -1,5 +1,5 @@
 -- What the words of the command line ask for, by cases on their list (this project).
-use Rattle.std.specs.Prelude.{◌≡◌, ℕ, false, ◌+◌, ◌≤◌, List, [], ◌∷◌, length, All, Option, Some}
+use Rattle.std.specs.Prelude.{◌≡◌, ℕ, ◌+◌, ◌≤◌, List, [], ◌∷◌, length, All, Option, Some}
 use Rattle.std.specs.Prelude.{None, IfSome, Result, Ok, Err}
 use Rattle.std.specs.Option.{option_map, option_and_then, unwrap_or}
 use Rattle.trace_text.specs.Lawful.{IsStepCount}
@@ -16,7 +16,7 @@ use Rattle.pct_top.specs.declared.settings.WordsError.TheVariants.{Word, NoMemor
 use Rattle.pct_top.specs.declared.words.TwoFiles.{TwoFiles}
 use Rattle.pct_top.specs.Table.{command_named}
 use Rattle.pct_top.specs.Values.{pieces_in}
-use Rattle.pct_top.specs.Options.{OptionsOrWord, no_options, options_from}
+use Rattle.pct_top.specs.Options.{OptionsOrWord, no_options, options_from, is_json}
 
 -- how many steps a run may have where nothing else is said
 unfoldable pub default_limit : ℕ
@@ -76,7 +76,7 @@ run_settings report (file ∷ words) =
 -- its first seed, how many seeds and a depth are asked for
 abbrev pub campaign_by : List ℕ → Options → ℕ → ℕ → ℕ → Settings
 campaign_by file o first count depth =
-    Campaign file first count depth o.steps (limit_of o) (unwrap_or o.json false)
+    Campaign file first count depth o.steps (limit_of o) (is_json o)
 
 -- the campaign that options ask for; none where a first seed, a count or a depth isn't given
 abbrev pub campaign_with : List ℕ → Options → Option Settings
@@ -97,7 +97,7 @@ campaign_settings (file ∷ words) =
 
 -- the sweep of all choices to this depth
 abbrev pub sweep_by : List ℕ → Options → ℕ → Settings
-sweep_by file o depth = Sweep file depth o.steps (limit_of o) (unwrap_or o.json false)
+sweep_by file o depth = Sweep file depth o.steps (limit_of o) (is_json o)
 
 -- a depth is asked for
 abbrev pub sweep_with : List ℕ → Options → Option Settings
@@ -173,10 +173,13 @@ abbrev pub expose_with : List ℕ → List ℕ → Options → Option Settings
 expose_with file directive o =
     option_and_then (λ order. option_map (expose_by file directive o order) o.steps) o.order
 
+-- the certificate of a directive, for runs of at most so many steps
+abbrev pub certify_by : List ℕ → List ℕ → Options → ℕ → Settings
+certify_by file directive o steps = Certify file directive steps (limit_of o)
+
 -- a number of steps is asked for
 abbrev pub certify_with : List ℕ → List ℕ → Options → Option Settings
-certify_with file directive o =
-    option_map (λ steps. Certify file directive steps (limit_of o)) o.steps
+certify_with file directive o = option_map (certify_by file directive o) o.steps
 
 -- ---- all words
 

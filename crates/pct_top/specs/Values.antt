@@ -1,10 +1,12 @@
 -- The values of options (this project).
 use Rattle.std.specs.Prelude.{ℕ, ◌==◌, ◌&&◌, nat_le, if◌then◌else◌, List, length, Option, Some}
-use Rattle.std.specs.Prelude.{None, Bool, true, false, codes}
+use Rattle.std.specs.Prelude.{None, codes}
 use Rattle.std.specs.List.{slice_split, list_all}
 use Rattle.std.specs.Str.{bytes_eq}
 use Rattle.pct_ask.specs.Numbers.{number_in, step_counts}
 use Rattle.pct_ask.specs.Words.{is_name}
+use Rattle.pct_top.specs.declared.values.ReportForm.{ReportForm}
+use Rattle.pct_top.specs.declared.values.ReportForm.TheVariants.{Text, Json}
 
 -- the items of a value, which stand between commas
 abbrev pub items_of : List ℕ → List (List ℕ)
@@ -28,11 +30,11 @@ seed_in word = number_in 0 18446744073709551615 word
 abbrev pub depth_in : List ℕ → Option ℕ
 depth_in word = number_in 1 8 word
 
--- a form of reports: whether it is JSON
-abbrev pub is_json : List ℕ → Option Bool
-is_json word =
-    if bytes_eq word (codes "json") then Some true
-    else (if bytes_eq word (codes "text") then Some false else None)
+-- a form of reports
+abbrev pub form_in : List ℕ → Option ReportForm
+form_in word =
+    if bytes_eq word (codes "json") then Some Json
+    else (if bytes_eq word (codes "text") then Some Text else None)
 
 -- how many pieces the threads of the large script have
 abbrev pub pieces_in : List ℕ → Option ℕ

@@ -1,14 +1,15 @@
 //! The options of the commands.
 
-ghost use Rattle.std.specs.Prelude.{◌≡◌, ◌+◌, ◌*◌, ◌≤◌, ◌∷◌, length, IfOk, OnOk};
+ghost use Rattle.std.specs.Prelude.{◌≡◌, ◌+◌, ◌*◌, ◌≤◌, ◌∷◌, length, Some, None, Ok, Err, IfOk, OnOk};
 ghost use Rattle.pct_outside.specs.Reading.{texts_of};
 ghost use Rattle.pct_top.specs.Options as options;
 ghost use Rattle.pct_top.specs.Options.{ChangesTo, GivesOptions, LeavesTo, lawful_or};
+ghost use Rattle.pct_top.specs.declared.settings.WordsError.TheVariants.{Word};
 
 use crate::command::Command;
 use crate::settings::WordsError;
 use crate::text::TextList;
-use crate::values::{depth_in, is_json, order_in, points_in, seed_in};
+use crate::values::{ReportForm, depth_in, form_in, order_in, points_in, seed_in};
 use pct_ask::{PointList, step_count};
 use std::alloc::Global;
 
@@ -44,6 +45,14 @@ fn option_named(word: &str) -> Option<OptionName>
     }
 }
 
+/// A value, where the word of this number has a lawful one.
+fn lawful<T: Drop>(value: Option<T>, word: u32) -> Result<T, WordsError>
+    ensures some { (it : T) → value ≡ Some it → result ≡ Ok it }
+    ensures none { value ≡ None → result ≡ Err (Word word) }
+{
+    value.ok_or(WordsError::Word(word))
+}
+
 /// An order of threads as the words give it.
 #[derive(Debug, Drop)]
 pub struct NamedOrder {
@@ -64,8 +73,7 @@ pub struct Options {
     pub steps: Option<u32>,
     pub from: Option<u64>,
     pub count: Option<u32>,
-    /// Whether the report is to be JSON.
-    pub json: Option<bool>,
+    pub form: Option<ReportForm>,
 }
 
 impl Options {
@@ -82,7 +90,7 @@ impl Options {
             steps: None,
             from: None,
             count: None,
-            json: None,
+            form: None,
         }
     }
 
@@ -99,8 +107,15 @@ impl Options {
             OptionName::Steps => self.steps.is_none(),
             OptionName::From => self.from.is_none(),
             OptionName::Count => self.count.is_none(),
-            OptionName::Form => self.json.is_none(),
+            OptionName::Form => self.form.is_none(),
         }
+    }
+
+    /// Whether the report is to be JSON. It is a text where no form is given.
+    pub fn is_json(&self) -> bool
+        ensures { result ≡ options.is_json self.now }
+    {
+        matches!(self.form, Some(ReportForm::Json))
     }
 
     /// The option that a word begins here, where it is new and the command takes it.
@@ -108,105 +123,6 @@ impl Options {
         ensures { result ≡ options.next_option command self.now word.now }
     {
         option_named(word).filter(|name| self.is_new(*name) && command.takes_option(self, *name))
-    }
-
-    fn take_order(&mut self, alloc: Global, word: u32, value: &str) -> Result<(), WordsError>
-        ensures { ChangesTo result self.new
-            (lawful_or word (options.with_option_value self.old word OptionName.Order value.now)) }
-    {
-        let Some(items) = order_in(alloc, value)? else {
-            return Err(WordsError::Word(word));
-        };
-        self.order = Some(NamedOrder { items, word });
-        Ok(())
-    }
-
-    fn take_points(&mut self, alloc: Global, word: u32, value: &str) -> Result<(), WordsError>
-        ensures { ChangesTo result self.new
-            (lawful_or word (options.with_option_value self.old word OptionName.Points value.now)) }
-    {
-        let Some(points) = points_in(alloc, value)? else {
-            return Err(WordsError::Word(word));
-        };
-        self.points = Some(points);
-        Ok(())
-    }
-
-    fn take_limit(&mut self, word: u32, value: &str) -> Result<(), WordsError>
-        ensures { ChangesTo result self.new
-            (lawful_or word (options.with_option_value self.old word OptionName.Limit value.now)) }
-    {
-        let Some(limit) = step_count(value.as_bytes()) else {
-            return Err(WordsError::Word(word));
-        };
-        self.limit = Some(limit);
-        Ok(())
-    }
-
-    fn take_seed(&mut self, word: u32, value: &str) -> Result<(), WordsError>
-        ensures { ChangesTo result self.new
-            (lawful_or word (options.with_option_value self.old word OptionName.Seed value.now)) }
-    {
-        let Some(seed) = seed_in(value) else {
-            return Err(WordsError::Word(word));
-        };
-        self.seed = Some(seed);
-        Ok(())
-    }
-
-    fn take_depth(&mut self, word: u32, value: &str) -> Result<(), WordsError>
-        ensures { ChangesTo result self.new
-            (lawful_or word (options.with_option_value self.old word OptionName.Depth value.now)) }
-    {
-        let Some(depth) = depth_in(value) else {
-            return Err(WordsError::Word(word));
-        };
-        self.depth = Some(depth);
-        Ok(())
-    }
-
-    fn take_steps(&mut self, word: u32, value: &str) -> Result<(), WordsError>
-        ensures { ChangesTo result self.new
-            (lawful_or word (options.with_option_value self.old word OptionName.Steps value.now)) }
-    {
-        let Some(steps) = step_count(value.as_bytes()) else {
-            return Err(WordsError::Word(word));
-        };
-        self.steps = Some(steps);
-        Ok(())
-    }
-
-    fn take_from(&mut self, word: u32, value: &str) -> Result<(), WordsError>
-        ensures { ChangesTo result self.new
-            (lawful_or word (options.with_option_value self.old word OptionName.From value.now)) }
-    {
-        let Some(from) = seed_in(value) else {
-            return Err(WordsError::Word(word));
-        };
-        self.from = Some(from);
-        Ok(())
-    }
-
-    fn take_count(&mut self, word: u32, value: &str) -> Result<(), WordsError>
-        ensures { ChangesTo result self.new
-            (lawful_or word (options.with_option_value self.old word OptionName.Count value.now)) }
-    {
-        let Some(count) = step_count(value.as_bytes()) else {
-            return Err(WordsError::Word(word));
-        };
-        self.count = Some(count);
-        Ok(())
-    }
-
-    fn take_form(&mut self, word: u32, value: &str) -> Result<(), WordsError>
-        ensures { ChangesTo result self.new
-            (lawful_or word (options.with_option_value self.old word OptionName.Form value.now)) }
-    {
-        let Some(json) = is_json(value) else {
-            return Err(WordsError::Word(word));
-        };
-        self.json = Some(json);
-        Ok(())
     }
 
     /// Takes the value of an option, which is the word of this number.
@@ -221,16 +137,20 @@ impl Options {
             (lawful_or word (options.with_option_value self.old word name value.now)) }
     {
         match name {
-            OptionName::Order => self.take_order(alloc, word, value),
-            OptionName::Points => self.take_points(alloc, word, value),
-            OptionName::Limit => self.take_limit(word, value),
-            OptionName::Seed => self.take_seed(word, value),
-            OptionName::Depth => self.take_depth(word, value),
-            OptionName::Steps => self.take_steps(word, value),
-            OptionName::From => self.take_from(word, value),
-            OptionName::Count => self.take_count(word, value),
-            OptionName::Form => self.take_form(word, value),
+            OptionName::Order => {
+                let items = lawful(order_in(alloc, value)?, word)?;
+                self.order = Some(NamedOrder { items, word });
+            }
+            OptionName::Points => self.points = Some(lawful(points_in(alloc, value)?, word)?),
+            OptionName::Limit => self.limit = Some(lawful(step_count(value.as_bytes()), word)?),
+            OptionName::Seed => self.seed = Some(lawful(seed_in(value), word)?),
+            OptionName::Depth => self.depth = Some(lawful(depth_in(value), word)?),
+            OptionName::Steps => self.steps = Some(lawful(step_count(value.as_bytes()), word)?),
+            OptionName::From => self.from = Some(lawful(seed_in(value), word)?),
+            OptionName::Count => self.count = Some(lawful(step_count(value.as_bytes()), word)?),
+            OptionName::Form => self.form = Some(lawful(form_in(value), word)?),
         }
+        Ok(())
     }
 
     /// Takes the option that a word begins, which is the word of this number, and gives the words

@@ -58,13 +58,20 @@ pub fn pieces_in(word: &str) -> Option<u32>
     Some(pieces as u32)
 }
 
-/// Whether a form of reports is JSON.
-pub fn is_json(word: &str) -> Option<bool>
-    ensures { result ≡ values.is_json word.now }
+/// The form of a report.
+#[derive(Clone, Copy, Debug, PartialEq, Eq)]
+pub enum ReportForm {
+    Text,
+    Json,
+}
+
+/// The form that a word names.
+pub fn form_in(word: &str) -> Option<ReportForm>
+    ensures { result ≡ values.form_in word.now }
 {
     match word {
-        "json" => Some(true),
-        "text" => Some(false),
+        "json" => Some(ReportForm::Json),
+        "text" => Some(ReportForm::Text),
         _ => None,
     }
 }

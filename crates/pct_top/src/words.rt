@@ -72,7 +72,7 @@ fn campaign_with(file: Text, options: Options) -> Option<Settings>
         depth: options.depth?,
         steps: options.steps,
         limit: options.limit.unwrap_or(DEFAULT_LIMIT),
-        json: options.json.unwrap_or(false),
+        json: options.is_json(),
     })
 }
 
@@ -194,7 +194,7 @@ fn sweep_with(file: Text, options: Options) -> Option<Settings>
         depth: options.depth?,
         steps: options.steps,
         limit: options.limit.unwrap_or(DEFAULT_LIMIT),
-        json: options.json.unwrap_or(false),
+        json: options.is_json(),
     })
 }
 
