@@ -13,13 +13,15 @@ _pct() {
     case $command in
     run | races | locks | find) words='--order --points --seed --depth --steps --limit' ;;
     expose) words='--order --steps --limit' ;;
-    certify) words='--steps --limit' ;;
-    campaign) words='--from --count --depth --steps --limit --form' ;;
-    sweep) words='--depth --steps --limit --form' ;;
+    certify) words='--steps --limit --serve' ;;
+    campaign) words='--from --count --depth --steps --limit --form --serve' ;;
+    sweep) words='--depth --steps --limit --form --serve' ;;
+    big) words='--serve' ;;
     esac
     case $before in
     --order) words=$(_pct_threads "${COMP_WORDS[2]}") ;;
     --form) words='text json' ;;
+    --serve) words='caller threads' ;;
     --explain) ;;
     --*) return ;;
     esac

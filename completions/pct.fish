@@ -52,3 +52,4 @@ complete -c pct -n "__pct_has_file_of $of_run campaign sweep" -l depth -x -d 'on
 complete -c pct -n "__pct_has_file_of $of_run campaign sweep expose certify" -l steps -x -d 'from how many steps points are drawn'
 complete -c pct -n "__pct_has_file_of $of_run campaign sweep expose certify" -l limit -x -d 'how many steps a run may have'
 complete -c pct -n '__pct_has_file_of campaign sweep' -l form -x -a 'text json' -d 'the form of the report'
+complete -c pct -n '__pct_has_file_of campaign sweep certify big' -l serve -x -a 'caller threads' -d 'who makes the runs'

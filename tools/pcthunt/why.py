@@ -15,11 +15,12 @@ from pctmodel.trace import ASKS, ASKS_OF_2, read_trace
 from pctmodel.words import COMMANDS, RANGES
 
 VALUES = {"--order": "A,B", "--points": "3", "--limit": "1000", "--seed": "1", "--depth": "2", "--steps": "20",
-          "--from": "1", "--count": "1000", "--form": "text"}
+          "--from": "1", "--count": "1000", "--form": "text", "--serve": "caller"}
 SECOND_FILES = {"replay": "TRACE", "expose": "DIRECTIVE", "certify": "DIRECTIVE"}
 WANTED_OF = {
     "--order": "all names of the script's threads, each once, joined by single commas",
     "--points": "one to seven steps in 1 to 100000, joined by single commas", "--form": "text or json",
+    "--serve": "caller or threads",
 }
 
 

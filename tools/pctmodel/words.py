@@ -16,9 +16,11 @@ Form = dict[str, bool]
 BY_ORDER: Form = {"--order": True, "--points": False, "--limit": False}
 BY_SEED: Form = {"--seed": True, "--depth": True, "--steps": False, "--limit": False}
 EXPOSE: Form = {"--order": True, "--steps": True, "--limit": False}
-CERTIFY: Form = {"--steps": True, "--limit": False}
-SWEEP: Form = {"--depth": True, "--steps": False, "--limit": False, "--form": False}
-CAMPAIGN: Form = {"--from": True, "--count": True, "--depth": True, "--steps": False, "--limit": False, "--form": False}
+CERTIFY: Form = {"--steps": True, "--limit": False, "--serve": False}
+SWEEP: Form = {"--depth": True, "--steps": False, "--limit": False, "--form": False, "--serve": False}
+CAMPAIGN: Form = {"--from": True, "--count": True, **SWEEP}
+BIG: Form = {"--serve": False}
+WORDS_OF = {"--form": ("text", "json"), "--serve": ("caller", "threads")}
 # By command: how many words stand before the options, and the forms of these.
 COMMANDS: dict[str, tuple[int, list[Form]]] = {
     "run": (1, [BY_ORDER, BY_SEED]),
@@ -30,7 +32,7 @@ COMMANDS: dict[str, tuple[int, list[Form]]] = {
     "certify": (2, [CERTIFY]),
     "campaign": (1, [CAMPAIGN]),
     "sweep": (1, [SWEEP]),
-    "big": (1, [{}]),
+    "big": (1, [BIG]),
 }
 
 
@@ -55,8 +57,8 @@ def value_of(option: str, word: str) -> Any:
     if option == "--points":
         points = [number_of(item, 1, 100000) for item in word.split(",")]
         return points if len(points) <= 7 and None not in points else None
-    if option == "--form":
-        return word if word in ("text", "json") else None
+    if option in WORDS_OF:
+        return word if word in WORDS_OF[option] else None
     return number_of(word, *RANGES[option])
 
 

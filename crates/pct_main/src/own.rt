@@ -19,12 +19,13 @@ usage: pct run FILE --order NAMES [--points STEPS] [--limit STEPS]
        pct run FILE --seed NUMBER --depth DEPTH [--steps STEPS] [--limit STEPS]
        pct races FILE ..   pct locks FILE ..   pct find FILE ..   (the options of run)
        pct campaign FILE --from NUMBER --count RUNS --depth DEPTH [--steps STEPS] [--limit STEPS]
-           [--form text|json]
+           [--form text|json] [--serve caller|threads]
        pct sweep FILE --depth DEPTH [--steps STEPS] [--limit STEPS] [--form text|json]
+           [--serve caller|threads]
        pct replay FILE TRACE
        pct expose FILE DIRECTIVE --order NAMES --steps STEPS [--limit STEPS]
-       pct certify FILE DIRECTIVE --steps STEPS [--limit STEPS]
-       pct big PIECES
+       pct certify FILE DIRECTIVE --steps STEPS [--limit STEPS] [--serve caller|threads]
+       pct big PIECES [--serve caller|threads]
        pct --help
        pct --version
        pct --explain WORD
@@ -35,7 +36,9 @@ seed draws the order and the points, one less of them than the depth. A run has 
 steps as its limit says, 10000 where it says nothing. A campaign runs so many seeds from the first
 one on; big does so with a large script of its own, and sweep runs every order with every so many
 points among the steps. A directive is what find prints; expose prints the trace of its run, and
-certify whether each order leads to its verdict within so many steps.
+certify whether each order leads to its verdict within so many steps. With --serve caller one thread
+makes all runs, and what is printed is the same; taskset -c 0 before pct pins any call to one
+processor. What either brings: see docs/performance.md.
 The status is 0 where each run passes, there are no races, there is a lock order, the trace is
 confirmed, what is exposed has the directive's verdict or the directive is certified, 1 where not,
 2 for a word that isn't taken, 3, 4 and 5 for files that are no script, no trace and no directive,

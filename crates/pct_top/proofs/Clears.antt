@@ -15,6 +15,7 @@ use Rattle.script_tree.specs.ScriptText.{ScriptText}
 use Rattle.script_tree.specs.DealOf.{IsDealOf}
 use Rattle.script_tree.specs.Grammar.{Spells}
 use Rattle.script_body.specs.Bodies.{bodies_of}
+use Rattle.worker_run.specs.declared.many.Serve.{Serve}
 use Rattle.worker_run.specs.Run.{run}
 use Rattle.choices.specs.Orders.{factorial}
 use Rattle.choices.specs.Counting.{hits}
@@ -80,7 +81,7 @@ module _ (script : ScriptText) (deal : Deal) (of : IsDealOf script deal) (depth 
 -- ---- a sweep
 
 module _ (files : Files) (file : List ℕ) (depth : ℕ) (steps : Option ℕ) (limit : ℕ) (json : Bool)
-    (printed : Printed) where
+    (serve : Serve) (printed : Printed) where
   by_answer : (script : ScriptText) (deal : Deal) (k : ℕ)
       → Spells (take script_bytes (files file)) script → IsDealOf script deal
       → DrawsFrom script deal limit steps k → (answer : Answer)
@@ -134,7 +135,7 @@ module _ (files : Files) (file : List ℕ) (depth : ℕ) (steps : Option ℕ) (l
         );
       }
 
-  by_taken : OfTaken (Ok (Sweep file depth steps limit json)) files printed
+  by_taken : OfTaken (Ok (Sweep file depth steps limit json serve)) files printed
       → IsCarriedOut printed.status → IsSwept files file depth steps limit json printed
   by_taken (inl a) carried =
       let swept = a.2.2 in
@@ -143,8 +144,8 @@ module _ (files : Files) (file : List ℕ) (depth : ℕ) (steps : Option ℕ) (l
       absurd (not_refused IsCarriedOut (Script bad.0 bad.1) printed bad.3 (λ e. e) carried)
 
 pub swept_cleared : SweptAreCleared
-swept_cleared words files printed file depth steps limit json taken of carried =
-    by_taken files file depth steps limit json printed
+swept_cleared words files printed file depth steps limit json serve taken of carried =
+    by_taken files file depth steps limit json serve printed
     (subst (λ (t : SettingsOrWord). OfTaken t files printed) taken of) carried
 
 -- ---- a certificate beside a sweep
@@ -236,11 +237,11 @@ module _ (script : ScriptText) (deal : Deal) (of : IsDealOf script deal) (plan :
       absurd (omega (arith, few, more, ap (λ t. choice_count t k (depth - 1)) of.threads))
 
 pub certified_swept : CertifiedAreSwept
-certified_swept words more files printed other file directive depth k limit json certifies of done
+certified_swept words more files printed other file directive depth k limit json serve certifies of done
     taken sweeps =
     let c = certified_counted words files printed file directive k limit certifies of done in
     let bytes = take script_bytes (files file) in
-    let lawful = words-lawful more (Sweep file depth (Some k) limit json) taken in
+    let lawful = words-lawful more (Sweep file depth (Some k) limit json serve) taken in
     let step : 1 ≤ k = lawful.1.0 in
     let swept = named_script bytes (OfSweep depth (Some k) limit json) c.script c.deal c.spelled
     c.deals other (subst (λ (t : SettingsOrWord). OfTaken t files other) taken sweeps) in

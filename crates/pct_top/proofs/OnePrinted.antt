@@ -29,16 +29,16 @@ one_command (RunOrder file order word points limit report) files script deal p q
     one_ordered script deal limit order word points report p q
 one_command (RunSeed file seed depth steps limit report) files script deal p q are =
     one_seed script deal limit seed depth steps report p q
-one_command (Campaign file first count depth steps limit json) files script deal p q are =
+one_command (Campaign file first count depth steps limit json serve) files script deal p q are =
     campaign_once script deal first count depth steps limit json p q
-one_command (Big pieces) files script deal p q are = big_once script deal pieces p q
+one_command (Big pieces serve) files script deal p q are = big_once script deal pieces p q
 one_command (Replay file trace) files script deal p q are =
     one_reply (take trace_bytes (files trace)) script deal are p q
 one_command (Expose file directive order word steps limit) files script deal p q are =
     expose_once script deal limit steps (take directive_bytes (files directive)) order word are p q
-one_command (Certify file directive steps limit) files script deal p q are =
+one_command (Certify file directive steps limit serve) files script deal p q are =
     certify_once script deal steps limit (take directive_bytes (files directive)) are p q
-one_command (Sweep file depth steps limit json) files script deal p q are =
+one_command (Sweep file depth steps limit json serve) files script deal p q are =
     sweep_once script deal depth steps limit json p q
 
 -- what fits is carried out
@@ -50,17 +50,17 @@ command_answers (RunOrder file order word points limit report) files script deal
     ordered_answers script deal limit order word points report p fits
 command_answers (RunSeed file seed depth steps limit report) files script deal p are fits second =
     seed_answers script deal limit seed depth steps report p
-command_answers (Campaign file first count depth steps limit json) files script deal p are fits
+command_answers (Campaign file first count depth steps limit json serve) files script deal p are fits
     second = campaign_answers script deal first count depth steps limit json p
-command_answers (Big pieces) files script deal p are fits second = big_answers script deal pieces p
+command_answers (Big pieces serve) files script deal p are fits second = big_answers script deal pieces p
 command_answers (Replay file trace) files script deal p are fits second =
     reply_answers (take trace_bytes (files trace)) script deal are p second
 command_answers (Expose file directive order word steps limit) files script deal p are fits second =
     expose_answers script deal limit steps (take directive_bytes (files directive)) order word are p
     fits second
-command_answers (Certify file directive steps limit) files script deal p are fits second =
+command_answers (Certify file directive steps limit serve) files script deal p are fits second =
     certify_answers script deal steps limit (take directive_bytes (files directive)) are p second
-command_answers (Sweep file depth steps limit json) files script deal p are fits second =
+command_answers (Sweep file depth steps limit json serve) files script deal p are fits second =
     sweep_answers script deal depth steps limit json p
 
 -- ---- a call

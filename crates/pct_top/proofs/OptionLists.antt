@@ -8,10 +8,10 @@ use Rattle.std.proofs.lemmas.Option.{option_and_then_some, cond_some}
 use Rattle.pct_top.specs.declared.command.Command.{Command}
 use Rattle.pct_top.specs.declared.options.OptionName.{OptionName}
 use Rattle.pct_top.specs.declared.options.OptionName.TheVariants.{Order, Points, Limit, Seed, Depth}
-use Rattle.pct_top.specs.declared.options.OptionName.TheVariants.{Steps, From, Count, Form}
+use Rattle.pct_top.specs.declared.options.OptionName.TheVariants.{Steps, From, Count, Form, Serve}
 use Rattle.pct_top.specs.declared.options.Options.{Options}
 use Rattle.pct_ask.specs.Numbers.{step_count}
-use Rattle.pct_top.specs.Values.{order_in, points_in, seed_in, depth_in, form_in}
+use Rattle.pct_top.specs.Values.{order_in, points_in, seed_in, depth_in, form_in, serve_in}
 use Rattle.pct_top.specs.Options.{is_new, with_option_value, next_option, option_named}
 use Rattle.pct_top.specs.Options.{OptionsOrWord, lawful_or}
 use Rattle.pct_top.specs.Options.{with_option, and_then, options_from, one_if, option_count}
@@ -75,6 +75,9 @@ module _ (o : Options) where
   one_more Form word value more may =
       kept (λ form. record o { form = Some form }) HasOneMore word (form_in value) more
       (λ form at. omega (arith, none o.form may))
+  one_more Serve word value more may =
+      kept (λ serve. record o { serve = Some serve }) HasOneMore word (serve_in value) more
+      (λ serve at. omega (arith, none o.serve may))
 
   new_next : (command : Command) (word : List ℕ) (name : OptionName)
       → next_option command o word ≡ Some name → is_new o name ≡ true
@@ -98,6 +101,18 @@ one-le : (b : Bool) → one_if b ≤ 1
 one-le true = omega arith
 one-le false = omega arith
 
-pub few_options : (o : Options) → option_count o ≤ 9
+pub few_options : (o : Options) → option_count o ≤ 10
 few_options o =
-    omega (arith, one-le (is_some o.order), one-le (is_some o.points), one-le (is_some o.limit), one-le (is_some o.seed), one-le (is_some o.depth), one-le (is_some o.steps), one-le (is_some o.from), one-le (is_some o.count), one-le (is_some o.form))
+    omega (
+      arith,
+      one-le (is_some o.order),
+      one-le (is_some o.points),
+      one-le (is_some o.limit),
+      one-le (is_some o.seed),
+      one-le (is_some o.depth),
+      one-le (is_some o.steps),
+      one-le (is_some o.from),
+      one-le (is_some o.count),
+      one-le (is_some o.form),
+      one-le (is_some o.serve),
+    )

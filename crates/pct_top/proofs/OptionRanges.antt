@@ -11,7 +11,7 @@ use Rattle.pct_top.specs.declared.command.Command.{Command}
 use Rattle.pct_top.specs.declared.command.Command.TheVariants as commands
 use Rattle.pct_top.specs.declared.options.OptionName.{OptionName}
 use Rattle.pct_top.specs.declared.options.OptionName.TheVariants.{Order, Points, Limit, Seed, Depth}
-use Rattle.pct_top.specs.declared.options.OptionName.TheVariants.{Steps, From, Count, Form}
+use Rattle.pct_top.specs.declared.options.OptionName.TheVariants.{Steps, From, Count, Form, Serve}
 use Rattle.pct_top.specs.declared.options.Options.{Options}
 use Rattle.pct_top.specs.declared.options.NamedOrder.{NamedOrder}
 use Rattle.pct_top.specs.declared.settings.Report.{Report}
@@ -21,6 +21,7 @@ use Rattle.pct_top.specs.declared.settings.WordsError.{WordsError}
 use Rattle.pct_ask.specs.Numbers.{number_in, onto_front, step_count, step_counts}
 use Rattle.pct_ask.proofs.laws.Decimals.{number_in-Some}
 use Rattle.pct_top.specs.Values.{items_of, order_in, points_in, seed_in, depth_in, form_in}
+use Rattle.pct_top.specs.Values.{serve_in}
 use Rattle.pct_top.specs.Values.{pieces_in}
 use Rattle.pct_top.specs.Options.{no_options, with_option_value, next_option, OptionsOrWord}
 use Rattle.pct_top.specs.Options.{lawful_or, with_option}
@@ -33,7 +34,7 @@ use Rattle.pct_top.specs.Settings.{expose_by, expose_with, certify_by, certify_w
 use Rattle.pct_top.specs.Settings.{ReadsWordsAs}
 use Rattle.pct_top.specs.Table.{command_named}
 use Rattle.pct_top.specs.Settings.{sweep_by, sweep_with, settings_by, settings}
-use Rattle.pct_top.specs.Settings.{ArePoints, IsDepth, AreLawful}
+use Rattle.pct_top.specs.Settings.{ArePoints, IsDepth, AreLawful, serve_of}
 use Rattle.pct_top.proofs.OptionLists.{kept}
 
 -- ---- ranges
@@ -118,6 +119,9 @@ range-kept o Count word value more r =
 range-kept o Form word value more r =
     kept (λ form. record o { form = Some form }) AreInRange word (form_in value) more
     (λ form at. r)
+range-kept o Serve word value more r =
+    kept (λ serve. record o { serve = Some serve }) AreInRange word (serve_in value) more
+    (λ serve at. r)
 
 none-given : AreInRange no_options
 none-given = (tt, tt, tt, tt, tt)
@@ -213,7 +217,7 @@ sweep-made file = λ o s r.
 
 big-made : (pieces : ℕ) → (1 ≤ pieces) × (pieces ≤ 100) → AreMade (big_with pieces)
 unfolding AreMade
-big-made pieces fits = λ o s r is. let same : Big pieces ≡ s = cc in subst AreLawful same fits
+big-made pieces fits = λ o s r is. let same : Big pieces (serve_of o) ≡ s = cc in subst AreLawful same fits
 
 replay-made : (file trace : List ℕ) → AreMade (replay_with file trace)
 unfolding AreMade

@@ -1,6 +1,7 @@
 -- The settings that options make.
 use Rattle.std.proofs.Common.{◌≡◌, ℕ, Bool, List, [], Some, None, sym, ap, ◌∙◌}
 use Rattle.std.specs.Option.{option_map, option_and_then, unwrap_or}
+use Rattle.worker_run.specs.declared.many.Serve.{Serve}
 use Rattle.pct_top.specs.declared.options.Options.{Options}
 use Rattle.pct_top.specs.declared.options.NamedOrder.{NamedOrder}
 use Rattle.pct_top.specs.declared.settings.Report.{Report}
@@ -9,7 +10,7 @@ use Rattle.pct_top.specs.declared.settings.Settings.TheVariants.{Expose, Certify
 use Rattle.pct_top.specs.Options.{is_json}
 use Rattle.pct_top.specs.Settings.{default_limit, limit_of, run_by, run_with, campaign_by}
 use Rattle.pct_top.specs.Settings.{campaign_with, expose_by, expose_with, certify_by, certify_with}
-use Rattle.pct_top.specs.Settings.{sweep_by, sweep_with}
+use Rattle.pct_top.specs.Settings.{sweep_by, sweep_with, serve_of}
 
 pub ordered_made : (report : Report) (file : List ℕ) (o : Options) (order : NamedOrder)
     (points : List ℕ) (limit : ℕ) → o.order ≡ Some order → points ≡ unwrap_or o.points []
@@ -33,18 +34,20 @@ seeded_made report file o seed depth limit unordered given deep limited =
     ∙ ap (λ (n : ℕ). Some (RunSeed file seed depth o.steps n report)) (sym limited))
 
 pub campaign_is : (file : List ℕ) (o : Options) (first many depth limit : ℕ) (json : Bool)
-    → o.from ≡ Some first → o.count ≡ Some many → o.depth ≡ Some depth
-    → limit ≡ unwrap_or o.limit 10000 → json ≡ is_json o
-    → Some (Campaign file first many depth o.steps limit json) ≡ campaign_with file o
+    (serve : Serve) → o.from ≡ Some first → o.count ≡ Some many → o.depth ≡ Some depth
+    → limit ≡ unwrap_or o.limit 10000 → json ≡ is_json o → serve ≡ serve_of o
+    → Some (Campaign file first many depth o.steps limit json serve) ≡ campaign_with file o
 unfolding default_limit
-campaign_is file o first many depth limit json from counted deep limited form =
+campaign_is file o first many depth limit json serve from counted deep limited form served =
     sym (ap (option_and_then (λ f. option_and_then
     (λ m. option_map (campaign_by file o f m) o.depth) o.count)) from
     ∙ ap (option_and_then (λ m. option_map (campaign_by file o first m) o.depth)) counted
     ∙ ap (option_map (campaign_by file o first many)) deep
-    ∙ ap (λ (n : ℕ). Some (Campaign file first many depth o.steps n (is_json o)))
+    ∙ ap (λ (n : ℕ). Some (Campaign file first many depth o.steps n (is_json o) (serve_of o)))
     (sym limited)
-    ∙ ap (λ (j : Bool). Some (Campaign file first many depth o.steps limit j)) (sym form))
+    ∙ ap (λ (j : Bool). Some (Campaign file first many depth o.steps limit j (serve_of o)))
+    (sym form)
+    ∙ ap (λ (s : Serve). Some (Campaign file first many depth o.steps limit json s)) (sym served))
 
 pub exposed_is : (file directive : List ℕ) (o : Options) (order : NamedOrder) (steps limit : ℕ)
     → o.order ≡ Some order → o.steps ≡ Some steps → limit ≡ unwrap_or o.limit 10000
@@ -55,19 +58,21 @@ exposed_is file directive o order steps limit given counted limited =
     ∙ ap (option_map (expose_by file directive o order)) counted
     ∙ ap (λ (n : ℕ). Some (Expose file directive order.items order.word steps n)) (sym limited))
 
-pub certified_is : (file directive : List ℕ) (o : Options) (steps limit : ℕ)
-    → o.steps ≡ Some steps → limit ≡ unwrap_or o.limit 10000
-    → Some (Certify file directive steps limit) ≡ certify_with file directive o
+pub certified_is : (file directive : List ℕ) (o : Options) (steps limit : ℕ) (serve : Serve)
+    → o.steps ≡ Some steps → limit ≡ unwrap_or o.limit 10000 → serve ≡ serve_of o
+    → Some (Certify file directive steps limit serve) ≡ certify_with file directive o
 unfolding default_limit
-certified_is file directive o steps limit counted limited =
+certified_is file directive o steps limit serve counted limited served =
     sym (ap (option_map (certify_by file directive o)) counted
-    ∙ ap (λ (n : ℕ). Some (Certify file directive steps n)) (sym limited))
+    ∙ ap (λ (n : ℕ). Some (Certify file directive steps n (serve_of o))) (sym limited)
+    ∙ ap (λ (s : Serve). Some (Certify file directive steps limit s)) (sym served))
 
-pub swept_is : (file : List ℕ) (o : Options) (depth limit : ℕ) (json : Bool)
+pub swept_is : (file : List ℕ) (o : Options) (depth limit : ℕ) (json : Bool) (serve : Serve)
     → o.depth ≡ Some depth → limit ≡ unwrap_or o.limit 10000 → json ≡ is_json o
-    → Some (Sweep file depth o.steps limit json) ≡ sweep_with file o
+    → serve ≡ serve_of o → Some (Sweep file depth o.steps limit json serve) ≡ sweep_with file o
 unfolding default_limit
-swept_is file o depth limit json deep limited form =
+swept_is file o depth limit json serve deep limited form served =
     sym (ap (option_map (sweep_by file o)) deep
-    ∙ ap (λ (n : ℕ). Some (Sweep file depth o.steps n (is_json o))) (sym limited)
-    ∙ ap (λ (j : Bool). Some (Sweep file depth o.steps limit j)) (sym form))
+    ∙ ap (λ (n : ℕ). Some (Sweep file depth o.steps n (is_json o) (serve_of o))) (sym limited)
+    ∙ ap (λ (j : Bool). Some (Sweep file depth o.steps limit j (serve_of o))) (sym form)
+    ∙ ap (λ (s : Serve). Some (Sweep file depth o.steps limit json s)) (sym served))

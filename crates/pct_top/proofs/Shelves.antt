@@ -64,12 +64,12 @@ has_script : (asked : Settings) (name : List ℕ) → second_file asked ≡ Some
     → script_file asked ≡ None → ⊥
 has_script (RunOrder file order word points limit report) name is none = cc
 has_script (RunSeed file seed depth steps limit report) name is none = cc
-has_script (Campaign file first count depth steps limit json) name is none = cc
-has_script (Big pieces) name is none = cc
+has_script (Campaign file first count depth steps limit json serve) name is none = cc
+has_script (Big pieces serve) name is none = cc
 has_script (Replay file trace) name is none = cc
 has_script (Expose file directive order word steps limit) name is none = cc
-has_script (Certify file directive steps limit) name is none = cc
-has_script (Sweep file depth steps limit json) name is none = cc
+has_script (Certify file directive steps limit serve) name is none = cc
+has_script (Sweep file depth steps limit json serve) name is none = cc
 
 module _ (asked : Settings) (unread : Bool) (before after : ShelfTold)
     (files : after.files ≡ before.files) (middle : List (List ℕ)) (script : ScriptText)

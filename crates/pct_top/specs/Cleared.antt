@@ -13,6 +13,7 @@ use Rattle.script_tree.specs.ScriptText.{ScriptText}
 use Rattle.script_tree.specs.DealOf.{IsDealOf}
 use Rattle.script_tree.specs.Grammar.{Spells}
 use Rattle.script_body.specs.Bodies.{bodies_of}
+use Rattle.worker_run.specs.declared.many.Serve.{Serve}
 use Rattle.worker_run.specs.Run.{run}
 use Rattle.choices.specs.Orders.{factorial}
 use Rattle.choices.specs.Laws.{IsOrderOf, ArePoints}
@@ -72,8 +73,8 @@ pub record IsSwept (files : Files) (file : List ℕ) (depth : ℕ) (steps : Opti
 abbrev pub SweptAreCleared : Type 0
 SweptAreCleared =
     (words : List (List ℕ)) (files : Files) (printed : Printed) (file : List ℕ) (depth : ℕ)
-    (steps : Option ℕ) (limit : ℕ) (json : Bool)
-    → settings words ≡ Ok (Sweep file depth steps limit json) → Output words files printed
+    (steps : Option ℕ) (limit : ℕ) (json : Bool) (serve : Serve)
+    → settings words ≡ Ok (Sweep file depth steps limit json serve) → Output words files printed
     → IsCarriedOut printed.status → IsSwept files file depth steps limit json printed
 
 -- ---- a certificate beside a sweep
@@ -106,8 +107,8 @@ pub record AgreesWith (files : Files) (file directive : List ℕ) (depth k limit
 abbrev pub CertifiedAreSwept : Type 0
 CertifiedAreSwept =
     (words more : List (List ℕ)) (files : Files) (printed other : Printed)
-    (file directive : List ℕ) (depth k limit : ℕ) (json : Bool)
+    (file directive : List ℕ) (depth k limit : ℕ) (json : Bool) (serve : Serve)
     → CertifiesFile (settings words) file directive k limit → Output words files printed
     → printed.status ≡ Done
-    → settings more ≡ Ok (Sweep file depth (Some k) limit json) → Output more files other
+    → settings more ≡ Ok (Sweep file depth (Some k) limit json serve) → Output more files other
     → AgreesWith files file directive depth k limit json other.out

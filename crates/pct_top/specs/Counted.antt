@@ -22,7 +22,7 @@ use Rattle.pct_top.specs.commands.Certify.{bound_words}
 
 -- the words ask for the certificate of the directive in this file over the script in that one
 abbrev pub CertifiesFile : SettingsOrWord → List ℕ → List ℕ → ℕ → ℕ → Type 0
-CertifiesFile (Ok (Certify file directive steps limit)) name other k most =
+CertifiesFile (Ok (Certify file directive steps limit serve)) name other k most =
     (name ≡ file) × (other ≡ directive) × (k ≡ steps) × (most ≡ limit)
 CertifiesFile taken name other k most = ⊥
 

@@ -6,7 +6,7 @@ use Rattle.std.specs.Str.{bytes_eq}
 use Rattle.pct_top.specs.declared.command.Command.{Command}
 use Rattle.pct_top.specs.declared.options.OptionName.{OptionName}
 use Rattle.pct_top.specs.declared.options.OptionName.TheVariants.{Order, Points, Limit, Seed, Depth}
-use Rattle.pct_top.specs.declared.options.OptionName.TheVariants.{Steps, From, Count, Form}
+use Rattle.pct_top.specs.declared.options.OptionName.TheVariants.{Steps, From, Count, Form, Serve}
 use Rattle.pct_top.specs.declared.options.Options.{Options}
 use Rattle.pct_top.specs.declared.settings.WordsError.{WordsError}
 use Rattle.pct_top.specs.declared.settings.WordsError.TheVariants.{Word, NoMemory}
@@ -14,7 +14,7 @@ use Rattle.pct_top.specs.declared.values.ReportForm.{ReportForm}
 use Rattle.pct_top.specs.declared.values.ReportForm.TheVariants.{Text, Json}
 use Rattle.pct_top.specs.Table.{takes_option}
 use Rattle.pct_ask.specs.Numbers.{step_count}
-use Rattle.pct_top.specs.Values.{order_in, points_in, seed_in, depth_in, form_in}
+use Rattle.pct_top.specs.Values.{order_in, points_in, seed_in, depth_in, form_in, serve_in}
 
 -- the option that a word begins
 abbrev pub option_named : List ℕ → Option OptionName
@@ -27,7 +27,8 @@ option_named word =
     else (if bytes_eq word (codes "--steps") then Some Steps
     else (if bytes_eq word (codes "--from") then Some From
     else (if bytes_eq word (codes "--count") then Some Count
-    else (if bytes_eq word (codes "--form") then Some Form else None))))))))
+    else (if bytes_eq word (codes "--form") then Some Form
+    else (if bytes_eq word (codes "--serve") then Some Serve else None)))))))))
 
 -- before the first option
 abbrev pub no_options : Options
@@ -41,6 +42,7 @@ no_options = record {
   from = None;
   count = None;
   form = None;
+  serve = None;
 }
 
 -- the option wasn't given before
@@ -54,6 +56,7 @@ is_new o Steps = is_none o.steps
 is_new o From = is_none o.from
 is_new o Count = is_none o.count
 is_new o Form = is_none o.form
+is_new o Serve = is_none o.serve
 
 -- the options with one more, whose value is the word of this number; none where the value isn't
 -- lawful
@@ -77,6 +80,8 @@ with_option_value o word Count value =
     option_map (λ count. record o { count = Some count }) (step_count value)
 with_option_value o word Form value =
     option_map (λ form. record o { form = Some form }) (form_in value)
+with_option_value o word Serve value =
+    option_map (λ serve. record o { serve = Some serve }) (serve_in value)
 
 -- whether a form is given and is JSON
 abbrev pub is_json_form : Option ReportForm → Bool
@@ -138,6 +143,7 @@ option_count o =
     one_if (is_some o.order) + one_if (is_some o.points) + one_if (is_some o.limit)
     + one_if (is_some o.seed) + one_if (is_some o.depth) + one_if (is_some o.steps)
     + one_if (is_some o.from) + one_if (is_some o.count) + one_if (is_some o.form)
+    + one_if (is_some o.serve)
 
 -- ---- what calls answer, want of memory aside
 

@@ -31,47 +31,47 @@ use Rattle.pct_top.specs.commands.Sweep.{OfSweep}
 abbrev pub script_file : Settings → Option (List ℕ)
 script_file (RunOrder file order word points limit report) = Some file
 script_file (RunSeed file seed depth steps limit report) = Some file
-script_file (Campaign file first count depth steps limit json) = Some file
-script_file (Big pieces) = None
+script_file (Campaign file first count depth steps limit json serve) = Some file
+script_file (Big pieces serve) = None
 script_file (Replay file trace) = Some file
 script_file (Expose file directive order word steps limit) = Some file
-script_file (Certify file directive steps limit) = Some file
-script_file (Sweep file depth steps limit json) = Some file
+script_file (Certify file directive steps limit serve) = Some file
+script_file (Sweep file depth steps limit json serve) = Some file
 
 -- the text of the command's script
 abbrev pub script_text : Settings → Files → List ℕ
 script_text (RunOrder file order word points limit report) files = take script_bytes (files file)
 script_text (RunSeed file seed depth steps limit report) files = take script_bytes (files file)
-script_text (Campaign file first count depth steps limit json) files =
+script_text (Campaign file first count depth steps limit json serve) files =
     take script_bytes (files file)
-script_text (Big pieces) files = layout (large_script pieces)
+script_text (Big pieces serve) files = layout (large_script pieces)
 script_text (Replay file trace) files = take script_bytes (files file)
 script_text (Expose file directive order word steps limit) files =
     take script_bytes (files file)
-script_text (Certify file directive steps limit) files = take script_bytes (files file)
-script_text (Sweep file depth steps limit json) files = take script_bytes (files file)
+script_text (Certify file directive steps limit serve) files = take script_bytes (files file)
+script_text (Sweep file depth steps limit json serve) files = take script_bytes (files file)
 
 -- the names of an order, where the words give one
 abbrev pub order_given : Settings → Option (List (List ℕ))
 order_given (RunOrder file order word points limit report) = Some order
 order_given (RunSeed file seed depth steps limit report) = None
-order_given (Campaign file first count depth steps limit json) = None
-order_given (Big pieces) = None
+order_given (Campaign file first count depth steps limit json serve) = None
+order_given (Big pieces serve) = None
 order_given (Replay file trace) = None
 order_given (Expose file directive order word steps limit) = Some order
-order_given (Certify file directive steps limit) = None
-order_given (Sweep file depth steps limit json) = None
+order_given (Certify file directive steps limit serve) = None
+order_given (Sweep file depth steps limit json serve) = None
 
 -- the second file
 abbrev pub second_file : Settings → Option (List ℕ)
 second_file (RunOrder file order word points limit report) = None
 second_file (RunSeed file seed depth steps limit report) = None
-second_file (Campaign file first count depth steps limit json) = None
-second_file (Big pieces) = None
+second_file (Campaign file first count depth steps limit json serve) = None
+second_file (Big pieces serve) = None
 second_file (Replay file trace) = Some trace
 second_file (Expose file directive order word steps limit) = Some directive
-second_file (Certify file directive steps limit) = Some directive
-second_file (Sweep file depth steps limit json) = None
+second_file (Certify file directive steps limit serve) = Some directive
+second_file (Sweep file depth steps limit json serve) = None
 
 -- the file is a directive's under these names
 abbrev pub FitsDirective : Files → List ℕ → NameLists → Type 0
@@ -83,30 +83,30 @@ FitsDirective files file names =
 abbrev pub SecondFits : Settings → Files → ScriptText → Type 0
 SecondFits (RunOrder file order word points limit report) files script = Unit {0}
 SecondFits (RunSeed file seed depth steps limit report) files script = Unit {0}
-SecondFits (Campaign file first count depth steps limit json) files script = Unit {0}
-SecondFits (Big pieces) files script = Unit {0}
+SecondFits (Campaign file first count depth steps limit json serve) files script = Unit {0}
+SecondFits (Big pieces serve) files script = Unit {0}
 SecondFits (Replay file trace) files script =
     (told : TraceFile) × IsTrace (take trace_bytes (files trace)) script.names told
 SecondFits (Expose file directive order word steps limit) files script =
     FitsDirective files directive script.names
-SecondFits (Certify file directive steps limit) files script =
+SecondFits (Certify file directive steps limit serve) files script =
     FitsDirective files directive script.names
-SecondFits (Sweep file depth steps limit json) files script = Unit {0}
+SecondFits (Sweep file depth steps limit json serve) files script = Unit {0}
 
 -- what is printed of the script
 abbrev pub OfCommand : Settings → Files → ScriptText → Deal → Printed → Type 0
 OfCommand (RunOrder file order word points limit report) files =
     OfOrdered order word points limit report
 OfCommand (RunSeed file seed depth steps limit report) files = OfSeed seed depth steps limit report
-OfCommand (Campaign file first count depth steps limit json) files =
+OfCommand (Campaign file first count depth steps limit json serve) files =
     OfCampaign first count depth steps limit json
-OfCommand (Big pieces) files = OfBig pieces
+OfCommand (Big pieces serve) files = OfBig pieces
 OfCommand (Replay file trace) files = OfReplay (take trace_bytes (files trace))
 OfCommand (Expose file directive order word steps limit) files =
     OfExpose (take directive_bytes (files directive)) order word steps limit
-OfCommand (Certify file directive steps limit) files =
+OfCommand (Certify file directive steps limit serve) files =
     OfCertify (take directive_bytes (files directive)) steps limit
-OfCommand (Sweep file depth steps limit json) files = OfSweep depth steps limit json
+OfCommand (Sweep file depth steps limit json serve) files = OfSweep depth steps limit json
 
 -- ---- the call
 

@@ -9,9 +9,9 @@ use Rattle.pct_top.specs.declared.settings.Settings.TheVariants.{Replay, Expose,
 abbrev pub report_asked : Settings → Option Report
 report_asked (RunOrder file order word points limit report) = Some report
 report_asked (RunSeed file seed depth steps limit report) = Some report
-report_asked (Campaign file first count depth steps limit json) = None
-report_asked (Big pieces) = None
+report_asked (Campaign file first count depth steps limit json serve) = None
+report_asked (Big pieces serve) = None
 report_asked (Replay file trace) = None
 report_asked (Expose file directive order word steps limit) = None
-report_asked (Certify file directive steps limit) = None
-report_asked (Sweep file depth steps limit json) = None
+report_asked (Certify file directive steps limit serve) = None
+report_asked (Sweep file depth steps limit json serve) = None

@@ -3,6 +3,8 @@ use Rattle.std.specs.Prelude.{◌≡◌, ℕ, ◌+◌, ◌≤◌, List, [], ◌�
 use Rattle.std.specs.Prelude.{None, IfSome, Result, Ok, Err}
 use Rattle.std.specs.Option.{option_map, option_and_then, unwrap_or}
 use Rattle.trace_text.specs.Lawful.{IsStepCount}
+use Rattle.worker_run.specs.declared.many.Serve.{Serve}
+use Rattle.worker_run.specs.declared.many.Serve.TheVariants.{Threads}
 use Rattle.pct_top.specs.declared.command.Command.{Command}
 use Rattle.pct_top.specs.declared.command.Command.TheVariants as commands
 use Rattle.pct_top.specs.declared.options.Options.{Options}
@@ -73,10 +75,14 @@ run_settings report (file ∷ words) =
 
 -- ---- a campaign
 
+-- who serves the bodies of many runs: threads, where the options don't say
+abbrev pub serve_of : Options → Serve
+serve_of o = unwrap_or o.serve Threads
+
 -- its first seed, how many seeds and a depth are asked for
 abbrev pub campaign_by : List ℕ → Options → ℕ → ℕ → ℕ → Settings
 campaign_by file o first count depth =
-    Campaign file first count depth o.steps (limit_of o) (is_json o)
+    Campaign file first count depth o.steps (limit_of o) (is_json o) (serve_of o)
 
 -- the campaign that options ask for; none where a first seed, a count or a depth isn't given
 abbrev pub campaign_with : List ℕ → Options → Option Settings
@@ -97,7 +103,7 @@ campaign_settings (file ∷ words) =
 
 -- the sweep of all choices to this depth
 abbrev pub sweep_by : List ℕ → Options → ℕ → Settings
-sweep_by file o depth = Sweep file depth o.steps (limit_of o) (is_json o)
+sweep_by file o depth = Sweep file depth o.steps (limit_of o) (is_json o) (serve_of o)
 
 -- a depth is asked for
 abbrev pub sweep_with : List ℕ → Options → Option Settings
@@ -111,17 +117,17 @@ sweep_settings (file ∷ words) =
 
 -- ---- the large script
 
--- the campaign of the large script with so many pieces, whatever the options
+-- the campaign of the large script with so many pieces
 abbrev pub big_with : ℕ → Options → Option Settings
-big_with pieces o = Some (Big pieces)
+big_with pieces o = Some (Big pieces (serve_of o))
 
--- the number of pieces, where it is lawful, and no word behind it, since `big` takes no option
+-- the number of pieces, where it is lawful, and then options
 abbrev pub big_by : Option ℕ → List (List ℕ) → SettingsOrWord
 big_by None words = Err 2
 big_by (Some pieces) words =
     made_of (big_with pieces) (length words + 3) (options_from commands.Big no_options 3 words)
 
--- after `big`: the number of pieces, and no further word
+-- after `big`: the number of pieces, and then options
 abbrev pub big_settings : List (List ℕ) → SettingsOrWord
 big_settings [] = Err 2
 big_settings (word ∷ words) = big_by (pieces_in word) words
@@ -175,7 +181,7 @@ expose_with file directive o =
 
 -- the certificate of a directive, for runs of at most so many steps
 abbrev pub certify_by : List ℕ → List ℕ → Options → ℕ → Settings
-certify_by file directive o steps = Certify file directive steps (limit_of o)
+certify_by file directive o steps = Certify file directive steps (limit_of o) (serve_of o)
 
 -- a number of steps is asked for
 abbrev pub certify_with : List ℕ → List ℕ → Options → Option Settings
@@ -230,11 +236,11 @@ abbrev pub AreLawful : Settings → Type 0
 AreLawful (RunOrder file order word points limit report) = ArePoints points × IsStepCount limit
 AreLawful (RunSeed file seed depth steps limit report) =
     IsDepth depth × IfSome steps IsStepCount × IsStepCount limit
-AreLawful (Campaign file first count depth steps limit json) =
+AreLawful (Campaign file first count depth steps limit json serve) =
     IsStepCount count × IsDepth depth × IfSome steps IsStepCount × IsStepCount limit
-AreLawful (Big pieces) = (1 ≤ pieces) × (pieces ≤ 100)
+AreLawful (Big pieces serve) = (1 ≤ pieces) × (pieces ≤ 100)
 AreLawful (Replay file trace) = Unit {0}
 AreLawful (Expose file directive order word steps limit) = IsStepCount steps × IsStepCount limit
-AreLawful (Certify file directive steps limit) = IsStepCount steps × IsStepCount limit
-AreLawful (Sweep file depth steps limit json) =
+AreLawful (Certify file directive steps limit serve) = IsStepCount steps × IsStepCount limit
+AreLawful (Sweep file depth steps limit json serve) =
     IsDepth depth × IfSome steps IsStepCount × IsStepCount limit

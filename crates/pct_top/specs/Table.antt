@@ -8,7 +8,7 @@ use Rattle.pct_top.specs.declared.command.Command.TheVariants.{Run, Campaign, Bi
 use Rattle.pct_top.specs.declared.command.Command.TheVariants.{Certify, Sweep}
 use Rattle.pct_top.specs.declared.options.OptionName.{OptionName}
 use Rattle.pct_top.specs.declared.options.OptionName.TheVariants.{Order, Points, Limit, Seed, Depth}
-use Rattle.pct_top.specs.declared.options.OptionName.TheVariants.{Steps, From, Count, Form}
+use Rattle.pct_top.specs.declared.options.OptionName.TheVariants.{Steps, From, Count, Form, Serve}
 use Rattle.pct_top.specs.declared.options.Options.{Options}
 use Rattle.pct_top.specs.declared.settings.Report.TheVariants.{Trace, Races, Locks, Find}
 
@@ -48,6 +48,7 @@ run_takes o Steps = not (is_ordered o)
 run_takes o From = false
 run_takes o Count = false
 run_takes o Form = false
+run_takes o Serve = false
 
 -- the option belongs to a campaign
 abbrev pub campaign_takes : OptionName → Bool
@@ -57,9 +58,15 @@ campaign_takes Depth = true
 campaign_takes Steps = true
 campaign_takes Limit = true
 campaign_takes Form = true
+campaign_takes Serve = true
 campaign_takes Order = false
 campaign_takes Points = false
 campaign_takes Seed = false
+
+-- the option belongs to the campaign of the large script
+abbrev pub big_takes : OptionName → Bool
+big_takes Serve = true
+big_takes name = false
 
 -- the option belongs to the exposing of a directive
 abbrev pub expose_takes : OptionName → Bool
@@ -72,11 +79,13 @@ expose_takes Depth = false
 expose_takes From = false
 expose_takes Count = false
 expose_takes Form = false
+expose_takes Serve = false
 
 -- the option belongs to the certifying of a directive
 abbrev pub certify_takes : OptionName → Bool
 certify_takes Steps = true
 certify_takes Limit = true
+certify_takes Serve = true
 certify_takes Order = false
 certify_takes Points = false
 certify_takes Seed = false
@@ -91,6 +100,7 @@ sweep_takes Depth = true
 sweep_takes Steps = true
 sweep_takes Limit = true
 sweep_takes Form = true
+sweep_takes Serve = true
 sweep_takes Order = false
 sweep_takes Points = false
 sweep_takes Seed = false
@@ -103,7 +113,7 @@ sweep_takes Count = false
 abbrev pub takes_option : Command → Options → OptionName → Bool
 takes_option (Run report) o name = run_takes o name
 takes_option Campaign o name = campaign_takes name
-takes_option Big o name = false
+takes_option Big o name = big_takes name
 takes_option Replay o name = false
 takes_option Expose o name = expose_takes name
 takes_option Certify o name = certify_takes name

@@ -5,6 +5,8 @@ use Rattle.std.specs.List.{slice_split, list_all}
 use Rattle.std.specs.Str.{bytes_eq}
 use Rattle.pct_ask.specs.Numbers.{number_in, step_counts}
 use Rattle.pct_ask.specs.Words.{is_name}
+use Rattle.worker_run.specs.declared.many.Serve.{Serve}
+use Rattle.worker_run.specs.declared.many.Serve.TheVariants.{Threads, Caller}
 use Rattle.pct_top.specs.declared.values.ReportForm.{ReportForm}
 use Rattle.pct_top.specs.declared.values.ReportForm.TheVariants.{Text, Json}
 
@@ -35,6 +37,12 @@ abbrev pub form_in : List ℕ → Option ReportForm
 form_in word =
     if bytes_eq word (codes "json") then Some Json
     else (if bytes_eq word (codes "text") then Some Text else None)
+
+-- who serves the bodies of many runs
+abbrev pub serve_in : List ℕ → Option Serve
+serve_in word =
+    if bytes_eq word (codes "threads") then Some Threads
+    else (if bytes_eq word (codes "caller") then Some Caller else None)
 
 -- how many pieces the threads of the large script have
 abbrev pub pieces_in : List ℕ → Option ℕ

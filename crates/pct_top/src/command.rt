@@ -49,7 +49,8 @@ impl Command {
             Command::Expose => expose_takes(name),
             Command::Certify => certify_takes(name),
             Command::Sweep => sweep_takes(name),
-            Command::Big | Command::Replay => false,
+            Command::Big => big_takes(name),
+            Command::Replay => false,
         }
     }
 }
@@ -76,7 +77,7 @@ fn run_takes(given: &Options, name: OptionName) -> bool
         OptionName::Order | OptionName::Points => !is_seeded(given),
         OptionName::Limit => true,
         OptionName::Seed | OptionName::Depth | OptionName::Steps => !is_ordered(given),
-        OptionName::From | OptionName::Count | OptionName::Form => false,
+        OptionName::From | OptionName::Count | OptionName::Form | OptionName::Serve => false,
     }
 }
 
@@ -90,9 +91,17 @@ fn campaign_takes(name: OptionName) -> bool
         | OptionName::Depth
         | OptionName::Steps
         | OptionName::Limit
-        | OptionName::Form => true,
+        | OptionName::Form
+        | OptionName::Serve => true,
         OptionName::Order | OptionName::Points | OptionName::Seed => false,
     }
+}
+
+/// Whether the option belongs to the campaign of the large script.
+fn big_takes(name: OptionName) -> bool
+    ensures { result ≡ table.big_takes name }
+{
+    name == OptionName::Serve
 }
 
 /// Whether the option belongs to the exposing of a directive.
@@ -106,7 +115,8 @@ fn expose_takes(name: OptionName) -> bool
         | OptionName::Depth
         | OptionName::From
         | OptionName::Count
-        | OptionName::Form => false,
+        | OptionName::Form
+        | OptionName::Serve => false,
     }
 }
 
@@ -115,7 +125,7 @@ fn certify_takes(name: OptionName) -> bool
     ensures { result ≡ table.certify_takes name }
 {
     match name {
-        OptionName::Steps | OptionName::Limit => true,
+        OptionName::Steps | OptionName::Limit | OptionName::Serve => true,
         OptionName::Order
         | OptionName::Points
         | OptionName::Seed
@@ -131,7 +141,11 @@ fn sweep_takes(name: OptionName) -> bool
     ensures { result ≡ table.sweep_takes name }
 {
     match name {
-        OptionName::Depth | OptionName::Steps | OptionName::Limit | OptionName::Form => true,
+        OptionName::Depth
+        | OptionName::Steps
+        | OptionName::Limit
+        | OptionName::Form
+        | OptionName::Serve => true,
         OptionName::Order
         | OptionName::Points
         | OptionName::Seed

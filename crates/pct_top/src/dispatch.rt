@@ -42,7 +42,7 @@ fn test_of<H: Shelf>(alloc: Global, settings: &Settings, shelf: &mut H) -> Resul
         Settings::RunOrder { file, .. } => read_test(alloc, file.as_str(), shelf),
         Settings::RunSeed { file, .. } => read_test(alloc, file.as_str(), shelf),
         Settings::Campaign { file, .. } => read_test(alloc, file.as_str(), shelf),
-        Settings::Big { pieces } => large_test(alloc, *pieces),
+        Settings::Big { pieces, .. } => large_test(alloc, *pieces),
         Settings::Replay { file, .. } => read_test(alloc, file.as_str(), shelf),
         Settings::Expose { file, .. } => read_test(alloc, file.as_str(), shelf),
         Settings::Certify { file, .. } => read_test(alloc, file.as_str(), shelf),
@@ -132,10 +132,13 @@ fn second_outcome<R: Threads + Wait + Sync, H: Shelf, G: Gate>(
             directive,
             steps,
             limit,
+            serve,
             ..
         } => {
             let directive = directive.as_str();
-            certify::certify_file(rt, alloc, test, directive, *steps, *limit, shelf, gate)
+            certify::certify_file(
+                rt, alloc, test, directive, *steps, *limit, *serve, shelf, gate,
+            )
         }
         _ => unreachable!(),
     }
@@ -176,11 +179,14 @@ fn command_outcome<R: Threads + Wait + Sync, H: Shelf, G: Gate>(
             steps,
             limit,
             json,
+            serve,
             ..
         } => Ok(seeds::report_on(
-            rt, alloc, test, *first, *count, *depth, *steps, *limit, *json, gate,
+            rt, alloc, test, *first, *count, *depth, *steps, *limit, *json, *serve, gate,
         )?),
-        Settings::Big { pieces } => Ok(big::big_of(rt, alloc, test, *pieces, gate)?),
+        Settings::Big { pieces, serve } => {
+            Ok(big::big_of(rt, alloc, test, *pieces, *serve, gate)?)
+        }
         Settings::Replay { .. } => second_outcome(rt, alloc, settings, test, shelf, gate),
         Settings::Expose { .. } => second_outcome(rt, alloc, settings, test, shelf, gate),
         Settings::Certify { .. } => second_outcome(rt, alloc, settings, test, shelf, gate),
@@ -189,8 +195,9 @@ fn command_outcome<R: Threads + Wait + Sync, H: Shelf, G: Gate>(
             steps,
             limit,
             json,
+            serve,
             ..
-        } => Ok(every::sweep_of(rt, alloc, test, *depth, *steps, *limit, *json, gate)?),
+        } => Ok(every::sweep_of(rt, alloc, test, *depth, *steps, *limit, *json, *serve, gate)?),
     }
 }
 

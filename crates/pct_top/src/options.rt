@@ -9,9 +9,10 @@ ghost use Rattle.pct_top.specs.declared.settings.WordsError.TheVariants.{Word};
 use crate::command::Command;
 use crate::settings::WordsError;
 use crate::text::TextList;
-use crate::values::{ReportForm, depth_in, form_in, order_in, points_in, seed_in};
+use crate::values::{ReportForm, depth_in, form_in, order_in, points_in, seed_in, serve_in};
 use pct_ask::{PointList, step_count};
 use std::alloc::Global;
+use worker_run::Serve;
 
 /// The words that begin an option.
 #[derive(Clone, Copy, Debug, PartialEq, Eq)]
@@ -25,6 +26,7 @@ pub enum OptionName {
     From,
     Count,
     Form,
+    Serve,
 }
 
 /// The option that a word begins.
@@ -41,6 +43,7 @@ fn option_named(word: &str) -> Option<OptionName>
         "--from" => Some(OptionName::From),
         "--count" => Some(OptionName::Count),
         "--form" => Some(OptionName::Form),
+        "--serve" => Some(OptionName::Serve),
         _ => None,
     }
 }
@@ -74,6 +77,7 @@ pub struct Options {
     pub from: Option<u64>,
     pub count: Option<u32>,
     pub form: Option<ReportForm>,
+    pub serve: Option<Serve>,
 }
 
 impl Options {
@@ -91,6 +95,7 @@ impl Options {
             from: None,
             count: None,
             form: None,
+            serve: None,
         }
     }
 
@@ -108,6 +113,7 @@ impl Options {
             OptionName::From => self.from.is_none(),
             OptionName::Count => self.count.is_none(),
             OptionName::Form => self.form.is_none(),
+            OptionName::Serve => self.serve.is_none(),
         }
     }
 
@@ -149,6 +155,7 @@ impl Options {
             OptionName::From => self.from = Some(lawful(seed_in(value), word)?),
             OptionName::Count => self.count = Some(lawful(step_count(value.as_bytes()), word)?),
             OptionName::Form => self.form = Some(lawful(form_in(value), word)?),
+            OptionName::Serve => self.serve = Some(lawful(serve_in(value), word)?),
         }
         Ok(())
     }

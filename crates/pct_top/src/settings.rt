@@ -7,6 +7,7 @@ use crate::text::{Text, TextList};
 use pct_ask::PointList;
 use std::alloc::AllocError;
 use thiserror::Error;
+use worker_run::Serve;
 
 /// What is reported of a run.
 #[derive(Clone, Copy, Debug, PartialEq, Eq)]
@@ -21,7 +22,8 @@ pub enum Report {
     Find,
 }
 
-/// A command with its values.
+/// A command with its values. Where it makes many runs, `serve` says who serves their bodies, which
+/// changes nothing of what is printed.
 #[derive(Debug, Drop)]
 pub enum Settings {
     /// The run of a script under an order of its threads, the highest priority first, which stands
@@ -55,10 +57,12 @@ pub enum Settings {
         steps: Option<u32>,
         limit: u32,
         json: bool,
+        serve: Serve,
     },
     /// The campaign of the large script, whose threads have so many pieces.
     Big {
         pieces: u32,
+        serve: Serve,
     },
     /// The replay of a trace over a script.
     Replay {
@@ -82,6 +86,7 @@ pub enum Settings {
         directive: Text,
         steps: u32,
         limit: u32,
+        serve: Serve,
     },
     /// A sweep: the runs of a script under every order and every `depth - 1` change points of so
     /// many steps, and the report on them, as JSON or as a text.
@@ -91,6 +96,7 @@ pub enum Settings {
         steps: Option<u32>,
         limit: u32,
         json: bool,
+        serve: Serve,
     },
 }
 

@@ -8,6 +8,7 @@ ghost use Rattle.pct_top.specs.Values as values;
 use crate::text::{Text, TextList};
 use pct_ask::{PointList, first_pieces, is_lawful_name, number_in, step_counts};
 use std::alloc::{AllocError as NoMemory, Global};
+use worker_run::Serve;
 
 /// The items of a value, which stand between commas.
 fn items_of(alloc: Global, value: &str) -> Result<TextList, NoMemory>
@@ -72,6 +73,17 @@ pub fn form_in(word: &str) -> Option<ReportForm>
     match word {
         "json" => Some(ReportForm::Json),
         "text" => Some(ReportForm::Text),
+        _ => None,
+    }
+}
+
+/// Who serves the bodies of many runs.
+pub fn serve_in(word: &str) -> Option<Serve>
+    ensures { result ≡ values.serve_in word.now }
+{
+    match word {
+        "threads" => Some(Serve::Threads),
+        "caller" => Some(Serve::Caller),
         _ => None,
     }
 }

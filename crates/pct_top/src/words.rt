@@ -12,6 +12,7 @@ use crate::text::Text;
 use crate::values::pieces_in;
 use pct_ask::PointList;
 use std::alloc::Global;
+use worker_run::Serve;
 
 /// How many steps a run may have where nothing else is said.
 pub const DEFAULT_LIMIT: u32 = 10_000;
@@ -73,6 +74,7 @@ fn campaign_with(file: Text, options: Options) -> Option<Settings>
         steps: options.steps,
         limit: options.limit.unwrap_or(DEFAULT_LIMIT),
         json: options.is_json(),
+        serve: options.serve.unwrap_or(Serve::Threads),
     })
 }
 
@@ -96,8 +98,11 @@ fn big_words(alloc: Global, words: &[String]) -> Result<Settings, WordsError>
     let Some(pieces) = pieces_in(word.as_str()) else {
         return Err(WordsError::Word(2));
     };
-    options_in(alloc, Command::Big, 3, others)?;
-    Ok(Settings::Big { pieces })
+    let (options, _) = options_in(alloc, Command::Big, 3, others)?;
+    Ok(Settings::Big {
+        pieces,
+        serve: options.serve.unwrap_or(Serve::Threads),
+    })
 }
 
 /// What the words say of a command over two files.
@@ -174,6 +179,7 @@ fn certify_with(file: Text, directive: Text, options: Options) -> Option<Setting
         directive,
         steps: options.steps?,
         limit: options.limit.unwrap_or(DEFAULT_LIMIT),
+        serve: options.serve.unwrap_or(Serve::Threads),
     })
 }
 
@@ -195,6 +201,7 @@ fn sweep_with(file: Text, options: Options) -> Option<Settings>
         steps: options.steps,
         limit: options.limit.unwrap_or(DEFAULT_LIMIT),
         json: options.is_json(),
+        serve: options.serve.unwrap_or(Serve::Threads),
     })
 }
 

@@ -3,9 +3,10 @@ use crate::calls::{Given, LOST, REPLAY, SOUND, expect_call, words_of};
 use pct_top::{Report, Settings, Status, WordsError, read_words};
 use std::process::Abort;
 use std::test::Fail;
+use worker_run::Serve;
 
 /// The word that isn't taken of each line.
-const UNTAKEN: [(&str, &str); 30] = [
+const UNTAKEN: [(&str, &str); 33] = [
     ("", "usage: word 1\n"),
     ("walk s.pct --order A,B,C", "usage: word 1\n"),
     ("run", "usage: word 2\n"),
@@ -15,6 +16,8 @@ const UNTAKEN: [(&str, &str); 30] = [
     ("run --order A,B,C", "usage: word 3\n"),
     ("run s.pct --form text", "usage: word 3\n"),
     ("replay s.pct t.txt now", "usage: word 4\n"),
+    ("replay s.pct t.txt --serve caller", "usage: word 4\n"),
+    ("big 1 --serve nobody", "usage: word 4\n"),
     ("run s.pct --order", "usage: word 4\n"),
     ("run s.pct --order A,", "usage: word 4\n"),
     ("run s.pct --order A,r0,C", "usage: word 4\n"),
@@ -30,6 +33,7 @@ const UNTAKEN: [(&str, &str); 30] = [
     ("run s.pct --seed 1", "usage: word 5\n"),
     ("run s.pct --points 1 --seed 4", "usage: word 5\n"),
     ("run s.pct --order A,B,C --seed 1", "usage: word 5\n"),
+    ("run s.pct --order A,B,C --serve caller", "usage: word 5\n"),
     ("run s.pct --order A,B,C --order A,B,C", "usage: word 5\n"),
     ("run s.pct --limit 5 --limit 5", "usage: word 5\n"),
     ("run s.pct --seed 1 --depth 9", "usage: word 6\n"),
@@ -135,5 +139,40 @@ fn expect_replay(rt: &impl Abort, read: &Read) {
 fn words_of_a_replay_are_read(rt: HostRuntime) -> Result<(), Fail> {
     let words = words_of(rt.alloc(), REPLAY)?;
     expect_replay(&rt, &read_words(rt.alloc(), words.as_slice()));
+    Ok(())
+}
+
+/// Calls that make many runs, and who is to serve these.
+const SERVED: [(&str, Serve); 8] = [
+    ("campaign s.pct --from 1 --count 2 --depth 3", Serve::Threads),
+    (
+        "campaign s.pct --serve caller --from 1 --count 2 --depth 3",
+        Serve::Caller,
+    ),
+    ("sweep s.pct --depth 2", Serve::Threads),
+    ("sweep s.pct --depth 2 --serve caller", Serve::Caller),
+    ("certify s.pct t.txt --steps 8 --serve threads", Serve::Threads),
+    ("certify s.pct t.txt --serve caller --steps 8", Serve::Caller),
+    ("big 3", Serve::Threads),
+    ("big 3 --serve caller", Serve::Caller),
+];
+
+/// Who is to serve the runs that the words ask for, where they ask for many.
+fn serve_of(read: &Read) -> Option<Serve> {
+    match read {
+        Ok(Settings::Campaign { serve, .. }) => Some(*serve),
+        Ok(Settings::Sweep { serve, .. }) => Some(*serve),
+        Ok(Settings::Certify { serve, .. }) => Some(*serve),
+        Ok(Settings::Big { serve, .. }) => Some(*serve),
+        _ => None,
+    }
+}
+
+#[test]
+fn words_say_who_serves(rt: HostRuntime) -> Result<(), Fail> {
+    for (line, serve) in SERVED.iter() {
+        let words = words_of(rt.alloc(), line)?;
+        assert_eq!(rt; serve_of(&read_words(rt.alloc(), words.as_slice())), Some(*serve));
+    }
     Ok(())
 }

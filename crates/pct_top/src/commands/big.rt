@@ -22,6 +22,7 @@ use pct_outside::Gate;
 use std::alloc::{AllocError as NoMemory, Global};
 use std::sync::Wait;
 use std::thread::Threads;
+use worker_run::Serve;
 
 /// The first seed, and how many seeds are run.
 const SEEDS: (u64, u32) = (1, 20);
@@ -69,6 +70,7 @@ pub fn big_of<R: Threads + Wait + Sync, G: Gate>(
     alloc: Global,
     test: &Test,
     pieces: u32,
+    serve: Serve,
     gate: &G,
 ) -> Result<Outcome, NoMemory>
     requires ready { IsReadyTest test.now }
@@ -78,6 +80,8 @@ pub fn big_of<R: Threads + Wait + Sync, G: Gate>(
 {
     let (first, count) = SEEDS;
     let steps = steps_of(rt, alloc, test, None, LIMIT, gate)?;
+    // Who serves is left to campaign until it takes it.
+    let _ = serve;
     let rows = campaign(
         rt, alloc, &test.code, &test.deal, first, count, DEPTH, steps, LIMIT, gate,
     )?;

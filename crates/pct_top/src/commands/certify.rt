@@ -33,6 +33,7 @@ use pct_outside::{Gate, Shelf};
 use std::alloc::{AllocError as NoMemory, Global};
 use std::sync::Wait;
 use std::thread::Threads;
+use worker_run::Serve;
 
 /// An order's names, each behind a space.
 fn push_names(out: &mut Vec<u8>, names: &Names, order: &[u32]) -> Result<(), NoMemory>
@@ -153,6 +154,7 @@ fn certificate_of<R: Threads + Wait + Sync, G: Gate>(
     directive: &Directive,
     steps: u32,
     limit: u32,
+    serve: Serve,
     gate: &G,
 ) -> Result<Outcome, NoMemory>
     requires ready { IsReadyTest test.now }
@@ -163,6 +165,8 @@ fn certificate_of<R: Threads + Wait + Sync, G: Gate>(
     ensures { IfOk result (λ outcome. PrintsCertificate (plain_script test.now.script) test.now.deal
         steps limit directive.now (printed_of outcome)) }
 {
+    // Who serves is left to certify until directive_run takes it.
+    let _ = serve;
     let certified = certify(
         rt, alloc, &test.code, &test.deal, directive, steps, limit, gate,
     )?;
@@ -179,6 +183,7 @@ pub fn certify_file<R: Threads + Wait + Sync, H: Shelf, G: Gate>(
     directive: &str,
     steps: u32,
     limit: u32,
+    serve: Serve,
     shelf: &mut H,
     gate: &G,
 ) -> Result<Outcome, Refusal>
@@ -196,6 +201,6 @@ pub fn certify_file<R: Threads + Wait + Sync, H: Shelf, G: Gate>(
 {
     match read_directed(alloc, directive, test.script.names(), shelf) {
         Err(refusal) => Err(refusal),
-        Ok(plan) => Ok(certificate_of(rt, alloc, test, &plan, steps, limit, gate)?),
+        Ok(plan) => Ok(certificate_of(rt, alloc, test, &plan, steps, limit, serve, gate)?),
     }
 }

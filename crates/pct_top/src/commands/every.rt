@@ -25,6 +25,7 @@ use std::alloc::{AllocError as NoMemory, Global};
 use std::sync::Wait;
 use std::thread::Threads;
 use sweep::{Answer, Choice, Swept, choice_at, sweep};
+use worker_run::Serve;
 
 /// A group as it is told: with its first choice, in place of that choice's place among all.
 fn told_group(alloc: Global, frame: &Frame, group: &Group) -> Result<SweptGroup, NoMemory>
@@ -104,6 +105,7 @@ pub fn sweep_of<R: Threads + Wait + Sync, G: Gate>(
     steps: Option<u32>,
     limit: u32,
     json: bool,
+    serve: Serve,
     gate: &G,
 ) -> Result<Outcome, NoMemory>
     requires ready { IsReadyTest test.now }
@@ -121,6 +123,8 @@ pub fn sweep_of<R: Threads + Wait + Sync, G: Gate>(
         limit,
     };
     let points = depth - 1;
+    // Who serves is left to sweep until it takes it.
+    let _ = serve;
     match sweep(
         rt, alloc, &test.code, &test.deal, points, steps, limit, gate,
     )? {

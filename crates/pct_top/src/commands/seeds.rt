@@ -23,6 +23,7 @@ use script_tree::Script;
 use std::alloc::{AllocError as NoMemory, Global};
 use std::sync::Wait;
 use std::thread::Threads;
+use worker_run::Serve;
 
 /// Whether every run passes.
 pub fn all_pass(rows: &[Row]) -> bool
@@ -68,6 +69,7 @@ pub fn report_on<R: Threads + Wait + Sync, G: Gate>(
     steps: Option<u32>,
     limit: u32,
     json: bool,
+    serve: Serve,
     gate: &G,
 ) -> Result<Outcome, NoMemory>
     requires ready { IsReadyTest test.now }
@@ -79,6 +81,8 @@ pub fn report_on<R: Threads + Wait + Sync, G: Gate>(
         (plain_script test.now.script) test.now.deal (printed_of outcome)) }
 {
     let steps = steps_of(rt, alloc, test, steps, limit, gate)?;
+    // Who serves is left to campaign until it takes it.
+    let _ = serve;
     let rows = campaign(
         rt, alloc, &test.code, &test.deal, first, count, depth, steps, limit, gate,
     )?;

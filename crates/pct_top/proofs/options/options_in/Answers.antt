@@ -46,5 +46,5 @@ loop-word-preserved c =
 
 pub overflow_add-number : goal.overflow_add-number
 overflow_add-number c =
-    let few : option_count c.loop-word.options ≤ 9 = few_options c.loop-word.options in
+    let few : option_count c.loop-word.options ≤ 10 = few_options c.loop-word.options in
     omega (arith, c.loop-word.invariant.counted)

@@ -19,9 +19,9 @@ returns-clause-count c =
     c.as_str.result.now c.take_value.new.self (sym c.in-Some.ensures) c.in_ok-take_value.ensures
 
 pub overflow_add-result : goal.overflow_add-result
-overflow_add-result c = let few : option_count c.args.self.now ≤ 9 = few_options c.args.self.now in
+overflow_add-result c = let few : option_count c.args.self.now ≤ 10 = few_options c.args.self.now in
     omega (arith, c.requires)
 
 pub overflow_add-number : goal.overflow_add-number
-overflow_add-number c = let few : option_count c.args.self.now ≤ 9 = few_options c.args.self.now in
+overflow_add-number c = let few : option_count c.args.self.now ≤ 10 = few_options c.args.self.now in
     omega (arith, c.requires)
