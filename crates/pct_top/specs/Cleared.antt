@@ -13,7 +13,7 @@ use Rattle.script_tree.specs.ScriptText.{ScriptText}
 use Rattle.script_tree.specs.DealOf.{IsDealOf}
 use Rattle.script_tree.specs.Grammar.{Spells}
 use Rattle.script_body.specs.Bodies.{bodies_of}
-use Rattle.worker_run.specs.declared.many.Serve.{Serve}
+use Rattle.worker_run.specs.declared.serving.Serve.{Serve}
 use Rattle.worker_run.specs.Run.{run}
 use Rattle.choices.specs.Orders.{factorial}
 use Rattle.choices.specs.Laws.{IsOrderOf, ArePoints}

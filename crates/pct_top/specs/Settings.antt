@@ -3,8 +3,8 @@ use Rattle.std.specs.Prelude.{◌≡◌, ℕ, ◌+◌, ◌≤◌, List, [], ◌�
 use Rattle.std.specs.Prelude.{None, IfSome, Result, Ok, Err}
 use Rattle.std.specs.Option.{option_map, option_and_then, unwrap_or}
 use Rattle.trace_text.specs.Lawful.{IsStepCount}
-use Rattle.worker_run.specs.declared.many.Serve.{Serve}
-use Rattle.worker_run.specs.declared.many.Serve.TheVariants.{Threads}
+use Rattle.worker_run.specs.declared.serving.Serve.{Serve}
+use Rattle.worker_run.specs.declared.serving.Serve.TheVariants.{Threads}
 use Rattle.pct_top.specs.declared.command.Command.{Command}
 use Rattle.pct_top.specs.declared.command.Command.TheVariants as commands
 use Rattle.pct_top.specs.declared.options.Options.{Options}

@@ -5,8 +5,8 @@ use Rattle.std.specs.List.{slice_split, list_all}
 use Rattle.std.specs.Str.{bytes_eq}
 use Rattle.pct_ask.specs.Numbers.{number_in, step_counts}
 use Rattle.pct_ask.specs.Words.{is_name}
-use Rattle.worker_run.specs.declared.many.Serve.{Serve}
-use Rattle.worker_run.specs.declared.many.Serve.TheVariants.{Threads, Caller}
+use Rattle.worker_run.specs.declared.serving.Serve.{Serve}
+use Rattle.worker_run.specs.declared.serving.Serve.TheVariants.{Threads, Caller}
 use Rattle.pct_top.specs.declared.values.ReportForm.{ReportForm}
 use Rattle.pct_top.specs.declared.values.ReportForm.TheVariants.{Text, Json}
 

@@ -14,7 +14,7 @@ use crate::outcome::Outcome;
 use crate::priorities::steps_of;
 use crate::test::Test;
 use crate::traces::is_passed;
-use campaign::campaign;
+use campaign::campaign_by;
 use failure_rank::{Group, rank};
 use large_script::line_count;
 use pct_ask::Row;
@@ -80,10 +80,8 @@ pub fn big_of<R: Threads + Wait + Sync, G: Gate>(
 {
     let (first, count) = SEEDS;
     let steps = steps_of(rt, alloc, test, None, LIMIT, gate)?;
-    // Who serves is left to campaign until it takes it.
-    let _ = serve;
-    let rows = campaign(
-        rt, alloc, &test.code, &test.deal, first, count, DEPTH, steps, LIMIT, gate,
+    let rows = campaign_by(
+        rt, alloc, &test.code, &test.deal, first, count, DEPTH, steps, LIMIT, serve, gate,
     )?;
     let groups = rank(alloc, &rows)?;
     let lines = line_count(pieces);

@@ -26,7 +26,7 @@ use crate::outcome::Outcome;
 use crate::refusal::Refusal;
 use crate::test::Test;
 use directive::Directive;
-use directive_run::{Certified, CertifyRow, certify};
+use directive_run::{Certified, CertifyRow, certify_by};
 use itoa::Buffer;
 use pct_ask::{NameKind, Names, Verdict, name_at, write_spaced_word};
 use pct_outside::{Gate, Shelf};
@@ -165,10 +165,8 @@ fn certificate_of<R: Threads + Wait + Sync, G: Gate>(
     ensures { IfOk result (λ outcome. PrintsCertificate (plain_script test.now.script) test.now.deal
         steps limit directive.now (printed_of outcome)) }
 {
-    // Who serves is left to certify until directive_run takes it.
-    let _ = serve;
-    let certified = certify(
-        rt, alloc, &test.code, &test.deal, directive, steps, limit, gate,
+    let certified = certify_by(
+        rt, alloc, &test.code, &test.deal, directive, steps, limit, serve, gate,
     )?;
     let text = write_certificate(alloc, test.script.names(), &certified)?;
     let done = is_certified(&certified);

@@ -123,10 +123,8 @@ pub fn sweep_of<R: Threads + Wait + Sync, G: Gate>(
         limit,
     };
     let points = depth - 1;
-    // Who serves is left to sweep until it takes it.
-    let _ = serve;
     match sweep(
-        rt, alloc, &test.code, &test.deal, points, steps, limit, gate,
+        rt, alloc, &test.code, &test.deal, points, steps, limit, serve, gate,
     )? {
         Answer::Whole(swept) => {
             let told = told_groups(alloc, &frame, swept.groups.as_slice())?;

@@ -14,7 +14,7 @@ use crate::outcome::Outcome;
 use crate::priorities::steps_of;
 use crate::test::Test;
 use crate::traces::is_passed;
-use campaign::campaign;
+use campaign::campaign_by;
 use failure_rank::{Groups, rank};
 use pct_ask::{Row, RowList};
 use pct_outside::Gate;
@@ -81,10 +81,8 @@ pub fn report_on<R: Threads + Wait + Sync, G: Gate>(
         (plain_script test.now.script) test.now.deal (printed_of outcome)) }
 {
     let steps = steps_of(rt, alloc, test, steps, limit, gate)?;
-    // Who serves is left to campaign until it takes it.
-    let _ = serve;
-    let rows = campaign(
-        rt, alloc, &test.code, &test.deal, first, count, depth, steps, limit, gate,
+    let rows = campaign_by(
+        rt, alloc, &test.code, &test.deal, first, count, depth, steps, limit, serve, gate,
     )?;
     let groups = rank(alloc, &rows)?;
     let frame = Frame {
