@@ -101,7 +101,7 @@ fn campaign_takes(name: OptionName) -> bool
 fn big_takes(name: OptionName) -> bool
     ensures { result ≡ table.big_takes name }
 {
-    name == OptionName::Serve
+    matches!(name, OptionName::Serve)
 }
 
 /// Whether the option belongs to the exposing of a directive.
