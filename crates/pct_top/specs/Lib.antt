@@ -12,7 +12,6 @@ pub mod Runs
 pub mod Priorities
 pub mod commands
 pub mod Reports
-pub mod Reported
 pub mod Output
 pub mod Outcome
 pub mod Files

@@ -1,11 +1,10 @@
 //! From the settings to a command's outcome: an arm for each command.
 
-ghost use Rattle.std.specs.Prelude.{◌≡◌, Ok, None, IfOk, IsSome};
+ghost use Rattle.std.specs.Prelude.{◌≡◌, Ok, None, IfOk};
 ghost use Rattle.script_tree.specs.ScriptSeen.{plain_script};
 ghost use Rattle.pct_top.specs.Settings.{AreLawful};
 ghost use Rattle.pct_top.specs.Ready.{IsReadyTest};
 ghost use Rattle.pct_top.specs.Printed.{Files};
-ghost use Rattle.pct_top.specs.Reported.{report_asked};
 ghost use Rattle.pct_top.specs.Ordered.{OrderFits};
 ghost use Rattle.pct_top.specs.Output.{script_file, script_text, order_given, second_file};
 ghost use Rattle.pct_top.specs.Output.{OfCommand, OfTaken};
@@ -39,108 +38,14 @@ fn test_of<H: Shelf>(alloc: Global, settings: &Settings, shelf: &mut H) -> Resul
     ensures files { H.files shelf.new ≡ H.files shelf.old }
 {
     match settings {
-        Settings::RunOrder { file, .. } => read_test(alloc, file.as_str(), shelf),
-        Settings::RunSeed { file, .. } => read_test(alloc, file.as_str(), shelf),
-        Settings::Campaign { file, .. } => read_test(alloc, file.as_str(), shelf),
         Settings::Big { pieces, .. } => large_test(alloc, *pieces),
-        Settings::Replay { file, .. } => read_test(alloc, file.as_str(), shelf),
-        Settings::Expose { file, .. } => read_test(alloc, file.as_str(), shelf),
-        Settings::Certify { file, .. } => read_test(alloc, file.as_str(), shelf),
-        Settings::Sweep { file, .. } => read_test(alloc, file.as_str(), shelf),
-    }
-}
-
-/// What comes of a command that reports on one run.
-fn run_outcome<R: Threads + Wait + Sync, G: Gate>(
-    rt: &R,
-    alloc: Global,
-    settings: &Settings,
-    test: &Test,
-    gate: &G,
-) -> Result<Outcome, Refusal>
-    requires lawful { AreLawful settings.now }
-    requires ready { IsReadyTest test.now }
-    requires report { IsSome (report_asked settings.now) }
-    ensures { (files : Files)
-        → GivesPrinted
-        (OfCommand settings.now files (plain_script test.now.script) test.now.deal) result }
-{
-    match settings {
-        Settings::RunOrder {
-            order,
-            word,
-            points,
-            limit,
-            report,
-            ..
-        } => report_ordered(rt, alloc, *report, test, order, *word, points, *limit, gate),
-        Settings::RunSeed {
-            seed,
-            depth,
-            steps,
-            limit,
-            report,
-            ..
-        } => Ok(report_seed(
-            rt, alloc, *report, test, *seed, *depth, *steps, *limit, gate,
-        )?),
-        _ => unreachable!(),
-    }
-}
-
-/// What comes of a command over its script and a second file.
-fn second_outcome<R: Threads + Wait + Sync, H: Shelf, G: Gate>(
-    rt: &R,
-    alloc: Global,
-    settings: &Settings,
-    test: &Test,
-    shelf: &mut H,
-    gate: &G,
-) -> Result<Outcome, Refusal>
-    requires lawful { AreLawful settings.now }
-    requires ready { IsReadyTest test.now }
-    requires second { IsSome (second_file settings.now) }
-    ensures comes { Comes
-        (λ files. OfCommand settings.now files (plain_script test.now.script) test.now.deal)
-        (H.files shelf.old)
-        (MissesSecond settings.now (plain_script test.now.script) (H.failed shelf.old)
-        (H.failed shelf.new))
-        result }
-    ensures keeps { KeepsSecond (second_file settings.now)
-        (OrderFits (plain_script test.now.script).names (order_given settings.now))
-        (is_unread result) (H.failed shelf.old) (H.failed shelf.new) }
-    ensures files { H.files shelf.new ≡ H.files shelf.old }
-{
-    match settings {
-        Settings::Replay { trace, .. } => {
-            replay::reply_to_file(rt, alloc, test, trace.as_str(), shelf, gate)
-        }
-        Settings::Expose {
-            directive,
-            order,
-            word,
-            steps,
-            limit,
-            ..
-        } => {
-            let directive = directive.as_str();
-            expose::expose_file(
-                rt, alloc, test, directive, order, *word, *steps, *limit, shelf, gate,
-            )
-        }
-        Settings::Certify {
-            directive,
-            steps,
-            limit,
-            serve,
-            ..
-        } => {
-            let directive = directive.as_str();
-            certify::certify_file(
-                rt, alloc, test, directive, *steps, *limit, *serve, shelf, gate,
-            )
-        }
-        _ => unreachable!(),
+        Settings::RunOrder { file, .. }
+        | Settings::RunSeed { file, .. }
+        | Settings::Campaign { file, .. }
+        | Settings::Replay { file, .. }
+        | Settings::Expose { file, .. }
+        | Settings::Certify { file, .. }
+        | Settings::Sweep { file, .. } => read_test(alloc, file.as_str(), shelf),
     }
 }
 
@@ -170,8 +75,24 @@ fn command_outcome<R: Threads + Wait + Sync, H: Shelf, G: Gate>(
     ensures files { H.files shelf.new ≡ H.files shelf.old }
 {
     match settings {
-        Settings::RunOrder { .. } => run_outcome(rt, alloc, settings, test, gate),
-        Settings::RunSeed { .. } => run_outcome(rt, alloc, settings, test, gate),
+        Settings::RunOrder {
+            order,
+            word,
+            points,
+            limit,
+            report,
+            ..
+        } => report_ordered(rt, alloc, *report, test, order, *word, points, *limit, gate),
+        Settings::RunSeed {
+            seed,
+            depth,
+            steps,
+            limit,
+            report,
+            ..
+        } => Ok(report_seed(
+            rt, alloc, *report, test, *seed, *depth, *steps, *limit, gate,
+        )?),
         Settings::Campaign {
             first,
             count,
@@ -187,9 +108,34 @@ fn command_outcome<R: Threads + Wait + Sync, H: Shelf, G: Gate>(
         Settings::Big { pieces, serve } => {
             Ok(big::big_of(rt, alloc, test, *pieces, *serve, gate)?)
         }
-        Settings::Replay { .. } => second_outcome(rt, alloc, settings, test, shelf, gate),
-        Settings::Expose { .. } => second_outcome(rt, alloc, settings, test, shelf, gate),
-        Settings::Certify { .. } => second_outcome(rt, alloc, settings, test, shelf, gate),
+        Settings::Replay { trace, .. } => {
+            replay::reply_to_file(rt, alloc, test, trace.as_str(), shelf, gate)
+        }
+        Settings::Expose {
+            directive,
+            order,
+            word,
+            steps,
+            limit,
+            ..
+        } => {
+            let directive = directive.as_str();
+            expose::expose_file(
+                rt, alloc, test, directive, order, *word, *steps, *limit, shelf, gate,
+            )
+        }
+        Settings::Certify {
+            directive,
+            steps,
+            limit,
+            serve,
+            ..
+        } => {
+            let directive = directive.as_str();
+            certify::certify_file(
+                rt, alloc, test, directive, *steps, *limit, *serve, shelf, gate,
+            )
+        }
         Settings::Sweep {
             depth,
             steps,
