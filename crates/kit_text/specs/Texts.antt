@@ -12,6 +12,8 @@ use Rattle.trace_text.specs.Lawful.{IsStepCount, NamesKnown, is_of_second}
 use Rattle.trace_text.specs.Trace.{head_of}
 use Rattle.trace_text.specs.declared.file.TraceFile.{TraceFile}
 use Rattle.pct_ask.specs.declared.event.Row.{Row}
+use Rattle.directive.specs.Directive.{IsMoment}
+use Rattle.directive.specs.declared.directive.Directive.{Directive}
 use Rattle.failure_rank.specs.declared.group.Group.{Group}
 
 -- the thread is one of so many, and the line is a test's
@@ -45,3 +47,9 @@ pub record IsShowable (deal : Deal) (names : NameLists) (file : TraceFile) : Typ
 pub record IsReportable (names : NameLists) (rows : List Row) (groups : List Group) : Type 0 where
   pub rows_known : All (λ row. IsWritable names row.verdict) rows
   pub groups_known : All (λ group. IsWritable names group.verdict) groups
+
+-- the directive can be written: its threads have names, and its lines and numbers are a test's
+pub record IsTellable (names : NameLists) (directive : Directive) : Type 0 where
+  pub low : directive.low < length names.threads
+  pub events : All (IsMoment names) directive.events
+  pub verdict : IsWritable names directive.verdict

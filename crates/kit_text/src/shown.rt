@@ -11,6 +11,13 @@ pub struct ShownVerdict<'a> {
     pub names: &'a Names,
 }
 
+/// A thread as a text: its name, or where it has none its number, from 0, behind a `#`.
+#[derive(Clone, Copy)]
+pub struct ShownThread<'a> {
+    pub thread: u32,
+    pub names: &'a Names,
+}
+
 /// A thread and its line.
 #[derive(Clone, Copy)]
 struct Place<'a> {
@@ -49,14 +56,24 @@ fn name_of(names: &Names, thread: u32) -> Option<&str> {
     str::from_utf8(name).ok()
 }
 
+impl Display for ShownThread<'_> {
+    fn fmt<W: Write>(&self, f: &mut Formatter<W>) -> fmt::Result {
+        let thread = self.thread;
+        match name_of(self.names, thread) {
+            Some(name) => write!(f, "{name}"),
+            None => write!(f, "#{thread}"),
+        }
+    }
+}
+
 impl Display for Place<'_> {
     fn fmt<W: Write>(&self, f: &mut Formatter<W>) -> fmt::Result {
         let line = self.line;
-        let thread = self.thread;
-        match name_of(self.names, thread) {
-            Some(name) => write!(f, " {name} {line}"),
-            None => write!(f, " #{thread} {line}"),
-        }
+        let thread = ShownThread {
+            thread: self.thread,
+            names: self.names,
+        };
+        write!(f, " {thread} {line}")
     }
 }
 
