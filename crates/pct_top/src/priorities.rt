@@ -9,7 +9,7 @@ ghost use Rattle.pct_top.specs.Runs.{DrawsFrom};
 ghost use Rattle.pct_top.specs.Ready.{IsReadyTest};
 ghost use Rattle.pct_top.specs.Priorities.{ArePriorities};
 
-use crate::playing::play;
+use crate::playing::play_by;
 use crate::test::Test;
 use pct_ask::{OrderList, PointList};
 use pct_outside::Gate;
@@ -17,6 +17,7 @@ use priority_draw::{Words, declared_order};
 use std::alloc::{AllocError as NoMemory, Global};
 use std::sync::Wait;
 use std::thread::Threads;
+use worker_run::Serve;
 
 /// An order of a script's threads, the highest priority first, and change points.
 #[derive(Debug, Drop)]
@@ -31,6 +32,7 @@ fn declared_length<R: Threads + Wait + Sync, G: Gate>(
     alloc: Global,
     test: &Test,
     limit: u32,
+    serve: Serve,
     gate: &G,
 ) -> Result<u32, NoMemory>
     requires ready { IsReadyTest test.now }
@@ -40,7 +42,7 @@ fn declared_length<R: Threads + Wait + Sync, G: Gate>(
     ensures fits { IfOk result IsStepCount }
 {
     let order = declared_order(alloc, test.deal.threads)?;
-    let run = play(rt, alloc, test, &order, &[], limit, gate)?;
+    let run = play_by(rt, alloc, test, &order, &[], limit, serve, gate)?;
     Ok((run.events.len() as u32).max(1))
 }
 
@@ -51,6 +53,7 @@ pub fn steps_of<R: Threads + Wait + Sync, G: Gate>(
     test: &Test,
     steps: Option<u32>,
     limit: u32,
+    serve: Serve,
     gate: &G,
 ) -> Result<u32, NoMemory>
     requires ready { IsReadyTest test.now }
@@ -62,7 +65,7 @@ pub fn steps_of<R: Threads + Wait + Sync, G: Gate>(
 {
     match steps {
         Some(steps) => Ok(steps),
-        None => declared_length(rt, alloc, test, limit, gate),
+        None => declared_length(rt, alloc, test, limit, serve, gate),
     }
 }
 

@@ -22,6 +22,7 @@ use pct_outside::Gate;
 use std::alloc::{AllocError as NoMemory, Global};
 use std::sync::Wait;
 use std::thread::Threads;
+use worker_run::Serve;
 
 /// The report on a test's run under these priorities.
 fn report_of<R: Threads + Wait + Sync, G: Gate>(
@@ -94,7 +95,7 @@ pub fn report_seed<R: Threads + Wait + Sync, G: Gate>(
     ensures { IfOk result (λ outcome. OfSeed seed depth steps limit report
         (plain_script test.now.script) test.now.deal (printed_of outcome)) }
 {
-    let steps = steps_of(rt, alloc, test, steps, limit, gate)?;
+    let steps = steps_of(rt, alloc, test, steps, limit, Serve::Threads, gate)?;
     let priorities = drawn(alloc, test.deal.threads, seed, steps, depth)?;
     report_of(rt, alloc, report, test, priorities, limit, gate)
 }

@@ -79,7 +79,7 @@ pub fn big_of<R: Threads + Wait + Sync, G: Gate>(
         OfBig pieces (plain_script test.now.script) test.now.deal (printed_of outcome)) }
 {
     let (first, count) = SEEDS;
-    let steps = steps_of(rt, alloc, test, None, LIMIT, gate)?;
+    let steps = steps_of(rt, alloc, test, None, LIMIT, serve, gate)?;
     let rows = campaign_by(
         rt, alloc, &test.code, &test.deal, first, count, DEPTH, steps, LIMIT, serve, gate,
     )?;

@@ -115,7 +115,7 @@ pub fn sweep_of<R: Threads + Wait + Sync, G: Gate>(
     ensures { IfOk result (λ outcome. OfSweep depth steps limit json
         (plain_script test.now.script) test.now.deal (printed_of outcome)) }
 {
-    let steps = steps_of(rt, alloc, test, steps, limit, gate)?;
+    let steps = steps_of(rt, alloc, test, steps, limit, serve, gate)?;
     let frame = Frame {
         threads: test.deal.threads,
         steps,

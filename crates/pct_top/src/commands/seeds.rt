@@ -80,7 +80,7 @@ pub fn report_on<R: Threads + Wait + Sync, G: Gate>(
     ensures { IfOk result (λ outcome. OfCampaign first count depth steps limit json
         (plain_script test.now.script) test.now.deal (printed_of outcome)) }
 {
-    let steps = steps_of(rt, alloc, test, steps, limit, gate)?;
+    let steps = steps_of(rt, alloc, test, steps, limit, serve, gate)?;
     let rows = campaign_by(
         rt, alloc, &test.code, &test.deal, first, count, depth, steps, limit, serve, gate,
     )?;

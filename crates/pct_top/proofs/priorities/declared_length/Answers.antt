@@ -8,13 +8,13 @@ use Rattle.pct_top.specs.Runs.{run_of}
 use Rattle.worker_run.proofs.laws.Orders.{declared_is_order}
 use Rattle.pct_top.proofs.priorities.declared_length.Goals as goal
 
-pub play-requires-clause-order : goal.play-requires-clause-order
-play-requires-clause-order g c κs within =
+pub play_by-requires-clause-order : goal.play_by-requires-clause-order
+play_by-requires-clause-order g c κs within =
     subst IsOrder (sym (c.deref.ensures.value ∙ c.in_ok-order.ensures))
     (declared_is_order c.args.test.now.deal.threads)
 
-pub play-requires-clause-whole : goal.play-requires-clause-whole
-play-requires-clause-whole g c κs within =
+pub play_by-requires-clause-whole : goal.play_by-requires-clause-whole
+play_by-requires-clause-whole g c κs within =
     ap length (c.deref.ensures.value ∙ c.in_ok-order.ensures)
     ∙ length-range_with_len 0 c.args.test.now.deal.threads
 
