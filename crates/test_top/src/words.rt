@@ -144,15 +144,24 @@ fn words_of_a_replay_are_read(rt: HostRuntime) -> Result<(), Fail> {
 
 /// Calls that make many runs, and who is to serve these.
 const SERVED: [(&str, Serve); 8] = [
-    ("campaign s.pct --from 1 --count 2 --depth 3", Serve::Threads),
+    (
+        "campaign s.pct --from 1 --count 2 --depth 3",
+        Serve::Threads,
+    ),
     (
         "campaign s.pct --serve caller --from 1 --count 2 --depth 3",
         Serve::Caller,
     ),
     ("sweep s.pct --depth 2", Serve::Threads),
     ("sweep s.pct --depth 2 --serve caller", Serve::Caller),
-    ("certify s.pct t.txt --steps 8 --serve threads", Serve::Threads),
-    ("certify s.pct t.txt --serve caller --steps 8", Serve::Caller),
+    (
+        "certify s.pct t.txt --steps 8 --serve threads",
+        Serve::Threads,
+    ),
+    (
+        "certify s.pct t.txt --serve caller --steps 8",
+        Serve::Caller,
+    ),
     ("big 3", Serve::Threads),
     ("big 3 --serve caller", Serve::Caller),
 ];
@@ -172,7 +181,10 @@ fn serve_of(read: &Read) -> Option<Serve> {
 fn words_say_who_serves(rt: HostRuntime) -> Result<(), Fail> {
     for (line, serve) in SERVED.iter() {
         let words = words_of(rt.alloc(), line)?;
-        assert_eq!(rt; serve_of(&read_words(rt.alloc(), words.as_slice())), Some(*serve));
+        assert_eq!(rt;
+            serve_of(&read_words(rt.alloc(), words.as_slice())),
+            Some(*serve)
+        );
     }
     Ok(())
 }
