@@ -1,0 +1,32 @@
+ghost use Rattle.std.specs.Prelude.{◌≡◌, ◌≤◌, length, IfOk};
+ghost use Rattle.kit_runs.specs.Deals.{IsSmallDeal};
+
+use pct_ask::{Deal, NumberList, Sequence};
+use std::alloc::{AllocError as NoMemory, Global};
+
+/// What threads share that have variables with these first values, mutexes and conditions, and
+/// nothing else. There are at most 64 of each.
+pub fn small_deal(
+    alloc: Global,
+    threads: u32,
+    vars: &[i64],
+    mutexes: u32,
+    conds: u32,
+) -> Result<Deal, NoMemory>
+    requires some_thread { 1 ≤ threads }
+    requires few_threads { threads ≤ 64 }
+    requires few_vars { length vars.now ≤ 64 }
+    requires few_mutexes { mutexes ≤ 64 }
+    requires few_conds { conds ≤ 64 }
+    ensures { IfOk result (IsSmallDeal threads vars.now mutexes conds) }
+{
+    Ok(Deal {
+        threads,
+        vars: NumberList::from_vec(Vec::from_slice(alloc, vars)?),
+        mutexes,
+        conds,
+        sems: Sequence::new(alloc),
+        barriers: Sequence::new(alloc),
+        rwlocks: 0,
+    })
+}
