@@ -1,0 +1,4 @@
+mod Rounds
+mod Rows
+mod Lasts
+mod Fewer

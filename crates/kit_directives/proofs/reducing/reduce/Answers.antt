@@ -1,0 +1,37 @@
+-- One round more, or none.
+use Rattle.std.proofs.Common.{length, arith, ap}
+use Rattle.kit_directives.specs.Found.{Whole}
+use Rattle.kit_directives.proofs.Rounds.{one-round, some-leaves, none-leaves, some-fewer}
+use Rattle.kit_directives.proofs.reducing.reduce.Goals as goal
+
+pub rounds-init : goal.rounds-init
+rounds-init g c = record {
+  few = c.requires.few_events;
+  leads = c.requires.leads;
+  left = Whole c.args.whole.events;
+}
+
+pub rounds-preserved : goal.rounds-preserved
+rounds-preserved g c =
+    let leaves = some-leaves c.args.deal.now c.args.order.now c.args.limit c.args.verdict.now
+    c.rounds.short.events c.as_slice.result.now c.in_ok-shorter.field-0 c.as_slice.ensures
+    c.in-Some.shorter c.in-Some.is c.in_ok-shorter.ensures.leaves in
+    record {
+      few =
+          (let fewer = some-fewer c.as_slice.result.now c.in_ok-shorter.field-0 c.in-Some.shorter
+          c.in-Some.is c.in_ok-shorter.ensures.fewer in
+          omega (arith, fewer, ap length c.as_slice.ensures, c.rounds.invariant.few));
+      leads = leaves.3;
+      left = one-round c.args.deal.now c.args.order.now c.args.limit c.args.verdict.now
+          c.args.whole.events c.rounds.short.events c.in-Some.shorter leaves
+          c.rounds.invariant.left;
+    }
+
+pub returns : goal.returns
+returns g c = record {
+  left = c.rounds.invariant.left;
+  leads = c.rounds.invariant.leads;
+  needed = none-leaves c.args.deal.now c.args.order.now c.args.limit c.args.verdict.now
+      c.rounds.short.events c.as_slice.result.now c.in_ok-shorter.field-0 c.as_slice.ensures
+      c.in_default.is c.in_ok-shorter.ensures.leaves;
+}

@@ -1,0 +1,15 @@
+use Rattle.std.proofs.Common.{◌≤◌, length}
+use Rattle.kit_directives.specs.Directed.{LeadsTo}
+use Rattle.kit_directives.specs.Found.{IsLeftOf}
+use Rattle.kit_directives.proofs.reducing.reduce.Given as goal
+
+-- what is left so far leads to the verdict
+abbrev pub invariant-rounds : goal.invariant-rounds
+invariant-rounds g l = record {
+  few : length l.short.events ≤ 7;
+  leads : LeadsTo l.deal l.order l.limit l.verdict l.short.events l.short.steps;
+  left : IsLeftOf l.fn.whole.events l.short.events;
+}
+
+abbrev pub decreases-rounds : goal.decreases-rounds
+decreases-rounds g l = length l.short.events

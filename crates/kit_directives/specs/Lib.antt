@@ -1,0 +1,3 @@
+pub mod Directed
+pub mod Found
+pub mod Certified

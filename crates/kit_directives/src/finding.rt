@@ -1,0 +1,157 @@
+// A short directive from a failing run.
+ghost use Rattle.std.specs.Prelude.{◌≡◌, ◌≢◌, ◌≤◌, ◌<◌, ◌^◌, length, IfOk, All};
+ghost use Rattle.pct_ask.specs.declared.verdict.Verdict.TheVariants.{Passed};
+ghost use Rattle.turn_book.specs.Posts.{schedule_of};
+ghost use Rattle.choices.specs.Moments.{moments_of};
+ghost use Rattle.choices.specs.Orders.{EndsIn};
+ghost use Rattle.kit_runs.specs.Runs.{IsFileOf};
+ghost use Rattle.kit_directives.specs.Directed.{LeadsTo};
+ghost use Rattle.kit_directives.specs.Found.{Finds};
+
+use crate::reducing::{Short, reduce, steps_to};
+use choices::moments_of;
+use directive::Directive;
+use kit_runs::{Program, RunError, run_program};
+use pct_ask::{Deal, Verdict};
+use std::alloc::Global;
+use std::sync::Wait;
+use std::thread::Threads;
+use trace_text::{Header, TraceFile};
+
+/// What a run comes to.
+#[derive(Debug, Drop)]
+pub enum Found {
+    /// The directive leads to the run's verdict under its order, each of its moments is needed, and
+    /// its run has this number of steps.
+    Fails { directive: Directive, steps: u32 },
+    /// The run passes, after this number of steps.
+    Passes { steps: u32 },
+}
+
+/// The last thread of an order.
+fn last_of(order: &[u32]) -> Result<u32, RunError>
+    ensures { IfOk result (EndsIn order.now) }
+{
+    match order.last().copied() {
+        Some(low) => Ok(low),
+        None => Err(RunError::NotAnOrder),
+    }
+}
+
+/// The moments of a run's points, where the run by them has its verdict.
+fn whole_moments<R: Threads + Wait + Sync, T: Program + Sync>(
+    rt: &R,
+    alloc: Global,
+    deal: &Deal,
+    order: &[u32],
+    points: &[u32],
+    limit: u32,
+    made: &TraceFile,
+    program: &T,
+) -> Result<Short, RunError>
+    requires some_steps { 1 ≤ limit }
+    requires few_steps { limit ≤ 100000 }
+    requires few_points { length points.now ≤ 7 }
+    requires points { All (λ point. 1 ≤ point) points.now }
+    requires few_names { length order.now < 2 ^ 32 }
+    requires fits { T.fits program.now deal.now }
+    ensures moments { IfOk result (λ whole. whole.events
+        ≡ moments_of (schedule_of made.now.events) points.now) }
+    ensures few { IfOk result (λ whole. length whole.events ≤ 7) }
+    ensures leads { IfOk result (λ whole. LeadsTo deal.now order.now limit made.now.verdict
+        whole.events whole.steps) }
+{
+    let events = moments_of(alloc, made.events.as_slice(), points)?;
+    let moments = events.as_slice();
+    let verdict = &made.verdict;
+    match steps_to(rt, alloc, deal, order, moments, limit, verdict, program)? {
+        Some(steps) => Ok(Short { events, steps }),
+        None => Err(RunError::Unsteady),
+    }
+}
+
+/// What a run, which didn't pass, comes to.
+fn shorten<R: Threads + Wait + Sync, T: Program + Sync>(
+    rt: &R,
+    alloc: Global,
+    deal: &Deal,
+    order: &[u32],
+    points: &[u32],
+    limit: u32,
+    made: &TraceFile,
+    program: &T,
+) -> Result<Found, RunError>
+    requires some_steps { 1 ≤ limit }
+    requires few_steps { limit ≤ 100000 }
+    requires few_points { length points.now ≤ 7 }
+    requires points { All (λ point. 1 ≤ point) points.now }
+    requires few_names { length order.now < 2 ^ 32 }
+    requires fits { T.fits program.now deal.now }
+    requires run { IsFileOf deal.now order.now points.now limit made.now }
+    requires fails { made.now.verdict ≢ Passed }
+    ensures { IfOk result (Finds deal.now order.now points.now limit) }
+{
+    let low = last_of(order)?;
+    let whole = whole_moments(rt, alloc, deal, order, points, limit, made, program)?;
+    let short = reduce(rt, alloc, deal, order, whole, limit, &made.verdict, program)?;
+    Ok(Found::Fails {
+        directive: Directive {
+            low,
+            events: short.events,
+            verdict: made.verdict,
+        },
+        steps: short.steps,
+    })
+}
+
+/// What the run by an order, points and a limit comes to.
+fn find_of<R: Threads + Wait + Sync, T: Program + Sync>(
+    rt: &R,
+    alloc: Global,
+    deal: &Deal,
+    order: &[u32],
+    points: &[u32],
+    limit: u32,
+    program: &T,
+) -> Result<Found, RunError>
+    requires some_steps { 1 ≤ limit }
+    requires few_steps { limit ≤ 100000 }
+    requires few_points { length points.now ≤ 7 }
+    requires points { All (λ point. 1 ≤ point) points.now }
+    requires few_names { length order.now < 2 ^ 32 }
+    requires fits { T.fits program.now deal.now }
+    ensures { IfOk result (Finds deal.now order.now points.now limit) }
+{
+    let own = deal.copy(alloc)?;
+    let made = run_program(rt, alloc, own, order, points, limit, program)?;
+    if made.verdict.is(&Verdict::Passed) {
+        let steps = made.events.len() as u32;
+        return Ok(Found::Passes { steps });
+    }
+    let found = shorten(rt, alloc, deal, order, points, limit, &made, program);
+    drop(made);
+    found
+}
+
+/// Runs a program by the order, the points and the limit of a trace. Where the run doesn't pass,
+/// finds few moments by which the order has the same verdict.
+pub fn find<R: Threads + Wait + Sync, T: Program + Sync>(
+    rt: &R,
+    alloc: Global,
+    deal: &Deal,
+    header: &Header,
+    program: &T,
+) -> Result<Found, RunError>
+    requires some_steps { 1 ≤ header.now.limit }
+    requires few_steps { header.now.limit ≤ 100000 }
+    requires few_points { length header.now.points ≤ 7 }
+    requires points { All (λ point. 1 ≤ point) header.now.points }
+    requires few_names { length header.now.order < 2 ^ 32 }
+    requires fits { T.fits program.now deal.now }
+    ensures { IfOk result
+        (Finds deal.now header.now.order header.now.points header.now.limit) }
+{
+    let order = header.order.as_slice();
+    let points = header.points.as_slice();
+    find_of(rt, alloc, deal, order, points, header.limit, program)
+}

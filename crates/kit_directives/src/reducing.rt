@@ -1,0 +1,136 @@
+// Moments without those that a verdict doesn't need.
+ghost use Rattle.std.specs.Prelude.{◌≡◌, ◌≤◌, ◌<◌, ◌^◌, length, remove, IfOk, IfSome, None};
+ghost use Rattle.kit_directives.specs.Directed.{LeadsTo};
+ghost use Rattle.kit_directives.specs.Found.{HasOther, Leaves, IsReduced};
+
+use crate::directed::run_directed;
+use kit_runs::{Program, RunError};
+use pct_ask::{Deal, Verdict};
+use policy_pick::{Moment, MomentList};
+use std::alloc::{AllocError as NoMemory, Global};
+use std::sync::Wait;
+use std::thread::Threads;
+
+/// Moments, and the number of steps of their run.
+#[derive(Debug, Drop)]
+pub struct Short {
+    pub events: MomentList,
+    pub steps: u32,
+}
+
+/// The moments but the one at a place.
+fn without(alloc: Global, events: &[Moment], place: usize) -> Result<MomentList, NoMemory>
+    requires { place < length events.now }
+    ensures { IfOk result (λ rest. rest ≡ remove events.now place) }
+{
+    let mut rest = Vec::from_slice(alloc, events)?;
+    rest.remove(place);
+    Ok(MomentList::from_vec(rest))
+}
+
+/// The number of steps of the moments' run, where it has the verdict.
+pub fn steps_to<R: Threads + Wait + Sync, T: Program + Sync>(
+    rt: &R,
+    alloc: Global,
+    deal: &Deal,
+    order: &[u32],
+    events: &[Moment],
+    limit: u32,
+    verdict: &Verdict,
+    program: &T,
+) -> Result<Option<u32>, RunError>
+    requires some_steps { 1 ≤ limit }
+    requires few_steps { limit ≤ 100000 }
+    requires few_events { length events.now ≤ 7 }
+    requires few_names { length order.now < 2 ^ 32 }
+    requires fits { T.fits program.now deal.now }
+    ensures leads { IfOk result (λ steps. IfSome steps (λ steps.
+        LeadsTo deal.now order.now limit verdict.now events.now steps)) }
+    ensures other { IfOk result (λ steps. steps ≡ None
+        → HasOther deal.now order.now limit verdict.now events.now) }
+{
+    let file = run_directed(rt, alloc, deal, order, events, limit, program)?;
+    if file.verdict.is(verdict) {
+        return Ok(Some(file.events.len() as u32));
+    }
+    Ok(None)
+}
+
+/// Leaves out the first moment without which the run still has the verdict. `None` where each is
+/// needed.
+fn leave_out<R: Threads + Wait + Sync, T: Program + Sync>(
+    rt: &R,
+    alloc: Global,
+    deal: &Deal,
+    order: &[u32],
+    events: &[Moment],
+    limit: u32,
+    verdict: &Verdict,
+    program: &T,
+) -> Result<Option<Short>, RunError>
+    requires some_steps { 1 ≤ limit }
+    requires few_steps { limit ≤ 100000 }
+    requires few_events { length events.now ≤ 7 }
+    requires few_names { length order.now < 2 ^ 32 }
+    requires fits { T.fits program.now deal.now }
+    ensures leaves { IfOk result (Leaves deal.now order.now limit verdict.now events.now) }
+    ensures fewer { IfOk result (λ left.
+        IfSome left (λ short. length short.events < length events.now)) }
+{
+    for place in 0..events.len() {
+        let rest = without(alloc, events, place)?;
+        let led = steps_to(
+            rt,
+            alloc,
+            deal,
+            order,
+            rest.as_slice(),
+            limit,
+            verdict,
+            program,
+        )?;
+        if let Some(steps) = led {
+            return Ok(Some(Short {
+                events: rest,
+                steps,
+            }));
+        }
+    }
+    Ok(None)
+}
+
+/// Leaves out single moments, each time the first that the verdict doesn't need, until each is
+/// needed.
+pub fn reduce<R: Threads + Wait + Sync, T: Program + Sync>(
+    rt: &R,
+    alloc: Global,
+    deal: &Deal,
+    order: &[u32],
+    whole: Short,
+    limit: u32,
+    verdict: &Verdict,
+    program: &T,
+) -> Result<Short, RunError>
+    requires some_steps { 1 ≤ limit }
+    requires few_steps { limit ≤ 100000 }
+    requires few_events { length whole.events ≤ 7 }
+    requires few_names { length order.now < 2 ^ 32 }
+    requires fits { T.fits program.now deal.now }
+    requires leads { LeadsTo deal.now order.now limit verdict.now whole.events whole.steps }
+    ensures { IfOk result (IsReduced deal.now order.now limit verdict.now whole.events) }
+{
+    let mut short = whole;
+    'rounds: while let Some(shorter) = leave_out(
+        rt,
+        alloc,
+        deal,
+        order,
+        short.events.as_slice(),
+        limit,
+        verdict,
+        program,
+    )? {
+        short = shorter;
+    }
+    Ok(short)
+}
