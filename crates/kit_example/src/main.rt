@@ -1,15 +1,16 @@
-//! Tests of one's own, by both ways of the kit. A queue of one place is tried with one condition,
-//! by which it may get stuck, and with two, and so are two threads that count without a lock.
+//! Tests of one's own, by both ways of the kit: a queue of one place is tried with one condition, by
+//! which it may get stuck, and with two.
 #![tactic(auto)]
 
-mod counters;
+mod ports;
 mod tally;
 mod trial;
 mod worker;
 
 use body_kit::{BoxedRun, KitError};
-use counters::loses_a_count;
+use kit_runs::RunError;
 use pct_ask::Verdict;
+use ports::gets_stuck;
 use std::io;
 use tally::Tally;
 use trial::run_seed;
@@ -27,7 +28,7 @@ fn is_stuck(run: &Result<BoxedRun, KitError>) -> bool {
 }
 
 /// Whether that was found, as far as there was memory for the run.
-fn is_found(found: &Result<bool, KitError>) -> bool {
+fn is_found(found: &Result<bool, RunError>) -> bool {
     match found {
         Ok(found) => *found,
         Err(_) => false,
@@ -38,7 +39,7 @@ fn main(rt: HostRuntime) -> io::Result<()> {
     let alloc = rt.alloc();
     let mut faulty = Tally::default();
     let mut mended = Tally::default();
-    let mut counted = Tally::default();
+    let mut by_ports = Tally::default();
     for seed in 0..SEEDS {
         let one = Box::new(alloc, Worker::taker(0, 0))?;
         let other = Box::new(alloc, Worker::taker(0, 0))?;
@@ -50,10 +51,10 @@ fn main(rt: HostRuntime) -> io::Result<()> {
         let last = Box::new(alloc, Worker::putter(0, 1))?;
         let run = run_seed(&rt, alloc, seed, 0, 1, one, other, last);
         mended.note(seed, is_stuck(&run));
-        counted.note(seed, is_found(&loses_a_count(&rt, alloc, seed)));
+        by_ports.note(seed, is_found(&gets_stuck(&rt, alloc, seed, 0, 0)));
     }
     println!(rt; "stuck with one condition: {faulty}")?;
     println!(rt; "stuck with two conditions: {mended}")?;
-    println!(rt; "a count lost: {counted}")?;
+    println!(rt; "stuck with one condition, by ports: {by_ports}")?;
     Ok(())
 }
