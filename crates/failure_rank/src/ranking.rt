@@ -4,6 +4,7 @@ ghost use Rattle.std.specs.Prelude.{◌≡◌, ◌≤◌, List, length, IfOk};
 ghost use Rattle.failure_rank.specs.Groups.{IsRanking};
 ghost use Rattle.failure_rank.specs.Growing.{IsTally};
 ghost use Rattle.failure_rank.specs.declared.group.Group.{Group};
+ghost use Rattle.pct_ask.specs.declared.limits.TheConstants.{MAX_RUNS};
 
 use crate::group::Groups;
 use crate::tally::Tally;
@@ -12,7 +13,7 @@ use std::alloc::{AllocError as NoMemory, Global};
 
 /// Ranks the failures of a campaign.
 pub fn rank(alloc: Global, rows: &RowList) -> Result<Groups, NoMemory>
-    requires { length rows.now ≤ 100000 }
+    requires { length rows.now ≤ MAX_RUNS }
     ensures ranking { IfOk result (IsRanking rows.now) }
     ensures only { IfOk result
         (λ groups. (other : List Group) → IsRanking rows.now other → other ≡ groups) }
@@ -22,7 +23,7 @@ pub fn rank(alloc: Global, rows: &RowList) -> Result<Groups, NoMemory>
 
 /// The rows, counted.
 fn tally_of(alloc: Global, rows: &[Row]) -> Result<Tally, NoMemory>
-    requires { length rows.now ≤ 100000 }
+    requires { length rows.now ≤ MAX_RUNS }
     ensures { IfOk result (IsTally rows.now) }
 {
     let mut tally = Tally::new(alloc);

@@ -7,10 +7,11 @@ use Rattle.lock_order.specs.declared.mutex_set.MutexSet.{MutexSet}
 use Rattle.lock_order.specs.Nestings.{HoldsMutex}
 use Rattle.lock_order.specs.declared.nesting.Nesting.{Nesting}
 use Rattle.lock_order.specs.Chosen.{AreNested, IsWalk, IsRing, AreNestingsOf}
+use Rattle.pct_ask.specs.declared.limits.TheConstants.{MAX_OBJECTS}
 
 -- a mutex is in the set: its bit is 1
 pub record HasMutex (set : MutexSet) (mutex : ℕ) : Type 0 where
-  pub small : mutex < 64
+  pub small : mutex < MAX_OBJECTS
   pub bit : bit_at set.bits mutex ≡ 1
 
 -- the set has the mutexes of which something holds
@@ -26,7 +27,7 @@ pub record AreHeldSets (events : List Event) (sets : List MutexSet) : Type 0 whe
 
 -- for each mutex those that are held where it is taken
 pub record AreNestedSets (events : List Event) (sets : List MutexSet) : Type 0 where
-  pub whole : length sets ≡ 64
+  pub whole : length sets ≡ MAX_OBJECTS
   pub each : (taken : ℕ) (set : MutexSet) → slice_get sets taken ≡ Some set →
       HasThose set (λ held. AreNested events held taken)
 

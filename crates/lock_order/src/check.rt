@@ -2,6 +2,7 @@ ghost use Rattle.std.specs.Prelude.{◌≤◌, ◌↔◌, IsTrue, IfOk, length};
 ghost use Rattle.lock_order.specs.Nestings.{AreEventsInRange};
 ghost use Rattle.lock_order.specs.Good.{IsGood, IsGoodOrder, IsGoodCycle};
 ghost use Rattle.lock_order.specs.MutexSets.{AreHeldSets};
+ghost use Rattle.pct_ask.specs.declared.limits.TheConstants.{MAX_STEPS};
 
 use crate::held::{held_sets, is_nesting};
 use crate::mutex_set::MutexSet;
@@ -20,7 +21,7 @@ pub fn check_report(
     report: &LockReport,
 ) -> Result<bool, NoMemory>
     requires in_range { AreEventsInRange deal.now events.now }
-    requires short { length events.now ≤ 100000 }
+    requires short { length events.now ≤ MAX_STEPS }
     ensures { IfOk result (λ good. IsTrue good ↔ IsGood deal.now.mutexes events.now report.now) }
 {
     let held = held_sets(alloc, events)?;

@@ -11,6 +11,7 @@ ghost use Rattle.lock_order.specs.Chosen.{AreNestingsOf, AreNested, next_in_ring
 ghost use Rattle.lock_order.specs.MutexSets.{HasMutex, HasThose, AreHeldSets, AreNestedSets};
 ghost use Rattle.lock_order.specs.MutexSets.{IsFreeIn};
 ghost use Rattle.lock_order.specs.MutexSets.{IsHeldIn, IsCycleIn};
+ghost use Rattle.pct_ask.specs.declared.limits.TheConstants.{MAX_OBJECTS, MAX_STEPS};
 
 use crate::held::{first_nesting, held_sets};
 use crate::mutex_set::MutexSet;
@@ -23,7 +24,7 @@ use std::alloc::{AllocError as NoMemory, Global};
 /// Whether the mutexes of a run were always taken in one order. Read-write locks play no part.
 pub fn lock_order(alloc: Global, deal: &Deal, events: &[Event]) -> Result<LockReport, NoMemory>
     requires in_range { AreEventsInRange deal.now events.now }
-    requires short { length events.now ≤ 100000 }
+    requires short { length events.now ≤ MAX_STEPS }
     ensures chosen { IfOk result (IsChosen deal.now.mutexes events.now) }
     // There is one such report.
     ensures only { (one other : LockReport) → IsChosen deal.now.mutexes events.now one →
@@ -70,7 +71,7 @@ fn take_out(
     mutexes: u32,
     nested: &[MutexSet; 64],
 ) -> Result<(Vec<u32>, MutexSet), NoMemory>
-    requires few_mutexes { mutexes ≤ 64 }
+    requires few_mutexes { mutexes ≤ MAX_OBJECTS }
     ensures taken_out { IfOk result (λ r. (events : List Event) →
         AreNestedSets events nested.now → AreTakenOut mutexes events r.0.items) }
     ensures remaining { IfOk result (λ r. HasThose r.1 (Remains mutexes r.0.items)) }
@@ -94,7 +95,7 @@ fn cycle(
     remaining: MutexSet,
     first: u32,
 ) -> Result<NestingList, NoMemory>
-    requires short { length events.now ≤ 100000 }
+    requires short { length events.now ≤ MAX_STEPS }
     requires held { AreHeldSets events.now held.now }
     requires nested { AreNestedSets events.now nested.now }
     requires first { IsLowest (HasMutex remaining) first }
@@ -190,7 +191,7 @@ fn nestings_of(
     held: &[MutexSet],
     ring: &[u32],
 ) -> Result<NestingList, NoMemory>
-    requires short { length events.now ≤ 100000 }
+    requires short { length events.now ≤ MAX_STEPS }
     requires held { AreHeldSets events.now held.now }
     requires nested { (place : ℕ) → place < length ring.now →
         AreNested events.now (slice_index ring.now place) (next_in_ring ring.now place) }

@@ -2,6 +2,7 @@ ghost use Rattle.std.specs.Prelude.{◌≡◌, ℕ, ◌<◌, ◌≤◌, ◌↔�
 ghost use Rattle.lock_order.specs.Nestings.{TakesBy, LetsGoBy, AreOfSomeDeal, IsNesting};
 ghost use Rattle.lock_order.specs.Chosen.{AreNested, IsFirstOfPair};
 ghost use Rattle.lock_order.specs.MutexSets.{HasMutex, HasThose, AreHeldSets};
+ghost use Rattle.pct_ask.specs.declared.limits.TheConstants.{MAX_OBJECTS, MAX_STEPS};
 
 use crate::mutex_set::MutexSet;
 use crate::nesting::Nesting;
@@ -39,7 +40,8 @@ fn let_go(event: &Event) -> Option<u32>
 /// The mutexes that the event's thread holds after its step, by those that it held before.
 fn after(held: MutexSet, event: &Event) -> MutexSet
     requires { (mutex : ℕ) →
-        TakesBy event.now.ask event.now.answer mutex ⊎ LetsGoBy event.now.ask mutex → mutex < 64 }
+        TakesBy event.now.ask event.now.answer mutex ⊎ LetsGoBy event.now.ask mutex
+        → mutex < MAX_OBJECTS }
     ensures { HasThose result (λ mutex. TakesBy event.now.ask event.now.answer mutex ⊎
         ((¬ LetsGoBy event.now.ask mutex) × HasMutex held mutex)) }
 {
@@ -70,7 +72,7 @@ pub fn held_sets(alloc: Global, events: &[Event]) -> Result<Vec<MutexSet>, NoMem
 
 /// The nesting of least step of the pair.
 pub fn first_nesting(events: &[Event], sets: &[MutexSet], held: u32, mutex: u32) -> Nesting
-    requires short { length events.now ≤ 100000 }
+    requires short { length events.now ≤ MAX_STEPS }
     requires sets { AreHeldSets events.now sets.now }
     requires nested { AreNested events.now held mutex }
     ensures { IsFirstOfPair events.now held mutex result }

@@ -1,6 +1,7 @@
 ghost use Rattle.std.specs.Prelude.{◌≡◌, ℕ, ◌<◌, ◌≤◌, ◌↔◌, ◌⊎◌, ◌≢◌, IsTrue, MatchOption};
 ghost use Rattle.lock_order.specs.MutexSets.{HasMutex, HasThose};
 ghost use Rattle.lock_order.specs.Chosen.{IsLowest};
+ghost use Rattle.pct_ask.specs.declared.limits.TheConstants.{MAX_OBJECTS};
 
 /// Some of a test's mutexes, of which there are at most 64.
 #[derive(Clone, Copy, Debug)]
@@ -13,7 +14,7 @@ impl MutexSet {
 
     /// The mutexes before this one.
     pub fn before(count: u32) -> Self
-        requires { count ≤ 64 }
+        requires { count ≤ MAX_OBJECTS }
         ensures { HasThose result (λ mutex. mutex < count) }
     {
         let mut set = Self::EMPTY;
@@ -30,7 +31,7 @@ impl MutexSet {
     }
 
     pub fn with(self, mutex: u32) -> Self
-        requires { mutex < 64 }
+        requires { mutex < MAX_OBJECTS }
         ensures { HasThose result (λ other. (other ≡ mutex) ⊎ HasMutex self other) }
     {
         MutexSet {
@@ -39,7 +40,7 @@ impl MutexSet {
     }
 
     pub fn without(self, mutex: u32) -> Self
-        requires { mutex < 64 }
+        requires { mutex < MAX_OBJECTS }
         ensures rest { HasThose result (λ other. (other ≢ mutex) × HasMutex self other) }
         ensures less { HasMutex self mutex → result.bits < self.bits }
     {

@@ -15,6 +15,8 @@ pub mod Names
 pub mod NameParts
 -- `==` on verdicts is equality
 pub mod SameVerdicts
+-- `==` on steps is equality
+pub mod SameEvents
 -- threads that rise from a least one on
 pub mod RisingPlaces
 -- a number's canonical decimal is read as the number where it is in range, and nothing else is

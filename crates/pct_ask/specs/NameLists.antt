@@ -6,6 +6,7 @@ use Rattle.pct_ask.specs.Words.{is_name, is_among}
 use Rattle.pct_ask.specs.declared.names.NameKind.{NameKind}
 use Rattle.pct_ask.specs.declared.names.NameKind.TheVariants.{Thread, Var, Mutex, Cond, Sem}
 use Rattle.pct_ask.specs.declared.names.NameKind.TheVariants.{Barrier, RwLock}
+use Rattle.pct_ask.specs.declared.limits.TheConstants.{MAX_OBJECTS}
 
 -- the names of each kind, in the order of their places
 pub record NameLists : Type 0 where
@@ -66,8 +67,9 @@ AreDistinct [] = Unit {0}
 AreDistinct (name ∷ names) = (is_among name names ≡ false) × AreDistinct names
 
 -- What holds of the names of every test: each is a lawful name by the first version's keywords,
--- none stands twice, also not under two kinds, and there are at most 64 of each kind.
+-- none stands twice, also not under two kinds, and there are no more of one kind, also of threads,
+-- than a test has objects of one kind.
 pub record AreNames (names : NameLists) : Type 0 where
   pub lawful : All (λ name. is_name 1 name ≡ true) (all_names names)
   pub distinct : AreDistinct (all_names names)
-  pub few : (kind : NameKind) → length (list_of kind names) ≤ 64
+  pub few : (kind : NameKind) → length (list_of kind names) ≤ MAX_OBJECTS

@@ -5,6 +5,7 @@ use Rattle.std.specs.Fmt.{signed_decimal}
 use Rattle.std.specs.Option.{option_map}
 use Rattle.std.specs.Str.{bytes_eq}
 use Rattle.std.specs.Str.Parse.{digits_value}
+use Rattle.pct_ask.specs.declared.limits.TheConstants.{MAX_STEPS}
 
 -- The canonical decimal of a number: `0`, or digits with no leading zero, with a `-` before them
 -- where it is negative (this project).
@@ -38,7 +39,7 @@ all_of says (word ∷ words) = onto_front (says word) (all_of says words)
 
 -- a number of steps, 1 to 100000: a limit, a count, or the step of a change point or of a moment
 abbrev pub step_count : List ℕ → Option ℕ
-step_count word = number_in 1 100000 word
+step_count word = number_in 1 MAX_STEPS word
 
 -- what each word is, where each is a number of steps
 abbrev pub step_counts : List (List ℕ) → Option (List ℕ)

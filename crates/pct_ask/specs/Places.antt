@@ -4,11 +4,12 @@ use Rattle.std.specs.Prelude.{if◌then◌else◌, Option, Some, None, List, [],
 use Rattle.std.specs.Prelude.{zero, suc}
 use Rattle.std.specs.List.Sorted.{IsStrictlyIncreasing}
 use Rattle.std.specs.Cmp.Lexicographic.{pointwise}
+use Rattle.pct_ask.specs.declared.limits.TheConstants.{MAX_THREADS}
 
 -- in rising order of threads, which are at most 64
 pub record AreRising (places : List (ℕ × ℕ)) : Type 0 where
   pub rising : IsStrictlyIncreasing (map (λ place. place.0) places)
-  pub few : All (λ place. place.0 < 64) places
+  pub few : All (λ place. place.0 < MAX_THREADS) places
 
 -- a thread's line
 abbrev pub line_of_thread : ℕ → List (ℕ × ℕ) → Option ℕ

@@ -14,6 +14,7 @@ use Rattle.pct_ask.specs.declared.verdict.MisuseKind.TheVariants.{TooManyReads}
 use Rattle.pct_ask.specs.declared.verdict.Verdict.{Verdict}
 use Rattle.pct_ask.specs.declared.verdict.Verdict.TheVariants.{Passed, Failed, Stuck, Misuse, Fault}
 use Rattle.pct_ask.specs.declared.verdict.Verdict.TheVariants.{Cut}
+use Rattle.pct_ask.specs.declared.limits.TheConstants.{MAX_LINES}
 
 -- a verdict whose threads are given by their names
 pub data NamedVerdict : Type 0 where
@@ -77,7 +78,7 @@ verdict_text names verdict = named_text (named_verdict names verdict)
 
 -- a line number that a test may have
 abbrev pub IsLine : ℕ → Type 0
-IsLine line = (1 ≤ line) × (line ≤ 4096)
+IsLine line = (1 ≤ line) × (line ≤ MAX_LINES)
 
 -- a lawful name by the first version's keywords, and a line of a test
 abbrev pub IsPlace : List ℕ × ℕ → Type 0

@@ -20,6 +20,7 @@ use Rattle.pct_ask.specs.declared.verdict_text.VerdictRead.{VerdictRead}
 use Rattle.pct_ask.specs.declared.verdict_text.VerdictRead.TheVariants.{Is, NoForm, UnknownName}
 use Rattle.pct_ask.specs.declared.verdict_words.PlacedKind.{PlacedKind}
 use Rattle.pct_ask.specs.declared.verdict_words.PlacedKind.TheVariants.{Failure, Misused, Faulted}
+use Rattle.pct_ask.specs.declared.limits.TheConstants.{MAX_LINES}
 
 -- what stands between single spaces
 abbrev pub words_of : List ℕ → List (List ℕ)
@@ -37,7 +38,7 @@ length_with_space (Some rest) = length rest.now + 1
 
 -- the line of a test that a word spells
 abbrev pub line_number : List ℕ → Option ℕ
-line_number word = number_in 1 4096 word
+line_number word = number_in 1 MAX_LINES word
 
 -- a place and the words after it, where its name is lawful and its line is a test's; its name may
 -- be no thread's

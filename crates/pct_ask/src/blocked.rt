@@ -5,6 +5,7 @@ ghost use Rattle.std.proofs.Common.{ap};
 ghost use Rattle.pct_ask.specs.Places.{AreRising, line_of_thread, same_places};
 ghost use Rattle.pct_ask.specs.Places.{lines_from, line_bits, line_numbers};
 ghost use Rattle.pct_ask.specs.PlaceLaws.{same_places-Decides, same_places-equivalence};
+ghost use Rattle.pct_ask.specs.declared.limits.TheConstants.{MAX_THREADS};
 
 use std::hash::{Hash, Hasher};
 use std::marker::Model;
@@ -85,7 +86,7 @@ impl Blocked {
 
     /// Adds a thread above those that are there.
     pub fn push(&mut self, thread: u32, line: u32)
-        requires few { thread < 64 }
+        requires few { thread < MAX_THREADS }
         requires above { All (λ place. place.0 < thread) self.old }
         ensures { self.new ≡ self.old ++ (thread, line) ∷ [] }
     {

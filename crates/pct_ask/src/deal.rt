@@ -1,5 +1,6 @@
 ghost use Rattle.std.specs.Prelude.{◌≡◌, ◌≤◌, length, All, IfOk};
 ghost use Rattle.pct_ask.specs.Ranges.{IsSemValue, IsBarrierCount};
+ghost use Rattle.pct_ask.specs.declared.limits.TheConstants.{MAX_OBJECTS, MAX_THREADS};
 
 use crate::sequence::NumberList;
 use std::alloc::{AllocError as NoMemory, Global};
@@ -19,13 +20,13 @@ pub struct Deal {
     pub barriers: NumberList,
     pub rwlocks: u32,
     ghost some_thread: { 1 ≤ threads },
-    ghost few_threads: { threads ≤ 64 },
-    ghost few_vars: { length vars ≤ 64 },
-    ghost few_mutexes: { mutexes ≤ 64 },
-    ghost few_conds: { conds ≤ 64 },
-    ghost few_sems: { length sems ≤ 64 },
-    ghost few_barriers: { length barriers ≤ 64 },
-    ghost few_rwlocks: { rwlocks ≤ 64 },
+    ghost few_threads: { threads ≤ MAX_THREADS },
+    ghost few_vars: { length vars ≤ MAX_OBJECTS },
+    ghost few_mutexes: { mutexes ≤ MAX_OBJECTS },
+    ghost few_conds: { conds ≤ MAX_OBJECTS },
+    ghost few_sems: { length sems ≤ MAX_OBJECTS },
+    ghost few_barriers: { length barriers ≤ MAX_OBJECTS },
+    ghost few_rwlocks: { rwlocks ≤ MAX_OBJECTS },
     ghost sem_values: { All IsSemValue sems },
     ghost barrier_counts: { All IsBarrierCount barriers },
 }

@@ -1,3 +1,5 @@
+ghost use Rattle.std.specs.Prelude.{◌≡◌, ◌↔◌, IsTrue};
+
 use crate::ask::Ask;
 use crate::sequence::Sequence;
 use crate::verdict::Verdict;
@@ -10,6 +12,15 @@ pub struct Event {
     pub line: u32,
     pub ask: Ask,
     pub answer: i64,
+}
+
+impl Event {
+    /// Whether two steps are the same: thread, line, ask and answer. So is `==`.
+    pub fn is(&self, other: &Event) -> bool
+        ensures { IsTrue result ↔ (self.now ≡ other.now) }
+    {
+        self == other
+    }
 }
 
 /// What is known of a thread's next post.

@@ -1,12 +1,13 @@
 //! The types of asks, posts, events and verdicts, of what threads share (`Deal`) and of their code
-//! (`Body`); names, numbers, lines and the texts of verdicts; `Sequence`, the list type.
+//! (`Body`); how large a test may be; names, numbers, lines and the texts of verdicts; `Sequence`,
+//! the list type.
 //!
 //! What is proved, by call and clause; in parentheses the definitions:
 //!
 //! - A body goes on by its answers: `Body::post`; `Body::answer` (`pending`).
 //! - A list is its items, a copy is equal, a refused push changes nothing: `Sequence::new`;
-//!   `Sequence::from_vec`; `Sequence::len`; `Sequence::get`; `Sequence::as_slice`;
-//!   `Sequence::try_push`: `ok`, `err`; `Sequence::copy`; `Deal::copy`.
+//!   `Sequence::from_vec`; `Sequence::into_vec`; `Sequence::len`; `Sequence::get`;
+//!   `Sequence::as_slice`; `Sequence::try_push`: `ok`, `err`; `Sequence::copy`; `Deal::copy`.
 //! - An ask names only what a deal has, exactly where the deal says so: `Deal::has_objects_of`
 //!   (`IsInRange`).
 //! - Names have one place each among their kind and are lawful; a name is found exactly where it is
@@ -25,6 +26,10 @@
 //! - Blocked threads stand in rising order, each with its line, also as bits and lines; verdicts
 //!   and outcomes are compared whole: `Blocked::new`; `Blocked::push`; `Blocked::get`: `line`,
 //!   `rising`; `Blocked::numbers`: `bits`, `lines`; `Verdict::is`; `Outcome::is`.
+//! - Two steps are the same exactly where thread, line, ask and answer are: `Event::is`.
+//! - A limit is in 1..=`MAX_STEPS`, a depth in 1..=`MAX_DEPTH`, one more than its change points:
+//!   `Limit::new`; `Limit::steps`: `number`, `fits`; `Depth::new`; `Depth::points`: `number`, `few`
+//!   (`IsStepCount`, `IsDepth`).
 //! - A verdict's text is written as defined and read back; it has no form exactly where it is no
 //!   verdict's text by form, and an unknown name where one of its names is no thread's:
 //!   `write_verdict`: `written`, `read_back`, `unchanged`; `read_verdict`: `read`, `only`
@@ -39,6 +44,7 @@ mod blocked;
 mod body;
 mod deal;
 mod event;
+mod limits;
 mod line;
 mod names;
 mod number;
@@ -56,6 +62,10 @@ pub use blocked::Blocked;
 pub use body::Body;
 pub use deal::Deal;
 pub use event::{Event, EventList, Row, RowList, Standing};
+pub use limits::{
+    Depth, Limit, MAX_CERTIFIED_THREADS, MAX_DEPTH, MAX_LINES, MAX_OBJECTS, MAX_POINTS, MAX_RUNS,
+    MAX_STEPS, MAX_THREADS,
+};
 pub use line::{Lines, split_lines};
 pub use names::{NameKind, Names};
 pub use number::{number_in, read_number, step_count, step_counts, write_number};

@@ -3,6 +3,7 @@ ghost use Rattle.std.specs.Prelude.{false, true};
 ghost use Rattle.pct_ask.specs.Words.{is_name, is_among};
 ghost use Rattle.pct_ask.specs.NameLists.{no_names, list_of, with_name, all_names, place_of};
 ghost use Rattle.pct_ask.specs.NameLists.{AreNames};
+ghost use Rattle.pct_ask.specs.declared.limits.TheConstants.{MAX_OBJECTS};
 
 use crate::sequence::Sequence;
 use std::alloc::{AllocError as NoMemory, Global};
@@ -83,7 +84,7 @@ impl Names {
     pub fn add(&mut self, alloc: Global, kind: NameKind, name: &[u8]) -> Result<u32, NoMemory>
         requires lawful { is_name 1 name.now ≡ true }
         requires fresh { is_among name.now (all_names self.old) ≡ false }
-        requires room { length (list_of kind self.old) < 64 }
+        requires room { length (list_of kind self.old) < MAX_OBJECTS }
         ensures place { IfOk result (λ place. place ≡ length (list_of kind self.old)) }
         ensures added { OnOk result (self.new ≡ with_name kind name.now self.old) }
         ensures unchanged { OnErr result (self.new ≡ self.old) }

@@ -5,6 +5,7 @@ ghost use Rattle.pct_ask.specs.Numbers as numbers;
 ghost use Rattle.pct_ask.specs.Numbers.{number_text};
 ghost use Rattle.pct_ask.specs.Pieces.{seen};
 
+use crate::limits::MAX_STEPS;
 use crate::sequence::PointList;
 use itoa::Buffer;
 use std::alloc::{AllocError as NoMemory, Global};
@@ -57,7 +58,7 @@ pub fn number_in(low: u64, high: u64, text: &[u8]) -> Option<u64>
 pub fn step_count(word: &[u8]) -> Option<u32>
     ensures { result ≡ numbers.step_count word.now }
 {
-    let count = number_in(1, 100_000, word)?;
+    let count = number_in(1, u64::from(MAX_STEPS), word)?;
     Some(count as u32)
 }
 

@@ -7,9 +7,11 @@ ghost use Rattle.pct_ask.specs.VerdictWords.{words_of, words_after, length_with_
 ghost use Rattle.pct_ask.specs.VerdictWords.{first_place, misuse_kind, fault_kind};
 ghost use Rattle.pct_ask.specs.VerdictWords.{placed_kind, verdict_at, placed_words, stuck_words};
 ghost use Rattle.pct_ask.specs.VerdictWords.{bare_word, verdict_of_words};
+ghost use Rattle.pct_ask.specs.declared.limits.TheConstants.{MAX_THREADS};
 
 use crate::ask::FaultKind;
 use crate::blocked::Blocked;
+use crate::limits::MAX_LINES;
 use crate::names::{NameKind, Names};
 use crate::number::number_in;
 use crate::verdict::{MisuseKind, Verdict};
@@ -193,7 +195,7 @@ fn read_stuck(text: &[u8], names: &Names) -> VerdictRead
 fn read_place<'a>(text: &'a [u8], names: &Names) -> Option<PlaceRead<'a>>
     ensures place { MatchOption result (first_place names.now (words_of text.now) ≡ None) (λ p.
         first_place names.now (words_of text.now) ≡ Some (p.thread, p.line, words_after p.rest)) }
-    ensures few { IfSome result (λ p. IfSome p.thread (λ thread. thread < 64)) }
+    ensures few { IfSome result (λ p. IfSome p.thread (λ thread. thread < MAX_THREADS)) }
     ensures shorter { IfSome result (λ p. length_with_space p.rest ≤ length text.now) }
 {
     let (name, after) = cut_word(text);
@@ -210,7 +212,7 @@ fn read_place<'a>(text: &'a [u8], names: &Names) -> Option<PlaceRead<'a>>
 pub fn line_number(word: &[u8]) -> Option<u32>
     ensures { result ≡ line_number word.now }
 {
-    let number = number_in(1, 4096, word)?;
+    let number = number_in(1, u64::from(MAX_LINES), word)?;
     Some(number as u32)
 }
 

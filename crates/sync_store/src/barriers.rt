@@ -2,6 +2,7 @@ ghost use Rattle.std.specs.Prelude.{◌≡◌, ◌<◌, pos, if◌then◌else◌
 ghost use Rattle.sync_store.specs.Store.{new_barrier, barrier_of, with_barrier};
 ghost use Rattle.sync_store.specs.Enabled.{is_released};
 ghost use Rattle.sync_store.specs.Effect.{after_arrival, after_leaving, is_serial};
+ghost use Rattle.pct_ask.specs.declared.limits.TheConstants.{MAX_THREADS};
 
 use crate::applied::Stepped;
 use crate::release_list::ReleaseList;
@@ -50,7 +51,7 @@ impl Barrier {
     }
 
     pub(crate) fn has_released(&self, thread: u32) -> bool
-        requires { thread < 64 }
+        requires { thread < MAX_THREADS }
         ensures { result ≡ is_released thread self.now.released }
     {
         self.released.has(thread)
@@ -58,7 +59,7 @@ impl Barrier {
 
     /// The thread arrives. Where it is the last of those that meet, they are all let through.
     pub(crate) fn arrive(&mut self, thread: u32)
-        requires { thread < 64 }
+        requires { thread < MAX_THREADS }
         ensures { self.new ≡ after_arrival thread self.old }
     {
         self.arrived.add(thread);
@@ -70,7 +71,7 @@ impl Barrier {
 
     /// The thread that was let through leaves. The answer is whether it was the serial one.
     pub(crate) fn leave(&mut self, thread: u32) -> bool
-        requires { thread < 64 }
+        requires { thread < MAX_THREADS }
         ensures left { self.new ≡ after_leaving thread self.old }
         ensures serial { result ≡ is_serial thread self.old.released }
     {

@@ -5,6 +5,7 @@ ghost use Rattle.sync_store.specs.Effect.{put_last, list_without, put_all_last, 
 ghost use Rattle.sync_store.specs.Effect.{effect, store_after};
 ghost use Rattle.sync_store.specs.Effect.{applied_of};
 ghost use Rattle.sync_store.specs.Stepped.{applied_by};
+ghost use Rattle.pct_ask.specs.declared.limits.TheConstants.{MAX_THREADS};
 
 use crate::applied::{Stepped, not_owner};
 use crate::store::Store;
@@ -49,7 +50,7 @@ impl Condition {
     }
 
     pub(crate) fn has_woken(&self, thread: u32) -> bool
-        requires { thread < 64 }
+        requires { thread < MAX_THREADS }
         ensures { result ≡ is_on thread self.now.woken }
     {
         self.woken.has(thread)
@@ -57,7 +58,7 @@ impl Condition {
 
     /// The thread waits for a signal.
     pub(crate) fn wait(&mut self, thread: u32)
-        requires { thread < 64 }
+        requires { thread < MAX_THREADS }
         ensures { self.new ≡ record self.old { waiting = put_last thread self.old.waiting } }
     {
         self.waiting.add(thread);
@@ -65,7 +66,7 @@ impl Condition {
 
     /// The woken thread goes on.
     pub(crate) fn go_on(&mut self, thread: u32)
-        requires { thread < 64 }
+        requires { thread < MAX_THREADS }
         ensures { self.new ≡ record self.old { woken = list_without thread self.old.woken } }
     {
         self.woken.leave(thread);
@@ -90,7 +91,7 @@ impl Condition {
         ensures woken { self.new
             ≡ record { waiting = []; woken = put_all_last self.old.waiting self.old.woken } }
         ensures count { result ≡ length self.old.waiting }
-        ensures few { result ≤ 64 }
+        ensures few { result ≤ MAX_THREADS }
     {
         let count = self.waiting.len();
         self.waiting.move_to(&mut self.woken);

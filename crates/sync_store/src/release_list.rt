@@ -2,7 +2,8 @@ ghost use Rattle.std.specs.Prelude.{◌≡◌, ◌<◌, [], IfOk, not, ◌==◌,
 ghost use Rattle.sync_store.specs.Enabled.{is_released};
 ghost use Rattle.sync_store.specs.Effect.{let_through, all_through, is_serial};
 
-use crate::thread_list::{MAX_THREADS, ThreadList};
+use crate::thread_list::ThreadList;
+use pct_ask::MAX_THREADS;
 use std::alloc::{AllocError as NoMemory, Global};
 use std::marker::Model;
 
@@ -36,7 +37,7 @@ impl ReleaseList {
     }
 
     pub(crate) fn has(&self, thread: u32) -> bool
-        requires { thread < 64 }
+        requires { thread < MAX_THREADS }
         ensures { result ≡ is_released thread self.now }
     {
         self.threads.has(thread)
@@ -44,7 +45,7 @@ impl ReleaseList {
 
     /// Whether a thread is on the list as the serial one.
     pub(crate) fn has_serial(&self, thread: u32) -> bool
-        requires { thread < 64 }
+        requires { thread < MAX_THREADS }
         ensures { result ≡ is_serial thread self.now }
     {
         self.threads.has(thread) && self.serial[thread as usize]
@@ -52,7 +53,7 @@ impl ReleaseList {
 
     /// The thread goes last, unless the list has it.
     pub(crate) fn add(&mut self, thread: u32, serial: bool)
-        requires { thread < 64 }
+        requires { thread < MAX_THREADS }
         ensures { self.new ≡ let_through thread serial self.old }
     {
         if !self.threads.has(thread) {
@@ -63,7 +64,7 @@ impl ReleaseList {
 
     /// All these threads go last, in order. The one that arrived last is the serial one.
     pub(crate) fn add_all(&mut self, arrived: &[u32], last: u32)
-        requires { All (λ t. t < 64) arrived.now }
+        requires { All (λ t. t < MAX_THREADS) arrived.now }
         ensures { self.new ≡ all_through last arrived.now self.old }
     {
         for thread in arrived {
@@ -72,7 +73,7 @@ impl ReleaseList {
     }
 
     pub(crate) fn leave(&mut self, thread: u32)
-        requires { thread < 64 }
+        requires { thread < MAX_THREADS }
         ensures { self.new ≡ filter (λ release. not (thread == release.thread)) self.old }
     {
         self.threads.leave(thread);

@@ -2,11 +2,9 @@ ghost use Rattle.std.specs.Prelude.{◌≡◌, ◌<◌, ◌≤◌, [], ◌∷◌
 ghost use Rattle.sync_store.specs.Store.{is_on};
 ghost use Rattle.sync_store.specs.Effect.{put_last, list_without, put_all_last};
 
+use pct_ask::MAX_THREADS;
 use std::alloc::{AllocError as NoMemory, Global};
 use std::marker::Model;
-
-/// How many threads a test may have.
-pub(crate) const MAX_THREADS: usize = 64;
 
 /// Threads in the order in which they came, each once. It has room for all threads of a test.
 #[derive(Drop)]
@@ -39,20 +37,20 @@ impl ThreadList {
 
     pub(crate) fn len(&self) -> usize
         ensures len { result ≡ length self.now }
-        ensures few { result ≤ 64 }
+        ensures few { result ≤ MAX_THREADS }
     {
         self.threads.len()
     }
 
     pub(crate) fn as_slice(&self) -> &[u32]
         ensures items { result.now ≡ self.now }
-        ensures below { All (λ t. t < 64) result.now }
+        ensures below { All (λ t. t < MAX_THREADS) result.now }
     {
         self.threads.as_slice()
     }
 
     pub(crate) fn has(&self, thread: u32) -> bool
-        requires { thread < 64 }
+        requires { thread < MAX_THREADS }
         ensures { result ≡ is_on thread self.now }
     {
         self.present[thread as usize]
@@ -60,7 +58,7 @@ impl ThreadList {
 
     /// The thread goes last, unless the list has it.
     pub(crate) fn add(&mut self, thread: u32)
-        requires { thread < 64 }
+        requires { thread < MAX_THREADS }
         ensures { self.new ≡ put_last thread self.old }
     {
         if !self.present[thread as usize] {
@@ -71,7 +69,7 @@ impl ThreadList {
 
     pub(crate) fn take_first(&mut self) -> Option<u32>
         ensures { MatchOption result ((self.old ≡ []) × (self.new ≡ []))
-            (λ first. (self.old ≡ first ∷ self.new) × (first < 64)) }
+            (λ first. (self.old ≡ first ∷ self.new) × (first < MAX_THREADS)) }
     {
         if self.threads.is_empty() {
             return None;
@@ -82,7 +80,7 @@ impl ThreadList {
     }
 
     pub(crate) fn leave(&mut self, thread: u32)
-        requires { thread < 64 }
+        requires { thread < MAX_THREADS }
         ensures { self.new ≡ list_without thread self.old }
     {
         self.present[thread as usize] = false;

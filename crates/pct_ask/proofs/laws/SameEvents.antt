@@ -79,12 +79,21 @@ ask-Decides (RwUnlock x) (RwUnlock u) =
     Decides-like (x == u) (λ e. ap (λ n. RwUnlock n) e) (λ e. cc) (unsigned_Decides x u)
 ask-Decides a b = (λ h. cc, λ h. cc)
 
+-- thread, line, ask and answer of two steps are equal
+abbrev SameParts : Event → Event → Type 0
+SameParts a b =
+    (a.thread ≡ b.thread) × ((a.line ≡ b.line) × ((a.ask ≡ b.ask) × (a.answer ≡ b.answer)))
+
 pub event-Decides : (a b : Event) → Decides ((event_eq.ghosts).eq a b) (a ≡ b)
 event-Decides a b =
     let asks = (ask_eq.ghosts).eq a.ask b.ask in
     Decides-like (a.thread == b.thread && (a.line == b.line && (asks && int_eq a.answer b.answer)))
-    (λ (e : (a.thread ≡ b.thread) × ((a.line ≡ b.line) × ((a.ask ≡ b.ask) × (a.answer ≡ b.answer)))).
-    λ j. record { thread = e.0 j; line = e.1.0 j; ask = e.1.1.0 j; answer = e.1.1.1 j })
+    (λ (e : SameParts a b). λ j. record {
+      thread = e.0 j;
+      line = e.1.0 j;
+      ask = e.1.1.0 j;
+      answer = e.1.1.1 j;
+    })
     (λ e. (
       ap (λ (x : Event). x.thread) e,
       (
