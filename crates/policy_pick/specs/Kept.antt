@@ -5,6 +5,7 @@ use Rattle.rank_now.specs.declared.moment.Moment.{Moment}
 use Rattle.rank_now.specs.Order.{IsOrder}
 use Rattle.rank_now.specs.Rank.{ranks, ranks_by_events, threads_of}
 use Rattle.policy_pick.specs.Plan.{Plan, ByPoints, ByEvents, ByList}
+use Rattle.pct_ask.specs.declared.limits.TheConstants.{MAX_POINTS, MAX_THREADS}
 
 -- of a `Pct`: its order and points, how many steps were taken, and each thread's value
 pub record PointsKept : Type 0 where
@@ -60,7 +61,7 @@ ListStands kept schedule = kept.taken ≡ length schedule
 -- what a policy that goes by rank keeps true: `count` values to give, one for each of its changes
 pub record FitsOrder (order values : List ℕ) (count changes : ℕ) : Type 0 where
   pub is_order : IsOrder order
-  pub few_threads : length order ≤ 64
-  pub few_changes : changes ≤ 7
+  pub few_threads : length order ≤ MAX_THREADS
+  pub few_changes : changes ≤ MAX_POINTS
   pub as_many : count ≡ changes
   pub threads : length values ≡ length order

@@ -3,6 +3,7 @@
 use Rattle.std.specs.Prelude.{◌≡◌, ℕ, ◌<◌, ◌≤◌, List, length}
 use Rattle.std.specs.List.{All}
 use Rattle.rank_now.specs.declared.moment.Moment.{Moment}
+use Rattle.pct_ask.specs.declared.limits.TheConstants.{MAX_THREADS}
 
 -- what a policy goes by: an order with change points or moments, or a list of threads
 pub data Plan : Type 0 where
@@ -18,7 +19,7 @@ pub data Plan : Type 0 where
 abbrev pub SpeaksOf : Plan → ℕ → Type 0
 SpeaksOf (ByPoints order points) threads = threads ≡ length order
 SpeaksOf (ByEvents order events) threads = threads ≡ length order
-SpeaksOf (ByList listed) threads = (threads ≤ 64) × All (λ thread. thread < threads) listed
+SpeaksOf (ByList listed) threads = (threads ≤ MAX_THREADS) × All (λ thread. thread < threads) listed
 
 -- it goes by an order, and not by a list
 abbrev pub GoesByRank : Plan → Type 0

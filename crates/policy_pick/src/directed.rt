@@ -1,14 +1,15 @@
 ghost use Rattle.std.specs.Prelude.{◌≡◌, ℕ, ◌≤◌, ◌==◌, ◌&&◌, [], length, IfOk, ◌↔◌};
-ghost use Rattle.rank_now.specs.Order.{IsFirstWrong};
+ghost use Rattle.rank_now.specs.Order.{IsOrder, IsFirstWrong};
 ghost use Rattle.rank_now.specs.Positions.{last_position};
 ghost use Rattle.policy_pick.specs.Plan.{ByEvents};
 ghost use Rattle.policy_pick.specs.Kept.{events_plan, EventsStand};
+ghost use Rattle.pct_ask.specs.declared.limits.TheConstants.{MAX_POINTS, MAX_THREADS};
 
 use crate::chance::{Chance, Pick};
 use crate::policy::Policy;
 use crate::walk::pick_by_rank;
-use rank_now::{Moment, RankError, Ranks};
-use std::alloc::Global;
+use rank_now::{Moment, RankError, Ranks, first_wrong};
+use std::alloc::{AllocError as NoMemory, Global};
 use std::marker::Model;
 
 /// The scheduler of PCT with moments in the place of change points: a thread is lowered after its
@@ -40,14 +41,32 @@ impl Model for DirectedPolicy {
 impl DirectedPolicy {
     /// The order names the highest thread first.
     pub fn new(alloc: Global, order: &[u32], events: &[Moment]) -> Result<DirectedPolicy, RankError>
-        requires few_threads { length order.now ≤ 64 }
-        requires few_events { length events.now ≤ 7 }
+        requires few_threads { length order.now ≤ MAX_THREADS }
+        requires few_events { length events.now ≤ MAX_POINTS }
         ensures plan { IfOk result (λ p. events_plan p ≡ ByEvents order.now events.now) }
         ensures stands { IfOk result (λ p. EventsStand p []) }
         ensures not_an_order { (at : ℕ)
             → (result ≡ Err (RankError.NotAnOrder at)) ↔ IsFirstWrong order.now at }
     {
-        let ranks = Ranks::new(alloc, order, events.len() as u32)?;
+        match first_wrong(order) {
+            Some(at) => Err(RankError::NotAnOrder { at }),
+            None => Ok(DirectedPolicy::of_order(alloc, order, events)?),
+        }
+    }
+
+    /// The same of a list that is an order.
+    pub fn of_order(
+        alloc: Global,
+        order: &[u32],
+        events: &[Moment],
+    ) -> Result<DirectedPolicy, NoMemory>
+        requires order { IsOrder order.now }
+        requires few_threads { length order.now ≤ MAX_THREADS }
+        requires few_events { length events.now ≤ MAX_POINTS }
+        ensures plan { IfOk result (λ p. events_plan p ≡ ByEvents order.now events.now) }
+        ensures stands { IfOk result (λ p. EventsStand p []) }
+    {
+        let ranks = Ranks::of_order(alloc, order, events.len() as u32)?;
         let own = vec![in alloc; 0; order.len()]?;
         let events = Vec::from_slice(alloc, events)?;
         Ok(DirectedPolicy { events, ranks, own })
@@ -96,7 +115,7 @@ impl Policy for DirectedPolicy {
 /// The greatest index, from 1, of the moment that is this own step of the thread, and 0 where none
 /// is.
 fn index_of_moment(events: &[Moment], thread: u32, number: u32) -> u32
-    requires { length events.now ≤ 7 }
+    requires { length events.now ≤ MAX_POINTS }
     ensures { result ≡ last_position (λ e. e.thread == thread && e.number == number) events.now }
 {
     let mut index = 0;

@@ -7,9 +7,11 @@
 //!   is waited for is away, and where nobody is picked nobody can go on: `Policy::pick`: `choice`,
 //!   `sound` (`IsSoundPick`).
 //! - A step counts as one: `Policy::took`: `plan`, `stands`; made by `Pct::new`: `plan`, `stands`,
-//!   `not_an_order`; `DirectedPolicy::new`: `plan`, `stands`, `not_an_order`; `Listed::new`:
-//!   `plan`, `stands`.
+//!   `not_an_order`; `DirectedPolicy::new`: `plan`, `stands`, `not_an_order`; of a list that is an
+//!   order by `Pct::of_order`: `plan`, `stands`; `DirectedPolicy::of_order`: `plan`, `stands`;
+//!   `Listed::new`: `plan`, `stands`.
 //! - A choice that waits for nobody stays as more becomes known: `Policy`: `keeps`.
+//! - Whether a walk over the threads stops at one with this chance: `is_open`, its clause.
 #![tactic(auto)]
 
 mod chance;

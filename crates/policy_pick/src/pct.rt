@@ -1,14 +1,15 @@
 ghost use Rattle.std.specs.Prelude.{◌≡◌, ℕ, ◌≤◌, [], length, IfOk, ◌↔◌};
-ghost use Rattle.rank_now.specs.Order.{IsFirstWrong};
+ghost use Rattle.rank_now.specs.Order.{IsOrder, IsFirstWrong};
 ghost use Rattle.rank_now.specs.Rank.{index_of_point};
 ghost use Rattle.policy_pick.specs.Plan.{ByPoints};
 ghost use Rattle.policy_pick.specs.Kept.{points_plan, PointsStand};
+ghost use Rattle.pct_ask.specs.declared.limits.TheConstants.{MAX_POINTS, MAX_THREADS};
 
 use crate::chance::{Chance, Pick};
 use crate::policy::Policy;
 use crate::walk::pick_by_rank;
-use rank_now::{RankError, Ranks};
-use std::alloc::Global;
+use rank_now::{RankError, Ranks, first_wrong};
+use std::alloc::{AllocError as NoMemory, Global};
 use std::marker::Model;
 
 /// The scheduler of PCT: the highest thread goes, and at each change point the one that took the
@@ -41,14 +42,28 @@ impl Pct {
     /// The order names the highest thread first. The change points are numbers of steps of the run,
     /// from 1.
     pub fn new(alloc: Global, order: &[u32], points: &[u32]) -> Result<Pct, RankError>
-        requires few_threads { length order.now ≤ 64 }
-        requires few_points { length points.now ≤ 7 }
+        requires few_threads { length order.now ≤ MAX_THREADS }
+        requires few_points { length points.now ≤ MAX_POINTS }
         ensures plan { IfOk result (λ p. points_plan p ≡ ByPoints order.now points.now) }
         ensures stands { IfOk result (λ p. PointsStand p []) }
         ensures not_an_order { (at : ℕ)
             → (result ≡ Err (RankError.NotAnOrder at)) ↔ IsFirstWrong order.now at }
     {
-        let ranks = Ranks::new(alloc, order, points.len() as u32)?;
+        match first_wrong(order) {
+            Some(at) => Err(RankError::NotAnOrder { at }),
+            None => Ok(Pct::of_order(alloc, order, points)?),
+        }
+    }
+
+    /// The same of a list that is an order.
+    pub fn of_order(alloc: Global, order: &[u32], points: &[u32]) -> Result<Pct, NoMemory>
+        requires order { IsOrder order.now }
+        requires few_threads { length order.now ≤ MAX_THREADS }
+        requires few_points { length points.now ≤ MAX_POINTS }
+        ensures plan { IfOk result (λ p. points_plan p ≡ ByPoints order.now points.now) }
+        ensures stands { IfOk result (λ p. PointsStand p []) }
+    {
+        let ranks = Ranks::of_order(alloc, order, points.len() as u32)?;
         let points = Vec::from_slice(alloc, points)?;
         Ok(Pct {
             points,
@@ -98,7 +113,7 @@ impl Policy for Pct {
 
 /// The greatest index, from 1, of a point that is the step, and 0 where none is.
 fn index_of_point(points: &[u32], step: u32) -> u32
-    requires { length points.now ≤ 7 }
+    requires { length points.now ≤ MAX_POINTS }
     ensures { result ≡ index_of_point points.now step }
 {
     let mut index = 0;

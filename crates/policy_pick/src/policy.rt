@@ -3,6 +3,7 @@ ghost use Rattle.policy_pick.specs.declared.chance.Chance.{Chance};
 ghost use Rattle.policy_pick.specs.Plan.{Plan, SpeaksOf, IsThreadOf, GoesByRank};
 ghost use Rattle.policy_pick.specs.Choice.{choice, TargetsAreAway, IsSoundPick, KeepsKnown};
 ghost use Rattle.policy_pick.specs.Choice.{IsWaits, KeepsChoices};
+ghost use Rattle.pct_ask.specs.declared.limits.TheConstants.{MAX_STEPS};
 
 use crate::chance::{Chance, Pick};
 
@@ -28,7 +29,7 @@ pub trait Policy: Send + Drop {
         requires thread { IsThreadOf (plan self.old) thread }
         requires short { (schedule : List ℕ)
             × stands self.old schedule
-            × (length schedule < 100000) }
+            × (length schedule < MAX_STEPS) }
         ensures plan { plan self.new ≡ plan self.old }
         ensures stands { (schedule : List ℕ) → stands self.old schedule
             → stands self.new (schedule ++ thread ∷ []) };
@@ -39,7 +40,7 @@ pub trait Policy: Send + Drop {
         requires thread { IsThreadOf (plan self.old) thread }
         requires short { (schedule : List ℕ)
             × stands self.old schedule
-            × (length schedule < 100000) }
+            × (length schedule < MAX_STEPS) }
         ensures plan { plan self.new ≡ plan self.old }
         ensures stands { (schedule : List ℕ) → stands self.old schedule
             → stands self.new (schedule ++ thread ∷ []) }

@@ -1,5 +1,6 @@
 ghost use Rattle.std.specs.Prelude.{◌≡◌, ◌≤◌, length};
 ghost use Rattle.policy_pick.specs.Choice.{choice_by_rank, choice_by_number};
+ghost use Rattle.pct_ask.specs.declared.limits.TheConstants.{MAX_THREADS};
 
 use crate::chance::{Chance, Pick, is_open, pick_at};
 use rank_now::Ranks;
@@ -8,7 +9,7 @@ use rank_now::Ranks;
 /// down the values that they were lowered to.
 pub fn pick_by_rank(ranks: &Ranks, chances: &[Chance]) -> Pick
     requires threads { length chances.now ≡ length ranks.now.values }
-    requires few_threads { length chances.now ≤ 64 }
+    requires few_threads { length chances.now ≤ MAX_THREADS }
     ensures { result ≡ choice_by_rank ranks.now.values chances.now }
 {
     let greatest = ranks.greatest();
@@ -25,7 +26,7 @@ pub fn pick_by_rank(ranks: &Ranks, chances: &[Chance]) -> Pick
 
 /// The pick of the walk by rising number, after a list.
 pub fn pick_by_number(chances: &[Chance]) -> Pick
-    requires { length chances.now ≤ 64 }
+    requires { length chances.now ≤ MAX_THREADS }
     ensures { result ≡ choice_by_number chances.now }
 {
     for (thread, chance) in chances.iter().enumerate() {

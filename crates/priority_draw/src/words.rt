@@ -5,6 +5,7 @@ ghost use Rattle.priority_draw.specs.Orders.{declared_order, order_of, places_of
 ghost use Rattle.priority_draw.specs.Orders.{AreInBounds, AreOnlyPlaces};
 ghost use Rattle.priority_draw.specs.Drawing.{scale, draw, drawn_places, drawn_order, drawn_points};
 ghost use Rattle.priority_draw.specs.Drawing.{draw_of_seed, IsStepOfPoint};
+ghost use Rattle.pct_ask.specs.declared.limits.TheConstants.{MAX_POINTS, MAX_STEPS, MAX_THREADS};
 
 use pct_ask::{OrderList, PointList};
 use rand_chacha::ChaCha8Rng;
@@ -64,7 +65,7 @@ impl Words {
     /// Draws an order of the threads. Memory is taken before any word.
     pub fn draw_order(&mut self, alloc: Global, threads: u32) -> Result<OrderList, NoMemory>
         requires some_thread { 1 ≤ threads }
-        requires few_threads { threads ≤ 64 }
+        requires few_threads { threads ≤ MAX_THREADS }
         ensures value { IfOk result (λ order.
             order ≡ drawn_order self.old.seed self.old.place threads) }
         ensures order { IfOk result (IsOrderOf threads) }
@@ -97,8 +98,8 @@ impl Words {
         count: u32,
     ) -> Result<PointList, NoMemory>
         requires some_step { 1 ≤ steps }
-        requires few_steps { steps ≤ 100000 }
-        requires few_points { count ≤ 7 }
+        requires few_steps { steps ≤ MAX_STEPS }
+        requires few_points { count ≤ MAX_POINTS }
         ensures value { IfOk result (λ points.
             points ≡ drawn_points self.old.seed self.old.place steps count) }
         ensures count { IfOk result (λ points. length points ≡ count) }
@@ -132,7 +133,7 @@ impl Words {
     /// Draws each of the points anew.
     fn fill(&mut self, points: &mut [u32], steps: u32)
         requires some_step { 1 ≤ steps }
-        requires few_steps { steps ≤ 100000 }
+        requires few_steps { steps ≤ MAX_STEPS }
         ensures points { points.new
             ≡ drawn_points self.old.seed self.old.place steps (length points.old) }
         ensures words { self.new ≡ words_later self.old (2 * length points.old) }

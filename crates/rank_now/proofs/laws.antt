@@ -3,7 +3,7 @@
 pub mod Positions
 -- each index is given at one step at most, by change points and by moments
 pub mod GivenOnce
--- each thread's place is one of the order's
+-- a list with a wrong place is no order, and each thread's place is one of the order's
 pub mod Orders
 -- a list of numbers below its length, none twice, is an order
 pub mod WholeOrders

@@ -5,6 +5,7 @@ use Rattle.std.specs.Prelude.{nat_lt, slice_index, slice_index_or}
 use Rattle.std.specs.List.{count_by}
 use Rattle.rank_now.specs.Order.{IsOrder}
 use Rattle.rank_now.specs.Rank.{place_in_order}
+use Rattle.pct_ask.specs.declared.limits.TheConstants.{MAX_POINTS, MAX_THREADS}
 
 -- the order of the threads, how many values there are to give below those that it gives, and each
 -- thread's value, at its number
@@ -40,8 +41,8 @@ IsLow count value = (1 ≤ value) × (value ≤ count)
 -- what a `Ranks` keeps true: each thread has the value that the order gave it, or was lowered, and
 -- who was lowered to each value, from 1 up, is who has it
 pub record AreLowered (order values : List ℕ) (lowered : List (Option ℕ)) : Type 0 where
-  pub few_threads : length order ≤ 64
-  pub few_values : length lowered ≤ 7
+  pub few_threads : length order ≤ MAX_THREADS
+  pub few_values : length lowered ≤ MAX_POINTS
   pub is_order : IsOrder order
   pub threads : length values ≡ length order
   pub given : (thread : ℕ) → thread < length order

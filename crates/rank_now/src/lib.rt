@@ -1,16 +1,20 @@
 //! The priorities of a run: `Ranks` keeps a distinct value for each thread, which a change point or
-//! a moment (`Moment`) lowers.
+//! a moment (`Moment`) lowers; `Order` is an order of threads.
 //!
 //! What is proved, by call and clause; in parentheses the definitions:
 //!
 //! - The values are PCT's ranks of the whole schedule, stay distinct, and the order stays: a
 //!   lowered thread keeps its place below all that weren't lowered: `Ranks::new`: `order`,
-//!   `values`, `distinct`, `by_points`, `by_events`; `Ranks::lower`: `order`, `values`, `distinct`,
-//!   `by_points`, `by_events`; `Ranks::value`; `Ranks::greatest`: `value`, `bound`.
+//!   `values`, `distinct`, `by_points`, `by_events`; `Ranks::of_order`, the same clauses;
+//!   `Ranks::lower`: `order`, `values`, `distinct`, `by_points`, `by_events`; `Ranks::value`;
+//!   `Ranks::greatest`: `value`, `bound`.
 //! - `holder` gives the thread with a value, or says that none has it; `walk` the one with that
 //!   many above it: `Ranks::holder`: `some`, `none`; `Ranks::walk`: `at_place`, `only`.
 //! - A list that is no order is refused exactly at the first place whose thread isn't there or was
-//!   named before: `Ranks::new`: `not_an_order`.
+//!   named before: `Ranks::new`: `not_an_order`; `first_wrong`: `found`, `none`, `order`;
+//!   `is_order`.
+//! - An `Order` is a list that is one, and a list that is none makes none: `Order::of`: `order`,
+//!   `none`; `Order::as_slice`: `list`, `order` (`IsOrder`).
 #![tactic(auto)]
 
 mod moment;
@@ -18,5 +22,5 @@ mod order;
 mod ranks;
 
 pub use moment::Moment;
-pub use order::RankError;
+pub use order::{Order, RankError, first_wrong, is_order};
 pub use ranks::Ranks;

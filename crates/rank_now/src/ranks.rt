@@ -7,6 +7,7 @@ ghost use Rattle.rank_now.specs.Rank.{index_of_moment};
 ghost use Rattle.rank_now.specs.Order.{IsOrder, IsFirstWrong};
 ghost use Rattle.rank_now.specs.Ranking.{Ranking, AreDistinctValues, HasValue, IsAtPlace};
 ghost use Rattle.rank_now.specs.declared.moment.Moment.{Moment};
+ghost use Rattle.pct_ask.specs.declared.limits.TheConstants.{MAX_POINTS, MAX_THREADS};
 
 use crate::order::{RankError, first_wrong};
 use std::alloc::{AllocError, Global};
@@ -39,8 +40,8 @@ impl Ranks {
     /// The ranks before the first step. The order names the highest thread first, and `count`
     /// values, from 1 up, lie below those that the threads have now.
     pub fn new(alloc: Global, order: &[u32], count: u32) -> Result<Ranks, RankError>
-        requires few_threads { length order.now ≤ 64 }
-        requires few_points { count ≤ 7 }
+        requires few_threads { length order.now ≤ MAX_THREADS }
+        requires few_points { count ≤ MAX_POINTS }
         ensures order { IfOk result (λ r. r.order ≡ order.now) }
         ensures count { IfOk result (λ r. r.count ≡ count) }
         ensures values { IfOk result (λ r.
@@ -60,9 +61,30 @@ impl Ranks {
         ensures not_an_order { (at : ℕ)
             → (result ≡ Err (RankError.NotAnOrder at)) ↔ IsFirstWrong order.now at }
     {
-        if let Some(at) = first_wrong(order) {
-            return Err(RankError::NotAnOrder { at });
+        match first_wrong(order) {
+            Some(at) => Err(RankError::NotAnOrder { at }),
+            None => Ok(Ranks::of_order(alloc, order, count)?),
         }
+    }
+
+    /// The ranks before the first step of a list that is an order.
+    pub fn of_order(alloc: Global, order: &[u32], count: u32) -> Result<Ranks, AllocError>
+        requires order { IsOrder order.now }
+        requires few_threads { length order.now ≤ MAX_THREADS }
+        requires few_points { count ≤ MAX_POINTS }
+        ensures order { IfOk result (λ r. r.order ≡ order.now) }
+        ensures count { IfOk result (λ r. r.count ≡ count) }
+        ensures values { IfOk result (λ r.
+            r.values
+            ≡ map (λ t. count + length order.now - place_in_order order.now t)
+            (threads_of order.now)) }
+        ensures distinct { IfOk result (λ r. AreDistinctValues r.values) }
+        ensures by_points { IfOk result (λ r.
+            (points : List ℕ) → length points ≡ count → r.values ≡ ranks order.now points []) }
+        ensures by_events { IfOk result (λ r.
+            (events : List Moment) → length events ≡ count
+            → r.values ≡ ranks_by_events order.now events []) }
+    {
         let values = first_values(alloc, order, count)?;
         let lowered = vec![in alloc; None; count as usize]?;
         let order = Vec::from_slice(alloc, order)?;
@@ -170,8 +192,8 @@ fn free(lowered: &mut [Option<u32>], value: u32)
 /// The thread at place p of n has the value count + n - p.
 fn first_values(alloc: Global, order: &[u32], count: u32) -> Result<Vec<u32>, AllocError>
     requires order { IsOrder order.now }
-    requires few_threads { length order.now ≤ 64 }
-    requires few_points { count ≤ 7 }
+    requires few_threads { length order.now ≤ MAX_THREADS }
+    requires few_points { count ≤ MAX_POINTS }
     ensures { IfOk result (λ v.
         v.items
         ≡ map (λ t. count + length order.now - place_in_order order.now t) (threads_of order.now)) }

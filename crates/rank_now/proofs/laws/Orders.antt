@@ -1,10 +1,28 @@
--- The place of a thread in an order.
+-- Which lists are orders, and the place of a thread in one.
 use Rattle.std.proofs.Common.{◌≡◌, ℕ, ◌<◌, List, length, get_or, eqb, eqb-true, arith, inl, inr}
+use Rattle.std.proofs.Common.{sym, ◌∙◌}
+use Rattle.std.specs.Prelude.{slice_index}
 use Rattle.std.proofs.lemmas.Bool.{cases_lt}
 use Rattle.std.proofs.lemmas.Bool.Decides.{nat_tests}
+use Rattle.std.proofs.lemmas.List.{get_or-take, get_or_default, length-take}
 use Rattle.std.proofs.lemmas.List.Sums.{passes_at_first, fails_before_first}
 use Rattle.rank_now.specs.Rank.{place_in_order}
-use Rattle.rank_now.specs.Order.{IsOrder}
+use Rattle.rank_now.specs.Order.{IsOrder, IsFirstWrong}
+
+-- a list with a wrong place is no order
+pub wrong_is_no_order : (order : List ℕ) (at : ℕ) → IsFirstWrong order at → IsOrder order → ⊥
+wrong_is_no_order order at wrong whole =
+    elim wrong.wrong [
+      | inl out ↦ omega (arith, whole.below at wrong.within, out)
+      | inr named ↦
+          let k = named.0 in
+          let d = slice_index order at in
+          let early : k < at = omega (arith, length-take at order, named.1) in
+          let same : slice_index order k ≡ d =
+          get_or_default order k 0 d (omega (arith, wrong.within))
+          ∙ (sym (get_or-take at order k d early) ∙ named.2) in
+          whole.once k at early wrong.within same
+    ]
 
 -- the place of a thread, and that it stands there
 pub named : (order : List ℕ) → IsOrder order → (thread : ℕ) → thread < length order
