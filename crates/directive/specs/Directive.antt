@@ -6,6 +6,7 @@ use Rattle.pct_ask.specs.VerdictText.{named_verdict, IsVerdictForm, HasNames}
 use Rattle.rank_now.specs.declared.moment.Moment.{Moment}
 use Rattle.directive.specs.DirectiveText.{DirectiveText, directive_text}
 use Rattle.directive.specs.Forms.{IsNumber}
+use Rattle.pct_ask.specs.declared.limits.TheConstants.{MAX_POINTS}
 
 -- the moment's thread has a name, and its number is in 1..100000
 pub record IsMoment (names : NameLists) (moment : Moment) : Type 0 where
@@ -16,7 +17,7 @@ pub record IsMoment (names : NameLists) (moment : Moment) : Type 0 where
 -- of blocked threads rises and isn't empty.
 pub record IsSound (names : NameLists) (told : DirectiveText) : Type 0 where
   pub low : told.low < length names.threads
-  pub few : length told.events ≤ 7
+  pub few : length told.events ≤ MAX_POINTS
   pub events : All (IsMoment names) told.events
   pub threads : HasNames names told.verdict
   pub form : IsVerdictForm names (named_verdict names told.verdict)

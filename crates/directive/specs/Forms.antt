@@ -5,10 +5,11 @@ use Rattle.pct_ask.specs.NameLists.{NameLists}
 use Rattle.pct_ask.specs.VerdictText.{NamedVerdict, named_text, IsVerdictForm, IsNobody}
 use Rattle.pct_ask.specs.VerdictText.{HasUnknownThread}
 use Rattle.directive.specs.DirectiveText.{low_line, after_line, verdict_line}
+use Rattle.pct_ask.specs.declared.limits.TheConstants.{MAX_STEPS}
 
 -- the number of a thread's own step
 abbrev pub IsNumber : ℕ → Type 0
-IsNumber number = (1 ≤ number) × (number ≤ 100000)
+IsNumber number = (1 ≤ number) × (number ≤ MAX_STEPS)
 
 -- low NAME: a lawful name by the first version's keywords
 pub record IsLowLine (text name : List ℕ) : Type 0 where

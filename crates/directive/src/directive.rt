@@ -1,6 +1,7 @@
 //! A directive as a value.
 
 ghost use Rattle.std.specs.Prelude.{◌≤◌, length};
+ghost use Rattle.pct_ask.specs.declared.limits.TheConstants.{MAX_POINTS};
 
 use pct_ask::Verdict;
 use policy_pick::MomentList;
@@ -13,5 +14,5 @@ pub struct Directive {
     /// After the i-th of these moments its thread gets the priority i, from 1.
     pub events: MomentList,
     pub verdict: Verdict,
-    ghost few: { length events ≤ 7 },
+    ghost few: { length events ≤ MAX_POINTS },
 }

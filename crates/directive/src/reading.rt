@@ -10,6 +10,7 @@ ghost use Rattle.pct_ask.specs.Pieces.{pieces_of};
 ghost use Rattle.directive.specs.Reading as reading;
 ghost use Rattle.directive.specs.Seen.{Fails, Gives};
 ghost use Rattle.directive.specs.declared.fault.DirectiveFault.{DirectiveFault};
+ghost use Rattle.pct_ask.specs.declared.limits.TheConstants.{MAX_POINTS};
 
 use crate::directive::Directive;
 use crate::fault::{DirectiveError, DirectiveFault};
@@ -27,7 +28,7 @@ const FIRST: &[u8] = b"directive 1";
 struct Body {
     events: MomentList,
     verdict: Verdict,
-    ghost few: { length events ≤ 7 },
+    ghost few: { length events ≤ MAX_POINTS },
 }
 
 fn bad(line: u32, kind: DirectiveFault) -> DirectiveError

@@ -9,6 +9,7 @@ use Rattle.script_tree.specs.declared.expr.Op.TheVariants as ops
 use Rattle.script_tree.specs.Trees.{Expression, Number, Reg, Two, Statement, closed_at, Read, Write}
 use Rattle.script_tree.specs.Trees.{Lock, Unlock, Join, Yield, Assert, Set}
 use Rattle.script_tree.specs.ScriptText.{Thread, ScriptText}
+use Rattle.pct_ask.specs.declared.limits.TheConstants.{MAX_OBJECTS}
 
 -- the eight threads that add
 abbrev pub worker_names : List (List ℕ)
@@ -47,7 +48,7 @@ may_add kind [] lists = true
 may_add kind (name ∷ names) lists =
     is_name 1 name
     && not (is_among name (all_names lists))
-    && nat_lt (length (list_of kind lists)) 64
+    && nat_lt (length (list_of kind lists)) MAX_OBJECTS
     && may_add kind names (with_name kind name lists)
 
 -- The script is made to be printed. Its statements have their lines in the print, and until then

@@ -2,6 +2,7 @@ ghost use Rattle.std.specs.Prelude.{◌≡◌, ◌≤◌, true, length};
 ghost use Rattle.std.specs.List.{list_all};
 ghost use Rattle.script_code.specs.Operations.{listings};
 ghost use Rattle.script_code.specs.Placed.{is_listing};
+ghost use Rattle.pct_ask.specs.declared.limits.TheConstants.{MAX_THREADS};
 
 use crate::flat::{Flat, FlatList};
 use pct_ask::Sequence;
@@ -10,7 +11,7 @@ use pct_ask::Sequence;
 #[derive(Debug, Drop)]
 pub struct Code {
     pub(crate) threads: Sequence<FlatList>,
-    ghost few: { length threads ≤ 64 },
+    ghost few: { length threads ≤ MAX_THREADS },
     ghost placed: { list_all is_listing (listings threads) ≡ true },
 }
 

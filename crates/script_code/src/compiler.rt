@@ -7,6 +7,7 @@ ghost use Rattle.script_code.specs.Operations.{operations};
 ghost use Rattle.script_code.specs.Layout.{begin_operations, thread_code};
 ghost use Rattle.script_code.specs.Listing.{listing};
 ghost use Rattle.script_code.specs.CodeOf.{IsCodeOf};
+ghost use Rattle.pct_ask.specs.declared.limits.TheConstants.{MAX_LINES};
 
 use crate::code::Code;
 use crate::counting::counts_of;
@@ -34,7 +35,7 @@ pub fn compile(alloc: Global, script: &Script) -> Result<Code, NoMemory>
 
 // The operations of a thread's text.
 fn compile_thread(alloc: Global, text: &ThreadText, held: bool) -> Result<FlatList, NoMemory>
-    requires { counts_of (block text.now.body) ≤ 4096 }
+    requires { counts_of (block text.now.body) ≤ MAX_LINES }
     ensures { IfOk result (λ list. operations list ≡ thread_code held (thread_text text.now)) }
 {
     let mut ops = begin(alloc, text.line, held)?;

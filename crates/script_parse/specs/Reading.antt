@@ -27,6 +27,7 @@ use Rattle.script_tree.specs.Faults.{SoFar, are_blank, may_stand, uses_unknown, 
 use Rattle.script_tree.specs.Faults.{leaves_open, closes_nothing, lacks_thread, is_too_many}
 use Rattle.script_parse.specs.Part.{Opening, Thread, If, Else, While, Open, Part}
 use Rattle.script_parse.specs.Saying.{form_in}
+use Rattle.pct_ask.specs.declared.limits.TheConstants.{MAX_LINES}
 
 -- ---- what a form asks of what was read
 
@@ -191,7 +192,7 @@ abbrev pub bytes_fault : ℕ → List ℕ → Option ScriptFault
 bytes_fault number line =
     if not (is_utf8 line) then Some NotUtf8
     else (if nat_lt 256 (length line) then Some LineTooLong
-    else (if nat_lt 4096 number then Some TooManyLines
+    else (if nat_lt MAX_LINES number then Some TooManyLines
     else None))
 
 abbrev pub first_part : ℕ → Part

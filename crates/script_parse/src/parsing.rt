@@ -22,7 +22,7 @@ use crate::fault::ScriptError;
 use crate::form::{Form, form_of};
 use crate::reader::Reader;
 use crate::token::{Token, tokens};
-use pct_ask::split_lines;
+use pct_ask::{MAX_LINES, split_lines};
 use script_tree::{Script, ScriptFault};
 use std::alloc::{AllocError as NoMemory, Global};
 
@@ -59,7 +59,7 @@ fn bytes_fault(number: u32, line: &[u8]) -> Option<ScriptFault>
         Some(ScriptFault::NotUtf8)
     } else if line.len() > 256 {
         Some(ScriptFault::LineTooLong)
-    } else if number > 4096 {
+    } else if number > MAX_LINES {
         Some(ScriptFault::TooManyLines)
     } else {
         None

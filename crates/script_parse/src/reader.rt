@@ -17,6 +17,7 @@ ghost use Rattle.script_parse.specs.Part.{If, While};
 ghost use Rattle.script_parse.specs.Lawful.{names_lawful, value_lawful};
 ghost use Rattle.script_parse.specs.Lawful.{HasSmallNumbers, NumbersAreSmall};
 ghost use Rattle.script_parse.specs.Reading as reading;
+ghost use Rattle.pct_ask.specs.declared.limits.TheConstants.{MAX_OBJECTS};
 
 use crate::ahead::Ahead;
 use crate::begin::{begins, names_thread, opens};
@@ -27,7 +28,7 @@ use crate::range::is_out_of_range;
 use crate::spelling::{Spelling, expression_at};
 use crate::statement::{into_kind, on_kind, place_in, statement_on};
 use crate::token::Token;
-use pct_ask::{NameKind, Names, NumberList};
+use pct_ask::{MAX_OBJECTS, NameKind, Names, NumberList};
 use script_tree::{Block, Script, ScriptFault, Stmt, ThreadText};
 use std::alloc::{AllocError as NoMemory, Global};
 
@@ -167,7 +168,8 @@ impl Reader {
     {
         match form {
             Form::Thread { .. } => self.names.count(NameKind::Thread) >= self.most_threads(),
-            Form::Plain { kind, .. } | Form::Valued { kind, .. } => self.names.count(*kind) >= 64,
+            Form::Plain { kind, .. } | Form::Valued { kind, .. } => self.names.count(*kind)
+                >= MAX_OBJECTS as u32,
             Form::If { .. } | Form::While { .. } => depth(&self.open_blocks) >= 33,
             _ => false,
         }
@@ -267,7 +269,7 @@ impl Reader {
     fn with_name(mut self, alloc: Global, kind: NameKind, name: &[u8]) -> Result<Reader, NoMemory>
         requires lawful { is_name 1 name.now ≡ true }
         requires fresh { is_among name.now (all_names self.names) ≡ false }
-        requires room { length (list_of kind self.names) < 64 }
+        requires room { length (list_of kind self.names) < MAX_OBJECTS }
         ensures { IfOk result (λ r.
             seen_reader r ≡ reading.with_declared (seen_reader self) kind name.now) }
     {

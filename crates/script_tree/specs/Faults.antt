@@ -22,6 +22,7 @@ use Rattle.script_tree.specs.Fitting.{most_threads}
 use Rattle.script_tree.specs.Lines.{tokens_in, is_blank_line, version_in, version_of, begins_with}
 use Rattle.script_tree.specs.Lines.{opens}
 use Rattle.script_tree.specs.Lines.{declared_name, names_of, depth, opener, threads_begun}
+use Rattle.pct_ask.specs.declared.limits.TheConstants.{MAX_OBJECTS}
 
 -- a line in its text, with the lines before it and those after it
 pub record Place : Type 0 where
@@ -163,8 +164,8 @@ lacks_thread lines tokens = not (is_some (declared_name kinds.Thread tokens)) &&
 abbrev pub is_too_many : SoFar → MeantForm → Bool
 is_too_many lines (Thread name) =
     nat_le (most_threads lines.version) (length lines.names.threads)
-is_too_many lines (Plain kind name) = nat_le 64 (length (list_of kind lines.names))
-is_too_many lines (Valued kind name value) = nat_le 64 (length (list_of kind lines.names))
+is_too_many lines (Plain kind name) = nat_le MAX_OBJECTS (length (list_of kind lines.names))
+is_too_many lines (Valued kind name value) = nat_le MAX_OBJECTS (length (list_of kind lines.names))
 is_too_many lines (If test) = nat_le 33 lines.depth
 is_too_many lines (While test) = nat_le 33 lines.depth
 is_too_many lines form = false

@@ -13,10 +13,11 @@ use Rattle.script_tree.specs.Trees.{Assert, Set, If, IfElse, While, Start, RdLoc
 use Rattle.script_tree.specs.Trees.{TryRdLock, TryWrLock, RwUnlock}
 use Rattle.script_tree.specs.ScriptText.{Thread, ScriptText}
 use Rattle.pct_ask.specs.Words.{register_count}
+use Rattle.pct_ask.specs.declared.limits.TheConstants.{MAX_LINES, MAX_THREADS}
 
 -- a line of a script
 abbrev pub line_fits : ℕ → Bool
-line_fits line = nat_le 1 line && nat_le line 4096
+line_fits line = nat_le 1 line && nat_le line MAX_LINES
 
 -- one of the registers r0 to r15
 abbrev pub reg_fits : ℕ → Bool
@@ -111,11 +112,11 @@ module _ (version : ℕ) (names : NameLists) where
 
   -- a thread's blocks nest at most 32 deep, and it has at most 4,096 statements
   abbrev pub thread_fits : Thread → Bool
-  thread_fits t = line_fits t.line && statements_fit 32 t.body && nat_le (counts_of t.body) 4096
+  thread_fits t = line_fits t.line && statements_fit 32 t.body && nat_le (counts_of t.body) MAX_LINES
 
 -- how many threads a script may have
 abbrev pub most_threads : ℕ → ℕ
-most_threads version = if nat_le 3 version then 64 else 16
+most_threads version = if nat_le 3 version then MAX_THREADS else 16
 
 -- only the third version has read-write locks
 abbrev pub rwlocks_fit : ℕ → List (List ℕ) → Bool

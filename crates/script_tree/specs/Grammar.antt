@@ -16,6 +16,7 @@ use Rattle.script_tree.specs.Ranges.{is_out_of_range}
 use Rattle.script_tree.specs.Forms as forms
 use Rattle.script_tree.specs.Forms.{TokenForm, MeantForm, On, Into, IsForm}
 use Rattle.script_tree.specs.Lines.{tokens_in, is_blank_line, version_in, names_of, values_of}
+use Rattle.pct_ask.specs.declared.limits.TheConstants.{MAX_LINES}
 
 -- a line that says something: its number, and what it means
 abbrev pub Line : Type 0
@@ -128,7 +129,7 @@ pub record IsLineText (line : List ℕ) : Type 0 where
 -- of each thread.
 pub record Spells (bytes : List ℕ) (script : ScriptText) : Type 0 where
   pub small : length bytes ≤ 1048576
-  pub few_lines : length (lines_of bytes) ≤ 4096
+  pub few_lines : length (lines_of bytes) ≤ MAX_LINES
   pub sound : All IsLineText (lines_of bytes)
   pub above : List (List ℕ)
   pub header : List ℕ

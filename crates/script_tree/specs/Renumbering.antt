@@ -7,6 +7,7 @@ use Rattle.script_tree.specs.Trees.{Up, Arrive, Join, Yield, Assert, Set, If, If
 use Rattle.script_tree.specs.Trees.{RdLock, WrLock, TryRdLock, TryWrLock, RwUnlock}
 use Rattle.script_tree.specs.ScriptText.{ScriptText, Thread}
 use Rattle.script_tree.specs.Layout.{declared_forms}
+use Rattle.pct_ask.specs.declared.limits.TheConstants.{MAX_LINES}
 
 -- how many lines a statement has, with those of its blocks and of each `else` and `end`
 abbrev mutual
@@ -76,5 +77,5 @@ renumbered_script script =
 -- bytes.
 pub record IsShort (bytes : List ℕ) : Type 0 where
   pub small : length bytes ≤ 1048576
-  pub few_lines : length (lines_of bytes) ≤ 4096
+  pub few_lines : length (lines_of bytes) ≤ MAX_LINES
   pub short_lines : All (λ line. length line ≤ 256) (lines_of bytes)

@@ -2,9 +2,10 @@ ghost use Rattle.std.specs.Prelude.{◌≡◌, ◌∷◌, [], pos, IsSome, IfOk}
 
 use crate::samples::{add, names_of};
 use pct_ask::{
-    Ask, Blocked, Body, Deal, FaultKind, MisuseKind, NameKind, Names, NumberList, Outcome,
-    PointList, Post, Sequence, Verdict, VerdictRead, first_pieces, is_lawful_name, read_number,
-    read_verdict, split_lines, step_counts, write_number, write_verdict,
+    Ask, Blocked, Body, Deal, Depth, Event, FaultKind, Limit, MisuseKind, NameKind, Names,
+    NumberList, Outcome, PointList, Post, Sequence, Verdict, VerdictRead, first_pieces,
+    is_lawful_name, read_number, read_verdict, split_lines, step_counts, write_number,
+    write_verdict,
 };
 use std::alloc::{AllocError as NoMemory, Global};
 use std::process::Abort;
@@ -208,6 +209,25 @@ fn blocked_are_compared(rt: HostRuntime) {
     let stuck = Verdict::Stuck { blocked: one };
     assert!(rt; stuck.is(&Verdict::Stuck { blocked: again }));
     assert!(rt; !Outcome::Verdict(stuck).is(&Outcome::Departed { thread: 2 }));
+}
+
+#[test]
+fn steps_are_compared(rt: HostRuntime) {
+    let one = Event {
+        thread: 0,
+        line: 4,
+        ask: Ask::Read { var: 0 },
+        answer: 1,
+    };
+    let other = Event { answer: 2, ..one };
+    assert!(rt; one.is(&one));
+    assert!(rt; !one.is(&other));
+}
+
+#[test]
+fn limits_and_depths(rt: HostRuntime) {
+    assert_eq!(rt; Limit::new(100_000).steps(), 100_000);
+    assert_eq!(rt; Depth::new(8).points(), 7);
 }
 
 const VERDICTS: [&[u8]; 11] = [

@@ -106,8 +106,8 @@ operand-told names kinds.Cause word operand h =
     same-operand names kinds.Cause word (Cause i.0) operand i.2
     (record { word_is = fault_word-read word i.0 i.1; is = tt })
 
-pub record AreToldOperands (names : NameLists) (ks : Operands OperandKind) (words : Operands (List ℕ))
-    (operands : Operands Operand) : Type 0 where
+pub record AreToldOperands (names : NameLists) (ks : Operands OperandKind)
+    (words : Operands (List ℕ)) (operands : Operands Operand) : Type 0 where
   pub words_are : words ≡ operand_words names ks operands
   pub are : Each (IsOperand names) ks operands
 

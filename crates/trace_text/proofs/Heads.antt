@@ -22,10 +22,10 @@ use Rattle.pct_ask.proofs.laws.SplitWords.{join-words_of}
 use Rattle.pct_ask.proofs.laws.TextBytes.{AreHigh, words_of-high, high-by, name-high, decimal-high}
 use Rattle.rank_now.specs.Order.{IsOrder}
 use Rattle.rank_now.proofs.laws.WholeOrders.{whole-order}
-use Rattle.trace_text.specs.Lawful.{IsStepCount}
 use Rattle.pct_ask.specs.Numbers.{onto_front, all_of, step_count, step_counts}
 use Rattle.pct_ask.proofs.laws.Decimals.{number_in-decimal, number_in-Some}
 use Rattle.pct_ask.proofs.laws.SameWords.{same-word, bytes_eq-self}
+use Rattle.pct_ask.specs.Limits.{IsStepCount}
 use Rattle.trace_text.specs.reader.Heads.{version_on_line, are_different, are_order_names}
 use Rattle.trace_text.specs.reader.Heads.{names_after_order}
 use Rattle.trace_text.specs.reader.Heads.{order_on_line, threads_of_names, point_words}

@@ -20,7 +20,8 @@ use Rattle.pct_ask.specs.declared.event.Event.{Event}
 use Rattle.pct_ask.proofs.laws.NameParts.{name-short}
 use Rattle.pct_ask.proofs.laws.TextSizes.{size, size-append, length-join, line-short, fault-short}
 use Rattle.pct_ask.proofs.laws.TextSizes.{verdict-size}
-use Rattle.trace_text.specs.Lawful.{IsAsk, IsStep, IsStepCount, IsValue}
+use Rattle.pct_ask.specs.Limits.{IsStepCount}
+use Rattle.trace_text.specs.Lawful.{IsAsk, IsStep, IsValue}
 use Rattle.trace_text.specs.Trace.{head_of, IsWritableFile}
 use Rattle.trace_text.specs.declared.file.TraceFile.{TraceFile}
 use Rattle.trace_text.specs.Verbs.{verb_word, verb_operands, listed, Each}

@@ -12,13 +12,15 @@ use Rattle.pct_ask.specs.declared.names.NameKind.{NameKind}
 use Rattle.pct_ask.specs.declared.names.NameKind.TheVariants as kinds
 use Rattle.pct_ask.specs.declared.ask.FaultKind.{FaultKind}
 use Rattle.pct_ask.specs.declared.verdict.MisuseKind.TheVariants.{TooManyReads}
-use Rattle.trace_text.specs.Lawful.{IsValue, IsStepCount}
+use Rattle.trace_text.specs.Lawful.{IsValue}
 use Rattle.trace_text.specs.Verbs.{verb_word, verb_operands, verb_since, listed, mapped, Each}
 use Rattle.trace_text.specs.Verbs.{SomeOf}
 use Rattle.trace_text.specs.declared.verbs.Verb.{Verb}
 use Rattle.trace_text.specs.declared.verbs.OperandKind.{OperandKind}
 use Rattle.trace_text.specs.declared.verbs.OperandKind.TheVariants as operands
 use Rattle.trace_text.specs.declared.verbs.Operands.{Operands}
+use Rattle.pct_ask.specs.declared.limits.TheConstants.{MAX_POINTS}
+use Rattle.pct_ask.specs.Limits.{IsStepCount}
 
 -- an operand: an object by its name, a number, whether a check holds, or a fault
 pub data OperandForm : Type 0 where
@@ -113,7 +115,7 @@ abbrev pub IsLineOf : NameLists → ℕ → Form → Type 0
 IsLineOf names version (Version number) = (number ≡ 1) ⊎ (number ≡ 2)
 IsLineOf names version (Order threads) =
     (length threads ≡ length names.threads) × All IsName threads × AreDistinct threads
-IsLineOf names version (Points points) = (length points ≤ 7) × All IsStepCount points
+IsLineOf names version (Points points) = (length points ≤ MAX_POINTS) × All IsStepCount points
 IsLineOf names version (Limit limit) = IsStepCount limit
 IsLineOf names version (Step number thread line ask answer) =
     (number < 2 ^ 63) × IsName thread × IsLine line × IsAskOf version ask × IsValue answer

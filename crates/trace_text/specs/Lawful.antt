@@ -16,7 +16,9 @@ use Rattle.pct_ask.specs.declared.verdict.Verdict.{Verdict}
 use Rattle.pct_ask.specs.declared.verdict.Verdict.TheVariants.{Passed, Failed, Stuck, Misuse}
 use Rattle.pct_ask.specs.declared.verdict.Verdict.TheVariants.{Fault as VerdictFault, Cut}
 use Rattle.pct_ask.specs.TraceText.{TraceHead}
+use Rattle.pct_ask.specs.Limits.{IsStepCount}
 use Rattle.rank_now.specs.Order.{IsOrder}
+use Rattle.pct_ask.specs.declared.limits.TheConstants.{MAX_POINTS}
 
 -- the numbers of an ask and of an answer are i64s
 abbrev pub IsValue : ℤ → Type 0
@@ -94,16 +96,12 @@ pub record IsKnownRun (names : NameLists) (version limit : ℕ) (events : List E
   pub steps : All (NamesKnown names version) events
   pub end : IsKnownVerdict names version verdict
 
--- a number in 1..100000: a limit, or the step of a change point
-abbrev pub IsStepCount : ℕ → Type 0
-IsStepCount n = (1 ≤ n) × (n ≤ 100000)
-
--- The head of a trace: its version is 1 or 2, its order is one of all threads, it has at most 7
--- points, and each point and the limit is in 1..100000.
+-- The head of a trace: its version is 1 or 2, its order is one of all threads, it has few points,
+-- and each point and the limit is a number of steps.
 pub record IsHead (names : NameLists) (head : TraceHead) : Type 0 where
   pub version : (head.version ≡ 1) ⊎ (head.version ≡ 2)
   pub order : IsOrder head.order
   pub whole : length head.order ≡ length names.threads
-  pub few_points : length head.points ≤ 7
+  pub few_points : length head.points ≤ MAX_POINTS
   pub points : All IsStepCount head.points
   pub limit : IsStepCount head.limit

@@ -84,17 +84,20 @@ unfolding digits
 a_limit = refl
 
 pub a_step : words_of (codes "3 B 8 read x = 7")
-    ≡ words_of_form (forms.Step 3 (codes "B") 8 (ask_form verbs.Read (One (Name (codes "x")))) (pos 7))
+    ≡ words_of_form (forms.Step 3 (codes "B") 8 (ask_form verbs.Read (One (Name (codes "x"))))
+    (pos 7))
 unfolding digits
 a_step = refl
 
 pub a_wait : words_of (codes "12 A 9 release c m = 0")
-    ≡ words_of_form (forms.Step 12 (codes "A") 9 (ask_form verbs.Release (Two (Name (codes "c")) (Name (codes "m")))) (pos 0))
+    ≡ words_of_form (forms.Step 12 (codes "A") 9
+    (ask_form verbs.Release (Two (Name (codes "c")) (Name (codes "m")))) (pos 0))
 unfolding digits
 a_wait = refl
 
 pub an_exchange : words_of (codes "2 A 5 cas x -1 20 = 1")
-    ≡ words_of_form (forms.Step 2 (codes "A") 5 (ask_form verbs.Cas (Three (Name (codes "x")) (Value (negsuc 0)) (Value (pos 20)))) (pos 1))
+    ≡ words_of_form (forms.Step 2 (codes "A") 5
+    (ask_form verbs.Cas (Three (Name (codes "x")) (Value (negsuc 0)) (Value (pos 20)))) (pos 1))
 unfolding digits
 an_exchange = refl
 

@@ -271,7 +271,8 @@ pub fn ask_of_words(
     word: &[u8],
     operands: Operands<&[u8]>,
 ) -> WordsRead<Ask>
-    ensures { result ≡ asks.ask_of_words names.now version word.now (mapped (λ w. w.now) operands.entry) }
+    ensures { result ≡ asks.ask_of_words names.now version word.now
+        (mapped (λ w. w.now) operands.entry) }
 {
     match verb_in(version, word) {
         Some(verb) => asked(

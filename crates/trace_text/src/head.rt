@@ -11,8 +11,8 @@ ghost use Rattle.trace_text.specs.reader.Seen.{cut_value, Gives};
 
 use crate::fault::{TraceError, TraceFault};
 use pct_ask::{
-    NameKind, Names, OrderList, PointList, cut_line, first_words, is_among, is_lawful_name,
-    step_count, step_counts,
+    MAX_POINTS, NameKind, Names, OrderList, PointList, cut_line, first_words, is_among,
+    is_lawful_name, step_count, step_counts,
 };
 use std::alloc::{AllocError as NoMemory, Global};
 
@@ -155,7 +155,7 @@ fn points_in(alloc: Global, words: &[&[u8]]) -> Result<Option<PointList>, NoMemo
     let Some((head, others)) = words.split_first() else {
         return Ok(None);
     };
-    if *head == POINTS && others.len() <= 7 {
+    if *head == POINTS && others.len() <= MAX_POINTS {
         step_counts(alloc, others)
     } else {
         Ok(None)

@@ -10,6 +10,7 @@ ghost use Rattle.trace_text.specs.reader.Seen.{Gives};
 ghost use Rattle.trace_text.specs.Trace.{IsTrace};
 ghost use Rattle.trace_text.specs.declared.fault.TraceFault.{TraceFault};
 ghost use Rattle.trace_text.specs.declared.file.TraceFile.{TraceFile};
+ghost use Rattle.pct_ask.specs.declared.limits.TheConstants.{MAX_STEPS};
 
 use crate::fault::{TraceError, TraceFault};
 use crate::file::{Header, TraceFile};
@@ -42,7 +43,7 @@ fn read_body(
     limit: u32,
     text: &[u8],
 ) -> Result<Body, TraceError>
-    requires { limit ≤ 100000 }
+    requires { limit ≤ MAX_STEPS }
     ensures { Gives (λ body. (body.events, body.verdict)) result
         (reading.body_of names.now version limit 1 (pieces_of text.now)) }
 {

@@ -7,6 +7,7 @@ use Rattle.pct_ask.specs.Numbers.{all_of, step_count, step_counts}
 use Rattle.pct_ask.specs.Words.{is_name, is_among}
 use Rattle.pct_ask.specs.NameLists.{NameLists, place_of}
 use Rattle.pct_ask.specs.VerdictWords.{words_of}
+use Rattle.pct_ask.specs.declared.limits.TheConstants.{MAX_POINTS}
 
 -- trace 1, trace 2
 abbrev pub version_on_line : List ℕ → Option ℕ
@@ -42,7 +43,7 @@ threads_of_names names words = all_of (λ word. place_of word names.threads) wor
 abbrev pub point_words : List (List ℕ) → Option (List ℕ)
 point_words [] = None
 point_words (head ∷ words) =
-    if bytes_eq head (codes "points") && nat_le (length words) 7 then step_counts words else None
+    if bytes_eq head (codes "points") && nat_le (length words) MAX_POINTS then step_counts words else None
 
 -- points NUMBER NUMBER ..: none to 7 numbers in 1..100000
 abbrev pub points_on_line : List ℕ → Option (List ℕ)

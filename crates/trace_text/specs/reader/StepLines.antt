@@ -59,7 +59,8 @@ step_of_words names version (number ∷ thread ∷ line ∷ word ∷ a ∷ sign 
 step_of_words names version (number ∷ thread ∷ line ∷ word ∷ a ∷ b ∷ sign ∷ answer ∷ []) =
     step_in_words names number thread line (ask_of_words names version word (Two a b)) sign answer
 step_of_words names version (number ∷ thread ∷ line ∷ word ∷ a ∷ b ∷ c ∷ sign ∷ answer ∷ []) =
-    step_in_words names number thread line (ask_of_words names version word (Three a b c)) sign answer
+    step_in_words names number thread line (ask_of_words names version word (Three a b c)) sign
+    answer
 step_of_words names version words = None
 
 -- the text of a verdict of the second version alone, where it is a verdict
