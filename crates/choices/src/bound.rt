@@ -1,6 +1,7 @@
 //! The bound that PCT proves.
 
 ghost use Rattle.std.specs.Prelude.{◌≡◌, ◌≤◌, ◌*◌, ◌^◌};
+ghost use Rattle.pct_ask.specs.declared.limits.TheConstants.{MAX_POINTS, MAX_STEPS};
 
 /// In how many choices of an order of the threads and so many change points, each one of `steps`
 /// steps, at least one leads to a verdict that a directive of so many moments guarantees: the
@@ -8,8 +9,8 @@ ghost use Rattle.std.specs.Prelude.{◌≡◌, ◌≤◌, ◌*◌, ◌^◌};
 /// Nagarakatte, "A Randomized Scheduler with Probabilistic Guarantees of Finding Bugs", 2010).
 pub fn bound_of(threads: u32, steps: u32, points: usize) -> u128
     requires few_threads { threads ≤ 16 }
-    requires few_steps { steps ≤ 100000 }
-    requires few_points { points ≤ 7 }
+    requires few_steps { steps ≤ MAX_STEPS }
+    requires few_points { points ≤ MAX_POINTS }
     ensures { result ≡ threads * steps ^ points }
 {
     let mut bound = u128::from(threads);

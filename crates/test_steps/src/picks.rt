@@ -5,6 +5,7 @@ ghost use Rattle.policy_pick.specs.Choice.{TargetsAreAway, HasAwayTarget};
 use crate::samples::ORDERS;
 use crate::slow::{slow_by_events, slow_by_list, slow_by_points, slow_choice};
 use policy_pick::{Chance, DirectedPolicy, Listed, Moment, Pct, Pick, Policy};
+use rank_now::is_order;
 use std::alloc::Global;
 use std::process::Abort;
 use std::test::Fail;
@@ -290,6 +291,15 @@ fn moments_by_hand(rt: HostRuntime) -> Result<(), Fail> {
     let moments = [FIRST_OF_A, FIRST_OF_B, FIRST_OF_A];
     let equal = DirectedPolicy::new(rt.alloc(), &ORDER, &moments)?;
     expect_picks(&rt, equal, &EQUAL_MOMENTS);
+    Ok(())
+}
+
+#[test]
+fn policies_of_an_order(rt: HostRuntime) -> Result<(), Fail> {
+    assert!(rt; is_order(&ORDER));
+    expect_picks(&rt, Pct::of_order(rt.alloc(), &ORDER, &[1])?, &LOST_UPDATE);
+    let second = DirectedPolicy::of_order(rt.alloc(), &ORDER, &SECOND_OF_A)?;
+    expect_picks(&rt, second, &SECOND_STEP);
     Ok(())
 }
 

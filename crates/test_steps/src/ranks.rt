@@ -2,7 +2,8 @@ ghost use Rattle.std.specs.Prelude.{◌≡◌, ◌≤◌, length, IfOk};
 
 use crate::samples::ORDERS;
 use crate::slow::{slow_indices, slow_ranks};
-use rank_now::{RankError, Ranks};
+use pct_ask::OrderList;
+use rank_now::{Order, RankError, Ranks, first_wrong, is_order};
 use std::alloc::Global;
 use std::process::Abort;
 use std::test::Fail;
@@ -94,6 +95,28 @@ fn wrong_orders(rt: HostRuntime) {
         };
         assert_eq!(rt; at, *wrong);
     }
+}
+
+#[test]
+fn lists_and_orders(rt: HostRuntime) -> Result<(), Fail> {
+    let alloc = rt.alloc();
+    for (list, wrong) in &WRONG_ORDERS {
+        assert!(rt; list.len() <= 64);
+        assert_eq!(rt; first_wrong(*list), Some(*wrong));
+        assert!(rt; !is_order(*list));
+        let threads = OrderList::from_vec(Vec::from_slice(alloc, *list)?);
+        assert!(rt; threads.len() <= 64);
+        assert!(rt; Order::of(threads).is_none());
+    }
+    let list = [2, 0, 1];
+    assert!(rt; is_order(&list));
+    let ranks = Ranks::of_order(alloc, &list, 1)?;
+    assert_eq!(rt; ranks.greatest(), 4);
+    let threads = OrderList::from_vec(Vec::from_slice(alloc, &list)?);
+    assert!(rt; threads.len() <= 64);
+    let order = Order::of(threads);
+    assert_eq!(rt; order.map(|order| order.as_slice()[0]), Some(2));
+    Ok(())
 }
 
 /// An order, change points, the steps, and the ranks after them.

@@ -7,11 +7,10 @@ use Rattle.pct_ask.specs.declared.ask.Ask.{Ask}
 use Rattle.pct_ask.specs.declared.ask.Ask.TheVariants.{Join, Begin}
 use Rattle.pct_ask.specs.declared.ask.Post.{Post}
 use Rattle.pct_ask.specs.Objects.{Sizes, PostIsInRange}
-use Rattle.sync_store.specs.declared.touched.Touched.{Touched}
 use Rattle.sync_store.specs.declared.touched.Touched.TheVariants.{Nothing}
 use Rattle.sync_store.specs.Touched.{depends_on}
 use Rattle.turn_book.specs.Board.{AreNoted, ask_of_post, concerns, concerns_ask, joins, joins_ask}
-use Rattle.turn_book.specs.Board.{next_posts_of, may_wait, may_wait_ask}
+use Rattle.turn_book.specs.Board.{next_posts_of, may_wait}
 use Rattle.turn_book.proofs.Boards.{nothing-posted, set-listed}
 
 -- no ask depends on nothing
@@ -37,19 +36,6 @@ pub others-alone : (t u : ℕ) (post : Option Post) → u ≢ t → joins_ask t 
 others-alone t u post apart e =
     ap (λ b. b || concerns_ask t Nothing u (ask_of_post post)) (ne_eqb u t apart)
     ∙ alone-concerned t u (ask_of_post post) e
-
-idle-concerned : (t : ℕ) (object : Touched) (u : ℕ) (ask : Option Ask) → may_wait_ask ask ≡ false
-    → concerns_ask t object u ask ≡ false
-idle-concerned t object u None e = refl
-idle-concerned t object u (Some ask) e =
-    ap (λ b. b && (depends_on u ask object || joins t ask)) e
-
--- no step concerns another thread whose ask never has to wait
-pub others-idle : (t : ℕ) (object : Touched) (u : ℕ) (post : Option Post) → u ≢ t
-    → may_wait_ask (ask_of_post post) ≡ false → concerns t object u post ≡ false
-others-idle t object u post apart e =
-    ap (λ b. b || concerns_ask t object u (ask_of_post post)) (ne_eqb u t apart)
-    ∙ idle-concerned t object u (ask_of_post post) e
 
 -- ---- what is noted
 pub joined-within : (sizes : Sizes) (t : ℕ) (ask : Option Ask) → PostIsInRange sizes ask

@@ -1,6 +1,7 @@
 pub mod Boards
 pub mod Joined
 pub mod Waiters
+pub mod Lockers
 pub mod PostLists
 pub mod Books
 pub mod FirstBooks

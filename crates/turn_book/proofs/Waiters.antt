@@ -16,7 +16,7 @@ use Rattle.policy_pick.specs.declared.chance.Chance.{Chance}
 use Rattle.policy_pick.specs.declared.chance.Chance.TheVariants.{Ended}
 use Rattle.policy_pick.specs.Choice.{chance_of, is_open, OpensNoOther, SameOthers}
 use Rattle.turn_book.specs.Chances.{chance, chances}
-use Rattle.turn_book.specs.Board.{AreWaiters, IsBoard, ask_of_post, joins_ask, may_wait_ask}
+use Rattle.turn_book.specs.Board.{AreWaiters, IsBoard, ask_of_post, joins_ask, waits_otherwise_ask}
 use Rattle.turn_book.specs.Board.{next_posts_of}
 use Rattle.turn_book.proofs.Boards.{nothing-posted, set-listed, chance-at, length-chances}
 use Rattle.turn_book.proofs.Boards.{others-kept}
@@ -30,14 +30,14 @@ nobody-waits threads n posts none = record {
   each = λ u within waits.
       let unposted : next_posts_of posts u ≡ None =
       ap (λ ps. next_posts_of ps u) none ∙ nothing-posted n u in
-      absurd (false≢true (sym (ap (λ p. may_wait_ask (ask_of_post p)) unposted) ∙ waits));
+      absurd (false≢true (sym (ap (λ p. waits_otherwise_ask (ask_of_post p)) unposted) ∙ waits));
   below = λ u within is. absurd (omega (arith, bit_at-zero u));
 }
 
 -- a thread posts, and its bit is set where its ask may have to wait
 pub waiters-post : (threads : ℕ) (posts : List (Option Post)) (was now t : ℕ) (post : Option Post)
     → t < threads → length posts ≡ threads → AreWaiters threads posts was
-    → (may_wait_ask (ask_of_post post) ≡ true → bit_at now t ≡ 1)
+    → (waits_otherwise_ask (ask_of_post post) ≡ true → bit_at now t ≡ 1)
     → ((u : ℕ) → u < 64 → u ≢ t → bit_at now u ≡ bit_at was u)
     → AreWaiters threads (set posts t post) now
 waiters-post threads posts was now t post here long before this others = record {
@@ -47,12 +47,12 @@ waiters-post threads posts was now t post here long before this others = record 
         ap (next_posts_of (set posts t post)) same
         ∙ get_or-set_same posts t post None (omega arith) in
         ap (bit_at now) same
-        ∙ this (sym (ap (λ p. may_wait_ask (ask_of_post p)) is) ∙ waits)
+        ∙ this (sym (ap (λ p. waits_otherwise_ask (ask_of_post p)) is) ∙ waits)
     | inr apart ↦
         let is : next_posts_of (set posts t post) u ≡ next_posts_of posts u =
         get_or-set_other posts t u post None apart in
         others u within apart
-        ∙ before.each u within (sym (ap (λ p. may_wait_ask (ask_of_post p)) is) ∙ waits)
+        ∙ before.each u within (sym (ap (λ p. waits_otherwise_ask (ask_of_post p)) is) ∙ waits)
   ];
   below = λ u within is. elim (cases_eq u t) [
     | inl same ↦ omega arith
@@ -66,9 +66,9 @@ pub waiters-step : (threads after : ℕ) (posts : List (Option Post)) (was t : �
 waiters-step threads after posts was t many before = record {
   each = λ u within waits. elim (set-listed posts t None u) [
     | inl other ↦
-        before.each u within (sym (ap (λ p. may_wait_ask (ask_of_post p)) other) ∙ waits)
+        before.each u within (sym (ap (λ p. waits_otherwise_ask (ask_of_post p)) other) ∙ waits)
     | inr none ↦
-        absurd (false≢true (sym (ap (λ p. may_wait_ask (ask_of_post p)) none) ∙ waits))
+        absurd (false≢true (sym (ap (λ p. waits_otherwise_ask (ask_of_post p)) none) ∙ waits))
   ];
   below = λ u within is. omega (arith, before.below u within is);
 }
@@ -76,9 +76,9 @@ waiters-step threads after posts was t many before = record {
 -- a bit that isn't set is of a thread whose ask never has to wait
 pub never-set : (threads : ℕ) (posts : List (Option Post)) (waiters u : ℕ)
     → AreWaiters threads posts waiters → u < 64 → bit_at waiters u ≡ 0
-    → may_wait_ask (ask_of_post (next_posts_of posts u)) ≡ false
+    → waits_otherwise_ask (ask_of_post (next_posts_of posts u)) ≡ false
 never-set threads posts waiters u are within none =
-    elim (cases_Bool (may_wait_ask (ask_of_post (next_posts_of posts u)))) [
+    elim (cases_Bool (waits_otherwise_ask (ask_of_post (next_posts_of posts u)))) [
       | inl waits ↦ absurd (omega (arith, are.each u within waits))
       | inr never ↦ never
     ]

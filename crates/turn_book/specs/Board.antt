@@ -1,7 +1,7 @@
 -- The board of a book: the store, and each thread's next post. Nothing here is needed to read a
 -- public contract.
 use Rattle.std.specs.Prelude.{◌≡◌, ◌<◌, ◌≤◌, ℕ, ℤ, pos, Bool, true, false, ◌==◌, ◌||◌, ◌&&◌, List}
-use Rattle.std.specs.Prelude.{length}
+use Rattle.std.specs.Prelude.{length, if◌then◌else◌}
 use Rattle.std.specs.Prelude.{map, Option, Some, None, slice_index_or, slice_set}
 use Rattle.pct_ask.specs.declared.ask.Ask.{Ask}
 use Rattle.std.specs.Int.{bit_at}
@@ -13,6 +13,7 @@ use Rattle.pct_ask.specs.declared.event.Standing.{Standing}
 use Rattle.pct_ask.specs.declared.verdict.Verdict.{Verdict}
 use Rattle.pct_ask.specs.Objects.{PostIsInRange}
 use Rattle.sync_store.specs.declared.touched.Touched.{Touched}
+use Rattle.sync_store.specs.declared.touched.Touched.TheVariants.{Mutex}
 use Rattle.sync_store.specs.Store.{StoreState, sizes_of}
 use Rattle.sync_store.specs.Effect.{Effect, Goes, Stops, effect, store_after}
 use Rattle.sync_store.specs.Touched.{depends_on}
@@ -22,6 +23,7 @@ use Rattle.policy_pick.specs.Plan.{Plan}
 use Rattle.policy_pick.specs.Choice.{SameOthers, choice}
 use Rattle.turn_book.specs.Chances.{NextPosts, chances}
 use Rattle.turn_book.specs.Told.{standing_by}
+use Rattle.pct_ask.specs.declared.limits.TheConstants.{MAX_THREADS}
 
 pub record BoardState : Type 0 where
   pub store : StoreState
@@ -44,7 +46,7 @@ ArePostsInRange store posts =
 pub record IsBoard (store : StoreState) (posts : List (Option Post)) (stands : List Standing)
     (known : List Chance) : Type 0 where
   pub threads : length posts ≡ store.threads
-  pub few : store.threads ≤ 64
+  pub few : store.threads ≤ MAX_THREADS
   pub in_range : ArePostsInRange store posts
   pub standings : stands ≡ map standing_by posts
   pub chances : known ≡ chances store.threads store (next_posts_of posts)
@@ -96,24 +98,61 @@ may_wait (RdLock l) = true
 may_wait (WrLock l) = true
 may_wait ask = false
 
--- the same of an ask, where there is one
-abbrev pub may_wait_ask : Option Ask → Bool
-may_wait_ask None = false
-may_wait_ask (Some ask) = may_wait ask
+-- whether an ask locks the mutex m
+abbrev pub locks : ℕ → Ask → Bool
+locks m (Lock n) = n == m
+locks m ask = false
 
--- The bits of a word name threads that there are, each one whose next post may have to wait among
--- them.
+-- the same of an ask, where there is one
+abbrev pub locks_ask : ℕ → Option Ask → Bool
+locks_ask m None = false
+locks_ask m (Some ask) = locks m ask
+
+-- whether an ask may have to wait, and doesn't lock a mutex
+abbrev pub waits_otherwise : Ask → Bool
+waits_otherwise (Lock m) = false
+waits_otherwise ask = may_wait ask
+
+-- the same of an ask, where there is one
+abbrev pub waits_otherwise_ask : Option Ask → Bool
+waits_otherwise_ask None = false
+waits_otherwise_ask (Some ask) = waits_otherwise ask
+
+-- The bits of a word name threads that there are, among them each one whose next post may have to
+-- wait otherwise than for a mutex that it locks.
 pub record AreWaiters (threads : ℕ) (posts : List (Option Post)) (waiters : ℕ) : Type 0 where
-  pub each : (u : ℕ) → u < 64 → may_wait_ask (ask_of_post (next_posts_of posts u)) ≡ true
+  pub each : (u : ℕ) → u < MAX_THREADS
+      → waits_otherwise_ask (ask_of_post (next_posts_of posts u)) ≡ true
       → bit_at waiters u ≡ 1
-  pub below : (u : ℕ) → u < 64 → bit_at waiters u ≡ 1 → u < threads
+  pub below : (u : ℕ) → u < MAX_THREADS → bit_at waiters u ≡ 1 → u < threads
+
+-- Of each mutex there is a word whose bits name the threads whose next post locks it.
+abbrev pub AreLockers : List (Option Post) → List ℕ → Type 0
+AreLockers posts lockers =
+    (m u : ℕ) → u < MAX_THREADS
+    → bit_at (slice_index_or lockers m 0) u
+    ≡ (if locks_ask m (ask_of_post (next_posts_of posts u)) then 1 else 0)
+
+-- the threads that lock an object, as bits: none where it is no mutex
+abbrev pub lockers_at : List ℕ → Touched → ℕ
+lockers_at lockers (Mutex m) = slice_index_or lockers m 0
+lockers_at lockers object = 0
+
+-- the next posts of the threads of the bits all lock one mutex
+abbrev pub LockOne : List (Option Post) → ℕ → Type 0
+LockOne posts alike =
+    (m : ℕ)
+    × ((u : ℕ) → u < MAX_THREADS → bit_at alike u ≡ 1
+    → locks_ask m (ask_of_post (next_posts_of posts u)) ≡ true)
 
 -- a board that keeps these beside the store and the posts
 pub record IsNotedBoard (store : StoreState) (posts : List (Option Post)) (stands : List Standing)
-    (known : List Chance) (joined : List Bool) (waiters : ℕ) : Type 0 where
+    (known : List Chance) (joined : List Bool) (waiters : ℕ) (lockers : List ℕ) : Type 0 where
   pub board : IsBoard store posts stands known
   pub noted : AreNoted posts joined
   pub waiting : AreWaiters store.threads posts waiters
+  pub mutexes : length lockers ≡ (sizes_of store).mutexes
+  pub locking : AreLockers posts lockers
 
 abbrev pub concerns_ask : ℕ → Touched → ℕ → Option Ask → Bool
 concerns_ask t object u None = false

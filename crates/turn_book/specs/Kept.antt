@@ -18,6 +18,7 @@ use Rattle.turn_book.specs.Posts.{schedule_of, own_events, source_of}
 use Rattle.turn_book.specs.Obeys.{Obeys, outcome_after}
 use Rattle.turn_book.specs.Told.{BookState, post_of_event}
 use Rattle.turn_book.specs.Board.{BoardState, next_posts_of}
+use Rattle.pct_ask.specs.declared.limits.TheConstants.{MAX_STEPS}
 
 -- from the thread k on, the posts of threads that took these steps and have these next posts
 abbrev pub posts_from : List Event → ℕ → List (Option Post) → List (List Post)
@@ -56,7 +57,7 @@ pub record IsKept (deal : Deal) (limit : ℕ) (plan : Plan) (board : BoardState)
   pub threads : length board.posts ≡ deal.threads
   pub speaks : SpeaksOf plan deal.threads
   pub some_steps : 1 ≤ limit
-  pub few_steps : limit ≤ 100000
+  pub few_steps : limit ≤ MAX_STEPS
   pub room : limit ≤ reserved
   pub at : IsAt deal (source_of (posts_by events board.posts)) events board
   pub obeys : Obeys plan deal (source_of (posts_by events board.posts)) limit events

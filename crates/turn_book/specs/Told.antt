@@ -12,6 +12,7 @@ use Rattle.policy_pick.specs.declared.chance.Pick.{Pick}
 use Rattle.policy_pick.specs.Plan.{Plan, SpeaksOf}
 use Rattle.turn_book.specs.Posts.{schedule_of, own_events, posts_of, source_of, HasMore}
 use Rattle.turn_book.specs.Obeys.{choice_after, Obeys, outcome_after}
+use Rattle.pct_ask.specs.declared.limits.TheConstants.{MAX_STEPS}
 
 -- what it was made with, the posts of each thread, the steps, and what became of the run
 pub record BookState : Type 0 where
@@ -70,7 +71,7 @@ pub record IsLawful (book : BookState) : Type 0 where
       ≡ map post_of_event (own_events t book.trace) ++ option_to_list (next_post book t)
   pub speaks : SpeaksOf book.plan book.deal.threads
   pub some_steps : 1 ≤ book.limit
-  pub few_steps : book.limit ≤ 100000
+  pub few_steps : book.limit ≤ MAX_STEPS
 
 -- it was made with the same
 pub record SameMaking (old new : BookState) : Type 0 where

@@ -11,7 +11,8 @@ ghost use Rattle.turn_book.specs.Told.{standing_by};
 ghost use Rattle.turn_book.specs.Board.{TakesStep, next_posts_of, chances_on};
 
 use crate::known::{
-    asked, blocked_line, look_again, note_joined, standing_of, step_of, with_waiter,
+    add_locker, asked, blocked_line, look_again, note_joined, remove_locker, standing_of, step_of,
+    with_waiter,
 };
 use pct_ask::{Blocked, Deal, Event, Outcome, Post, Standing, Verdict};
 use policy_pick::Chance;
@@ -28,8 +29,11 @@ pub struct Board {
     chances: Vec<Chance>,
     /// Of each thread, whether another one has ever asked for its end.
     joined: [bool; 64],
-    /// A bit for each thread, the lowest for thread 0: where its ask may have to wait, it is set.
+    /// A bit for each thread, the lowest for thread 0: where its ask may have to wait, and locks no
+    /// mutex, it is set.
     waiters: u64,
+    /// Of each mutex such bits, of the threads whose asks lock it. So they are looked at together.
+    lockers: Vec<u64>,
 }
 
 impl Model for Board {
@@ -40,7 +44,8 @@ impl Model for Board {
     ghost view = { λ b. record { store = b.store; posts = b.posts.items } };
 
     ghost invariant = { λ b.
-        IsNotedBoard b.store b.posts.items b.standings.items b.chances.items b.joined b.waiters };
+        IsNotedBoard b.store b.posts.items b.standings.items b.chances.items b.joined b.waiters
+        b.lockers.items };
 }
 
 impl Board {
@@ -60,6 +65,7 @@ impl Board {
             chances: several(alloc, Chance::Away, deal.threads)?,
             joined: [false; 64],
             waiters: 0,
+            lockers: several(alloc, 0, deal.mutexes)?,
         })
     }
 
@@ -81,6 +87,7 @@ impl Board {
     /// A thread posts. It is true only where that has changed no other thread's chance.
     pub fn post(&mut self, thread: u32, post: Post) -> bool
         requires thread { thread < length self.old.posts }
+        requires away { next_posts_of self.old.posts thread ≡ None }
         requires in_range { PostIsInRange (sizes_of self.old.store) post.ask }
         ensures store { self.new.store ≡ self.old.store }
         ensures posts { self.new.posts ≡ slice_set self.old.posts thread (Some post) }
@@ -91,6 +98,7 @@ impl Board {
         self.posts[place] = Some(post);
         self.standings[place] = standing_of(Some(post));
         self.waiters = with_waiter(self.waiters, thread, post.ask);
+        add_locker(self.lockers.as_mut_slice(), thread, post.ask);
         note_joined(&mut self.joined, post.ask);
         let joined = self.joined[place];
         look_again(
@@ -101,6 +109,7 @@ impl Board {
             Touched::Nothing,
             joined,
             self.waiters,
+            self.lockers.as_slice(),
             self.chances.as_mut_slice(),
         );
         !joined
@@ -124,6 +133,7 @@ impl Board {
             Some((line, ask)) => {
                 let stepped = self.store.take_step(thread, line, &ask);
                 self.posts[place] = None;
+                remove_locker(self.lockers.as_mut_slice(), thread, &ask);
                 self.standings[place] = Standing::Away;
                 let opens = look_again(
                     &self.store,
@@ -133,6 +143,7 @@ impl Board {
                     Store::touched(&ask),
                     self.joined[place],
                     self.waiters,
+                    self.lockers.as_slice(),
                     self.chances.as_mut_slice(),
                 );
                 (step_of(thread, line, ask, stepped, outcome), opens)

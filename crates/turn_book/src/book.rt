@@ -11,6 +11,7 @@ ghost use Rattle.turn_book.specs.Told.{new_book, standing_of, choice_of, IsLawfu
 ghost use Rattle.turn_book.specs.Told.{IsPosted, IsAnswered, IsRunOver};
 ghost use Rattle.turn_book.specs.declared.taken.Because.{Because};
 ghost use Rattle.turn_book.specs.Answers.{IsAnswerTaken, IsBecause};
+ghost use Rattle.pct_ask.specs.declared.limits.TheConstants.{MAX_STEPS};
 
 use crate::board::Board;
 use crate::settle::{after_post, after_step, settle};
@@ -55,7 +56,7 @@ impl<P: Policy> TurnBook<P> {
     /// A book in which no thread has posted, of a run of at most `limit` steps.
     pub fn new(alloc: Global, deal: Deal, policy: P, limit: u32) -> Result<TurnBook<P>, NoMemory>
         requires some_steps { 1 ≤ limit }
-        requires few_steps { limit ≤ 100000 }
+        requires few_steps { limit ≤ MAX_STEPS }
         requires stands { P.stands policy [] }
         requires speaks { SpeaksOf (P.plan policy) deal.threads }
         ensures made { IfOk result (λ book. book ≡ new_book deal limit (P.plan policy)) }
@@ -74,7 +75,7 @@ impl<P: Policy> TurnBook<P> {
         spare: EventList,
     ) -> Result<TurnBook<P>, NoMemory>
         requires some_steps { 1 ≤ limit }
-        requires few_steps { limit ≤ 100000 }
+        requires few_steps { limit ≤ MAX_STEPS }
         requires stands { P.stands policy [] }
         requires speaks { SpeaksOf (P.plan policy) deal.threads }
         ensures made { IfOk result (λ book. book ≡ new_book deal limit (P.plan policy)) }

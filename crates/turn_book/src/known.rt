@@ -1,8 +1,10 @@
 ghost use Rattle.std.specs.Prelude.{◌≡◌, ◌≢◌, ◌<◌, ◌≤◌, ℕ, true, false, length, map, Some, None};
+ghost use Rattle.std.specs.Prelude.{List, Option};
 ghost use Rattle.std.specs.Prelude.{slice_set, slice_index_or};
 ghost use Rattle.std.specs.Prelude.{MatchOption};
 ghost use Rattle.std.specs.Int.{bit_at};
 ghost use Rattle.std.specs.Option.{option_map};
+ghost use Rattle.pct_ask.specs.declared.ask.Post.{Post};
 ghost use Rattle.pct_ask.specs.Objects.{PostIsInRange};
 ghost use Rattle.sync_store.specs.Store.{sizes_of};
 ghost use Rattle.sync_store.specs.Effect.{Effect, applied_of};
@@ -14,8 +16,10 @@ ghost use Rattle.turn_book.specs.Chances.{blocked_by_post};
 ghost use Rattle.turn_book.specs.Obeys.{outcome_by};
 ghost use Rattle.turn_book.specs.Told.{standing_by};
 ghost use Rattle.turn_book.specs.Board.{ArePostsInRange, ask_of_post, answer_of, verdict_of};
-ghost use Rattle.turn_book.specs.Board.{concerns, may_wait, may_wait_ask, AreWaiters};
-ghost use Rattle.turn_book.specs.Board.{next_posts_of, joins_ask};
+ghost use Rattle.turn_book.specs.Board.{concerns, waits_otherwise, waits_otherwise_ask, AreWaiters};
+ghost use Rattle.turn_book.specs.Board.{next_posts_of, joins_ask, locks, locks_ask, AreLockers};
+ghost use Rattle.turn_book.specs.Board.{lockers_at, LockOne};
+ghost use Rattle.pct_ask.specs.declared.limits.TheConstants.{MAX_THREADS};
 
 use pct_ask::{Ask, Event, Outcome, Post, Standing};
 use policy_pick::{Chance, is_open};
@@ -131,13 +135,13 @@ fn chance_by(ready: Ready) -> Chance
     }
 }
 
-/// Whether an ask may have to wait: for an object, for the end of a thread or for its own start.
-fn may_wait(ask: &Ask) -> bool
-    ensures { result ≡ may_wait ask.now }
+/// Whether an ask may have to wait otherwise than for a mutex that it locks: for an object, for the
+/// end of a thread or for its own start.
+fn waits_otherwise(ask: &Ask) -> bool
+    ensures { result ≡ waits_otherwise ask.now }
 {
     match *ask {
-        Ask::Lock { .. }
-        | Ask::Regain { .. }
+        Ask::Regain { .. }
         | Ask::Down { .. }
         | Ask::Leave { .. }
         | Ask::Join { .. }
@@ -148,6 +152,7 @@ fn may_wait(ask: &Ask) -> bool
         | Ask::Write { .. }
         | Ask::Add { .. }
         | Ask::Cas { .. }
+        | Ask::Lock { .. }
         | Ask::TryLock { .. }
         | Ask::Unlock { .. }
         | Ask::Release { .. }
@@ -166,22 +171,72 @@ fn may_wait(ask: &Ask) -> bool
     }
 }
 
-/// The threads of the bits, with this one where its ask may have to wait, and else without it.
+/// The threads of the bits, with this one where its ask may have to wait otherwise than for a mutex
+/// that it locks, and else without it.
 pub fn with_waiter(waiters: u64, thread: u32, ask: Option<Ask>) -> u64
-    requires { thread < 64 }
-    ensures this { may_wait_ask ask ≡ true → bit_at result thread ≡ 1 }
-    ensures others { (u : ℕ) → u < 64 → u ≢ thread → bit_at result u ≡ bit_at waiters u }
+    requires { thread < MAX_THREADS }
+    ensures this { waits_otherwise_ask ask ≡ true → bit_at result thread ≡ 1 }
+    ensures others { (u : ℕ) → u < MAX_THREADS → u ≢ thread → bit_at result u ≡ bit_at waiters u }
 {
     let bit = 1u64 << thread;
     match ask {
-        Some(ask) if may_wait(&ask) => waiters | bit,
+        Some(ask) if waits_otherwise(&ask) => waiters | bit,
         _ => waiters & !bit,
+    }
+}
+
+/// A thread that was away posts. Where its ask locks a mutex, it is one of those that do.
+pub fn add_locker(lockers: &mut [u64], thread: u32, ask: Option<Ask>)
+    requires thread { thread < MAX_THREADS }
+    requires in_range { (m : ℕ) → locks_ask m ask ≡ true → m < length lockers.old }
+    ensures many { length lockers.new ≡ length lockers.old }
+    ensures lockers { (posts : List (Option Post)) (post : Option Post)
+        → AreLockers posts lockers.old → thread < length posts
+        → next_posts_of posts thread ≡ None → ask_of_post post ≡ ask
+        → AreLockers (slice_set posts thread post) lockers.new }
+{
+    if let Some(Ask::Lock { mutex }) = ask {
+        let place = mutex as usize;
+        lockers[place] = lockers[place] | 1u64 << thread;
+    }
+}
+
+/// A thread takes the step that it asks, and no longer is one of those that lock a mutex.
+pub fn remove_locker(lockers: &mut [u64], thread: u32, ask: &Ask)
+    requires thread { thread < MAX_THREADS }
+    requires in_range { (m : ℕ) → locks m ask.now ≡ true → m < length lockers.old }
+    ensures many { length lockers.new ≡ length lockers.old }
+    ensures lockers { (posts : List (Option Post)) → AreLockers posts lockers.old
+        → thread < length posts → ask_of_post (next_posts_of posts thread) ≡ Some ask.now
+        → AreLockers (slice_set posts thread None) lockers.new }
+{
+    if let Ask::Lock { mutex } = *ask {
+        let place = mutex as usize;
+        lockers[place] = lockers[place] & !(1u64 << thread);
+    }
+}
+
+/// The threads that lock an object, as bits: none where it is no mutex.
+fn lockers_at(lockers: &[u64], touched: Touched) -> u64
+    ensures { result ≡ lockers_at lockers.now touched }
+{
+    match touched {
+        Touched::Mutex(mutex) => match lockers.get(mutex as usize) {
+            Some(threads) => *threads,
+            None => 0,
+        },
+        Touched::Nothing
+        | Touched::Cond(_)
+        | Touched::Sem(_)
+        | Touched::Barrier(_)
+        | Touched::Thread(_)
+        | Touched::RwLock(_) => 0,
     }
 }
 
 /// Notes which thread an ask joins.
 pub fn note_joined(joined: &mut [bool; 64], ask: Option<Ask>)
-    ensures noted { (t : ℕ) → t < 64 → joins_ask t ask ≡ true
+    ensures noted { (t : ℕ) → t < MAX_THREADS → joins_ask t ask ≡ true
         → slice_index_or joined.new t false ≡ true }
     ensures kept { (t : ℕ) → slice_index_or joined.old t false ≡ true
         → slice_index_or joined.new t false ≡ true }
@@ -203,7 +258,7 @@ fn look_at(
 )
     requires thread { thread < store.now.threads }
     requires threads { length posts.now ≡ store.now.threads }
-    requires few { store.now.threads ≤ 64 }
+    requires few { store.now.threads ≤ MAX_THREADS }
     requires in_range { ArePostsInRange store.now posts.now }
     requires standings { standings.now ≡ map standing_by posts.now }
     requires as_many { length known.old ≡ store.now.threads }
@@ -215,8 +270,9 @@ fn look_at(
 }
 
 /// Looks again at the threads that the post or the step of a thread concerns. Where it touches no
-/// object and nobody joins the thread, that is the thread alone, and else it may be any whose ask
-/// may have to wait. It is false only where no other thread is open that wasn't before.
+/// object and nobody joins the thread, that is the thread alone, and else it may be those that lock
+/// the mutex that it touches, at once, and any whose ask may have to wait otherwise. It is false
+/// only where no other thread is open that wasn't before.
 pub fn look_again(
     store: &Store,
     posts: &[Option<Post>],
@@ -225,14 +281,16 @@ pub fn look_again(
     touched: Touched,
     joined: bool,
     waiters: u64,
+    lockers: &[u64],
     known: &mut [Chance],
 ) -> bool
     requires thread { thread < store.now.threads }
     requires threads { length posts.now ≡ store.now.threads }
-    requires few { store.now.threads ≤ 64 }
+    requires few { store.now.threads ≤ MAX_THREADS }
     requires in_range { ArePostsInRange store.now posts.now }
     requires standings { standings.now ≡ map standing_by posts.now }
     requires waiters { AreWaiters store.now.threads posts.now waiters }
+    requires lockers { AreLockers posts.now lockers.now }
     requires as_many { length known.old ≡ store.now.threads }
     requires joined { joined ≡ false
         → (u : ℕ) → joins_ask thread (ask_of_post (next_posts_of posts.now u)) ≡ false }
@@ -245,7 +303,59 @@ pub fn look_again(
     look_at(store, posts, standings, thread, known);
     match touched {
         Touched::Nothing if !joined => false,
-        _ => look_at_waiters(store, posts, standings, thread, waiters, known),
+        _ => {
+            let alike = lockers_at(lockers, touched);
+            let lets_lock = look_at_alike(store, posts, standings, alike, known);
+            lets_lock | look_at_waiters(store, posts, standings, thread, waiters, known)
+        }
+    }
+}
+
+/// Looks again at threads that all lock one mutex: the chance of one is that of each. It is false
+/// only where none of them may go.
+fn look_at_alike(
+    store: &Store,
+    posts: &[Option<Post>],
+    standings: &[Standing],
+    alike: u64,
+    known: &mut [Chance],
+) -> bool
+    requires threads { length posts.now ≡ store.now.threads }
+    requires few { store.now.threads ≤ MAX_THREADS }
+    requires in_range { ArePostsInRange store.now posts.now }
+    requires standings { standings.now ≡ map standing_by posts.now }
+    requires as_many { length known.old ≡ store.now.threads }
+    requires alike { LockOne posts.now alike }
+    ensures many { length known.new ≡ length known.old }
+    ensures looked { (u : ℕ) → u < MAX_THREADS → bit_at alike u ≡ 1
+        → chance_of known.new u ≡ chance store.now (next_posts_of posts.now) u }
+    ensures others { (u : ℕ) → u < MAX_THREADS → bit_at alike u ≡ 0
+        → chance_of known.new u ≡ chance_of known.old u }
+    ensures opens { result ≡ false → (t : ℕ) → OpensNoOther t known.old known.new }
+{
+    if alike == 0 {
+        return false;
+    }
+    let first = alike.trailing_zeros();
+    let chance = chance_of(store, standings, first, posts[first as usize]);
+    set_each(alike, chance, known);
+    is_open(chance)
+}
+
+/// Gives each thread of the bits one chance.
+fn set_each(threads: u64, chance: Chance, known: &mut [Chance])
+    requires { (u : ℕ) → u < MAX_THREADS → bit_at threads u ≡ 1 → u < length known.old }
+    ensures many { length known.new ≡ length known.old }
+    ensures these { (u : ℕ) → u < MAX_THREADS → bit_at threads u ≡ 1
+        → chance_of known.new u ≡ chance }
+    ensures others { (u : ℕ) → u < MAX_THREADS → bit_at threads u ≡ 0
+        → chance_of known.new u ≡ chance_of known.old u }
+{
+    let mut left = threads;
+    while left != 0 {
+        let thread = left.trailing_zeros();
+        left &= !(1u64 << thread);
+        known[thread as usize] = chance;
     }
 }
 
@@ -260,7 +370,7 @@ fn look_at_waiters(
     known: &mut [Chance],
 ) -> bool
     requires threads { length posts.now ≡ store.now.threads }
-    requires few { store.now.threads ≤ 64 }
+    requires few { store.now.threads ≤ MAX_THREADS }
     requires in_range { ArePostsInRange store.now posts.now }
     requires standings { standings.now ≡ map standing_by posts.now }
     requires waiters { AreWaiters store.now.threads posts.now waiters }

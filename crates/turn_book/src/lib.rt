@@ -7,6 +7,8 @@
 //!   `TurnBook::new`: `made`, `lawful`; `TurnBook::post`: `posted`, `over`, `lawful`;
 //!   `TurnBook::take`: `answered`, `unchanged`, `lawful`; `TurnBook::outcome`: `outcome`, `lawful`
 //!   (`outcome_after`, `rest_verdict`).
+//! - A book in the memory of a trace that nobody needs any more is as a new one:
+//!   `TurnBook::new_in`: `made`, `lawful`.
 //! - The steps begin each whole run over these posts and any more, and are it once an outcome
 //!   stands: `TurnBook::trace`: `lawful`, `prefix`, `whole` (`IsRunOver`, `IsLawful.obeys`,
 //!   `IsLawful.outcome`).

@@ -1,7 +1,10 @@
-use Rattle.std.proofs.Common.{replicate, false}
+use Rattle.std.proofs.Common.{ℕ, replicate, false, length, sym, ap, ◌∙◌}
+use Rattle.std.proofs.lemmas.List.{length-replicate}
+use Rattle.pct_ask.specs.Objects.{Sizes}
 use Rattle.turn_book.proofs.Boards.{new-board}
 use Rattle.turn_book.proofs.Joined.{nothing-noted}
 use Rattle.turn_book.proofs.Waiters.{nobody-waits}
+use Rattle.turn_book.proofs.Lockers.{nobody-locks}
 use Rattle.turn_book.proofs.board.Board.new.Goals as goal
 
 pub invariant_of-result : goal.invariant_of-result
@@ -15,8 +18,14 @@ invariant_of-result c =
     let chances = c.in_ok-several-3.ensures in
     let deal = c.args.deal.now in
     let first = c.in_ok-new.ensures.first in
+    let empty : ℕ = 0 in
+    let lockers = c.in_ok-several-4.field-0.items in
+    let zeros = c.in_ok-several-4.ensures in
     record {
       board = new-board deal store posts stands known first none away chances;
       noted = nothing-noted deal.threads posts (replicate 64 false) none;
       waiting = nobody-waits store.threads deal.threads posts none;
+      mutexes = ap length zeros ∙ length-replicate deal.mutexes empty
+          ∙ sym (ap (λ (s : Sizes). s.mutexes) c.in_ok-new.ensures.sizes);
+      locking = nobody-locks deal.threads deal.mutexes posts lockers none zeros;
     }

@@ -1,5 +1,6 @@
-use Rattle.std.proofs.Common.{arith, ◌≡◌, List, ℕ, Option, Some, true, false, length, set, sym}
-use Rattle.std.proofs.Common.{ap, subst, refl, ◌∙◌, map, get_or}
+use Rattle.std.proofs.Common.{arith, ◌≡◌, ◌<◌, List, ℕ, Option, Some, None, true, false}
+use Rattle.std.proofs.Common.{length, set}
+use Rattle.std.proofs.Common.{sym, ap, subst, refl, ◌∙◌, map, get_or}
 use Rattle.pct_ask.specs.declared.ask.Post.{Post}
 use Rattle.pct_ask.specs.Objects.{PostIsInRange}
 use Rattle.sync_store.specs.declared.touched.Touched.TheVariants.{Nothing}
@@ -14,6 +15,8 @@ use Rattle.policy_pick.specs.Choice.{SameOthers}
 use Rattle.turn_book.specs.Board.{AreWaiters, chances_on}
 use Rattle.turn_book.proofs.Joined.{joined-within, not-noted, noted-set}
 use Rattle.turn_book.proofs.Waiters.{waiters-post, post-alone, not-so}
+use Rattle.turn_book.proofs.Lockers.{lock-within}
+use Rattle.turn_book.specs.Board.{AreLockers}
 use Rattle.turn_book.proofs.board.Board.post.Goals as goal
 
 pub look_again-requires-clause-standings : goal.look_again-requires-clause-standings
@@ -31,7 +34,7 @@ pub look_again-requires-clause-as_many : goal.look_again-requires-clause-as_many
 look_again-requires-clause-as_many c =
     let f = c.self.inside in
     let known = f.chances.items in
-    ap length c.as_mut_slice.ensures.value
+    ap length c.as_mut_slice-2.ensures.value
     ∙ length-known f.store f.posts.items f.standings.items known c.self.invariant.board
 
 pub look_again-requires-clause-others : goal.look_again-requires-clause-others
@@ -46,7 +49,7 @@ look_again-requires-clause-others c = λ u within none.
     let board = c.self.invariant.board in
     let stands = f.standings.items in
     let kept = others-kept f.store f.posts.items stands known board f.store t post Nothing refl in
-    ap (λ cs. chance_of cs u) c.as_mut_slice.ensures.value
+    ap (λ cs. chance_of cs u) c.as_mut_slice-2.ensures.value
     ∙ subst P (sym c.as_slice.ensures.value) (kept (λ ended v ask apart no. refl) u within) none
 
 pub look_again-requires-clause-joined : goal.look_again-requires-clause-joined
@@ -68,6 +71,43 @@ look_again-requires-clause-joined c = λ none u.
     let P : List (Option Post) → Type 0 =
     λ ps. joins_ask t (ask_of_post (next_posts_of ps u)) ≡ false in
     subst P (sym c.as_slice.ensures.value) (not-noted (set posts t post) after t noted none u)
+
+pub add_locker-requires-clause-thread : goal.add_locker-requires-clause-thread
+add_locker-requires-clause-thread c =
+    let board = c.self.invariant.board in
+    let long : length c.self.inside.posts.items ≡ length c.args.self.now.posts =
+    ap (λ (b : BoardState). length b.posts) c.self.view_is in
+    omega (arith, c.requires.thread, board.threads, board.few)
+
+pub add_locker-requires-clause-in_range : goal.add_locker-requires-clause-in_range
+add_locker-requires-clause-in_range c = λ m locks.
+    let f = c.self.inside in
+    let R : BoardState → Type 0 = λ b. PostIsInRange (sizes_of b.store) (c.args.post).ask in
+    let range = subst R (sym c.self.view_is) c.requires.in_range in
+    let within = lock-within (sizes_of f.store) m (c.args.post).ask range locks in
+    let many = ap length c.as_mut_slice.ensures.value in
+    omega (arith, within, many, c.self.invariant.mutexes)
+
+pub look_again-requires-clause-lockers : goal.look_again-requires-clause-lockers
+look_again-requires-clause-lockers c =
+    let f = c.self.inside in
+    let posts = f.posts.items in
+    let t : ℕ = c.args.thread in
+    let post : Option Post = Some c.args.post in
+    let A : List ℕ → Type 0 = AreLockers posts in
+    let are = subst A (sym c.as_mut_slice.ensures.value) c.self.invariant.locking in
+    let away : next_posts_of posts t ≡ None =
+    ap (λ (b : BoardState). next_posts_of b.posts t) c.self.view_is ∙ c.requires.away in
+    let same : length posts ≡ length c.args.self.now.posts =
+    ap (λ (b : BoardState). length b.posts) c.self.view_is in
+    let there : t < length posts = omega (arith, c.requires.thread, same) in
+    let many = c.add_locker.ensures.many ∙ ap length c.as_mut_slice.ensures.value in
+    let taken = front-taken _ _ _ (f.lockers.ok.0 ∙ sym many) in
+    let L : List ℕ → Type 0 = AreLockers (set posts t post) in
+    let P : List (Option Post) → Type 0 = λ ps. AreLockers ps c.as_slice-3.result.now in
+    subst P (sym c.as_slice.ensures.value)
+    (subst L (sym (c.as_slice-3.ensures.value ∙ taken))
+    (c.add_locker.ensures.lockers posts post are there away refl))
 
 pub invariant_of-self : goal.invariant_of-self
 invariant_of-self c =
@@ -97,10 +137,18 @@ invariant_of-self c =
     c.note_joined.ensures.noted v (omega (arith, within, board.few)) joins in
     let stand = c.standing_of.result in
     let is = c.standing_of.ensures in
-    let front = front-taken _ _ _ long ∙ looked in
     let kept = c.note_joined.ensures.kept in
     let same : length f.posts.items ≡ length c.args.self.now.posts =
     ap (λ (b : BoardState). length b.posts) c.self.view_is in
+    let L : List ℕ → Type 0 = AreLockers (set posts t post) in
+    let A : List ℕ → Type 0 = AreLockers posts in
+    let are = subst A (sym c.as_mut_slice.ensures.value) c.self.invariant.locking in
+    let away : next_posts_of posts t ≡ None =
+    ap (λ (b : BoardState). next_posts_of b.posts t) c.self.view_is ∙ c.requires.away in
+    let there : t < length posts = omega (arith, c.requires.thread, same) in
+    let many = c.add_locker.ensures.many ∙ ap length c.as_mut_slice.ensures.value in
+    let front = front-taken _ _ _ long ∙ looked in
+    let taken = front-taken _ _ _ (f.lockers.ok.0 ∙ sym many) in
     record {
       board = board-set f.store posts stands was board f.store t post stand _ refl range is front;
       noted = noted-set posts f.joined after t post c.self.invariant.noted kept one;
@@ -108,6 +156,9 @@ invariant_of-self c =
           (omega (arith, c.requires.thread, board.threads, same)) board.threads
           c.self.invariant.waiting
           c.with_waiter-self-inside.ensures.this c.with_waiter-self-inside.ensures.others;
+      mutexes = ap length taken ∙ many ∙ c.self.invariant.mutexes;
+      locking = subst L (sym taken)
+          (c.add_locker.ensures.lockers posts post are there away refl);
     }
 
 pub with_waiter-self-inside-requires : goal.with_waiter-self-inside-requires

@@ -31,6 +31,14 @@ after_post-known-requires-clause-thread g c =
           f.board f.trace.items f.next f.outcome (vec_capacity f.trace) kept,
     )
 
+pub post-alone-requires-clause-away : goal.post-alone-requires-clause-away
+post-alone-requires-clause-away g c =
+    let f = c.self.inside in
+    away-none (next_posts_of (f.board).posts c.args.thread)
+    (sym (standing-told f.deal f.limit (g.P.Policy.plan f.policy) f.board f.trace.items f.next
+    f.outcome (vec_capacity f.trace) c.self.invariant.0 c.args.thread)
+    ∙ ap (λ (b : BookState). standing_of b c.args.thread) c.self.view_is ∙ c.requires.away)
+
 pub invariant_of-self : goal.invariant_of-self
 invariant_of-self g c =
     let f = c.self.inside in
