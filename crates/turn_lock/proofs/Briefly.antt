@@ -17,7 +17,7 @@ busy-turn Ended holder e = absurd cc
 busy-turn (NotYet at because) holder e = absurd cc
 busy-turn (Over outcome) holder e = absurd cc
 
--- a turn is known by its words and the outcome
+-- a turn is known by its brief form and the outcome
 pub same-turn : (last : Option Outcome) (one other : Turn) → IsWith last one → IsWith last other
     → brief one ≡ brief other → one ≡ other
 same-turn last (Answer a) (Answer b) w v e = let same : a ≡ b = cc in ap Answer same

@@ -8,7 +8,7 @@ use Rattle.atomic_table.specs.Table.{step, keeps, Allows, Splits, Joins}
 use Rattle.atomic_table.proofs.Lists.{at_set, set_else, at_longer, at_snoc}
 use Rattle.turn_book.specs.Told.{BookState}
 use Rattle.turn_lock.specs.Seen.{SameOf}
-use Rattle.turn_lock.specs.Rule.{Serves, Ties, HoldsGate, KeepsRule, spent_view}
+use Rattle.turn_lock.specs.Rule.{Serves, Ties, HoldsLock, KeepsRule, spent_view}
 use Rattle.turn_lock.specs.Plays.{SeatWithSlots, Looks}
 use Rattle.turn_lock.specs.Seats.{seat_without, seat_of_one, seen_together, joined_seat}
 use Rattle.turn_lock.specs.declared.view.View.{View}
@@ -118,7 +118,7 @@ splits made id v t live idle mine s k at =
       );
       holds =
           λ j u is h. ⊎_elim (λ p. each (λ i x. x.held ≡ true
-          → HoldsGate x k.slot (get_or s.words 0 0)) vs id w
+          → HoldsLock x k.slot (get_or s.words 0 0)) vs id w
           (λ held. absurd (not_both v.held held idle)) (λ i x _. k.holds i x) j u p h)
           (λ (e : a ≡ u). absurd (not_both u.held h (sym (ap (λ (x : View). x.held) e))))
           (at_snoc (set vs id w) a u j is);
@@ -252,9 +252,9 @@ joins made id v other w live idle alive resting s k at ne there' =
         },
       );
       holds =
-          each (λ i x. x.held ≡ true → HoldsGate x k.slot (get_or s.words 0 0)) (set vs id j) other
+          each (λ i x. x.held ≡ true → HoldsLock x k.slot (get_or s.words 0 0)) (set vs id j) other
           spent_view (λ h. absurd (not_both false h refl))
-          (λ i x _. each (λ i x. x.held ≡ true → HoldsGate x k.slot (get_or s.words 0 0)) vs id j
+          (λ i x _. each (λ i x. x.held ≡ true → HoldsLock x k.slot (get_or s.words 0 0)) vs id j
           (λ h. absurd (not_both v.held h idle)) (λ i x _. k.holds i x) i x);
       ties =
           each (λ i x. x.live ≡ true → Ties x k.slot.book) (set vs id j) other spent_view

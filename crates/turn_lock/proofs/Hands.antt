@@ -11,7 +11,7 @@ use Rattle.turn_book.specs.Told.{BookState, SameMaking, Within}
 use Rattle.turn_lock.specs.Seen.{SameOf, owes_of}
 use Rattle.turn_lock.specs.Slots.{Slot, NotesBelow}
 use Rattle.turn_lock.specs.Rule.{HasFlag, Serves}
-use Rattle.turn_lock.specs.Plays.{SeatWithSlots, with_gate, with_book, IsTaken, IsTurnedAway}
+use Rattle.turn_lock.specs.Plays.{SeatWithSlots, with_lock, with_book, IsTaken, IsTurnedAway}
 use Rattle.turn_lock.specs.Turns.{GivenInRange, IsOwed, TurnsTo, TookOnce, IsBusy, GivesOnce}
 use Rattle.turn_lock.specs.Hands.{HasInHand, IsReady, SlotGoesOn, Stays, IsWork, IsPassed, IsSwept}
 use Rattle.turn_lock.specs.Wakes.{WakesBelow}
@@ -20,7 +20,7 @@ use Rattle.turn_lock.specs.declared.turn.Turn.TheVariants.{Answer, Ended, NotYet
 use Rattle.turn_lock.specs.declared.view.View.{View}
 use Rattle.turn_lock.specs.declared.work.Work.{Work}
 use Rattle.turn_lock.proofs.laws.SeenBooks.{begins-self}
-use Rattle.turn_lock.proofs.Growth.{took, goes, goes-back}
+use Rattle.turn_lock.proofs.laws.Growth.{took, goes, goes-back}
 use Rattle.turn_lock.proofs.laws.Standings.{same-owes}
 
 -- ---- what a seat may do that took the slot
@@ -39,7 +39,7 @@ many : (one other : BookState) → SameMaking one other → other.deal.threads �
 many one other making = ap (λ (d : Deal). d.threads) making.deal
 
 abbrev hand_of : SeatWithSlots → Slot → SeatWithSlots
-hand_of m slot = (with_gate m.0 slot, (0, slot) ∷ m.1)
+hand_of m slot = (with_lock m.0 slot, (0, slot) ∷ m.1)
 
 in-hand : (m : SeatWithSlots) (slot : Slot) → m.0.live ≡ true → m.1 ≡ []
     → HasInHand (hand_of m slot) slot
@@ -77,10 +77,10 @@ module _ (m n k : SeatWithSlots) (slot : Slot) (is : n ≡ hand_of m slot) (same
   base-is : n.0.base ≡ slot
   base-is = ap (λ (x : SeatWithSlots). x.0.base) is
 
-  view-is : k.0 ≡ with_gate m.0 slot
+  view-is : k.0 ≡ with_lock m.0 slot
   view-is = same ∙ ap (λ (x : SeatWithSlots). x.0) is
 
-  goes-at : (after : Slot) → SlotGoesOn (with_gate m.0 slot) slot after
+  goes-at : (after : Slot) → SlotGoesOn (with_lock m.0 slot) slot after
       → SlotGoesOn k.0 k.0.base after
   goes-at after g = subst (λ (x : View). SlotGoesOn x x.base after) (sym view-is) g
 
@@ -98,7 +98,7 @@ module _ (m n k : SeatWithSlots) (slot : Slot) (is : n ≡ hand_of m slot) (same
 
     pub work-goes : SlotGoesOn k.0 k.0.base after
     work-goes =
-        goes-at after (goes (with_gate m.0 slot) t slot post work.turn after serves
+        goes-at after (goes (with_lock m.0 slot) t slot post work.turn after serves
         (long slot m.0 t taken inside) tells-at notes-at)
 
     pub wakes-below : (made : BookState) → SameMaking made m.0.seen
@@ -110,7 +110,7 @@ module _ (m n k : SeatWithSlots) (slot : Slot) (is : n ≡ hand_of m slot) (same
     pub turned : (l : SeatWithSlots) → l ≡ (with_book k.0 after.book, [])
         → TookOnce m.0 t post work.turn l.0
     turned l opened =
-        let e : l.0 ≡ with_book (with_gate m.0 slot) after.book =
+        let e : l.0 ≡ with_book (with_lock m.0 slot) after.book =
         ap (λ (x : SeatWithSlots). x.0) opened
         ∙ ap (λ (v : View). with_book v after.book) view-is in
         subst (TookOnce m.0 t post work.turn) (sym e) record {
@@ -131,12 +131,12 @@ module _ (m n k : SeatWithSlots) (slot : Slot) (is : n ≡ hand_of m slot) (same
 
     pub passed-goes : SlotGoesOn k.0 k.0.base after
     passed-goes =
-        goes-at after (goes-back (with_gate m.0 slot) slot after passed-at.book taken.lawful
+        goes-at after (goes-back (with_lock m.0 slot) slot after passed-at.book taken.lawful
         passed-at.notes)
 
     pub stays : (l : SeatWithSlots) → l ≡ (with_book k.0 after.book, []) → Stays m.0 l.0
     stays l opened =
-        let e : l.0 ≡ with_book (with_gate m.0 slot) after.book =
+        let e : l.0 ≡ with_book (with_lock m.0 slot) after.book =
         ap (λ (x : SeatWithSlots). x.0) opened
         ∙ ap (λ (v : View). with_book v after.book) view-is in
         let book : after.book ≡ slot.book = passed-at.book in

@@ -1,4 +1,4 @@
--- The steps that keep the rule: the exchange on the gate word, the store that opens the gate, a
+-- The steps that keep the rule: the exchange on the lock word, the store that frees the lock, a
 -- load, a step on a turn
 -- word. How the table begins, and how it ends.
 use Rattle.std.proofs.Common.{◌≡◌, ◌≢◌, ℕ, zero, suc, ◌+◌, ◌-◌, ◌<◌, eqb, Bool, true, false, List}
@@ -17,9 +17,9 @@ use Rattle.pct_ask.specs.declared.Deal.{Deal}
 use Rattle.turn_book.specs.Told.{BookState, SameMaking, IsLawful, Within}
 use Rattle.turn_lock.specs.Seen.{SameOf, ObeysPlan}
 use Rattle.turn_lock.specs.Slots.{Slot, Board, NotesBelow}
-use Rattle.turn_lock.specs.Rule.{LockState, HasFlag, Serves, Ties, HoldsGate, Holder, KeepsRule}
+use Rattle.turn_lock.specs.Rule.{LockState, HasFlag, Serves, Ties, HoldsLock, Holder, KeepsRule}
 use Rattle.turn_lock.specs.Rule.{first_view}
-use Rattle.turn_lock.specs.Plays.{SeatWithSlots, with_gate, turned_away, with_book, Grabs, Opens}
+use Rattle.turn_lock.specs.Plays.{SeatWithSlots, with_lock, turned_away, with_book, Grabs, Unlocks}
 use Rattle.turn_lock.specs.Hands.{SlotGoesOn}
 use Rattle.turn_lock.specs.declared.view.View.{View}
 use Rattle.turn_lock.proofs.laws.SeenBooks.{within-self, within-along, same-self, same-along}
@@ -64,7 +64,7 @@ each F vs id w mine others j u is =
     subst (λ (x : ℕ × View). F x.0 x.1) (λ i. (sym t.0 i, t.1 i)) mine)
     (λ (t : (j ≢ id) × (get_elem? vs j ≡ some u)). others j u t.0 t.1) (at_set vs id j w u is)
 
--- a seat that doesn't hold the gate is none that does
+-- a seat that doesn't hold the lock is none that does
 pub not-holder : (vs : List View) (i j : ℕ) (v w : View) → get_elem? vs i ≡ some v → v.held ≡ true
     → get_elem? vs j ≡ some w → w.held ≡ false → i ≢ j
 not-holder vs i j v w at held there idle same =
@@ -80,9 +80,9 @@ moved : (made : BookState) (s : LockState) (k : KeepsRule made s) (id : ℕ) (v 
     → (get_or words 0 0 ≡ 0 → get_elem? homes 0 ≡ some (some slot))
     → ((t : ℕ) → get_or words 0 0 ≡ t + 1
     → (t < made.deal.threads) × Holder (state words homes (set s.views id w)) t)
-    → (w.held ≡ true → HoldsGate w slot (get_or words 0 0))
+    → (w.held ≡ true → HoldsLock w slot (get_or words 0 0))
     → ((j : ℕ) (u : View) → j ≢ id → get_elem? s.views j ≡ some u → u.held ≡ true
-    → HoldsGate u slot (get_or words 0 0))
+    → HoldsLock u slot (get_or words 0 0))
     → (w.live ≡ true → Ties w slot.book)
     → ((j : ℕ) (u : View) → j ≢ id → get_elem? s.views j ≡ some u → u.live ≡ true
     → Ties u slot.book)
@@ -98,7 +98,7 @@ moved made s k id v w slot words homes at e l making lawful notes wide long free
       free = free;
       taken = taken;
       holds =
-          each (λ j u. u.held ≡ true → HoldsGate u slot (get_or words 0 0)) s.views id w mine
+          each (λ j u. u.held ≡ true → HoldsLock u slot (get_or words 0 0)) s.views id w mine
           others;
       ties = each (λ j u. u.live ≡ true → Ties u slot.book) s.views id w tie ties;
       spent = λ j u t is h. let p = was s.views id v w at e l j u is in
@@ -109,7 +109,7 @@ moved made s k id v w slot words homes at e l making lawful notes wide long free
           k.apart i j a.0 c.0 t a.1 c.1 (serves-along t u a.0 a.2 f) (serves-along t x c.0 c.2 g);
     }
 
--- a step that leaves the gate word as it is, of a seat that doesn't hold the gate
+-- a step that leaves the lock word as it is, of a seat that doesn't hold the lock
 pub unmoved : (made : BookState) (s : LockState) (k : KeepsRule made s) (id : ℕ) (v w : View)
     → get_elem? s.views id ≡ some v → w.serves ≡ v.serves → w.live ≡ v.live → w.held ≡ false
     → v.held ≡ false → (w.live ≡ true → Ties w k.slot.book)
@@ -137,11 +137,11 @@ unmoved made s k id v w at e l idle was_idle tie =
     ))
     (λ held. absurd (not_both w.held held idle))
     (λ j u ne is held. let h = k.holds j u is held in
-    record { base = h.base; thread = h.thread; serves = h.serves; gate_is = same ∙ h.gate_is })
+    record { base = h.base; thread = h.thread; serves = h.serves; word_is = same ∙ h.word_is })
     tie
     (λ j u ne is alive. k.ties j u is alive)
 
--- a view with the same parts but the gate's has the same ties
+-- a view with the same parts but for the lock's has the same ties
 same-ties : (v w : View) (book : BookState) → w.seen ≡ v.seen → w.serves ≡ v.serves
     → w.left ≡ v.left → w.right ≡ v.right → w.left_had ≡ v.left_had → w.right_had ≡ v.right_had
     → Ties v book → Ties w book
@@ -165,7 +165,7 @@ same-ties v w book seen serves left right left_had right_had t =
           (t.right_own n (subst (λ (l : List Bool). HasFlag l n) right_had h));
     }
 
--- ---- compare and exchange on the gate word
+-- ---- compare and exchange on the lock word
 pub grabs : (made : BookState) (slots id : ℕ) (m : SeatWithSlots) (t : ℕ) → m.0.live ≡ true
     → m.0.held ≡ false → Serves m.0 t → t < m.0.seen.deal.threads
     → Allows (KeepsRule made) slots id m 0 (λ n. either (eqb n 0) (t + 1) n)
@@ -182,7 +182,7 @@ grabs made slots id m t live idle serves inside s k long at small =
     × KeepsRule made (stepped s 0 y id m.1 w a)
     × Grabs (step slots 0 0 (t + 1) none) m x (w, carried_after m.1 a) in
     exchanged x 0 (t + 1) F
-    (λ z. let w : View = with_gate m.0 k.slot in (
+    (λ z. let w : View = with_lock m.0 k.slot in (
       w,
       takes 0 k.slot,
       k.free z,
@@ -200,8 +200,8 @@ grabs made slots id m t live idle serves inside s k long at small =
               held = refl;
             },
           ))
-          (λ _. record { base = refl; thread = t; serves = serves; gate_is = now })
-          (λ j u ne is held. let h = k.holds j u is held in let q = h.gate_is in
+          (λ _. record { base = refl; thread = t; serves = serves; word_is = now })
+          (λ j u ne is held. let h = k.holds j u is held in let q = h.word_is in
           absurd (omega arith))
           (λ _. same-ties m.0 w k.slot.book refl refl refl refl refl refl tied)
           (λ j u ne is l. k.ties j u is l),
@@ -245,7 +245,7 @@ grabs made slots id m t live idle serves inside s k long at small =
       ),
     ))
 
--- ---- the store that opens the gate
+-- ---- the store that frees the lock
 -- a seat that serves none of the threads that posted or took a step keeps its ties
 other-ties : (v u : View) (slot after : Slot) → SlotGoesOn v slot after
     → ((t : ℕ) → Serves u t → Serves v t → ⊥) → Ties u slot.book → Ties u after.book
@@ -261,7 +261,7 @@ other-ties v u slot after on apart t = record {
   right_own = t.right_own;
 }
 
--- the book of a call that opens the gate is all that it has seen
+-- the book of a call that frees the lock is all that it has seen
 new-ties : (v : View) (book : BookState) → IsLawful book → Ties (with_book v book) book
 new-ties v book lawful = record {
   within = within-self book;
@@ -275,10 +275,10 @@ new-ties v book lawful = record {
 
 pub opens : (made : BookState) (slots id : ℕ) (m : SeatWithSlots) (v : View) (c : Slot)
     → m ≡ (v, (0, c) ∷ []) → v.live ≡ true → v.held ≡ true → SlotGoesOn v v.base c
-    → Allows (KeepsRule made) slots id m 0 (λ _. 0) (λ _. Opens (step slots 0 0 0 none) m 0)
+    → Allows (KeepsRule made) slots id m 0 (λ _. 0) (λ _. Unlocks (step slots 0 0 0 none) m 0)
 opens made slots id m v c is live held goes =
     subst (λ (x : SeatWithSlots). Allows (KeepsRule made) slots id x 0 (λ _. 0)
-    (λ _. Opens (step slots 0 0 0 none) x 0)) (sym is)
+    (λ _. Unlocks (step slots 0 0 0 none) x 0)) (sym is)
     (λ s k long at small.
     let wide = k.words in
     let one = k.slots in
@@ -287,7 +287,7 @@ opens made slots id m v c is live held goes =
     let many : k.slot.book.deal.threads ≡ made.deal.threads =
     ap (λ (d : Deal). d.threads) k.making.deal in
     let now : get_or (set s.words 0 0) 0 0 ≡ 0 = get_or-set_same s.words 0 0 0 (omega arith) in
-    let mine-word = mine.gate_is in
+    let mine-word = mine.word_is in
     let w : View = with_book v c.book in (
       w,
       gives,
@@ -301,7 +301,7 @@ opens made slots id m v c is live held goes =
           (λ h. absurd (not_both false h refl))
           (λ j u ne there h.
           let other = k.holds j u there h in
-          let word = other.gate_is in
+          let word = other.word_is in
           let same : other.thread ≡ mine.thread = omega arith in
           absurd (ne (k.apart j id u v other.thread there at other.serves
           (subst (Serves v) (sym same) mine.serves))))
@@ -347,7 +347,7 @@ marks made slots id m i f off s k long at small =
                   base = h.base;
                   thread = h.thread;
                   serves = h.serves;
-                  gate_is = same ∙ h.gate_is;
+                  word_is = same ∙ h.word_is;
                 };
             ties = k.ties;
             spent = k.spent;

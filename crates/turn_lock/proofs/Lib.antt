@@ -8,7 +8,6 @@ pub mod Seating
 pub mod FlagLists
 pub mod Joining
 pub mod Waiting
-pub mod Growth
 pub mod Waking
 pub mod laws
 pub mod Briefly

@@ -18,7 +18,7 @@ use Rattle.turn_lock.specs.declared.turn.Turn.{Turn}
 use Rattle.turn_lock.specs.declared.turn.Turn.TheVariants.{Answer, Ended, NotYet, Busy, Over}
 use Rattle.turn_lock.specs.declared.work.Wakes.TheVariants.{Nobody}
 use Rattle.turn_lock.specs.declared.work.Work.{Work}
-use Rattle.turn_lock.proofs.Growth.{grew-turn}
+use Rattle.turn_lock.proofs.laws.Growth.{grew-turn}
 use Rattle.turn_lock.proofs.laws.Standings.{away, away-owes}
 
 pub noted-is : (threads : ℕ) (board : Board) (t : ℕ) (noted : Option ℕ) → noted ≡ word_noted board t
@@ -86,7 +86,7 @@ pub all-ended : (threads : List Bool) (slot : Slot) (t lowest : ℕ) (done ended
     → ((u : ℕ) → HasFlag threads u → standing_of after.book u ≡ standings.Ended)
     → ended.brief ≡ briefs.Ended → ended.owes ≡ false → ended.wakes ≡ Nobody
     → IsFound threads slot lowest ended after
-all-ended threads slot t lowest done ended after here least posted work not all words owes wakes =
+all-ended threads slot t lowest done ended after here least posted work not all told owes wakes =
     let u = unanswered slot.book t work.turn after.book (ap settles (sym work.brief) ∙ not)
     work.tells in
     let stands : standing_of slot.book lowest ≡ standings.Ended =
@@ -95,7 +95,7 @@ all-ended threads slot t lowest done ended after here least posted work not all 
       serves = here;
       work = record {
         turn = Ended;
-        brief = words;
+        brief = told;
         tells = record {
           asked = slot.book;
           posted = refl;

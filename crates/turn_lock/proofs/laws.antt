@@ -9,5 +9,7 @@ pub mod Serving
 pub mod FirstThreads
 -- a thread that a seat serves is one of the book's
 pub mod SeatedThreads
+-- what a post and a turn do to a book, and so to the seat that made them
+pub mod Growth
 -- what may cross threads
 pub mod Crossing

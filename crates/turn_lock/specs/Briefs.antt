@@ -17,9 +17,9 @@ brief (turns.Busy holder) = Busy holder
 brief (turns.Over outcome) = Over
 
 -- a turn of which this is said, in brief
-pub record InBrief (Said : Turn → Type 0) (words : Brief) : Type 0 where
+pub record InBrief (Said : Turn → Type 0) (told : Brief) : Type 0 where
   pub turn : Turn
-  pub brief : words ≡ brief turn
+  pub brief : told ≡ brief turn
   pub said : Said turn
 
 -- where the turn tells an outcome, it is this one
@@ -36,4 +36,4 @@ as_brief replies.Over = Over
 abbrev pub settles : Brief → Bool
 settles (Answer answer) = true
 settles Over = true
-settles words = false
+settles told = false

@@ -17,7 +17,7 @@ abbrev pub IsTableSeatOf : {P : Type 0} → TurnLock P → TableSeat Slot View �
 IsTableSeatOf lock seat =
     (seat.table_id ≡ lock.table.shared.table_id) × SameMaking (first_book lock) seat.me.0.seen
 
--- a seat between two calls: it holds neither the gate nor a slot
+-- a seat between two calls: it holds neither the lock nor a slot
 pub record Idle (seat : TableSeat Slot View) : Type 0 where
   pub live : seat.me.0.live ≡ true
   pub held : seat.me.0.held ≡ false

@@ -14,13 +14,13 @@ use Rattle.turn_lock.specs.declared.turn.Turn.{Turn}
 use Rattle.turn_lock.specs.declared.view.View.{View}
 use Rattle.turn_lock.specs.declared.work.Work.{Work}
 
--- the seat holds the gate, and this slot, which was at first what the view tells
+-- the seat holds the lock, and this slot, which was at first what the view tells
 pub record HasInHand (m : SeatWithSlots) (slot : Slot) : Type 0 where
   pub live : m.0.live ≡ true
   pub held : m.0.held ≡ true
   pub one : m.1 ≡ (0, slot) ∷ []
 
--- the seat holds the gate and its slot, and may make this turn
+-- the seat holds the lock and its slot, and may make this turn
 pub record IsReady (m : SeatWithSlots) (t : ℕ) (post : Option Post) : Type 0 where
   pub hand : HasInHand m m.0.base
   pub thread : t < m.0.base.book.deal.threads

@@ -12,9 +12,9 @@ use Rattle.turn_lock.specs.declared.view.View.{View}
 abbrev pub SeatWithSlots : Type 0
 SeatWithSlots = Me Slot View
 
--- it holds the gate, and has taken this slot
-abbrev pub with_gate : View → Slot → View
-with_gate v slot = record {
+-- it holds the lock, and has taken this slot
+abbrev pub with_lock : View → Slot → View
+with_lock v slot = record {
   live = v.live;
   serves = v.serves;
   seen = v.seen;
@@ -44,7 +44,7 @@ turned_away v holder = record {
   right_had = v.right_had;
 }
 
--- it has opened the gate, and gave this book back
+-- it has freed the lock, and gave this book back
 abbrev pub with_book : View → BookState → View
 with_book v book = record {
   live = v.live;
@@ -66,7 +66,7 @@ pub record IsTaken (v : View) (slot : Slot) : Type 0 where
   pub lawful : IsLawful slot.book
   pub notes : NotesBelow v.seen.deal.threads slot.board
 
--- a failed exchange found another seat's thread in the gate word
+-- a failed exchange found another seat's thread in the lock word
 pub record IsTurnedAway (m : SeatWithSlots) (found : ℕ) (n : SeatWithSlots) : Type 0 where
   pub holder : ℕ
   pub found_is : found ≡ holder + 1
@@ -75,22 +75,22 @@ pub record IsTurnedAway (m : SeatWithSlots) (found : ℕ) (n : SeatWithSlots) : 
   pub thread : holder < m.0.seen.deal.threads
   pub obeys : ObeysPlan m.0.seen
 
--- compare and exchange on the gate word
+-- compare and exchange on the lock word
 abbrev pub Grabs : Step Slot → SeatWithSlots → ℕ → SeatWithSlots → Type 0
 Grabs step m found n =
-    (found ≡ 0 → (slot : Slot) × (n ≡ (with_gate m.0 slot, (0, slot) ∷ m.1)) × IsTaken m.0 slot)
+    (found ≡ 0 → (slot : Slot) × (n ≡ (with_lock m.0 slot, (0, slot) ∷ m.1)) × IsTaken m.0 slot)
     × (found ≢ 0 → IsTurnedAway m found n)
 
--- the store that opens the gate: the slot goes back, and its book is what the seat has seen
-abbrev pub Opens : Step Slot → SeatWithSlots → ℕ → SeatWithSlots → Type 0
-Opens step m stored n =
+-- the store that frees the lock: the slot goes back, and its book is what the seat has seen
+abbrev pub Unlocks : Step Slot → SeatWithSlots → ℕ → SeatWithSlots → Type 0
+Unlocks step m stored n =
     (slot : Slot) → m.1 ≡ (0, slot) ∷ rest m.1 → n ≡ (with_book m.0 slot.book, rest m.1)
 
 -- a step on a turn word
 abbrev pub Marks : Step Slot → SeatWithSlots → ℕ → SeatWithSlots → Type 0
 Marks step m found n = n ≡ m
 
--- a load of the gate word by a joined seat, which tells what the rule says of its last join
+-- a load of the lock word by a joined seat, which tells what the rule says of its last join
 pub record Looks (step : Step Slot) (m : SeatWithSlots) (found : ℕ) (n : SeatWithSlots)
     : Type 0 where
   pub same : n ≡ m

@@ -17,5 +17,5 @@ pub record IsAnsweredRound (v : View) (t : ℕ) (turn : Turn) (w : View) : Type 
 
 abbrev pub RoundTells : View → Round → View → Type 0
 RoundTells v Busy w = Stays v w
-RoundTells v (Found t words) w = InBrief (λ turn. IsAnsweredRound v t turn w) words
+RoundTells v (Found t told) w = InBrief (λ turn. IsAnsweredRound v t turn w) told
 RoundTells v (Wait word) w = Stays v w

@@ -1,6 +1,6 @@
--- What is true of the lock's table between any two steps (this project). Word 0 is the gate: it is
--- 0 where the lock is free, and else the holder's thread plus 1. Word t + 1 is the turn word of the
--- thread t, of which nothing is said. The one slot has the book and the wait board.
+-- What is true of the lock's table between any two steps (this project). Word 0 is the lock word: it
+-- is 0 where the lock is free, and else the holder's thread plus 1. Word t + 1 is the turn word of
+-- the thread t, of which nothing is said. The one slot has the book and the wait board.
 use Rattle.std.specs.Prelude.{◌≡◌, ◌<◌, ◌+◌, ◌-◌, ◌++◌, ℕ, Bool, true, false, List, [], None}
 use Rattle.std.specs.Prelude.{length, replicate, slice_index, slice_index_or}
 use mathlib.Core.Option.{some}
@@ -38,15 +38,15 @@ pub record Ties (v : View) (book : BookState) : Type 0 where
   pub left_own : (t : ℕ) → HasFlag v.left_had t → SameOf t v.left v.seen
   pub right_own : (t : ℕ) → HasFlag v.right_had t → SameOf t v.right v.seen
 
--- what the seat that holds the gate knows: the slot that it took, and its own number in the gate
+-- what the seat that holds the lock knows: the slot that it took, and its own number in the lock
 -- word
-pub record HoldsGate (v : View) (slot : Slot) (gate : ℕ) : Type 0 where
+pub record HoldsLock (v : View) (slot : Slot) (word : ℕ) : Type 0 where
   pub base : v.base ≡ slot
   pub thread : ℕ
   pub serves : Serves v thread
-  pub gate_is : gate ≡ thread + 1
+  pub word_is : word ≡ thread + 1
 
--- a seat that holds the gate and serves the thread
+-- a seat that holds the lock and serves the thread
 pub record Holder (s : LockState) (t : ℕ) : Type 0 where
   pub id : ℕ
   pub view : View
@@ -55,7 +55,7 @@ pub record Holder (s : LockState) (t : ℕ) : Type 0 where
   pub held : view.held ≡ true
 
 -- The rule that the lock's table keeps between any two steps (this project), with the book that the
--- lock was made with. Nobody holds the gate, or the one seat whose thread the gate word names. No
+-- lock was made with. Nobody holds the lock, or the one seat whose thread the lock word names. No
 -- two seats serve one thread, and a seat that was joined to another serves none. The slot, as it
 -- was when it was last at home, has a lawful book of the same making, and what each live seat has
 -- seen is how that book begins.
@@ -67,11 +67,11 @@ pub record KeepsRule (made : BookState) (s : LockState) : Type 0 where
   pub notes : NotesBelow made.deal.threads slot.board
   pub words : length s.words ≡ made.deal.threads + 1
   pub slots : length s.homes ≡ 1
-  -- the gate
+  -- the lock word
   pub free : slice_index s.words 0 ≡ 0 → get_elem? s.homes 0 ≡ some (some slot)
   pub taken : (t : ℕ) → slice_index s.words 0 ≡ t + 1 → (t < made.deal.threads) × Holder s t
   pub holds : (id : ℕ) (v : View) → get_elem? s.views id ≡ some v → v.held ≡ true
-      → HoldsGate v slot (slice_index s.words 0)
+      → HoldsLock v slot (slice_index s.words 0)
   -- the seats
   pub ties : (id : ℕ) (v : View) → get_elem? s.views id ≡ some v → v.live ≡ true → Ties v slot.book
   pub spent : (id : ℕ) (v : View) (t : ℕ) → get_elem? s.views id ≡ some v → Serves v t

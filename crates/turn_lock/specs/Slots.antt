@@ -6,7 +6,7 @@ use Rattle.turn_book.specs.Told.{BookState}
 abbrev pub Board : Type 0
 Board = List (Option ℕ)
 
--- what a call takes with the gate: the book of turns, and the wait board
+-- what a call takes with the lock: the book of turns, and the wait board
 pub record Slot : Type 0 where
   pub book : BookState
   pub board : Board

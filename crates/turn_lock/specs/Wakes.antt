@@ -1,4 +1,4 @@
--- Whom a call wakes: the turn words that it changes after it opened the gate (this project).
+-- Whom a call wakes: the turn words that it changes after it freed the lock (this project).
 use Rattle.std.specs.Prelude.{◌≡◌, ◌<◌, ℕ, Bool, List, Some, None, IsSome}
 use Rattle.policy_pick.specs.declared.chance.Pick.TheVariants.{Thread}
 use Rattle.turn_book.specs.Told.{BookState, choice_of}
@@ -6,6 +6,7 @@ use Rattle.turn_lock.specs.Rule.{HasFlag}
 use Rattle.turn_lock.specs.Slots.{Slot, word_noted}
 use Rattle.turn_lock.specs.declared.work.Wakes.{Wakes}
 use Rattle.turn_lock.specs.declared.work.Wakes.TheVariants.{Nobody, One, All}
+use Rattle.pct_ask.specs.declared.limits.TheConstants.{MAX_THREADS}
 
 -- each of these words is a thread's
 abbrev pub AreBelow : ℕ → List Bool → Type 0
@@ -26,8 +27,8 @@ HasTurn book t = (book.outcome ≡ None) × (choice_of book ≡ Some (Thread t))
 abbrev pub AreDue : Slot → Wakes → Type 0
 AreDue slot Nobody =
     (slot.book.outcome ≡ None)
-    × ((u : ℕ) → u < 64 → HasTurn slot.book u → word_noted slot.board u ≡ None)
+    × ((u : ℕ) → u < MAX_THREADS → HasTurn slot.book u → word_noted slot.board u ≡ None)
 AreDue slot (One word) = (u : ℕ) × HasTurn slot.book u × (word_noted slot.board u ≡ Some word)
 AreDue slot (All words) =
     IsSome slot.book.outcome
-    × ((u word : ℕ) → u < 64 → word_noted slot.board u ≡ Some word → HasFlag words word)
+    × ((u word : ℕ) → u < MAX_THREADS → word_noted slot.board u ≡ Some word → HasFlag words word)

@@ -1,4 +1,5 @@
 ghost use Rattle.std.specs.Prelude.{◌≡◌, ◌<◌, None, Some, replicate, slice_set, slice_index_or};
+ghost use Rattle.pct_ask.specs.declared.limits.TheConstants.{MAX_THREADS};
 
 use std::marker::Model;
 
@@ -28,7 +29,7 @@ impl WaitBoard {
 
     /// Notes the word of a thread.
     pub fn note(&mut self, thread: u32, word: u32)
-        requires { (thread < 64) × (word < 64) }
+        requires { (thread < MAX_THREADS) × (word < MAX_THREADS) }
         ensures { self.new ≡ slice_set self.old thread (Some word) }
     {
         self.words[thread as usize] = Some(word);
@@ -36,7 +37,7 @@ impl WaitBoard {
 
     /// The word that was noted last for a thread.
     pub fn word_of(&self, thread: u32) -> Option<u32>
-        requires { thread < 64 }
+        requires { thread < MAX_THREADS }
         ensures { result ≡ slice_index_or self.now thread None }
     {
         self.words[thread as usize]

@@ -2,12 +2,13 @@
 ghost use Rattle.std.specs.Prelude.{◌≡◌, ◌<◌, ◌≤◌, ℕ, false, if◌then◌else◌, length, slice_index_or};
 ghost use Rattle.turn_lock.specs.Rule.{HasFlag, first_threads};
 ghost use Rattle.turn_lock.specs.Seats.{flags_of_either};
+ghost use Rattle.pct_ask.specs.declared.limits.TheConstants.{MAX_THREADS};
 
 /// The first so many threads.
 pub fn first_threads(threads: u32) -> [bool; 64]
-    requires { threads ≤ 64 }
+    requires { threads ≤ MAX_THREADS }
     ensures first { result ≡ first_threads threads }
-    ensures flags { length result ≡ 64 }
+    ensures flags { length result ≡ MAX_THREADS }
 {
     let mut first = [false; 64];
     for thread in 0..threads {
@@ -29,8 +30,8 @@ pub fn either(one: &[bool; 64], other: &[bool; 64]) -> [bool; 64]
 
 /// Each flag is taken from the first list where that is wanted, and else from the second.
 pub fn chosen(wanted: &[bool; 64], one: &[bool; 64], other: &[bool; 64]) -> [bool; 64]
-    ensures flags { length result ≡ 64 }
-    ensures chosen { (t : ℕ) → t < 64
+    ensures flags { length result ≡ MAX_THREADS }
+    ensures chosen { (t : ℕ) → t < MAX_THREADS
         → slice_index_or result t false
         ≡ (if slice_index_or wanted.now t false then slice_index_or one.now t false
         else slice_index_or other.now t false) }

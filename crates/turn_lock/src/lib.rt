@@ -8,7 +8,7 @@
 //!   `TurnLock::turn_any`: `turn`, `obeys`, `tells`; in brief `TurnLock::post_brief`: `turn`;
 //!   `TurnLock::turn_brief`: `turn` (`GivesOnce`, `TookAtLast`, `TookTurn.turn`, `TurnsTo`,
 //!   `InBrief`).
-//! - At each answer but `Busy` the call took the gate, `try_turn` exactly once, and the seat has
+//! - At each answer but `Busy` the call took the lock, `try_turn` exactly once, and the seat has
 //!   seen the book that it took last, with its post and step; what it had seen before begins that
 //!   (`TookAtLast.takes`, `TookOnce.takes`, `TookTurn.book`, `TookTurn.grown`).
 //! - `Answer(a)`: the last step is the thread's own ask with the answer a, and its one new pair
@@ -29,13 +29,15 @@
 //!   `seen`, `own`, `theirs`, `obeys` (`joined_seat`, `seen_together`). `close` gives the book,
 //!   whose posts and steps are, thread by thread, the seat's: `TurnLock::close`: `making`,
 //!   `lawful`, `seen`, `own`.
-//! - Between two calls a seat doesn't hold the gate; which threads it serves, and which owe a post:
+//! - Between two calls a seat doesn't hold the lock; which threads it serves, and which owe a post:
 //!   `Seat`: `live`, `idle`, `none`; `Seat::serves`; `Seat::owes`.
+//! - On a book that the caller has for itself, with no lock: a post, `ask`: `asked`, `lawful`,
+//!   `here`; and a thread's turn, `answer`: `row`, `lawful` (`IsAsked`, `Row`).
 //! - A board keeps what was noted last, and nothing exactly where nothing was: `WaitBoard::new`;
 //!   `WaitBoard::note`; `WaitBoard::word_of`.
 //! - All this rests on a rule of the lock's table between any two atomic steps (`KeepsRule`, in
-//!   `specs/Rule.antt`), which no public clause cites: the gate word is 0, or one more than a
-//!   thread of the one seat that holds the gate (`KeepsRule.holds`); each thread is served by at
+//!   `specs/Rule.antt`), which no public clause cites: the lock word is 0, or one more than a
+//!   thread of the one seat that holds the lock (`KeepsRule.holds`); each thread is served by at
 //!   most one seat (`KeepsRule.apart`); the slot, as it last came home, has the book
 //!   (`KeepsRule.lawful`); each seat has seen how that book begins, and of its own threads all
 //!   (`KeepsRule.ties`). Of the turn words' values nothing is said (`KeepsRule.words`).
@@ -43,20 +45,17 @@
 
 mod board;
 mod brief;
-mod calls;
 mod flags;
 mod held;
 mod keep;
 mod round;
 mod rule;
 mod seat;
-mod seats;
 mod slot;
 mod steps;
 mod turn;
 mod turning;
 mod view;
-mod waits;
 mod work;
 
 pub use board::WaitBoard;

@@ -1,5 +1,5 @@
 ghost use Rattle.turn_lock.specs.Rule.{KeepsRule, first_view, spent_view};
-ghost use Rattle.turn_lock.specs.Plays.{Grabs, Opens, Marks, Looks};
+ghost use Rattle.turn_lock.specs.Plays.{Grabs, Unlocks, Marks, Looks};
 ghost use Rattle.turn_lock.specs.Seats.{seat_without, seat_of_one, joined_seat};
 
 use crate::slot::Slot;
@@ -21,18 +21,18 @@ impl<P: Policy> TableRule<Slot<P>, View, Snapshot<Slot<P>>> for Law {
     ghost first = { λ key. first_view key.value.book };
 }
 
-/// Compare and exchange on the gate word.
+/// Compare and exchange on the lock word.
 pub struct Grab;
 
 impl<P: Policy> Play<Slot<P>, View> for Grab {
     ghost then = { Grabs };
 }
 
-/// The store that opens the gate.
-pub struct Open;
+/// The store that frees the lock.
+pub struct Unlock;
 
-impl<P: Policy> Play<Slot<P>, View> for Open {
-    ghost then = { Opens };
+impl<P: Policy> Play<Slot<P>, View> for Unlock {
+    ghost then = { Unlocks };
 }
 
 /// A step on a turn word.

@@ -1,6 +1,8 @@
 ghost use Rattle.std.specs.Prelude.{◌≡◌, ◌<◌, ℕ, [], true, false, length, slice_index_or};
 ghost use Rattle.turn_lock.specs.Seen.{owes_of};
+ghost use Rattle.pct_ask.specs.declared.limits.TheConstants.{MAX_THREADS};
 
+use crate::flags::first_threads;
 use crate::rule::TableSeat;
 use policy_pick::Policy;
 
@@ -15,7 +17,7 @@ pub struct Seat<P: Policy> {
     /// Where the seat's last call noted a turn word for all its threads and none of them had its
     /// turn: that word, as it was then.
     pub(crate) noted: Option<u32>,
-    ghost flags: { length owes ≡ 64 },
+    ghost flags: { length owes ≡ MAX_THREADS },
     ghost live: { seat.me.0.live ≡ true },
     ghost idle: { seat.me.0.held ≡ false },
     ghost none: { seat.me.1 ≡ [] },
@@ -24,4 +26,43 @@ pub struct Seat<P: Policy> {
         → t < seat.me.0.seen.deal.threads },
     ghost owed: { (t : ℕ) → slice_index_or serves t false ≡ true
         → slice_index_or owes t false ≡ owes_of seat.me.0.seen t },
+}
+
+impl<P: Policy> Seat<P> {
+    ghost use Rattle.std.specs.Prelude.{◌≡◌, ◌<◌, ℕ, [], true, false, length, slice_index_or, ◌↔◌};
+    ghost use Rattle.turn_lock.specs.Seen.{owes_of};
+    ghost use Rattle.turn_lock.specs.Rule.{Serves, first_view};
+    ghost use Rattle.turn_lock.specs.Views.{view};
+
+    /// The first seat of a table. Each of its threads owes a post.
+    pub(crate) fn first(seat: TableSeat<P>, threads: u32) -> Seat<P>
+        requires me { seat.me ≡ (first_view seat.me.0.seen, []) }
+        requires threads { threads ≡ seat.me.0.seen.deal.threads }
+        requires owe { (t : ℕ) → t < threads → owes_of seat.me.0.seen t ≡ true }
+        ensures { result.seat ≡ seat }
+    {
+        let all = first_threads(threads);
+        Seat {
+            seat,
+            serves: all,
+            owes: all,
+            alone: threads == 1,
+            noted: None,
+        }
+    }
+
+    /// Whether the seat serves the thread.
+    pub fn serves(&self, thread: u32) -> bool
+        ensures { (result ≡ true) ↔ Serves (view self.now) thread }
+    {
+        thread < 64 && self.serves[thread as usize]
+    }
+
+    /// Whether the thread's next post was not yet taken by the lock.
+    pub fn owes(&self, thread: u32) -> bool
+        requires { Serves (view self.now) thread }
+        ensures { result ≡ owes_of (view self.now).seen thread }
+    {
+        self.owes[thread as usize]
+    }
 }

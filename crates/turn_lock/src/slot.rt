@@ -8,6 +8,7 @@ ghost use Rattle.turn_lock.specs.Hands.{IsWork, IsSwept};
 ghost use Rattle.turn_lock.specs.Briefs.{InBrief};
 ghost use Rattle.turn_lock.specs.Wakes.{AreBelow, WakesBelow, AreDue};
 ghost use Rattle.pct_ask.specs.declared.event.Standing.TheVariants as standings;
+ghost use Rattle.pct_ask.specs.declared.limits.TheConstants.{MAX_THREADS};
 
 use crate::board::WaitBoard;
 use crate::brief::Brief;
@@ -73,7 +74,8 @@ impl<P: Policy> Slot<P> {
         requires { NotesBelow self.now.book.deal.threads self.now.board }
         ensures some { IfSome result (λ word.
             (word_noted self.now.board thread ≡ Some word) × (word < self.now.book.deal.threads)) }
-        ensures none { result ≡ None → thread < 64 → word_noted self.now.board thread ≡ None }
+        ensures none { result ≡ None → thread < MAX_THREADS
+            → word_noted self.now.board thread ≡ None }
     {
         if thread < 64 {
             self.board.word_of(thread)
@@ -85,7 +87,7 @@ impl<P: Policy> Slot<P> {
     /// Every word that was noted.
     fn all_noted(&self) -> [bool; 64]
         requires { NotesBelow self.now.book.deal.threads self.now.board }
-        ensures all { (u word : ℕ) → u < 64 → word_noted self.now.board u ≡ Some word
+        ensures all { (u word : ℕ) → u < MAX_THREADS → word_noted self.now.board u ≡ Some word
             → HasFlag result word }
         ensures below { AreBelow self.now.book.deal.threads result }
     {
@@ -128,10 +130,10 @@ impl<P: Policy> Slot<P> {
     }
 
     /// Keeps the outcome where the run is over.
-    fn keep<K: Keep>(&self, words: Brief, place: &mut K)
-        ensures { words ≡ Brief.Over → K.kept self.now.book.outcome place.new }
+    fn keep<K: Keep>(&self, told: Brief, place: &mut K)
+        ensures { told ≡ Brief.Over → K.kept self.now.book.outcome place.new }
     {
-        if let Brief::Over = words {
+        if let Brief::Over = told {
             self.keep_outcome(place);
         }
     }

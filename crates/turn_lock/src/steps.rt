@@ -14,7 +14,7 @@ ghost use mathlib.Core.Option.{none};
 use crate::brief::Brief;
 use crate::held::TurnLock;
 use crate::keep::Keep;
-use crate::rule::{Grab, Look, Mark, Open, Part, TableSeat, Which};
+use crate::rule::{Grab, Look, Mark, Part, TableSeat, Unlock, Which};
 use crate::work::{Wakes, Work};
 use pct_ask::Post;
 use policy_pick::Policy;
@@ -25,7 +25,7 @@ use std::sync::Wait;
 const SLEEPER: u64 = 4_294_967_296;
 
 impl<P: Policy> TurnLock<P> {
-    /// Takes the slot to the seat, or answers the number of the thread that holds the gate.
+    /// Takes the slot to the seat, or answers the number of the thread that holds the lock.
     pub(crate) fn grab(&self, seat: &mut TableSeat<P>, thread: u32) -> u64
         requires of { IsTableSeatOf self.now seat.old }
         requires idle { Idle seat.old }
@@ -79,16 +79,16 @@ impl<P: Policy> TurnLock<P> {
         slot.sweep(threads, lowest, place)
     }
 
-    /// Gives the slot back, and opens the gate.
-    pub(crate) fn open_gate(&self, seat: &mut TableSeat<P>)
+    /// Gives the slot back, and frees the lock.
+    pub(crate) fn unlock(&self, seat: &mut TableSeat<P>)
         requires of { seat.old.table_id ≡ self.now.table.shared.table_id }
         requires goes { (after : Slot) × HasInHand seat.old.me after
             × SlotGoesOn seat.old.me.0 seat.old.me.0.base after }
         ensures same { SameSeat seat.old seat.new }
-        ensures opened { (after : Slot) → HasInHand seat.old.me after
+        ensures freed { (after : Slot) → HasInHand seat.old.me after
             → seat.new.me ≡ (with_book seat.old.me.0 after.book, []) }
     {
-        self.table.shared.store::<Open>(seat, 0, 0);
+        self.table.shared.store::<Unlock>(seat, 0, 0);
     }
 
     /// A thread's turn word as it is now: the low half of its place, on which the thread sleeps.
@@ -154,7 +154,7 @@ impl<P: Policy> TurnLock<P> {
         }
     }
 
-    /// Marks the turn words of those who may go on. A call does so after it opened the gate: a
+    /// Marks the turn words of those who may go on. A call does so after it freed the lock: a
     /// waiter that looked before the change noted its word and read it while it held the book, so
     /// it doesn't sleep on the word as it was.
     pub(crate) fn wake(&self, seat: &mut TableSeat<P>, wakes: &Wakes)
@@ -182,7 +182,7 @@ impl<P: Policy> TurnLock<P> {
         self.table.shared.split_seat::<Part<W>>(seat)
     }
 
-    /// A load of the gate word, which tells what the rule says of the seat's last join.
+    /// A load of the lock word, which tells what the rule says of the seat's last join.
     pub(crate) fn look(&self, seat: &mut TableSeat<P>)
         requires of { seat.old.table_id ≡ self.now.table.shared.table_id }
         requires idle { Idle seat.old }

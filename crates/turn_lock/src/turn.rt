@@ -10,7 +10,7 @@ pub enum Turn {
     Ended,
     /// It isn't the thread's turn, at this number of steps.
     NotYet { at: u32, because: Because },
-    /// Another seat holds the gate, by this thread.
+    /// Another seat holds the lock, by this thread.
     Busy { holder: u32 },
     /// The run is over.
     Over(Outcome),

@@ -23,11 +23,11 @@ fn as_brief(reply: Reply) -> Brief
 }
 
 /// The turn that was told in brief, where an outcome stands if the run is over.
-pub fn turn_of(words: Brief, outcome: Option<Outcome>) -> Turn
-    requires { InBrief (IsWith outcome) words }
-    ensures { (turn : Turn) → IsWith outcome turn → words ≡ brief turn → result ≡ turn }
+pub fn turn_of(told: Brief, outcome: Option<Outcome>) -> Turn
+    requires { InBrief (IsWith outcome) told }
+    ensures { (turn : Turn) → IsWith outcome turn → told ≡ brief turn → result ≡ turn }
 {
-    match words {
+    match told {
         Brief::Answer(answer) => Turn::Answer(answer),
         Brief::Ended => Turn::Ended,
         Brief::NotYet { at, because } => Turn::NotYet { at, because },
@@ -40,15 +40,15 @@ pub fn turn_of(words: Brief, outcome: Option<Outcome>) -> Turn
 }
 
 /// Whether a thread that asked for its turn has been answered.
-pub fn settles(words: &Brief) -> bool
-    ensures { result ≡ settles words.now }
+pub fn settles(told: &Brief) -> bool
+    ensures { result ≡ settles told.now }
 {
-    matches!(words, Brief::Answer(_) | Brief::Over)
+    matches!(told, Brief::Answer(_) | Brief::Over)
 }
 
 /// Whether a thread that asked for its turn has to wait for it.
-pub fn waits(words: &Brief) -> bool {
-    matches!(words, Brief::NotYet { .. })
+pub fn waits(told: &Brief) -> bool {
+    matches!(told, Brief::NotYet { .. })
 }
 
 /// The post, where one is given.

@@ -15,11 +15,11 @@ pub struct View {
     pub ghost seen: { BookState },
     // The holders that its own failed exchanges have read.
     pub ghost turned: { List ℕ },
-    // How many of its own exchanges took the gate.
+    // How many of its own exchanges took the lock.
     pub ghost takes: { ℕ },
-    // It holds the gate.
+    // It holds the lock.
     pub ghost held: { Bool },
-    // The slot that it took, while it holds the gate.
+    // The slot that it took, while it holds the lock.
     pub ghost base: { Slot },
     // What the two seats of its last join had seen, and which threads they served.
     pub ghost left: { BookState },

@@ -2,7 +2,7 @@ ghost use Rattle.std.specs.Prelude.{◌≡◌, false};
 
 use crate::brief::Brief;
 
-/// The turn words that a call changes after it opened the gate, and whose waiters it wakes.
+/// The turn words that a call changes after it freed the lock, and whose waiters it wakes.
 #[derive(Clone, Copy, Debug)]
 pub enum Wakes {
     /// It is nobody's turn, or no word was noted for the thread whose turn it is.

@@ -16,8 +16,8 @@ returns-then-has_ended-clause-row g c =
 pub returns-clause-row : goal.returns-clause-row
 returns-clause-row g c =
     let e = c.take_turn.ensures in
-    subst (λ (words : Brief). InBrief
-    (λ turn. Row c.args.book.now c.args.thread turn c.take_turn.new.self) words)
+    subst (λ (told : Brief). InBrief
+    (λ turn. Row c.args.book.now c.args.thread turn c.take_turn.new.self) told)
     (sym c.as_brief.ensures)
     (row-of _ _ _ (λ none. asks-or-ended _ (c.requires.here none)
     (λ ended. false≢true (sym c.if-has_ended.false ∙ c.has_ended.ensures.1 (none, ended)))) _

@@ -12,8 +12,8 @@ use Rattle.turn_lock.proofs.Seating.{from-flag}
 use Rattle.turn_lock.proofs.Waiting.{stays-owes}
 use Rattle.turn_lock.proofs.held.TurnLock.round.Goals as goal
 
-pub open_gate-requires-clause-goes : goal.open_gate-requires-clause-goes
-open_gate-requires-clause-goes g c κs within =
+pub unlock-requires-clause-goes : goal.unlock-requires-clause-goes
+unlock-requires-clause-goes g c κs within =
     let old = c.args.seat.now in
     let got = c.grab-found.ensures.grabs.0 c.if-found-ne0.false in
     let k = c.sweep-swept.ensures.swept in (
@@ -32,7 +32,7 @@ invariant_of-seat-in-Some g c =
     let found = subst (λ (o : Option (ℕ × Work)).
     IsSwept old.serves c.grab-found.new.seat.me.0.base o k.0) c.in-Some.is k.2 in
     let serves = from-flag old _ found.serves in
-    let opened = c.wake.ensures.view ∙ c.open_gate.ensures.opened k.0 k.1 in
+    let opened = c.wake.ensures.view ∙ c.unlock.ensures.freed k.0 k.1 in
     let t = turned old.seat.me c.grab-found.new.seat.me c.sweep-swept.new.seat.me _ got.1
     c.sweep-swept.ensures.same.1 got.2 _ _ _ _ serves (inside old _ serves) found.work
     c.wake.new.seat.me opened in
@@ -61,11 +61,11 @@ returns-in-Some-clause-of g c =
     let found = subst (λ (o : Option (ℕ × Work)).
     IsSwept old.serves c.grab-found.new.seat.me.0.base o k.0) c.in-Some.is k.2 in
     let serves = from-flag old _ found.serves in
-    let opened = c.wake.ensures.view ∙ c.open_gate.ensures.opened k.0 k.1 in
+    let opened = c.wake.ensures.view ∙ c.unlock.ensures.freed k.0 k.1 in
     let t = turned old.seat.me c.grab-found.new.seat.me c.sweep-swept.new.seat.me _ got.1
     c.sweep-swept.ensures.same.1 got.2 _ _ _ _ serves (inside old _ serves) found.work
     c.wake.new.seat.me opened in (
-      c.wake.ensures.same.table ∙ c.open_gate.ensures.same.table
+      c.wake.ensures.same.table ∙ c.unlock.ensures.same.table
           ∙ c.sweep-swept.ensures.same.0.table
           ∙ c.grab-found.ensures.same.table ∙ c.requires.of.0,
       making-along _ _ _ c.requires.of.1 t.took.grown.making,
@@ -79,7 +79,7 @@ returns-in-Some-clause-round g c =
     let found = subst (λ (o : Option (ℕ × Work)).
     IsSwept old.serves c.grab-found.new.seat.me.0.base o k.0) c.in-Some.is k.2 in
     let serves = from-flag old _ found.serves in
-    let opened = c.wake.ensures.view ∙ c.open_gate.ensures.opened k.0 k.1 in
+    let opened = c.wake.ensures.view ∙ c.unlock.ensures.freed k.0 k.1 in
     let t = turned old.seat.me c.grab-found.new.seat.me c.sweep-swept.new.seat.me _ got.1
     c.sweep-swept.ensures.same.1 got.2 _ _ _ _ serves (inside old _ serves) found.work
     c.wake.new.seat.me opened in
@@ -104,7 +104,7 @@ returns-in-Some-clause-kept g c = λ thread is.
     let kept = subst (λ (o : Option (ℕ × Work)).
     IfSome o (λ found. found.1.brief ≡ Over
     → g.K.Keep.kept k.0.book.outcome c.sweep-swept.new.place)) c.in-Some.is k.3 in
-    let opened = c.wake.ensures.view ∙ c.open_gate.ensures.opened k.0 k.1 in
+    let opened = c.wake.ensures.view ∙ c.unlock.ensures.freed k.0 k.1 in
     let over : c.in-Some.work.brief ≡ Over = cc in
     subst (λ (x : SeatWithSlots). g.K.Keep.kept x.0.seen.outcome c.sweep-swept.new.place)
     (sym opened) (kept over)
@@ -120,9 +120,9 @@ invariant_of-seat-in-None g c =
     let k = c.sweep-swept.ensures.swept in
     let passed = subst (λ (o : Option (ℕ × Work)).
     IsSwept old.serves c.grab-found.new.seat.me.0.base o k.0) c.in-None.is k.2 in
-    let opened = c.open_gate.ensures.opened k.0 k.1 in
+    let opened = c.unlock.ensures.freed k.0 k.1 in
     let s = stays old.seat.me c.grab-found.new.seat.me c.sweep-swept.new.seat.me _ got.1
-    c.sweep-swept.ensures.same.1 got.2 k.0 passed c.open_gate.new.seat.me opened in
+    c.sweep-swept.ensures.same.1 got.2 k.0 passed c.unlock.new.seat.me opened in
     record {
       flags = old.flags;
       live = ap (λ (x : SeatWithSlots). x.0.live) opened ∙ k.1.live;
@@ -130,10 +130,10 @@ invariant_of-seat-in-None g c =
       none = ap (λ (x : SeatWithSlots). x.1) opened;
       served = old.served ∙ sym s.serves;
       threads =
-          threads-after old.serves old.seat.me.0.seen c.open_gate.new.seat.me.0.seen s.seen
+          threads-after old.serves old.seat.me.0.seen c.unlock.new.seat.me.0.seen s.seen
           old.threads;
       owed =
-          λ u h. old.owed u h ∙ sym (stays-owes old.seat.me.0 c.open_gate.new.seat.me.0 u
+          λ u h. old.owed u h ∙ sym (stays-owes old.seat.me.0 c.unlock.new.seat.me.0 u
           (from-flag old u h) s);
     }
 
@@ -145,5 +145,5 @@ returns-in-None-clause-round g c =
     let passed = subst (λ (o : Option (ℕ × Work)).
     IsSwept old.serves c.grab-found.new.seat.me.0.base o k.0) c.in-None.is k.2 in
     stays old.seat.me c.grab-found.new.seat.me c.sweep-swept.new.seat.me _ got.1
-    c.sweep-swept.ensures.same.1 got.2 k.0 passed c.open_gate.new.seat.me
-    (c.open_gate.ensures.opened k.0 k.1)
+    c.sweep-swept.ensures.same.1 got.2 k.0 passed c.unlock.new.seat.me
+    (c.unlock.ensures.freed k.0 k.1)

@@ -8,8 +8,8 @@ use Rattle.turn_lock.proofs.Seating.{from-flag}
 use Rattle.turn_lock.specs.declared.turn.Turn.TheVariants.{Busy}
 use Rattle.turn_lock.proofs.held.TurnLock.try_in_brief.Goals as goal
 
-pub open_gate-requires-clause-goes : goal.open_gate-requires-clause-goes
-open_gate-requires-clause-goes g c κs within =
+pub unlock-requires-clause-goes : goal.unlock-requires-clause-goes
+unlock-requires-clause-goes g c κs within =
     let got = c.grab-found.ensures.grabs.0 c.if-found-ne0.false in
     let k = c.work-work.ensures.work in (
       k.0,
@@ -23,7 +23,7 @@ pub invariant_of-seat-2 : goal.invariant_of-seat-2
 invariant_of-seat-2 g c =
     let got = c.grab-found.ensures.grabs.0 c.if-found-ne0.false in
     let k = c.work-work.ensures.work in
-    let opened = c.wake.ensures.view ∙ c.open_gate.ensures.opened k.0 k.1 in
+    let opened = c.wake.ensures.view ∙ c.unlock.ensures.freed k.0 k.1 in
     let t = turned c.args.seat.now.seat.me c.grab-found.new.seat.me c.work-work.new.seat.me _ got.1
     c.work-work.ensures.same.1 got.2 _ _ _ _ c.requires.serves
     (inside c.args.seat.now _ c.requires.serves) k.2 c.wake.new.seat.me opened in
@@ -48,11 +48,11 @@ pub returns-clause-of : goal.returns-clause-of
 returns-clause-of g c =
     let got = c.grab-found.ensures.grabs.0 c.if-found-ne0.false in
     let k = c.work-work.ensures.work in
-    let opened = c.wake.ensures.view ∙ c.open_gate.ensures.opened k.0 k.1 in
+    let opened = c.wake.ensures.view ∙ c.unlock.ensures.freed k.0 k.1 in
     let t = turned c.args.seat.now.seat.me c.grab-found.new.seat.me c.work-work.new.seat.me _ got.1
     c.work-work.ensures.same.1 got.2 _ _ _ _ c.requires.serves
     (inside c.args.seat.now _ c.requires.serves) k.2 c.wake.new.seat.me opened in (
-      c.wake.ensures.same.table ∙ c.open_gate.ensures.same.table ∙ c.work-work.ensures.same.0.table
+      c.wake.ensures.same.table ∙ c.unlock.ensures.same.table ∙ c.work-work.ensures.same.0.table
           ∙ c.grab-found.ensures.same.table ∙ c.requires.of.0,
       making-along _ _ _ c.requires.of.1 t.took.grown.making,
     )
@@ -61,7 +61,7 @@ pub returns-clause-gives : goal.returns-clause-gives
 returns-clause-gives g c =
     let got = c.grab-found.ensures.grabs.0 c.if-found-ne0.false in
     let k = c.work-work.ensures.work in
-    let opened = c.wake.ensures.view ∙ c.open_gate.ensures.opened k.0 k.1 in
+    let opened = c.wake.ensures.view ∙ c.unlock.ensures.freed k.0 k.1 in
     let t = turned c.args.seat.now.seat.me c.grab-found.new.seat.me c.work-work.new.seat.me _ got.1
     c.work-work.ensures.same.1 got.2 _ _ _ _ c.requires.serves
     (inside c.args.seat.now _ c.requires.serves) k.2 c.wake.new.seat.me opened in
@@ -78,7 +78,7 @@ returns-then-found-ne0-clause-gives g c = record {
 pub returns-clause-kept : goal.returns-clause-kept
 returns-clause-kept g c = λ over.
     let k = c.work-work.ensures.work in
-    let opened = c.wake.ensures.view ∙ c.open_gate.ensures.opened k.0 k.1 in
+    let opened = c.wake.ensures.view ∙ c.unlock.ensures.freed k.0 k.1 in
     subst (λ (x : SeatWithSlots). g.K.Keep.kept x.0.seen.outcome c.work-work.new.place) (sym opened)
     (k.3 over)
 
@@ -86,7 +86,7 @@ pub returns-clause-obeys : goal.returns-clause-obeys
 returns-clause-obeys g c =
     let got = c.grab-found.ensures.grabs.0 c.if-found-ne0.false in
     let k = c.work-work.ensures.work in
-    let opened = c.wake.ensures.view ∙ c.open_gate.ensures.opened k.0 k.1 in
+    let opened = c.wake.ensures.view ∙ c.unlock.ensures.freed k.0 k.1 in
     (turned c.args.seat.now.seat.me c.grab-found.new.seat.me c.work-work.new.seat.me _ got.1
     c.work-work.ensures.same.1 got.2 _ _ _ _ c.requires.serves
     (inside c.args.seat.now _ c.requires.serves) k.2 c.wake.new.seat.me

@@ -14,7 +14,7 @@ use Rattle.turn_book.proofs.laws.LaterSights.{within-answered, answered-own, ans
 use Rattle.turn_lock.specs.Seen.{SameOf, pairs_of, posts_seen}
 use Rattle.turn_lock.specs.Slots.{Slot, NotesBelow}
 use Rattle.turn_lock.specs.Rule.{Serves, Ties}
-use Rattle.turn_lock.specs.Plays.{with_gate, with_book, IsTaken}
+use Rattle.turn_lock.specs.Plays.{with_lock, with_book, IsTaken}
 use Rattle.turn_lock.specs.Turns.{IsAsked, Row, TurnsTo, GainsPair, TookTurn}
 use Rattle.turn_lock.specs.Hands.{SlotGoesOn}
 use Rattle.turn_lock.specs.declared.turn.Turn.{Turn}
@@ -135,7 +135,7 @@ gains t seen old (Busy holder) new e r = absurd r
 -- a call that took the slot, made this of its book, and gave it back
 pub took : (v : View) (t : ℕ) (slot : Slot) (post : Option Post) (turn : Turn) (after : BookState)
     → Serves v t → IsTaken v slot → t < length slot.book.posts → TurnsTo slot.book t post turn after
-    → TookTurn v t post turn (with_book (with_gate v slot) after)
+    → TookTurn v t post turn (with_book (with_lock v slot) after)
 took v t slot post turn after mine taken inside k =
     let book : BookState = slot.book in
     let tied : Ties v book = taken.ties in

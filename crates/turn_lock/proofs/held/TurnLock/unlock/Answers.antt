@@ -1,6 +1,6 @@
 use Rattle.std.proofs.Common.{rules, ap}
 use Rattle.turn_lock.proofs.Keeps.{opens}
-use Rattle.turn_lock.proofs.held.TurnLock.open_gate.Goals as goal
+use Rattle.turn_lock.proofs.held.TurnLock.unlock.Goals as goal
 
 pub store-requires : goal.store-requires
 store-requires g c = let k = c.requires.goes in (
