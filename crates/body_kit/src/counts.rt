@@ -3,6 +3,7 @@ ghost use Rattle.std.specs.Prelude.{◌≡◌, ◌<◌, ◌≤◌, ◌^◌, ◌�
 ghost use Rattle.policy_pick.specs.Plan.{ByPoints};
 ghost use Rattle.policy_pick.specs.Kept.{points_plan, PointsStand};
 ghost use Rattle.body_kit.specs.Refusals.{CountsFit, IsWrongCount, IsWrongOrder};
+ghost use Rattle.pct_ask.specs.declared.limits.TheConstants.{MAX_POINTS, MAX_THREADS};
 
 use crate::error::KitError;
 use policy_pick::Pct;
@@ -16,9 +17,9 @@ pub fn pct_of(
     order: &[u32],
     points: &[u32],
 ) -> Result<Pct, KitError>
-    requires few_threads { threads ≤ 64 }
+    requires few_threads { threads ≤ MAX_THREADS }
     requires few_names { length order.now < 2 ^ 32 }
-    requires few_points { length points.now ≤ 7 }
+    requires few_points { length points.now ≤ MAX_POINTS }
     ensures plan { IfOk result (λ p. points_plan p ≡ ByPoints order.now points.now) }
     ensures stands { IfOk result (λ p. PointsStand p []) }
     ensures fits { IfOk result (λ p. CountsFit threads bodies order.now) }

@@ -7,6 +7,7 @@ ghost use Rattle.turn_lock.specs.Calls.{first_book, ServesAll};
 ghost use Rattle.turn_lock.specs.Seats.{seat_without, seat_of_one, joined_seat};
 ghost use Rattle.turn_lock.specs.Views.{view, HasSeat};
 ghost use Rattle.body_kit.specs.Refusals.{IsWrongCount, IsWrongOrder};
+ghost use Rattle.pct_ask.specs.declared.limits.TheConstants.{MAX_POINTS, MAX_STEPS};
 
 use crate::counts::pct_of;
 use crate::error::KitError;
@@ -45,8 +46,8 @@ impl Kit {
         limit: u32,
     ) -> Result<(Kit, Seat<Pct>), KitError>
         requires some_steps { 1 ≤ limit }
-        requires few_steps { limit ≤ 100000 }
-        requires few_points { length points.now ≤ 7 }
+        requires few_steps { limit ≤ MAX_STEPS }
+        requires few_points { length points.now ≤ MAX_POINTS }
         requires few_names { length order.now < 2 ^ 32 }
         ensures made { IfOk result (λ r.
             first_book r.0 ≡ new_book deal limit (ByPoints order.now points.now)) }

@@ -6,6 +6,7 @@ ghost use Rattle.policy_pick.specs.Plan.{ByPoints};
 ghost use Rattle.worker_run.specs.Run.{run};
 ghost use Rattle.worker_run.specs.Played.{IsPlayed};
 ghost use Rattle.body_kit.specs.Refusals.{IsWrongCount, IsWrongOrder};
+ghost use Rattle.pct_ask.specs.declared.limits.TheConstants.{MAX_POINTS, MAX_STEPS};
 
 use crate::boxed::as_bodies;
 use crate::counts::pct_of;
@@ -34,8 +35,8 @@ pub fn run_boxed<R: Threads + Wait + Sync, G: Gate>(
     gate: &G,
 ) -> Result<BoxedRun, KitError>
     requires some_steps { 1 ≤ limit }
-    requires few_steps { limit ≤ 100000 }
-    requires few_points { length points.now ≤ 7 }
+    requires few_steps { limit ≤ MAX_STEPS }
+    requires few_points { length points.now ≤ MAX_POINTS }
     requires few_bodies { length bodies.items < 2 ^ 32 }
     requires few_names { length order.now < 2 ^ 32 }
     requires in_range { AreInRange (sizes_of_deal deal) (map pending bodies.items) }

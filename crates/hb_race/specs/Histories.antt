@@ -7,6 +7,7 @@ use Rattle.hb_race.specs.Clocks.{stamp}
 use Rattle.hb_race.specs.Accesses.{access_of}
 use Rattle.hb_race.specs.Table.{event_at, steps_of, accesses_of}
 use Rattle.hb_race.specs.Lasts.{IsHistory, new_history, no_history}
+use Rattle.pct_ask.specs.declared.limits.TheConstants.{MAX_THREADS}
 
 -- so many variables have no accesses yet
 abbrev pub AreNew : ℕ → List History → Type 0
@@ -27,5 +28,5 @@ pub record IsNoted
   pub accesses : access ≡ access_of (event_at events n)
   pub number : step ≡ n + 1
   pub own_step : (event_at events n).thread ≡ thread
-  pub threads : (i : ℕ) → (event_at events i).thread < 64
+  pub threads : (i : ℕ) → (event_at events i).thread < MAX_THREADS
   pub stamped : (u : ℕ) → slice_index_or clock u 0 ≡ stamp (steps_of events) n u

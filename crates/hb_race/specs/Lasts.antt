@@ -12,6 +12,7 @@ use Rattle.hb_race.specs.declared.race.Race.{Race}
 use Rattle.hb_race.specs.Order.{Steps, HasLines, Before}
 use Rattle.hb_race.specs.Clocks.{own, stamp}
 use Rattle.hb_race.specs.Accesses.{conflict, same_kind}
+use Rattle.pct_ask.specs.declared.limits.TheConstants.{MAX_THREADS}
 
 -- how each step accesses a variable
 abbrev pub Accesses : Type 0
@@ -46,7 +47,7 @@ kept_access s i = record { step = i + 1; own = own s i }
 abbrev pub AreLasts
     : {O : Type 0} → Steps O → Accesses → AccessKind → ℕ → List (Option LastAccess) → Type 0
 AreLasts s access kind n lasts =
-    (u : ℕ) → u < 64
+    (u : ℕ) → u < MAX_THREADS
     → slice_index_or lasts u None ≡ option_map (kept_access s) (last s access u kind n)
 
 abbrev pub lasts_of : AccessKind → History → List (Option LastAccess)
@@ -89,7 +90,7 @@ pub record HasLasts
     {O : Type 0} (s : Steps O) (access : Accesses) (n : ℕ) (history : History)
     : Type 0 where
   pub lasts : (kind : AccessKind) → AreLasts s access kind n (lasts_of kind history)
-  pub long : (kind : AccessKind) → length (lasts_of kind history) ≡ 64
+  pub long : (kind : AccessKind) → length (lasts_of kind history) ≡ MAX_THREADS
 
 -- none of the first n steps races with an earlier one
 abbrev pub NoneRaces : {O : Type 0} → Steps O → Accesses → ℕ → Type 0
@@ -148,7 +149,7 @@ pub record IsCurrent
     : Type 0 where
   pub lines : HasLines s
   pub own_step : s.thread n ≡ thread
-  pub threads : (i : ℕ) → s.thread i < 64
+  pub threads : (i : ℕ) → s.thread i < MAX_THREADS
   pub accesses : access n ≡ Some kind
   pub stamped : (u : ℕ) → slice_index_or clock u 0 ≡ stamp s n u
 

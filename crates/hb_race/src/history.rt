@@ -5,8 +5,9 @@ ghost use Rattle.hb_race.specs.Lasts.{IsGreatest, IsFlagged, NumbersRace, later,
 ghost use Rattle.hb_race.specs.Lasts.{lasts_of, with_last, new_history};
 
 use crate::access::{Access, AccessKind, conflict};
-use crate::clock::{Clock, MAX_THREADS};
+use crate::clock::Clock;
 use crate::race::Race;
+use pct_ask::MAX_THREADS;
 
 /// A thread's last access of a variable of one kind.
 #[derive(Clone, Copy)]
@@ -91,7 +92,7 @@ impl History {
     }
 
     fn keep(&mut self, kind: AccessKind, thread: u32, last: LastAccess)
-        requires { thread < 64 }
+        requires { thread < MAX_THREADS }
         ensures { self.new ≡ with_last kind thread last self.old }
     {
         let thread = thread as usize;
@@ -141,7 +142,7 @@ impl History {
     /// Tests the next step against the last accesses, and then makes it one of them. Steps are
     /// numbered from 1.
     pub(crate) fn add(&mut self, access: Access, step: u32, thread: u32, clock: &Clock)
-        requires { thread < 64 }
+        requires { thread < MAX_THREADS }
         ensures { (s : Steps ℕ) (kinds : Accesses) (n : ℕ)
             → step ≡ n + 1 → IsCurrent s kinds n access.kind thread clock.now
             → IsHistory s kinds access.var n self.old

@@ -8,19 +8,20 @@ ghost use Rattle.hb_race.specs.Ranges.{most_with};
 ghost use Rattle.hb_race.specs.Races.{AreRaces};
 ghost use Rattle.hb_race.specs.Table.{clock_entry};
 ghost use Rattle.hb_race.specs.Histories.{AreHistories, AreNew, IsNoted};
+ghost use Rattle.pct_ask.specs.declared.limits.TheConstants.{MAX_OBJECTS, MAX_STEPS};
 
 use crate::access::{Access, access_of};
-use crate::clock::{Clock, MAX_THREADS, ROWS, advance};
+use crate::clock::{Clock, ROWS, advance};
 use crate::history::History;
 use crate::race::{Race, RaceList};
-use pct_ask::{Deal, Event};
+use pct_ask::{Deal, Event, MAX_THREADS};
 use std::alloc::{AllocError as NoMemory, Global};
 use worker_run::Played;
 
 /// The races of a run, by happens-before: at most one for each variable. The time grows with the
 /// steps times the threads.
 pub fn races(alloc: Global, deal: &Deal, played: &Played) -> Result<RaceList, NoMemory>
-    requires few { length (played.now).events ≤ 100000 }
+    requires few { length (played.now).events ≤ MAX_STEPS }
     requires in_range { All (EventIsInRange (sizes_of_deal deal.now)) (played.now).events }
     ensures { IfOk result (λ races. AreRaces (played.now).events races) }
 {
@@ -29,7 +30,7 @@ pub fn races(alloc: Global, deal: &Deal, played: &Played) -> Result<RaceList, No
 
 /// The races of some steps.
 fn races_of(alloc: Global, deal: &Deal, events: &[Event]) -> Result<RaceList, NoMemory>
-    requires few { length events.now ≤ 100000 }
+    requires few { length events.now ≤ MAX_STEPS }
     requires in_range { All (EventIsInRange (sizes_of_deal deal.now)) events.now }
     ensures { IfOk result (λ races. AreRaces events.now races) }
 {
@@ -67,9 +68,9 @@ fn new_histories(alloc: Global, vars: usize) -> Result<Vec<History>, NoMemory>
 fn follow(table: &mut [Clock], histories: &mut [History], events: &[Event])
     requires rows { length table.old ≡ 512 }
     requires empty { (row u : ℕ) → clock_entry table.old row u ≡ 0 }
-    requires few_vars { length histories.old ≤ 64 }
+    requires few_vars { length histories.old ≤ MAX_OBJECTS }
     requires fresh { AreNew (length histories.old) histories.old }
-    requires few { length events.now ≤ 100000 }
+    requires few { length events.now ≤ MAX_STEPS }
     requires in_range { All (EventIsInRange (most_with (length histories.old))) events.now }
     ensures { AreHistories events.now (length events.now) histories.new }
 {
@@ -88,7 +89,7 @@ fn follow(table: &mut [Clock], histories: &mut [History], events: &[Event])
 
 /// Notes the access of the next step, if it has one. Steps are numbered from 1.
 fn note(histories: &mut [History], access: Option<Access>, step: u32, thread: u32, clock: &Clock)
-    requires thread { thread < 64 }
+    requires thread { thread < MAX_THREADS }
     requires var { (made : Access) → access ≡ Some made → made.var < length histories.old }
     ensures rows { length histories.new ≡ length histories.old }
     ensures noted { (events : List Step) (n : ℕ) → IsNoted events n access step thread clock.now

@@ -1,4 +1,4 @@
--- A test's stage may be shared among threads, and its parts may go to one.
+-- A running test may be shared among threads, and a task may go to one.
 use Rattle.std.proofs.Common.{List}
 use mir.Syntax.{Sym}
 use denote.RattleType.{RattleType}
@@ -10,15 +10,15 @@ use denote.Param.Send.{IsSend, IsSync, AllSend, struct_send, recorded_send, send
 use Rattle.std.proofs.Crossing.{crosses}
 use Rattle.policy_pick.specs.declared.policy.Policy.{Ghosts}
 use Rattle.turn_lock.proofs.laws.Crossing.{lock-sync, seat-send}
-use Rattle.worker_run.specs.contracts.batch.Stage as stage
-use Rattle.worker_run.specs.contracts.batch.Part as part
+use Rattle.worker_run.specs.contracts.batch.RunningTest as test
+use Rattle.worker_run.specs.contracts.batch.Task as task
 
 module _ (P B : RattleType) (policy : Ghosts P.Denot) (p : IsSend P) (b : IsSend B) where
-  pub stage-sync : (κ : NamedLft) → IsSync (stage.the_row κ P B policy)
-  stage-sync κ = search (sendable, crosses, lock-sync) depth 40 fits 20000
+  pub test-sync : (κ : NamedLft) → IsSync (test.the_row κ P B policy)
+  test-sync κ = search (sendable, crosses, lock-sync) depth 40 fits 20000
 
-  pub part-send : IsSend (part.the_row P B policy)
-  part-send = search (sendable, crosses, seat-send) depth 40 fits 20000
+  pub task-send : IsSend (task.the_row P B policy)
+  task-send = search (sendable, crosses, seat-send) depth 40 fits 20000
 
 -- what a closure captures may go to a thread, each by itself
 pub captures-send : (name : Sym) (rows : List RattleType)

@@ -1,4 +1,4 @@
--- All tests of a batch: their crews before the first post, and what they have seen by the end.
+-- All tests of a batch: their shares before the first post, and what they have seen by the end.
 use Rattle.std.proofs.Common.{◌≡◌, ◌<◌, ℕ, Some, List, [], ◌∷◌, ◌++◌, length, take, drop, refl, sym}
 use Rattle.std.proofs.Common.{ap, subst, ◌∙◌, arith}
 use Rattle.std.proofs.Math.Seq.{take-append_seam}
@@ -12,13 +12,13 @@ use Rattle.turn_lock.specs.Views.{view, HasSeat}
 use Rattle.turn_lock.specs.declared.held.TurnLock.{TurnLock}
 use Rattle.worker_run.specs.Batch.{Each, IsSeatOf, IsThreadTold}
 use Rattle.pct_ask.specs.Bodies.{Pending}
-use Rattle.worker_run.specs.Batches.{AreSeats, AreCrews, Holds, ToldAt}
-use Rattle.worker_run.specs.Tests.{AreTests, AllTold, IsLockOf, IsFirstCrew}
+use Rattle.worker_run.specs.Batches.{AreSeats, AreShares, Holds, ToldAt}
+use Rattle.worker_run.specs.Tests.{AreTests, AllTold, IsLockOf, IsFirstShare}
 use Rattle.worker_run.specs.declared.batch.Test.{Test}
-use Rattle.worker_run.specs.declared.batch.Crew.{Crew}
-use Rattle.worker_run.specs.declared.batch.Stage.{Stage}
+use Rattle.worker_run.specs.declared.batch.Share.{Share}
+use Rattle.worker_run.specs.declared.batch.RunningTest.{RunningTest}
 use Rattle.worker_run.proofs.Eachs.{get-more-new, get-within, each-more}
-use Rattle.worker_run.proofs.Finals.{cast-serves, cast-bodies, cast-crew}
+use Rattle.worker_run.proofs.Finals.{test-serves, test-bodies, test-share}
 
 pub no-items : {X Y : Type 0} (R : X → Y → Type 0) (xs : List X) (ys : List Y) → xs ≡ [] → ys ≡ []
     → Each R xs ys
@@ -62,88 +62,88 @@ written k new old long =
 -- ---- all tests of a batch, on their locks
 module _ {P : Type 0} {policy : Ghosts P} {B : Type 0} (pending : B → Pending) (plan : P → Plan)
     (stands : P → List ℕ → Type 0)
-    (tests : List (Test P B)) (locks : List (TurnLock P)) (crews : List (Crew P B policy))
-    (stages : List (Stage P B))
+    (tests : List (Test P B)) (locks : List (TurnLock P)) (shares : List (Share P B policy))
+    (running : List (RunningTest P B))
     (asked : AreTests pending plan stands tests) (made_for : Each (IsLockOf plan) tests locks)
-    (firsts : Each (IsFirstCrew plan) tests crews)
-    (of : Each (λ lock crew. HasSeat lock crew.seat) locks crews)
-    (on : Each (λ lock stage. stage.lock.now ≡ lock) locks stages)
-    (by : Each (λ crew stage. (stage.runners).value ≡ crew.runners) crews stages) where
-  -- what stands at a test's place
+    (firsts : Each (IsFirstShare plan) tests shares)
+    (of : Each (λ lock share. HasSeat lock share.seat) locks shares)
+    (on : Each (λ lock one. one.lock.now ≡ lock) locks running)
+    (by : Each (λ share one. (one.runners).value ≡ share.runners) shares running) where
+  -- what stands at a test's index
   lock-at : (i : ℕ) (test : Test P B) → slice_get tests i ≡ Some test → (lock : TurnLock P)
       × (slice_get locks i ≡ Some lock)
   lock-at i test at = get-within locks i
       (let under = slice_get_within tests i test at in omega (arith, under, made_for.long))
 
-  crew-at : (i : ℕ) (test : Test P B) → slice_get tests i ≡ Some test → (crew : Crew P B policy)
-      × (slice_get crews i ≡ Some crew)
-  crew-at i test at = get-within crews i
+  share-at : (i : ℕ) (test : Test P B) → slice_get tests i ≡ Some test → (share : Share P B policy)
+      × (slice_get shares i ≡ Some share)
+  share-at i test at = get-within shares i
       (let under = slice_get_within tests i test at in omega (arith, under, firsts.long))
 
-  stage-at : (i : ℕ) (test : Test P B) → slice_get tests i ≡ Some test → (stage : Stage P B)
-      × (slice_get stages i ≡ Some stage)
-  stage-at i test at = get-within stages i
+  running-at : (i : ℕ) (test : Test P B) → slice_get tests i ≡ Some test → (one : RunningTest P B)
+      × (slice_get running i ≡ Some one)
+  running-at i test at = get-within running i
       (let under = slice_get_within tests i test at in omega (arith, under, made_for.long, on.long))
 
-  stage-made : (i : ℕ) (test : Test P B) (stage : Stage P B) → slice_get tests i ≡ Some test
-      → slice_get stages i ≡ Some stage → IsLockOf plan test stage.lock.now
-  stage-made i test stage at there =
+  running-made : (i : ℕ) (test : Test P B) (one : RunningTest P B) → slice_get tests i ≡ Some test
+      → slice_get running i ≡ Some one → IsLockOf plan test one.lock.now
+  running-made i test one at there =
       let lock = lock-at i test at in
-      ap first_book (on.each i lock.0 stage lock.1 there) ∙ made_for.each i test lock.0 at lock.1
+      ap first_book (on.each i lock.0 one lock.1 there) ∙ made_for.each i test lock.0 at lock.1
 
-  stage-of : (i : ℕ) (test : Test P B) (stage : Stage P B) (crew : Crew P B policy)
-      → slice_get tests i ≡ Some test → slice_get stages i ≡ Some stage
-      → slice_get crews i ≡ Some crew → HasSeat stage.lock.now crew.seat
-  stage-of i test stage crew at there here =
+  running-of : (i : ℕ) (test : Test P B) (one : RunningTest P B) (share : Share P B policy)
+      → slice_get tests i ≡ Some test → slice_get running i ≡ Some one
+      → slice_get shares i ≡ Some share → HasSeat one.lock.now share.seat
+  running-of i test one share at there here =
       let lock = lock-at i test at in
-      let O : TurnLock P → Type 0 = λ l. HasSeat l crew.seat in
-      subst O (sym (on.each i lock.0 stage lock.1 there)) (of.each i lock.0 crew lock.1 here)
+      let O : TurnLock P → Type 0 = λ l. HasSeat l share.seat in
+      subst O (sym (on.each i lock.0 one lock.1 there)) (of.each i lock.0 share lock.1 here)
 
-  pub cast-crews : AreCrews pending stages crews
-  cast-crews = record {
+  pub test-shares : AreShares pending running shares
+  test-shares = record {
     long = of.long ∙ sym on.long;
-    each = λ i stage crew there here.
+    each = λ i one share there here.
         let found =
-        get-within tests i (let under = slice_get_within stages i stage there in
+        get-within tests i (let under = slice_get_within running i one there in
         omega (arith, under, made_for.long, on.long)) in
-        cast-crew pending plan stands found.0 (asked i found.0 found.1) crew
-        (firsts.each i found.0 crew found.1 here)
-        stage (stage-made i found.0 stage found.1 there) (by.each i crew stage here there)
-        (stage-of i found.0 stage crew found.1 there here);
+        test-share pending plan stands found.0 (asked i found.0 found.1) share
+        (firsts.each i found.0 share found.1 here)
+        one (running-made i found.0 one found.1 there) (by.each i share one here there)
+        (running-of i found.0 one share found.1 there here);
   }
 
-  cast-holds : (i t : ℕ) (test : Test P B) → slice_get tests i ≡ Some test → t < test.deal.threads
-      → Holds crews i t
-  cast-holds i t test at below =
-      let crew = crew-at i test at in
+  test-holds : (i t : ℕ) (test : Test P B) → slice_get tests i ≡ Some test → t < test.deal.threads
+      → Holds shares i t
+  test-holds i t test at below =
+      let share = share-at i test at in
       record {
-        crew = crew.0;
-        at = crew.1;
+        share = share.0;
+        at = share.1;
         serves =
-            cast-serves pending plan stands test (asked i test at) crew.0
-            (firsts.each i test crew.0 at crew.1) t below;
+            test-serves pending plan stands test (asked i test at) share.0
+            (firsts.each i test share.0 at share.1) t below;
       }
 
-  module _ (after : List (Crew P B policy)) (seats : AreSeats stages after)
-      (told : (i t : ℕ) → Holds crews i t → ToldAt pending stages after i t) where
-    pub cast-seats : Each (λ lock crew. IsSeatOf lock crew.seat) locks after
-    cast-seats = record {
+  module _ (after : List (Share P B policy)) (seats : AreSeats running after)
+      (told : (i t : ℕ) → Holds shares i t → ToldAt pending running after i t) where
+    pub test-seats : Each (λ lock share. IsSeatOf lock share.seat) locks after
+    test-seats = record {
       long = seats.long ∙ on.long;
-      each = λ i lock crew here at.
-          let stage =
-          get-within stages i (let under = slice_get_within locks i lock here in
+      each = λ i lock share here at.
+          let one =
+          get-within running i (let under = slice_get_within locks i lock here in
           omega (arith, under, on.long)) in
-          let S : TurnLock P → Type 0 = λ l. IsSeatOf l crew.seat in
-          subst S (on.each i lock stage.0 here stage.1) (seats.each i stage.0 crew stage.1 at);
+          let S : TurnLock P → Type 0 = λ l. IsSeatOf l share.seat in
+          subst S (on.each i lock one.0 here one.1) (seats.each i one.0 share one.1 at);
     }
 
-    pub cast-told : AllTold pending plan tests after
-    cast-told i t test crew at here below =
-        let stage = stage-at i test at in
-        let first = crew-at i test at in
-        let T : List Pending → Type 0 = λ bs. IsThreadTold bs t (view crew.seat) in
+    pub test-told : AllTold pending plan tests after
+    test-told i t test share at here below =
+        let one = running-at i test at in
+        let first = share-at i test at in
+        let T : List Pending → Type 0 = λ bs. IsThreadTold bs t (view share.seat) in
         subst T
-        (cast-bodies pending plan stands test (asked i test at) first.0
-        (firsts.each i test first.0 at first.1) stage.0
-        (stage-made i test stage.0 at stage.1) (by.each i first.0 stage.0 first.1 stage.1))
-        (told i t (cast-holds i t test at below) stage.0 crew stage.1 here)
+        (test-bodies pending plan stands test (asked i test at) first.0
+        (firsts.each i test first.0 at first.1) one.0
+        (running-made i test one.0 at one.1) (by.each i first.0 one.0 first.1 one.1))
+        (told i t (test-holds i t test at below) one.0 share one.1 here)

@@ -1,13 +1,13 @@
 pub mod Follows
 pub mod Running
-pub mod Crews
-pub mod Parting
+pub mod Shares
+pub mod SplitSeats
 pub mod Plays
 pub mod Samples
 pub mod Wholes
 pub mod Eachs
-pub mod Staged
-pub mod Casts
+pub mod ServedThreads
+pub mod TakenTasks
 pub mod LoneBooks
 pub mod Loops
 pub mod Backs
@@ -16,4 +16,4 @@ pub mod Finals
 pub mod Ends
 pub mod Crossing
 pub mod laws
-pub mod Words
+pub mod BriefTurns

@@ -11,7 +11,7 @@ use Rattle.turn_lock.specs.Turns.{Row, TurnsTo, TookTurn, TellsEnd}
 use Rattle.turn_lock.specs.Briefs.{brief, settles}
 use Rattle.turn_lock.specs.declared.turn.Turn.{Turn}
 use Rattle.turn_lock.specs.declared.turn.Turn.TheVariants.{Answer, Ended, NotYet, Busy, Over}
-use Rattle.turn_lock.proofs.Growth.{took, grew-turn}
+use Rattle.turn_lock.proofs.laws.Growth.{took, grew-turn}
 use Rattle.turn_lock.proofs.laws.FirstThreads.{first-has}
 use Rattle.turn_lock.proofs.laws.SeenBooks.{within-self, same-self}
 

@@ -1,4 +1,4 @@
--- The tests of a batch, one after another: what a change at one place leaves.
+-- The tests of a batch, one after another: what a change at one index leaves.
 use Rattle.std.proofs.Common.{◌≡◌, ◌≢◌, ℕ, ◌+◌, ◌<◌, ◌≤◌, true, Some, List, [], ◌∷◌, ◌++◌, length}
 use Rattle.std.proofs.Common.{set, sym, ap, subst, ◌∙◌, arith, ◌⊎◌, inl, inr}
 use Rattle.std.specs.Prelude.{slice_get, Vec}
@@ -8,17 +8,18 @@ use Rattle.policy_pick.specs.declared.policy.Policy.{Ghosts}
 use Rattle.turn_lock.specs.Rule.{Serves}
 use Rattle.turn_lock.specs.Views.{view}
 use Rattle.pct_ask.specs.Bodies.{Pending}
-use Rattle.worker_run.specs.Batch.{Each, IsPart, IsServedPart, IsThreadTold, bodies_on, is_there}
-use Rattle.worker_run.specs.Batches.{IsThere, IsRoom, AreRooms, Holds, InPlaces, ToldAt, AreParts}
-use Rattle.worker_run.specs.Batches.{ArePlaces}
-use Rattle.worker_run.specs.declared.batch.Stage.{Stage}
-use Rattle.worker_run.specs.declared.batch.Crew.{Crew}
-use Rattle.worker_run.specs.declared.batch.Part.{Part}
-use Rattle.worker_run.specs.declared.batch.Part.TheVariants.{Absent, Waiting, Served}
+use Rattle.worker_run.specs.Batch.{Each, IsTask, IsServedTask, IsThreadTold, bodies_on, is_there}
+use Rattle.worker_run.specs.Batches.{IsThere, IsEmptyList, AreEmptyLists, Holds, IsListed, ToldAt}
+use Rattle.worker_run.specs.Batches.{AreTasks}
+use Rattle.worker_run.specs.Batches.{AreTaskLists}
+use Rattle.worker_run.specs.declared.batch.RunningTest.{RunningTest}
+use Rattle.worker_run.specs.declared.batch.Share.{Share}
+use Rattle.worker_run.specs.declared.batch.Task.{Task}
+use Rattle.worker_run.specs.declared.batch.Task.TheVariants.{Absent, Waiting, Served}
 use Rattle.worker_run.proofs.Eachs.{get-set-same, get-set-other, get-more-old, get-more-new}
 use Rattle.worker_run.proofs.Eachs.{get-more, one-item, get-map, map-get}
 
--- items at the same place are related, below a place
+-- items at the same index are related, below an index
 abbrev pub Below : {X Y : Type 0} → ℕ → (X → Y → Type 0) → List X → List Y → Type 0
 Below {X} {Y} k R xs ys = (i : ℕ) (x : X) (y : Y) → i < k → slice_get xs i ≡ Some x
     → slice_get ys i ≡ Some y → R x y
@@ -62,7 +63,7 @@ pub along-none : {X Y : Type 0} (R : X → Y → Type 0) (xs : List X) (ys : Lis
 along-none R xs ys none i x y here there =
     absurd (let under = slice_get_within ys i y there in omega (arith, under, ap length none))
 
--- the places after a change stay as they were
+-- the items after a change stay as they were
 pub rest-set : {X : Type 0} (first xs : List X) (k : ℕ) (x : X)
     → ((i : ℕ) → k ≤ i → slice_get xs i ≡ slice_get first i) → (i : ℕ) → k + 1 ≤ i
     → slice_get (set xs k x) i ≡ slice_get first i
@@ -70,195 +71,197 @@ rest-set first xs k x rest i above =
     get-set-other xs k i x (λ e. omega (arith, e)) ∙ rest i (omega arith)
 
 module _ {P : Type 0} {policy : Ghosts P} {B : Type 0} where
-  -- ---- one crew is changed
-  module _ (crews : List (Crew P B policy)) (k : ℕ) (crew new : Crew P B policy)
-      (at : slice_get crews k ≡ Some crew) where
-    within : k < length crews
-    within = slice_get_within crews k crew at
+  -- ---- one share is changed
+  module _ (shares : List (Share P B policy)) (k : ℕ) (share new : Share P B policy)
+      (at : slice_get shares k ≡ Some share) where
+    within : k < length shares
+    within = slice_get_within shares k share at
 
     pub holds-step : (Q : ℕ → Type 0)
-        → ((t : ℕ) → Serves (view crew.seat) t → Serves (view new.seat) t ⊎ Q t) → (i t : ℕ)
-        → Holds crews i t → Holds (set crews k new) i t ⊎ ((i ≡ k) × Q t)
+        → ((t : ℕ) → Serves (view share.seat) t → Serves (view new.seat) t ⊎ Q t) → (i t : ℕ)
+        → Holds shares i t → Holds (set shares k new) i t ⊎ ((i ≡ k) × Q t)
     holds-step Q step i t h = elim (cases_eq i k) [
       | inl same ↦
-          let mine : h.crew ≡ crew = one-item crews k h.crew crew
-          (ap (slice_get crews) (sym same) ∙ h.at) at in
-          let S : Crew P B policy → Type 0 = λ c. Serves (view c.seat) t in
+          let mine : h.share ≡ share = one-item shares k h.share share
+          (ap (slice_get shares) (sym same) ∙ h.at) at in
+          let S : Share P B policy → Type 0 = λ c. Serves (view c.seat) t in
           elim (step t (subst S mine h.serves)) [
             | inl s ↦ inl (record {
-              crew = new;
-              at = ap (slice_get (set crews k new)) same
-                  ∙ get-set-same crews k new within;
+              share = new;
+              at = ap (slice_get (set shares k new)) same
+                  ∙ get-set-same shares k new within;
               serves = s;
             })
             | inr q ↦ inr (same, q)
           ]
       | inr apart ↦ inl (record {
-        crew = h.crew;
-        at = get-set-other crews k i new apart ∙ h.at;
+        share = h.share;
+        at = get-set-other shares k i new apart ∙ h.at;
         serves = h.serves;
       })
     ]
 
-    pub holds-kept : ((t : ℕ) → Serves (view crew.seat) t → Serves (view new.seat) t) → (i t : ℕ)
-        → Holds crews i t → Holds (set crews k new) i t
+    pub holds-kept : ((t : ℕ) → Serves (view share.seat) t → Serves (view new.seat) t) → (i t : ℕ)
+        → Holds shares i t → Holds (set shares k new) i t
     holds-kept step i t h = elim (holds-step (λ u. ⊥) (λ u here. inl (step u here)) i t h) [
       | inl w ↦ w
       | inr w ↦ absurd w.1
     ]
 
-    pub holds-new : (t : ℕ) → Serves (view new.seat) t → Holds (set crews k new) k t
-    holds-new t here = record { crew = new; at = get-set-same crews k new within; serves = here }
+    pub holds-new : (t : ℕ) → Serves (view new.seat) t → Holds (set shares k new) k t
+    holds-new t here = record { share = new; at = get-set-same shares k new within; serves = here }
 
-    module _ (pending : B → Pending) (stages : List (Stage P B)) (stage : Stage P B)
-        (here : slice_get stages k ≡ Some stage) where
-      pub told-new : (t : ℕ) → IsThreadTold (bodies_on pending stage) t (view new.seat)
-          → ToldAt pending stages (set crews k new) k t
+    module _ (pending : B → Pending) (tests : List (RunningTest P B)) (test : RunningTest P B)
+        (here : slice_get tests k ≡ Some test) where
+      pub told-new : (t : ℕ) → IsThreadTold (bodies_on pending test) t (view new.seat)
+          → ToldAt pending tests (set shares k new) k t
       told-new t told s c first second =
-          let one : stage ≡ s = one-item stages k stage s here first in
-          let other : new ≡ c = one-item (set crews k new) k new c (get-set-same crews k new within)
+          let one : test ≡ s = one-item tests k test s here first in
+          let other : new ≡ c = one-item (set shares k new) k new c
+          (get-set-same shares k new within)
           second in
-          let T : Stage P B × Crew P B policy → Type 0 =
+          let T : RunningTest P B × Share P B policy → Type 0 =
           λ p. IsThreadTold (bodies_on pending p.0) t (view p.1.seat) in
           subst T (λ j. (one j, other j)) told
 
-      pub told-other : (i t : ℕ) → i ≢ k → ToldAt pending stages crews i t
-          → ToldAt pending stages (set crews k new) i t
+      pub told-other : (i t : ℕ) → i ≢ k → ToldAt pending tests shares i t
+          → ToldAt pending tests (set shares k new) i t
       told-other i t apart was s c first second =
-          was s c first (sym (get-set-other crews k i new apart) ∙ second)
+          was s c first (sym (get-set-other shares k i new apart) ∙ second)
 
-      pub told-kept : ((t : ℕ) → IsThreadTold (bodies_on pending stage) t (view crew.seat)
-          → IsThreadTold (bodies_on pending stage) t (view new.seat)) → (i t : ℕ)
-          → ToldAt pending stages crews i t → ToldAt pending stages (set crews k new) i t
+      pub told-kept : ((t : ℕ) → IsThreadTold (bodies_on pending test) t (view share.seat)
+          → IsThreadTold (bodies_on pending test) t (view new.seat)) → (i t : ℕ)
+          → ToldAt pending tests shares i t → ToldAt pending tests (set shares k new) i t
       told-kept step i t was = elim (cases_eq i k) [
         | inl same ↦
-            let T : ℕ → Type 0 = λ n. ToldAt pending stages (set crews k new) n t in
+            let T : ℕ → Type 0 = λ n. ToldAt pending tests (set shares k new) n t in
             subst T (sym same) (told-new t
-            (step t (was stage crew (ap (slice_get stages) same ∙ here)
-            (ap (slice_get crews) same ∙ at))))
+            (step t (was test share (ap (slice_get tests) same ∙ here)
+            (ap (slice_get shares) same ∙ at))))
         | inr apart ↦ told-other i t apart was
       ]
 
-  -- ---- a part that was served is one
-  pub served-is : (pending : B → Pending) (stage : Stage P B) (t : ℕ) (part : Part P B policy)
-      → IsServedPart pending stage t part → IsPart pending stage t part
-  served-is pending stage t Absent is = is
-  served-is pending stage t (Waiting seat runner) is = absurd is
-  served-is pending stage t (Served seat) is = is
+  -- ---- a task that was served is one
+  pub served-is : (pending : B → Pending) (test : RunningTest P B) (t : ℕ) (task : Task P B policy)
+      → IsServedTask pending test t task → IsTask pending test t task
+  served-is pending test t Absent is = is
+  served-is pending test t (Waiting seat runner) is = absurd is
+  served-is pending test t (Served seat) is = is
 
-  -- ---- parts that are there
-  pub there-old : (parts : List (Part P B policy)) (part : Part P B policy) (i : ℕ)
-      → IsThere parts i → IsThere (parts ++ part ∷ []) i
-  there-old parts part i there =
-      let w = map-get is_there parts i true there in
-      get-map is_there (parts ++ part ∷ []) i w.0
-      (get-more-old parts part i (slice_get_within parts i w.0 w.1) ∙ w.1) ∙ ap Some w.2
+  -- ---- tasks that are there
+  pub there-old : (tasks : List (Task P B policy)) (task : Task P B policy) (i : ℕ)
+      → IsThere tasks i → IsThere (tasks ++ task ∷ []) i
+  there-old tasks task i there =
+      let w = map-get is_there tasks i true there in
+      get-map is_there (tasks ++ task ∷ []) i w.0
+      (get-more-old tasks task i (slice_get_within tasks i w.0 w.1) ∙ w.1) ∙ ap Some w.2
 
-  pub there-new : (parts : List (Part P B policy)) (part : Part P B policy) → is_there part ≡ true
-      → IsThere (parts ++ part ∷ []) (length parts)
-  there-new parts part is =
-      get-map is_there (parts ++ part ∷ []) (length parts) part (get-more-new parts part)
+  pub there-new : (tasks : List (Task P B policy)) (task : Task P B policy) → is_there task ≡ true
+      → IsThere (tasks ++ task ∷ []) (length tasks)
+  there-new tasks task is =
+      get-map is_there (tasks ++ task ∷ []) (length tasks) task (get-more-new tasks task)
       ∙ ap Some is
 
-  pub there-at : (parts : List (Part P B policy)) (k : ℕ) (part : Part P B policy)
-      → slice_get parts k ≡ Some part → IsThere parts k → is_there part ≡ true
-  there-at parts k part at there =
-      let both : Some (is_there part) ≡ Some true = sym (get-map is_there parts k part at)
+  pub there-at : (tasks : List (Task P B policy)) (k : ℕ) (task : Task P B policy)
+      → slice_get tasks k ≡ Some task → IsThere tasks k → is_there task ≡ true
+  there-at tasks k task at there =
+      let both : Some (is_there task) ≡ Some true = sym (get-map is_there tasks k task at)
       ∙ there in cc
 
-  pub there-other : (parts : List (Part P B policy)) (k i : ℕ) (part : Part P B policy) → i ≢ k
-      → IsThere parts i → IsThere (set parts k part) i
-  there-other parts k i part apart there =
-      let w = map-get is_there parts i true there in
-      get-map is_there (set parts k part) i w.0 (get-set-other parts k i part apart ∙ w.1)
+  pub there-other : (tasks : List (Task P B policy)) (k i : ℕ) (task : Task P B policy) → i ≢ k
+      → IsThere tasks i → IsThere (set tasks k task) i
+  there-other tasks k i task apart there =
+      let w = map-get is_there tasks i true there in
+      get-map is_there (set tasks k task) i w.0 (get-set-other tasks k i task apart ∙ w.1)
       ∙ ap Some w.2
 
-  pub there-set : (parts : List (Part P B policy)) (k : ℕ) (part : Part P B policy)
-      → k < length parts → is_there part ≡ true → IsThere (set parts k part) k
-  there-set parts k part within is =
-      get-map is_there (set parts k part) k part (get-set-same parts k part within) ∙ ap Some is
+  pub there-set : (tasks : List (Task P B policy)) (k : ℕ) (task : Task P B policy)
+      → k < length tasks → is_there task ≡ true → IsThere (set tasks k task) k
+  there-set tasks k task within is =
+      get-map is_there (set tasks k task) k task (get-set-same tasks k task within) ∙ ap Some is
 
-  -- ---- lists with room
-  pub no-rooms : {A : Type 0} (count : ℕ) (rooms : List (Vec (Part P B policy) A)) → rooms ≡ []
-      → AreRooms count rooms
-  no-rooms count rooms none t room at =
-      let under = slice_get_within rooms t room at in absurd (omega (arith, under, ap length none))
+  -- ---- empty lists
+  pub no-lists : {A : Type 0} (count : ℕ) (lists : List (Vec (Task P B policy) A)) → lists ≡ []
+      → AreEmptyLists count lists
+  no-lists count lists none t list at =
+      let under = slice_get_within lists t list at in absurd (omega (arith, under, ap length none))
 
-  pub rooms-more : {A : Type 0} (count : ℕ) (rooms : List (Vec (Part P B policy) A))
-      (room : Vec (Part P B policy) A)
-      → AreRooms count rooms → IsRoom count room → AreRooms count (rooms ++ room ∷ [])
-  rooms-more {A = A} count rooms room all is t other at = elim (get-more rooms room t other at) [
+  pub lists-more : {A : Type 0} (count : ℕ) (lists : List (Vec (Task P B policy) A))
+      (list : Vec (Task P B policy) A)
+      → AreEmptyLists count lists → IsEmptyList count list
+      → AreEmptyLists count (lists ++ list ∷ [])
+  lists-more {A = A} count lists list all is t other at = elim (get-more lists list t other at) [
     | inl w ↦ all t other w
-    | inr w ↦ let R : Vec (Part P B policy) A → Type 0 = λ x. IsRoom count x in subst R w.1 is
+    | inr w ↦ let R : Vec (Task P B policy) A → Type 0 = λ x. IsEmptyList count x in subst R w.1 is
   ]
 
-  pub nothing-there : (parts : List (Part P B policy)) (i : ℕ) → parts ≡ [] → IsThere parts i → ⊥
-  nothing-there parts i none there =
-      let w = map-get is_there parts i true there in
-      let under = slice_get_within parts i w.0 w.1 in omega (arith, under, ap length none)
+  pub nothing-there : (tasks : List (Task P B policy)) (i : ℕ) → tasks ≡ [] → IsThere tasks i → ⊥
+  nothing-there tasks i none there =
+      let w = map-get is_there tasks i true there in
+      let under = slice_get_within tasks i w.0 w.1 in omega (arith, under, ap length none)
 
-  -- ---- one place gets its parts
-  -- below a place, each has its thread's parts
-  abbrev pub ArePlacesBelow : {A : Type 0} → (B → Pending) → List (Stage P B) → ℕ
-      → List (Vec (Part P B policy) A) → Type 0
-  ArePlacesBelow {A} pending stages k places = (t : ℕ) (parts : Vec (Part P B policy) A) → t < k →
-      slice_get places t ≡ Some parts → AreParts pending stages t parts.items
+  -- ---- one list gets its tasks
+  -- below an index, each has its thread's tasks
+  abbrev pub AreListsBelow : {A : Type 0} → (B → Pending) → List (RunningTest P B) → ℕ
+      → List (Vec (Task P B policy) A) → Type 0
+  AreListsBelow {A} pending tests k lists = (t : ℕ) (tasks : Vec (Task P B policy) A) → t < k →
+      slice_get lists t ≡ Some tasks → AreTasks pending tests t tasks.items
 
-  module _ {A : Type 0} (places : List (Vec (Part P B policy) A)) (k : ℕ) where
-    pub places-below : (pending : B → Pending) (stages : List (Stage P B))
-        (new : Vec (Part P B policy) A) → k < length places → AreParts pending stages k new.items
-        → ArePlacesBelow pending stages k places
-        → ArePlacesBelow pending stages (k + 1) (set places k new)
-    places-below pending stages new within are below t parts under at = elim (cases_eq t k) [
+  module _ {A : Type 0} (lists : List (Vec (Task P B policy) A)) (k : ℕ) where
+    pub lists-below : (pending : B → Pending) (tests : List (RunningTest P B))
+        (new : Vec (Task P B policy) A) → k < length lists → AreTasks pending tests k new.items
+        → AreListsBelow pending tests k lists
+        → AreListsBelow pending tests (k + 1) (set lists k new)
+    lists-below pending tests new within are below t tasks under at = elim (cases_eq t k) [
       | inl same ↦
-          let one : new ≡ parts = one-item (set places k new) k new parts
-          (get-set-same places k new within) (ap (slice_get (set places k new)) (sym same)
+          let one : new ≡ tasks = one-item (set lists k new) k new tasks
+          (get-set-same lists k new within) (ap (slice_get (set lists k new)) (sym same)
           ∙ at) in
-          let F : ℕ × Vec (Part P B policy) A → Type 0 =
-          λ p. AreParts pending stages p.0 p.1.items in
+          let F : ℕ × Vec (Task P B policy) A → Type 0 =
+          λ p. AreTasks pending tests p.0 p.1.items in
           subst F (λ j. (sym same j, one j)) are
-      | inr apart ↦ below t parts (omega (arith, apart))
-          (sym (get-set-other places k t new apart) ∙ at)
+      | inr apart ↦ below t tasks (omega (arith, apart))
+          (sym (get-set-other lists k t new apart) ∙ at)
     ]
 
-    pub placed-here : (new : Vec (Part P B policy) A) → k < length places → (i t : ℕ) → t ≡ k
-        → IsThere new.items i → InPlaces (set places k new) i t
-    placed-here new within i t is there = record {
-      parts = new;
-      at = ap (slice_get (set places k new)) is ∙ get-set-same places k new within;
+    pub listed-here : (new : Vec (Task P B policy) A) → k < length lists → (i t : ℕ) → t ≡ k
+        → IsThere new.items i → IsListed (set lists k new) i t
+    listed-here new within i t is there = record {
+      tasks = new;
+      at = ap (slice_get (set lists k new)) is ∙ get-set-same lists k new within;
       there = there;
     }
 
-    -- the place was empty
-    pub placed-set : (room new : Vec (Part P B policy) A) → slice_get places k ≡ Some room
-        → room.items ≡ [] → (i t : ℕ) → InPlaces places i t → InPlaces (set places k new) i t
-    placed-set room new at empty i t p = elim (cases_eq t k) [
+    -- the list was empty
+    pub listed-set : (list new : Vec (Task P B policy) A) → slice_get lists k ≡ Some list
+        → list.items ≡ [] → (i t : ℕ) → IsListed lists i t → IsListed (set lists k new) i t
+    listed-set list new at empty i t p = elim (cases_eq t k) [
       | inl same ↦
-          let one : p.parts ≡ room = one-item places k p.parts room
-          (ap (slice_get places) (sym same) ∙ p.at) at in
-          absurd (nothing-there p.parts.items i
-          (ap (λ (v : Vec (Part P B policy) A). v.items) one ∙ empty) p.there)
+          let one : p.tasks ≡ list = one-item lists k p.tasks list
+          (ap (slice_get lists) (sym same) ∙ p.at) at in
+          absurd (nothing-there p.tasks.items i
+          (ap (λ (v : Vec (Task P B policy) A). v.items) one ∙ empty) p.there)
       | inr apart ↦
           record {
-            parts = p.parts;
-            at = get-set-other places k t new apart ∙ p.at;
+            tasks = p.tasks;
+            at = get-set-other lists k t new apart ∙ p.at;
             there = p.there;
           }
     ]
 
-  -- ---- the last place goes
-  module _ {A : Type 0} (places : List (Vec (Part P B policy) A))
-      (parts : Vec (Part P B policy) A) where
-    pub places-less : (pending : B → Pending) (stages : List (Stage P B))
-        → ArePlaces pending stages (places ++ parts ∷ []) → ArePlaces pending stages places
-    places-less pending stages all t other at =
-        all t other (get-more-old places parts t (slice_get_within places t other at) ∙ at)
+  -- ---- the last list goes
+  module _ {A : Type 0} (lists : List (Vec (Task P B policy) A))
+      (tasks : Vec (Task P B policy) A) where
+    pub lists-less : (pending : B → Pending) (tests : List (RunningTest P B))
+        → AreTaskLists pending tests (lists ++ tasks ∷ []) → AreTaskLists pending tests lists
+    lists-less pending tests all t other at =
+        all t other (get-more-old lists tasks t (slice_get_within lists t other at) ∙ at)
 
-    pub placed-either : (i t : ℕ) → InPlaces (places ++ parts ∷ []) i t
-        → InPlaces places i t ⊎ ((t ≡ length places) × IsThere parts.items i)
-    placed-either i t p = elim (get-more places parts t p.parts p.at) [
-      | inl w ↦ inl (record { parts = p.parts; at = w; there = p.there })
+    pub listed-either : (i t : ℕ) → IsListed (lists ++ tasks ∷ []) i t
+        → IsListed lists i t ⊎ ((t ≡ length lists) × IsThere tasks.items i)
+    listed-either i t p = elim (get-more lists tasks t p.tasks p.at) [
+      | inl w ↦ inl (record { tasks = p.tasks; at = w; there = p.there })
       | inr w ↦
-          let I : Vec (Part P B policy) A → Type 0 = λ x. IsThere x.items i in
+          let I : Vec (Task P B policy) A → Type 0 = λ x. IsThere x.items i in
           inr (w.0, subst I (sym w.1) p.there)
     ]

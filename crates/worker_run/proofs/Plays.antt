@@ -27,7 +27,7 @@ use Rattle.turn_lock.proofs.laws.FirstThreads.{first-has, first-below}
 use Rattle.worker_run.specs.Bodies.{source_of_bodies}
 use Rattle.worker_run.specs.declared.runner.Runner.{Runner}
 use Rattle.worker_run.specs.Played.{IsPlayed, HasPlayed}
-use Rattle.worker_run.specs.Served.{IsUnposted, IsRunning, runner_at, IsCrew, AllOwe, IsOver}
+use Rattle.worker_run.specs.Served.{IsUnposted, IsRunning, runner_at, IsShare, AllOwe, IsOver}
 use Rattle.worker_run.specs.Served.{IsServed, first_runners}
 use Rattle.worker_run.proofs.laws.RunsOver.{ended-over, same-trace, later-ends}
 
@@ -81,17 +81,17 @@ module _ {B : Type 0} (pending : B → Pending) where
       few = omega (arith, ap length (unposted.posts t));
     }
 
-    pub first-crew : IsCrew pending (pending_of (map pending bodies)) 0 runners v
-    first-crew = record {
-      place = λ t here. let r = body-at bodies t (within t here) in
+    pub first-share : IsShare pending (pending_of (map pending bodies)) 0 runners v
+    first-share = record {
+      index = λ t here. let r = body-at bodies t (within t here) in
           (t, r.0, omega arith, ap (λ l. runner_at l t) are ∙ r.1);
-      running = λ t place r of at.
-          let is = runner-is bodies place r (ap (λ l. runner_at l place) (sym are) ∙ at) in
-          let same : place ≡ t = omega (arith, of) in
+      running = λ t index r of at.
+          let is = runner-is bodies index r (ap (λ l. runner_at l index) (sym are) ∙ at) in
+          let same : index ≡ t = omega (arith, of) in
           let P : ℕ → Type 0 = λ x. Serves v x
           × IsRunning (pending_of (map pending bodies) x) (pending r.body) r.answered x
           v.seen in
-          subst P same (serves place is.0, first-running place r is.1 is.2);
+          subst P same (serves index is.0, first-running index r is.1 is.2);
     }
 
 pub first-owe : (v : View) → IsUnposted v.seen → AllOwe v
@@ -253,10 +253,10 @@ module _ {B : Type 0} (pending : B → Pending) (bodies : List B) (deal : Deal) 
   pub here-all : (t : ℕ) → t < made.deal.threads → Serves v t
   here-all t within = here-serves t (omega (arith, ap (λ (b : BookState). b.deal.threads) made_is))
 
-  pub here-crew : (runners : List (Option (Runner B))) → runners ≡ first_runners bodies
-      → IsCrew pending (pending_of (map pending bodies)) 0 runners v
-  here-crew runners are =
-      first-crew pending bodies runners are v here-unposted here-serves here-within
+  pub here-share : (runners : List (Option (Runner B))) → runners ≡ first_runners bodies
+      → IsShare pending (pending_of (map pending bodies)) 0 runners v
+  here-share runners are =
+      first-share pending bodies runners are v here-unposted here-serves here-within
 
   -- what was played by the lock is by what it was made with
   pub here-played : (starts : List Pending) (events : List Event) (outcome : Outcome)

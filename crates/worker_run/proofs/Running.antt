@@ -149,7 +149,7 @@ room-for t one None few owed = omega arith
 room-for t one (Some q) few owed = let same = owed q refl in omega arith
 
 module _ (v w : View) (t : ℕ) (mine : Serves v t) (given : Option Post) where
-  -- the thread's part of the book as it was taken
+  -- what is the thread's in the book as it was taken
   pairs-taken : (answer : Turn) → (took : TookTurn v t given answer w)
       → pairs_of (took.turn).asked t ≡ pairs_of v.seen t
   pairs-taken answer took = by given (took.turn).posted ∙ (took.own t mine).pairs where

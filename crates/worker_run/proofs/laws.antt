@@ -1,5 +1,5 @@
 -- Laws on runs and ranks, made for other crates too: each speaks of definitions alone.
--- a list with a wrong place is no order, and the declared order is one
+-- the declared order is an order
 pub mod Orders
 -- two ways to rank the threads that order them alike have one run
 pub mod SameRuns
@@ -19,7 +19,7 @@ pub mod RunsOver
 pub mod SampleRanges
 -- a test more in a list of tests
 pub mod Batches
--- items of a list by their places
-pub mod ItemsByPlace
+-- items of a list by their indices
+pub mod ItemsByIndex
 -- what is so of all that bodies ask is so of their run's steps, and its verdict follows
 pub mod AskedRuns

@@ -16,14 +16,14 @@ use Rattle.turn_lock.specs.Views.{view, HasSeat}
 use Rattle.turn_lock.specs.declared.view.View.{View}
 use Rattle.turn_lock.specs.declared.held.TurnLock.{TurnLock}
 use Rattle.turn_lock.specs.declared.seat.Seat.{Seat}
-use Rattle.worker_run.specs.Served.{Follows, IsCrew, AllOwe, IsOver, IsServed}
+use Rattle.worker_run.specs.Served.{Follows, IsShare, AllOwe, IsOver, IsServed}
 use Rattle.worker_run.specs.declared.runner.Runner.{Runner}
-use Rattle.worker_run.specs.declared.batch.Stage.{Stage}
-use Rattle.worker_run.specs.declared.batch.Crew.{Crew}
-use Rattle.worker_run.specs.declared.batch.Part.{Part}
-use Rattle.worker_run.specs.declared.batch.Part.TheVariants.{Absent, Waiting, Served}
+use Rattle.worker_run.specs.declared.batch.RunningTest.{RunningTest}
+use Rattle.worker_run.specs.declared.batch.Share.{Share}
+use Rattle.worker_run.specs.declared.batch.Task.{Task}
+use Rattle.worker_run.specs.declared.batch.Task.TheVariants.{Absent, Waiting, Served}
 
--- Two lists are of one length, and their items at each place are related.
+-- Two lists are of one length, and the items at each index are related.
 pub record Each {X : Type 0} {Y : Type 0} (R : X → Y → Type 0) (xs : List X)
     (ys : List Y) : Type 0 where
   pub long : length ys ≡ length xs
@@ -31,20 +31,20 @@ pub record Each {X : Type 0} {Y : Type 0} (R : X → Y → Type 0) (xs : List X)
 
 -- ---- What follows is for this crate's own use.
 
--- what a place's runner posts, if there is one
+-- what a thread's runner posts, if there is one
 abbrev pub posts_at : {B : Type 0} → (B → Pending) → Option (Runner B) → Pending
 posts_at pending None = no_body
 posts_at pending (Some runner) = pending runner.body
 
 -- what the bodies of a test post
-abbrev pub bodies_on : {P : Type 0} {B : Type 0} → (B → Pending) → Stage P B → List Pending
-bodies_on pending stage = map (λ place. posts_at pending place) (stage.runners).value.items
+abbrev pub bodies_on : {P : Type 0} {B : Type 0} → (B → Pending) → RunningTest P B → List Pending
+bodies_on pending test = map (λ index. posts_at pending index) (test.runners).value.items
 
 -- a body for each thread, which names only what there is
-pub record IsStage {P : Type 0} {B : Type 0} (pending : B → Pending)
-    (stage : Stage P B) : Type 0 where
-  pub in_range : AreInRange (sizes_of_deal (first_book stage.lock.now).deal)
-      (bodies_on pending stage)
+pub record IsRunningTest {P : Type 0} {B : Type 0} (pending : B → Pending)
+    (test : RunningTest P B) : Type 0 where
+  pub in_range : AreInRange (sizes_of_deal (first_book test.lock.now).deal)
+      (bodies_on pending test)
 
 -- Threads that there aren't have no posts.
 abbrev pub NoneOutside : BookState → Type 0
@@ -56,24 +56,24 @@ pub record IsSeatOf {P : Type 0} {policy : Ghosts P} (lock : TurnLock P)
   pub of : HasSeat lock seat
   pub outside : NoneOutside (view seat).seen
 
--- The crew's seat serves the threads that it has runners for, and none has posted.
-pub record IsCrewOf {P : Type 0} {policy : Ghosts P} {B : Type 0} (pending : B → Pending)
-    (stage : Stage P B) (crew : Crew P B policy) : Type 0 where
-  pub stage_is : IsStage pending stage
-  pub seat_is : IsSeatOf stage.lock.now crew.seat
-  pub runs : IsCrew pending (pending_of (bodies_on pending stage)) 0 crew.runners.items
-      (view crew.seat)
-  pub owe : AllOwe (view crew.seat)
-  pub long : length crew.runners.items ≡ (first_book stage.lock.now).deal.threads
+-- The share's seat serves the threads that it has runners for, and none has posted.
+pub record IsShareOf {P : Type 0} {policy : Ghosts P} {B : Type 0} (pending : B → Pending)
+    (test : RunningTest P B) (share : Share P B policy) : Type 0 where
+  pub test_is : IsRunningTest pending test
+  pub seat_is : IsSeatOf test.lock.now share.seat
+  pub runs : IsShare pending (pending_of (bodies_on pending test)) 0 share.runners.items
+      (view share.seat)
+  pub owe : AllOwe (view share.seat)
+  pub long : length share.runners.items ≡ (first_book test.lock.now).deal.threads
 
 -- a seat for one thread alone, with its runner, that has not posted
 pub record IsWaiting {P : Type 0} {policy : Ghosts P} {B : Type 0} (pending : B → Pending)
-    (stage : Stage P B) (t : ℕ) (seat : Seat P policy) (runner : Runner B) : Type 0 where
-  pub stage_is : IsStage pending stage
-  pub seat_is : IsSeatOf stage.lock.now seat
-  pub runs : IsCrew pending (pending_of (bodies_on pending stage)) t (Some runner ∷ []) (view seat)
+    (test : RunningTest P B) (t : ℕ) (seat : Seat P policy) (runner : Runner B) : Type 0 where
+  pub test_is : IsRunningTest pending test
+  pub seat_is : IsSeatOf test.lock.now seat
+  pub runs : IsShare pending (pending_of (bodies_on pending test)) t (Some runner ∷ []) (view seat)
   pub owe : AllOwe (view seat)
-  pub below : t < (first_book stage.lock.now).deal.threads
+  pub below : t < (first_book test.lock.now).deal.threads
 
 -- The thread was served by its body until the run was over or it had ended.
 pub record IsThreadServed (bodies : List Pending) (t : ℕ) (v : View) : Type 0 where
@@ -90,41 +90,43 @@ pub record IsThreadTold (bodies : List Pending) (t : ℕ) (v : View) : Type 0 wh
       (source_of v.seen.posts) v.seen.limit v.seen.trace
 
 -- whether the test has the thread
-abbrev pub is_there : {P : Type 0} {policy : Ghosts P} {B : Type 0} → Part P B policy → Bool
+abbrev pub is_there : {P : Type 0} {policy : Ghosts P} {B : Type 0} → Task P B policy → Bool
 is_there Absent = false
 is_there (Waiting seat runner) = true
 is_there (Served seat) = true
 
--- a part that was served, if it is there
-abbrev pub IsServedPart : {P : Type 0} {policy : Ghosts P} {B : Type 0} → (B → Pending) → Stage P B
-    → ℕ → Part P B policy → Type 0
-IsServedPart pending stage t Absent = Unit {0}
-IsServedPart pending stage t (Waiting seat runner) = ⊥
-IsServedPart pending stage t (Served seat) =
-    IsSeatOf stage.lock.now seat × IsThreadServed (bodies_on pending stage) t (view seat)
+-- a task that was served, if it is there
+abbrev pub IsServedTask : {P : Type 0} {policy : Ghosts P} {B : Type 0} → (B → Pending)
+    → RunningTest P B
+    → ℕ → Task P B policy → Type 0
+IsServedTask pending test t Absent = Unit {0}
+IsServedTask pending test t (Waiting seat runner) = ⊥
+IsServedTask pending test t (Served seat) =
+    IsSeatOf test.lock.now seat × IsThreadServed (bodies_on pending test) t (view seat)
 
 -- or is to be
-abbrev pub IsPart : {P : Type 0} {policy : Ghosts P} {B : Type 0} → (B → Pending) → Stage P B → ℕ
-    → Part P B policy → Type 0
-IsPart pending stage t Absent = Unit {0}
-IsPart pending stage t (Waiting seat runner) = IsWaiting pending stage t seat runner
-IsPart pending stage t (Served seat) =
-    IsSeatOf stage.lock.now seat × IsThreadServed (bodies_on pending stage) t (view seat)
+abbrev pub IsTask : {P : Type 0} {policy : Ghosts P} {B : Type 0} → (B → Pending) → RunningTest P B
+    → ℕ
+    → Task P B policy → Type 0
+IsTask pending test t Absent = Unit {0}
+IsTask pending test t (Waiting seat runner) = IsWaiting pending test t seat runner
+IsTask pending test t (Served seat) =
+    IsSeatOf test.lock.now seat × IsThreadServed (bodies_on pending test) t (view seat)
 
--- A part that waited was served: its body was, by its seat, and the seat is of the table of which
+-- A task that waited was served: its body was, by its seat, and the seat is of the table of which
 -- it was.
 pub record WasServed {P : Type 0} {policy : Ghosts P} {B : Type 0} (pending : B → Pending) (t : ℕ)
-    (before after : Part P B policy) : Type 0 where
+    (before after : Task P B policy) : Type 0 where
   pub seat : Seat P policy
   pub runner : Runner B
   pub back : Seat P policy
   pub waited : before ≡ Waiting seat runner
   pub is : after ≡ Served back
   pub table : back.seat.table_id ≡ seat.seat.table_id
-  pub served : (start : ℕ → Pending) → IsCrew pending start t (Some runner ∷ []) (view seat)
+  pub served : (start : ℕ → Pending) → IsShare pending start t (Some runner ∷ []) (view seat)
       → IsServed start (view seat) (view back)
 
--- a part that comes back from its thread: it is as it was, or was served
-abbrev pub IsPartBack : {P : Type 0} {policy : Ghosts P} {B : Type 0} → (B → Pending) → ℕ
-    → Part P B policy → Part P B policy → Type 0
-IsPartBack pending t before after = (after ≡ before) ⊎ WasServed pending t before after
+-- a task that comes back from its worker: it is as it was, or was served
+abbrev pub IsTaskBack : {P : Type 0} {policy : Ghosts P} {B : Type 0} → (B → Pending) → ℕ
+    → Task P B policy → Task P B policy → Type 0
+IsTaskBack pending t before after = (after ≡ before) ⊎ WasServed pending t before after

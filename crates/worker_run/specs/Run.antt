@@ -109,6 +109,6 @@ run deal bodies order points limit =
 
 -- the same with moments in the place of change points
 abbrev pub directed_run : Deal → List Pending → List ℕ → List Moment → ℕ → Option Run
-directed_run deal bodies order events limit =
-    run_from (record { deal = deal; bodies = bodies; rank_after = rank_by_events order events })
+directed_run deal bodies order moments limit =
+    run_from (record { deal = deal; bodies = bodies; rank_after = rank_by_events order moments })
     limit []

@@ -39,27 +39,27 @@ pub record IsRunning (start now : Pending) (answered t : ℕ) (seen : BookState)
   pub counted : answered ≡ length (answers_of t seen.trace)
   pub few : length (posts_seen seen t) ≤ length (pairs_of seen t) + 1
 
--- the runner of a place, if there is one
+-- the runner at an index, if there is one
 abbrev pub runner_at : {B : Type 0} → List (Option (Runner B)) → ℕ → Option (Runner B)
-runner_at runners place = slice_index_or runners place None
+runner_at runners index = slice_index_or runners index None
 
--- The threads of the seat are those that have a runner. The first place is that of the thread
--- `base`.
-pub record IsCrew {B : Type 0} (pending : B → Pending) (start : ℕ → Pending) (base : ℕ)
+-- The runners are a share with the seat: its threads are those that have a runner. The first index
+-- is that of the thread `base`.
+pub record IsShare {B : Type 0} (pending : B → Pending) (start : ℕ → Pending) (base : ℕ)
     (runners : List (Option (Runner B))) (v : View) : Type 0 where
-  pub place : (t : ℕ) → Serves v t
-      → (place : ℕ) × (runner : Runner B) × (t ≡ base + place)
-      × (runner_at runners place ≡ Some runner)
-  pub running : (t place : ℕ) (runner : Runner B)
-      → t ≡ base + place → runner_at runners place ≡ Some runner
+  pub index : (t : ℕ) → Serves v t
+      → (index : ℕ) × (runner : Runner B) × (t ≡ base + index)
+      × (runner_at runners index ≡ Some runner)
+  pub running : (t index : ℕ) (runner : Runner B)
+      → t ≡ base + index → runner_at runners index ≡ Some runner
       → Serves v t × IsRunning (start t) (pending runner.body) runner.answered t v.seen
 
 -- the same of bodies that name only what there is
-abbrev pub HasCrew : {B : Type 0}
+abbrev pub HasShare : {B : Type 0}
     → Sizes → (B → Pending) → ℕ → List (Option (Runner B)) → View → Type 0
-HasCrew sizes pending base runners v =
+HasShare sizes pending base runners v =
     (start : ℕ → Pending) × ((t : ℕ) → IsInRangeBody sizes (start t))
-    × IsCrew pending start base runners v
+    × IsShare pending start base runners v
 
 abbrev pub AllOwe : View → Type 0
 AllOwe v = (t : ℕ) → Serves v t → owes_of v.seen t ≡ true

@@ -15,8 +15,9 @@ use Rattle.worker_run.specs.Played.{IsPlayed, IsRun}
 use Rattle.worker_run.specs.Served.{first_runners}
 use Rattle.worker_run.specs.Batch.{IsThreadTold}
 use Rattle.worker_run.specs.declared.batch.Test.{Test}
-use Rattle.worker_run.specs.declared.batch.Crew.{Crew}
+use Rattle.worker_run.specs.declared.batch.Share.{Share}
 use Rattle.worker_run.specs.declared.played.Played.{Played}
+use Rattle.pct_ask.specs.declared.limits.TheConstants.{MAX_STEPS}
 
 module _ {P : Type 0} {B : Type 0} (pending : B → Pending) (plan : P → Plan) where
   -- what its bodies post
@@ -27,7 +28,7 @@ module _ {P : Type 0} {B : Type 0} (pending : B → Pending) (plan : P → Plan)
   -- and a body for each thread, which names only what there is.
   pub record IsTest (stands_for : P → List ℕ → Type 0) (test : Test P B) : Type 0 where
     pub some_steps : 1 ≤ test.limit
-    pub few_steps : test.limit ≤ 100000
+    pub few_steps : test.limit ≤ MAX_STEPS
     pub stands : stands_for test.policy []
     pub speaks : SpeaksOf (plan test.policy) test.deal.threads
     pub bodies : length test.bodies.items ≡ test.deal.threads
@@ -45,25 +46,25 @@ module _ {P : Type 0} {B : Type 0} (pending : B → Pending) (plan : P → Plan)
         ended.events ended.outcome
     pub by_points : (order points : List ℕ) → plan test.policy ≡ ByPoints order points
         → IsRun (run test.deal (bodies_in test) order points test.limit) ended.events ended.outcome
-    pub by_events : (order : List ℕ) (events : List Moment)
-        → plan test.policy ≡ ByEvents order events
-        → IsRun (directed_run test.deal (bodies_in test) order events test.limit)
+    pub by_events : (order : List ℕ) (moments : List Moment)
+        → plan test.policy ≡ ByEvents order moments
+        → IsRun (directed_run test.deal (bodies_in test) order moments test.limit)
         ended.events ended.outcome
 
-  -- the crews have seen that every thread was served
-  abbrev pub AllTold : {policy : Ghosts P} → List (Test P B) → List (Crew P B policy) → Type 0
-  AllTold {policy} tests crews = (i t : ℕ) (test : Test P B) (crew : Crew P B policy)
-      → slice_get tests i ≡ Some test → slice_get crews i ≡ Some crew → t < test.deal.threads
-      → IsThreadTold (bodies_in test) t (view crew.seat)
+  -- the shares have seen that every thread was served
+  abbrev pub AllTold : {policy : Ghosts P} → List (Test P B) → List (Share P B policy) → Type 0
+  AllTold {policy} tests shares = (i t : ℕ) (test : Test P B) (share : Share P B policy)
+      → slice_get tests i ≡ Some test → slice_get shares i ≡ Some share → t < test.deal.threads
+      → IsThreadTold (bodies_in test) t (view share.seat)
 
 module _ {P : Type 0} {B : Type 0} (plan : P → Plan) where
   -- a lock that was made for the test
   abbrev pub IsLockOf : Test P B → TurnLock P → Type 0
   IsLockOf test lock = first_book lock ≡ new_book test.deal test.limit (plan test.policy)
 
-  -- a crew before the first post: it has the first seat of the test's lock, and a new runner for
+  -- a share before the first post: it has the first seat of the test's lock, and a new runner for
   -- each body
-  pub record IsFirstCrew {policy : Ghosts P} (test : Test P B)
-      (crew : Crew P B policy) : Type 0 where
-    pub view_is : view crew.seat ≡ first_view (new_book test.deal test.limit (plan test.policy))
-    pub runners_are : crew.runners.items ≡ first_runners test.bodies.items
+  pub record IsFirstShare {policy : Ghosts P} (test : Test P B)
+      (share : Share P B policy) : Type 0 where
+    pub view_is : view share.seat ≡ first_view (new_book test.deal test.limit (plan test.policy))
+    pub runners_are : share.runners.items ≡ first_runners test.bodies.items

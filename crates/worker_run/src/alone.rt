@@ -8,8 +8,9 @@ ghost use Rattle.turn_lock.specs.Seen.{owes_of};
 ghost use Rattle.turn_lock.specs.Rule.{Serves, first_view};
 ghost use Rattle.turn_lock.specs.Turns.{TookTurn, TellsEnd};
 ghost use Rattle.turn_lock.specs.Briefs.{InBrief, settles};
-ghost use Rattle.worker_run.specs.Served.{IsCrew, HasCrew, AllOwe, NoneOwes, GoesOn, IsOver};
+ghost use Rattle.worker_run.specs.Served.{IsShare, HasShare, AllOwe, NoneOwes, GoesOn, IsOver};
 ghost use Rattle.worker_run.specs.Served.{IsRunning, IsServed, Moves};
+ghost use Rattle.pct_ask.specs.declared.limits.TheConstants.{MAX_THREADS};
 
 use crate::runner::{Runner, is_over};
 use pct_ask::{Body, Post};
@@ -45,10 +46,10 @@ fn next_of<P: Policy>(book: &TurnBook<P>) -> u32
 }
 
 /// Whether a thread that asked for its turn has been answered.
-fn is_settled(words: &Brief) -> bool
-    ensures { result ≡ settles words.now }
+fn is_settled(told: &Brief) -> bool
+    ensures { result ≡ settles told.now }
 {
-    matches!(words, Brief::Answer(_) | Brief::Over)
+    matches!(told, Brief::Answer(_) | Brief::Over)
 }
 
 /// The thread whose turn it is takes its step, where every thread has posted, or the run is over.
@@ -63,9 +64,9 @@ fn turn_alone<R: Wait, P: Policy>(rt: &R, book: &mut TurnBook<P>) -> (u32, Brief
     let _steps = book.trace();
     for _ in rt.forever() {
         let thread = next_of(book);
-        let words = answer(book, thread);
-        if is_settled(&words) {
-            return (thread, words);
+        let told = answer(book, thread);
+        if is_settled(&told) {
+            return (thread, told);
         }
     }
     unreachable!()
@@ -99,7 +100,7 @@ impl<B: Body> Runner<B> {
             let post = self.body.post();
             match post_alone(book, thread, post) {
                 Brief::Answer(value) => self.hear(value),
-                words => return is_over(words),
+                told => return is_over(told),
             }
         }
         unreachable!()
@@ -113,23 +114,23 @@ fn begin_alone<R: Wait, P: Policy, B: Body, G: Gate>(
     runners: &mut [Option<Runner<B>>],
     gate: &G,
 ) -> bool
-    requires crew { HasCrew (sizes_of_deal book.old.deal) B.pending 0 runners.old
+    requires share { HasShare (sizes_of_deal book.old.deal) B.pending 0 runners.old
         (first_view book.old) }
     requires owe { AllOwe (first_view book.old) }
-    requires few { length runners.old ≤ 64 }
+    requires few { length runners.old ≤ MAX_THREADS }
     ensures of { SameMaking book.old book.new }
-    ensures crew { (start : ℕ → Pending)
-        → IsCrew B.pending start 0 runners.old (first_view book.old)
-        → IsCrew B.pending start 0 runners.new (first_view book.new) }
+    ensures share { (start : ℕ → Pending)
+        → IsShare B.pending start 0 runners.old (first_view book.old)
+        → IsShare B.pending start 0 runners.new (first_view book.new) }
     ensures on { GoesOn (first_view book.old) (first_view book.new) }
     ensures runners { length runners.new ≡ length runners.old }
     ensures lawful { (t : ℕ) → Serves (first_view book.old) t → IsLawful book.new }
     ensures over { result ≡ true → IsOver book.new }
     ensures posted { result ≡ false → NoneOwes (first_view book.new) }
 {
-    for place in 0..runners.len() {
-        if let Some(runner) = &mut runners[place] {
-            if runner.speak_alone(rt, book, place as u32, gate) {
+    for index in 0..runners.len() {
+        if let Some(runner) = &mut runners[index] {
+            if runner.speak_alone(rt, book, index as u32, gate) {
                 return true;
             }
         }
@@ -144,19 +145,19 @@ fn take_turns_alone<R: Wait, P: Policy, B: Body, G: Gate>(
     runners: &mut [Option<Runner<B>>],
     gate: &G,
 )
-    requires crew { HasCrew (sizes_of_deal book.old.deal) B.pending 0 runners.old
+    requires share { HasShare (sizes_of_deal book.old.deal) B.pending 0 runners.old
         (first_view book.old) }
     requires posted { NoneOwes (first_view book.old) }
-    requires few { length runners.old ≤ 64 }
+    requires few { length runners.old ≤ MAX_THREADS }
     ensures of { SameMaking book.old book.new }
     ensures served { (start : ℕ → Pending)
-        → IsCrew B.pending start 0 runners.old (first_view book.old)
+        → IsShare B.pending start 0 runners.old (first_view book.old)
         → IsServed start (first_view book.old) (first_view book.new) }
     ensures lawful { IsLawful book.new }
 {
     for _ in rt.forever() {
-        let (thread, words) = turn_alone(rt, book);
-        let Brief::Answer(value) = words else {
+        let (thread, told) = turn_alone(rt, book);
+        let Brief::Answer(value) = told else {
             return;
         };
         let Some(runner) = &mut runners[thread as usize] else {
@@ -177,13 +178,13 @@ pub fn serve_alone<R: Wait, P: Policy, B: Body, G: Gate>(
     runners: &mut [Option<Runner<B>>],
     gate: &G,
 )
-    requires crew { HasCrew (sizes_of_deal book.old.deal) B.pending 0 runners.old
+    requires share { HasShare (sizes_of_deal book.old.deal) B.pending 0 runners.old
         (first_view book.old) }
     requires owe { AllOwe (first_view book.old) }
-    requires few { length runners.old ≤ 64 }
+    requires few { length runners.old ≤ MAX_THREADS }
     ensures of { SameMaking book.old book.new }
     ensures served { (start : ℕ → Pending)
-        → IsCrew B.pending start 0 runners.old (first_view book.old)
+        → IsShare B.pending start 0 runners.old (first_view book.old)
         → IsServed start (first_view book.old) (first_view book.new) }
     ensures lawful { (t : ℕ) → Serves (first_view book.old) t → IsLawful book.new }
 {

@@ -1,5 +1,4 @@
-//! Tests that run at once, each under a lock of its own, and the parts of them that threads are
-//! given.
+//! Tests that run at once, each under a lock of its own, and who serves what of them.
 use crate::runner::Runner;
 use pct_ask::{Body, Deal};
 use policy_pick::Policy;
@@ -16,23 +15,23 @@ pub struct Test<P: Policy, B: Body> {
     pub bodies: Vec<B>,
 }
 
-/// The lock of a test that runs, and the runners of its threads as they were at first.
+/// A test that runs: its lock, and the runners of its threads as they were at first.
 #[derive(Drop)]
-pub struct Stage<'l, P: Policy, B: Body> {
+pub struct RunningTest<'l, P: Policy, B: Body> {
     pub lock: &'l TurnLock<P>,
     pub runners: Snapshot<Vec<Option<Runner<B>>>>,
 }
 
-/// The caller's part of a test: a seat, and the runners of the threads that it serves.
+/// The caller's share of a test: a seat, and the runners of the threads that it serves.
 #[derive(Drop)]
-pub struct Crew<P: Policy, B: Body> {
+pub struct Share<P: Policy, B: Body> {
     pub seat: Seat<P>,
     pub runners: Vec<Option<Runner<B>>>,
 }
 
-/// A thread's part of a test.
+/// What a worker is given of a test: a seat for its thread alone, and that thread's runner.
 #[derive(Drop)]
-pub enum Part<P: Policy, B: Body> {
+pub enum Task<P: Policy, B: Body> {
     /// The test has no such thread.
     Absent,
     /// The body is to be served by the seat.

@@ -1,22 +1,22 @@
 // Whole runs: by an order of the threads, with change points or with moments in their place. A
 // verdict ends each of them.
-ghost use Rattle.std.specs.Prelude.{◌≡◌, ◌≤◌, [], length, map, IfOk, Some};
+ghost use Rattle.std.specs.Prelude.{◌≡◌, ◌≤◌, length, map, IfOk, Some};
 ghost use Rattle.pct_ask.specs.declared.verdict.Outcome.{Outcome};
 ghost use Rattle.pct_ask.specs.declared.verdict.Verdict.{Verdict};
 ghost use Rattle.pct_ask.specs.Objects.{sizes_of_deal};
 ghost use Rattle.pct_ask.specs.Bodies.{AreInRange};
 ghost use Rattle.rank_now.specs.Order.{IsOrder};
 ghost use Rattle.policy_pick.specs.Plan.{ByPoints, ByEvents};
-ghost use Rattle.policy_pick.specs.Kept.{points_plan, PointsStand, events_plan, EventsStand};
 ghost use Rattle.worker_run.specs.Run.{run, directed_run};
 ghost use Rattle.worker_run.specs.Played.{IsPlayed};
+ghost use Rattle.pct_ask.specs.declared.limits.TheConstants.{MAX_POINTS, MAX_STEPS};
 
 use crate::played::Played;
 use crate::run::run_threads;
 use pct_ask::{Body, Deal, EventList, Outcome, Verdict};
 use pct_outside::Gate;
 use policy_pick::{DirectedPolicy, Pct};
-use rank_now::{Moment, RankError};
+use rank_now::Moment;
 use std::alloc::{AllocError as NoMemory, Global};
 use std::sync::Wait;
 use std::thread::Threads;
@@ -66,40 +66,6 @@ impl From<WholeRun> for Played {
     }
 }
 
-/// The policy of an order and change points.
-pub fn points_policy(alloc: Global, order: &[u32], points: &[u32]) -> Result<Pct, NoMemory>
-    requires order { IsOrder order.now }
-    requires few_threads { length order.now ≤ 64 }
-    requires few_points { length points.now ≤ 7 }
-    ensures plan { IfOk result (λ policy. points_plan policy ≡ ByPoints order.now points.now) }
-    ensures stands { IfOk result (λ policy. PointsStand policy []) }
-{
-    match Pct::new(alloc, order, points) {
-        Ok(policy) => Ok(policy),
-        Err(RankError::NoMemory) => Err(NoMemory),
-        Err(RankError::NotAnOrder { .. }) => unreachable!(),
-    }
-}
-
-/// The policy of an order and moments.
-pub fn events_policy(
-    alloc: Global,
-    order: &[u32],
-    events: &[Moment],
-) -> Result<DirectedPolicy, NoMemory>
-    requires order { IsOrder order.now }
-    requires few_threads { length order.now ≤ 64 }
-    requires few_events { length events.now ≤ 7 }
-    ensures plan { IfOk result (λ policy. events_plan policy ≡ ByEvents order.now events.now) }
-    ensures stands { IfOk result (λ policy. EventsStand policy []) }
-{
-    match DirectedPolicy::new(alloc, order, events) {
-        Ok(policy) => Ok(policy),
-        Err(RankError::NoMemory) => Err(NoMemory),
-        Err(RankError::NotAnOrder { .. }) => unreachable!(),
-    }
-}
-
 /// The run of bodies under an order of their threads, the highest first, and change points, which
 /// are numbers of steps from 1. It has at most `limit` steps. Each body is in a thread of its own.
 /// The gate is passed before each post.
@@ -115,9 +81,9 @@ pub fn run_by_points<R: Threads + Wait + Sync, B: Body, G: Gate>(
 ) -> Result<WholeRun, NoMemory>
     requires order { IsOrder order.now }
     requires whole { length order.now ≡ deal.threads }
-    requires few_points { length points.now ≤ 7 }
+    requires few_points { length points.now ≤ MAX_POINTS }
     requires some_steps { 1 ≤ limit }
-    requires few_steps { limit ≤ 100000 }
+    requires few_steps { limit ≤ MAX_STEPS }
     requires bodies { length bodies.items ≡ deal.threads }
     requires in_range { AreInRange (sizes_of_deal deal) (map B.pending bodies.items) }
     ensures run { IfOk result (λ whole.
@@ -127,7 +93,7 @@ pub fn run_by_points<R: Threads + Wait + Sync, B: Body, G: Gate>(
     ensures played { IfOk result (λ whole. IsPlayed (ByPoints order.now points.now) deal
         (map B.pending bodies.items) limit whole.events (Outcome.Verdict whole.verdict)) }
 {
-    let policy = points_policy(alloc, order, points)?;
+    let policy = Pct::of_order(alloc, order, points)?;
     let played = run_threads(rt, alloc, deal, policy, limit, bodies, gate)?;
     Ok(played.into_whole())
 }
@@ -139,26 +105,26 @@ pub fn run_by_events<R: Threads + Wait + Sync, B: Body, G: Gate>(
     alloc: Global,
     deal: Deal,
     order: &[u32],
-    events: &[Moment],
+    moments: &[Moment],
     limit: u32,
     bodies: Vec<B>,
     gate: &G,
 ) -> Result<WholeRun, NoMemory>
     requires order { IsOrder order.now }
     requires whole { length order.now ≡ deal.threads }
-    requires few_events { length events.now ≤ 7 }
+    requires few_moments { length moments.now ≤ MAX_POINTS }
     requires some_steps { 1 ≤ limit }
-    requires few_steps { limit ≤ 100000 }
+    requires few_steps { limit ≤ MAX_STEPS }
     requires bodies { length bodies.items ≡ deal.threads }
     requires in_range { AreInRange (sizes_of_deal deal) (map B.pending bodies.items) }
     ensures directed { IfOk result (λ whole.
-        directed_run deal (map B.pending bodies.items) order.now events.now limit
+        directed_run deal (map B.pending bodies.items) order.now moments.now limit
         ≡ Some (whole.events, whole.verdict)) }
     // The same, as the run that is played by these priorities.
-    ensures played { IfOk result (λ whole. IsPlayed (ByEvents order.now events.now) deal
+    ensures played { IfOk result (λ whole. IsPlayed (ByEvents order.now moments.now) deal
         (map B.pending bodies.items) limit whole.events (Outcome.Verdict whole.verdict)) }
 {
-    let policy = events_policy(alloc, order, events)?;
+    let policy = DirectedPolicy::of_order(alloc, order, moments)?;
     let played = run_threads(rt, alloc, deal, policy, limit, bodies, gate)?;
     Ok(played.into_whole())
 }

@@ -7,11 +7,12 @@ ghost use Rattle.turn_lock.specs.Calls.{first_book, ServesAll};
 ghost use Rattle.turn_lock.specs.Views.{view, HasSeat};
 ghost use Rattle.worker_run.specs.Played.{HasPlayed};
 ghost use Rattle.worker_run.specs.Served.{IsUnposted, IsWhole, first_runners};
+ghost use Rattle.pct_ask.specs.declared.limits.TheConstants.{MAX_THREADS};
 
-use crate::batch::{Crew, Stage};
-use crate::places::rooms_of;
+use crate::batch::{RunningTest, Share};
 use crate::runner::Runner;
-use crate::teams::play_stages;
+use crate::task_lists::empty_lists;
+use crate::workers::serve_tests;
 use pct_ask::Body;
 use pct_outside::Gate;
 use policy_pick::Policy;
@@ -38,7 +39,7 @@ pub fn runners_of<B: Body>(
 fn split_all<P: Policy>(lock: &TurnLock<P>, seat: &mut Seat<P>, threads: u32) -> Seat<P>
     requires of { HasSeat lock.now seat.old }
     requires some { 1 ≤ threads }
-    requires few { threads ≤ 64 }
+    requires few { threads ≤ MAX_THREADS }
     requires all { (t : ℕ) → t < threads → Serves (view seat.old) t }
     requires unposted { IsUnposted (view seat.old).seen }
     ensures of { HasSeat lock.now seat.new × HasSeat lock.now result }
@@ -79,20 +80,20 @@ pub fn run_on<R: Threads + Wait + Sync, P: Policy, B: Body, G: Gate>(
 {
     let threads = bodies.len() as u32;
     let runners = runners_of(alloc, bodies)?;
-    let mut stages = Vec::with_capacity(alloc, 1)?;
-    let mut crews = Vec::with_capacity(alloc, 1)?;
-    let rooms = rooms_of(alloc, 1, threads)?;
+    let mut tests = Vec::with_capacity(alloc, 1)?;
+    let mut shares = Vec::with_capacity(alloc, 1)?;
+    let lists = empty_lists(alloc, 1, threads)?;
     let first = Snapshot::of(&runners);
-    stages.push_reserved(Stage {
+    tests.push_reserved(RunningTest {
         lock,
         runners: first,
     });
     let all = split_all(lock, seat, threads);
-    crews.push_reserved(Crew { seat: all, runners });
-    let mut played = play_stages(rt, &stages, crews, rooms, gate);
-    let Some(crew) = played.pop() else {
+    shares.push_reserved(Share { seat: all, runners });
+    let mut played = serve_tests(rt, &tests, shares, lists, gate);
+    let Some(share) = played.pop() else {
         unreachable!()
     };
-    lock.join(seat, crew.seat);
+    lock.join(seat, share.seat);
     Ok(())
 }

@@ -1,5 +1,18 @@
 //! Runs of bodies under a policy, each body in a thread of its own, or all served by the caller.
 //!
+//! Four words say who serves what, of one test or of a batch of tests, each under its own lock:
+//!
+//! - A *runner* is a body and the number of answers that it has had.
+//! - A *share* is what the caller has of a test: a seat of the test's lock, and the runners of the
+//!   threads that this seat serves. At first that is all of them.
+//! - A *task* is what is taken off a share for a worker: a seat for one thread, with its runner.
+//! - A *worker* is a thread that is started for one thread number. It serves its task of the first
+//!   test, then that of the second, and so on.
+//!
+//! The tasks of a worker that can't be started go back into the shares, which the caller serves
+//! while the workers run. In the end each task's seat is joined to its share's, which has then seen
+//! the whole run.
+//!
 //! What is proved, by call and clause; in parentheses the definitions:
 //!
 //! - The steps obey the policy over the bodies, and the outcome is what is settled over them; by an
@@ -10,8 +23,8 @@
 //! - `run_many` answers as many runs as tests, each what `run_threads` promises of its test:
 //!   `run_many`: `runs` (`Each`, `IsRunOf`); a test is made by `Test::by_points` and
 //!   `Test::by_events`, a verdict given by `Played::verdict`.
-//! - Batch after batch, in memory that is used again: by threads `run_many_by`: `runs`, `caller`; by
-//!   the caller `run_by_caller`: `run`, `by`. Neither depends on what `Serving` holds, of which
+//! - Batch after batch, in memory that is used again: by workers `run_many_by`: `runs`, `caller`;
+//!   by the caller `run_by_caller`: `run`, `by`. Neither depends on what `Serving` holds, of which
 //!   clauses say only who serves: `Serving::new`; `Serving::is_by_caller`;
 //!   `Serving::leave_to_caller`; `Serving::next_trace`; `Serving::take_back`;
 //!   `Serving::take_all_back`.
@@ -24,17 +37,17 @@ mod alone;
 mod batch;
 mod by_caller;
 mod by_order;
-mod crew;
 mod lent;
 mod many;
 mod ordered;
-mod parts;
-mod places;
 mod played;
 mod run;
 mod runner;
 mod serving;
-mod teams;
+mod share;
+mod task_lists;
+mod tasks;
+mod workers;
 
 pub use batch::Test;
 pub use by_caller::run_by_caller;

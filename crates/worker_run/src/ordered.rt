@@ -6,9 +6,9 @@ ghost use Rattle.rank_now.specs.Order.{IsOrder};
 ghost use Rattle.policy_pick.specs.Plan.{ByPoints, ByEvents};
 ghost use Rattle.policy_pick.specs.Kept.{points_plan, PointsStand, events_plan, EventsStand};
 ghost use Rattle.worker_run.specs.Tests.{IsTest};
+ghost use Rattle.pct_ask.specs.declared.limits.TheConstants.{MAX_POINTS, MAX_STEPS};
 
 use crate::batch::Test;
-use crate::by_order::{events_policy, points_policy};
 use pct_ask::{Body, Deal};
 use policy_pick::{DirectedPolicy, Pct};
 use rank_now::Moment;
@@ -26,9 +26,9 @@ impl<B: Body> Test<Pct, B> {
     ) -> Result<Test<Pct, B>, NoMemory>
         requires order { IsOrder order.now }
         requires whole { length order.now ≡ deal.threads }
-        requires few_points { length points.now ≤ 7 }
+        requires few_points { length points.now ≤ MAX_POINTS }
         requires some_steps { 1 ≤ limit }
-        requires few_steps { limit ≤ 100000 }
+        requires few_steps { limit ≤ MAX_STEPS }
         requires bodies { length bodies.items ≡ deal.threads }
         requires in_range { AreInRange (sizes_of_deal deal) (map B.pending bodies.items) }
         ensures asked { IfOk result (λ test. IsTest B.pending points_plan PointsStand test) }
@@ -38,7 +38,7 @@ impl<B: Body> Test<Pct, B> {
         ensures limit { IfOk result (λ test. test.limit ≡ limit) }
         ensures bodies { IfOk result (λ test. test.bodies ≡ bodies) }
     {
-        let policy = points_policy(alloc, order, points)?;
+        let policy = Pct::of_order(alloc, order, points)?;
         Ok(Test {
             deal,
             policy,
@@ -54,25 +54,25 @@ impl<B: Body> Test<DirectedPolicy, B> {
         alloc: Global,
         deal: Deal,
         order: &[u32],
-        events: &[Moment],
+        moments: &[Moment],
         limit: u32,
         bodies: Vec<B>,
     ) -> Result<Test<DirectedPolicy, B>, NoMemory>
         requires order { IsOrder order.now }
         requires whole { length order.now ≡ deal.threads }
-        requires few_events { length events.now ≤ 7 }
+        requires few_moments { length moments.now ≤ MAX_POINTS }
         requires some_steps { 1 ≤ limit }
-        requires few_steps { limit ≤ 100000 }
+        requires few_steps { limit ≤ MAX_STEPS }
         requires bodies { length bodies.items ≡ deal.threads }
         requires in_range { AreInRange (sizes_of_deal deal) (map B.pending bodies.items) }
         ensures asked { IfOk result (λ test. IsTest B.pending events_plan EventsStand test) }
         ensures plan { IfOk result (λ test.
-            events_plan test.policy ≡ ByEvents order.now events.now) }
+            events_plan test.policy ≡ ByEvents order.now moments.now) }
         ensures deal { IfOk result (λ test. test.deal ≡ deal) }
         ensures limit { IfOk result (λ test. test.limit ≡ limit) }
         ensures bodies { IfOk result (λ test. test.bodies ≡ bodies) }
     {
-        let policy = events_policy(alloc, order, events)?;
+        let policy = DirectedPolicy::of_order(alloc, order, moments)?;
         Ok(Test {
             deal,
             policy,

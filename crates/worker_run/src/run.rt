@@ -10,6 +10,7 @@ ghost use Rattle.turn_lock.specs.Calls.{first_book, ServesAll};
 ghost use Rattle.turn_lock.specs.Views.{view, HasSeat};
 ghost use Rattle.worker_run.specs.Run.{run, directed_run};
 ghost use Rattle.worker_run.specs.Played.{IsPlayed, IsRun, HasPlayed};
+ghost use Rattle.pct_ask.specs.declared.limits.TheConstants.{MAX_STEPS};
 
 use crate::alone::serve_alone;
 use crate::lent::{run_on, runners_of};
@@ -33,7 +34,7 @@ pub fn new_lock<P: Policy>(
     trace: EventList,
 ) -> Result<(TurnLock<P>, Seat<P>), NoMemory>
     requires some_steps { 1 ≤ limit }
-    requires few_steps { limit ≤ 100000 }
+    requires few_steps { limit ≤ MAX_STEPS }
     requires stands { P.stands policy [] }
     requires speaks { SpeaksOf (P.plan policy) deal.threads }
     ensures made { IfOk result (λ r. first_book r.0 ≡ new_book deal limit (P.plan policy)) }
@@ -82,7 +83,7 @@ pub fn run_here<R: Wait, P: Policy, B: Body, G: Gate>(
     gate: &G,
 ) -> Result<Played, NoMemory>
     requires some_steps { 1 ≤ limit }
-    requires few_steps { limit ≤ 100000 }
+    requires few_steps { limit ≤ MAX_STEPS }
     requires stands { P.stands policy [] }
     requires speaks { SpeaksOf (P.plan policy) deal.threads }
     requires bodies { length bodies.items ≡ deal.threads }
@@ -92,9 +93,9 @@ pub fn run_here<R: Wait, P: Policy, B: Body, G: Gate>(
     ensures run { (order points : List ℕ)
         → P.plan policy ≡ ByPoints order points → IfOk result (λ played. IsRun (run deal
         (map B.pending bodies.items) order points limit) played.events played.outcome) }
-    ensures directed { (order : List ℕ) (events : List Moment)
-        → P.plan policy ≡ ByEvents order events → IfOk result (λ played. IsRun (directed_run deal
-        (map B.pending bodies.items) order events limit) played.events played.outcome) }
+    ensures directed { (order : List ℕ) (moments : List Moment)
+        → P.plan policy ≡ ByEvents order moments → IfOk result (λ played. IsRun (directed_run deal
+        (map B.pending bodies.items) order moments limit) played.events played.outcome) }
 {
     let trace = Sequence::new(alloc);
     run_here_in(rt, alloc, deal, policy, limit, bodies, trace, gate)
@@ -112,7 +113,7 @@ pub fn run_here_in<R: Wait, P: Policy, B: Body, G: Gate>(
     gate: &G,
 ) -> Result<Played, NoMemory>
     requires some_steps { 1 ≤ limit }
-    requires few_steps { limit ≤ 100000 }
+    requires few_steps { limit ≤ MAX_STEPS }
     requires stands { P.stands policy [] }
     requires speaks { SpeaksOf (P.plan policy) deal.threads }
     requires bodies { length bodies.items ≡ deal.threads }
@@ -122,9 +123,9 @@ pub fn run_here_in<R: Wait, P: Policy, B: Body, G: Gate>(
     ensures run { (order points : List ℕ)
         → P.plan policy ≡ ByPoints order points → IfOk result (λ played. IsRun (run deal
         (map B.pending bodies.items) order points limit) played.events played.outcome) }
-    ensures directed { (order : List ℕ) (events : List Moment)
-        → P.plan policy ≡ ByEvents order events → IfOk result (λ played. IsRun (directed_run deal
-        (map B.pending bodies.items) order events limit) played.events played.outcome) }
+    ensures directed { (order : List ℕ) (moments : List Moment)
+        → P.plan policy ≡ ByEvents order moments → IfOk result (λ played. IsRun (directed_run deal
+        (map B.pending bodies.items) order moments limit) played.events played.outcome) }
 {
     let mut runners = runners_of(alloc, bodies)?;
     let mut book = TurnBook::new_in(alloc, deal, policy, limit, trace)?; // served with no lock
@@ -143,7 +144,7 @@ pub fn run_threads<R: Threads + Wait + Sync, P: Policy, B: Body, G: Gate>(
     gate: &G,
 ) -> Result<Played, NoMemory>
     requires some_steps { 1 ≤ limit }
-    requires few_steps { limit ≤ 100000 }
+    requires few_steps { limit ≤ MAX_STEPS }
     requires stands { P.stands policy [] }
     requires speaks { SpeaksOf (P.plan policy) deal.threads }
     requires bodies { length bodies.items ≡ deal.threads }
@@ -153,9 +154,9 @@ pub fn run_threads<R: Threads + Wait + Sync, P: Policy, B: Body, G: Gate>(
     ensures run { (order points : List ℕ)
         → P.plan policy ≡ ByPoints order points → IfOk result (λ played. IsRun (run deal
         (map B.pending bodies.items) order points limit) played.events played.outcome) }
-    ensures directed { (order : List ℕ) (events : List Moment)
-        → P.plan policy ≡ ByEvents order events → IfOk result (λ played. IsRun (directed_run deal
-        (map B.pending bodies.items) order events limit) played.events played.outcome) }
+    ensures directed { (order : List ℕ) (moments : List Moment)
+        → P.plan policy ≡ ByEvents order moments → IfOk result (λ played. IsRun (directed_run deal
+        (map B.pending bodies.items) order moments limit) played.events played.outcome) }
 {
     let (lock, mut seat) = new_lock(alloc, deal, policy, limit, Sequence::new(alloc))?;
     run_on(rt, alloc, &lock, &mut seat, bodies, gate)?;

@@ -17,10 +17,10 @@ use std::sync::Wait;
 use turn_lock::{Brief, Seat, TurnLock};
 
 /// Whether the run is over.
-pub fn is_over(words: Brief) -> bool
-    ensures { (turn : Turn) → words ≡ brief turn → result ≡ is_over turn }
+pub fn is_over(told: Brief) -> bool
+    ensures { (turn : Turn) → told ≡ brief turn → result ≡ is_over turn }
 {
-    matches!(words, Brief::Over)
+    matches!(told, Brief::Over)
 }
 
 /// A body, and how many answers it has had.
@@ -81,7 +81,7 @@ impl<B: Body> Runner<B> {
             let post = self.body.post();
             match lock.post_brief(rt, seat, thread, post) {
                 Brief::Answer(value) => self.hear(value),
-                words => return is_over(words),
+                told => return is_over(told),
             }
         }
         unreachable!()

@@ -8,7 +8,7 @@ use std::alloc::{AllocError as NoMemory, Global};
 /// Who serves the bodies of tests.
 #[derive(Clone, Copy, Debug, PartialEq, Eq)]
 pub enum Serve {
-    /// A thread for each place up to the largest number of threads.
+    /// Workers: one for each thread number up to the largest.
     Threads,
     /// The calling thread, one test after another.
     Caller,

@@ -43,15 +43,15 @@ use Rattle.worker_run.specs.Played.{IsPlayed}
 
 -- a thread asks so at its line
 abbrev pub IsAskedAt : (ℕ → ℕ → Ask → Type 0) → ℕ × ℕ → Type 0
-IsAskedAt IsAsked place = (ask : Ask) × IsAsked place.0 place.1 ask
+IsAskedAt IsAsked pair = (ask : Ask) × IsAsked pair.0 pair.1 ask
 
 -- Every verdict is so that may come of such asks: the run passes or is cut, threads are blocked
 -- where they ask, or a thread fails by its check, faults, or misuses an object.
 pub record ComesOf (IsAsked : ℕ → ℕ → Ask → Type 0) (IsEnd : Verdict → Type 0) : Type 0 where
   pub passed : IsEnd Passed
   pub cut : IsEnd Cut
-  pub stuck : (place : ℕ × ℕ) (places : List (ℕ × ℕ)) → All (IsAskedAt IsAsked) (place ∷ places)
-      → IsEnd (Stuck (place ∷ places))
+  pub stuck : (pair : ℕ × ℕ) (pairs : List (ℕ × ℕ)) → All (IsAskedAt IsAsked) (pair ∷ pairs)
+      → IsEnd (Stuck (pair ∷ pairs))
   pub failed : (t line : ℕ) (holds : Bool) → IsAsked t line (Check holds) → IsEnd (Failed t line)
   pub fault : (t line : ℕ) (ask : Ask) (kind : FaultKind) → IsAsked t line ask
       → IsEnd (Faulted t line kind)
@@ -165,56 +165,56 @@ module _ (IsAsked : ℕ → ℕ → Ask → Type 0) (IsEnd : Verdict → Type 0)
   start-asked = record { steps = All-nil IsTaken; verdict = tt }
 
   -- ---- the verdict at rest
-  abbrev IsPlace : ℕ × ℕ → Type 0
-  IsPlace = IsAskedAt IsAsked
+  abbrev IsPair : ℕ × ℕ → Type 0
+  IsPair = IsAskedAt IsAsked
 
   module _ (world : World) where
-    abbrev IsPlaceOf : Option (ℕ × ℕ) → Type 0
-    IsPlaceOf None = Unit {0}
-    IsPlaceOf (Some place) = IsPlace place
+    abbrev IsPairOf : Option (ℕ × ℕ) → Type 0
+    IsPairOf None = Unit {0}
+    IsPairOf (Some pair) = IsPair pair
 
-    place-by : (idle : Bool) (t line : ℕ) → IsPlace (t, line)
-        → IsPlaceOf (cond idle None (Some (t, line)))
-    place-by true t line is = tt
-    place-by false t line is = is
+    pair-by : (idle : Bool) (t line : ℕ) → IsPair (t, line)
+        → IsPairOf (cond idle None (Some (t, line)))
+    pair-by true t line is = tt
+    pair-by false t line is = is
 
-    place-of : (t : ℕ) (post : Post) (ask : Option Ask) → post.ask ≡ ask
+    pair-of : (t : ℕ) (post : Post) (ask : Option Ask) → post.ask ≡ ask
         → pending_of bodies t (answers_of t world.events) ≡ post
-        → IsPlaceOf (blocked_by_ask world.store t post.line ask)
-    place-of t post None asks posted = tt
-    place-of t post (Some ask) asks posted =
+        → IsPairOf (blocked_by_ask world.store t post.line ask)
+    pair-of t post None asks posted = tt
+    pair-of t post (Some ask) asks posted =
         let P : Post → Type 0 = λ post. (ask : Ask) → post.ask ≡ Some ask
         → IsAsked t post.line ask in
         let is = subst P posted (asked t (answers_of t world.events)) ask asks in
-        place-by (is_idle world.store t ask) t post.line (ask, is)
+        pair-by (is_idle world.store t ask) t post.line (ask, is)
 
-    place-at : (t : ℕ) → IsPlaceOf (blocked_at world.store (next_posts_in source world) t)
-    place-at t = let post = pending_of bodies t (answers_of t world.events) in
-        place-of t post post.ask refl refl
+    pair-at : (t : ℕ) → IsPairOf (blocked_at world.store (next_posts_in source world) t)
+    pair-at t = let post = pending_of bodies t (answers_of t world.events) in
+        pair-of t post post.ask refl refl
 
-    with-place : (place : Option (ℕ × ℕ)) (places : List (ℕ × ℕ)) → IsPlaceOf place
-        → All IsPlace places → All IsPlace (cons_option place places)
-    with-place None places is all = all
-    with-place (Some place) places is all = All-cons IsPlace place places is all
+    with-pair : (pair : Option (ℕ × ℕ)) (pairs : List (ℕ × ℕ)) → IsPairOf pair
+        → All IsPair pairs → All IsPair (cons_option pair pairs)
+    with-pair None pairs is all = all
+    with-pair (Some pair) pairs is all = All-cons IsPair pair pairs is all
 
-    places : (ts : List ℕ) → All IsPlace
+    pairs : (ts : List ℕ) → All IsPair
         (filter_map (blocked_at world.store (next_posts_in source world)) ts)
-    places [] = All-nil IsPlace
-    places (t ∷ ts) =
-        with-place (blocked_at world.store (next_posts_in source world) t)
-        (filter_map (blocked_at world.store (next_posts_in source world)) ts) (place-at t)
-        (places ts)
+    pairs [] = All-nil IsPair
+    pairs (t ∷ ts) =
+        with-pair (blocked_at world.store (next_posts_in source world) t)
+        (filter_map (blocked_at world.store (next_posts_in source world)) ts) (pair-at t)
+        (pairs ts)
 
-    blocked-ends : (blocked : List (ℕ × ℕ)) → All IsPlace blocked
+    blocked-ends : (blocked : List (ℕ × ℕ)) → All IsPair blocked
         → IsEnd (verdict_of_blocked blocked)
     blocked-ends [] all = comes.passed
-    blocked-ends (place ∷ blocked) all = comes.stuck place blocked all
+    blocked-ends (pair ∷ blocked) all = comes.stuck pair blocked all
 
     rest-ends : IsEnd
         (rest_verdict deal.threads world.store (next_posts_in source world))
     rest-ends =
         blocked-ends (filter_map (blocked_at world.store (next_posts_in source world))
-        (threads_below deal.threads)) (places (threads_below deal.threads))
+        (threads_below deal.threads)) (pairs (threads_below deal.threads))
 
     -- where a run ended by a verdict
     abbrev EndsSo : Option Outcome → Type 0

@@ -211,18 +211,19 @@ module _ (deal : Deal) (bodies : List Pending) (schedule : List ℕ) (world : Wo
       (omega (arith, speaks)) (omega arith))
 
   -- and so is that by moments
-  pub events-pick : (order : List ℕ) (events : List Moment)
-      → SpeaksOf (ByEvents order events) deal.threads
-      → choice_in (ByEvents order events) deal.threads (source_of_bodies bodies) schedule world
+  pub events-pick : (order : List ℕ) (moments : List Moment)
+      → SpeaksOf (ByEvents order moments) deal.threads
+      → choice_in (ByEvents order moments) deal.threads (source_of_bodies bodies) schedule world
       ≡ pick_of (next_thread (record {
         deal = deal;
         bodies = bodies;
-        rank_after = rank_by_events order events;
+        rank_after = rank_by_events order moments;
       }) schedule world)
-  events-pick order events speaks =
-      rank-picks world.store posts_in deal.threads (ranks_by_events order events schedule)
-      (rank_by_events order events schedule)
-      (λ t within. get_or-map-range_with_len (rank_by_events order events schedule) 0 (length order)
+  events-pick order moments speaks =
+      rank-picks world.store posts_in deal.threads (ranks_by_events order moments schedule)
+      (rank_by_events order moments schedule)
+      (λ t within. get_or-map-range_with_len (rank_by_events order moments schedule) 0
+      (length order)
       t t 0 (omega (arith, speaks)) (omega arith))
 
   -- over bodies no choice waits

@@ -41,10 +41,10 @@ module _ (given given' : ℕ → ℕ) (count count' : ℕ) (order schedule : Lis
       let test : ℕ → Bool = λ step. passes_at (λ taker. eqb taker thread) schedule step
       && nat_lt 0 (given step) in
       let passes = greatest-passes test (length schedule) some in
-      let parts = and_parts (passes_at (λ taker. eqb taker thread) schedule
+      let both = and_parts (passes_at (λ taker. eqb taker thread) schedule
       (last_change given schedule thread))
       (nat_lt 0 (given (last_change given schedule thread))) passes in
-      let second = parts.1 in
+      let second = both.1 in
       grind (arith, nat_tests)
 
   abbrev at : (ℕ → ℕ) → ℕ → ℕ → ℕ → ℕ

@@ -9,12 +9,12 @@ use Rattle.turn_lock.proofs.laws.Standings.{here}
 use Rattle.worker_run.proofs.LoneBooks.{lone-took, row-stays, settled-tells}
 use Rattle.worker_run.proofs.alone.turn_alone.Goals as goal
 
-pub answer-words-requires-clause-lawful : goal.answer-words-requires-clause-lawful
-answer-words-requires-clause-lawful g c = λ κs lives.
+pub answer-told-requires-clause-lawful : goal.answer-told-requires-clause-lawful
+answer-told-requires-clause-lawful g c = λ κs lives.
     subst IsLawful (sym c.loop.invariant) c.trace-steps.ensures.lawful
 
-pub answer-words-requires-clause-here : goal.answer-words-requires-clause-here
-answer-words-requires-clause-here g c = λ κs lives running.
+pub answer-told-requires-clause-here : goal.answer-told-requires-clause-here
+answer-told-requires-clause-here g c = λ κs lives running.
     let t : ℕ = c.next_of-thread.result in
     let book : BookState = c.loop.book in
     let F : BookState → Type 0 = λ b. t < b.deal.threads in
@@ -26,8 +26,8 @@ answer-words-requires-clause-here g c = λ κs lives running.
 
 pub loop-preserved : goal.loop-preserved
 loop-preserved g c =
-    let row = c.answer-words.ensures.row in
-    row-stays c.loop.book c.next_of-thread.result row.turn c.answer-words.new.book row.said
+    let row = c.answer-told.ensures.row in
+    row-stays c.loop.book c.next_of-thread.result row.turn c.answer-told.new.book row.said
     (ap settles (sym row.brief) ∙ sym c.is_settled.ensures ∙ c.if-is_settled.false)
     ∙ c.loop.invariant
 
@@ -42,8 +42,8 @@ pub returns-then-is_settled-clause-turn : goal.returns-then-is_settled-clause-tu
 returns-then-is_settled-clause-turn g c =
     let t : ℕ = c.next_of-thread.result in
     let book : BookState = c.loop.book in
-    let after : BookState = c.answer-words.new.book in
-    let row = c.answer-words.ensures.row in
+    let after : BookState = c.answer-told.new.book in
+    let row = c.answer-told.ensures.row in
     let T : BookState → Type 0 = λ b.
     TookTurn (first_view b) t None row.turn (first_view after) in
     let took = lone-took book t None row.turn after
@@ -52,7 +52,7 @@ returns-then-is_settled-clause-turn g c =
       asked = book;
       posted = refl;
       row = row.said;
-      lawful = c.answer-words.ensures.lawful;
+      lawful = c.answer-told.ensures.lawful;
     }) in
     record {
       turn = row.turn;

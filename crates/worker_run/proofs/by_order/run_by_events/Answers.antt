@@ -7,22 +7,23 @@ use Rattle.worker_run.proofs.by_order.run_by_events.Goals as goal
 
 pub into_whole-requires : goal.into_whole-requires
 into_whole-requires g c =
-    let is = c.in_ok-played.ensures.directed c.args.order.now c.args.events.now
+    let is = c.in_ok-played.ensures.directed c.args.order.now c.args.moments.now
     c.in_ok-policy.ensures.plan in (is.verdict, is.ends)
 
 pub returns-clause-directed : goal.returns-clause-directed
 returns-clause-directed g c =
     let start = map g.B.Body.pending c.args.bodies.items in
-    told-run (directed_run c.args.deal start c.args.order.now c.args.events.now c.args.limit)
+    told-run (directed_run c.args.deal start c.args.order.now c.args.moments.now c.args.limit)
     c.in_ok-played.played.events c.into_whole.result.events c.in_ok-played.played.outcome
     c.into_whole.result.verdict
-    (c.in_ok-played.ensures.directed c.args.order.now c.args.events.now c.in_ok-policy.ensures.plan)
+    (c.in_ok-played.ensures.directed c.args.order.now c.args.moments.now
+    c.in_ok-policy.ensures.plan)
     c.into_whole.ensures.events c.into_whole.ensures.verdict
 
 pub returns-clause-played : goal.returns-clause-played
 returns-clause-played g c =
     let start = map g.B.Body.pending c.args.bodies.items in
-    told-played (events_plan c.in_ok-policy.policy) (ByEvents c.args.order.now c.args.events.now)
+    told-played (events_plan c.in_ok-policy.policy) (ByEvents c.args.order.now c.args.moments.now)
     c.args.deal start c.args.limit c.in_ok-played.played.events c.into_whole.result.events
     c.in_ok-played.played.outcome c.into_whole.result.verdict
     c.in_ok-policy.ensures.plan c.into_whole.ensures.events c.into_whole.ensures.verdict

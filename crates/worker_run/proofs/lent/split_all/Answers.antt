@@ -6,7 +6,7 @@ use Rattle.turn_lock.specs.Views.{view}
 use Rattle.turn_lock.specs.declared.view.View.{View}
 use Rattle.worker_run.specs.Served.{IsUnposted, IsWhole}
 use Rattle.turn_lock.proofs.laws.Serving.{without-has}
-use Rattle.worker_run.proofs.Parting.{IsJoin, whole-first, whole-more}
+use Rattle.worker_run.proofs.SplitSeats.{IsJoin, whole-first, whole-more}
 use Rattle.worker_run.proofs.lent.split_all.Goals as goal
 
 pub loop-thread-init : goal.loop-thread-init

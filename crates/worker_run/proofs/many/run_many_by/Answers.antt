@@ -15,7 +15,7 @@ play_tests-requires-clause-tests g c = λ κs lives i test at.
 pub play_tests-requires-clause-of : goal.play_tests-requires-clause-of
 play_tests-requires-clause-of g c = λ κs lives.
     let O : List (TurnLock g.row.P.Denot) → Type 0 =
-    λ l. Each (λ lock crew. HasSeat lock crew.seat) l c.in_ok-locks.crews.items in
+    λ l. Each (λ lock share. HasSeat lock share.seat) l c.in_ok-locks.shares.items in
     subst O (sym c.as_slice.ensures.value) c.in_ok-locks.ensures.of
 
 pub runs_of-requires-clause-tests : goal.runs_of-requires-clause-tests
@@ -27,5 +27,5 @@ runs_of-requires-clause-tests g c = λ κs lives i test at.
 pub runs_of-requires-clause-seats : goal.runs_of-requires-clause-seats
 runs_of-requires-clause-seats g c = λ κs lives.
     let S : List (TurnLock g.row.P.Denot) → Type 0 =
-    λ l. Each (λ lock crew. IsSeatOf lock crew.seat) l c.in_ok-crews.crews.items in
-    subst S c.as_slice.ensures.value c.in_ok-crews.ensures.seats
+    λ l. Each (λ lock share. IsSeatOf lock share.seat) l c.in_ok-shares.shares.items in
+    subst S c.as_slice.ensures.value c.in_ok-shares.ensures.seats

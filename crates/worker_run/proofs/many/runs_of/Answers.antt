@@ -16,20 +16,20 @@ finish-requires-clause-of g c = λ κs lives.
     let at = c.loop-lock in
     let i = at.invariant in
     let lock = c.in-Some.lock in
-    let crew = c.in-Some-next.crew in
+    let share = c.in-Some-next.share in
     let steps : into_iter_items at.lock-iterator ≡ lock ∷ into_iter_items c.next.new.self =
     c.in-Some.ensures.steps.0 in
     let whole = ap (λ l. at.yielded ++ l) (sym steps) ∙ i.locks
     ∙ c.into_iter-lock-iterator.ensures.into_iter_gives.0 in
     let at_lock = ap (λ l. slice_get l (length at.yielded)) (sym whole)
     ∙ get-middle at.yielded lock (into_iter_items c.next.new.self) in
-    let csteps : into_iter_items at.others ≡ crew ∷ into_iter_items c.next-in-loop-lock.new.self =
+    let csteps : into_iter_items at.others ≡ share ∷ into_iter_items c.next-in-loop-lock.new.self =
     c.in-Some-next.ensures.items in
-    let cwhole = ap (λ l. i.crews.0 ++ l) (sym csteps) ∙ i.crews.1 in
-    let at_crew = ap (λ n. slice_get c.args.crews.items n) (sym i.crews.2)
-    ∙ ap (λ l. slice_get l (length i.crews.0)) (sym cwhole)
-    ∙ get-middle i.crews.0 crew (into_iter_items c.next-in-loop-lock.new.self) in
-    (c.requires.seats.each (length at.yielded) lock crew at_lock at_crew).of
+    let cwhole = ap (λ l. i.shares.0 ++ l) (sym csteps) ∙ i.shares.1 in
+    let at_share = ap (λ n. slice_get c.args.shares.items n) (sym i.shares.2)
+    ∙ ap (λ l. slice_get l (length i.shares.0)) (sym cwhole)
+    ∙ get-middle i.shares.0 share (into_iter_items c.next-in-loop-lock.new.self) in
+    (c.requires.seats.each (length at.yielded) lock share at_lock at_share).of
 
 pub finish-requires-clause-all : goal.finish-requires-clause-all
 finish-requires-clause-all g c = λ κs lives.
@@ -37,27 +37,27 @@ finish-requires-clause-all g c = λ κs lives.
     let i = at.invariant in
     let k = length at.yielded in
     let lock = c.in-Some.lock in
-    let crew = c.in-Some-next.crew in
+    let share = c.in-Some-next.share in
     let steps : into_iter_items at.lock-iterator ≡ lock ∷ into_iter_items c.next.new.self =
     c.in-Some.ensures.steps.0 in
     let whole = ap (λ l. at.yielded ++ l) (sym steps) ∙ i.locks
     ∙ c.into_iter-lock-iterator.ensures.into_iter_gives.0 in
     let at_lock = ap (λ l. slice_get l k) (sym whole)
     ∙ get-middle at.yielded lock (into_iter_items c.next.new.self) in
-    let csteps : into_iter_items at.others ≡ crew ∷ into_iter_items c.next-in-loop-lock.new.self =
+    let csteps : into_iter_items at.others ≡ share ∷ into_iter_items c.next-in-loop-lock.new.self =
     c.in-Some-next.ensures.items in
-    let cwhole = ap (λ l. i.crews.0 ++ l) (sym csteps) ∙ i.crews.1 in
-    let at_crew = ap (λ n. slice_get c.args.crews.items n) (sym i.crews.2)
-    ∙ ap (λ l. slice_get l (length i.crews.0)) (sym cwhole)
-    ∙ get-middle i.crews.0 crew (into_iter_items c.next-in-loop-lock.new.self) in
+    let cwhole = ap (λ l. i.shares.0 ++ l) (sym csteps) ∙ i.shares.1 in
+    let at_share = ap (λ n. slice_get c.args.shares.items n) (sym i.shares.2)
+    ∙ ap (λ l. slice_get l (length i.shares.0)) (sym cwhole)
+    ∙ get-middle i.shares.0 share (into_iter_items c.next-in-loop-lock.new.self) in
     let found = get-within c.args.tests.value.items k
     (let under = slice_get_within c.args.locks.items k lock at_lock in
     omega (arith, under, c.requires.locks.long)) in
-    let seat = c.requires.seats.each k lock crew at_lock at_crew in
+    let seat = c.requires.seats.each k lock share at_lock at_share in
     ends-all g.B.Body.pending g.P.Policy.plan g.P.Policy.stands found.0
-    (c.requires.tests k found.0 found.1) lock crew
+    (c.requires.tests k found.0 found.1) lock share
     (c.requires.locks.each k found.0 lock found.1 at_lock) seat
-    (λ t below. c.requires.told k t found.0 crew found.1 at_crew below)
+    (λ t below. c.requires.told k t found.0 share found.1 at_share below)
 
 pub finish-requires-clause-played : goal.finish-requires-clause-played
 finish-requires-clause-played g c = λ κs lives.
@@ -65,28 +65,28 @@ finish-requires-clause-played g c = λ κs lives.
     let i = at.invariant in
     let k = length at.yielded in
     let lock = c.in-Some.lock in
-    let crew = c.in-Some-next.crew in
+    let share = c.in-Some-next.share in
     let steps : into_iter_items at.lock-iterator ≡ lock ∷ into_iter_items c.next.new.self =
     c.in-Some.ensures.steps.0 in
     let whole = ap (λ l. at.yielded ++ l) (sym steps) ∙ i.locks
     ∙ c.into_iter-lock-iterator.ensures.into_iter_gives.0 in
     let at_lock = ap (λ l. slice_get l k) (sym whole)
     ∙ get-middle at.yielded lock (into_iter_items c.next.new.self) in
-    let csteps : into_iter_items at.others ≡ crew ∷ into_iter_items c.next-in-loop-lock.new.self =
+    let csteps : into_iter_items at.others ≡ share ∷ into_iter_items c.next-in-loop-lock.new.self =
     c.in-Some-next.ensures.items in
-    let cwhole = ap (λ l. i.crews.0 ++ l) (sym csteps) ∙ i.crews.1 in
-    let at_crew = ap (λ n. slice_get c.args.crews.items n) (sym i.crews.2)
-    ∙ ap (λ l. slice_get l (length i.crews.0)) (sym cwhole)
-    ∙ get-middle i.crews.0 crew (into_iter_items c.next-in-loop-lock.new.self) in
+    let cwhole = ap (λ l. i.shares.0 ++ l) (sym csteps) ∙ i.shares.1 in
+    let at_share = ap (λ n. slice_get c.args.shares.items n) (sym i.shares.2)
+    ∙ ap (λ l. slice_get l (length i.shares.0)) (sym cwhole)
+    ∙ get-middle i.shares.0 share (into_iter_items c.next-in-loop-lock.new.self) in
     let found = get-within c.args.tests.value.items k
     (let under = slice_get_within c.args.locks.items k lock at_lock in
     omega (arith, under, c.requires.locks.long)) in
-    let seat = c.requires.seats.each k lock crew at_lock at_crew in (
+    let seat = c.requires.seats.each k lock share at_lock at_share in (
       bodies_in g.B.Body.pending g.P.Policy.plan found.0,
       ends-played g.B.Body.pending g.P.Policy.plan g.P.Policy.stands found.0
-          (c.requires.tests k found.0 found.1) lock crew
+          (c.requires.tests k found.0 found.1) lock share
           (c.requires.locks.each k found.0 lock found.1 at_lock) seat
-          (λ t below. c.requires.told k t found.0 crew found.1 at_crew below),
+          (λ t below. c.requires.told k t found.0 share found.1 at_share below),
     )
 
 pub loop-lock-preserved : goal.loop-lock-preserved
@@ -97,30 +97,30 @@ loop-lock-preserved g c =
     let i = at.invariant in
     let k = length at.yielded in
     let lock = c.in-Some.lock in
-    let crew = c.in-Some-next.crew in
+    let share = c.in-Some-next.share in
     let rest = into_iter_items c.next.new.self in
     let others = into_iter_items c.next-in-loop-lock.new.self in
     let steps : into_iter_items at.lock-iterator ≡ lock ∷ rest = c.in-Some.ensures.steps.0 in
     let whole = ap (λ l. at.yielded ++ l) (sym steps) ∙ i.locks
     ∙ c.into_iter-lock-iterator.ensures.into_iter_gives.0 in
     let at_lock = ap (λ l. slice_get l k) (sym whole) ∙ get-middle at.yielded lock rest in
-    let csteps : into_iter_items at.others ≡ crew ∷ others = c.in-Some-next.ensures.items in
-    let cwhole = ap (λ l. i.crews.0 ++ l) (sym csteps) ∙ i.crews.1 in
-    let at_crew = ap (λ n. slice_get c.args.crews.items n) (sym i.crews.2)
-    ∙ ap (λ l. slice_get l (length i.crews.0)) (sym cwhole)
-    ∙ get-middle i.crews.0 crew others in
+    let csteps : into_iter_items at.others ≡ share ∷ others = c.in-Some-next.ensures.items in
+    let cwhole = ap (λ l. i.shares.0 ++ l) (sym csteps) ∙ i.shares.1 in
+    let at_share = ap (λ n. slice_get c.args.shares.items n) (sym i.shares.2)
+    ∙ ap (λ l. slice_get l (length i.shares.0)) (sym cwhole)
+    ∙ get-middle i.shares.0 share others in
     let tests = c.args.tests.value.items in
     let found =
     get-within tests k (let under = slice_get_within c.args.locks.items k lock at_lock in
     omega (arith, under, c.requires.locks.long)) in
     let test = found.0 in
-    let seat = c.requires.seats.each k lock crew at_lock at_crew in
+    let seat = c.requires.seats.each k lock share at_lock at_share in
     let asked = c.requires.tests k test found.1 in
     let is = c.requires.locks.each k test lock found.1 at_lock in
     let told : (t : ℕ) → t < test.deal.threads → _ =
-    λ t below. c.requires.told k t test crew found.1 at_crew below in
-    let played = ends-played f plan g.P.Policy.stands test asked lock crew is seat told in
-    let run = ends-run f plan g.P.Policy.stands test asked lock crew is seat told c.finish.result
+    λ t below. c.requires.told k t test share found.1 at_share below in
+    let played = ends-played f plan g.P.Policy.stands test asked lock share is seat told in
+    let run = ends-run f plan g.P.Policy.stands test asked lock share is seat told c.finish.result
     (c.finish.ensures (bodies_in f plan test) played) in
     let runs = at.runs.items in
     let long : k ≡ length runs = omega (arith, i.long, at.runs.ok.0) in
@@ -131,13 +131,13 @@ loop-lock-preserved g c =
       left =
           (let was = i.left in let gone = c.in-Some.ensures.steps.1 in
           let short = ap length steps in omega arith);
-      crews = (
-        i.crews.0 ++ crew ∷ [],
-        append_assoc i.crews.0 (crew ∷ []) others ∙ cwhole,
+      shares = (
+        i.shares.0 ++ share ∷ [],
+        append_assoc i.shares.0 (share ∷ []) others ∙ cwhole,
         omega (
           arith,
-          i.crews.2,
-          length-append i.crews.0 (crew ∷ []),
+          i.shares.2,
+          length-append i.shares.0 (share ∷ []),
           length-append at.yielded (lock ∷ []),
         ),
       );

@@ -8,25 +8,25 @@ use Rattle.turn_book.specs.Told.{BookState}
 use Rattle.turn_lock.specs.Rule.{first_view}
 use Rattle.worker_run.specs.Played.{IsPlayed}
 use Rattle.worker_run.proofs.Follows.{points-run, events-run}
-use Rattle.worker_run.proofs.Plays.{here-range, here-unposted, here-all, here-crew, here-played}
+use Rattle.worker_run.proofs.Plays.{here-range, here-unposted, here-all, here-share, here-played}
 use Rattle.worker_run.proofs.Plays.{first-owe, has-played}
 use Rattle.worker_run.proofs.run.run_here_in.Goals as goal
 
-pub serve_alone-requires-clause-crew : goal.serve_alone-requires-clause-crew
-serve_alone-requires-clause-crew g c = λ κs lives.
+pub serve_alone-requires-clause-share : goal.serve_alone-requires-clause-share
+serve_alone-requires-clause-share g c = λ κs lives.
     let start = map g.B.Body.pending c.args.bodies.items in
     let plan = g.P.Policy.plan c.args.policy in
     let made : BookState = c.in_ok-book.book in
     let v = first_view made in
     let sees = ap (λ (b : BookState). first_view b) c.in_ok-book.ensures.made in
-    let crew = here-crew g.B.Body.pending c.args.bodies.items c.args.deal c.args.limit plan made v
+    let share = here-share g.B.Body.pending c.args.bodies.items c.args.deal c.args.limit plan made v
     c.in_ok-book.ensures.made sees c.requires.bodies
     c.as_mut_slice.result.now (c.as_mut_slice.ensures.value ∙ c.in_ok-runners.ensures) in (
       pending_of start,
       here-range g.B.Body.pending c.args.bodies.items c.args.deal c.args.limit plan made v
           c.in_ok-book.ensures.made sees c.requires.bodies
           c.requires.in_range,
-      crew,
+      share,
     )
 
 pub serve_alone-requires-clause-owe : goal.serve_alone-requires-clause-owe
@@ -47,11 +47,11 @@ played_of-requires-clause-over g c = λ κs lives.
     let made : BookState = c.in_ok-book.book in
     let v = first_view made in
     let sees = ap (λ (b : BookState). first_view b) c.in_ok-book.ensures.made in
-    let crew = here-crew g.B.Body.pending c.args.bodies.items c.args.deal c.args.limit plan made v
+    let share = here-share g.B.Body.pending c.args.bodies.items c.args.deal c.args.limit plan made v
     c.in_ok-book.ensures.made sees c.requires.bodies
     c.as_mut_slice.result.now (c.as_mut_slice.ensures.value ∙ c.in_ok-runners.ensures) in
     let book : BookState = c.serve_alone.new.book in
-    let served = c.serve_alone.ensures.served (pending_of start) crew in
+    let served = c.serve_alone.ensures.served (pending_of start) share in
     let some = made.deal.some_thread in
     let lawful = c.serve_alone.ensures.lawful 0
     (here-all g.B.Body.pending c.args.bodies.items c.args.deal c.args.limit plan made v
@@ -71,11 +71,11 @@ returns-clause-played g c =
     let made : BookState = c.in_ok-book.book in
     let v = first_view made in
     let sees = ap (λ (b : BookState). first_view b) c.in_ok-book.ensures.made in
-    let crew = here-crew g.B.Body.pending c.args.bodies.items c.args.deal c.args.limit plan made v
+    let share = here-share g.B.Body.pending c.args.bodies.items c.args.deal c.args.limit plan made v
     c.in_ok-book.ensures.made sees c.requires.bodies
     c.as_mut_slice.result.now (c.as_mut_slice.ensures.value ∙ c.in_ok-runners.ensures) in
     let book : BookState = c.serve_alone.new.book in
-    let served = c.serve_alone.ensures.served (pending_of start) crew in
+    let served = c.serve_alone.ensures.served (pending_of start) share in
     let some = made.deal.some_thread in
     let lawful = c.serve_alone.ensures.lawful 0
     (here-all g.B.Body.pending c.args.bodies.items c.args.deal c.args.limit plan made v

@@ -13,8 +13,8 @@ use Rattle.turn_lock.specs.declared.turn.Turn.{Turn}
 use Rattle.worker_run.specs.Served.{IsRunning}
 use Rattle.worker_run.proofs.Running.{answer-asks, answer-counts, answer-running, answer-owes}
 use Rattle.worker_run.proofs.Running.{other-running, moves-is, over-told, posted-told, answers-few}
-use Rattle.worker_run.proofs.Words.{answer-turn}
-use Rattle.worker_run.proofs.Crews.{serves-on, moves-self, moves-along}
+use Rattle.worker_run.proofs.BriefTurns.{answer-turn}
+use Rattle.worker_run.proofs.Shares.{serves-on, moves-self, moves-along}
 use Rattle.worker_run.proofs.runner.Runner.speak.Goals as goal
 
 pub loop-init : goal.loop-init

@@ -14,8 +14,8 @@ use Rattle.turn_lock.specs.declared.turn.Turn.{Turn}
 use Rattle.worker_run.specs.Served.{IsRunning}
 use Rattle.worker_run.proofs.Running.{answer-asks, answer-counts, answer-running, answer-owes}
 use Rattle.worker_run.proofs.Running.{other-running, moves-is, over-told, posted-told, answers-few}
-use Rattle.worker_run.proofs.Words.{answer-turn}
-use Rattle.worker_run.proofs.Crews.{serves-on, moves-self, moves-along}
+use Rattle.worker_run.proofs.BriefTurns.{answer-turn}
+use Rattle.worker_run.proofs.Shares.{serves-on, moves-self, moves-along}
 use Rattle.turn_lock.proofs.laws.SeenBooks.{making-self, making-along}
 use Rattle.turn_lock.proofs.laws.FirstThreads.{first-below}
 use Rattle.pct_ask.specs.declared.Deal.{Deal}
