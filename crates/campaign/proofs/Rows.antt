@@ -1,11 +1,12 @@
 -- One more row.
-use Rattle.std.proofs.Common.{◌≡◌, ℕ, ◌+◌, List, [], ◌∷◌, ◌++◌, Option, Some, map, length}
-use Rattle.std.proofs.Common.{refl, sym, ap, subst, ◌∙◌, arith}
+use Rattle.std.proofs.Common.{◌≡◌, ℕ, ◌+◌, List, [], ◌∷◌, ◌++◌, Option, Some, None, Vec, Global}
+use Rattle.std.proofs.Common.{map, length, refl, sym, ap, subst, ◌∙◌, arith}
 use Rattle.std.proofs.lemmas.List.{length-append, map-append}
 use Rattle.std.proofs.lemmas.List.FromFn.{map-range_with_len_more}
 use Rattle.pct_ask.specs.declared.event.Row.{Row}
 use Rattle.campaign.specs.Rows.{Setup, row_of_seed, seed_at, rows_of}
-use Rattle.campaign.specs.Batches.{AreFirstRows}
+use Rattle.script_run.specs.Batches.{Decides}
+use Rattle.campaign.specs.Batches.{AreFirstRows, HasRowsBefore}
 
 one-more : (setup : Setup) (first place seed : ℕ) (rows new : List Row) (row : Row)
     → seed ≡ seed_at first place → map Some rows ≡ rows_of setup first place
@@ -33,3 +34,11 @@ pub no-rows : (setup : Setup) (first : ℕ) (rows : List Row) → rows ≡ []
     → AreFirstRows setup first rows
 no-rows setup first rows none =
     let A : List Row → Type 0 = AreFirstRows setup first in subst A (sym none) refl
+
+-- a campaign comes to no answer before its last run
+pub goes-on : {A : Type 0} (setup : Setup) (first count : ℕ) (rows : Vec Row Global) (place : ℕ)
+    (found : Option A)
+    → Decides (HasRowsBefore setup first count) (λ rows answer. ⊥) rows place found
+    → HasRowsBefore setup first count rows place
+goes-on setup first count rows place None has = has
+goes-on setup first count rows place (Some answer) has = absurd has

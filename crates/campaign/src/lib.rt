@@ -10,7 +10,6 @@
 
 mod batches;
 mod one_list;
-mod seed_tests;
 mod seeds;
 mod task;
 

@@ -3,12 +3,13 @@ ghost use Rattle.script_tree.specs.ScriptText.{ScriptText};
 ghost use Rattle.script_code.specs.Listing.{listing};
 ghost use Rattle.script_body.specs.Bodies.{bodies_of, AreOf};
 ghost use Rattle.campaign.specs.Rows.{rows_of};
+ghost use Rattle.pct_ask.specs.declared.limits.TheConstants.{MAX_DEPTH, MAX_RUNS, MAX_STEPS};
 
-use crate::batches::add_rows;
 use crate::task::Task;
 use pct_ask::{Deal, RowList};
 use pct_outside::Gate;
 use script_code::Code;
+use script_run::{ReadyScript, run_batch};
 use std::alloc::{AllocError as NoMemory, Global};
 use std::sync::Wait;
 use std::thread::Threads;
@@ -31,13 +32,13 @@ pub fn campaign_by<R: Threads + Wait + Sync, G: Gate>(
 ) -> Result<RowList, NoMemory>
     requires script { (script : ScriptText) × AreOf script (listing code.now) deal.now }
     requires some_seeds { 1 ≤ count }
-    requires few_seeds { count ≤ 100000 }
+    requires few_seeds { count ≤ MAX_RUNS }
     requires some_depth { 1 ≤ depth }
-    requires little_depth { depth ≤ 8 }
+    requires little_depth { depth ≤ MAX_DEPTH }
     requires some_steps { 1 ≤ steps }
-    requires few_steps { steps ≤ 100000 }
+    requires few_steps { steps ≤ MAX_STEPS }
     requires some_limit { 1 ≤ limit }
-    requires low_limit { limit ≤ 100000 }
+    requires low_limit { limit ≤ MAX_STEPS }
     // Row by row it is the run of the row's seed.
     ensures { (script : ScriptText) → AreOf script (listing code.now) deal.now
         → IfOk result (λ rows. map Some rows ≡ rows_of (record {
@@ -49,20 +50,20 @@ pub fn campaign_by<R: Threads + Wait + Sync, G: Gate>(
         }) first count) }
 {
     let task = Task {
-        code,
-        deal,
+        script: ReadyScript { code, deal },
         first,
+        count,
         depth,
         steps,
         limit,
     };
-    let total = count as usize;
-    let size = RUNS_AT_ONCE as usize;
     let mut serving = Serving::new(alloc, serve);
-    let mut rows = Vec::with_capacity(alloc, total)?;
-    'batches: while rows.len() < total {
-        let end = rows.len() + size.min(total - rows.len());
-        add_rows(rt, alloc, &task, &mut rows, end, &mut serving, gate)?;
+    let mut rows = Vec::with_capacity(alloc, count as usize)?;
+    let mut start = 0;
+    'batches: while start < count {
+        let end = start + RUNS_AT_ONCE.min(count - start);
+        run_batch(rt, alloc, &task, &mut rows, start, end, &mut serving, gate)?;
+        start = end;
     }
     Ok(RowList::from_vec(rows))
 }
@@ -86,13 +87,13 @@ pub fn campaign<R: Threads + Wait + Sync, G: Gate>(
 ) -> Result<RowList, NoMemory>
     requires script { (script : ScriptText) × AreOf script (listing code.now) deal.now }
     requires some_seeds { 1 ≤ count }
-    requires few_seeds { count ≤ 100000 }
+    requires few_seeds { count ≤ MAX_RUNS }
     requires some_depth { 1 ≤ depth }
-    requires little_depth { depth ≤ 8 }
+    requires little_depth { depth ≤ MAX_DEPTH }
     requires some_steps { 1 ≤ steps }
-    requires few_steps { steps ≤ 100000 }
+    requires few_steps { steps ≤ MAX_STEPS }
     requires some_limit { 1 ≤ limit }
-    requires low_limit { limit ≤ 100000 }
+    requires low_limit { limit ≤ MAX_STEPS }
     // Row by row it is the run of the row's seed.
     ensures { (script : ScriptText) → AreOf script (listing code.now) deal.now
         → IfOk result (λ rows. map Some rows ≡ rows_of (record {

@@ -6,17 +6,19 @@ ghost use Rattle.script_tree.specs.ScriptText.{ScriptText};
 ghost use Rattle.script_code.specs.Listing.{listing};
 ghost use Rattle.script_body.specs.Bodies.{bodies_of, AreOf};
 ghost use Rattle.directive_find.specs.Found.{Finds};
+ghost use Rattle.pct_ask.specs.declared.limits.TheConstants.{MAX_POINTS, MAX_STEPS};
 
 use crate::reducing::{Short, reduce};
-use crate::running::run_of_points;
 use choices::moments_of;
 use pct_ask::{Deal, Verdict};
 use pct_outside::Gate;
 use policy_pick::MomentList;
 use script_code::Code;
+use script_run::ReadyScript;
 use std::alloc::{AllocError as NoMemory, Global};
 use std::sync::Wait;
 use std::thread::Threads;
+use worker_run::Serve;
 
 /// What a run by an order and change points comes to.
 #[derive(Debug, Drop)]
@@ -50,14 +52,15 @@ pub fn find<R: Threads + Wait + Sync, G: Gate>(
     requires script { (script : ScriptText) × AreOf script (listing code.now) deal.now }
     requires order { IsOrder order.now }
     requires whole { length order.now ≡ deal.now.threads }
-    requires few_points { length points.now ≤ 7 }
+    requires few_points { length points.now ≤ MAX_POINTS }
     requires points { All (λ point. 1 ≤ point) points.now }
     requires some_steps { 1 ≤ limit }
-    requires few_steps { limit ≤ 100000 }
+    requires few_steps { limit ≤ MAX_STEPS }
     ensures { (script : ScriptText) → AreOf script (listing code.now) deal.now
         → IfOk result (Finds deal.now (bodies_of script) order.now points.now limit) }
 {
-    let whole = run_of_points(rt, alloc, code, deal, order, points, limit, gate)?;
+    let ready = ReadyScript { code, deal };
+    let whole = ready.run_by_points(rt, alloc, order, points, limit, Serve::Threads, gate)?;
     let steps = whole.events.len() as u32;
     let verdict = whole.verdict;
     if verdict.is(&Verdict::Passed) {
@@ -65,7 +68,7 @@ pub fn find<R: Threads + Wait + Sync, G: Gate>(
     }
     let events = moments_of(alloc, whole.events.as_slice(), points)?;
     let whole = Short { events, steps };
-    let short = reduce(rt, alloc, code, deal, order, whole, &verdict, limit, gate)?;
+    let short = reduce(rt, alloc, &ready, order, whole, &verdict, limit, gate)?;
     Ok(FoundOut::Events {
         events: short.events,
         verdict,

@@ -13,7 +13,6 @@
 mod finding;
 mod found;
 mod reducing;
-mod running;
 
 pub use finding::{FoundOut, find};
 pub use found::one_finding;

@@ -2,19 +2,19 @@
 
 ghost use Rattle.std.specs.Prelude.{◌≡◌, ◌≤◌, ◌<◌, length, remove, IfOk, IfSome};
 ghost use Rattle.rank_now.specs.Order.{IsOrder};
-ghost use Rattle.script_tree.specs.ScriptText.{ScriptText};
 ghost use Rattle.script_code.specs.Listing.{listing};
-ghost use Rattle.script_body.specs.Bodies.{bodies_of, AreOf};
+ghost use Rattle.script_run.specs.Ready.{bodies_of_code};
 ghost use Rattle.directive_find.specs.Reduced.{LeadsTo, Leaves, IsReduced};
+ghost use Rattle.pct_ask.specs.declared.limits.TheConstants.{MAX_POINTS, MAX_STEPS};
 
-use crate::running::run_of_events;
-use pct_ask::{Deal, Verdict};
+use pct_ask::Verdict;
 use pct_outside::Gate;
 use policy_pick::{Moment, MomentList};
-use script_code::Code;
+use script_run::ReadyScript;
 use std::alloc::{AllocError as NoMemory, Global};
 use std::sync::Wait;
 use std::thread::Threads;
+use worker_run::Serve;
 
 /// Moments, and the number of steps of their directed run.
 #[derive(Debug, Drop)]
@@ -38,28 +38,27 @@ fn without(alloc: Global, events: &[Moment], place: usize) -> Result<MomentList,
 fn leave_out<R: Threads + Wait + Sync, G: Gate>(
     rt: &R,
     alloc: Global,
-    code: &Code,
-    deal: &Deal,
+    ready: &ReadyScript<'_>,
     order: &[u32],
     events: &[Moment],
     verdict: &Verdict,
     limit: u32,
     gate: &G,
 ) -> Result<Option<Short>, NoMemory>
-    requires script { (script : ScriptText) × AreOf script (listing code.now) deal.now }
     requires order { IsOrder order.now }
-    requires whole { length order.now ≡ deal.now.threads }
-    requires few_events { length events.now ≤ 7 }
+    requires whole { length order.now ≡ ready.now.deal.now.threads }
+    requires few_events { length events.now ≤ MAX_POINTS }
     requires some_steps { 1 ≤ limit }
-    requires few_steps { limit ≤ 100000 }
-    ensures leaves { (script : ScriptText) → AreOf script (listing code.now) deal.now
-        → IfOk result (Leaves deal.now (bodies_of script) order.now limit verdict.now events.now) }
+    requires few_steps { limit ≤ MAX_STEPS }
+    ensures leaves { IfOk result (Leaves ready.now.deal.now
+        (bodies_of_code (listing ready.now.code.now)) order.now limit verdict.now events.now) }
     ensures fewer { IfOk result (λ left.
         IfSome left (λ short. length short.events < length events.now)) }
 {
     for place in 0..events.len() {
         let rest = without(alloc, events, place)?;
-        let whole = run_of_events(rt, alloc, code, deal, order, rest.as_slice(), limit, gate)?;
+        let left = rest.as_slice();
+        let whole = ready.run_by_events(rt, alloc, order, left, limit, Serve::Threads, gate)?;
         if whole.verdict.is(verdict) {
             let steps = whole.events.len() as u32;
             return Ok(Some(Short {
@@ -76,32 +75,28 @@ fn leave_out<R: Threads + Wait + Sync, G: Gate>(
 pub fn reduce<R: Threads + Wait + Sync, G: Gate>(
     rt: &R,
     alloc: Global,
-    code: &Code,
-    deal: &Deal,
+    ready: &ReadyScript<'_>,
     order: &[u32],
     whole: Short,
     verdict: &Verdict,
     limit: u32,
     gate: &G,
 ) -> Result<Short, NoMemory>
-    requires script { (script : ScriptText) × AreOf script (listing code.now) deal.now }
     requires order { IsOrder order.now }
-    requires whole { length order.now ≡ deal.now.threads }
-    requires few_events { length whole.events ≤ 7 }
+    requires whole { length order.now ≡ ready.now.deal.now.threads }
+    requires few_events { length whole.events ≤ MAX_POINTS }
     requires some_steps { 1 ≤ limit }
-    requires few_steps { limit ≤ 100000 }
-    requires leads { (script : ScriptText) → AreOf script (listing code.now) deal.now
-        → LeadsTo deal.now (bodies_of script) order.now limit verdict.now whole.events whole.steps }
-    ensures { (script : ScriptText) → AreOf script (listing code.now) deal.now
-        → IfOk result
-        (IsReduced deal.now (bodies_of script) order.now limit verdict.now whole.events) }
+    requires few_steps { limit ≤ MAX_STEPS }
+    requires leads { LeadsTo ready.now.deal.now (bodies_of_code (listing ready.now.code.now))
+        order.now limit verdict.now whole.events whole.steps }
+    ensures { IfOk result (IsReduced ready.now.deal.now
+        (bodies_of_code (listing ready.now.code.now)) order.now limit verdict.now whole.events) }
 {
     let mut short = whole;
     'rounds: while let Some(shorter) = leave_out(
         rt,
         alloc,
-        code,
-        deal,
+        ready,
         order,
         short.events.as_slice(),
         verdict,

@@ -2,4 +2,3 @@ pub mod laws
 pub mod Exposure
 pub mod Certificates
 mod OrderRuns
-mod Decided

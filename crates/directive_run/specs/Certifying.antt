@@ -18,6 +18,7 @@ use Rattle.directive_run.specs.declared.answers.CertifyRow.{CertifyRow}
 use Rattle.directive_run.specs.declared.answers.Certified.{Certified}
 use Rattle.directive_run.specs.declared.answers.Certified.TheVariants.{Yes, Refuted, TooLong}
 use Rattle.directive_run.specs.declared.answers.Certified.TheVariants.{TooManyThreads}
+use Rattle.pct_ask.specs.declared.limits.TheConstants.{MAX_CERTIFIED_THREADS}
 
 -- The order's directed run has the verdict and at most so many steps; the points are those of its
 -- moments, and the run of the order and these points has the same steps and the verdict.
@@ -45,7 +46,7 @@ AreRows deal bodies directive steps limit (order ∷ orders) (row ∷ rows) =
 -- steps and m moments, at least one in n k^m leads to the verdict.
 pub record IsCertified (deal : Deal) (bodies : List Pending) (directive : Directive)
     (steps limit bound : ℕ) (rows : List CertifyRow) : Type 0 where
-  pub few : deal.threads ≤ 7
+  pub few : deal.threads ≤ MAX_CERTIFIED_THREADS
   pub guarantees : Guarantees deal bodies directive.low directive.events directive.verdict steps
       limit
   pub bound_is : bound ≡ deal.threads * steps ^ length directive.events
@@ -59,7 +60,7 @@ pub record IsCertified (deal : Deal) (bodies : List Pending) (directive : Direct
 -- verdict: those before it are.
 pub record IsFirstOther (deal : Deal) (bodies : List Pending) (directive : Directive)
     (steps limit : ℕ) (order : List ℕ) : Type 0 where
-  pub few : deal.threads ≤ 7
+  pub few : deal.threads ≤ MAX_CERTIFIED_THREADS
   pub before : List (List ℕ)
   pub after : List (List ℕ)
   pub listed : low_orders deal.threads directive.low ≡ before ++ order ∷ after

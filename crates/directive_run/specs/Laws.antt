@@ -9,6 +9,7 @@ use Rattle.directive_run.specs.Guarantees.{Guarantees}
 use Rattle.directive_run.specs.Certifying.{Certifies, IsYes}
 use Rattle.directive_run.specs.declared.answers.Exposed.{Exposed}
 use Rattle.directive_run.specs.declared.answers.Certified.{Certified}
+use Rattle.pct_ask.specs.declared.limits.TheConstants.{MAX_CERTIFIED_THREADS}
 
 -- Under an order a directive's moments are exposed in one way.
 abbrev pub EachIsExposedOnce : Type 0
@@ -31,6 +32,6 @@ abbrev pub SaysYesWhereGuaranteed : Type 0
 SaysYesWhereGuaranteed =
     (deal : Deal) (bodies : List Pending) (directive : Directive) (steps limit : ℕ)
     (certified : Certified)
-    → deal.threads ≤ 7 → Certifies deal bodies directive steps limit certified
+    → deal.threads ≤ MAX_CERTIFIED_THREADS → Certifies deal bodies directive steps limit certified
     → IsYes certified
     ↔ Guarantees deal bodies directive.low directive.events directive.verdict steps limit

@@ -5,24 +5,23 @@ ghost use Rattle.script_tree.specs.ScriptText.{ScriptText};
 ghost use Rattle.script_code.specs.Listing.{listing};
 ghost use Rattle.script_body.specs.Bodies.{bodies_of, AreOf};
 ghost use Rattle.directive_run.specs.Certifying.{Certifies};
+ghost use Rattle.pct_ask.specs.declared.limits.TheConstants.{MAX_STEPS};
 
 use crate::answers::{Certified, CertifyRows};
-use crate::batches::try_orders;
 use crate::task::Task;
 use choices::{bound_of, order_count};
 use directive::Directive;
-use pct_ask::Deal;
+use pct_ask::{Deal, MAX_CERTIFIED_THREADS};
 use pct_outside::Gate;
 use script_code::Code;
+use script_run::{ReadyScript, run_batch};
 use std::alloc::{AllocError as NoMemory, Global};
 use std::sync::Wait;
 use std::thread::Threads;
 use worker_run::{RUNS_AT_ONCE, Serve, Serving};
 
-const MOST_THREADS: u32 = 7;
-
-/// As `certify`, with bodies that are served by threads or by the caller. Where a thread couldn't be
-/// started, or there was no memory for threads, the caller serves the rest.
+/// As `certify`, with bodies that are served by threads or by the caller. Where a thread couldn't
+/// be started, or there was no memory for threads, the caller serves the rest.
 pub fn certify_by<R: Threads + Wait + Sync, G: Gate>(
     rt: &R,
     alloc: Global,
@@ -37,19 +36,18 @@ pub fn certify_by<R: Threads + Wait + Sync, G: Gate>(
     requires script { (script : ScriptText) × AreOf script (listing code.now) deal.now }
     requires low { directive.now.low < deal.now.threads }
     requires some_steps { 1 ≤ steps }
-    requires few_steps { steps ≤ 100000 }
+    requires few_steps { steps ≤ MAX_STEPS }
     requires some_limit { 1 ≤ limit }
-    requires small_limit { limit ≤ 100000 }
+    requires small_limit { limit ≤ MAX_STEPS }
     ensures { (script : ScriptText) → AreOf script (listing code.now) deal.now
         → IfOk result (Certifies deal.now (bodies_of script) directive.now steps limit) }
 {
     let threads = deal.threads;
-    if threads > MOST_THREADS {
+    if threads > MAX_CERTIFIED_THREADS {
         return Ok(Certified::TooManyThreads { threads });
     }
     let task = Task {
-        code,
-        deal,
+        script: ReadyScript { code, deal },
         directive,
         steps,
         limit,
@@ -59,12 +57,22 @@ pub fn certify_by<R: Threads + Wait + Sync, G: Gate>(
     let most = RUNS_AT_ONCE;
     let mut serving = Serving::new(alloc, serve);
     let mut size: u32 = 1;
-    let mut end = 0;
-    'batches: while end < total {
-        end += size.min(total - end);
-        if let Some(certified) = try_orders(rt, alloc, &task, &mut rows, end, &mut serving, gate)? {
+    let mut start = 0;
+    'batches: while start < total {
+        let end = start + size.min(total - start);
+        if let Some(certified) = run_batch(
+            rt,
+            alloc,
+            &task,
+            &mut rows,
+            start,
+            end,
+            &mut serving,
+            gate,
+        )? {
             return Ok(certified);
         }
+        start = end;
         size = most.min(2 * size);
     }
     let bound = bound_of(threads, steps, directive.events.len());
@@ -87,9 +95,9 @@ pub fn certify<R: Threads + Wait + Sync, G: Gate>(
     requires script { (script : ScriptText) × AreOf script (listing code.now) deal.now }
     requires low { directive.now.low < deal.now.threads }
     requires some_steps { 1 ≤ steps }
-    requires few_steps { steps ≤ 100000 }
+    requires few_steps { steps ≤ MAX_STEPS }
     requires some_limit { 1 ≤ limit }
-    requires small_limit { limit ≤ 100000 }
+    requires small_limit { limit ≤ MAX_STEPS }
     ensures { (script : ScriptText) → AreOf script (listing code.now) deal.now
         → IfOk result (Certifies deal.now (bodies_of script) directive.now steps limit) }
 {

@@ -6,17 +6,19 @@ ghost use Rattle.script_tree.specs.ScriptText.{ScriptText};
 ghost use Rattle.script_code.specs.Listing.{listing};
 ghost use Rattle.script_body.specs.Bodies.{bodies_of, AreOf};
 ghost use Rattle.directive_run.specs.Exposing.{Exposes};
+ghost use Rattle.pct_ask.specs.declared.limits.TheConstants.{MAX_STEPS};
 
 use crate::answers::Exposed;
-use crate::directed::directed_run;
 use choices::points_of;
 use directive::Directive;
 use pct_ask::Deal;
 use pct_outside::Gate;
 use script_code::Code;
+use script_run::ReadyScript;
 use std::alloc::{AllocError as NoMemory, Global};
 use std::sync::Wait;
 use std::thread::Threads;
+use worker_run::Serve;
 
 /// Runs a script under an order and a directive's moments, and gives the change points, each from 1
 /// to `steps`, by which the order leads to the same run. The order names the highest thread first.
@@ -36,15 +38,16 @@ pub fn expose<R: Threads + Wait + Sync, G: Gate>(
     requires order { IsOrder order.now }
     requires whole { length order.now ≡ deal.now.threads }
     requires some_steps { 1 ≤ steps }
-    requires few_steps { steps ≤ 100000 }
+    requires few_steps { steps ≤ MAX_STEPS }
     requires some_limit { 1 ≤ limit }
-    requires small_limit { limit ≤ 100000 }
+    requires small_limit { limit ≤ MAX_STEPS }
     ensures { (script : ScriptText) → AreOf script (listing code.now) deal.now
         → IfOk result (Exposes deal.now (bodies_of script) order.now
         directive.now.events steps limit) }
 {
     let events = directive.events.as_slice();
-    let whole = directed_run(rt, alloc, code, deal, order, events, limit, gate)?;
+    let ready = ReadyScript { code, deal };
+    let whole = ready.run_by_events(rt, alloc, order, events, limit, Serve::Threads, gate)?;
     let many = whole.events.len() as u32;
     if many > steps {
         return Ok(Exposed::TooLong { steps: many });

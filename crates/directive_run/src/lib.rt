@@ -10,7 +10,8 @@
 //! - `certify` says yes exactly where there are at most seven threads and every order with the
 //!   directive's thread last leads to its verdict in at most k steps: with a row for each such
 //!   order and its points, and the count; else the first order that doesn't, whoever serves:
-//!   `certify`, its clause; `certify_by`, its clause (`Certifies`, `IsCertified.guarantees`, `IsCertified.rows_are`, `IsCertified.bound_is`,
+//!   `certify`, its clause; `certify_by`, its clause
+//!   (`Certifies`, `IsCertified.guarantees`, `IsCertified.rows_are`, `IsCertified.bound_is`,
 //!   `IsCertified.counted`, `IsFirstOther`, `IsRefuted`, `IsTooLongUnder`).
 //! - There is one certificate, and one exposure: the law `one_certificate`: `guaranteed`,
 //!   `certified`, `exposed`.
@@ -20,10 +21,8 @@ mod answers;
 mod batches;
 mod certificate;
 mod certifying;
-mod directed;
 mod exposing;
 mod judging;
-mod order_tests;
 mod task;
 
 pub use answers::{Certified, CertifyRow, CertifyRows, Exposed};

@@ -1,4 +1,3 @@
-pub mod SameStep
 pub mod Compared
 pub mod Parts
 pub mod laws

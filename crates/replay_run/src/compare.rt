@@ -3,9 +3,9 @@ ghost use Rattle.pct_ask.specs.declared.event.Event.{Event};
 ghost use Rattle.pct_ask.specs.declared.verdict.Verdict.{Verdict};
 ghost use Rattle.replay_run.specs.Replay.{TellsReply, EndsBefore};
 ghost use Rattle.replay_run.specs.Agreed.{IsAgreed};
+ghost use Rattle.pct_ask.specs.declared.limits.TheConstants.{MAX_STEPS};
 
 use crate::answer::{Found, Replayed, Written};
-use crate::same::is_same;
 use pct_ask::{Event, Outcome, Verdict};
 use trace_text::TraceFile;
 use worker_run::Played;
@@ -15,7 +15,7 @@ fn agreed(made: &[Event], told: &[Event]) -> usize
     ensures { IsAgreed made.now told.now result }
 {
     let mut many = 0;
-    while many < made.len() && many < told.len() && is_same(&made[many], &told[many]) {
+    while many < made.len() && many < told.len() && made[many].is(&told[many]) {
         many += 1;
     }
     many
@@ -61,7 +61,7 @@ fn ended(step: u32, outcome: Outcome, verdict: Verdict) -> Replayed
 /// Compares a run of a trace's threads with the trace.
 pub(crate) fn compare(played: &Played, file: &TraceFile) -> Replayed
     requires no_longer { length played.now.events ≤ length file.now.events }
-    requires few { length played.now.events ≤ 100000 }
+    requires few { length played.now.events ≤ MAX_STEPS }
     ensures { TellsReply played.now.events played.now.outcome file.now.events file.now.verdict
         result }
 {

@@ -13,7 +13,6 @@ mod answer;
 mod compare;
 mod replaying;
 mod reply;
-mod same;
 
 pub use answer::{Found, Replayed, Written};
 pub use replaying::replay;

@@ -1,9 +1,9 @@
 ghost use Rattle.std.specs.Prelude.{◌≡◌, ◌<◌, List, ℕ, length, All, IfOk, Some};
 ghost use Rattle.pct_ask.specs.declared.event.Event.{Event};
+ghost use Rattle.pct_ask.specs.Limits.{IsStepCount};
 ghost use Rattle.script_tree.specs.ScriptText.{ScriptText};
 ghost use Rattle.script_code.specs.Listing.{listing};
 ghost use Rattle.script_body.specs.Bodies.{bodies_of, AreOf};
-ghost use Rattle.trace_text.specs.Lawful.{IsStepCount};
 ghost use Rattle.turn_book.specs.Posts.{schedule_of};
 ghost use Rattle.worker_run.specs.Run.{run};
 ghost use Rattle.replay_run.specs.declared.answer.Replayed.{Replayed};

@@ -14,3 +14,4 @@ pub mod Steps
 pub mod Aheads
 pub mod Counts
 pub mod Laws
+mod Passed

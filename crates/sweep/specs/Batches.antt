@@ -1,18 +1,12 @@
--- The tests of choices, which are run in batches, and what their runs and rows are (this project).
+-- The runs of choices, which are made in batches, and what is counted of them (this project).
 -- Nothing here is needed to read a public contract.
-use Rattle.std.specs.Prelude.{◌≡◌, ◌≤◌, ◌<◌, ℕ, suc, List, [], ◌∷◌, length, map, take, Some}
+use Rattle.std.specs.Prelude.{◌≡◌, ◌≤◌, ◌<◌, ℕ, suc, List, [], ◌∷◌, length, take, drop, Some}
 use Rattle.std.specs.Prelude.{slice_get}
-use Rattle.policy_pick.specs.Plan.{ByPoints}
-use Rattle.policy_pick.specs.Kept.{PointsKept, points_plan}
-use Rattle.script_tree.specs.ScriptText.{ScriptText}
 use Rattle.script_code.specs.Listing.{listing}
-use Rattle.script_body.specs.BodyPosts.{pending_of_body}
-use Rattle.script_body.specs.Bodies.{bodies_of, AreOf}
-use Rattle.script_body.specs.declared.body.ScriptBody.{ScriptBody}
 use Rattle.worker_run.specs.Run.{Run}
 use Rattle.worker_run.specs.Played.{IsRun}
-use Rattle.worker_run.specs.declared.batch.Test.{Test}
 use Rattle.worker_run.specs.declared.played.Played.{Played}
+use Rattle.script_run.specs.Ready.{bodies_of_code}
 use Rattle.failure_rank.specs.Growing.{IsTally}
 use Rattle.failure_rank.specs.declared.tally.Tally.{Tally}
 use Rattle.sweep.specs.declared.choice.Choice.{Choice}
@@ -20,16 +14,15 @@ use Rattle.sweep.specs.Rows.{Setup, leads, choices_of}
 use Rattle.sweep.specs.Weights.{weight, spread, often_in}
 use Rattle.sweep.specs.declared.task.Task.{Task}
 use Rattle.sweep.specs.declared.task.Reach.{Reach}
+use Rattle.sweep.specs.declared.next.Counts.{Counts}
+use Rattle.sweep.specs.declared.next.Next.{Next}
+use Rattle.pct_ask.specs.declared.limits.TheConstants.{MAX_STEPS}
 
--- the task has the code and the deal of the script
-abbrev pub IsSweepTask : ScriptText → Task → Type 0
-IsSweepTask script task = AreOf script (listing task.code.now) task.deal.now
-
--- what its runs have in common
-abbrev pub setup_of_task : ScriptText → Task → Setup
-setup_of_task script task = record {
-  deal = task.deal.now;
-  bodies = bodies_of script;
+-- what the task's runs have in common
+abbrev pub setup_of_task : Task → Setup
+setup_of_task task = record {
+  deal = task.script.deal.now;
+  bodies = bodies_of_code (listing task.script.code.now);
   many = task.points;
   steps = task.steps;
   limit = task.limit;
@@ -39,40 +32,12 @@ setup_of_task script task = record {
 abbrev pub IsChoiceAt : Setup → ℕ → Choice → Type 0
 IsChoiceAt setup place choice = slice_get (choices_of setup) place ≡ Some choice
 
--- the test whose run is that of the choice
-pub record IsChoiceTest (setup : Setup) (choice : Choice) (test : Test PointsKept ScriptBody) :
-    Type 0 where
-  pub deal : test.deal ≡ setup.deal
-  pub plan : points_plan test.policy ≡ ByPoints choice.order choice.points
-  pub limit : test.limit ≡ setup.limit
-  pub bodies : map pending_of_body test.bodies.items ≡ setup.bodies
-
--- it is that of the choice at the place
-abbrev pub IsTestAt : Setup → ℕ → Test PointsKept ScriptBody → Type 0
-IsTestAt setup place test =
-    (choice : Choice) × IsChoiceAt setup place choice × IsChoiceTest setup choice test
-
--- a test for each of the places, in their order
-pub record AreChoiceTests (setup : Setup) (places : List ℕ)
-    (tests : List (Test PointsKept ScriptBody)) : Type 0 where
-  pub long : length tests ≡ length places
-  pub each : (i : ℕ) (place : ℕ) (test : Test PointsKept ScriptBody)
-      → slice_get places i ≡ Some place → slice_get tests i ≡ Some test
-      → IsTestAt setup place test
-
 -- the run of the choice at the place; each run has at most 100,000 steps
 pub record IsRunAt (setup : Setup) (place : ℕ) (played : Played) : Type 0 where
   pub choice : Choice
   pub at : IsChoiceAt setup place choice
   pub run : IsRun (leads setup choice.order choice.points) played.events played.outcome
-  pub short : length played.events ≤ 100000
-
--- a run for each of the places, in their order
-pub record AreChoiceRuns (setup : Setup) (places : List ℕ) (runs : List Played) : Type 0 where
-  pub long : length runs ≡ length places
-  pub each : (i : ℕ) (place : ℕ) (played : Played)
-      → slice_get places i ≡ Some place → slice_get runs i ≡ Some played
-      → IsRunAt setup place played
+  pub short : length played.events ≤ MAX_STEPS
 
 -- Each choice before the place is counted: its row as often as there are choices for which it
 -- stands. None of their runs is longer than the longest.
@@ -81,7 +46,8 @@ pub record HasCounted (setup : Setup) (reach : Reach) (tally : Tally) : Type 0 w
   pub short : (place : ℕ) (choice : Choice) (ran : Run) → place < reach.place
       → IsChoiceAt setup place choice → leads setup choice.order choice.points ≡ Some ran
       → length ran.0 ≤ reach.longest
-  pub counted : IsTally (spread (often_in setup) setup 0 (take reach.place (choices_of setup))) tally
+  pub counted : IsTally (spread (often_in setup) setup 0 (take reach.place (choices_of setup)))
+      tally
 
 -- the choices from one place to before another have a point above the length
 abbrev pub AreAbove : Setup → ℕ → ℕ → ℕ → Type 0
@@ -96,3 +62,25 @@ AreAhead setup long from [] end = (from ≤ end) × AreAbove setup long from end
 AreAhead setup long from (place ∷ places) end =
     (from ≤ place) × (place < end) × AreAbove setup long from place
     × AreAhead setup long (suc place) places end
+
+-- ---- the choices that come next
+
+-- the run of the one of this number among them
+abbrev pub IsRunOfNext : Next → ℕ → Played → Type 0
+IsRunOfNext next i played = (place : ℕ) → slice_get next.ahead.now.places.items i ≡ Some place
+    → IsRunAt (setup_of_task next.task) place played
+
+-- those before the one of this number are counted, and none was longer than the runs before them
+pub record HasCountedNext (next : Next) (counts : Counts) (i : ℕ) : Type 0 where
+  pub same : counts.reach.longest ≡ next.before.longest
+  pub from : next.before.place ≤ counts.reach.place
+  pub ahead :
+      AreAhead (setup_of_task next.task) next.before.longest counts.reach.place
+      (drop i next.ahead.now.places.items) next.ahead.now.end
+  pub counted : HasCounted (setup_of_task next.task) counts.reach counts.tally
+
+-- some are counted, of which the last was longer
+pub record HasCountedLonger (next : Next) (counts : Counts) : Type 0 where
+  pub within : counts.reach.place ≤ next.task.choices
+  pub goes_on : next.before.place < counts.reach.place
+  pub counted : HasCounted (setup_of_task next.task) counts.reach counts.tally

@@ -1,10 +1,9 @@
 // Which choices come next: those that repeat a run that is counted are left out.
-ghost use Rattle.std.specs.Prelude.{◌≡◌, ◌≤◌, ◌<◌, ℕ, All, IfOk, Some, slice_get};
-ghost use Rattle.script_tree.specs.ScriptText.{ScriptText};
+ghost use Rattle.std.specs.Prelude.{◌≡◌, ◌≤◌, ◌<◌, All, IfOk, Some, length, slice_get};
 ghost use Rattle.sweep.specs.Choices.{choices, choice_count};
 ghost use Rattle.sweep.specs.declared.choice.Choice.{Choice};
 ghost use Rattle.sweep.specs.Weights.{weight};
-ghost use Rattle.sweep.specs.Batches.{IsSweepTask, setup_of_task, AreAhead};
+ghost use Rattle.sweep.specs.Batches.{setup_of_task, AreAhead};
 
 use crate::choice::{list_count, weight_at};
 use crate::task::{Reach, Task};
@@ -21,9 +20,10 @@ pub struct Ahead {
 
 /// For how many choices the one at a place stands, where its run has `length` steps.
 pub fn stands_for(task: &Task<'_>, place: u32, length: u32) -> u32
-    requires { place < choice_count task.now.deal.now.threads task.now.steps task.now.points }
+    requires { place
+        < choice_count task.now.script.deal.now.threads task.now.steps task.now.points }
     ensures { (choice : Choice)
-        → slice_get (choices task.now.deal.now.threads task.now.steps task.now.points) place
+        → slice_get (choices task.now.script.deal.now.threads task.now.steps task.now.points) place
         ≡ Some choice → result ≡ weight task.now.steps length choice.points }
 {
     let lists = list_count(task.steps, task.points);
@@ -36,21 +36,21 @@ pub fn choices_ahead(
     alloc: Global,
     task: &Task<'_>,
     reach: Reach,
-    most: usize,
+    most: u32,
 ) -> Result<Ahead, NoMemory>
     requires some { 1 ≤ most }
     requires within { reach.place < task.now.choices }
+    ensures few { IfOk result (λ ahead. length ahead.places.items ≤ most) }
     ensures within { IfOk result (λ ahead. All (λ place. place < task.now.choices)
         ahead.places.items) }
     ensures end { IfOk result (λ ahead. ahead.end ≤ task.now.choices) }
     ensures goes_on { IfOk result (λ ahead. reach.place < ahead.end) }
-    ensures ahead { (script : ScriptText) → IsSweepTask script task.now
-        → IfOk result (λ ahead. AreAhead (setup_of_task script task.now) reach.longest reach.place
-        ahead.places.items ahead.end) }
+    ensures ahead { IfOk result (λ ahead. AreAhead (setup_of_task task.now) reach.longest
+        reach.place ahead.places.items ahead.end) }
 {
-    let mut places = Vec::with_capacity(alloc, most)?;
+    let mut places = Vec::with_capacity(alloc, most as usize)?;
     let mut end = reach.place;
-    'choices: while end < task.choices && places.len() < most {
+    'choices: while end < task.choices && places.len() < most as usize {
         if stands_for(task, end, reach.longest) > 0 {
             places.push_reserved(end);
         }

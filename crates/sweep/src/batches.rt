@@ -1,24 +1,25 @@
-// The rows of choices, counted. Their runs are made at once by threads, or one after another by the
-// caller.
-ghost use Rattle.std.specs.Prelude.{◌≡◌, ◌≤◌, ◌<◌, ◌+◌, ◌++◌, ◌^◌, List, length, replicate};
-ghost use Rattle.std.specs.Prelude.{max, All, IfOk, OnOk};
+// The choices that come next, whose runs are made in a batch and counted.
+ghost use Rattle.std.specs.Prelude.{◌≡◌, ◌≤◌, ◌<◌, ◌+◌, ◌++◌, ◌^◌, List, length, replicate, IfOk};
+ghost use Rattle.std.specs.Prelude.{OnOk, Some, slice_get};
 ghost use Rattle.pct_ask.specs.declared.event.Row.{Row};
 ghost use Rattle.failure_rank.specs.Growing.{IsTally};
-ghost use Rattle.script_tree.specs.ScriptText.{ScriptText};
-ghost use Rattle.sweep.specs.Choices.{choice_count};
-ghost use Rattle.sweep.specs.Batches.{IsSweepTask, setup_of_task, IsRunAt, AreChoiceRuns};
-ghost use Rattle.sweep.specs.Batches.{HasCounted, AreAbove, AreAhead};
+ghost use Rattle.sweep.specs.Batches.{setup_of_task, IsRunAt, HasCounted, AreAbove};
+ghost use Rattle.sweep.specs.Batches.{IsRunOfNext, HasCountedNext, HasCountedLonger};
 
-use crate::ahead::{Ahead, choices_ahead, stands_for};
-use crate::choice_tests::{choice_test, choice_tests};
+use crate::ahead::{choices_ahead, stands_for};
+use crate::choice::choice_at;
+use crate::next::{Counts, Next};
 use crate::task::{Reach, Task};
 use failure_rank::Tally;
 use pct_ask::Row;
 use pct_outside::Gate;
+use policy_pick::Pct;
+use script_body::ScriptBody;
+use script_run::{Batch, run_batch};
 use std::alloc::{AllocError as NoMemory, Global};
 use std::sync::Wait;
 use std::thread::Threads;
-use worker_run::{Played, Serving, run_by_caller, run_many_by};
+use worker_run::{Played, Serving, Test};
 
 /// Counts a row so many times.
 fn add_copies(tally: &mut Tally, row: &Row, times: u32) -> Result<(), NoMemory>
@@ -40,19 +41,14 @@ fn count_run(
     place: u32,
     played: &Played,
 ) -> Result<Reach, NoMemory>
-    requires script { (script : ScriptText) × IsSweepTask script task.now }
     requires ahead { reach.place ≤ place }
     requires place { place < task.now.choices }
-    requires above { (script : ScriptText) → IsSweepTask script task.now
-        → AreAbove (setup_of_task script task.now) reach.longest reach.place place }
-    requires run { (script : ScriptText) → IsSweepTask script task.now
-        → IsRunAt (setup_of_task script task.now) place played.now }
-    requires before { (script : ScriptText) → IsSweepTask script task.now
-        → HasCounted (setup_of_task script task.now) reach tally.old }
+    requires above { AreAbove (setup_of_task task.now) reach.longest reach.place place }
+    requires run { IsRunAt (setup_of_task task.now) place played.now }
+    requires before { HasCounted (setup_of_task task.now) reach tally.old }
     ensures place { IfOk result (λ now. now.place ≡ place + 1) }
     ensures longest { IfOk result (λ now. reach.longest ≤ now.longest) }
-    ensures counted { (script : ScriptText) → IsSweepTask script task.now
-        → IfOk result (λ now. HasCounted (setup_of_task script task.now) now tally.new) }
+    ensures counted { IfOk result (λ now. HasCounted (setup_of_task task.now) now tally.new) }
 {
     let steps = played.events.len() as u32;
     let row = Row {
@@ -67,159 +63,79 @@ fn count_run(
     })
 }
 
-/// Counts the runs of the choices that come next, up to one that is longer than all before it:
-/// behind that other choices come next.
-fn count_runs(
-    task: &Task<'_>,
-    tally: &mut Tally,
-    reach: Reach,
-    ahead: &Ahead,
-    runs: &[Played],
-) -> Result<Reach, NoMemory>
-    requires script { (script : ScriptText) × IsSweepTask script task.now }
-    requires within { ahead.now.end ≤ task.now.choices }
-    requires goes_on { reach.place < ahead.now.end }
-    requires ahead { (script : ScriptText) → IsSweepTask script task.now
-        → AreAhead (setup_of_task script task.now) reach.longest reach.place
-        ahead.now.places.items ahead.now.end }
-    requires runs { (script : ScriptText) → IsSweepTask script task.now
-        → AreChoiceRuns (setup_of_task script task.now) ahead.now.places.items runs.now }
-    requires before { (script : ScriptText) → IsSweepTask script task.now
-        → HasCounted (setup_of_task script task.now) reach tally.old }
-    ensures within { IfOk result (λ now. now.place ≤ task.now.choices) }
-    ensures goes_on { IfOk result (λ now. reach.place < now.place) }
-    ensures counted { (script : ScriptText) → IsSweepTask script task.now
-        → IfOk result (λ now. HasCounted (setup_of_task script task.now) now tally.new) }
-{
-    let mut now = reach;
-    for next in 0..runs.len() {
-        now = count_run(task, tally, now, ahead.places[next], &runs[next])?;
-        if now.longest > reach.longest {
-            return Ok(now);
-        }
+impl<'n> Batch for Next<'n> {
+    type Policy = Pct;
+
+    type Body = ScriptBody<'n>;
+
+    type Kept = Counts;
+
+    type Answer = ();
+
+    ghost size = { λ next. length next.ahead.now.places.items };
+
+    ghost is_run = { IsRunOfNext };
+
+    ghost stands = { HasCountedNext };
+
+    // a run is longer than all before it: behind that other choices come next
+    ghost answers = { λ next counts answer. HasCountedLonger next counts };
+
+    fn test(&self, alloc: Global, place: u32) -> Result<Test<Pct, ScriptBody<'n>>, NoMemory> {
+        let task = self.task;
+        let at = self.ahead.places[place as usize];
+        let choice = choice_at(alloc, task.script.deal.threads, task.steps, task.points, at)?;
+        let (order, points) = (choice.order.as_slice(), choice.points.as_slice());
+        task.script.test_by_points(alloc, order, points, task.limit)
     }
-    Ok(Reach {
-        place: ahead.end,
-        longest: now.longest,
-    })
-}
 
-/// The runs of the choices at some places, made at once by threads.
-fn runs_at<R: Threads + Wait + Sync, G: Gate>(
-    rt: &R,
-    alloc: Global,
-    task: &Task<'_>,
-    places: &[u32],
-    serving: &mut Serving,
-    gate: &G,
-) -> Result<Vec<Played>, NoMemory>
-    requires script { (script : ScriptText) × IsSweepTask script task.now }
-    requires within { All (λ place. place
-        < choice_count task.now.deal.now.threads task.now.steps task.now.points) places.now }
-    ensures { (script : ScriptText) → IsSweepTask script task.now
-        → IfOk result (λ runs.
-        AreChoiceRuns (setup_of_task script task.now) places.now runs.items) }
-{
-    let tests = choice_tests(alloc, task, places)?;
-    run_many_by(rt, alloc, tests, serving, gate)
-}
-
-/// The run of the choice at a place, made by the caller.
-fn run_alone<R: Wait, G: Gate>(
-    rt: &R,
-    alloc: Global,
-    task: &Task<'_>,
-    place: u32,
-    serving: &mut Serving,
-    gate: &G,
-) -> Result<Played, NoMemory>
-    requires script { (script : ScriptText) × IsSweepTask script task.now }
-    requires place { place
-        < choice_count task.now.deal.now.threads task.now.steps task.now.points }
-    ensures { (script : ScriptText) → IsSweepTask script task.now
-        → IfOk result (IsRunAt (setup_of_task script task.now) place) }
-{
-    let test = choice_test(alloc, task, place)?;
-    run_by_caller(rt, alloc, test, serving, gate)
-}
-
-/// Makes the runs of the choices that come next one after another by the caller, and counts them, up
-/// to one that is longer than all before it.
-fn count_alone<R: Wait, G: Gate>(
-    rt: &R,
-    alloc: Global,
-    task: &Task<'_>,
-    tally: &mut Tally,
-    reach: Reach,
-    ahead: &Ahead,
-    serving: &mut Serving,
-    gate: &G,
-) -> Result<Reach, NoMemory>
-    requires script { (script : ScriptText) × IsSweepTask script task.now }
-    requires within { ahead.now.end ≤ task.now.choices }
-    requires goes_on { reach.place < ahead.now.end }
-    requires ahead { (script : ScriptText) → IsSweepTask script task.now
-        → AreAhead (setup_of_task script task.now) reach.longest reach.place
-        ahead.now.places.items ahead.now.end }
-    requires before { (script : ScriptText) → IsSweepTask script task.now
-        → HasCounted (setup_of_task script task.now) reach tally.old }
-    ensures within { IfOk result (λ now. now.place ≤ task.now.choices) }
-    ensures goes_on { IfOk result (λ now. reach.place < now.place) }
-    ensures counted { (script : ScriptText) → IsSweepTask script task.now
-        → IfOk result (λ now. HasCounted (setup_of_task script task.now) now tally.new) }
-{
-    let mut now = reach;
-    for next in 0..ahead.places.len() {
-        let place = ahead.places[next];
-        let played = run_alone(rt, alloc, task, place, serving, gate)?;
-        now = count_run(task, tally, now, place, &played)?;
-        serving.take_back(played)?;
-        if now.longest > reach.longest {
-            return Ok(now);
+    fn take(
+        &self,
+        _alloc: Global,
+        counts: &mut Counts,
+        place: u32,
+        played: &Played,
+    ) -> Result<Option<()>, NoMemory> {
+        let at = self.ahead.places[place as usize];
+        counts.reach = count_run(&self.task, &mut counts.tally, counts.reach, at, played)?;
+        if counts.reach.longest > self.before.longest {
+            return Ok(Some(()));
         }
+        Ok(None)
     }
-    Ok(Reach {
-        place: ahead.end,
-        longest: now.longest,
-    })
 }
 
-/// Makes the runs of the next choices, at most so many, counts them, and tells how far it came.
-/// They are made at once by threads, or one after another by the caller, who serves what comes next,
-/// too, where there is no memory for threads.
+/// Makes the runs of the next choices, at most so many, and counts them, up to one that is longer
+/// than all before it: behind that other choices come next.
 pub fn count_ahead<R: Threads + Wait + Sync, G: Gate>(
     rt: &R,
     alloc: Global,
     task: &Task<'_>,
-    tally: &mut Tally,
-    reach: Reach,
-    most: usize,
+    counts: &mut Counts,
+    most: u32,
     serving: &mut Serving,
     gate: &G,
-) -> Result<Reach, NoMemory>
-    requires script { (script : ScriptText) × IsSweepTask script task.now }
+) -> Result<(), NoMemory>
     requires some { 1 ≤ most }
-    requires within { reach.place < task.now.choices }
-    requires before { (script : ScriptText) → IsSweepTask script task.now
-        → HasCounted (setup_of_task script task.now) reach tally.old }
-    ensures within { IfOk result (λ now. now.place ≤ task.now.choices) }
-    ensures goes_on { IfOk result (λ now. reach.place < now.place) }
-    ensures counted { (script : ScriptText) → IsSweepTask script task.now
-        → IfOk result (λ now. HasCounted (setup_of_task script task.now) now tally.new) }
+    requires within { counts.old.reach.place < task.now.choices }
+    requires before { HasCounted (setup_of_task task.now) counts.old.reach counts.old.tally }
+    ensures within { OnOk result (counts.new.reach.place ≤ task.now.choices) }
+    ensures goes_on { OnOk result (counts.old.reach.place < counts.new.reach.place) }
+    ensures counted { OnOk result
+        (HasCounted (setup_of_task task.now) counts.new.reach counts.new.tally) }
 {
-    let ahead = choices_ahead(alloc, task, reach, most)?;
-    if serving.is_by_caller() {
-        return count_alone(rt, alloc, task, tally, reach, &ahead, serving, gate);
+    let before = counts.reach;
+    let ahead = choices_ahead(alloc, task, before, most)?;
+    let next = Next {
+        task: *task,
+        ahead: &ahead,
+        before,
+    };
+    let count = ahead.places.len() as u32;
+    let longer = run_batch(rt, alloc, &next, counts, 0, count, serving, gate)?;
+    if longer.is_some() {
+        return Ok(());
     }
-    match runs_at(rt, alloc, task, ahead.places.as_slice(), serving, gate) {
-        Ok(runs) => {
-            let now = count_runs(task, tally, reach, &ahead, runs.as_slice())?;
-            serving.take_all_back(runs)?;
-            Ok(now)
-        }
-        Err(NoMemory) => {
-            serving.leave_to_caller();
-            count_alone(rt, alloc, task, tally, reach, &ahead, serving, gate)
-        }
-    }
+    counts.reach.place = ahead.end;
+    Ok(())
 }

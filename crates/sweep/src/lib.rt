@@ -18,8 +18,8 @@
 mod ahead;
 mod batches;
 mod choice;
-mod choice_tests;
 mod counted;
+mod next;
 mod sweeping;
 mod task;
 

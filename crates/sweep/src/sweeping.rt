@@ -3,14 +3,17 @@ ghost use Rattle.script_tree.specs.ScriptText.{ScriptText};
 ghost use Rattle.script_code.specs.Listing.{listing};
 ghost use Rattle.script_body.specs.Bodies.{bodies_of, AreOf};
 ghost use Rattle.sweep.specs.Swept.{Sweeps};
+ghost use Rattle.pct_ask.specs.declared.limits.TheConstants.{MAX_POINTS, MAX_STEPS};
 
 use crate::batches::count_ahead;
 use crate::choice::choice_count;
-use crate::task::{Reach, Task};
-use failure_rank::{Groups, Tally};
+use crate::next::Counts;
+use crate::task::Task;
+use failure_rank::Groups;
 use pct_ask::Deal;
 use pct_outside::Gate;
 use script_code::Code;
+use script_run::ReadyScript;
 use std::alloc::{AllocError as NoMemory, Global};
 use std::sync::Wait;
 use std::thread::Threads;
@@ -38,7 +41,7 @@ pub enum Answer {
 
 /// How many choices the next batch has. Behind a run that is longer than all before it other
 /// choices come next, so that a batch begins with one again and grows.
-fn next_size(size: usize, most: usize, is_longer: bool) -> usize
+fn next_size(size: u32, most: u32, is_longer: bool) -> u32
     requires { 1 ≤ most }
     ensures { 1 ≤ result }
 {
@@ -67,11 +70,11 @@ pub fn sweep<R: Threads + Wait + Sync, G: Gate>(
     gate: &G,
 ) -> Result<Answer, NoMemory>
     requires script { (script : ScriptText) × AreOf script (listing code.now) deal.now }
-    requires few_points { points ≤ 7 }
+    requires few_points { points ≤ MAX_POINTS }
     requires some_steps { 1 ≤ steps }
-    requires few_steps { steps ≤ 100000 }
+    requires few_steps { steps ≤ MAX_STEPS }
     requires some_limit { 1 ≤ limit }
-    requires low_limit { limit ≤ 100000 }
+    requires low_limit { limit ≤ MAX_STEPS }
     ensures { (script : ScriptText) → AreOf script (listing code.now) deal.now
         → IfOk result (Sweeps (record {
           deal = deal.now;
@@ -85,35 +88,21 @@ pub fn sweep<R: Threads + Wait + Sync, G: Gate>(
         return Ok(Answer::TooMany);
     };
     let task = Task {
-        code,
-        deal,
+        script: ReadyScript { code, deal },
         points,
         steps,
         limit,
         choices,
     };
-    let most = RUNS_AT_ONCE as usize;
     let mut serving = Serving::new(alloc, serve);
-    let mut tally = Tally::new(alloc);
-    let mut reach = Reach {
-        place: 0,
-        longest: 1,
-    };
+    let mut counts = Counts::new(alloc);
     let mut size = 1;
-    'batches: while reach.place < choices {
-        let next = count_ahead(
-            rt,
-            alloc,
-            &task,
-            &mut tally,
-            reach,
-            size,
-            &mut serving,
-            gate,
-        )?;
-        size = next_size(size, most, next.longest > reach.longest);
-        reach = next;
+    'batches: while counts.reach.place < choices {
+        let longest = counts.reach.longest;
+        count_ahead(rt, alloc, &task, &mut counts, size, &mut serving, gate)?;
+        size = next_size(size, RUNS_AT_ONCE, counts.reach.longest > longest);
     }
+    let tally = counts.tally;
     let passed = tally.passed();
     let groups = tally.into_groups(alloc)?;
     Ok(Answer::Whole(Swept {

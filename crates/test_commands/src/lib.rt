@@ -1,5 +1,5 @@
-//! The tests of what commands do with a script, by public calls: campaigns, directives that are
-//! exposed, certified or found, and replays.
+//! The tests of what commands do with a script, by public calls: its runs, campaigns, directives
+//! that are exposed, certified or found, and replays.
 #![tactic(auto)]
 
 #[cfg(test)]
@@ -10,5 +10,7 @@ mod directives;
 mod findings;
 #[cfg(test)]
 mod replays;
+#[cfg(test)]
+mod runs;
 #[cfg(test)]
 mod scripts;

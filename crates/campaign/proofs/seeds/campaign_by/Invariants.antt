@@ -1,25 +1,21 @@
-use Rattle.std.proofs.Common.{◌≡◌, ◌≤◌, ◌-◌, vec_len}
-use Rattle.std.specs.Prelude.{vec_capacity}
-use Rattle.script_tree.specs.ScriptText.{ScriptText}
+use Rattle.std.proofs.Common.{◌≤◌, ◌-◌}
 use Rattle.script_code.specs.Listing.{listing}
-use Rattle.script_body.specs.Bodies.{bodies_of, AreOf}
-use Rattle.campaign.specs.Batches.{AreFirstRows}
+use Rattle.script_run.specs.Ready.{bodies_of_code}
+use Rattle.campaign.specs.Batches.{HasRowsBefore}
 use Rattle.campaign.proofs.seeds.campaign_by.Given as goal
 
--- the rows so far are those of the first seeds, and there is room for the others
+-- there is a row for each seed before the start of the next batch
 abbrev pub invariant-batches : goal.invariant-batches
 invariant-batches g l = record {
-  most : vec_len l.rows ≤ l.total;
-  room : vec_capacity l.rows ≡ l.total;
-  rows : (script : ScriptText) → AreOf script (listing l.code) l.deal
-      → AreFirstRows (record {
-        deal = l.deal;
-        bodies = bodies_of script;
-        depth = l.depth;
-        steps = l.steps;
-        limit = l.limit;
-      }) l.first l.rows.items;
+  within : l.start ≤ l.count;
+  rows : HasRowsBefore (record {
+    deal = l.deal;
+    bodies = bodies_of_code (listing l.code);
+    depth = l.depth;
+    steps = l.steps;
+    limit = l.limit;
+  }) l.first l.count l.rows l.start;
 }
 
 abbrev pub decreases-batches : goal.decreases-batches
-decreases-batches g l = l.total - vec_len l.rows
+decreases-batches g l = l.count - l.start

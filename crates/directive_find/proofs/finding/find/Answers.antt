@@ -1,9 +1,14 @@
 -- The run's moments lead to the run, so what they reduce to is what is found.
-use Rattle.std.proofs.Common.{length, arith, ap, sym, ◌∙◌}
+use Rattle.std.proofs.Common.{List, length, arith, ap, sym, subst, ◌∙◌}
 use Rattle.turn_book.specs.Posts.{schedule_of}
-use Rattle.script_body.specs.Bodies.{bodies_of}
+use Rattle.pct_ask.specs.Bodies.{Pending}
+use Rattle.script_code.specs.Listing.{listing}
+use Rattle.script_body.proofs.laws.ScriptBodies.{code_bodies}
 use Rattle.worker_run.specs.Run.{directed_run}
 use Rattle.choices.specs.Moments.{moments_of}
+use Rattle.script_run.specs.Ready.{bodies_of_code}
+use Rattle.directive_find.specs.Found.{Finds}
+use Rattle.directive_find.specs.declared.finding.FoundOut.TheVariants.{Events, Passes}
 use Rattle.directive_find.proofs.laws.FoundMoments.{found-run, moments-few}
 use Rattle.directive_find.proofs.laws.Findings.{made-found, made-pass}
 use Rattle.directive_find.proofs.finding.find.Goals as goal
@@ -18,35 +23,49 @@ reduce-requires-clause-few_events g c =
     )
 
 pub reduce-requires-clause-leads : goal.reduce-requires-clause-leads
-reduce-requires-clause-leads g c κs within = λ script of.
+reduce-requires-clause-leads g c κs within =
+    let bodies = bodies_of_code (listing c.args.code.now) in
     let all = c.in_ok-events.ensures ∙ ap (λ es. moments_of (schedule_of es) c.args.points.now)
     c.as_slice.ensures in
     record {
       made = c.in_ok-whole.whole.events;
       is_directed =
-          ap (λ ms. directed_run c.args.deal.now (bodies_of script) c.args.order.now ms
+          ap (λ ms. directed_run c.args.deal.now bodies c.args.order.now ms
           c.args.limit) all
-          ∙ found-run c.args.deal.now (bodies_of script) c.args.order.now c.args.points.now
+          ∙ found-run c.args.deal.now bodies c.args.order.now c.args.points.now
           c.args.limit c.in_ok-whole.whole.events c.in_ok-whole.whole.verdict c.requires.order
-          (sym c.requires.whole) (c.in_ok-whole.ensures.run script of);
+          (sym c.requires.whole) c.in_ok-whole.ensures.code;
       number = c.len-steps.ensures;
     }
 
 pub returns-then-is : goal.returns-then-is
 returns-then-is g c = λ script of.
-    made-pass c.args.deal.now (bodies_of script) c.args.order.now c.args.limit c.args.points.now
-    c.in_ok-whole.whole.events c.in_ok-whole.whole.verdict c.len-steps.result
-    c.requires.order c.requires.whole (c.in_ok-whole.ensures.run script of)
-    (c.is.ensures.0 c.if-is.true) c.len-steps.ensures
+    let deal = c.args.deal.now in
+    let code = listing c.args.code.now in
+    let order = c.args.order.now in
+    let points = c.args.points.now in
+    let B : List Pending → Type 0 = λ bodies. Finds deal bodies order points c.args.limit
+    (Passes c.len-steps.result) in
+    subst B (code_bodies script code of.is_code)
+    (made-pass deal (bodies_of_code code) order c.args.limit points c.in_ok-whole.whole.events
+    c.in_ok-whole.whole.verdict c.len-steps.result c.requires.order c.requires.whole
+    c.in_ok-whole.ensures.code (c.is.ensures.0 c.if-is.true) c.len-steps.ensures)
 
 pub returns : goal.returns
 returns g c = λ script of.
-    let all = c.in_ok-events.ensures ∙ ap (λ es. moments_of (schedule_of es) c.args.points.now)
+    let deal = c.args.deal.now in
+    let code = listing c.args.code.now in
+    let order = c.args.order.now in
+    let points = c.args.points.now in
+    let whole = c.in_ok-whole.whole in
+    let short = c.in_ok-short.short in
+    let all = c.in_ok-events.ensures ∙ ap (λ es. moments_of (schedule_of es) points)
     c.as_slice.ensures in
-    made-found c.args.deal.now (bodies_of script) c.args.order.now c.args.limit c.args.points.now
-    c.in_ok-whole.whole.events c.in_ok-whole.whole.verdict c.in_ok-events.events
-    c.in_ok-short.short
-    c.requires.order c.requires.whole c.requires.points c.in_ok-whole.ensures.few
-    (c.in_ok-whole.ensures.run script of)
+    let B : List Pending → Type 0 = λ bodies. Finds deal bodies order points c.args.limit
+    (Events short.events whole.verdict short.steps) in
+    subst B (code_bodies script code of.is_code)
+    (made-found deal (bodies_of_code code) order c.args.limit points whole.events whole.verdict
+    c.in_ok-events.events short c.requires.order c.requires.whole c.requires.points
+    c.in_ok-whole.ensures.few c.in_ok-whole.ensures.code
     (λ same. let told = c.is.ensures.1 same in let other = c.if-is.false in cc) all
-    (c.in_ok-short.ensures script of)
+    c.in_ok-short.ensures)

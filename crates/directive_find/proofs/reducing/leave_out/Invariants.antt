@@ -1,10 +1,10 @@
-use Rattle.script_tree.specs.ScriptText.{ScriptText}
 use Rattle.script_code.specs.Listing.{listing}
-use Rattle.script_body.specs.Bodies.{bodies_of, AreOf}
+use Rattle.script_run.specs.Ready.{bodies_of_code}
 use Rattle.directive_find.specs.Reduced.{HasVerdict, NeedsFirst}
 use Rattle.directive_find.proofs.reducing.leave_out.Given as goal
 
 -- each moment so far is needed
 abbrev pub invariant-loop-place : goal.invariant-loop-place
-invariant-loop-place g l = (script : ScriptText) → AreOf script (listing l.code) l.deal
-    → NeedsFirst (HasVerdict l.deal (bodies_of script) l.order l.limit l.verdict) l.events l.place
+invariant-loop-place g l =
+    NeedsFirst (HasVerdict l.ready.deal.now (bodies_of_code (listing l.ready.code.now)) l.order
+    l.limit l.verdict) l.events l.place

@@ -1,22 +1,22 @@
 use Rattle.std.proofs.Common.{◌≤◌, List, length}
 use Rattle.rank_now.specs.declared.moment.Moment.{Moment}
-use Rattle.script_tree.specs.ScriptText.{ScriptText}
 use Rattle.script_code.specs.Listing.{listing}
-use Rattle.script_body.specs.Bodies.{bodies_of, AreOf}
+use Rattle.script_run.specs.Ready.{bodies_of_code}
 use Rattle.directive_find.specs.Reduced.{HasVerdict, LeadsTo, Reduces}
 use Rattle.directive_find.proofs.reducing.reduce.Given as goal
 
 -- what is left so far leads to the verdict, and what it reduces to is what all moments reduce to
 abbrev pub invariant-rounds : goal.invariant-rounds
-invariant-rounds g l = record {
-  few : length l.short.events ≤ 7;
-  leads : (script : ScriptText) → AreOf script (listing l.code) l.deal
-      → LeadsTo l.deal (bodies_of script) l.order l.limit l.verdict l.short.events l.short.steps;
-  rest : (script : ScriptText) → AreOf script (listing l.code) l.deal → (left : List Moment)
-      → Reduces (HasVerdict l.deal (bodies_of script) l.order l.limit l.verdict) l.short.events left
-      → Reduces (HasVerdict l.deal (bodies_of script) l.order l.limit l.verdict) l.fn.whole.events
-      left;
-}
+invariant-rounds g l =
+    let deal = l.ready.deal.now in
+    let bodies = bodies_of_code (listing l.ready.code.now) in
+    record {
+      few : length l.short.events ≤ 7;
+      leads : LeadsTo deal bodies l.order l.limit l.verdict l.short.events l.short.steps;
+      rest : (left : List Moment)
+          → Reduces (HasVerdict deal bodies l.order l.limit l.verdict) l.short.events left
+          → Reduces (HasVerdict deal bodies l.order l.limit l.verdict) l.fn.whole.events left;
+    }
 
 abbrev pub decreases-rounds : goal.decreases-rounds
 decreases-rounds g l = length l.short.events

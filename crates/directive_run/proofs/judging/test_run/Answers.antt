@@ -9,11 +9,11 @@ use Rattle.directive_run.proofs.OrderRuns.{ended-run}
 use Rattle.directive_run.proofs.judging.test_run.Goals as goal
 
 pub verdict-verdict-requires : goal.verdict-verdict-requires
-verdict-verdict-requires c = let run = c.requires.run.2.run in (run.verdict, run.ends)
+verdict-verdict-requires c = let run = (c.requires.run.1).run in (run.verdict, run.ends)
 
 pub returns-then-many-task : goal.returns-then-many-task
-returns-then-many-task c = λ script order is.
-    let setup = directed_setup script c.args.task.now in
+returns-then-many-task c = λ order is.
+    let setup = directed_setup c.args.task.now in
     let events = setup.directive.events in
     let made = c.args.played.now.events in
     let verdict = c.verdict-verdict.result in
@@ -24,8 +24,8 @@ returns-then-many-task c = λ script order is.
     made verdict refl ran c.len-many.ensures c.if-many-task.true
 
 pub returns-then-not-is : goal.returns-then-not-is
-returns-then-not-is c = λ script order is.
-    let setup = directed_setup script c.args.task.now in
+returns-then-not-is c = λ order is.
+    let setup = directed_setup c.args.task.now in
     let events = setup.directive.events in
     let made = c.args.played.now.events in
     let verdict = c.verdict-verdict.result in
@@ -41,8 +41,8 @@ returns-then-not-is c = λ script order is.
     (omega (arith, c.len-many.ensures, c.if-many-task.false))
 
 pub returns : goal.returns
-returns c = λ script order is.
-    let setup = directed_setup script c.args.task.now in
+returns c = λ order is.
+    let setup = directed_setup c.args.task.now in
     let events = setup.directive.events in
     let made = c.args.played.now.events in
     let verdict = c.verdict-verdict.result in

@@ -20,15 +20,16 @@ choices-init c =
     let made = c.in_ok-places.ensures in
     record {
       room = made.exact;
+      few = omega (arith, made.len);
       within = subst (All (λ place. place < c.args.task.now.choices)) (sym made.items)
           (All-nil (λ place. place < c.args.task.now.choices));
       end = omega (arith, c.requires.within);
       from = omega arith;
       begins = λ same. made.len;
-      ahead = λ script of.
-          subst (λ l. AreAhead (setup_of_task script c.args.task.now) c.args.reach.longest
+      ahead =
+          subst (λ l. AreAhead (setup_of_task c.args.task.now) c.args.reach.longest
           c.args.reach.place l c.args.reach.place) (sym made.items)
-          (nothing-ahead (setup_of_task script c.args.task.now) c.args.reach.longest
+          (nothing-ahead (setup_of_task c.args.task.now) c.args.reach.longest
           c.args.reach.place);
     }
 
@@ -47,6 +48,13 @@ choices-preserved c =
           ap (λ v. v.items) w.places-is ∙ pushed.items in
           record {
             room = ap (λ v. v.cap) w.places-is ∙ pushed.capacity ∙ at.invariant.room;
+            few = omega (
+              arith,
+              ap (λ v. v.len) w.places-is,
+              pushed.len,
+              c.if-len-most.true,
+              c.len.ensures,
+            );
             within =
                 subst (All (λ place. place < task.choices)) (sym items)
                 (All-append (λ place. place < task.choices) at.places.items (at.end ∷ [])
@@ -54,26 +62,27 @@ choices-preserved c =
             end = omega (arith, c.choices-test.true);
             from = omega (arith, at.invariant.from);
             begins = λ same. absurd (omega (arith, same, at.invariant.from));
-            ahead = λ script of.
-                subst (λ l. AreAhead (setup_of_task script task) c.args.reach.longest
+            ahead =
+                subst (λ l. AreAhead (setup_of_task task) c.args.reach.longest
                 c.args.reach.place l (at.end + 1)) (sym items)
-                (taken-on (setup_of_task script task) c.args.reach.longest c.args.reach.place
-                at.end at.places.items (at.invariant.ahead script of));
+                (taken-on (setup_of_task task) c.args.reach.longest c.args.reach.place
+                at.end at.places.items at.invariant.ahead);
           }
       | else-stands_for-gt0 w ↦
           let items : c.if-stands_for-gt0.places.items ≡ at.places.items =
           ap (λ v. v.items) w.places-is in
           record {
             room = ap (λ v. v.cap) w.places-is ∙ at.invariant.room;
+            few = omega (arith, ap (λ v. v.len) w.places-is, at.invariant.few);
             within = subst (All (λ place. place < task.choices)) (sym items) at.invariant.within;
             end = omega (arith, c.choices-test.true);
             from = omega (arith, at.invariant.from);
             begins = λ same. absurd (omega (arith, same, at.invariant.from));
-            ahead = λ script of.
-                subst (λ l. AreAhead (setup_of_task script task) c.args.reach.longest
+            ahead =
+                subst (λ l. AreAhead (setup_of_task task) c.args.reach.longest
                 c.args.reach.place l (at.end + 1)) (sym items)
-                (passed-by (setup_of_task script task) c.args.reach.longest c.args.reach.place
-                at.end at.places.items (at.invariant.ahead script of)
+                (passed-by (setup_of_task task) c.args.reach.longest c.args.reach.place
+                at.end at.places.items at.invariant.ahead
                 (λ choice there. omega (
                   arith,
                   w.if-stands_for-gt0.false,
@@ -84,6 +93,7 @@ choices-preserved c =
 
 pub returns : goal.returns
 returns c = record {
+  few = omega (arith, c.choices.invariant.few, c.choices.places.ok.0);
   within = c.choices.invariant.within;
   end = c.choices.invariant.end;
   goes_on = elim c.choices-test.branch [

@@ -11,19 +11,17 @@ use Rattle.sweep.proofs.batches.count_run.Goals as goal
 
 pub verdict-requires : goal.verdict-requires
 verdict-requires c =
-    let run = (c.requires.run c.requires.script.0 c.requires.script.1).run in
+    let run = (c.requires.run).run in
     (run.verdict, run.ends)
 
 pub add_copies-requires : goal.add_copies-requires
 add_copies-requires c =
     let task = c.args.task.now in
-    let script = c.requires.script.0 in
-    let of = c.requires.script.1 in
-    let setup = setup_of_task script task in
-    let is = c.requires.run script of in
+    let setup = setup_of_task task in
+    let is = c.requires.run in
     let before = pass-by setup task.some_steps c.args.reach c.args.tally.now c.args.place
     c.requires.ahead (omega (arith, c.requires.place, task.whole))
-    (c.requires.above script of) (c.requires.before script of) in (
+    c.requires.above c.requires.before in (
       spread (often_in setup) setup 0 (take c.args.place (choices_of setup)),
       before.counted,
       omega (
@@ -42,14 +40,14 @@ add_copies-requires c =
     )
 
 pub returns-clause-counted : goal.returns-clause-counted
-returns-clause-counted c = λ script of.
+returns-clause-counted c =
     let task = c.args.task.now in
-    let setup = setup_of_task script task in
-    let is = c.requires.run script of in
+    let setup = setup_of_task task in
+    let is = c.requires.run in
     let here = record c.args.reach { place = c.args.place } in
     let before = pass-by setup task.some_steps c.args.reach c.args.tally.now c.args.place
     c.requires.ahead (omega (arith, c.requires.place, task.whole))
-    (c.requires.above script of) (c.requires.before script of) in
+    c.requires.above c.requires.before in
     let rows = spread (often_in setup) setup 0 (take c.args.place (choices_of setup)) in
     run-counted setup here _ c.args.tally.now c.add_copies.new.tally c.args.played.now _
     c.stands_for.result is before c.from.ensures c.len-steps.ensures c.verdict.ensures

@@ -1,0 +1,30 @@
+-- The test's run is the directed run of the order at the place.
+use Rattle.std.proofs.Common.{length, subst, sym, ap, ◌∙◌}
+use Rattle.rank_now.specs.Order.{IsOrder}
+use Rattle.directive_run.specs.Tested.{directed_setup}
+use Rattle.directive_run.proofs.Certificates.{low-at}
+use Rattle.directive_run.proofs.OrderRuns.{order-tried}
+use Rattle.directive_run.proofs.batches.TaskBatch.test.Goals as goal
+
+pub test_by_events-requires-clause-order : goal.test_by_events-requires-clause-order
+test_by_events-requires-clause-order c =
+    let task = c.args.self.now in
+    let low =
+    low-at task.script.deal.now.threads task.directive.now.low c.args.place c.in_ok-order.order
+    task.low c.in_ok-order.ensures in
+    subst IsOrder (sym c.as_slice-order.ensures) low.is_order
+
+pub test_by_events-requires-clause-whole : goal.test_by_events-requires-clause-whole
+test_by_events-requires-clause-whole c =
+    let task = c.args.self.now in
+    let low =
+    low-at task.script.deal.now.threads task.directive.now.low c.args.place c.in_ok-order.order
+    task.low c.in_ok-order.ensures in
+    ap length c.as_slice-order.ensures ∙ low.whole
+
+pub returns-clause-run : goal.returns-clause-run
+returns-clause-run c =
+    let task = c.args.self.now in
+    order-tried (directed_setup task) c.args.place c.test_by_events.result c.in_ok-order.order
+    c.as_slice-order.result.now c.as_slice-events.result.now task.small_limit c.in_ok-order.ensures
+    c.as_slice-order.ensures c.as_slice-events.ensures c.test_by_events.ensures.run

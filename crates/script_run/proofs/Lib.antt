@@ -1,0 +1,4 @@
+pub mod Laws
+pub mod Codes
+pub mod Runs
+pub mod Places

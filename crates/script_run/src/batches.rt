@@ -1,0 +1,158 @@
+//! Batches of runs, which are made at once by threads, or one after another by the caller.
+
+ghost use Rattle.std.specs.Prelude.{◌≡◌, ◌≤◌, ◌<◌, ◌+◌, length, IfOk};
+ghost use Rattle.worker_run.specs.Tests.{AreTests};
+ghost use Rattle.script_run.specs.Tests.{Tries};
+ghost use Rattle.script_run.specs.Batches.{Decides, FromPlace};
+
+use crate::batch::Batch;
+use pct_outside::Gate;
+use std::alloc::{AllocError as NoMemory, Global};
+use std::sync::Wait;
+use std::thread::Threads;
+use worker_run::{Played, Serving, Test, run_by_caller, run_many_by};
+
+/// The tests from one place to before another.
+fn tests_of<T: Batch>(
+    alloc: Global,
+    batch: &T,
+    start: u32,
+    end: u32,
+) -> Result<Vec<Test<T::Policy, T::Body>>, NoMemory>
+    requires places { start ≤ end }
+    requires within { end ≤ T.size batch.now }
+    ensures long { IfOk result (λ tests. start + length tests.items ≡ end) }
+    ensures asked { IfOk result
+        (λ tests. AreTests T.Body.pending T.Policy.plan T.Policy.stands tests.items) }
+    ensures tests { IfOk result (λ tests. FromPlace
+        (λ place. Tries T.Body.pending T.Policy.plan (T.is_run batch.now place))
+        start tests.items) }
+{
+    let mut tests = Vec::with_capacity(alloc, (end - start) as usize)?;
+    for place in start..end {
+        let test = batch.test(alloc, place)?;
+        tests.push_reserved(test);
+    }
+    Ok(tests)
+}
+
+/// The runs from one place to before another, made at once by threads.
+fn runs_of<R: Threads + Wait + Sync, T: Batch, G: Gate>(
+    rt: &R,
+    alloc: Global,
+    batch: &T,
+    start: u32,
+    end: u32,
+    serving: &mut Serving,
+    gate: &G,
+) -> Result<Vec<Played>, NoMemory>
+    requires places { start ≤ end }
+    requires within { end ≤ T.size batch.now }
+    ensures long { IfOk result (λ runs. start + length runs.items ≡ end) }
+    ensures runs { IfOk result (λ runs. FromPlace (T.is_run batch.now) start runs.items) }
+{
+    let tests = tests_of(alloc, batch, start, end)?;
+    run_many_by(rt, alloc, tests, serving, gate)
+}
+
+/// Takes runs in their order, up to one that comes to an answer.
+fn take_runs<T: Batch>(
+    alloc: Global,
+    batch: &T,
+    kept: &mut T::Kept,
+    start: u32,
+    end: u32,
+    runs: &[Played],
+) -> Result<Option<T::Answer>, NoMemory>
+    requires places { start ≤ end }
+    requires within { end ≤ T.size batch.now }
+    requires long { start + length runs.now ≡ end }
+    requires runs { FromPlace (T.is_run batch.now) start runs.now }
+    requires stands { T.stands batch.now kept.old start }
+    ensures { IfOk result (Decides (T.stands batch.now) (T.answers batch.now) kept.new end) }
+{
+    for place in start..end {
+        let played = &runs[(place - start) as usize];
+        if let Some(answer) = batch.take(alloc, kept, place, played)? {
+            return Ok(Some(answer));
+        }
+    }
+    Ok(None)
+}
+
+/// The run at a place, made by the caller.
+fn run_of<R: Wait, T: Batch, G: Gate>(
+    rt: &R,
+    alloc: Global,
+    batch: &T,
+    place: u32,
+    serving: &mut Serving,
+    gate: &G,
+) -> Result<Played, NoMemory>
+    requires { place < T.size batch.now }
+    ensures { IfOk result (T.is_run batch.now place) }
+{
+    let test = batch.test(alloc, place)?;
+    run_by_caller(rt, alloc, test, serving, gate)
+}
+
+/// Makes the runs from one place to before another by the caller, and takes each before the next is
+/// made, up to one that comes to an answer.
+fn run_alone<R: Wait, T: Batch, G: Gate>(
+    rt: &R,
+    alloc: Global,
+    batch: &T,
+    kept: &mut T::Kept,
+    start: u32,
+    end: u32,
+    serving: &mut Serving,
+    gate: &G,
+) -> Result<Option<T::Answer>, NoMemory>
+    requires places { start ≤ end }
+    requires within { end ≤ T.size batch.now }
+    requires stands { T.stands batch.now kept.old start }
+    ensures { IfOk result (Decides (T.stands batch.now) (T.answers batch.now) kept.new end) }
+{
+    for place in start..end {
+        let played = run_of(rt, alloc, batch, place, serving, gate)?;
+        if let Some(answer) = batch.take(alloc, kept, place, &played)? {
+            return Ok(Some(answer));
+        }
+        serving.take_back(played)?;
+    }
+    Ok(None)
+}
+
+/// Makes the runs from one place to before another, and takes them in their order, up to one that
+/// comes to an answer. They are made at once by threads, or one after another by the caller, who
+/// serves what comes next, too, where there is no memory for threads.
+pub fn run_batch<R: Threads + Wait + Sync, T: Batch, G: Gate>(
+    rt: &R,
+    alloc: Global,
+    batch: &T,
+    kept: &mut T::Kept,
+    start: u32,
+    end: u32,
+    serving: &mut Serving,
+    gate: &G,
+) -> Result<Option<T::Answer>, NoMemory>
+    requires places { start ≤ end }
+    requires within { end ≤ T.size batch.now }
+    requires stands { T.stands batch.now kept.old start }
+    ensures { IfOk result (Decides (T.stands batch.now) (T.answers batch.now) kept.new end) }
+{
+    if serving.is_by_caller() {
+        return run_alone(rt, alloc, batch, kept, start, end, serving, gate);
+    }
+    match runs_of(rt, alloc, batch, start, end, serving, gate) {
+        Ok(runs) => {
+            let answer = take_runs(alloc, batch, kept, start, end, runs.as_slice())?;
+            serving.take_all_back(runs)?;
+            Ok(answer)
+        }
+        Err(NoMemory) => {
+            serving.leave_to_caller();
+            run_alone(rt, alloc, batch, kept, start, end, serving, gate)
+        }
+    }
+}

@@ -1,0 +1,24 @@
+//! A script that is ready to run, `ReadyScript`: its code, and what its threads share. Its whole
+//! runs, and its runs in batches, which are made and taken by one trait, `Batch`.
+//!
+//! What is proved, by call and clause; in parentheses the definitions:
+//!
+//! - A script's run by an order and points is the run of its threads, and by an order and moments
+//!   the directed run, whoever serves: `ReadyScript::run_by_points`: `run`, `played`, `few`;
+//!   `ReadyScript::run_by_events`: `directed`, `few` (`run`, `directed_run`, `AreOf`); said of its
+//!   code in both: `code` (`bodies_of_code`).
+//! - So are the runs of its tests: `ReadyScript::test_by_points`: `run`, `asked`;
+//!   `ReadyScript::test_by_events`: `run`, `asked` (`Tries`, `IsRunByPoints`, `IsRunByEvents`).
+//! - The runs of a batch are taken in their order, each once, as the run that its place has, up to
+//!   the first that comes to an answer, whoever serves: `run_batch`, its clause (`Decides`), over
+//!   what is asked of `Batch::test`: `asked`, `run`; `Batch::take`, its clause.
+#![tactic(auto)]
+
+mod batch;
+mod batches;
+mod ready;
+mod running;
+
+pub use batch::Batch;
+pub use batches::run_batch;
+pub use ready::ReadyScript;

@@ -1,0 +1,122 @@
+//! Whole runs of a script, by an order of its threads, with change points or with moments in their
+//! place.
+
+ghost use Rattle.std.specs.Prelude.{◌≡◌, ◌≤◌, length, IfOk, Some};
+ghost use Rattle.pct_ask.specs.declared.verdict.Outcome.{Outcome};
+ghost use Rattle.rank_now.specs.Order.{IsOrder};
+ghost use Rattle.policy_pick.specs.Plan.{ByPoints};
+ghost use Rattle.script_tree.specs.ScriptText.{ScriptText};
+ghost use Rattle.script_code.specs.Listing.{listing};
+ghost use Rattle.script_body.specs.Bodies.{bodies_of, AreOf};
+ghost use Rattle.worker_run.specs.Run.{run, directed_run};
+ghost use Rattle.worker_run.specs.Played.{IsPlayed};
+ghost use Rattle.worker_run.specs.Tests.{IsTest, IsRunOf};
+ghost use Rattle.script_run.specs.Ready.{bodies_of_code};
+ghost use Rattle.pct_ask.specs.declared.limits.TheConstants.{MAX_POINTS, MAX_STEPS};
+
+use crate::ready::ReadyScript;
+use pct_ask::Body;
+use pct_outside::Gate;
+use policy_pick::{Moment, Policy};
+use std::alloc::{AllocError as NoMemory, Global};
+use std::sync::Wait;
+use std::thread::Threads;
+use worker_run::{Played, Serve, Serving, Test, WholeRun, run_by_caller, run_threads};
+
+/// The run of a test, whose bodies are served by threads or by the caller.
+fn run_test<R: Threads + Wait + Sync, P: Policy, B: Body, G: Gate>(
+    rt: &R,
+    alloc: Global,
+    test: Test<P, B>,
+    serve: Serve,
+    gate: &G,
+) -> Result<Played, NoMemory>
+    requires test { IsTest B.pending P.plan P.stands test }
+    ensures { IfOk result (IsRunOf B.pending P.plan test) }
+{
+    match serve {
+        Serve::Threads => {
+            let Test {
+                deal,
+                policy,
+                limit,
+                bodies,
+            } = test;
+            run_threads(rt, alloc, deal, policy, limit, bodies, gate)
+        }
+        Serve::Caller => {
+            let mut serving = Serving::new(alloc, serve);
+            run_by_caller(rt, alloc, test, &mut serving, gate)
+        }
+    }
+}
+
+impl ReadyScript<'_> {
+    /// The run under an order of the threads, the highest first, and change points, which are
+    /// numbers of steps from 1. It has at most `limit` steps. The bodies are served by threads, one
+    /// for each, or by the caller. The gate is passed before each post.
+    pub fn run_by_points<R: Threads + Wait + Sync, G: Gate>(
+        &self,
+        rt: &R,
+        alloc: Global,
+        order: &[u32],
+        points: &[u32],
+        limit: u32,
+        serve: Serve,
+        gate: &G,
+    ) -> Result<WholeRun, NoMemory>
+        requires order { IsOrder order.now }
+        requires whole { length order.now ≡ self.now.deal.now.threads }
+        requires few_points { length points.now ≤ MAX_POINTS }
+        requires some_steps { 1 ≤ limit }
+        requires few_steps { limit ≤ MAX_STEPS }
+        ensures code { IfOk result (λ whole. run self.now.deal.now
+            (bodies_of_code (listing self.now.code.now)) order.now points.now limit
+            ≡ Some (whole.events, whole.verdict)) }
+        ensures run { (script : ScriptText)
+            → AreOf script (listing self.now.code.now) self.now.deal.now
+            → IfOk result (λ whole. run self.now.deal.now (bodies_of script) order.now points.now
+            limit ≡ Some (whole.events, whole.verdict)) }
+        // The same, as the run that is played by these priorities.
+        ensures played { (script : ScriptText)
+            → AreOf script (listing self.now.code.now) self.now.deal.now
+            → IfOk result (λ whole. IsPlayed (ByPoints order.now points.now) self.now.deal.now
+            (bodies_of script) limit whole.events (Outcome.Verdict whole.verdict)) }
+        ensures few { IfOk result (λ whole. length whole.events ≤ limit) }
+    {
+        let test = self.test_by_points(alloc, order, points, limit)?;
+        let played = run_test(rt, alloc, test, serve, gate)?;
+        Ok(played.into_whole())
+    }
+
+    /// The same with moments in the place of change points: a thread is lowered after its own step
+    /// of a number, from 1.
+    pub fn run_by_events<R: Threads + Wait + Sync, G: Gate>(
+        &self,
+        rt: &R,
+        alloc: Global,
+        order: &[u32],
+        events: &[Moment],
+        limit: u32,
+        serve: Serve,
+        gate: &G,
+    ) -> Result<WholeRun, NoMemory>
+        requires order { IsOrder order.now }
+        requires whole { length order.now ≡ self.now.deal.now.threads }
+        requires few_events { length events.now ≤ MAX_POINTS }
+        requires some_steps { 1 ≤ limit }
+        requires few_steps { limit ≤ MAX_STEPS }
+        ensures code { IfOk result (λ whole. directed_run self.now.deal.now
+            (bodies_of_code (listing self.now.code.now)) order.now events.now limit
+            ≡ Some (whole.events, whole.verdict)) }
+        ensures directed { (script : ScriptText)
+            → AreOf script (listing self.now.code.now) self.now.deal.now
+            → IfOk result (λ whole. directed_run self.now.deal.now (bodies_of script) order.now
+            events.now limit ≡ Some (whole.events, whole.verdict)) }
+        ensures few { IfOk result (λ whole. length whole.events ≤ limit) }
+    {
+        let test = self.test_by_events(alloc, order, events, limit)?;
+        let played = run_test(rt, alloc, test, serve, gate)?;
+        Ok(played.into_whole())
+    }
+}

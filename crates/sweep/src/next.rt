@@ -1,0 +1,45 @@
+// What is counted of a sweep, and the choices that come next.
+ghost use Rattle.std.specs.Prelude.{◌≤◌, ◌<◌, All};
+
+use crate::ahead::Ahead;
+use crate::task::{Reach, Task};
+use failure_rank::Tally;
+use std::alloc::Global;
+
+/// The rows that are counted, and how far the sweep has come.
+#[derive(Drop)]
+pub struct Counts {
+    pub tally: Tally,
+    pub reach: Reach,
+}
+
+impl Counts {
+    ghost use Rattle.std.specs.Prelude.{◌≡◌, []};
+    ghost use Rattle.failure_rank.specs.Growing.{IsTally};
+
+    /// Before the first choice.
+    pub fn new(alloc: Global) -> Counts
+        ensures tally { IsTally [] result.tally }
+        ensures place { result.reach.place ≡ 0 }
+        ensures longest { result.reach.longest ≡ 1 }
+    {
+        let reach = Reach {
+            place: 0,
+            longest: 1,
+        };
+        Counts {
+            tally: Tally::new(alloc),
+            reach,
+        }
+    }
+}
+
+/// The choices whose runs come next, and how far the sweep has come before them.
+#[derive(Clone, Copy)]
+pub struct Next<'n> {
+    pub task: Task<'n>,
+    pub ahead: &'n Ahead,
+    pub before: Reach,
+    ghost within: { All (λ place. place < task.choices) ahead.now.places.items },
+    ghost end: { ahead.now.end ≤ task.choices },
+}
