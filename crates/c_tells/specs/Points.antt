@@ -7,6 +7,7 @@ use Rattle.c_values.specs.declared.event.PctEvent.{PctEvent}
 use Rattle.c_values.specs.declared.moment.PctMoment.{PctMoment}
 use Rattle.c_values.specs.Events.{AreSteps}
 use Rattle.c_values.specs.Moments.{moment_said}
+use Rattle.pct_ask.specs.declared.limits.TheConstants.{MAX_POINTS, MAX_STEPS}
 
 -- one change point for each of at most 7 moments, in the run of these steps; `most` is in
 -- 1..100000,
@@ -16,7 +17,7 @@ pub record ArePointsOf (steps : List PctEvent) (most : ℕ) (moments : List PctM
   pub events : List Event
   pub run : AreSteps steps events
   pub some : 1 ≤ most
-  pub few_steps : most ≤ 100000
-  pub few : length moments ≤ 7
+  pub few_steps : most ≤ MAX_STEPS
+  pub few : length moments ≤ MAX_POINTS
   pub whole : length moments ≡ room
   pub points_are : points ≡ points_of (schedule_of events) most (map moment_said moments)

@@ -7,7 +7,7 @@ ghost use Rattle.c_tells.specs.Moments.{AreMomentsOf};
 
 use c_values::{PctEvent, PctMoment, Refused, numbers_of_moment, steps_of};
 use choices::moments_of;
-use pct_ask::Sequence;
+use pct_ask::{MAX_POINTS, Sequence};
 use policy_pick::Moment;
 use std::alloc::{AllocError as NoMemory, Global};
 
@@ -35,7 +35,7 @@ pub fn moments_told(
 ) -> Result<Sequence<PctMoment>, Refused>
     ensures { Answers (AreMomentsOf steps.now points.now) result }
 {
-    if points.len() > 7 || !are_steps(points) {
+    if points.len() > MAX_POINTS || !are_steps(points) {
         return Err(Refused::Bad);
     }
     let events = steps_of(alloc, steps)?;

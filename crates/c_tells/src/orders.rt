@@ -7,13 +7,13 @@ ghost use Rattle.c_tells.specs.Orders.{AreFew, MayBound, IsOrderAt};
 
 use c_values::Refused;
 use choices::{bound_of, low_order_at, order_count};
-use pct_ask::OrderList;
+use pct_ask::{MAX_CERTIFIED_THREADS, MAX_POINTS, MAX_STEPS, OrderList};
 use std::alloc::Global;
 
 fn are_few(threads: u32) -> bool
     ensures { IsTrue result ↔ AreFew threads }
 {
-    1 <= threads && threads <= 7
+    1 <= threads && threads <= MAX_CERTIFIED_THREADS
 }
 
 /// How many orders of 1 to 7 threads place a given one last.
@@ -54,7 +54,7 @@ pub fn bound_told(threads: u32, steps: u32, points: u32) -> Option<u128>
     ensures { MatchOption result (¬ MayBound threads steps points)
         (λ bound. MayBound threads steps points × (bound ≡ threads * steps ^ points)) }
 {
-    if !are_few(threads) || steps == 0 || steps > 100_000 || points > 7 {
+    if !are_few(threads) || steps == 0 || steps > MAX_STEPS || points > MAX_POINTS as u32 {
         return None;
     }
     Some(bound_of(threads, steps, points as usize))

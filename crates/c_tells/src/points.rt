@@ -6,7 +6,7 @@ ghost use Rattle.c_tells.specs.Points.{ArePointsOf};
 
 use c_values::{PctEvent, PctMoment, Refused, moments_of, steps_of};
 use choices::points_of;
-use pct_ask::PointList;
+use pct_ask::{MAX_POINTS, MAX_STEPS, PointList};
 use std::alloc::Global;
 
 /// The change points that stand for moments in a run's steps: a moment that doesn't occur is
@@ -20,7 +20,7 @@ pub fn points_told(
 ) -> Result<PointList, Refused>
     ensures { Answers (ArePointsOf steps.now most moments.now room) result }
 {
-    if most == 0 || most > 100_000 || moments.len() > 7 || moments.len() != room {
+    if most == 0 || most > MAX_STEPS || moments.len() > MAX_POINTS || moments.len() != room {
         return Err(Refused::Bad);
     }
     let events = steps_of(alloc, steps)?;

@@ -4,4 +4,3 @@ mod MomentArrays
 mod SaidRows
 mod SaidVerdicts
 mod SameNames
-mod WrongOrders

@@ -11,6 +11,7 @@ use Rattle.c_values.specs.NamesText.{names_of_text}
 use Rattle.c_values.specs.Outcomes.{outcome_numbers}
 use Rattle.c_texts.specs.declared.directives.PctDirective.{PctDirective}
 use Rattle.c_texts.specs.Known.{SaysKnown}
+use Rattle.pct_ask.specs.declared.limits.TheConstants.{MAX_POINTS}
 
 -- The numbers say the directive, and it has a text under the names: its threads have names, and
 -- there
@@ -20,7 +21,7 @@ pub record SaysDirective (names : NameLists) (numbers : PctDirective) (told : Di
   pub says : SaysKnown names numbers.verdict told.verdict
   pub low_is : told.low ≡ numbers.low
   pub low_named : told.low < length names.threads
-  pub few : numbers.count ≤ 7
+  pub few : numbers.count ≤ MAX_POINTS
   pub moments : told.events ≡ map moment_said (take numbers.count numbers.moments)
   pub lawful : All (IsMoment names) told.events
 

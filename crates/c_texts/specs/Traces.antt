@@ -4,7 +4,7 @@ use Rattle.pct_ask.specs.NameLists.{NameLists}
 use Rattle.pct_ask.specs.TraceText.{TraceHead, trace_text}
 use Rattle.pct_ask.specs.declared.event.Event.{Event}
 use Rattle.pct_ask.specs.declared.verdict.Verdict.{Verdict}
-use Rattle.trace_text.specs.Lawful.{IsHead, IsStepCount, NamesKnown, is_of_second}
+use Rattle.trace_text.specs.Lawful.{IsHead, NamesKnown, is_of_second}
 use Rattle.trace_text.specs.Trace.{head_of}
 use Rattle.trace_text.specs.declared.file.Header.{Header}
 use Rattle.c_values.specs.declared.event.PctEvent.{PctEvent}
@@ -12,6 +12,8 @@ use Rattle.c_values.specs.declared.outcome.PctOutcome.{PctOutcome}
 use Rattle.c_values.specs.Events.{AreSteps}
 use Rattle.c_values.specs.NamesText.{names_of_text}
 use Rattle.c_texts.specs.Known.{SaysKnown}
+use Rattle.pct_ask.specs.declared.limits.TheConstants.{MAX_POINTS}
+use Rattle.pct_ask.specs.Limits.{IsStepCount}
 
 -- the head of these numbers
 abbrev pub head_by : ℕ → ℕ → List ℕ → List ℕ → TraceHead
@@ -22,7 +24,7 @@ head_by version limit order points =
 pub record IsPlainHead (threads : ℕ) (head : TraceHead) : Type 0 where
   pub version : (head.version ≡ 1) ⊎ (head.version ≡ 2)
   pub whole : length head.order ≡ threads
-  pub few_points : length head.points ≤ 7
+  pub few_points : length head.points ≤ MAX_POINTS
   pub points : All IsStepCount head.points
   pub limit : IsStepCount head.limit
 

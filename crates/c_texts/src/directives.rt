@@ -6,13 +6,14 @@ ghost use Rattle.directive.specs.Answers.{plain_directive};
 ghost use Rattle.c_values.specs.Told.{Answers};
 ghost use Rattle.c_values.specs.Moments.{moment_numbers};
 ghost use Rattle.c_texts.specs.Directives.{SaysDirective, IsDirectiveText, TellsDirective};
+ghost use Rattle.pct_ask.specs.declared.limits.TheConstants.{MAX_POINTS};
 
 use crate::known::known_verdict;
 use c_values::{
     PctMoment, PctOutcome, Refused, moments_of, names_said, numbers_of_moment, numbers_of_verdict,
 };
 use directive::{Directive, write_directive};
-use pct_ask::{NameKind, Names, Sequence};
+use pct_ask::{MAX_POINTS, MAX_STEPS, NameKind, Names, Sequence};
 use policy_pick::{Moment, MomentList};
 use std::alloc::Global;
 
@@ -32,7 +33,7 @@ fn are_moments(names: &Names, moments: &[Moment]) -> bool
     let threads = names.count(NameKind::Thread);
     moments.iter().all(|moment| moment.thread < threads
         && 1 <= moment.number
-        && moment.number <= 100_000)
+        && moment.number <= MAX_STEPS)
 }
 
 /// The directive that the numbers say, where it may be written under the names.
@@ -40,7 +41,7 @@ fn directive_of(alloc: Global, names: &Names, numbers: &PctDirective) -> Result<
     ensures { Answers (λ told. SaysDirective names.now numbers.now (plain_directive told)) result }
 {
     let verdict = known_verdict(names, &numbers.verdict)?;
-    if numbers.count > 7 || numbers.low >= names.count(NameKind::Thread) {
+    if numbers.count > MAX_POINTS as u32 || numbers.low >= names.count(NameKind::Thread) {
         return Err(Refused::Bad);
     }
     let moments = moments_of(alloc, &numbers.moments[..numbers.count as usize])?;
@@ -69,7 +70,7 @@ pub fn directive_text_told(
 
 /// The numbers of at most 7 moments, at the front of an array.
 fn moments_in(moments: &[Moment]) -> [PctMoment; 7]
-    requires { length moments.now ≤ 7 }
+    requires { length moments.now ≤ MAX_POINTS }
     ensures { take (length moments.now) result ≡ map moment_numbers moments.now }
 {
     let mut numbers = [PctMoment {

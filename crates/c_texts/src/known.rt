@@ -8,12 +8,12 @@ ghost use Rattle.c_values.specs.Told.{Answers};
 ghost use Rattle.c_texts.specs.Known.{IsKnownPlace, AreKnownBlocked, SaysKnown, IsKnown};
 
 use c_values::{PctOutcome, Refused, verdict_of};
-use pct_ask::{NameKind, Names, Verdict};
+use pct_ask::{MAX_LINES, NameKind, Names, Verdict};
 
 fn is_known_place(threads: u32, thread: u32, line: u32) -> bool
     ensures { IsTrue result ↔ IsKnownPlace threads (thread, line) }
 {
-    thread < threads && 1 <= line && line <= 4096
+    thread < threads && 1 <= line && line <= MAX_LINES
 }
 
 /// Whether each thread whose bit is set has a name, and its line is a test's.

@@ -4,38 +4,42 @@ ghost use Rattle.std.specs.Prelude.{◌≡◌, ◌≤◌, ◌↔◌, ◌⊎◌, 
 ghost use Rattle.pct_ask.specs.NameLists.{NameLists};
 ghost use Rattle.pct_ask.specs.Objects.{sizes_of_deal, sizes_of_names};
 ghost use Rattle.rank_now.specs.Order.{IsOrder};
-ghost use Rattle.trace_text.specs.Lawful.{HasObjects, NamesKnown, IsHead, IsStepCount};
+ghost use Rattle.trace_text.specs.Lawful.{HasObjects, NamesKnown, IsHead};
 ghost use Rattle.trace_text.specs.Lawful.{is_of_second};
 ghost use Rattle.trace_text.specs.Trace.{head_of};
 ghost use Rattle.c_values.specs.Told.{Answers};
 ghost use Rattle.c_texts.specs.Traces.{head_by, IsPlainHead, IsHeadOf, SaysSteps};
 ghost use Rattle.c_texts.specs.Traces.{IsOfVersion, IsTraceText};
+ghost use Rattle.pct_ask.specs.declared.limits.TheConstants.{MAX_THREADS};
+ghost use Rattle.pct_ask.specs.Limits.{IsStepCount};
 
 use crate::known::known_verdict;
 use c_values::{PctEvent, PctOutcome, Refused, deal_of_names, names_said, steps_of};
 use pct_ask::{
-    Ask, Deal, Event, EventList, MisuseKind, NameKind, Names, OrderList, PointList, Sequence,
-    Verdict,
+    Ask, Deal, Event, EventList, MAX_LINES, MAX_POINTS, MAX_STEPS, MisuseKind, NameKind, Names,
+    OrderList, PointList, Sequence, Verdict,
 };
-use rank_now::{RankError, Ranks};
+use rank_now::is_order;
 use std::alloc::Global;
 use trace_text::{Header, write_trace};
 
 fn are_step_counts(points: &[u32]) -> bool
     ensures { IsTrue result ↔ All IsStepCount points.now }
 {
-    points.iter().all(|point| 1 <= *point && *point <= 100_000)
+    points
+        .iter()
+        .all(|point| 1 <= *point && *point <= MAX_STEPS)
 }
 
 /// Refuses a list that is no order.
-fn check_order(alloc: Global, order: &[u32]) -> Result<(), Refused>
-    requires { length order.now ≤ 64 }
+fn check_order(order: &[u32]) -> Result<(), Refused>
+    requires { length order.now ≤ MAX_THREADS }
     ensures { Answers (λ _. IsOrder order.now) result }
 {
-    match Ranks::new(alloc, order, 0) {
-        Ok(_ranks) => Ok(()),
-        Err(RankError::NotAnOrder { .. }) => Err(Refused::Bad),
-        Err(RankError::NoMemory) => Err(Refused::NoMemory),
+    if is_order(order) {
+        Ok(())
+    } else {
+        Err(Refused::Bad)
     }
 }
 
@@ -81,7 +85,7 @@ fn is_known_step(version: u32, deal: &Deal, event: &Event) -> bool
 {
     event.thread < deal.threads
         && 1 <= event.line
-        && event.line <= 4096
+        && event.line <= MAX_LINES
         && has_objects(version, deal, &event.ask)
 }
 
@@ -101,10 +105,10 @@ fn is_plain_head(threads: u32, version: u32, limit: u32, order: &[u32], points: 
 {
     (version == 1 || version == 2)
         && order.len() == threads as usize
-        && points.len() <= 7
+        && points.len() <= MAX_POINTS
         && are_step_counts(points)
         && 1 <= limit
-        && limit <= 100_000
+        && limit <= MAX_STEPS
 }
 
 /// The head of a trace that may be written under the names.
@@ -122,7 +126,7 @@ fn header_of(
     if !is_plain_head(threads, version, limit, order, points) {
         return Err(Refused::Bad);
     }
-    check_order(alloc, order)?;
+    check_order(order)?;
     Ok(Header {
         version,
         order: OrderList::from_vec(Vec::from_slice(alloc, order)?),

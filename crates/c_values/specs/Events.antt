@@ -5,6 +5,7 @@ use Rattle.pct_ask.specs.declared.event.Event.{Event}
 use Rattle.c_values.specs.declared.event.PctEvent.{PctEvent}
 use Rattle.c_values.specs.Asks.{ask_said}
 use Rattle.c_values.specs.Told.{all_said}
+use Rattle.pct_ask.specs.declared.limits.TheConstants.{MAX_STEPS}
 
 -- the step of an ask, if there is one, with the thread, the line and the answer of these numbers
 abbrev pub event_with : PctEvent → Option (Option Ask) → Option Event
@@ -32,4 +33,4 @@ SayEvents numbers events = events_said numbers ≡ Some events
 -- the numbers say these steps, at most 100000 of them
 pub record AreSteps (numbers : List PctEvent) (events : List Event) : Type 0 where
   pub say : SayEvents numbers events
-  pub few : length events ≤ 100000
+  pub few : length events ≤ MAX_STEPS

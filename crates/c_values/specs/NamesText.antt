@@ -11,6 +11,7 @@ use Rattle.pct_ask.specs.VerdictWords.{words_of}
 use Rattle.pct_ask.specs.declared.names.NameKind.{NameKind}
 use Rattle.pct_ask.specs.declared.names.NameKind.TheVariants.{Thread, Var, Mutex, Cond, Sem}
 use Rattle.pct_ask.specs.declared.names.NameKind.TheVariants.{Barrier, RwLock}
+use Rattle.pct_ask.specs.declared.limits.TheConstants.{MAX_OBJECTS}
 
 -- the kind that a word says
 abbrev pub kind_in : List ℕ → Option NameKind
@@ -30,7 +31,7 @@ kind_in word =
 abbrev pub may_join : NameLists → NameKind → List ℕ → Bool
 may_join names kind name =
     is_name 1 name
-    && (not (is_among name (all_names names)) && nat_lt (length (list_of kind names)) 64)
+    && (not (is_among name (all_names names)) && nat_lt (length (list_of kind names)) MAX_OBJECTS)
 
 -- the names with one more, of a kind where there is that kind
 abbrev pub joined_by : NameLists → List ℕ → Option NameKind → Option NameLists

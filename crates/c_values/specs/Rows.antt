@@ -5,6 +5,7 @@ use Rattle.pct_ask.specs.declared.event.Row.{Row}
 use Rattle.c_values.specs.declared.row.PctRow.{PctRow}
 use Rattle.c_values.specs.Outcomes.{verdict_said}
 use Rattle.c_values.specs.Told.{all_said}
+use Rattle.pct_ask.specs.declared.limits.TheConstants.{MAX_RUNS}
 
 -- the run that the numbers say, where they say a verdict
 abbrev pub row_said : PctRow → Option Row
@@ -15,4 +16,4 @@ row_said n =
 -- the numbers say these runs, at most 100000 of them
 pub record AreRows (numbers : List PctRow) (rows : List Row) : Type 0 where
   pub say : all_said row_said numbers ≡ Some rows
-  pub few : length rows ≤ 100000
+  pub few : length rows ≤ MAX_RUNS

@@ -9,7 +9,7 @@ ghost use Rattle.c_values.specs.Deals.{SaysDeal, AreLawfulCounts};
 ghost use Rattle.c_values.specs.Told.{Answers};
 
 use crate::refused::Refused;
-use pct_ask::{Deal, NameKind, Names, NumberList};
+use pct_ask::{Deal, MAX_OBJECTS, MAX_THREADS, NameKind, Names, NumberList};
 use std::alloc::{AllocError as NoMemory, Global};
 
 /// How many threads there are, and objects that have no first value.
@@ -40,13 +40,13 @@ fn are_lawful(counts: &PctDeal, vars: &[i64], sems: &[i64], barriers: &[i64]) ->
     ensures { IsTrue result ↔ AreLawfulCounts counts.now vars.now sems.now barriers.now }
 {
     1 <= counts.threads
-        && counts.threads <= 64
-        && vars.len() <= 64
-        && counts.mutexes <= 64
-        && counts.conditions <= 64
-        && sems.len() <= 64
-        && barriers.len() <= 64
-        && counts.rwlocks <= 64
+        && counts.threads as usize <= MAX_THREADS
+        && vars.len() <= MAX_OBJECTS
+        && counts.mutexes as usize <= MAX_OBJECTS
+        && counts.conditions as usize <= MAX_OBJECTS
+        && sems.len() <= MAX_OBJECTS
+        && barriers.len() <= MAX_OBJECTS
+        && counts.rwlocks as usize <= MAX_OBJECTS
         && are_sem_values(sems)
         && are_barrier_counts(barriers)
 }

@@ -6,7 +6,7 @@ ghost use Rattle.c_values.specs.Told.{Answers};
 
 use crate::ask::{PctAsk, ask_of, numbers_of_ask};
 use crate::refused::Refused;
-use pct_ask::{Event, EventList};
+use pct_ask::{Event, EventList, MAX_STEPS};
 use std::alloc::{AllocError as NoMemory, Global};
 
 /// A step as numbers.
@@ -64,7 +64,7 @@ pub fn events_of(alloc: Global, numbers: &[PctEvent]) -> Result<Option<EventList
 pub fn steps_of(alloc: Global, numbers: &[PctEvent]) -> Result<EventList, Refused>
     ensures { Answers (AreSteps numbers.now) result }
 {
-    if numbers.len() > 100_000 {
+    if numbers.len() > MAX_STEPS as usize {
         return Err(Refused::Bad);
     }
     match events_of(alloc, numbers)? {

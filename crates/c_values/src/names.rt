@@ -6,7 +6,7 @@ ghost use Rattle.c_values.specs.NamesText.{kind_in, with_words, joined_by, names
 ghost use Rattle.c_values.specs.Told.{Answers};
 
 use crate::refused::Refused;
-use pct_ask::{NameKind, Names, first_words, is_lawful_name, split_lines};
+use pct_ask::{MAX_OBJECTS, NameKind, Names, first_words, is_lawful_name, split_lines};
 use std::alloc::{AllocError as NoMemory, Global};
 
 fn says(word: &[u8], other: &[u8]) -> bool
@@ -52,7 +52,7 @@ fn join(
     let Some(kind) = kind else {
         return Ok(false);
     };
-    if !is_lawful_name(1, name) || names.contains(name) || names.count(kind) >= 64 {
+    if !is_lawful_name(1, name) || names.contains(name) || names.count(kind) >= MAX_OBJECTS as u32 {
         return Ok(false);
     }
     names.add(alloc, kind, name)?;

@@ -7,7 +7,7 @@ ghost use Rattle.c_values.specs.Told.{all_said, Answers};
 
 use crate::outcome::{PctOutcome, verdict_of};
 use crate::refused::Refused;
-use pct_ask::{Row, RowList, Verdict};
+use pct_ask::{MAX_RUNS, Row, RowList, Verdict};
 use std::alloc::{AllocError as NoMemory, Global};
 
 /// The run of a seed: how many steps it took, and how it ended.
@@ -62,7 +62,7 @@ fn all_rows(alloc: Global, numbers: &[PctRow]) -> Result<Option<RowList>, NoMemo
 pub fn rows_of(alloc: Global, numbers: &[PctRow]) -> Result<RowList, Refused>
     ensures { Answers (AreRows numbers.now) result }
 {
-    if numbers.len() > 100_000 {
+    if numbers.len() > MAX_RUNS as usize {
         return Err(Refused::Bad);
     }
     match all_rows(alloc, numbers)? {

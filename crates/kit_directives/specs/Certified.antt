@@ -14,6 +14,7 @@ use Rattle.directive_run.specs.declared.answers.Certified.TheVariants.{TooManyTh
 use Rattle.kit_directives.specs.Directed.{IsDirectedFile}
 use Rattle.kit_directives.specs.declared.judging.Judged.{Judged}
 use Rattle.kit_directives.specs.declared.judging.Judged.TheVariants.{Led, Other}
+use Rattle.pct_ask.specs.declared.limits.TheConstants.{MAX_CERTIFIED_THREADS}
 
 -- the order stands at the place, from 0, among those that place the directive's thread last
 abbrev pub IsOrderAt : Deal → Directive → ℕ → List ℕ → Type 0
@@ -85,14 +86,14 @@ JudgesAt deal directive steps limit place judged =
 -- there is a row for each order that places the thread last, and the bound is n k^m
 pub record IsCertified (deal : Deal) (directive : Directive) (steps limit bound : ℕ)
     (rows : List CertifyRow) : Type 0 where
-  pub few : deal.threads ≤ 7
+  pub few : deal.threads ≤ MAX_CERTIFIED_THREADS
   pub bound_is : bound ≡ deal.threads * steps ^ length directive.events
   pub rows_are : AreFirstRows deal directive steps limit (factorial (deal.threads - 1)) rows
 
 -- The answer is of the order at some place, and those before it are led to the verdict.
 pub record IsFirstOther (deal : Deal) (directive : Directive) (steps limit : ℕ)
     (certified : Certified) : Type 0 where
-  pub few : deal.threads ≤ 7
+  pub few : deal.threads ≤ MAX_CERTIFIED_THREADS
   pub rows : List CertifyRow
   pub before : AreFirstRows deal directive steps limit (length rows) rows
   pub order : List ℕ

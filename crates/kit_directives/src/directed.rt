@@ -1,6 +1,7 @@
 // Runs by moments.
 ghost use Rattle.std.specs.Prelude.{◌≡◌, ◌<◌, ◌≤◌, ◌^◌, length, IfOk, IfSome};
 ghost use Rattle.kit_directives.specs.Directed.{IsDirectedFile};
+ghost use Rattle.pct_ask.specs.declared.limits.TheConstants.{MAX_POINTS, MAX_STEPS};
 
 use choices::points_of;
 use kit_runs::{Program, RunError, run_program};
@@ -63,8 +64,8 @@ fn run_round<R: Threads + Wait + Sync, T: Program + Sync>(
     program: &T,
 ) -> Result<Option<TraceFile>, RunError>
     requires some_steps { 1 ≤ limit }
-    requires few_steps { limit ≤ 100000 }
-    requires few_points { length points.old ≤ 7 }
+    requires few_steps { limit ≤ MAX_STEPS }
+    requires few_points { length points.old ≤ MAX_POINTS }
     requires few_names { length order.now < 2 ^ 32 }
     requires fits { T.fits program.now deal.now }
     ensures long { length points.new ≡ length points.old }
@@ -98,8 +99,8 @@ pub fn run_directed<R: Threads + Wait + Sync, T: Program + Sync>(
     program: &T,
 ) -> Result<TraceFile, RunError>
     requires some_steps { 1 ≤ limit }
-    requires few_steps { limit ≤ 100000 }
-    requires few_moments { length moments.now ≤ 7 }
+    requires few_steps { limit ≤ MAX_STEPS }
+    requires few_moments { length moments.now ≤ MAX_POINTS }
     requires few_names { length order.now < 2 ^ 32 }
     requires fits { T.fits program.now deal.now }
     ensures run { IfOk result (λ file.

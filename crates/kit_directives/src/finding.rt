@@ -7,6 +7,7 @@ ghost use Rattle.choices.specs.Orders.{EndsIn};
 ghost use Rattle.kit_runs.specs.Runs.{IsFileOf};
 ghost use Rattle.kit_directives.specs.Directed.{LeadsTo};
 ghost use Rattle.kit_directives.specs.Found.{Finds};
+ghost use Rattle.pct_ask.specs.declared.limits.TheConstants.{MAX_POINTS, MAX_STEPS};
 
 use crate::reducing::{Short, reduce, steps_to};
 use choices::moments_of;
@@ -50,14 +51,14 @@ fn whole_moments<R: Threads + Wait + Sync, T: Program + Sync>(
     program: &T,
 ) -> Result<Short, RunError>
     requires some_steps { 1 ≤ limit }
-    requires few_steps { limit ≤ 100000 }
-    requires few_points { length points.now ≤ 7 }
+    requires few_steps { limit ≤ MAX_STEPS }
+    requires few_points { length points.now ≤ MAX_POINTS }
     requires points { All (λ point. 1 ≤ point) points.now }
     requires few_names { length order.now < 2 ^ 32 }
     requires fits { T.fits program.now deal.now }
     ensures moments { IfOk result (λ whole. whole.events
         ≡ moments_of (schedule_of made.now.events) points.now) }
-    ensures few { IfOk result (λ whole. length whole.events ≤ 7) }
+    ensures few { IfOk result (λ whole. length whole.events ≤ MAX_POINTS) }
     ensures leads { IfOk result (λ whole. LeadsTo deal.now order.now limit made.now.verdict
         whole.events whole.steps) }
 {
@@ -82,8 +83,8 @@ fn shorten<R: Threads + Wait + Sync, T: Program + Sync>(
     program: &T,
 ) -> Result<Found, RunError>
     requires some_steps { 1 ≤ limit }
-    requires few_steps { limit ≤ 100000 }
-    requires few_points { length points.now ≤ 7 }
+    requires few_steps { limit ≤ MAX_STEPS }
+    requires few_points { length points.now ≤ MAX_POINTS }
     requires points { All (λ point. 1 ≤ point) points.now }
     requires few_names { length order.now < 2 ^ 32 }
     requires fits { T.fits program.now deal.now }
@@ -115,8 +116,8 @@ fn find_of<R: Threads + Wait + Sync, T: Program + Sync>(
     program: &T,
 ) -> Result<Found, RunError>
     requires some_steps { 1 ≤ limit }
-    requires few_steps { limit ≤ 100000 }
-    requires few_points { length points.now ≤ 7 }
+    requires few_steps { limit ≤ MAX_STEPS }
+    requires few_points { length points.now ≤ MAX_POINTS }
     requires points { All (λ point. 1 ≤ point) points.now }
     requires few_names { length order.now < 2 ^ 32 }
     requires fits { T.fits program.now deal.now }
@@ -143,8 +144,8 @@ pub fn find<R: Threads + Wait + Sync, T: Program + Sync>(
     program: &T,
 ) -> Result<Found, RunError>
     requires some_steps { 1 ≤ header.now.limit }
-    requires few_steps { header.now.limit ≤ 100000 }
-    requires few_points { length header.now.points ≤ 7 }
+    requires few_steps { header.now.limit ≤ MAX_STEPS }
+    requires few_points { length header.now.points ≤ MAX_POINTS }
     requires points { All (λ point. 1 ≤ point) header.now.points }
     requires few_names { length header.now.order < 2 ^ 32 }
     requires fits { T.fits program.now deal.now }

@@ -4,6 +4,7 @@ ghost use Rattle.pct_ask.specs.declared.deal.Deal.{Deal};
 ghost use Rattle.choices.specs.Orders.{factorial};
 ghost use Rattle.kit_directives.specs.Directed.{IsDirectedFile};
 ghost use Rattle.kit_directives.specs.Certified.{Judges, JudgesAt};
+ghost use Rattle.pct_ask.specs.declared.limits.TheConstants.{MAX_CERTIFIED_THREADS, MAX_STEPS};
 
 use crate::directed::run_directed;
 use choices::{low_order_at, points_of};
@@ -33,7 +34,7 @@ fn judge(
     order: OrderList,
     file: &TraceFile,
 ) -> Result<Judged, NoMemory>
-    requires few { length file.now.events ≤ 100000 }
+    requires few { length file.now.events ≤ MAX_STEPS }
     ensures { (deal : Deal) (limit : ℕ)
         → IsDirectedFile deal order directive.now.events limit file.now
         → IfOk result (Judges deal directive.now steps limit order) }
@@ -62,10 +63,10 @@ pub fn judge_place<R: Threads + Wait + Sync, T: Program + Sync>(
     place: u32,
     program: &T,
 ) -> Result<Judged, RunError>
-    requires few_threads { deal.now.threads ≤ 7 }
+    requires few_threads { deal.now.threads ≤ MAX_CERTIFIED_THREADS }
     requires low { directive.now.low < deal.now.threads }
     requires some_limit { 1 ≤ limit }
-    requires small_limit { limit ≤ 100000 }
+    requires small_limit { limit ≤ MAX_STEPS }
     requires place { place < factorial (deal.now.threads - 1) }
     requires fits { T.fits program.now deal.now }
     ensures { IfOk result (JudgesAt deal.now directive.now steps limit place) }

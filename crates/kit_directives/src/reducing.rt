@@ -2,6 +2,7 @@
 ghost use Rattle.std.specs.Prelude.{◌≡◌, ◌≤◌, ◌<◌, ◌^◌, length, remove, IfOk, IfSome, None};
 ghost use Rattle.kit_directives.specs.Directed.{LeadsTo};
 ghost use Rattle.kit_directives.specs.Found.{HasOther, Leaves, IsReduced};
+ghost use Rattle.pct_ask.specs.declared.limits.TheConstants.{MAX_POINTS, MAX_STEPS};
 
 use crate::directed::run_directed;
 use kit_runs::{Program, RunError};
@@ -40,8 +41,8 @@ pub fn steps_to<R: Threads + Wait + Sync, T: Program + Sync>(
     program: &T,
 ) -> Result<Option<u32>, RunError>
     requires some_steps { 1 ≤ limit }
-    requires few_steps { limit ≤ 100000 }
-    requires few_events { length events.now ≤ 7 }
+    requires few_steps { limit ≤ MAX_STEPS }
+    requires few_events { length events.now ≤ MAX_POINTS }
     requires few_names { length order.now < 2 ^ 32 }
     requires fits { T.fits program.now deal.now }
     ensures leads { IfOk result (λ steps. IfSome steps (λ steps.
@@ -69,8 +70,8 @@ fn leave_out<R: Threads + Wait + Sync, T: Program + Sync>(
     program: &T,
 ) -> Result<Option<Short>, RunError>
     requires some_steps { 1 ≤ limit }
-    requires few_steps { limit ≤ 100000 }
-    requires few_events { length events.now ≤ 7 }
+    requires few_steps { limit ≤ MAX_STEPS }
+    requires few_events { length events.now ≤ MAX_POINTS }
     requires few_names { length order.now < 2 ^ 32 }
     requires fits { T.fits program.now deal.now }
     ensures leaves { IfOk result (Leaves deal.now order.now limit verdict.now events.now) }
@@ -112,8 +113,8 @@ pub fn reduce<R: Threads + Wait + Sync, T: Program + Sync>(
     program: &T,
 ) -> Result<Short, RunError>
     requires some_steps { 1 ≤ limit }
-    requires few_steps { limit ≤ 100000 }
-    requires few_events { length whole.events ≤ 7 }
+    requires few_steps { limit ≤ MAX_STEPS }
+    requires few_events { length whole.events ≤ MAX_POINTS }
     requires few_names { length order.now < 2 ^ 32 }
     requires fits { T.fits program.now deal.now }
     requires leads { LeadsTo deal.now order.now limit verdict.now whole.events whole.steps }

@@ -1,5 +1,5 @@
-//! Tests of one's own, by both ways of the kit: a queue of one place is tried with one condition, by
-//! which it may get stuck, and with two.
+//! Tests of one's own, by both ways of the kit: a queue of one place is tried with one condition,
+//! by which it may get stuck, and with two.
 #![tactic(auto)]
 
 mod ports;

@@ -12,11 +12,12 @@ use Rattle.pct_ask.specs.declared.ask.Ask.TheVariants.{RdLock, WrLock, TryRdLock
 use Rattle.pct_ask.specs.declared.ask.Ask.TheVariants.{RwUnlock}
 use Rattle.pct_ask.specs.Objects.{Sizes, sizes_of_deal, IsInRange, PostIsInRange}
 use Rattle.pct_ask.specs.Bodies.{Pending, no_body, pending_of, AreInRange}
+use Rattle.pct_ask.specs.Limits.{IsStepCount}
 use Rattle.rank_now.specs.Order.{IsFirstWrong}
 use Rattle.worker_run.specs.Samples.{sample_post, sample_pending}
 use Rattle.worker_run.proofs.laws.SampleRanges.{samples-within}
 use Rattle.rank_now.proofs.laws.WholeOrders.{whole-order}
-use Rattle.trace_text.specs.Lawful.{HasObjects, IsStepCount, IsHead}
+use Rattle.trace_text.specs.Lawful.{HasObjects, IsHead}
 use Rattle.trace_text.proofs.laws.KnownVerdicts.{IsAsked}
 use Rattle.kit_main.specs.Showing.{IsTestDeal, test_sizes, test_names, test_order, test_head}
 use Rattle.kit_main.specs.Showing.{IsShowable}

@@ -3,6 +3,7 @@ ghost use Rattle.pct_outside.specs.Counter.{Rose};
 ghost use Rattle.trace_text.specs.Lawful.{IsKnownRun};
 ghost use Rattle.kit_main.specs.Showing.{test_names, IsShowable, IsRunOfBodies, Shows};
 ghost use Rattle.kit_main.specs.Told.{IsRunTrace, status_by};
+ghost use Rattle.pct_ask.specs.declared.limits.TheConstants.{MAX_STEPS};
 
 use crate::shown::Shown;
 use crate::test_parts::{LIMIT, ORDER, POINTS, deal, header, names};
@@ -30,7 +31,7 @@ fn run_test<R: Threads + Wait + Sync, G: Gate>(
     gate: &G,
 ) -> Result<BoxedRun, NoMemory>
     requires some_steps { 1 ≤ limit }
-    requires few_steps { limit ≤ 100000 }
+    requires few_steps { limit ≤ MAX_STEPS }
     requires three { length bodies.items ≡ 3 }
     requires bodies { All IsShowable (map pending bodies.items) }
     ensures run { IfOk result (λ r.

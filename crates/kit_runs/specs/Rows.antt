@@ -8,13 +8,14 @@ use Rattle.report_text.specs.declared.frame.Frame.{Frame}
 use Rattle.kit_runs.specs.declared.seeds.Seeds.{Seeds}
 use Rattle.kit_runs.specs.Seeding.{seed_at}
 use Rattle.kit_runs.specs.Runs.{IsFileOf}
+use Rattle.pct_ask.specs.declared.limits.TheConstants.{MAX_POINTS, MAX_THREADS}
 
 -- what the seed draws: an order of the threads, and one change point fewer than the depth
 pub record IsDrawOf (threads : ℕ) (seeds : Seeds) (seed : ℕ) (order points : List ℕ) : Type 0 where
   pub order_is : order ≡ (draw_of_seed seed threads seeds.steps seeds.depth).order
   pub points_are : points ≡ (draw_of_seed seed threads seeds.steps seeds.depth).points
-  pub few : length points ≤ 7
-  pub short : length order ≤ 64
+  pub few : length points ≤ MAX_POINTS
+  pub short : length order ≤ MAX_THREADS
 
 -- the run of the order and the points that the seed draws
 abbrev pub IsRunOfSeed : Deal → Seeds → ℕ → TraceFile → Type 0

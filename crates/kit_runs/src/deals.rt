@@ -1,5 +1,6 @@
 ghost use Rattle.std.specs.Prelude.{◌≡◌, ◌≤◌, length, IfOk};
 ghost use Rattle.kit_runs.specs.Deals.{IsSmallDeal};
+ghost use Rattle.pct_ask.specs.declared.limits.TheConstants.{MAX_OBJECTS, MAX_THREADS};
 
 use pct_ask::{Deal, NumberList, Sequence};
 use std::alloc::{AllocError as NoMemory, Global};
@@ -14,10 +15,10 @@ pub fn small_deal(
     conds: u32,
 ) -> Result<Deal, NoMemory>
     requires some_thread { 1 ≤ threads }
-    requires few_threads { threads ≤ 64 }
-    requires few_vars { length vars.now ≤ 64 }
-    requires few_mutexes { mutexes ≤ 64 }
-    requires few_conds { conds ≤ 64 }
+    requires few_threads { threads ≤ MAX_THREADS }
+    requires few_vars { length vars.now ≤ MAX_OBJECTS }
+    requires few_mutexes { mutexes ≤ MAX_OBJECTS }
+    requires few_conds { conds ≤ MAX_OBJECTS }
     ensures { IfOk result (IsSmallDeal threads vars.now mutexes conds) }
 {
     Ok(Deal {

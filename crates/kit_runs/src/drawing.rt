@@ -1,6 +1,7 @@
 // The runs of seeds.
 ghost use Rattle.std.specs.Prelude.{◌≡◌, ◌≤◌, length, IfOk};
 ghost use Rattle.kit_runs.specs.Rows.{IsRunOfSeed, IsDrawOf};
+ghost use Rattle.pct_ask.specs.declared.limits.TheConstants.{MAX_STEPS, MAX_THREADS};
 
 use crate::error::RunError;
 use crate::program::Program;
@@ -23,7 +24,7 @@ struct Drawn {
 /// The order and the change points of a seed.
 fn draw(alloc: Global, threads: u32, seeds: &Seeds, seed: u64) -> Result<Drawn, NoMemory>
     requires some_thread { 1 ≤ threads }
-    requires few_threads { threads ≤ 64 }
+    requires few_threads { threads ≤ MAX_THREADS }
     ensures { IfOk result (λ drawn.
         IsDrawOf threads seeds.now seed drawn.order drawn.points) }
 {
@@ -44,7 +45,7 @@ pub fn run_seed<R: Threads + Wait + Sync, T: Program + Sync>(
 ) -> Result<TraceFile, RunError>
     requires fits { T.fits program.now deal.now }
     ensures run { IfOk result (IsRunOfSeed deal.now seeds.now seed) }
-    ensures short { IfOk result (λ file. length file.events ≤ 100000) }
+    ensures short { IfOk result (λ file. length file.events ≤ MAX_STEPS) }
 {
     let drawn = draw(alloc, deal.threads, seeds, seed)?;
     let own = deal.copy(alloc)?;

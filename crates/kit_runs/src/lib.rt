@@ -1,5 +1,5 @@
-//! Runs of programs whose threads ask through ports: one run, the runs of seeds, and the replay of a
-//! trace (`Program`; `BodyProgram` makes one of bodies).
+//! Runs of programs whose threads ask through ports: one run, the runs of seeds, and the replay of
+//! a trace (`Program`; `BodyProgram` makes one of bodies).
 //!
 //! What is proved, by call and clause; in parentheses the definitions:
 //!

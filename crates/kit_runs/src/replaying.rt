@@ -2,12 +2,12 @@
 ghost use Rattle.std.specs.Prelude.{◌≡◌, ◌<◌, ◌≤◌, ◌^◌, length, Err, IfOk};
 ghost use Rattle.kit_runs.specs.Errors.{IsWholeOrder};
 ghost use Rattle.kit_runs.specs.Replays.{IsReplay, IsAgreed, Tells};
+ghost use Rattle.pct_ask.specs.declared.limits.TheConstants.{MAX_POINTS, MAX_STEPS};
 
 use crate::error::RunError;
 use crate::program::Program;
 use crate::running::run_program;
 use pct_ask::{Deal, Event, Verdict};
-use same_step::is_same;
 use std::alloc::Global;
 use std::sync::Wait;
 use std::thread::Threads;
@@ -28,7 +28,7 @@ fn agreed(made: &[Event], told: &[Event]) -> usize
     ensures { IsAgreed made.now told.now result }
 {
     let mut many = 0;
-    while many < made.len() && many < told.len() && is_same(&made[many], &told[many]) {
+    while many < made.len() && many < told.len() && made[many].is(&told[many]) {
         many += 1;
     }
     many
@@ -36,7 +36,7 @@ fn agreed(made: &[Event], told: &[Event]) -> usize
 
 /// Compares a run with a trace.
 fn compare(run: &TraceFile, file: &TraceFile) -> Replayed
-    requires few { length run.now.events ≤ 100000 }
+    requires few { length run.now.events ≤ MAX_STEPS }
     ensures { Tells run.now file.now result }
 {
     let many = agreed(run.events.as_slice(), file.events.as_slice());
@@ -58,8 +58,8 @@ pub fn replay<R: Threads + Wait + Sync, T: Program + Sync>(
     program: &T,
 ) -> Result<Replayed, RunError>
     requires some_steps { 1 ≤ file.now.header.limit }
-    requires few_steps { file.now.header.limit ≤ 100000 }
-    requires few_points { length file.now.header.points ≤ 7 }
+    requires few_steps { file.now.header.limit ≤ MAX_STEPS }
+    requires few_points { length file.now.header.points ≤ MAX_POINTS }
     requires few_names { length file.now.header.order < 2 ^ 32 }
     requires fits { T.fits program.now deal.now }
     ensures replay { IfOk result (IsReplay deal.now file.now) }

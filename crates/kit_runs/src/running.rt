@@ -9,6 +9,7 @@ ghost use Rattle.trace_text.specs.Trace.{head_of};
 ghost use Rattle.kit_runs.specs.Errors.{IsWholeOrder};
 ghost use Rattle.kit_runs.specs.Runs.{IsFileOf, IsRunOfBook, head_with, version_of};
 ghost use Rattle.kit_runs.specs.Seats.{IsReady};
+ghost use Rattle.pct_ask.specs.declared.limits.TheConstants.{MAX_POINTS, MAX_STEPS};
 
 use crate::error::RunError;
 use crate::program::Program;
@@ -194,8 +195,8 @@ pub fn run_program<R: Threads + Wait + Sync, T: Program + Sync>(
     program: &T,
 ) -> Result<TraceFile, RunError>
     requires some_steps { 1 ≤ limit }
-    requires few_steps { limit ≤ 100000 }
-    requires few_points { length points.now ≤ 7 }
+    requires few_steps { limit ≤ MAX_STEPS }
+    requires few_points { length points.now ≤ MAX_POINTS }
     requires few_names { length order.now < 2 ^ 32 }
     requires fits { T.fits program.now deal }
     ensures run { IfOk result (IsFileOf deal order.now points.now limit) }

@@ -1,5 +1,6 @@
 ghost use Rattle.std.specs.Prelude.{◌≡◌, ◌≤◌};
 ghost use Rattle.kit_runs.specs.Seeding.{seed_at};
+ghost use Rattle.pct_ask.specs.declared.limits.TheConstants.{MAX_DEPTH, MAX_RUNS, MAX_STEPS};
 
 /// Which runs a campaign has.
 #[derive(Clone, Copy, Debug, PartialEq, Eq)]
@@ -15,24 +16,24 @@ pub struct Seeds {
     /// How many steps a run may have, in 1..=100,000.
     pub limit: u32,
     ghost some_seeds: { 1 ≤ count },
-    ghost few_seeds: { count ≤ 100000 },
+    ghost few_seeds: { count ≤ MAX_RUNS },
     ghost some_depth: { 1 ≤ depth },
-    ghost little_depth: { depth ≤ 8 },
+    ghost little_depth: { depth ≤ MAX_DEPTH },
     ghost some_steps: { 1 ≤ steps },
-    ghost few_steps: { steps ≤ 100000 },
+    ghost few_steps: { steps ≤ MAX_STEPS },
     ghost some_limit: { 1 ≤ limit },
-    ghost low_limit: { limit ≤ 100000 },
+    ghost low_limit: { limit ≤ MAX_STEPS },
 }
 
 impl Seeds {
     /// The seeds from 0 on, with runs of at most 10,000 steps.
     pub fn from_zero(count: u32, depth: u32, steps: u32) -> Seeds
         requires some_seeds { 1 ≤ count }
-        requires few_seeds { count ≤ 100000 }
+        requires few_seeds { count ≤ MAX_RUNS }
         requires some_depth { 1 ≤ depth }
-        requires little_depth { depth ≤ 8 }
+        requires little_depth { depth ≤ MAX_DEPTH }
         requires some_steps { 1 ≤ steps }
-        requires few_steps { steps ≤ 100000 }
+        requires few_steps { steps ≤ MAX_STEPS }
         ensures first { result.first ≡ 0 }
         ensures count { result.count ≡ count }
         ensures depth { result.depth ≡ depth }

@@ -1,3 +1,2 @@
-pub mod WrongOrders
 pub mod Blocked
 pub mod KnownBlocked

@@ -8,13 +8,15 @@ use Rattle.pct_ask.specs.declared.deal.Deal.{Deal}
 use Rattle.pct_ask.specs.declared.verdict.Verdict.{Verdict}
 use Rattle.rank_now.specs.Order.{IsOrder}
 use Rattle.report_text.specs.Report.{IsWritable}
-use Rattle.trace_text.specs.Lawful.{IsStepCount, NamesKnown, is_of_second}
+use Rattle.trace_text.specs.Lawful.{NamesKnown, is_of_second}
 use Rattle.trace_text.specs.Trace.{head_of}
 use Rattle.trace_text.specs.declared.file.TraceFile.{TraceFile}
 use Rattle.pct_ask.specs.declared.event.Row.{Row}
 use Rattle.directive.specs.Directive.{IsMoment}
 use Rattle.directive.specs.declared.directive.Directive.{Directive}
 use Rattle.failure_rank.specs.declared.group.Group.{Group}
+use Rattle.pct_ask.specs.declared.limits.TheConstants.{MAX_POINTS}
+use Rattle.pct_ask.specs.Limits.{IsStepCount}
 
 -- the thread is one of so many, and the line is a test's
 abbrev pub IsKnownPlace : ℕ → ℕ × ℕ → Type 0
@@ -28,7 +30,7 @@ IsOfVersion version verdict = (is_of_second verdict ≡ false) ⊎ (version ≡ 
 pub record IsPlainHead (threads : ℕ) (head : TraceHead) : Type 0 where
   pub version : (head.version ≡ 1) ⊎ (head.version ≡ 2)
   pub whole : length head.order ≡ threads
-  pub few_points : length head.points ≤ 7
+  pub few_points : length head.points ≤ MAX_POINTS
   pub points : All IsStepCount head.points
   pub limit : IsStepCount head.limit
 

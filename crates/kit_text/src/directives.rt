@@ -8,7 +8,7 @@ ghost use Rattle.kit_text.specs.Texts.{IsTellable};
 use crate::known::is_known;
 use crate::texts::TextError;
 use directive::{Directive, write_directive};
-use pct_ask::{NameKind, Names};
+use pct_ask::{MAX_STEPS, NameKind, Names};
 use rank_now::Moment;
 use std::alloc::Global;
 
@@ -17,7 +17,7 @@ fn are_known_moments(names: &Names, moments: &[Moment]) -> bool
 {
     let threads = names.count(NameKind::Thread);
     moments.iter().all(|moment| {
-        moment.thread < threads && 1 <= moment.number && moment.number <= 100_000
+        moment.thread < threads && 1 <= moment.number && moment.number <= MAX_STEPS
     })
 }
 

@@ -6,12 +6,12 @@ ghost use Rattle.trace_text.specs.Lawful.{HasObjects, NamesKnown};
 ghost use Rattle.report_text.specs.Report.{IsWritable};
 ghost use Rattle.kit_text.specs.Texts.{IsKnownPlace, IsOfVersion};
 
-use pct_ask::{Ask, Blocked, Deal, Event, MisuseKind, NameKind, Names, Verdict};
+use pct_ask::{Ask, Blocked, Deal, Event, MAX_LINES, MisuseKind, NameKind, Names, Verdict};
 
 fn is_known_place(threads: u32, thread: u32, line: u32) -> bool
     ensures { IsTrue result ↔ IsKnownPlace threads (thread, line) }
 {
-    thread < threads && 1 <= line && line <= 4096
+    thread < threads && 1 <= line && line <= MAX_LINES
 }
 
 /// Whether each thread that can't go on has a name, and its line is a test's.
@@ -100,7 +100,7 @@ fn is_known_step(version: u32, deal: &Deal, event: &Event) -> bool
 {
     event.thread < deal.threads
         && 1 <= event.line
-        && event.line <= 4096
+        && event.line <= MAX_LINES
         && has_objects(version, deal, &event.ask)
 }
 

@@ -1,5 +1,5 @@
-//! What tests in Rattle tell: a verdict and a campaign's groups are displayed, a run's trace, a report
-//! and a directive are written.
+//! What tests in Rattle tell: a verdict and a campaign's groups are displayed, a run's trace, a
+//! report and a directive are written.
 //!
 //! What is proved, by call and clause; in parentheses the definitions:
 //!

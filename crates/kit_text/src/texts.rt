@@ -1,17 +1,16 @@
 // Runs and campaigns as texts.
-ghost use Rattle.std.specs.Prelude.{◌≡◌, ◌≤◌, ◌↔◌, Err, IsTrue, IfOk, All, length};
-ghost use Rattle.rank_now.specs.Order.{IsOrder};
+ghost use Rattle.std.specs.Prelude.{◌≡◌, ◌↔◌, Err, IsTrue, IfOk, All};
 ghost use Rattle.report_text.specs.Report.{IsWritable};
 ghost use Rattle.report_text.specs.Text.{text_of};
 ghost use Rattle.pct_ask.specs.TraceText.{trace_text};
-ghost use Rattle.trace_text.specs.Lawful.{IsStepCount};
 ghost use Rattle.trace_text.specs.Trace.{head_of};
 ghost use Rattle.kit_text.specs.Texts.{IsPlainHead, IsShowable, IsReportable};
+ghost use Rattle.pct_ask.specs.Limits.{IsStepCount};
 
 use crate::known::{are_known_steps, is_known, is_named, is_of_version};
 use failure_rank::{Group, Groups};
-use pct_ask::{Deal, Names, Row, RowList};
-use rank_now::{RankError, Ranks};
+use pct_ask::{Deal, MAX_POINTS, MAX_STEPS, Names, Row, RowList};
+use rank_now::is_order;
 use report_text::{Frame, text_report};
 use std::alloc::{AllocError as NoMemory, Global};
 use thiserror::Error;
@@ -42,7 +41,9 @@ impl From<NoMemory> for TextError {
 fn are_step_counts(points: &[u32]) -> bool
     ensures { IsTrue result ↔ All IsStepCount points.now }
 {
-    points.iter().all(|point| 1 <= *point && *point <= 100_000)
+    points
+        .iter()
+        .all(|point| 1 <= *point && *point <= MAX_STEPS)
 }
 
 /// Whether all of a head but its order is that of a trace with so many threads.
@@ -51,22 +52,10 @@ fn is_plain_head(threads: u32, header: &Header) -> bool
 {
     (header.version == 1 || header.version == 2)
         && header.order.len() == threads as usize
-        && header.points.len() <= 7
+        && header.points.len() <= MAX_POINTS
         && are_step_counts(header.points.as_slice())
         && 1 <= header.limit
-        && header.limit <= 100_000
-}
-
-/// Whether a list is an order of its threads.
-fn is_order(alloc: Global, order: &[u32]) -> Result<bool, NoMemory>
-    requires { length order.now ≤ 64 }
-    ensures { IfOk result (λ is. IsTrue is ↔ IsOrder order.now) }
-{
-    match Ranks::new(alloc, order, 0) {
-        Ok(_ranks) => Ok(true),
-        Err(RankError::NotAnOrder { .. }) => Ok(false),
-        Err(RankError::NoMemory) => Err(NoMemory),
-    }
+        && header.limit <= MAX_STEPS
 }
 
 /// The trace of a run, as `pct` writes it and reads it back.
@@ -85,7 +74,7 @@ pub fn show_run(
     let events = file.events.as_slice();
     let verdict = &file.verdict;
     let is_plain = is_named(deal, names) && is_plain_head(deal.threads, header);
-    if !is_plain || !is_order(alloc, header.order.as_slice())? {
+    if !is_plain || !is_order(header.order.as_slice()) {
         return Err(TextError::Unknown);
     }
     if events.len() > header.limit as usize || !are_known_steps(header.version, deal, events) {

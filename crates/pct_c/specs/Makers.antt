@@ -10,10 +10,11 @@ use Rattle.pct_c.specs.declared.book.Book.{Book}
 use Rattle.pct_c.specs.declared.kept.Kept.{Kept}
 use Rattle.pct_c.specs.declared.kept.Kept.TheVariants.{Book as OfBook}
 use Rattle.pct_c.specs.Books.{state_of}
+use Rattle.pct_ask.specs.declared.limits.TheConstants.{MAX_POINTS, MAX_STEPS}
 
 -- a number of steps: a limit
 abbrev pub IsLimit : ℕ → Type 0
-IsLimit limit = (1 ≤ limit) × (limit ≤ 100000)
+IsLimit limit = (1 ≤ limit) × (limit ≤ MAX_STEPS)
 
 -- What a book is made of is in range: the deal, the limit, at most 7 change points or moments, and
 -- an
@@ -22,7 +23,7 @@ pub record MayOrder (counts : PctDeal) (of_vars of_sems of_barriers : List ℤ) 
     (lowered of_limit : ℕ) : Type 0 where
   pub lawful : AreLawfulCounts counts of_vars of_sems of_barriers
   pub limit : IsLimit of_limit
-  pub few : lowered ≤ 7
+  pub few : lowered ≤ MAX_POINTS
   pub whole : length by_order ≡ counts.threads
   pub order : IsOrder by_order
 

@@ -14,6 +14,7 @@ ghost use Rattle.turn_book.specs.Told.{IsPosted, IsAnswered, IsRunOver};
 ghost use Rattle.turn_book.specs.declared.taken.Because.{Because};
 ghost use Rattle.turn_book.specs.Answers.{IsBecause};
 ghost use Rattle.pct_c.specs.Books.{state_of};
+ghost use Rattle.pct_ask.specs.declared.limits.TheConstants.{MAX_POINTS, MAX_STEPS};
 
 use pct_ask::{Deal, Event, Outcome, Post, Standing};
 use policy_pick::{DirectedPolicy, Listed, Pct};
@@ -38,8 +39,8 @@ impl Book {
         limit: u32,
     ) -> Result<Book, RankError>
         requires some_steps { 1 ≤ limit }
-        requires few_steps { limit ≤ 100000 }
-        requires few_points { length points.now ≤ 7 }
+        requires few_steps { limit ≤ MAX_STEPS }
+        requires few_points { length points.now ≤ MAX_POINTS }
         requires threads { length order.now ≡ deal.threads }
         ensures made { IfOk result (λ book.
             state_of book ≡ new_book deal limit (ByPoints order.now points.now)) }
@@ -59,8 +60,8 @@ impl Book {
         limit: u32,
     ) -> Result<Book, RankError>
         requires some_steps { 1 ≤ limit }
-        requires few_steps { limit ≤ 100000 }
-        requires few_moments { length moments.now ≤ 7 }
+        requires few_steps { limit ≤ MAX_STEPS }
+        requires few_moments { length moments.now ≤ MAX_POINTS }
         requires threads { length order.now ≡ deal.threads }
         ensures made { IfOk result (λ book.
             state_of book ≡ new_book deal limit (ByEvents order.now moments.now)) }
@@ -74,7 +75,7 @@ impl Book {
 
     pub fn by_list(alloc: Global, deal: Deal, threads: &[u32], limit: u32) -> Result<Book, NoMemory>
         requires some_steps { 1 ≤ limit }
-        requires few_steps { limit ≤ 100000 }
+        requires few_steps { limit ≤ MAX_STEPS }
         requires threads { All (λ thread. thread < deal.threads) threads.now }
         ensures made { IfOk result (λ book.
             state_of book ≡ new_book deal limit (ByList threads.now)) }

@@ -14,13 +14,14 @@ use crate::handle::PctBook;
 use crate::kept::Kept;
 use crate::status::{BAD, DONE, NO_MEMORY};
 use c_values::{PctDeal, PctMoment, deal_of, moments_of};
+use pct_ask::{MAX_POINTS, MAX_STEPS};
 use rank_now::RankError;
 use std::alloc::{AllocError as NoMemory, Global};
 
 fn is_limit(limit: u32) -> bool
     ensures { IsTrue result ↔ IsLimit limit }
 {
-    1 <= limit && limit <= 100_000
+    1 <= limit && limit <= MAX_STEPS
 }
 
 /// A book where the order is one. `None` where it isn't.
@@ -70,7 +71,7 @@ fn made_by_points(
         (¬ MayOrder counts.now vars.now sems.now barriers.now order.now (length points.now) limit)
         (IsMade counts.now vars.now sems.now barriers.now limit (ByPoints order.now points.now))) }
 {
-    if !is_limit(limit) || points.len() > 7 {
+    if !is_limit(limit) || points.len() > MAX_POINTS {
         return Ok(None);
     }
     match deal_of(alloc, counts, vars, sems, barriers)? {
@@ -125,7 +126,7 @@ fn made_by_moments(
         (IsMade counts.now vars.now sems.now barriers.now limit
         (ByEvents order.now (map moment_said moments.now)))) }
 {
-    if !is_limit(limit) || moments.len() > 7 {
+    if !is_limit(limit) || moments.len() > MAX_POINTS {
         return Ok(None);
     }
     match deal_of(alloc, counts, vars, sems, barriers)? {

@@ -5,7 +5,7 @@ ghost use Rattle.priority_draw.specs.Drawing.{draw_of_seed};
 ghost use Rattle.pct_c.specs.Drawn.{MayDraw};
 
 use crate::status::{BAD, DONE, NO_MEMORY};
-use pct_ask::{OrderList, PointList};
+use pct_ask::{MAX_STEPS, MAX_THREADS, OrderList, PointList};
 use priority_draw::Words;
 use std::alloc::{AllocError as NoMemory, Global};
 
@@ -13,9 +13,9 @@ fn may_draw(threads: u32, steps: u32, depth: u32, orders: usize, points: usize) 
     ensures { IsTrue result ↔ MayDraw threads steps depth orders points }
 {
     1 <= threads
-        && threads <= 64
+        && threads as usize <= MAX_THREADS
         && 1 <= steps
-        && steps <= 100_000
+        && steps <= MAX_STEPS
         && 1 <= depth
         && depth <= 8
         && orders == threads as usize

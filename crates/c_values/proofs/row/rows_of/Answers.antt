@@ -4,8 +4,8 @@ use Rattle.c_values.specs.Rows.{row_said}
 use Rattle.c_values.proofs.SaidSteps.{length-said}
 use Rattle.c_values.proofs.row.rows_of.Goals as goal
 
-pub returns-then-numbers-gt100000 : goal.returns-then-numbers-gt100000
-returns-then-numbers-gt100000 c = λ told are.
+pub returns-then-numbers : goal.returns-then-numbers
+returns-then-numbers c = λ told are.
     omega (arith, are.few, length-said row_said c.args.numbers.now told are.say)
 
 pub returns-in-Some : goal.returns-in-Some

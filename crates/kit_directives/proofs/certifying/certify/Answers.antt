@@ -31,7 +31,8 @@ returns-in-Other g c =
     let directive = c.args.directive.now in
     other-answer deal directive c.args.steps c.args.limit c.in-Other.answer
     (first-other deal directive c.args.steps c.args.limit
-    (omega (arith, c.if-threads-gt-MOST_THREADS.false)) at.rows at.place c.in_ok-row.field-0
+    (omega (arith, c.if-threads-gt-MAX_CERTIFIED_THREADS.false)) at.rows at.place
+    c.in_ok-row.field-0
     c.in-Other.answer c.in-Other.is at.invariant c.in_ok-row.ensures)
 
 pub returns : goal.returns
@@ -41,7 +42,7 @@ returns g c =
     let done : at.place ≡ factorial (deal.threads - 1) =
     omega (arith, c.loop-place-test.false, at.auto.place-end, c.order_count-place-end.ensures) in
     record {
-      few = omega (arith, c.if-threads-gt-MOST_THREADS.false);
+      few = omega (arith, c.if-threads-gt-MAX_CERTIFIED_THREADS.false);
       bound_is = c.bound_of-bound.ensures
           ∙ ap (λ n. deal.threads * c.args.steps ^ n) c.len.ensures;
       rows_are = subst (λ (n : ℕ). AreFirstRows deal c.args.directive.now c.args.steps c.args.limit

@@ -6,7 +6,7 @@ use Rattle.trace_text.specs.Trace.{head_of}
 use Rattle.body_kit.specs.declared.error.KitError.{KitError}
 use Rattle.kit_runs.specs.Runs.{IsRunOfBook, head_with}
 use Rattle.kit_runs.proofs.Laws.{run-short}
-use Rattle.kit_runs.proofs.WrongOrders.{wrong_is_no_order}
+use Rattle.rank_now.proofs.laws.Orders.{wrong_is_no_order}
 use Rattle.kit_runs.proofs.running.run_program.Goals as goal
 
 pub returns-in-Ok-clause-run : goal.returns-in-Ok-clause-run
