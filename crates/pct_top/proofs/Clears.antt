@@ -237,7 +237,8 @@ module _ (script : ScriptText) (deal : Deal) (of : IsDealOf script deal) (plan :
       absurd (omega (arith, few, more, ap (λ t. choice_count t k (depth - 1)) of.threads))
 
 pub certified_swept : CertifiedAreSwept
-certified_swept words more files printed other file directive depth k limit json serve certifies of done
+certified_swept words more files printed other file directive depth k limit json serve certifies of
+    done
     taken sweeps =
     let c = certified_counted words files printed file directive k limit certifies of done in
     let bytes = take script_bytes (files file) in

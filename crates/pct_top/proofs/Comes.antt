@@ -1,6 +1,6 @@
 -- What comes of a command, from what the calls below did.
 use Rattle.std.proofs.Common.{◌≡◌, ℕ, List, [], ◌∷◌, inl, inr, Option, Some, None, Result, Ok, Err}
-use Rattle.std.proofs.Common.{refl}
+use Rattle.std.proofs.Common.{refl, sym, Bool}
 use Rattle.std.proofs.Common.{false, subst, ap, take, ◌∙◌, arith}
 use Rattle.std.proofs.lemmas.List.{append_assoc}
 use Rattle.pct_ask.specs.declared.Deal.{Deal}
@@ -19,12 +19,11 @@ use Rattle.pct_top.specs.declared.outcome.Outcome.{Outcome}
 use Rattle.pct_top.specs.declared.settings.Settings.{Settings}
 use Rattle.pct_top.specs.declared.test.Test.{Test}
 use Rattle.pct_top.specs.Ready.{IsReadyTest}
-use Rattle.pct_top.specs.Ordered.{NamesAll}
+use Rattle.pct_top.specs.Ordered.{NamesAll, GivesOrder}
 use Rattle.pct_top.specs.Printed.{Files, Printed, printed_refusal, trace_bytes, directive_bytes}
-use Rattle.pct_top.specs.Printed.{OfScript}
+use Rattle.pct_top.specs.Printed.{OfScript, script_bytes}
 use Rattle.pct_top.specs.Printed.{OfOrder, OfTrace, OfDirective}
-use Rattle.pct_top.specs.Priorities.{GivesOrder}
-use Rattle.pct_top.specs.Output.{script_file, script_text}
+use Rattle.pct_top.specs.Output.{script_file, script_text, OfTaken}
 use Rattle.pct_top.specs.Outcome.{printed_of, GivesPrinted, ShowsFiles, Comes}
 use Rattle.pct_top.specs.Files.{HasText, Misses, GivesTest, GivesText, GivesTrace, HasTrace}
 use Rattle.pct_top.specs.Files.{GivesDirective, HasDirective}
@@ -283,3 +282,34 @@ second_missed settings before after middle script spells keeps h =
       missed_after second.0 before.failed middle after.failed (script_file settings) keeps second.2,
       inr (second.1, λ files e. (script, spells files e, h.1)),
     )
+
+-- ---- the script of a file
+
+module _ (settings : Settings) (name : List ℕ) (file_is : script_file settings ≡ Some name) where
+  -- what is read is what the settings ask for
+  pub file_gives : script_text settings ≡ (λ files. take script_bytes (files name))
+      → (told : Option Files) (failed failed' : List (List ℕ)) (r : Result Test Refusal)
+      → GivesTest told (λ files. take script_bytes (files name))
+      (Misses (Some name) failed failed') r
+      → GivesTest told (script_text settings) (Misses (script_file settings) failed failed') r
+  file_gives text_is told failed failed' r h =
+      subst (λ (source : Files → List ℕ).
+      GivesTest told source (Misses (script_file settings) failed failed') r) (sym text_is)
+      (subst (λ (file : Option (List ℕ)).
+      GivesTest told (λ files. take script_bytes (files name)) (Misses file failed failed') r)
+      (sym file_is) h)
+
+  pub file_kept : (unread : Bool) (failed failed' : List (List ℕ))
+      → KeepsFile (Some name) unread failed failed'
+      → KeepsFile (script_file settings) unread failed failed'
+  file_kept unread failed failed' h =
+      subst (λ (file : Option (List ℕ)). KeepsFile file unread failed failed') (sym file_is) h
+
+-- what comes of some settings comes of the same
+pub comes_of_same : (settings other : Settings) → settings ≡ other → (before after : ShelfTold)
+    (r : Result Outcome Refusal)
+    → Comes (OfTaken (Ok other)) before.files (ReadFailed (Ok other) before after) r
+    → Comes (OfTaken (Ok settings)) before.files (ReadFailed (Ok settings) before after) r
+comes_of_same settings other same before after r h =
+    subst (λ (s : Settings).
+    Comes (OfTaken (Ok s)) before.files (ReadFailed (Ok s) before after) r) (sym same) h

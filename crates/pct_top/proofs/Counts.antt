@@ -62,7 +62,8 @@ IsDone status = status ≡ Done
 by_taken : (taken : SettingsOrWord) (files : Files) (printed : Printed) (file directive : List ℕ)
     (k limit : ℕ) → CertifiesFile taken file directive k limit → OfTaken taken files printed
     → printed.status ≡ Done → IsCounted files file directive k limit printed.out
-by_taken (Ok (Certify name other steps most serve)) files printed file directive k limit same (inl of)
+by_taken (Ok (Certify name other steps most serve)) files printed file directive k limit same
+    (inl of)
     done = elim of.2.2 [
       | inl plan ↦
           let script = of.0 in
@@ -89,7 +90,8 @@ by_taken (Ok (Certify name other steps most serve)) files printed file directive
       | inr bad ↦ absurd (not_refused IsDone (BadDirective bad.0 bad.1) printed bad.3 (λ e. cc)
           done)
     ]
-by_taken (Ok (Certify name other steps most serve)) files printed file directive k limit same (inr bad)
+by_taken (Ok (Certify name other steps most serve)) files printed file directive k limit same
+    (inr bad)
     done =
     absurd (not_refused IsDone (Script bad.0 bad.1) printed bad.3 (λ e. cc) done)
 by_taken taken files printed file directive k limit same of done = absurd same

@@ -2,7 +2,7 @@
 use Rattle.std.proofs.Common.{ℕ, List, arith}
 use Rattle.std.specs.Prelude.{All}
 use Rattle.priority_draw.specs.Drawing.{IsStepOfPoint}
-use Rattle.trace_text.specs.Lawful.{IsStepCount}
+use Rattle.pct_ask.specs.Limits.{IsStepCount}
 
 pub drawn_points : (steps : ℕ) (points : List ℕ) → IsStepCount steps
     → All (IsStepOfPoint steps) points

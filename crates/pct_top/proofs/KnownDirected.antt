@@ -4,7 +4,7 @@ use Rattle.std.proofs.lemmas.List.{length-map}
 use Rattle.std.proofs.lemmas.List.Elements.{All-weaker}
 use Rattle.pct_ask.specs.declared.Deal.{Deal}
 use Rattle.pct_ask.specs.declared.verdict.Outcome.TheVariants.{Verdict as Ends}
-use Rattle.rank_now.specs.Order.{IsOrder}
+use Rattle.pct_ask.specs.Limits.{IsStepCount}
 use Rattle.rank_now.specs.declared.moment.Moment.{Moment}
 use Rattle.script_tree.specs.ScriptText.{ScriptText}
 use Rattle.script_tree.specs.Fitting.{IsScript}
@@ -12,7 +12,7 @@ use Rattle.script_tree.specs.DealOf.{IsDealOf}
 use Rattle.policy_pick.specs.Plan.{ByPoints, ByEvents}
 use Rattle.turn_book.specs.Posts.{schedule_of}
 use Rattle.script_body.specs.Bodies.{bodies_of}
-use Rattle.trace_text.specs.Lawful.{IsStepCount, IsKnownRun}
+use Rattle.trace_text.specs.Lawful.{IsKnownRun}
 use Rattle.worker_run.specs.declared.played.Played.{Played}
 use Rattle.worker_run.proofs.laws.WholeRuns.{run-played, directed-played}
 use Rattle.directive.specs.declared.directive.Directive.{Directive}
@@ -24,7 +24,7 @@ use Rattle.directive_run.specs.declared.answers.Certified.{Certified}
 use Rattle.directive_run.specs.declared.answers.Certified.TheVariants.{Yes, Refuted, TooLong}
 use Rattle.directive_run.specs.declared.answers.Certified.TheVariants.{TooManyThreads}
 use Rattle.pct_top.specs.Runs.{trace_version}
-use Rattle.pct_top.specs.Priorities.{ArePriorities}
+use Rattle.pct_top.specs.Settings.{ArePoints}
 use Rattle.pct_top.specs.commands.KnownCertificate.{IsKnownCertificate}
 use Rattle.pct_top.proofs.KnownRuns.{known-run}
 
@@ -62,13 +62,9 @@ module _ (script : ScriptText) (deal : Deal) (sound : IsScript script)
     many-points = ap length is.points_are
         ∙ length-map events (point_of_moment (schedule_of played.events) steps)
 
-    pub exposed-priorities : (threads : ℕ) → IsOrder order → length order ≡ threads
-        → length events ≤ 7 → IsStepCount steps
-        → ArePriorities threads (record { order = order; points = points })
-    exposed-priorities threads once whole few fits = record {
-      order = once;
-      whole = whole;
-      few_points = omega (arith, many-points, few);
-      points_fit = All-weaker (IsWithin steps) IsStepCount
-          (λ point within. (within.0, omega (arith, within.1, fits.1))) points is.within;
-    }
+    pub exposed-points : length events ≤ 7 → IsStepCount steps → ArePoints points
+    exposed-points few fits = (
+      omega (arith, many-points, few),
+      All-weaker (IsWithin steps) IsStepCount
+          (λ point within. (within.0, omega (arith, within.1, fits.1))) points is.within,
+    )

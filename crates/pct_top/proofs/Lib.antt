@@ -20,6 +20,7 @@ mod OneSweep
 mod KnownSwept
 mod KnownDirected
 mod OnePrinted
+mod Plans
 mod Comes
 mod Shelves
 mod Calls

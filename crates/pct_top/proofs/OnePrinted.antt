@@ -50,9 +50,11 @@ command_answers (RunOrder file order word points limit report) files script deal
     ordered_answers script deal limit order word points report p fits
 command_answers (RunSeed file seed depth steps limit report) files script deal p are fits second =
     seed_answers script deal limit seed depth steps report p
-command_answers (Campaign file first count depth steps limit json serve) files script deal p are fits
+command_answers (Campaign file first count depth steps limit json serve) files script deal p are
+    fits
     second = campaign_answers script deal first count depth steps limit json p
-command_answers (Big pieces serve) files script deal p are fits second = big_answers script deal pieces p
+command_answers (Big pieces serve) files script deal p are fits second =
+    big_answers script deal pieces p
 command_answers (Replay file trace) files script deal p are fits second =
     reply_answers (take trace_bytes (files trace)) script deal are p second
 command_answers (Expose file directive order word steps limit) files script deal p are fits second =

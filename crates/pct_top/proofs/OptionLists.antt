@@ -49,7 +49,8 @@ module _ (o : Options) where
   one_more : (name : OptionName) (word : ℕ) (value : List ℕ) (more : Options) → is_new o name ≡ true
       → lawful_or word (with_option_value o word name value) ≡ Ok more → HasOneMore more
   one_more Order word value more may =
-      kept (λ items. record o { order = Some (record { items = items; word = word }) }) HasOneMore word (order_in value) more
+      kept (λ items. record o { order = Some (record { items = items; word = word }) }) HasOneMore
+      word (order_in value) more
       (λ items at. omega (arith, none o.order may))
   one_more Points word value more may =
       kept (λ points. record o { points = Some points }) HasOneMore word (points_in value) more

@@ -6,7 +6,6 @@ use Rattle.std.specs.Option.{option_map, option_and_then, unwrap_or}
 use Rattle.std.proofs.lemmas.Bool.Decides.{nat_tests}
 use Rattle.std.proofs.lemmas.List.Elements.{All-cons, All-nil}
 use Rattle.std.proofs.lemmas.Option.{option_and_then_some}
-use Rattle.trace_text.specs.Lawful.{IsStepCount}
 use Rattle.pct_top.specs.declared.command.Command.{Command}
 use Rattle.pct_top.specs.declared.command.Command.TheVariants as commands
 use Rattle.pct_top.specs.declared.options.OptionName.{OptionName}
@@ -20,6 +19,7 @@ use Rattle.pct_top.specs.declared.settings.Settings.TheVariants.{RunSeed, Big, R
 use Rattle.pct_top.specs.declared.settings.WordsError.{WordsError}
 use Rattle.pct_ask.specs.Numbers.{number_in, onto_front, step_count, step_counts}
 use Rattle.pct_ask.proofs.laws.Decimals.{number_in-Some}
+use Rattle.pct_ask.specs.Limits.{IsStepCount}
 use Rattle.pct_top.specs.Values.{items_of, order_in, points_in, seed_in, depth_in, form_in}
 use Rattle.pct_top.specs.Values.{serve_in}
 use Rattle.pct_top.specs.Values.{pieces_in}
@@ -217,7 +217,8 @@ sweep-made file = λ o s r.
 
 big-made : (pieces : ℕ) → (1 ≤ pieces) × (pieces ≤ 100) → AreMade (big_with pieces)
 unfolding AreMade
-big-made pieces fits = λ o s r is. let same : Big pieces (serve_of o) ≡ s = cc in subst AreLawful same fits
+big-made pieces fits = λ o s r is. let same : Big pieces (serve_of o) ≡ s = cc in
+    subst AreLawful same fits
 
 replay-made : (file trace : List ℕ) → AreMade (replay_with file trace)
 unfolding AreMade

@@ -2,6 +2,7 @@ pub mod Values
 pub mod Table
 pub mod Options
 pub mod Settings
+pub mod Plan
 pub mod Refusing
 pub mod Ordered
 pub mod Outside
@@ -9,7 +10,6 @@ pub mod Saying
 pub mod Ready
 pub mod Printed
 pub mod Runs
-pub mod Priorities
 pub mod commands
 pub mod Reports
 pub mod Output

@@ -1,14 +1,12 @@
 //! An order of a script's threads, by their names.
 
-ghost use Rattle.std.specs.Prelude.{◌≡◌, ℕ, ◌≤◌, List, length, IfOk, MatchOption, MatchBool};
-ghost use Rattle.rank_now.specs.Order.{IsOrder};
-ghost use Rattle.pct_top.specs.Ordered.{threads_named, NamesAll};
-ghost use Rattle.pct_top.specs.Priorities.{GivesOrder};
+ghost use Rattle.std.specs.Prelude.{◌≡◌, ℕ, List, IfOk, MatchOption};
+ghost use Rattle.pct_top.specs.Ordered.{threads_named, NamesAll, GivesOrder};
 
 use crate::refusal::Refusal;
 use crate::text::Text;
 use pct_ask::{NameKind, Names, OrderList};
-use rank_now::{RankError, Ranks};
+use rank_now::is_order;
 use std::alloc::{AllocError as NoMemory, Global};
 
 /// The threads that names stand for, where each is a thread's.
@@ -25,18 +23,6 @@ fn threads_of(alloc: Global, names: &Names, items: &[Text]) -> Result<Option<Ord
     Ok(Some(threads))
 }
 
-/// Whether the list names each thread of as many as it has once.
-fn is_order(alloc: Global, threads: &[u32]) -> Result<bool, NoMemory>
-    requires { length threads.now ≤ 64 }
-    ensures { IfOk result (λ order. MatchBool order (IsOrder threads.now) (¬ IsOrder threads.now)) }
-{
-    match Ranks::new(alloc, threads, 0) {
-        Ok(_) => return Ok(true),
-        Err(RankError::NotAnOrder { .. }) => return Ok(false),
-        Err(RankError::NoMemory) => return Err(NoMemory),
-    }
-}
-
 /// The order in which names list the threads of a script, where they list each once.
 fn order_of(alloc: Global, names: &Names, items: &[Text]) -> Result<Option<OrderList>, NoMemory>
     ensures { IfOk result (λ order. MatchOption order
@@ -48,7 +34,7 @@ fn order_of(alloc: Global, names: &Names, items: &[Text]) -> Result<Option<Order
     if threads.len() != names.count(NameKind::Thread) as usize {
         return Ok(None);
     }
-    let whole = is_order(alloc, threads.as_slice())?;
+    let whole = is_order(threads.as_slice());
     Ok(whole.then_some(threads))
 }
 

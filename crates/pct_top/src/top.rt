@@ -43,13 +43,13 @@ fn put_outcome<O: Sink>(outcome: &Outcome, out: &mut O) -> Result<Status, Refusa
 fn print_settings<R: Threads + Wait + Sync, H: Shelf, O: Sink, G: Gate>(
     rt: &R,
     alloc: Global,
-    settings: &Settings,
+    settings: Settings,
     shelf: &mut H,
     out: &mut O,
     gate: &G,
 ) -> Result<Status, Refusal>
-    requires { AreLawful settings.now }
-    ensures answers { Answers (Ok settings.now)
+    requires { AreLawful settings }
+    ensures answers { Answers (Ok settings)
         (record { files = H.files shelf.old; failed = H.failed shelf.old })
         (record { files = H.files shelf.new; failed = H.failed shelf.new })
         (record {
@@ -63,8 +63,8 @@ fn print_settings<R: Threads + Wait + Sync, H: Shelf, O: Sink, G: Gate>(
           shorts = O.shorts out.new;
         })
         result }
-    ensures unread { ReadsNone (Ok settings.now) → (files : Files)
-        → Answers (Ok settings.now)
+    ensures unread { ReadsNone (Ok settings) → (files : Files)
+        → Answers (Ok settings)
         (record { files = Some files; failed = H.failed shelf.old })
         (record { files = H.files shelf.new; failed = H.failed shelf.new })
         (record {
@@ -78,7 +78,7 @@ fn print_settings<R: Threads + Wait + Sync, H: Shelf, O: Sink, G: Gate>(
           shorts = O.shorts out.new;
         })
         result }
-    ensures shelf { LeavesShelf (Ok settings.now) (is_unread result)
+    ensures shelf { LeavesShelf (Ok settings) (is_unread result)
         (record { files = H.files shelf.old; failed = H.failed shelf.old })
         (record { files = H.files shelf.new; failed = H.failed shelf.new }) }
 {
@@ -132,7 +132,7 @@ fn answer<R: Threads + Wait + Sync, H: Shelf, O: Sink, G: Gate>(
     ensures refused { RefusedFirst (settings (texts_of words.now)) result }
 {
     match read_words(alloc, words) {
-        Ok(asked) => print_settings(rt, alloc, &asked, shelf, out, gate),
+        Ok(asked) => print_settings(rt, alloc, asked, shelf, out, gate),
         Err(error) => Err(Refusal::from(error)),
     }
 }

@@ -1,15 +1,15 @@
 //! The trace of a run.
 
 ghost use Rattle.std.specs.Prelude.{◌≡◌, length, IfOk};
+ghost use Rattle.priority_draw.specs.Orders.{IsOrderOf};
 ghost use Rattle.script_tree.specs.ScriptSeen.{plain_script};
-ghost use Rattle.trace_text.specs.Lawful.{IsStepCount, IsKnownRun};
+ghost use Rattle.trace_text.specs.Lawful.{IsKnownRun};
 ghost use Rattle.pct_top.specs.Runs.{trace_version as version_by, is_passed as is_passed_by};
 ghost use Rattle.pct_top.specs.Runs.{TellsRun};
-ghost use Rattle.pct_top.specs.Priorities.{ArePriorities};
 ghost use Rattle.pct_top.specs.Outcome.{printed_of};
 
 use crate::outcome::Outcome;
-use crate::priorities::Priorities;
+use crate::run_plan::RunPlan;
 use pct_ask::Verdict;
 use script_tree::Script;
 use std::alloc::{AllocError as NoMemory, Global};
@@ -34,24 +34,22 @@ fn trace_version(script: &Script) -> u32
 pub fn told_trace(
     alloc: Global,
     script: &Script,
-    priorities: Priorities,
-    limit: u32,
+    plan: RunPlan,
     run: &WholeRun,
     done: bool,
 ) -> Result<Outcome, NoMemory>
-    requires priorities { ArePriorities (length script.now.names.threads) priorities }
-    requires limit { IsStepCount limit }
-    requires known { IsKnownRun script.now.names (version_by (plain_script script.now)) limit
+    requires order { IsOrderOf (length script.now.names.threads) plan.order }
+    requires known { IsKnownRun script.now.names (version_by (plain_script script.now)) plan.limit
         run.now.events run.now.verdict }
     ensures { IfOk result (λ outcome.
-        TellsRun (plain_script script.now) priorities.order priorities.points limit
+        TellsRun (plain_script script.now) plan.order plan.points plan.limit
         (run.now.events, run.now.verdict) done (printed_of outcome)) }
 {
     let header = Header {
         version: trace_version(script),
-        order: priorities.order,
-        points: priorities.points,
-        limit,
+        order: plan.order,
+        points: plan.points,
+        limit: plan.limit.steps(),
     };
     let text = write_trace(
         alloc,

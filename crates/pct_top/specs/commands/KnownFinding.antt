@@ -7,11 +7,12 @@ use Rattle.rank_now.specs.declared.moment.Moment.{Moment}
 use Rattle.directive.specs.Directive.{IsMoment}
 use Rattle.directive_find.specs.declared.finding.FoundOut.{FoundOut}
 use Rattle.directive_find.specs.declared.finding.FoundOut.TheVariants.{Events, Passes}
+use Rattle.pct_ask.specs.declared.limits.TheConstants.{MAX_POINTS}
 
 -- at most seven moments of the script's threads, and a verdict of theirs
 pub record AreKnownMoments (names : NameLists) (events : List Moment) (verdict : Verdict) :
     Type 0 where
-  pub few : length events ≤ 7
+  pub few : length events ≤ MAX_POINTS
   pub moments : All (IsMoment names) events
   pub threads : HasNames names verdict
   pub whole : IsWholeVerdict verdict

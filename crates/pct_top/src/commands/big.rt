@@ -3,21 +3,26 @@
 ghost use Rattle.std.specs.Prelude.{◌≡◌, ◌≤◌, IfOk};
 ghost use Rattle.std.specs.List.{flat_map};
 ghost use Rattle.pct_ask.specs.TraceText.{line_text};
+ghost use Rattle.script_tree.specs.Layout.{layout};
 ghost use Rattle.script_tree.specs.ScriptSeen.{plain_script};
+ghost use Rattle.large_script.specs.Large.{large_script};
 ghost use Rattle.pct_top.specs.Ready.{IsReadyTest};
-ghost use Rattle.pct_top.specs.Outcome.{printed_of};
+ghost use Rattle.pct_top.specs.Printed.{OfScript};
+ghost use Rattle.pct_top.specs.Outcome.{printed_of, GivesPrinted};
 ghost use Rattle.pct_top.specs.commands.Big.{failures as failures_by, big_lines, OfBig};
 
 use crate::commands::seeds::all_pass;
+use crate::files::large_test;
 use crate::lines::{push_count, push_size};
 use crate::outcome::Outcome;
-use crate::priorities::steps_of;
+use crate::refusal::Refusal;
+use crate::run_plan::steps_of;
 use crate::test::Test;
 use crate::traces::is_passed;
 use campaign::campaign_by;
 use failure_rank::{Group, rank};
 use large_script::line_count;
-use pct_ask::Row;
+use pct_ask::{Limit, Row};
 use pct_outside::Gate;
 use std::alloc::{AllocError as NoMemory, Global};
 use std::sync::Wait;
@@ -65,7 +70,7 @@ fn write_counts(
 }
 
 /// The counts of the campaign of the large script, which is the test's.
-pub fn big_of<R: Threads + Wait + Sync, G: Gate>(
+fn big_of<R: Threads + Wait + Sync, G: Gate>(
     rt: &R,
     alloc: Global,
     test: &Test,
@@ -79,7 +84,7 @@ pub fn big_of<R: Threads + Wait + Sync, G: Gate>(
         OfBig pieces (plain_script test.now.script) test.now.deal (printed_of outcome)) }
 {
     let (first, count) = SEEDS;
-    let steps = steps_of(rt, alloc, test, None, LIMIT, serve, gate)?;
+    let steps = steps_of(rt, alloc, test, None, Limit::new(LIMIT), serve, gate)?;
     let rows = campaign_by(
         rt, alloc, &test.code, &test.deal, first, count, DEPTH, steps, LIMIT, serve, gate,
     )?;
@@ -88,4 +93,21 @@ pub fn big_of<R: Threads + Wait + Sync, G: Gate>(
     let text = write_counts(alloc, lines, steps, rows.as_slice(), groups.as_slice())?;
     let done = all_pass(rows.as_slice());
     Ok(Outcome { text, done })
+}
+
+/// The same counts, with the large script printed and parsed.
+pub fn big_outcome<R: Threads + Wait + Sync, G: Gate>(
+    rt: &R,
+    alloc: Global,
+    pieces: u32,
+    serve: Serve,
+    gate: &G,
+) -> Result<Outcome, Refusal>
+    requires { pieces ≤ 100 }
+    ensures { GivesPrinted (OfScript (layout (large_script pieces)) (OfBig pieces)) result }
+{
+    match large_test(alloc, pieces) {
+        Err(refusal) => Err(refusal),
+        Ok(test) => Ok(big_of(rt, alloc, &test, pieces, serve, gate)?),
+    }
 }

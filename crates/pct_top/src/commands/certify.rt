@@ -7,11 +7,11 @@ ghost use Rattle.directive.specs.Directive.{IsDirective};
 ghost use Rattle.pct_ask.specs.TraceText.{line_text};
 ghost use Rattle.pct_ask.specs.VerdictText.{thread_name, named_verdict, verdict_words, HasNames};
 ghost use Rattle.pct_ask.specs.VerdictText.{IsWholeVerdict};
+ghost use Rattle.pct_ask.specs.Limits.{IsStepCount};
 ghost use Rattle.script_tree.specs.ScriptSeen.{plain_script};
-ghost use Rattle.trace_text.specs.Lawful.{IsStepCount};
 ghost use Rattle.trace_text.specs.Spaced.{behind_spaces};
-ghost use Rattle.pct_top.specs.Printed.{directive_bytes};
 ghost use Rattle.pct_top.specs.Ready.{IsReadyTest};
+ghost use Rattle.pct_top.specs.Printed.{directive_bytes};
 ghost use Rattle.pct_top.specs.Files.{Misses};
 ghost use Rattle.pct_top.specs.Reads.{KeepsFile, is_unread};
 ghost use Rattle.pct_top.specs.Outcome.{printed_of, Comes};
@@ -25,10 +25,11 @@ use crate::lines::{push_count, push_number, push_verdict};
 use crate::outcome::Outcome;
 use crate::refusal::Refusal;
 use crate::test::Test;
+use crate::text::Text;
 use directive::Directive;
 use directive_run::{Certified, CertifyRow, certify_by};
 use itoa::Buffer;
-use pct_ask::{NameKind, Names, Verdict, name_at, write_spaced_word};
+use pct_ask::{Limit, NameKind, Names, Verdict, name_at, write_spaced_word};
 use pct_outside::{Gate, Shelf};
 use std::alloc::{AllocError as NoMemory, Global};
 use std::sync::Wait;
@@ -146,59 +147,62 @@ fn is_certified(certified: &Certified) -> bool
     matches!(certified, Certified::Yes { .. })
 }
 
-/// The certificate of a directive over a test.
-fn certificate_of<R: Threads + Wait + Sync, G: Gate>(
-    rt: &R,
-    alloc: Global,
-    test: &Test,
-    directive: &Directive,
-    steps: u32,
-    limit: u32,
-    serve: Serve,
-    gate: &G,
-) -> Result<Outcome, NoMemory>
-    requires ready { IsReadyTest test.now }
-    requires directive { (bytes : List ℕ)
-        × IsDirective bytes (plain_script test.now.script).names (plain directive.now) }
-    requires steps { IsStepCount steps }
-    requires limit { IsStepCount limit }
-    ensures { IfOk result (λ outcome. PrintsCertificate (plain_script test.now.script) test.now.deal
-        steps limit directive.now (printed_of outcome)) }
-{
-    let certified = certify_by(
-        rt, alloc, &test.code, &test.deal, directive, steps, limit, serve, gate,
-    )?;
-    let text = write_certificate(alloc, test.script.names(), &certified)?;
-    let done = is_certified(&certified);
-    Ok(Outcome { text, done })
+/// The certificate of the directive of a file over a script, for runs of at most `steps` steps.
+#[derive(Debug, Drop)]
+pub struct CertifyTask {
+    pub directive: Text,
+    pub steps: u32,
+    pub limit: Limit,
+    pub serve: Serve,
+    ghost steps_fit: { IsStepCount steps },
 }
 
-/// The certificate of the directive of a file over a test.
-pub fn certify_file<R: Threads + Wait + Sync, H: Shelf, G: Gate>(
-    rt: &R,
-    alloc: Global,
-    test: &Test,
-    directive: &str,
-    steps: u32,
-    limit: u32,
-    serve: Serve,
-    shelf: &mut H,
-    gate: &G,
-) -> Result<Outcome, Refusal>
-    requires ready { IsReadyTest test.now }
-    requires steps { IsStepCount steps }
-    requires limit { IsStepCount limit }
-    ensures comes { Comes
-        (λ files. OfCertify (take directive_bytes (files directive.now)) steps limit
-        (plain_script test.now.script) test.now.deal)
-        (H.files shelf.old)
-        (Misses (Some directive.now) (H.failed shelf.old) (H.failed shelf.new)) result }
-    ensures keeps { KeepsFile (Some directive.now) (is_unread result) (H.failed shelf.old)
-        (H.failed shelf.new) }
-    ensures files { H.files shelf.new ≡ H.files shelf.old }
-{
-    match read_directed(alloc, directive, test.script.names(), shelf) {
-        Err(refusal) => Err(refusal),
-        Ok(plan) => Ok(certificate_of(rt, alloc, test, &plan, steps, limit, serve, gate)?),
+impl CertifyTask {
+    fn certificate_of<R: Threads + Wait + Sync, G: Gate>(
+        &self,
+        rt: &R,
+        alloc: Global,
+        test: &Test,
+        directive: &Directive,
+        gate: &G,
+    ) -> Result<Outcome, NoMemory>
+        requires ready { IsReadyTest test.now }
+        requires directive { (bytes : List ℕ)
+            × IsDirective bytes (plain_script test.now.script).names (plain directive.now) }
+        ensures { IfOk result (λ outcome. PrintsCertificate (plain_script test.now.script)
+            test.now.deal self.now.steps self.now.limit directive.now (printed_of outcome)) }
+    {
+        let limit = self.limit.steps();
+        let certified = certify_by(
+            rt, alloc, &test.code, &test.deal, directive, self.steps, limit, self.serve, gate,
+        )?;
+        let text = write_certificate(alloc, test.script.names(), &certified)?;
+        let done = is_certified(&certified);
+        Ok(Outcome { text, done })
+    }
+
+    pub fn certify_file<R: Threads + Wait + Sync, H: Shelf, G: Gate>(
+        &self,
+        rt: &R,
+        alloc: Global,
+        test: &Test,
+        directive: &str,
+        shelf: &mut H,
+        gate: &G,
+    ) -> Result<Outcome, Refusal>
+        requires ready { IsReadyTest test.now }
+        ensures comes { Comes
+            (λ files. OfCertify (take directive_bytes (files directive.now)) self.now.steps
+            self.now.limit (plain_script test.now.script) test.now.deal)
+            (H.files shelf.old)
+            (Misses (Some directive.now) (H.failed shelf.old) (H.failed shelf.new)) result }
+        ensures keeps { KeepsFile (Some directive.now) (is_unread result) (H.failed shelf.old)
+            (H.failed shelf.new) }
+        ensures files { H.files shelf.new ≡ H.files shelf.old }
+    {
+        match read_directed(alloc, directive, test.script.names(), shelf) {
+            Err(refusal) => Err(refusal),
+            Ok(plan) => Ok(self.certificate_of(rt, alloc, test, &plan, gate)?),
+        }
     }
 }

@@ -1,23 +1,25 @@
 //! `sweep`: what every choice of an order and change points leads to.
 
 ghost use Rattle.std.specs.Prelude.{◌≡◌, ◌≤◌, ◌<◌, List, Some, All, IfOk, IfSome, map};
+ghost use Rattle.std.proofs.Props.{props};
 ghost use Rattle.script_tree.specs.ScriptSeen.{plain_script};
-ghost use Rattle.trace_text.specs.Lawful.{IsStepCount};
+ghost use Rattle.pct_ask.specs.Limits.{IsStepCount};
 ghost use Rattle.report_text.specs.Report.{IsTellable};
 ghost use Rattle.report_text.specs.declared.swept.SweptGroup.{SweptGroup};
 ghost use Rattle.failure_rank.specs.declared.group.Group.{Group};
 ghost use Rattle.sweep.specs.Choices.{most_choices};
-ghost use Rattle.pct_top.specs.Settings.{IsDepth};
 ghost use Rattle.pct_top.specs.Ready.{IsReadyTest};
+ghost use Rattle.pct_top.specs.Settings.{IsDepth};
 ghost use Rattle.pct_top.specs.Outcome.{printed_of};
 ghost use Rattle.pct_top.specs.commands.Sweep.{count_in, told_group, AreTold, sweep_report};
 ghost use Rattle.pct_top.specs.commands.Sweep.{too_many_text, OfSweep};
 
 use crate::lines::push_count;
 use crate::outcome::Outcome;
-use crate::priorities::steps_of;
+use crate::run_plan::steps_of;
 use crate::test::Test;
 use failure_rank::Group;
+use pct_ask::Limit;
 use pct_outside::Gate;
 use report_text::{Frame, SweptGroup, sweep_json, sweep_text};
 use script_tree::Script;
@@ -96,45 +98,53 @@ fn too_many(alloc: Global, threads: u32) -> Result<Vec<u8>, NoMemory>
     Ok(text)
 }
 
-/// The report on all choices of an order of a test's threads and of `depth - 1` change points.
-pub fn sweep_of<R: Threads + Wait + Sync, G: Gate>(
-    rt: &R,
-    alloc: Global,
-    test: &Test,
-    depth: u32,
-    steps: Option<u32>,
-    limit: u32,
-    json: bool,
-    serve: Serve,
-    gate: &G,
-) -> Result<Outcome, NoMemory>
-    requires ready { IsReadyTest test.now }
-    requires depth { IsDepth depth }
-    requires steps { IfSome steps IsStepCount }
-    requires limit { IsStepCount limit }
-    ensures { IfOk result (λ outcome. OfSweep depth steps limit json
-        (plain_script test.now.script) test.now.deal (printed_of outcome)) }
-{
-    let steps = steps_of(rt, alloc, test, steps, limit, serve, gate)?;
-    let frame = Frame {
-        threads: test.deal.threads,
-        steps,
-        depth,
-        limit,
-    };
-    let points = depth - 1;
-    match sweep(
-        rt, alloc, &test.code, &test.deal, points, steps, limit, serve, gate,
-    )? {
-        Answer::Whole(swept) => {
-            let told = told_groups(alloc, &frame, swept.groups.as_slice())?;
-            let text = write_report(alloc, json, &test.script, &frame, &swept, told.as_slice())?;
-            let done = swept.groups.len() == 0;
-            Ok(Outcome { text, done })
+/// The report on all choices of an order of a script's threads and of `depth - 1` change points.
+#[derive(Debug, Drop)]
+pub struct SweepTask {
+    pub depth: u32,
+    pub steps: Option<u32>,
+    pub limit: Limit,
+    pub json: bool,
+    pub serve: Serve,
+    ghost depth_fits: { IsDepth depth },
+    ghost steps_fit: { IfSome steps IsStepCount } by { Prim.hlevel props },
+}
+
+impl SweepTask {
+    pub fn report_on<R: Threads + Wait + Sync, G: Gate>(
+        &self,
+        rt: &R,
+        alloc: Global,
+        test: &Test,
+        gate: &G,
+    ) -> Result<Outcome, NoMemory>
+        requires ready { IsReadyTest test.now }
+        ensures { IfOk result (λ outcome. OfSweep self.now.depth self.now.steps self.now.limit
+            self.now.json (plain_script test.now.script) test.now.deal (printed_of outcome)) }
+    {
+        let steps = steps_of(rt, alloc, test, self.steps, self.limit, self.serve, gate)?;
+        let limit = self.limit.steps();
+        let frame = Frame {
+            threads: test.deal.threads,
+            steps,
+            depth: self.depth,
+            limit,
+        };
+        let points = self.depth - 1;
+        match sweep(
+            rt, alloc, &test.code, &test.deal, points, steps, limit, self.serve, gate,
+        )? {
+            Answer::Whole(swept) => {
+                let told = told_groups(alloc, &frame, swept.groups.as_slice())?;
+                let told = told.as_slice();
+                let text = write_report(alloc, self.json, &test.script, &frame, &swept, told)?;
+                let done = swept.groups.len() == 0;
+                Ok(Outcome { text, done })
+            }
+            Answer::TooMany => Ok(Outcome {
+                text: too_many(alloc, frame.threads)?,
+                done: false,
+            }),
         }
-        Answer::TooMany => Ok(Outcome {
-            text: too_many(alloc, frame.threads)?,
-            done: false,
-        }),
     }
 }

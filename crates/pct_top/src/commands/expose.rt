@@ -5,10 +5,10 @@ ghost use Rattle.rank_now.specs.Order.{IsOrder};
 ghost use Rattle.directive_run.specs.Exposing.{Exposes};
 ghost use Rattle.script_body.specs.Bodies.{bodies_of};
 ghost use Rattle.script_tree.specs.ScriptSeen.{plain_script};
-ghost use Rattle.trace_text.specs.Lawful.{IsStepCount};
+ghost use Rattle.pct_ask.specs.Limits.{IsStepCount};
+ghost use Rattle.pct_top.specs.Ready.{IsReadyTest};
 ghost use Rattle.pct_top.specs.Ordered.{OrderFits};
 ghost use Rattle.pct_top.specs.Printed.{directive_bytes};
-ghost use Rattle.pct_top.specs.Ready.{IsReadyTest};
 ghost use Rattle.pct_top.specs.Files.{Misses};
 ghost use Rattle.pct_top.specs.Reads.{KeepsSecond, is_unread};
 ghost use Rattle.pct_top.specs.Outcome.{printed_of, Comes};
@@ -18,14 +18,14 @@ use crate::files::read_directed;
 use crate::lines::push_count;
 use crate::order::order_given;
 use crate::outcome::Outcome;
-use crate::priorities::Priorities;
 use crate::refusal::Refusal;
+use crate::run_plan::RunPlan;
 use crate::test::Test;
-use crate::text::TextList;
+use crate::text::{Text, TextList};
 use crate::traces::told_trace;
 use directive::Directive;
 use directive_run::{Exposed, expose};
-use pct_ask::OrderList;
+use pct_ask::{Limit, OrderList};
 use pct_outside::{Gate, Shelf};
 use std::alloc::{AllocError as NoMemory, Global};
 use std::sync::Wait;
@@ -40,110 +40,117 @@ fn write_long(alloc: Global, steps: u32) -> Result<Vec<u8>, NoMemory>
     Ok(text)
 }
 
-/// What is written of what was exposed under this order.
-fn told_exposed(
-    alloc: Global,
-    test: &Test,
-    order: OrderList,
-    directive: &Directive,
-    steps: u32,
-    limit: u32,
-    exposed: Exposed,
-) -> Result<Outcome, NoMemory>
-    requires ready { IsReadyTest test.now }
-    requires order { IsOrder order }
-    requires whole { length order ≡ test.now.deal.threads }
-    requires steps { IsStepCount steps }
-    requires limit { IsStepCount limit }
-    requires exposed { Exposes test.now.deal (bodies_of (plain_script test.now.script)) order
-        directive.now.events steps limit exposed }
-    ensures { IfOk result
-        (λ outcome. TellsExposed (plain_script test.now.script) test.now.deal order limit
-        directive.now.verdict exposed (printed_of outcome)) }
-{
-    match exposed {
-        Exposed::Points { points, played } => {
-            let run = played.into_whole();
-            let done = run.verdict == directive.verdict;
-            let priorities = Priorities { order, points };
-            told_trace(alloc, &test.script, priorities, limit, &run, done)
+/// The run of a script that the directive of a file exposes under the order that names give, which
+/// stand in the word of this number. It has at most `limit` steps, and points stand for the
+/// directive's moments where it has at most `steps`.
+#[derive(Debug, Drop)]
+pub struct ExposeTask {
+    pub directive: Text,
+    pub order: TextList,
+    pub word: u32,
+    pub steps: u32,
+    pub limit: Limit,
+    ghost steps_fit: { IsStepCount steps },
+}
+
+impl ExposeTask {
+    /// What is written of what was exposed under this order.
+    fn told_exposed(
+        &self,
+        alloc: Global,
+        test: &Test,
+        order: OrderList,
+        directive: &Directive,
+        exposed: Exposed,
+    ) -> Result<Outcome, NoMemory>
+        requires ready { IsReadyTest test.now }
+        requires order { IsOrder order }
+        requires whole { length order ≡ test.now.deal.threads }
+        requires exposed { Exposes test.now.deal (bodies_of (plain_script test.now.script)) order
+            directive.now.events self.now.steps self.now.limit exposed }
+        ensures { IfOk result
+            (λ outcome. TellsExposed (plain_script test.now.script) test.now.deal order
+            self.now.limit directive.now.verdict exposed (printed_of outcome)) }
+    {
+        match exposed {
+            Exposed::Points { points, played } => {
+                let run = played.into_whole();
+                let done = run.verdict == directive.verdict;
+                let plan = RunPlan {
+                    order,
+                    points,
+                    limit: self.limit,
+                };
+                told_trace(alloc, &test.script, plan, &run, done)
+            }
+            Exposed::TooLong { steps } => Ok(Outcome {
+                text: write_long(alloc, steps)?,
+                done: false,
+            }),
         }
-        Exposed::TooLong { steps } => Ok(Outcome {
-            text: write_long(alloc, steps)?,
-            done: false,
-        }),
     }
-}
 
-/// What a directive exposes over a test, under this order.
-fn exposed_by<R: Threads + Wait + Sync, G: Gate>(
-    rt: &R,
-    alloc: Global,
-    test: &Test,
-    order: OrderList,
-    directive: &Directive,
-    steps: u32,
-    limit: u32,
-    gate: &G,
-) -> Result<Outcome, NoMemory>
-    requires ready { IsReadyTest test.now }
-    requires order { IsOrder order }
-    requires whole { length order ≡ test.now.deal.threads }
-    requires steps { IsStepCount steps }
-    requires limit { IsStepCount limit }
-    ensures { IfOk result
-        (λ outcome. PrintsExposed (plain_script test.now.script) test.now.deal order
-        steps limit directive.now (printed_of outcome)) }
-{
-    let exposed = expose(
-        rt,
-        alloc,
-        &test.code,
-        &test.deal,
-        order.as_slice(),
-        directive,
-        steps,
-        limit,
-        gate,
-    )?;
-    told_exposed(alloc, test, order, directive, steps, limit, exposed)
-}
+    /// What a directive exposes over a test, under this order.
+    fn exposed_by<R: Threads + Wait + Sync, G: Gate>(
+        &self,
+        rt: &R,
+        alloc: Global,
+        test: &Test,
+        order: OrderList,
+        directive: &Directive,
+        gate: &G,
+    ) -> Result<Outcome, NoMemory>
+        requires ready { IsReadyTest test.now }
+        requires order { IsOrder order }
+        requires whole { length order ≡ test.now.deal.threads }
+        ensures { IfOk result
+            (λ outcome. PrintsExposed (plain_script test.now.script) test.now.deal order
+            self.now.steps self.now.limit directive.now (printed_of outcome)) }
+    {
+        let exposed = expose(
+            rt,
+            alloc,
+            &test.code,
+            &test.deal,
+            order.as_slice(),
+            directive,
+            self.steps,
+            self.limit.steps(),
+            gate,
+        )?;
+        self.told_exposed(alloc, test, order, directive, exposed)
+    }
 
-/// What the directive of a file exposes over a test, under the order that names give, which stand
-/// in the word of this number.
-pub fn expose_file<R: Threads + Wait + Sync, H: Shelf, G: Gate>(
-    rt: &R,
-    alloc: Global,
-    test: &Test,
-    directive: &str,
-    order: &TextList,
-    word: u32,
-    steps: u32,
-    limit: u32,
-    shelf: &mut H,
-    gate: &G,
-) -> Result<Outcome, Refusal>
-    requires ready { IsReadyTest test.now }
-    requires steps { IsStepCount steps }
-    requires limit { IsStepCount limit }
-    ensures comes { Comes
-        (λ files. OfExpose (take directive_bytes (files directive.now)) order.now word steps limit
-        (plain_script test.now.script) test.now.deal)
-        (H.files shelf.old)
-        (Misses (Some directive.now) (H.failed shelf.old) (H.failed shelf.new)
-        × OrderFits (plain_script test.now.script).names (Some order.now)) result }
-    ensures keeps { KeepsSecond (Some directive.now)
-        (OrderFits (plain_script test.now.script).names (Some order.now)) (is_unread result)
-        (H.failed shelf.old) (H.failed shelf.new) }
-    ensures files { H.files shelf.new ≡ H.files shelf.old }
-{
-    let names = test.script.names();
-    let order = match order_given(alloc, names, order.as_slice(), word) {
-        Ok(order) => order,
-        Err(refusal) => return Err(refusal),
-    };
-    match read_directed(alloc, directive, names, shelf) {
-        Err(refusal) => Err(refusal),
-        Ok(plan) => Ok(exposed_by(rt, alloc, test, order, &plan, steps, limit, gate)?),
+    pub fn expose_file<R: Threads + Wait + Sync, H: Shelf, G: Gate>(
+        &self,
+        rt: &R,
+        alloc: Global,
+        test: &Test,
+        directive: &str,
+        shelf: &mut H,
+        gate: &G,
+    ) -> Result<Outcome, Refusal>
+        requires ready { IsReadyTest test.now }
+        ensures comes { Comes
+            (λ files. OfExpose (take directive_bytes (files directive.now)) self.now.order
+            self.now.word self.now.steps self.now.limit (plain_script test.now.script)
+            test.now.deal)
+            (H.files shelf.old)
+            (Misses (Some directive.now) (H.failed shelf.old) (H.failed shelf.new)
+            × OrderFits (plain_script test.now.script).names (Some self.now.order)) result }
+        ensures keeps { KeepsSecond (Some directive.now)
+            (OrderFits (plain_script test.now.script).names (Some self.now.order))
+            (is_unread result) (H.failed shelf.old) (H.failed shelf.new) }
+        ensures files { H.files shelf.new ≡ H.files shelf.old }
+    {
+        let names = test.script.names();
+        let order = match order_given(alloc, names, self.order.as_slice(), self.word) {
+            Ok(order) => order,
+            Err(refusal) => return Err(refusal),
+        };
+        match read_directed(alloc, directive, names, shelf) {
+            Err(refusal) => Err(refusal),
+            Ok(plan) => Ok(self.exposed_by(rt, alloc, test, order, &plan, gate)?),
+        }
     }
 }

@@ -1,10 +1,9 @@
 //! `find`: from a script's failing run to a short directive.
 
 ghost use Rattle.std.specs.Prelude.{◌≡◌, ◌≤◌, ◌<◌, length, IfOk};
+ghost use Rattle.priority_draw.specs.Orders.{IsOrderOf};
 ghost use Rattle.script_tree.specs.ScriptSeen.{plain_script};
-ghost use Rattle.trace_text.specs.Lawful.{IsStepCount};
 ghost use Rattle.pct_top.specs.Ready.{IsReadyTest};
-ghost use Rattle.pct_top.specs.Priorities.{ArePriorities};
 ghost use Rattle.pct_top.specs.Outcome.{printed_of};
 ghost use Rattle.pct_top.specs.commands.Find.{last_of, found_text, IsWellFormed};
 ghost use Rattle.pct_top.specs.commands.Find.{is_pass as passes_by, PrintsFound};
@@ -12,7 +11,7 @@ ghost use Rattle.pct_top.specs.commands.KnownFinding.{IsKnownFinding};
 
 use crate::lines::push_count;
 use crate::outcome::Outcome;
-use crate::priorities::Priorities;
+use crate::run_plan::RunPlan;
 use crate::test::Test;
 use directive::{Directive, write_directive};
 use directive_find::{FoundOut, find};
@@ -64,25 +63,30 @@ fn write_found(
     }
 }
 
-/// The short directive of a test's run under these priorities.
+/// The short directive of a test's run by this plan.
 pub fn directive_of<R: Threads + Wait + Sync, G: Gate>(
     rt: &R,
     alloc: Global,
     test: &Test,
-    priorities: Priorities,
-    limit: u32,
+    plan: RunPlan,
     gate: &G,
 ) -> Result<Outcome, NoMemory>
     requires ready { IsReadyTest test.now }
-    requires priorities { ArePriorities test.now.deal.threads priorities }
-    requires limit { IsStepCount limit }
+    requires order { IsOrderOf test.now.deal.threads plan.order }
     ensures { IfOk result (λ outcome. PrintsFound (plain_script test.now.script) test.now.deal
-        priorities.order priorities.points limit (printed_of outcome)) }
+        plan.order plan.points plan.limit (printed_of outcome)) }
 {
-    let order = priorities.order.as_slice();
-    let points = priorities.points.as_slice();
+    let order = plan.order.as_slice();
+    let points = plan.points.as_slice();
     let found = find(
-        rt, alloc, &test.code, &test.deal, order, points, limit, gate,
+        rt,
+        alloc,
+        &test.code,
+        &test.deal,
+        order,
+        points,
+        plan.limit.steps(),
+        gate,
     )?;
     let done = passes(&found);
     let text = write_found(alloc, test.script.names(), order, found)?;

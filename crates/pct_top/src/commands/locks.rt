@@ -2,10 +2,9 @@
 
 ghost use Rattle.std.specs.Prelude.{◌≡◌, ◌++◌, ◌∷◌, map, OnOk, IfOk, codes};
 ghost use Rattle.pct_ask.specs.TraceText.{name_at, line_text};
+ghost use Rattle.priority_draw.specs.Orders.{IsOrderOf};
 ghost use Rattle.script_tree.specs.ScriptSeen.{plain_script};
-ghost use Rattle.trace_text.specs.Lawful.{IsStepCount};
 ghost use Rattle.pct_top.specs.Ready.{IsReadyTest};
-ghost use Rattle.pct_top.specs.Priorities.{ArePriorities};
 ghost use Rattle.pct_top.specs.Outcome.{printed_of};
 ghost use Rattle.pct_top.specs.commands.Locks.{nesting_words, lock_text, is_order as is_order_by};
 ghost use Rattle.pct_top.specs.commands.Locks.{PrintsLocks};
@@ -13,7 +12,7 @@ ghost use Rattle.pct_top.specs.commands.Locks.{PrintsLocks};
 use crate::lines::{push_number, push_size};
 use crate::outcome::Outcome;
 use crate::playing::play;
-use crate::priorities::Priorities;
+use crate::run_plan::RunPlan;
 use crate::test::Test;
 use lock_order::{LockReport, Nesting, lock_order};
 use pct_ask::{NameKind, Names, name_at, write_spaced_word};
@@ -21,6 +20,7 @@ use pct_outside::Gate;
 use std::alloc::{AllocError as NoMemory, Global};
 use std::sync::Wait;
 use std::thread::Threads;
+use worker_run::Serve;
 
 /// The line of a nesting.
 fn push_nesting(out: &mut Vec<u8>, names: &Names, nesting: &Nesting) -> Result<(), NoMemory>
@@ -77,19 +77,15 @@ pub fn locks_of<R: Threads + Wait + Sync, G: Gate>(
     rt: &R,
     alloc: Global,
     test: &Test,
-    priorities: Priorities,
-    limit: u32,
+    plan: RunPlan,
     gate: &G,
 ) -> Result<Outcome, NoMemory>
     requires ready { IsReadyTest test.now }
-    requires priorities { ArePriorities test.now.deal.threads priorities }
-    requires limit { IsStepCount limit }
+    requires order { IsOrderOf test.now.deal.threads plan.order }
     ensures { IfOk result (λ outcome. PrintsLocks (plain_script test.now.script) test.now.deal
-        priorities.order priorities.points limit (printed_of outcome)) }
+        plan.order plan.points plan.limit (printed_of outcome)) }
 {
-    let order = priorities.order.as_slice();
-    let points = priorities.points.as_slice();
-    let run = play(rt, alloc, test, order, points, limit, gate)?;
+    let run = play(rt, alloc, test, &plan, Serve::Threads, gate)?;
     let report = lock_order(alloc, &test.deal, run.events.as_slice())?;
     let text = write_report(alloc, test.script.names(), &report)?;
     let done = is_order(&report);

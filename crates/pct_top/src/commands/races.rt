@@ -2,17 +2,16 @@
 
 ghost use Rattle.std.specs.Prelude.{◌≡◌, ◌++◌, OnOk, IfOk};
 ghost use Rattle.pct_ask.specs.TraceText.{line_text};
+ghost use Rattle.priority_draw.specs.Orders.{IsOrderOf};
 ghost use Rattle.script_tree.specs.ScriptSeen.{plain_script};
-ghost use Rattle.trace_text.specs.Lawful.{IsStepCount};
 ghost use Rattle.pct_top.specs.Ready.{IsReadyTest};
-ghost use Rattle.pct_top.specs.Priorities.{ArePriorities};
 ghost use Rattle.pct_top.specs.Outcome.{printed_of};
 ghost use Rattle.pct_top.specs.commands.Races.{race_words, race_text, PrintsRaces};
 
 use crate::lines::{push_number, push_size};
 use crate::outcome::Outcome;
 use crate::playing::play;
-use crate::priorities::Priorities;
+use crate::run_plan::RunPlan;
 use crate::test::Test;
 use hb_race::{Race, races};
 use pct_ask::{NameKind, Names, name_at, write_spaced_word};
@@ -20,7 +19,7 @@ use pct_outside::Gate;
 use std::alloc::{AllocError as NoMemory, Global};
 use std::sync::Wait;
 use std::thread::Threads;
-use worker_run::Played;
+use worker_run::{Played, Serve};
 
 /// The line of a race.
 fn push_race(out: &mut Vec<u8>, names: &Names, race: &Race) -> Result<(), NoMemory>
@@ -47,24 +46,20 @@ fn write_races(alloc: Global, names: &Names, races: &[Race]) -> Result<Vec<u8>, 
     Ok(text)
 }
 
-/// The races of a test's run under these priorities.
+/// The races of a test's run by this plan.
 pub fn races_of<R: Threads + Wait + Sync, G: Gate>(
     rt: &R,
     alloc: Global,
     test: &Test,
-    priorities: Priorities,
-    limit: u32,
+    plan: RunPlan,
     gate: &G,
 ) -> Result<Outcome, NoMemory>
     requires ready { IsReadyTest test.now }
-    requires priorities { ArePriorities test.now.deal.threads priorities }
-    requires limit { IsStepCount limit }
+    requires order { IsOrderOf test.now.deal.threads plan.order }
     ensures { IfOk result (λ outcome. PrintsRaces (plain_script test.now.script) test.now.deal
-        priorities.order priorities.points limit (printed_of outcome)) }
+        plan.order plan.points plan.limit (printed_of outcome)) }
 {
-    let order = priorities.order.as_slice();
-    let points = priorities.points.as_slice();
-    let run = play(rt, alloc, test, order, points, limit, gate)?;
+    let run = play(rt, alloc, test, &plan, Serve::Threads, gate)?;
     let found = races(alloc, &test.deal, &Played::from(run))?;
     let text = write_races(alloc, test.script.names(), found.as_slice())?;
     let done = found.len() == 0;

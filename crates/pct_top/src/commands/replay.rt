@@ -4,8 +4,8 @@ ghost use Rattle.std.specs.Prelude.{◌≡◌, ℕ, ◌∷◌, ◌++◌, List, S
 ghost use Rattle.pct_ask.specs.TraceText.{line_text};
 ghost use Rattle.script_tree.specs.ScriptSeen.{plain_script};
 ghost use Rattle.trace_text.specs.Trace.{IsTrace};
-ghost use Rattle.pct_top.specs.Printed.{trace_bytes};
 ghost use Rattle.pct_top.specs.Ready.{IsReadyTest};
+ghost use Rattle.pct_top.specs.Printed.{trace_bytes};
 ghost use Rattle.pct_top.specs.Files.{Misses};
 ghost use Rattle.pct_top.specs.Reads.{KeepsFile, is_unread};
 ghost use Rattle.pct_top.specs.Outcome.{printed_of, Comes};
@@ -19,6 +19,7 @@ use crate::lines::{push_count, push_thread, push_verdict};
 use crate::outcome::Outcome;
 use crate::refusal::Refusal;
 use crate::test::Test;
+use crate::text::Text;
 use pct_ask::Names;
 use pct_outside::{Gate, Shelf};
 use replay_run::{Found, Replayed, Written, replay};
@@ -118,7 +119,7 @@ pub fn reply_to_file<R: Threads + Wait + Sync, H: Shelf, G: Gate>(
     shelf: &mut H,
     gate: &G,
 ) -> Result<Outcome, Refusal>
-    requires { IsReadyTest test.now }
+    requires ready { IsReadyTest test.now }
     ensures comes { Comes
         (λ files.
         OfReplay (take trace_bytes (files trace.now)) (plain_script test.now.script) test.now.deal)
@@ -132,4 +133,10 @@ pub fn reply_to_file<R: Threads + Wait + Sync, H: Shelf, G: Gate>(
         Err(refusal) => Err(refusal),
         Ok(told) => Ok(reply_to(rt, alloc, test, &told, gate)?),
     }
+}
+
+/// The replay of the trace of a file over a script.
+#[derive(Debug, Drop)]
+pub struct ReplayTask {
+    pub trace: Text,
 }

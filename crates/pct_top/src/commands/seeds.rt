@@ -1,22 +1,23 @@
 //! `campaign`: the report on a script's runs over seeds.
 
 ghost use Rattle.std.specs.Prelude.{◌≡◌, All, IfOk, IfSome};
+ghost use Rattle.std.proofs.Props.{props};
 ghost use Rattle.script_tree.specs.ScriptSeen.{plain_script};
-ghost use Rattle.trace_text.specs.Lawful.{IsStepCount};
+ghost use Rattle.pct_ask.specs.Limits.{IsStepCount};
 ghost use Rattle.report_text.specs.Report.{IsWritable};
-ghost use Rattle.pct_top.specs.Settings.{IsDepth};
 ghost use Rattle.pct_top.specs.Ready.{IsReadyTest};
+ghost use Rattle.pct_top.specs.Settings.{IsDepth};
 ghost use Rattle.pct_top.specs.Outcome.{printed_of};
 ghost use Rattle.pct_top.specs.commands.Campaign.{all_pass as all_pass_by, campaign_text};
 ghost use Rattle.pct_top.specs.commands.Campaign.{OfCampaign};
 
 use crate::outcome::Outcome;
-use crate::priorities::steps_of;
+use crate::run_plan::steps_of;
 use crate::test::Test;
 use crate::traces::is_passed;
 use campaign::campaign_by;
 use failure_rank::{Groups, rank};
-use pct_ask::{Row, RowList};
+use pct_ask::{Limit, Row, RowList};
 use pct_outside::Gate;
 use report_text::{Frame, json_report, text_report};
 use script_tree::Script;
@@ -58,40 +59,49 @@ fn write_report(
     }
 }
 
-/// The report on a test's runs of so many seeds.
-pub fn report_on<R: Threads + Wait + Sync, G: Gate>(
-    rt: &R,
-    alloc: Global,
-    test: &Test,
-    first: u64,
-    count: u32,
-    depth: u32,
-    steps: Option<u32>,
-    limit: u32,
-    json: bool,
-    serve: Serve,
-    gate: &G,
-) -> Result<Outcome, NoMemory>
-    requires ready { IsReadyTest test.now }
-    requires count { IsStepCount count }
-    requires depth { IsDepth depth }
-    requires steps { IfSome steps IsStepCount }
-    requires limit { IsStepCount limit }
-    ensures { IfOk result (λ outcome. OfCampaign first count depth steps limit json
-        (plain_script test.now.script) test.now.deal (printed_of outcome)) }
-{
-    let steps = steps_of(rt, alloc, test, steps, limit, serve, gate)?;
-    let rows = campaign_by(
-        rt, alloc, &test.code, &test.deal, first, count, depth, steps, limit, serve, gate,
-    )?;
-    let groups = rank(alloc, &rows)?;
-    let frame = Frame {
-        threads: test.deal.threads,
-        steps,
-        depth,
-        limit,
-    };
-    let text = write_report(alloc, json, &test.script, &frame, &rows, &groups)?;
-    let done = all_pass(rows.as_slice());
-    Ok(Outcome { text, done })
+/// The report on the runs of a script of `count` seeds from `first` on.
+#[derive(Debug, Drop)]
+pub struct CampaignTask {
+    pub first: u64,
+    pub count: u32,
+    pub depth: u32,
+    pub steps: Option<u32>,
+    pub limit: Limit,
+    pub json: bool,
+    pub serve: Serve,
+    ghost count_fits: { IsStepCount count },
+    ghost depth_fits: { IsDepth depth },
+    ghost steps_fit: { IfSome steps IsStepCount } by { Prim.hlevel props },
+}
+
+impl CampaignTask {
+    pub fn report_on<R: Threads + Wait + Sync, G: Gate>(
+        &self,
+        rt: &R,
+        alloc: Global,
+        test: &Test,
+        gate: &G,
+    ) -> Result<Outcome, NoMemory>
+        requires ready { IsReadyTest test.now }
+        ensures { IfOk result (λ outcome. OfCampaign self.now.first self.now.count self.now.depth
+            self.now.steps self.now.limit self.now.json (plain_script test.now.script)
+            test.now.deal (printed_of outcome)) }
+    {
+        let steps = steps_of(rt, alloc, test, self.steps, self.limit, self.serve, gate)?;
+        let limit = self.limit.steps();
+        let rows = campaign_by(
+            rt, alloc, &test.code, &test.deal, self.first, self.count, self.depth, steps, limit,
+            self.serve, gate,
+        )?;
+        let groups = rank(alloc, &rows)?;
+        let frame = Frame {
+            threads: test.deal.threads,
+            steps,
+            depth: self.depth,
+            limit,
+        };
+        let text = write_report(alloc, self.json, &test.script, &frame, &rows, &groups)?;
+        let done = all_pass(rows.as_slice());
+        Ok(Outcome { text, done })
+    }
 }

@@ -1,95 +1,76 @@
-use Rattle.std.proofs.Common.{Ok, subst, ◌∙◌}
-use Rattle.script_tree.specs.ScriptSeen.{plain_script}
+use Rattle.std.proofs.Common.{◌≡◌, List, ℕ, Ok, Some, None, refl, sym, subst, ap, ◌∙◌}
+use Rattle.script_tree.specs.Layout.{layout}
+use Rattle.large_script.specs.Large.{large_script}
 use Rattle.pct_top.specs.Outside.{ShelfTold}
-use Rattle.pct_top.specs.Output.{script_file, script_text, OfCommand}
-use Rattle.pct_top.specs.Outcome.{Comes}
-use Rattle.pct_top.specs.Files.{Misses}
-use Rattle.pct_top.specs.Reads.{is_read, is_unread}
-use Rattle.pct_top.specs.Call.{MissesSecond, ReadFailed}
-use Rattle.pct_top.proofs.Comes.{comes_untested, comes_tested, script_missed, second_missed}
-use Rattle.pct_top.proofs.Comes.{given_untested, given_tested}
-use Rattle.pct_top.proofs.Shelves.{leaves_script, leaves_both}
+use Rattle.pct_top.specs.declared.settings.Settings.{Settings}
+use Rattle.pct_top.specs.declared.settings.Settings.TheVariants.{Big}
+use Rattle.pct_top.specs.Plan.{asked, asked_by}
+use Rattle.pct_top.specs.Printed.{OfScript}
+use Rattle.pct_top.specs.commands.Big.{OfBig}
+use Rattle.pct_top.specs.Output.{script_file, OfTaken}
+use Rattle.pct_top.specs.Reads.{is_unread}
+use Rattle.pct_top.specs.Call.{LeavesShelf}
+use Rattle.pct_top.proofs.Comes.{gives_comes, comes_of_same}
+use Rattle.pct_top.proofs.Plans.{asked_file}
+use Rattle.pct_top.proofs.Shelves.{leaves_none, given_is_read}
 use Rattle.pct_top.proofs.dispatch.outcome_of.Goals as goal
 
-pub returns-in-Err-clause-comes : goal.returns-in-Err-clause-comes
-returns-in-Err-clause-comes g c =
-    let settings = c.args.settings.now in
+pub returns-in-Big-clause-comes : goal.returns-in-Big-clause-comes
+returns-in-Big-clause-comes g c =
+    let plan = c.in-Big in
+    rw (c.plan_of.ensures ∙ ap asked_by plan.is)
+    (gives_comes (OfTaken (Ok (Big plan.pieces plan.serve))) _ _ c.big_outcome.result
+    (λ files. c.big_outcome.ensures))
+
+pub returns-in-Big-clause-unread : goal.returns-in-Big-clause-unread
+returns-in-Big-clause-unread g c =
+    rw (c.plan_of.ensures ∙ ap asked_by c.in-Big.is) (λ none files. c.big_outcome.ensures)
+
+pub returns-in-Big-clause-shelf : goal.returns-in-Big-clause-shelf
+returns-in-Big-clause-shelf g c =
+    let pieces = c.in-Big.pieces in
+    leaves_none (Ok c.args.settings) _ _ _ refl
+    (given_is_read (OfScript (layout (large_script pieces)) (OfBig pieces)) c.big_outcome.result
+    c.big_outcome.ensures) refl
+
+is_some : {A : Type 0} {a : A} → Some a ≡ None → ⊥
+is_some e = cc
+
+pub returns-in-OfFile-clause-comes : goal.returns-in-OfFile-clause-comes
+returns-in-OfFile-clause-comes g c =
+    let plan = c.in-OfFile in
     let before : ShelfTold = record {
       files = g.H.Shelf.files c.args.shelf.now;
       failed = g.H.Shelf.failed c.args.shelf.now;
     } in
     let after : ShelfTold = record {
-      files = g.H.Shelf.files c.test_of.new.shelf;
-      failed = g.H.Shelf.failed c.test_of.new.shelf;
+      files = g.H.Shelf.files c.over_file.new.shelf;
+      failed = g.H.Shelf.failed c.over_file.new.shelf;
     } in
-    comes_untested before.files (script_text settings) (OfCommand settings)
-    (ReadFailed (Ok settings) before after)
-    (Misses (script_file settings) before.failed after.failed)
-    (script_missed settings before after) c.in-Err.refusal c.in-Err.ensures.test
+    comes_of_same c.args.settings (asked c.as_str.result.now plan.task)
+    (c.plan_of.ensures ∙ ap asked_by plan.is
+    ∙ ap (λ file. asked file plan.task) (sym c.as_str.ensures))
+    before after c.over_file.result c.over_file.ensures.comes
 
-pub returns-in-Ok-clause-comes : goal.returns-in-Ok-clause-comes
-returns-in-Ok-clause-comes g c =
-    let settings = c.args.settings.now in
-    let test = c.in-Ok.test in
-    let script = plain_script test.script in
-    let before : ShelfTold = record {
-      files = g.H.Shelf.files c.args.shelf.now;
-      failed = g.H.Shelf.failed c.args.shelf.now;
-    } in
-    let middle = g.H.Shelf.failed c.test_of.new.shelf in
-    let after : ShelfTold = record {
-      files = g.H.Shelf.files c.command_outcome.new.shelf;
-      failed = g.H.Shelf.failed c.command_outcome.new.shelf;
-    } in
-    let missed : Type 0 = MissesSecond settings script middle after.failed in
-    comes_tested before.files (script_text settings) (OfCommand settings)
-    (ReadFailed (Ok settings) before after) test c.in-Ok.ensures.test c.in-Ok.ensures.ready
-    missed (second_missed settings before after middle script c.in-Ok.ensures.test
-    c.in-Ok.ensures.keeps) c.command_outcome.result
-    (subst (λ told. Comes (λ files. OfCommand settings files script test.deal) told missed
-    c.command_outcome.result) c.in-Ok.ensures.files c.command_outcome.ensures.comes)
+pub returns-in-OfFile-clause-unread : goal.returns-in-OfFile-clause-unread
+returns-in-OfFile-clause-unread g c = λ none files.
+    let plan = c.in-OfFile in
+    let some : script_file c.args.settings ≡ Some plan.file =
+    ap script_file (c.plan_of.ensures ∙ ap asked_by plan.is) ∙ asked_file plan.file plan.task in
+    absurd (is_some (sym some ∙ none))
 
-pub returns-in-Err-clause-unread : goal.returns-in-Err-clause-unread
-returns-in-Err-clause-unread g c = λ none files.
-    let settings = c.args.settings.now in
-    given_untested (script_text settings files) (OfCommand settings files) c.in-Err.refusal
-    (c.in-Err.ensures.unread none files)
-
-pub returns-in-Ok-clause-unread : goal.returns-in-Ok-clause-unread
-returns-in-Ok-clause-unread g c = λ none files.
-    let settings = c.args.settings.now in
-    given_tested (script_text settings files) (OfCommand settings files) c.in-Ok.test
-    (c.in-Ok.ensures.unread none files) c.in-Ok.ensures.ready c.command_outcome.result
-    (c.command_outcome.ensures.unread none files)
-
-pub returns-in-Err-clause-shelf : goal.returns-in-Err-clause-shelf
-returns-in-Err-clause-shelf g c =
-    let settings = c.args.settings.now in
+pub returns-in-OfFile-clause-shelf : goal.returns-in-OfFile-clause-shelf
+returns-in-OfFile-clause-shelf g c =
+    let plan = c.in-OfFile in
     let before : ShelfTold = record {
       files = g.H.Shelf.files c.args.shelf.now;
       failed = g.H.Shelf.failed c.args.shelf.now;
     } in
     let after : ShelfTold = record {
-      files = g.H.Shelf.files c.test_of.new.shelf;
-      failed = g.H.Shelf.failed c.test_of.new.shelf;
+      files = g.H.Shelf.files c.over_file.new.shelf;
+      failed = g.H.Shelf.failed c.over_file.new.shelf;
     } in
-    leaves_script settings (is_read c.in-Err.refusal) before after c.in-Err.ensures.files
-    c.in-Err.ensures.keeps
-
-pub returns-in-Ok-clause-shelf : goal.returns-in-Ok-clause-shelf
-returns-in-Ok-clause-shelf g c =
-    let settings = c.args.settings.now in
-    let test = c.in-Ok.test in
-    let script = plain_script test.script in
-    let before : ShelfTold = record {
-      files = g.H.Shelf.files c.args.shelf.now;
-      failed = g.H.Shelf.failed c.args.shelf.now;
-    } in
-    let middle = g.H.Shelf.failed c.test_of.new.shelf in
-    let after : ShelfTold = record {
-      files = g.H.Shelf.files c.command_outcome.new.shelf;
-      failed = g.H.Shelf.failed c.command_outcome.new.shelf;
-    } in
-    leaves_both settings (is_unread c.command_outcome.result) before after
-    (c.command_outcome.ensures.files ∙ c.in-Ok.ensures.files) middle script c.in-Ok.ensures.test
-    c.in-Ok.ensures.keeps c.command_outcome.ensures.keeps
+    subst (λ (s : Settings). LeavesShelf (Ok s) (is_unread c.over_file.result) before after)
+    (sym (c.plan_of.ensures ∙ ap asked_by plan.is
+    ∙ ap (λ file. asked file plan.task) (sym c.as_str.ensures)))
+    c.over_file.ensures.shelf

@@ -1,61 +1,57 @@
-use Rattle.std.proofs.Common.{◌≡◌, List, Some, IfOk, map, refl, sym, subst}
+use Rattle.std.proofs.Common.{List, ℕ, Some, IfOk, length, refl, subst, arith, ◌≡◌, ◌≤◌}
 use Rattle.std.proofs.lemmas.Result.{IfOk-weaker}
-use Rattle.pct_ask.specs.declared.Deal.{Deal}
 use Rattle.pct_ask.specs.declared.verdict.Outcome.TheVariants.{Verdict as Ends}
-use Rattle.pct_ask.specs.Objects.{sizes_of_deal}
-use Rattle.pct_ask.specs.Bodies.{Pending, AreInRange}
 use Rattle.script_tree.specs.ScriptSeen.{plain_script}
-use Rattle.script_body.specs.BodyPosts.{pending_of_body}
 use Rattle.script_body.specs.Bodies.{bodies_of}
 use Rattle.policy_pick.specs.Plan.{ByPoints}
 use Rattle.worker_run.specs.declared.by_order.WholeRun.{WholeRun}
 use Rattle.worker_run.specs.Played.{IsPlayed}
-use Rattle.worker_run.specs.Run.{run}
 use Rattle.trace_text.specs.Lawful.{IsKnownRun}
-use Rattle.pct_top.specs.Runs.{trace_version}
+use Rattle.pct_top.specs.Runs.{run_of, trace_version}
 use Rattle.pct_top.proofs.KnownRuns.{known-run}
 use Rattle.pct_top.proofs.playing.play.Goals as goal
-
-pub run_by_points-requires-clause-in_range : goal.run_by_points-requires-clause-in_range
-run_by_points-requires-clause-in_range g c κs within =
-    let test = c.args.test.now in
-    let D : Deal → Type 0 = λ d. AreInRange (sizes_of_deal d)
-    (map pending_of_body c.in_ok-bodies.bodies.items) in
-    subst D (sym c.in_ok-deal.ensures)
-    (c.in_ok-bodies.ensures.in_range (plain_script test.script) test.deal c.requires.ready)
 
 pub returns-clause-run : goal.returns-clause-run
 returns-clause-run g c =
     let test = c.args.test.now in
+    let plan = c.args.plan.now in
     let script = plain_script test.script in
-    let order = c.args.order.now in
-    let points = c.args.points.now in
-    let D : Deal → Type 0 = λ d. IfOk c.run_by_points.result
-    (λ (r : WholeRun). run d (map pending_of_body c.in_ok-bodies.bodies.items) order points
-    c.args.limit ≡ Some (r.events, r.verdict)) in
-    let B : List Pending → Type 0 = λ bs.
-    IfOk c.run_by_points.result (λ (r : WholeRun). run test.deal bs order points c.args.limit
-    ≡ Some (r.events, r.verdict)) in
-    subst B (c.in_ok-bodies.ensures.script script (c.requires.ready).is_code)
-    (subst D c.in_ok-deal.ensures c.run_by_points.ensures.run)
+    let L : ℕ → Type 0 = λ limit. IfOk c.run_by_points.result (λ (run : WholeRun).
+    run_of script test.deal c.as_slice-order.result.now c.as_slice-points.result.now limit
+    ≡ Some (run.events, run.verdict)) in
+    let O : List ℕ → Type 0 = λ order. IfOk c.run_by_points.result (λ (run : WholeRun).
+    run_of script test.deal order c.as_slice-points.result.now plan.limit
+    ≡ Some (run.events, run.verdict)) in
+    let P : List ℕ → Type 0 = λ points. IfOk c.run_by_points.result (λ (run : WholeRun).
+    run_of script test.deal plan.order points plan.limit ≡ Some (run.events, run.verdict)) in
+    subst P c.as_slice-points.ensures (subst O c.as_slice-order.ensures
+    (subst L c.steps.ensures.number (c.run_by_points.ensures.run script c.requires.ready)))
 
 pub returns-clause-known : goal.returns-clause-known
 returns-clause-known g c =
     let test = c.args.test.now in
+    let limit = c.args.plan.now.limit in
     let script = plain_script test.script in
-    let plan = ByPoints c.args.order.now c.args.points.now in
-    let D : Deal → Type 0 = λ d. IfOk c.run_by_points.result
-    (λ (r : WholeRun). IsPlayed plan d
-    (map pending_of_body c.in_ok-bodies.bodies.items) c.args.limit
-    r.events (Ends r.verdict)) in
-    let B : List Pending → Type 0 = λ bs.
-    IfOk c.run_by_points.result (λ (r : WholeRun).
-    IsPlayed plan test.deal bs c.args.limit r.events (Ends r.verdict)) in
-    let played = subst B (c.in_ok-bodies.ensures.script script (c.requires.ready).is_code)
-    (subst D c.in_ok-deal.ensures c.run_by_points.ensures.played) in
+    let ready = c.requires.ready in
+    let plan = ByPoints c.as_slice-order.result.now c.as_slice-points.result.now in
+    let L : ℕ → Type 0 = λ steps. IfOk c.run_by_points.result (λ (run : WholeRun).
+    IsPlayed plan test.deal (bodies_of script) steps run.events (Ends run.verdict)) in
     IfOk-weaker c.run_by_points.result
-    (λ (r : WholeRun). IsPlayed plan test.deal (bodies_of script) c.args.limit r.events
-    (Ends r.verdict)) (λ (r : WholeRun).
-    IsKnownRun script.names (trace_version script) c.args.limit r.events r.verdict)
-    (λ r is. known-run script test.deal (c.requires.ready).sound (c.requires.ready).is_deal plan
-    c.args.limit r.events r.verdict (Ends r.verdict) refl is) played
+    (λ (run : WholeRun).
+    IsPlayed plan test.deal (bodies_of script) limit run.events (Ends run.verdict))
+    (λ (run : WholeRun).
+    IsKnownRun script.names (trace_version script) limit run.events run.verdict)
+    (λ run is. known-run script test.deal ready.sound ready.is_deal plan limit run.events
+    run.verdict (Ends run.verdict) refl is)
+    (subst L c.steps.ensures.number (c.run_by_points.ensures.played script ready))
+
+pub returns-clause-short : goal.returns-clause-short
+returns-clause-short g c =
+    let test = c.args.test.now in
+    let script = plain_script test.script in
+    IfOk-weaker c.run_by_points.result
+    (λ (run : WholeRun). IsKnownRun script.names (trace_version script)
+    c.args.plan.now.limit run.events run.verdict)
+    (λ (run : WholeRun). length run.events ≤ 100000)
+    (λ run known. omega (arith, known.few, (c.steps.ensures.fits).1, c.steps.ensures.number))
+    (returns-clause-known g c)

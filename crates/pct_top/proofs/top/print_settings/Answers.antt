@@ -23,7 +23,7 @@ returns-in-Err-clause-answers g c =
       faults = g.O.Sink.faults c.args.out.now;
       shorts = g.O.Sink.shorts c.args.out.now;
     } in
-    answers_refused (Ok c.args.settings.now) shelf shelf' out c.in-Err.refusal
+    answers_refused (Ok c.args.settings) shelf shelf' out c.in-Err.refusal
     c.in-Err.ensures.comes
 
 pub returns-in-Ok-clause-answers : goal.returns-in-Ok-clause-answers
@@ -46,7 +46,7 @@ returns-in-Ok-clause-answers g c =
       faults = g.O.Sink.faults c.put_outcome.new.out;
       shorts = g.O.Sink.shorts c.put_outcome.new.out;
     } in
-    answers_put (Ok c.args.settings.now) shelf shelf' out out' c.in-Ok.outcome c.put_outcome.result
+    answers_put (Ok c.args.settings) shelf shelf' out out' c.in-Ok.outcome c.put_outcome.result
     c.in-Ok.ensures.comes c.put_outcome.ensures
 
 pub returns-in-Err-clause-unread : goal.returns-in-Err-clause-unread
@@ -64,9 +64,9 @@ returns-in-Err-clause-unread g c = λ none files.
       faults = g.O.Sink.faults c.args.out.now;
       shorts = g.O.Sink.shorts c.args.out.now;
     } in
-    answers_refused (Ok c.args.settings.now) shelf shelf' out c.in-Err.refusal
-    (told_comes (OfTaken (Ok c.args.settings.now)) files
-    (ReadFailed (Ok c.args.settings.now) shelf shelf')
+    answers_refused (Ok c.args.settings) shelf shelf' out c.in-Err.refusal
+    (told_comes (OfTaken (Ok c.args.settings)) files
+    (ReadFailed (Ok c.args.settings) shelf shelf')
     (Err c.in-Err.refusal) (c.in-Err.ensures.unread none files))
 
 pub returns-in-Ok-clause-unread : goal.returns-in-Ok-clause-unread
@@ -89,9 +89,9 @@ returns-in-Ok-clause-unread g c = λ none files.
       faults = g.O.Sink.faults c.put_outcome.new.out;
       shorts = g.O.Sink.shorts c.put_outcome.new.out;
     } in
-    answers_put (Ok c.args.settings.now) shelf shelf' out out' c.in-Ok.outcome c.put_outcome.result
-    (told_comes (OfTaken (Ok c.args.settings.now)) files
-    (ReadFailed (Ok c.args.settings.now) shelf shelf')
+    answers_put (Ok c.args.settings) shelf shelf' out out' c.in-Ok.outcome c.put_outcome.result
+    (told_comes (OfTaken (Ok c.args.settings)) files
+    (ReadFailed (Ok c.args.settings) shelf shelf')
     (Ok c.in-Ok.outcome) (c.in-Ok.ensures.unread none files)) c.put_outcome.ensures
 
 pub returns-in-Ok-clause-shelf : goal.returns-in-Ok-clause-shelf
@@ -114,7 +114,7 @@ returns-in-Ok-clause-shelf g c =
       faults = g.O.Sink.faults c.put_outcome.new.out;
       shorts = g.O.Sink.shorts c.put_outcome.new.out;
     } in
-    subst (λ (unread : Bool). LeavesShelf (Ok c.args.settings.now) unread shelf shelf')
+    subst (λ (unread : Bool). LeavesShelf (Ok c.args.settings) unread shelf shelf')
     (sym (put_is_read (printed_of c.in-Ok.outcome) out out' c.put_outcome.result
     c.put_outcome.ensures))
     c.in-Ok.ensures.shelf

@@ -1,4 +1,4 @@
-use Rattle.std.proofs.Common.{◌≡◌, ℕ, List, Bool, ap, sym, ◌∙◌, arith}
+use Rattle.std.proofs.Common.{◌≡◌, ℕ, List, Bool, None, ap, sym, subst, ◌∙◌, arith}
 use Rattle.std.specs.List.{flat_map}
 use Rattle.pct_ask.specs.TraceText.{line_text}
 use Rattle.pct_ask.specs.declared.event.Row.{Row}
@@ -8,6 +8,7 @@ use Rattle.failure_rank.specs.declared.group.Group.{Group}
 use Rattle.pct_top.specs.Printed.{printed_text}
 use Rattle.pct_top.specs.commands.Campaign.{setup_of, all_pass}
 use Rattle.pct_top.specs.commands.Big.{big_lines, script_lines, printed_counts}
+use Rattle.pct_top.specs.Runs.{DrawsFrom}
 use Rattle.pct_top.proofs.commands.big.big_of.Goals as goal
 
 -- the counts are those of these lines, rows and groups
@@ -42,7 +43,8 @@ returns g c =
     let rows = c.in_ok-rows.rows in
     let groups = c.in_ok-groups.groups in (
       c.in_ok-steps.steps,
-      c.in_ok-steps.ensures.draws,
+      subst (λ l. DrawsFrom script test.deal l None c.in_ok-steps.steps) c.new.ensures
+          c.in_ok-steps.ensures.draws,
       (
         rows,
         groups,

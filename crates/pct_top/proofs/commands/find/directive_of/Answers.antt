@@ -2,9 +2,9 @@ use Rattle.std.proofs.Common.{◌≡◌, ◌≤◌, ◌<◌, ℕ, List, length, 
 use Rattle.std.specs.Prelude.{All}
 use Rattle.std.proofs.lemmas.List.Elements.{All-weaker}
 use Rattle.pct_ask.specs.NameLists.{NameLists}
+use Rattle.pct_ask.specs.Limits.{IsStepCount}
 use Rattle.script_tree.specs.ScriptSeen.{plain_script}
 use Rattle.script_body.specs.Bodies.{bodies_of}
-use Rattle.trace_text.specs.Lawful.{IsStepCount}
 use Rattle.directive_find.specs.Found.{Finds}
 use Rattle.pct_top.specs.Printed.{printed_text}
 use Rattle.pct_top.specs.commands.Find.{last_of, found_text, IsWellFormed}
@@ -13,31 +13,32 @@ use Rattle.pct_top.proofs.KnownFindings.{known-finding}
 use Rattle.pct_top.proofs.commands.find.directive_of.Goals as goal
 
 pub find-requires-clause-script : goal.find-requires-clause-script
-find-requires-clause-script g c κs within = (plain_script c.args.test.now.script, c.requires.ready)
+find-requires-clause-script g c κs within =
+    (plain_script c.args.test.now.script, c.requires.ready)
 
 pub find-requires-clause-points : goal.find-requires-clause-points
 find-requires-clause-points g c κs within =
     subst (All (λ point. 1 ≤ point)) (sym c.as_slice-points.ensures)
-    (All-weaker IsStepCount (λ point. 1 ≤ point) (λ point fits. fits.0) c.args.priorities.points
-    (c.requires.priorities).points_fit)
+    (All-weaker IsStepCount (λ point. 1 ≤ point) (λ point fits. fits.0) c.args.plan.points
+    c.args.plan.points_fit.1)
 
 pub write_found-requires-clause-some : goal.write_found-requires-clause-some
 write_found-requires-clause-some g c =
-    let whole : length c.args.priorities.order ≡ c.args.test.now.deal.threads =
-    (c.requires.priorities).whole in
+    let whole : length c.args.plan.order ≡ c.args.test.now.deal.threads =
+    (c.requires.order).whole in
     let some : 1 ≤ c.args.test.now.deal.threads = c.args.test.now.deal.some_thread in
     omega (arith, ap length c.as_slice-order.ensures)
 
 pub write_found-requires-clause-low : goal.write_found-requires-clause-low
 write_found-requires-clause-low g c =
     let test = c.args.test.now in
-    let order = c.args.priorities.order in
+    let order = c.args.plan.order in
     let names = (plain_script test.script).names in
-    let whole : length order ≡ test.deal.threads = (c.requires.priorities).whole in
+    let whole : length order ≡ test.deal.threads = (c.requires.order).whole in
     let some : 1 ≤ test.deal.threads = test.deal.some_thread in
     let threads : test.deal.threads ≡ length names.threads = (c.requires.ready).is_deal.threads in
     let below : last_of order < length order =
-    ((c.requires.priorities).order).below (length order - 1) (omega arith) in
+    ((c.requires.order).is_order).below (length order - 1) (omega arith) in
     let low : last_of order < length names.threads = omega arith in
     subst (λ (o : List ℕ). last_of o < length c.names.result.now.threads)
     (sym c.as_slice-order.ensures)
@@ -48,16 +49,20 @@ write_found-requires-clause-known g c =
     let test = c.args.test.now in
     let ready = c.requires.ready in
     let script = plain_script test.script in
+    let L : ℕ → Type 0 = λ limit. Finds test.deal (bodies_of script) c.as_slice-order.result.now
+    c.as_slice-points.result.now limit c.in_ok-found.found in
     let O : List ℕ → Type 0 = λ o. Finds test.deal (bodies_of script) o c.as_slice-points.result.now
-    c.args.limit c.in_ok-found.found in
-    let P : List ℕ → Type 0 = λ p. Finds test.deal (bodies_of script) c.args.priorities.order p
-    c.args.limit c.in_ok-found.found in
+    c.args.plan.limit c.in_ok-found.found in
+    let P : List ℕ → Type 0 = λ p. Finds test.deal (bodies_of script) c.args.plan.order p
+    c.args.plan.limit c.in_ok-found.found in
     let finds = subst P c.as_slice-points.ensures
-    (subst O c.as_slice-order.ensures (c.in_ok-found.ensures script ready)) in
+    (subst O c.as_slice-order.ensures
+    (subst L c.steps.ensures.number (c.in_ok-found.ensures script ready))) in
     subst (λ (names : NameLists). IsKnownFinding names c.in_ok-found.found) (sym c.names.ensures)
-    (known-finding script test.deal ready.sound ready.is_deal c.args.priorities.order
-    c.args.priorities.points c.args.limit c.in_ok-found.found
-    (sym (c.requires.priorities).whole) (c.requires.priorities).few_points (c.requires.limit).1
+    (known-finding script test.deal ready.sound ready.is_deal c.args.plan.order
+    c.args.plan.points c.args.plan.limit c.in_ok-found.found
+    (sym (c.requires.order).whole) c.args.plan.points_fit.0
+    (omega (arith, (c.steps.ensures.fits).1, c.steps.ensures.number))
     finds)
 
 pub returns : goal.returns
@@ -65,12 +70,15 @@ returns g c =
     let test = c.args.test.now in
     let script = plain_script test.script in
     let found = c.in_ok-found.found in
+    let L : ℕ → Type 0 = λ limit. Finds test.deal (bodies_of script) c.as_slice-order.result.now
+    c.as_slice-points.result.now limit found in
     let O : List ℕ → Type 0 = λ o. Finds test.deal (bodies_of script) o c.as_slice-points.result.now
-    c.args.limit found in
-    let P : List ℕ → Type 0 = λ p. Finds test.deal (bodies_of script) c.args.priorities.order p
-    c.args.limit found in
+    c.args.plan.limit found in
+    let P : List ℕ → Type 0 = λ p. Finds test.deal (bodies_of script) c.args.plan.order p
+    c.args.plan.limit found in
     let finds = subst P c.as_slice-points.ensures
-    (subst O c.as_slice-order.ensures (c.in_ok-found.ensures script c.requires.ready)) in
+    (subst O c.as_slice-order.ensures
+    (subst L c.steps.ensures.number (c.in_ok-found.ensures script c.requires.ready))) in
     let written = c.in_ok-text.ensures.text
     ∙ ap (λ (names : NameLists). found_text names c.as_slice-order.result.now found)
     c.names.ensures

@@ -1,4 +1,4 @@
-use Rattle.std.proofs.Common.{◌≡◌, ℕ, List, Some, length, ◌≤◌, eqb, sym, subst, ap, ◌∙◌, arith}
+use Rattle.std.proofs.Common.{List, length, eqb, sym, subst, ap, ◌∙◌, arith}
 use Rattle.std.specs.Prelude.{All}
 use Rattle.pct_ask.specs.NameLists.{NameLists}
 use Rattle.pct_ask.specs.declared.event.Event.{Event}
@@ -8,7 +8,7 @@ use Rattle.worker_run.specs.Run.{Run}
 use Rattle.hb_race.specs.declared.race.Race.{Race}
 use Rattle.hb_race.specs.Races.{AreRaces}
 use Rattle.pct_top.specs.Printed.{printed_text}
-use Rattle.pct_top.specs.Runs.{run_of, trace_version}
+use Rattle.pct_top.specs.Runs.{trace_version}
 use Rattle.pct_top.specs.commands.Races.{race_text}
 use Rattle.pct_top.proofs.InRange.{all_in_range}
 use Rattle.pct_top.proofs.commands.races.races_of.Goals as goal
@@ -24,28 +24,20 @@ races-requires-clause-in_range g c =
 
 pub races-requires-clause-few : goal.races-requires-clause-few
 races-requires-clause-few g c =
-    let few : length c.in_ok-run.run'.events ≤ c.args.limit = c.in_ok-run.ensures.known.few in
-    let last : c.args.limit ≤ 100000 = (c.requires.limit).1 in
-    omega (arith, ap length (c.from.ensures).0)
+    omega (arith, c.in_ok-run.ensures.short, ap length (c.from.ensures).0)
 
 pub returns : goal.returns
 returns g c =
     let test = c.args.test.now in
     let script = plain_script test.script in
     let ended : Run = (c.in_ok-run.run'.events, c.in_ok-run.run'.verdict) in
-    let O : List ℕ → Type 0 = λ o. run_of script test.deal o c.as_slice-points.result.now
-    c.args.limit ≡ Some ended in
-    let P : List ℕ → Type 0 = λ p. run_of script test.deal c.args.priorities.order p c.args.limit
-    ≡ Some ended in
-    let run = subst P c.as_slice-points.ensures
-    (subst O c.as_slice-order.ensures c.in_ok-run.ensures.run) in
     let E : List Event → Type 0 = λ events. AreRaces events c.in_ok-found.found in
     let written = c.in_ok-text.ensures
     ∙ ap (λ (names : NameLists). race_text names c.as_slice.result.now) c.names.ensures
     ∙ ap (λ (races : List Race). race_text script.names races) c.as_slice.ensures in
     let done = ap (λ n. eqb n 0) c.len-done.ensures in (
       ended,
-      run,
+      c.in_ok-run.ensures.run,
       (
         c.in_ok-found.found,
         subst E (c.from.ensures).0 c.in_ok-found.ensures,

@@ -22,14 +22,9 @@ returns g c =
     let test = c.args.test.now in
     let script = plain_script test.script in
     let ended : Run = (c.in_ok-run.run'.events, c.in_ok-run.run'.verdict) in
-    let O : List ℕ → Type 0 = λ o. run_of script test.deal o c.as_slice-points.result.now
-    c.args.limit ≡ Some ended in
-    let P : List ℕ → Type 0 = λ p. run_of script test.deal c.args.priorities.order p c.args.limit
-    ≡ Some ended in
     let T : Bool → Type 0 = λ done. IfOk c.told_trace.result (λ o.
-    TellsRun script c.args.priorities.order c.args.priorities.points c.args.limit ended done
+    TellsRun script c.args.plan.order c.args.plan.points c.args.plan.limit ended done
     (printed_of o)) in
-    is_told script test.deal c.args.priorities.order c.args.priorities.points c.args.limit ended
-    c.told_trace.result (subst P c.as_slice-points.ensures
-    (subst O c.as_slice-order.ensures c.in_ok-run.ensures.run))
+    is_told script test.deal c.args.plan.order c.args.plan.points c.args.plan.limit ended
+    c.told_trace.result c.in_ok-run.ensures.run
     (subst T c.is_passed-done.ensures c.told_trace.ensures)

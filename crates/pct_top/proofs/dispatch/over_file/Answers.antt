@@ -1,0 +1,105 @@
+use Rattle.std.proofs.Common.{Ok, Err, false, subst, ◌∙◌}
+use Rattle.script_tree.specs.ScriptSeen.{plain_script}
+use Rattle.pct_top.specs.Outside.{ShelfTold}
+use Rattle.pct_top.specs.Plan.{asked}
+use Rattle.pct_top.specs.Output.{script_file, script_text, OfCommand}
+use Rattle.pct_top.specs.Outcome.{Comes}
+use Rattle.pct_top.specs.Files.{Misses}
+use Rattle.pct_top.specs.Reads.{is_read, is_unread}
+use Rattle.pct_top.specs.Call.{MissesSecond, ReadFailed}
+use Rattle.pct_top.proofs.Comes.{comes_untested, comes_tested, script_missed, second_missed}
+use Rattle.pct_top.proofs.Plans.{asked_file, asked_text}
+use Rattle.pct_top.proofs.Comes.{file_gives, file_kept}
+use Rattle.pct_top.proofs.Shelves.{leaves_script, leaves_both}
+use Rattle.pct_top.proofs.dispatch.over_file.Goals as goal
+
+pub returns-in-Err-clause-comes : goal.returns-in-Err-clause-comes
+returns-in-Err-clause-comes g c =
+    let name = c.args.file.now in
+    let settings = asked name c.args.task.now in
+    let file = asked_file name c.args.task.now in
+    let text = asked_text name c.args.task.now in
+    let before : ShelfTold = record {
+      files = g.H.Shelf.files c.args.shelf.now;
+      failed = g.H.Shelf.failed c.args.shelf.now;
+    } in
+    let after : ShelfTold = record {
+      files = g.H.Shelf.files c.read_test.new.shelf;
+      failed = g.H.Shelf.failed c.read_test.new.shelf;
+    } in
+    comes_untested before.files (script_text settings) (OfCommand settings)
+    (ReadFailed (Ok settings) before after)
+    (Misses (script_file settings) before.failed after.failed)
+    (script_missed settings before after) c.in-Err.refusal
+    (file_gives settings name file text before.files before.failed after.failed
+    (Err c.in-Err.refusal) c.in-Err.ensures.test)
+
+pub returns-in-Ok-clause-comes : goal.returns-in-Ok-clause-comes
+returns-in-Ok-clause-comes g c =
+    let name = c.args.file.now in
+    let settings = asked name c.args.task.now in
+    let file = asked_file name c.args.task.now in
+    let text = asked_text name c.args.task.now in
+    let test = c.in-Ok.test in
+    let script = plain_script test.script in
+    let before : ShelfTold = record {
+      files = g.H.Shelf.files c.args.shelf.now;
+      failed = g.H.Shelf.failed c.args.shelf.now;
+    } in
+    let middle = g.H.Shelf.failed c.read_test.new.shelf in
+    let after : ShelfTold = record {
+      files = g.H.Shelf.files c.outcome.new.shelf;
+      failed = g.H.Shelf.failed c.outcome.new.shelf;
+    } in
+    let missed : Type 0 = MissesSecond settings script middle after.failed in
+    let spells = file_gives settings name file text before.files before.failed middle (Ok test)
+    c.in-Ok.ensures.test in
+    comes_tested before.files (script_text settings) (OfCommand settings)
+    (ReadFailed (Ok settings) before after) test spells c.in-Ok.ensures.ready missed
+    (second_missed settings before after middle script spells
+    (file_kept settings name file false before.failed middle c.in-Ok.ensures.keeps))
+    c.outcome.result
+    (subst (λ told. Comes (λ files. OfCommand settings files script test.deal) told missed
+    c.outcome.result) c.in-Ok.ensures.files (c.outcome.ensures.comes name))
+
+pub returns-in-Err-clause-shelf : goal.returns-in-Err-clause-shelf
+returns-in-Err-clause-shelf g c =
+    let name = c.args.file.now in
+    let settings = asked name c.args.task.now in
+    let file = asked_file name c.args.task.now in
+    let text = asked_text name c.args.task.now in
+    let before : ShelfTold = record {
+      files = g.H.Shelf.files c.args.shelf.now;
+      failed = g.H.Shelf.failed c.args.shelf.now;
+    } in
+    let after : ShelfTold = record {
+      files = g.H.Shelf.files c.read_test.new.shelf;
+      failed = g.H.Shelf.failed c.read_test.new.shelf;
+    } in
+    leaves_script settings (is_read c.in-Err.refusal) before after c.in-Err.ensures.files
+    (file_kept settings name file (is_read c.in-Err.refusal) before.failed after.failed
+    c.in-Err.ensures.keeps)
+
+pub returns-in-Ok-clause-shelf : goal.returns-in-Ok-clause-shelf
+returns-in-Ok-clause-shelf g c =
+    let name = c.args.file.now in
+    let settings = asked name c.args.task.now in
+    let file = asked_file name c.args.task.now in
+    let text = asked_text name c.args.task.now in
+    let test = c.in-Ok.test in
+    let script = plain_script test.script in
+    let before : ShelfTold = record {
+      files = g.H.Shelf.files c.args.shelf.now;
+      failed = g.H.Shelf.failed c.args.shelf.now;
+    } in
+    let middle = g.H.Shelf.failed c.read_test.new.shelf in
+    let after : ShelfTold = record {
+      files = g.H.Shelf.files c.outcome.new.shelf;
+      failed = g.H.Shelf.failed c.outcome.new.shelf;
+    } in
+    leaves_both settings (is_unread c.outcome.result) before after
+    (c.outcome.ensures.files ∙ c.in-Ok.ensures.files) middle script
+    (file_gives settings name file text before.files before.failed middle (Ok test)
+    c.in-Ok.ensures.test)
+    (file_kept settings name file false before.failed middle c.in-Ok.ensures.keeps)
+    (c.outcome.ensures.keeps name)

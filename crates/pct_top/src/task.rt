@@ -1,0 +1,78 @@
+//! What a command does with the script of a file.
+
+ghost use Rattle.std.specs.Prelude.{◌≡◌, ℕ, List};
+ghost use Rattle.script_tree.specs.ScriptSeen.{plain_script};
+ghost use Rattle.pct_top.specs.Plan.{asked};
+ghost use Rattle.pct_top.specs.Ready.{IsReadyTest};
+ghost use Rattle.pct_top.specs.Ordered.{OrderFits};
+ghost use Rattle.pct_top.specs.Output.{order_given, second_file, OfCommand};
+ghost use Rattle.pct_top.specs.Outcome.{Comes};
+ghost use Rattle.pct_top.specs.Reads.{KeepsSecond, is_unread};
+ghost use Rattle.pct_top.specs.Call.{MissesSecond};
+
+use crate::commands::certify::CertifyTask;
+use crate::commands::every::SweepTask;
+use crate::commands::expose::ExposeTask;
+use crate::commands::replay::{ReplayTask, reply_to_file};
+use crate::commands::seeds::CampaignTask;
+use crate::outcome::Outcome;
+use crate::refusal::Refusal;
+use crate::reports::{OrderedRun, SeededRun};
+use crate::test::Test;
+use pct_outside::{Gate, Shelf};
+use std::alloc::Global;
+use std::sync::Wait;
+use std::thread::Threads;
+
+/// What a command does with the script of a file.
+#[derive(Debug, Drop)]
+pub enum Task {
+    Ordered(OrderedRun),
+    Seeded(SeededRun),
+    Campaign(CampaignTask),
+    Replay(ReplayTask),
+    Expose(ExposeTask),
+    Certify(CertifyTask),
+    Sweep(SweepTask),
+}
+
+impl Task {
+    /// What comes of it over a script, for which at most the second file is read.
+    pub fn outcome<R: Threads + Wait + Sync, H: Shelf, G: Gate>(
+        &self,
+        rt: &R,
+        alloc: Global,
+        test: &Test,
+        shelf: &mut H,
+        gate: &G,
+    ) -> Result<Outcome, Refusal>
+        requires ready { IsReadyTest test.now }
+        ensures comes { (file : List ℕ) → Comes
+            (λ files. OfCommand (asked file self.now) files (plain_script test.now.script)
+            test.now.deal)
+            (H.files shelf.old)
+            (MissesSecond (asked file self.now) (plain_script test.now.script)
+            (H.failed shelf.old) (H.failed shelf.new))
+            result }
+        ensures keeps { (file : List ℕ) → KeepsSecond (second_file (asked file self.now))
+            (OrderFits (plain_script test.now.script).names (order_given (asked file self.now)))
+            (is_unread result) (H.failed shelf.old) (H.failed shelf.new) }
+        ensures files { H.files shelf.new ≡ H.files shelf.old }
+    {
+        match self {
+            Task::Ordered(run) => run.report_on(rt, alloc, test, gate),
+            Task::Seeded(run) => Ok(run.report_on(rt, alloc, test, gate)?),
+            Task::Campaign(campaign) => Ok(campaign.report_on(rt, alloc, test, gate)?),
+            Task::Replay(replay) => {
+                reply_to_file(rt, alloc, test, replay.trace.as_str(), shelf, gate)
+            }
+            Task::Expose(expose) => {
+                expose.expose_file(rt, alloc, test, expose.directive.as_str(), shelf, gate)
+            }
+            Task::Certify(certify) => {
+                certify.certify_file(rt, alloc, test, certify.directive.as_str(), shelf, gate)
+            }
+            Task::Sweep(sweep) => Ok(sweep.report_on(rt, alloc, test, gate)?),
+        }
+    }
+}
