@@ -112,7 +112,8 @@ module _ (version : ℕ) (names : NameLists) where
 
   -- a thread's blocks nest at most 32 deep, and it has at most 4,096 statements
   abbrev pub thread_fits : Thread → Bool
-  thread_fits t = line_fits t.line && statements_fit 32 t.body && nat_le (counts_of t.body) MAX_LINES
+  thread_fits t =
+      line_fits t.line && statements_fit 32 t.body && nat_le (counts_of t.body) MAX_LINES
 
 -- how many threads a script may have
 abbrev pub most_threads : ℕ → ℕ

@@ -1,6 +1,6 @@
--- What is true of the lock's table between any two steps (this project). Word 0 is the lock word: it
--- is 0 where the lock is free, and else the holder's thread plus 1. Word t + 1 is the turn word of
--- the thread t, of which nothing is said. The one slot has the book and the wait board.
+-- What is true of the lock's table between any two steps (this project). Word 0 is the lock word:
+-- it is 0 where the lock is free, and else the holder's thread plus 1. Word t + 1 is the turn word
+-- of the thread t, of which nothing is said. The one slot has the book and the wait board.
 use Rattle.std.specs.Prelude.{◌≡◌, ◌<◌, ◌+◌, ◌-◌, ◌++◌, ℕ, Bool, true, false, List, [], None}
 use Rattle.std.specs.Prelude.{length, replicate, slice_index, slice_index_or}
 use mathlib.Core.Option.{some}

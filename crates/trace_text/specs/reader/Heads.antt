@@ -43,7 +43,8 @@ threads_of_names names words = all_of (λ word. place_of word names.threads) wor
 abbrev pub point_words : List (List ℕ) → Option (List ℕ)
 point_words [] = None
 point_words (head ∷ words) =
-    if bytes_eq head (codes "points") && nat_le (length words) MAX_POINTS then step_counts words else None
+    if bytes_eq head (codes "points") && nat_le (length words) MAX_POINTS then step_counts words
+    else None
 
 -- points NUMBER NUMBER ..: none to 7 numbers in 1..100000
 abbrev pub points_on_line : List ℕ → Option (List ℕ)
