@@ -28,8 +28,8 @@
 //!   `rising`; `Blocked::numbers`: `bits`, `lines`; `Verdict::is`; `Outcome::is`.
 //! - Two steps are the same exactly where thread, line, ask and answer are: `Event::is`.
 //! - A limit is in 1..=`MAX_STEPS`, a depth in 1..=`MAX_DEPTH`, one more than its change points:
-//!   `Limit::new`; `Limit::steps`: `number`, `fits`; `Depth::new`; `Depth::points`: `number`, `few`
-//!   (`IsStepCount`, `IsDepth`).
+//!   `Limit::new`; `Limit::steps`: `number`, `fits`; `Depth::new`; `Depth::number`: `number`,
+//!   `fits`; `Depth::points`: `number`, `few` (`IsStepCount`, `IsDepth`).
 //! - A verdict's text is written as defined and read back; it has no form exactly where it is no
 //!   verdict's text by form, and an unknown name where one of its names is no thread's:
 //!   `write_verdict`: `written`, `read_back`, `unchanged`; `read_verdict`: `read`, `only`

@@ -99,6 +99,14 @@ impl Depth {
         Depth { depth }
     }
 
+    /// The number of the depth.
+    pub fn number(self) -> u32
+        ensures number { result ≡ self }
+        ensures fits { IsDepth result }
+    {
+        self.depth
+    }
+
     /// How many change points a run of this depth has.
     pub fn points(self) -> u32
         ensures number { result ≡ self - 1 }

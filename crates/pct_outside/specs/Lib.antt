@@ -6,3 +6,4 @@ pub mod Reading
 pub mod Files
 pub mod ShelfState
 pub mod SinkState
+pub mod Told
