@@ -1,7 +1,7 @@
 -- What each thread's priority is now.
-use Rattle.std.specs.Prelude.{◌≡◌, ℕ, ◌+◌, ◌-◌, ◌<◌, ◌≤◌, ◌⊎◌, ◌↔◌, List, Option, Some, None}
-use Rattle.std.specs.Prelude.{length}
-use Rattle.std.specs.Prelude.{nat_lt, slice_index, slice_index_or}
+use Rattle.std.specs.Prelude.{◌≡◌, ◌≢◌, ℕ, ◌+◌, ◌-◌, ◌<◌, ◌≤◌, ◌⊎◌, ◌↔◌, List, Option, Some}
+use Rattle.std.specs.Prelude.{None, length, nat_lt, if◌then◌else◌, slice_index, slice_index_or}
+use Rattle.std.specs.Int.{bit_at}
 use Rattle.std.specs.List.{count_by}
 use Rattle.rank_now.specs.Order.{IsOrder}
 use Rattle.rank_now.specs.Rank.{place_in_order}
@@ -50,3 +50,22 @@ pub record AreLowered (order values : List ℕ) (lowered : List (Option ℕ)) : 
       ⊎ IsLow (length lowered) (slice_index values thread)
   pub holders : (index thread : ℕ) → index < length lowered
       → (slice_index_or lowered index None ≡ Some thread) ↔ HasValue values (index + 1) thread
+
+-- the bit for the other thread in the thread's word is 1 exactly where the other has the greater
+-- value (one that there isn't has 0)
+abbrev pub SaysAbove : List ℕ → List ℕ → ℕ → ℕ → Type 0
+SaysAbove values above thread other =
+    bit_at (slice_index above thread) other
+    ≡ (if nat_lt (slice_index values thread) (slice_index_or values other 0) then 1 else 0)
+
+-- Of each thread there is a word, whose bits name the threads that have a greater value.
+pub record AreAbove (values above : List ℕ) : Type 0 where
+  pub threads : length above ≡ length values
+  pub says : (thread other : ℕ) → thread < length values → other < MAX_THREADS
+      → SaysAbove values above thread other
+
+-- The same, but that one thread's value has changed since.
+pub record AreAboveButOne (values above : List ℕ) (changed : ℕ) : Type 0 where
+  pub threads : length above ≡ length values
+  pub says : (thread other : ℕ) → thread < length values → other < MAX_THREADS
+      → thread ≢ changed → other ≢ changed → SaysAbove values above thread other

@@ -2,9 +2,7 @@ ghost use Rattle.std.specs.Prelude.{◌≡◌, ℕ, ◌<◌, ◌≤◌, length, 
 ghost use Rattle.rank_now.specs.Order.{IsOrder, IsFirstWrong, IsWrongAt};
 ghost use Rattle.pct_ask.specs.declared.limits.TheConstants.{MAX_THREADS};
 
-use pct_ask::OrderList;
 use std::alloc::AllocError as NoMemory;
-use std::marker::Model;
 use thiserror::Error;
 
 /// Why no ranks were made.
@@ -50,46 +48,4 @@ pub fn is_order(order: &[u32]) -> bool
     ensures { IsTrue result ↔ IsOrder order.now }
 {
     first_wrong(order).is_none()
-}
-
-/// An order of the threads of a test, the highest priority first: each is there once. Contracts see
-/// the list.
-#[derive(Debug, Drop)]
-pub struct Order {
-    threads: OrderList,
-}
-
-impl Model for Order {
-    ghost use Rattle.std.specs.Prelude.{ℕ, List};
-    ghost use Rattle.rank_now.specs.Order.{IsOrder};
-
-    ghost Value = { List ℕ };
-
-    ghost view = { λ o. o.threads };
-
-    ghost invariant = { λ o. IsOrder o.threads };
-}
-
-impl Order {
-    /// The order that a list gives, where it names each of as many threads as it has once. Needs no
-    /// memory.
-    pub fn of(threads: OrderList) -> Option<Order>
-        requires { length threads ≤ MAX_THREADS }
-        ensures order { IfSome result (λ order. order ≡ threads) }
-        ensures none { IsNone result → ¬ IsOrder threads }
-    {
-        if is_order(threads.as_slice()) {
-            Some(Order { threads })
-        } else {
-            None
-        }
-    }
-
-    /// Its threads, the highest priority first.
-    pub fn as_slice(&self) -> &[u32]
-        ensures list { result.now ≡ self.now }
-        ensures order { IsOrder result.now }
-    {
-        self.threads.as_slice()
-    }
 }

@@ -1,6 +1,7 @@
 ghost use Rattle.std.specs.Prelude.{◌≡◌, ◌≢◌, ℕ, ◌+◌, ◌-◌, ◌<◌, ◌≤◌, ◌↔◌, [], ◌∷◌, ◌++◌, List};
 ghost use Rattle.std.specs.Prelude.{length, map, slice_set, slice_index, IfOk, OnOk, IfSome};
-ghost use Rattle.std.specs.Prelude.{IsNone};
+ghost use Rattle.std.specs.Prelude.{IsNone, IsTrue};
+ghost use Rattle.std.specs.Int.{bit_at};
 ghost use Rattle.rank_now.specs.Rank.{place_in_order, threads_of, ranks, ranks_by_events};
 ghost use Rattle.rank_now.specs.Rank.{index_of_point};
 ghost use Rattle.rank_now.specs.Rank.{index_of_moment};
@@ -9,21 +10,24 @@ ghost use Rattle.rank_now.specs.Ranking.{Ranking, AreDistinctValues, HasValue, I
 ghost use Rattle.rank_now.specs.declared.moment.Moment.{Moment};
 ghost use Rattle.pct_ask.specs.declared.limits.TheConstants.{MAX_POINTS, MAX_THREADS};
 
+use crate::above::{compare_again, first_above};
 use crate::order::{RankError, first_wrong};
 use std::alloc::{AllocError, Global};
 use std::marker::Model;
 
-/// The order of the threads, the value of each one, and who was lowered to each value, from 1 up.
+/// The order of the threads, the value of each one, who was lowered to each value, from 1 up, and
+/// of each thread which ones have a greater value, as the bits of a word.
 #[derive(Debug, Drop)]
 pub struct Ranks {
     order: Vec<u32>,
     values: Vec<u32>,
     lowered: Vec<Option<u32>>,
+    above: Vec<u64>,
 }
 
 impl Model for Ranks {
     ghost use Rattle.std.specs.Prelude.{length};
-    ghost use Rattle.rank_now.specs.Ranking.{Ranking, AreLowered};
+    ghost use Rattle.rank_now.specs.Ranking.{Ranking, AreLowered, AreAbove};
 
     ghost Value = { Ranking };
 
@@ -33,7 +37,9 @@ impl Model for Ranks {
       values = r.values.items;
     } };
 
-    ghost invariant = { λ r. AreLowered r.order.items r.values.items r.lowered.items };
+    ghost invariant = { λ r.
+        AreLowered r.order.items r.values.items r.lowered.items
+        × AreAbove r.values.items r.above.items };
 }
 
 impl Ranks {
@@ -87,11 +93,13 @@ impl Ranks {
     {
         let values = first_values(alloc, order, count)?;
         let lowered = vec![in alloc; None; count as usize]?;
+        let above = first_above(alloc, order)?;
         let order = Vec::from_slice(alloc, order)?;
         Ok(Ranks {
             order,
             values,
             lowered,
+            above,
         })
     }
 
@@ -120,6 +128,7 @@ impl Ranks {
         free(&mut self.lowered, self.values[thread as usize]);
         self.values[thread as usize] = value;
         self.lowered[value as usize - 1] = Some(thread);
+        compare_again(&mut self.above, &self.values, thread);
     }
 
     pub fn value(&self, thread: u32) -> u32
@@ -127,6 +136,17 @@ impl Ranks {
         ensures { result ≡ slice_index self.now.values thread }
     {
         self.values[thread as usize]
+    }
+
+    /// Whether none of the threads of the bits, the lowest for thread 0, has a greater value.
+    pub fn outranks(&self, thread: u32, others: u64) -> bool
+        requires { thread < length self.now.values }
+        ensures outranks { IsTrue result
+            ↔ ((other : ℕ) → other < length self.now.values → bit_at others other ≡ 1
+            → slice_index self.now.values other ≤ slice_index self.now.values thread) }
+        ensures distinct { AreDistinctValues self.now.values }
+    {
+        self.above[thread as usize] & others == 0
     }
 
     /// The greatest value that a thread may have.

@@ -8,4 +8,4 @@ returns-clause-positive c =
     let f = c.self.inside in
     let seen : f.values.items ≡ c.args.self.now.values =
     ap (λ (r : Ranking). r.values) c.self.view_is in
-    rw (sym seen) (values-positive f.order.items f.values.items f.lowered.items c.self.invariant)
+    rw (sym seen) (values-positive f.order.items f.values.items f.lowered.items c.self.invariant.0)

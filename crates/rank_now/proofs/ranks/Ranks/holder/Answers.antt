@@ -15,11 +15,11 @@ returns-clause-none c = λ none.
     let low : length f.lowered.items ≡ c.args.self.now.count =
     ap (λ (r : Ranking). r.count) c.self.view_is in
     let top : c.greatest.result ≡ length f.lowered.items + length f.order.items =
-    omega (arith, c.greatest.ensures.value, low, ap length seen, c.self.invariant.threads) in
+    omega (arith, c.greatest.ensures.value, low, ap length seen, c.self.invariant.0.threads) in
     let within : c.args.value ≤ c.greatest.result =
     omega (arith, c.greatest.ensures.value, c.requires.within) in
     let high : length f.lowered.items < c.args.value =
-    omega (arith, c.if-value-low.false, c.len-low.ensures, c.self.invariant.few_values) in
+    omega (arith, c.if-value-low.false, c.len-low.ensures, c.self.invariant.0.few_values) in
     let place : c.index-thread.result.now
     ≡ get_or f.order.items (length f.lowered.items + length f.order.items - c.args.value) 0 =
     get_or_read f.order.items (c.greatest.result - c.args.value) c.index-thread.result.now
@@ -29,10 +29,10 @@ returns-clause-none c = λ none.
     < length f.values.items =
     omega (
       arith,
-      c.self.invariant.is_order.below
+      c.self.invariant.0.is_order.below
           (length f.lowered.items + length f.order.items - c.args.value)
           (omega (arith, top)),
-      c.self.invariant.threads,
+      c.self.invariant.0.threads,
     ) in
     let not : get_or f.values.items (get_or f.order.items
     (length f.lowered.items + length f.order.items - c.args.value) 0) 0 ≢ c.args.value = λ e.
@@ -44,7 +44,7 @@ returns-clause-none c = λ none.
     ∙ ap (λ b. then_some b c.index-thread.result.now)
     (eq-eqb c.index-2.result.now c.args.value same)) none in
     cc in
-    rw (sym seen) (nobody-has f.order.items f.values.items f.lowered.items c.self.invariant
+    rw (sym seen) (nobody-has f.order.items f.values.items f.lowered.items c.self.invariant.0
     c.args.value high (omega (arith, top)) not)
 
 pub returns-clause-distinct : goal.returns-clause-distinct
@@ -52,11 +52,11 @@ returns-clause-distinct c =
     let f = c.self.inside in
     let seen : f.values.items ≡ c.args.self.now.values =
     ap (λ (r : Ranking). r.values) c.self.view_is in
-    rw (sym seen) (distinct-values f.order.items f.values.items f.lowered.items c.self.invariant)
+    rw (sym seen) (distinct-values f.order.items f.values.items f.lowered.items c.self.invariant.0)
 
 pub returns-then-value-low-clause-distinct : goal.returns-then-value-low-clause-distinct
 returns-then-value-low-clause-distinct c =
     let f = c.self.inside in
     let seen : f.values.items ≡ c.args.self.now.values =
     ap (λ (r : Ranking). r.values) c.self.view_is in
-    rw (sym seen) (distinct-values f.order.items f.values.items f.lowered.items c.self.invariant)
+    rw (sym seen) (distinct-values f.order.items f.values.items f.lowered.items c.self.invariant.0)

@@ -1,5 +1,5 @@
 use Rattle.std.proofs.Common.{rules, List, ℕ, sym, subst}
-use Rattle.rank_now.specs.Ranking.{AreLowered}
+use Rattle.rank_now.specs.Ranking.{AreLowered, AreAbove}
 use Rattle.rank_now.proofs.Holders.{distinct-values}
 use Rattle.rank_now.proofs.Orders.{first-lowered}
 use Rattle.rank_now.proofs.laws.GivenOnce.{ranks-first, ranks_by_events-first}
@@ -10,11 +10,14 @@ invariant_of-result c =
     let order = c.args.order.now in
     let P : List ℕ → Type 0 = λ o.
     AreLowered o c.in_ok-values.values.items c.in_ok-lowered.lowered.items in
-    subst P (sym c.in_ok-order.ensures.items)
-    (first-lowered order c.in_ok-values.values.items c.in_ok-lowered.lowered.items c.args.count
-    c.requires.order c.in_ok-values.ensures
-    (c.in_ok-lowered.ensures.items_if_clones_equal (λ y e. search rules)) c.requires.few_threads
-    c.requires.few_points)
+    let Q : List ℕ → Type 0 = λ vs. AreAbove vs c.in_ok-above.above.items in (
+      subst P (sym c.in_ok-order.ensures.items)
+          (first-lowered order c.in_ok-values.values.items c.in_ok-lowered.lowered.items
+          c.args.count c.requires.order c.in_ok-values.ensures
+          (c.in_ok-lowered.ensures.items_if_clones_equal (λ y e. search rules))
+          c.requires.few_threads c.requires.few_points),
+      subst Q (sym c.in_ok-values.ensures) (c.in_ok-above.ensures c.args.count),
+    )
 
 pub returns-clause-distinct : goal.returns-clause-distinct
 returns-clause-distinct c =
