@@ -4,6 +4,7 @@
 use Rattle.std.specs.Prelude.{◌≡◌, ◌≢◌, ℕ, ◌<◌, Bool, true, false, ◌&&◌, ◌||◌, not, nat_le, List}
 use Rattle.std.specs.Prelude.{[], ◌∷◌, ◌++◌, length}
 use Rattle.std.specs.Prelude.{slice_get, slice_index, slice_index_or, Option, Some, None}
+use Rattle.std.specs.Int.{bit_at}
 use Rattle.std.specs.List.{find, list_all, range_with_len}
 use Rattle.rank_now.specs.Rank.{ranks, ranks_by_events}
 use Rattle.policy_pick.specs.declared.chance.Chance.{Chance}
@@ -83,16 +84,31 @@ KeepsChoices plan schedule thread =
     (chances : List Chance)
     → choice plan (schedule ++ thread ∷ []) chances ≡ choice plan schedule chances
 
+-- Each other thread of the bits has a lower rank than the thread.
+abbrev pub OutranksBy : List ℕ → ℕ → ℕ → Type 0
+OutranksBy ranks thread others =
+    (other : ℕ) → other < length ranks → bit_at others other ≡ 1 → other ≢ thread
+    → slice_index ranks other < slice_index ranks thread
+
+-- The same of a plan that goes by rank. A list has no ranks.
+abbrev pub Outranks : Plan → List ℕ → ℕ → ℕ → Type 0
+Outranks (ByPoints order points) schedule thread others =
+    OutranksBy (ranks order points schedule) thread others
+Outranks (ByEvents order events) schedule thread others =
+    OutranksBy (ranks_by_events order events schedule) thread others
+Outranks (ByList listed) schedule thread others = ⊥
+
 -- the later chances say the same of each thread but one
 pub record SameOthers (thread : ℕ) (earlier later : List Chance) : Type 0 where
   pub threads : length later ≡ length earlier
   pub others : (other : ℕ) → other < length earlier → other ≢ thread
       → chance_of later other ≡ chance_of earlier other
 
--- no thread but one is open in the later chances that wasn't in the earlier ones
-pub record OpensNoOther (thread : ℕ) (earlier later : List Chance) : Type 0 where
+-- each thread but one that is open in the later chances, and wasn't in the earlier ones, is one of
+-- the bits
+pub record OpensOnly (thread opened : ℕ) (earlier later : List Chance) : Type 0 where
   pub threads : length later ≡ length earlier
-  pub others : (other : ℕ) → other < length earlier → other ≢ thread
+  pub others : (other : ℕ) → other < length earlier → other ≢ thread → bit_at opened other ≡ 0
       → is_open (chance_of later other) ≡ true → is_open (chance_of earlier other) ≡ true
 
 -- the target of an Unknown is Away

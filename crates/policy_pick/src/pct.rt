@@ -104,6 +104,10 @@ impl Policy for Pct {
         true
     }
 
+    fn outranks(&self, thread: u32, others: u64) -> bool {
+        self.ranks.outranks(thread, others)
+    }
+
     ghost keeps = { λ policy schedule earlier later speaks known waits.
         choice-keeps (points_plan policy) schedule earlier later known waits };
 

@@ -2,7 +2,7 @@ ghost use Rattle.std.specs.Prelude.{◌≡◌, ℕ, ◌<◌, List, [], ◌∷◌
 ghost use Rattle.policy_pick.specs.declared.chance.Chance.{Chance};
 ghost use Rattle.policy_pick.specs.Plan.{Plan, SpeaksOf, IsThreadOf, GoesByRank};
 ghost use Rattle.policy_pick.specs.Choice.{choice, TargetsAreAway, IsSoundPick, KeepsKnown};
-ghost use Rattle.policy_pick.specs.Choice.{IsWaits, KeepsChoices};
+ghost use Rattle.policy_pick.specs.Choice.{IsWaits, KeepsChoices, Outranks};
 ghost use Rattle.pct_ask.specs.declared.limits.TheConstants.{MAX_STEPS};
 
 use crate::chance::{Chance, Pick};
@@ -55,6 +55,16 @@ pub trait Policy: Send + Drop {
     /// that is waited for.
     fn goes_by_rank(&self) -> bool
         ensures { result ≡ true → GoesByRank (plan self.now) }
+    {
+        false
+    }
+
+    /// True only where it goes by ranks, and each other thread of the bits, the lowest for thread 0,
+    /// has a lower rank than the thread. Where it is false, that may be so, too.
+    fn outranks(&self, thread: u32, others: u64) -> bool
+        requires { IsThreadOf (plan self.now) thread }
+        ensures { result ≡ true → (schedule : List ℕ) → stands self.now schedule
+            → Outranks (plan self.now) schedule thread others }
     {
         false
     }

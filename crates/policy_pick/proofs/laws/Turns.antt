@@ -1,29 +1,34 @@
 -- Who goes next after a step or a post of the thread of the choice, where no other thread is open
--- that wasn't before.
-use Rattle.std.proofs.Common.{◌≡◌, ◌≢◌, ℕ, ◌<◌, true, List, length, Option, Some, None, sym}
-use Rattle.std.proofs.Common.{ap, subst, ◌∙◌, arith, ◌⊎◌, inl, inr}
+-- that wasn't before, or it outranks each one that is.
+use Rattle.std.proofs.Common.{◌≡◌, ◌≢◌, ℕ, ◌<◌, ◌≤◌, true, List, length, get_or, Option, Some, None}
+use Rattle.std.proofs.Common.{sym, ap, subst, ◌∙◌, arith, ◌⊎◌, inl, inr}
+use Rattle.std.specs.Int.{bit_at}
 use Rattle.std.specs.List.{find}
 use Rattle.std.proofs.lemmas.Bool.{cases_eq}
-use Rattle.rank_now.specs.Rank.{ranks, ranks_by_events}
+use Rattle.std.proofs.lemmas.List.FromFn.{length-map-range_with_len}
+use Rattle.std.proofs.lemmas.Nat.Bits.{bit_at-lt, bit_at-zero}
+use Rattle.rank_now.specs.Rank.{rank, rank_by_events, ranks, ranks_by_events}
 use Rattle.std.specs.Prelude.{slice_get}
 use Rattle.policy_pick.specs.declared.chance.Chance.{Chance}
 use Rattle.policy_pick.specs.declared.chance.Chance.TheVariants.{Away, Ready, Blocked, Unknown}
 use Rattle.policy_pick.specs.declared.chance.Chance.TheVariants.{Ended}
 use Rattle.policy_pick.specs.declared.chance.Pick.{Pick}
 use Rattle.policy_pick.specs.declared.chance.Pick.TheVariants.{Thread, Waits, Departs}
-use Rattle.policy_pick.specs.Plan.{Plan, ByPoints, ByEvents, ByList, GoesByRank}
+use Rattle.policy_pick.specs.Plan.{Plan, ByPoints, ByEvents, ByList, GoesByRank, SpeaksOf}
 use Rattle.policy_pick.specs.Choice.{chance_of, is_open, pick_at, threads_of_chances, is_highest}
 use Rattle.policy_pick.specs.Choice.{choice_by_rank, choice_by_number, choice_by_list, choice}
-use Rattle.policy_pick.specs.Choice.{SameOthers, OpensNoOther, HasAwayTarget, TargetsAreAway}
+use Rattle.policy_pick.specs.Choice.{SameOthers, OpensOnly, HasAwayTarget, TargetsAreAway}
+use Rattle.policy_pick.specs.Choice.{OutranksBy, Outranks}
 use Rattle.policy_pick.specs.Laws.Finds.{find-is, found-or-none, IsFirstMatch}
 use Rattle.policy_pick.specs.Laws.Walks.{open_at, highest-parts, highest-from, false-by}
 use Rattle.policy_pick.specs.Laws.Walks.{rank-stops, rank-ends, number-stops, number-ends}
 
 pub same-opens : (thread : ℕ) (earlier later : List Chance) → SameOthers thread earlier later
-    → OpensNoOther thread earlier later
+    → OpensOnly thread 0 earlier later
 same-opens thread earlier later same = record {
   threads = same.threads;
-  others = λ other within apart goes. sym (ap is_open (same.others other within apart)) ∙ goes;
+  others = λ other within apart none goes.
+      sym (ap is_open (same.others other within apart)) ∙ goes;
 }
 
 -- ---- what a pick at a thread tells of it
@@ -51,48 +56,77 @@ waits-at ready at thread (Unknown target) not e =
 waits-at ready at thread Ended not e = absurd cc
 
 -- ---- the walk by falling rank
-module _ (ranks : List ℕ) (thread : ℕ) (earlier later : List Chance)
-    (opens : OpensNoOther thread earlier later) (goes : open_at later thread ≡ true) where
-  open-was : IsFirstMatch (is_highest ranks earlier) (length earlier) thread → (other : ℕ)
-      → other < length earlier → open_at later other ≡ true → open_at earlier other ≡ true
-  open-was first other within is = elim (cases_eq other thread) [
+-- Each other thread of the bits has a lower rank.
+abbrev AreLower : List ℕ → ℕ → ℕ → ℕ → Type 0
+AreLower ranks thread opened many =
+    (other : ℕ) → other < many → bit_at opened other ≡ 1 → other ≢ thread
+    → get_or ranks other 0 < get_or ranks thread 0
+
+none-lower : (ranks : List ℕ) (thread many : ℕ) → AreLower ranks thread 0 many
+none-lower ranks thread many other within set = absurd (omega (arith, bit_at-zero other))
+
+module _ (ranks : List ℕ) (thread opened : ℕ) (earlier later : List Chance)
+    (opens : OpensOnly thread opened earlier later)
+    (lower : AreLower ranks thread opened (length earlier)) (goes : open_at later thread ≡ true)
+    (first : IsFirstMatch (is_highest ranks earlier) (length earlier) thread) where
+  -- a thread that is open now was so before, or has a lower rank
+  open-was : (other : ℕ) → other < length earlier → open_at later other ≡ true
+      → (open_at earlier other ≡ true)
+      ⊎ ((other ≢ thread) × (get_or ranks other 0 < get_or ranks thread 0))
+  open-was other within is = elim (cases_eq other thread) [
     | inl same ↦
-        ap (open_at earlier) same ∙ (highest-parts ranks earlier thread first.passes).0
-    | inr apart ↦ opens.others other within apart is
+        inl (ap (open_at earlier) same ∙ (highest-parts ranks earlier thread first.passes).0)
+    | inr apart ↦ elim (cases_eq (bit_at opened other) 0) [
+      | inl none ↦ inl (opens.others other within apart none is)
+      | inr some ↦
+          let set : bit_at opened other ≡ 1 = omega (arith, bit_at-lt opened other) in
+          inr (apart, lower other within set apart)
+    ]
   ]
 
-  -- stops where it stopped
-  still-stops : IsFirstMatch (is_highest ranks earlier) (length earlier) thread
-      → choice_by_rank ranks later ≡ pick_at (Thread thread) thread (chance_of later thread)
-  still-stops first =
+  still-leads : (other : ℕ) → other < length earlier → open_at later other ≡ true
+      → get_or ranks other 0 ≤ get_or ranks thread 0
+  still-leads other within is = elim (open-was other within is) [
+    | inl was ↦ (highest-parts ranks earlier thread first.passes).1 other within was
+    | inr below ↦ omega (arith, below.1)
+  ]
+
+  -- the walk stops where it stopped
+  still-stops : choice_by_rank ranks later ≡ pick_at (Thread thread) thread (chance_of later thread)
+  still-stops =
       let leads = (highest-parts ranks earlier thread first.passes).1 in
       let there : thread < length later = omega (arith, opens.threads, first.within) in
       let found : find (is_highest ranks later) (threads_of_chances later) ≡ Some thread =
       find-is (is_highest ranks later) 0 (length later) thread (omega arith) (omega arith)
       (highest-from ranks later thread goes (λ other p o.
-      let within : other < length earlier = omega (arith, opens.threads) in
-      leads other within (open-was first other within o)))
+      still-leads other (omega (arith, opens.threads)) o))
       (λ k p q. false-by (is_highest ranks later k) (λ h.
       let parts = highest-parts ranks later k h in
       let here : k < length earlier = omega (arith, first.within) in
-      let was = highest-from ranks earlier k (open-was first k here parts.0)
-      (λ other w o.
-      let a = leads other w o in let b = parts.1 thread there goes in omega arith) in
-      let not = first.before k q in
-      cc)) in
+      let above = parts.1 thread there goes in
+      elim (open-was k here parts.0) [
+        | inl so ↦
+            let was = highest-from ranks earlier k so
+            (λ other w o. let a = leads other w o in omega (arith, a, above)) in
+            let not = first.before k q in
+            cc
+        | inr below ↦ omega (arith, below.1, above)
+      ])) in
       rank-stops ranks later thread found
 
 -- where the thread went, and is away now, it is waited for
-rank-step : (ranks : List ℕ) (thread : ℕ) (earlier later : List Chance)
-    → OpensNoOther thread earlier later → choice_by_rank ranks earlier ≡ Thread thread
+rank-step : (ranks : List ℕ) (thread opened : ℕ) (earlier later : List Chance)
+    → OpensOnly thread opened earlier later → AreLower ranks thread opened (length earlier)
+    → choice_by_rank ranks earlier ≡ Thread thread
     → chance_of later thread ≡ Away → choice_by_rank ranks later ≡ Waits thread
-rank-step ranks thread earlier later opens was away =
+rank-step ranks thread opened earlier later opens lower was away =
     elim (found-or-none (is_highest ranks earlier) (length earlier)) [
       | inl w ↦
           let same = thread-at w.0 thread (chance_of earlier w.0)
           (sym (rank-stops ranks earlier w.0 w.1) ∙ was) in
           let F : ℕ → Type 0 = IsFirstMatch (is_highest ranks earlier) (length earlier) in
-          still-stops ranks thread earlier later opens (ap is_open away) (subst F same w.2)
+          still-stops ranks thread opened earlier later opens lower (ap is_open away)
+          (subst F same w.2)
           ∙ ap (pick_at (Thread thread) thread) away
       | inr w ↦ absurd (let none = rank-ends ranks earlier w.0 in cc)
     ]
@@ -121,8 +155,8 @@ rank-post ranks thread earlier later same targets was ready =
                   absurd (let e : Away ≡ Ready = sym away ∙ ready in cc)
             ]
           ] in
-          still-stops ranks thread earlier later (same-opens thread earlier later same)
-          (ap is_open ready) (subst F at w.2)
+          still-stops ranks thread 0 earlier later (same-opens thread earlier later same)
+          (none-lower ranks thread (length earlier)) (ap is_open ready) (subst F at w.2)
           ∙ ap (pick_at (Thread thread) thread) ready
       | inr w ↦ absurd (let none = rank-ends ranks earlier w.0 in cc)
     ]
@@ -145,15 +179,35 @@ list-step (Some other) thread earlier later was away =
     ∙ ap (pick_at (Thread thread) thread) away
 
 -- ---- the choice of a plan
--- The thread that had the turn is away, and no other is open that wasn't: it is waited for.
-pub choice-step : (plan : Plan) (schedule : List ℕ) (thread : ℕ) (earlier later : List Chance)
-    → OpensNoOther thread earlier later → choice plan schedule earlier ≡ Thread thread
+lower-by : (ranks : List ℕ) (thread opened many : ℕ) → length ranks ≡ many
+    → (opened ≡ 0) ⊎ OutranksBy ranks thread opened → AreLower ranks thread opened many
+lower-by ranks thread opened many long says = elim says [
+  | inl none ↦
+      let A : ℕ → Type 0 = λ bits. AreLower ranks thread bits many in
+      subst A (sym none) (none-lower ranks thread many)
+  | inr outranks ↦
+      λ other within set apart. outranks other (omega (arith, long, within)) set apart
+]
+
+-- The thread that had the turn is away, and no other is open that wasn't, or it outranks each one
+-- that is: it is waited for.
+pub choice-step : (plan : Plan) (schedule : List ℕ) (thread opened : ℕ)
+    (earlier later : List Chance) → SpeaksOf plan (length earlier)
+    → OpensOnly thread opened earlier later
+    → (opened ≡ 0) ⊎ Outranks plan schedule thread opened
+    → choice plan schedule earlier ≡ Thread thread
     → chance_of later thread ≡ Away → choice plan schedule later ≡ Waits thread
-choice-step (ByPoints order points) schedule thread earlier later opens was away =
-    rank-step (ranks order points schedule) thread earlier later opens was away
-choice-step (ByEvents order events) schedule thread earlier later opens was away =
-    rank-step (ranks_by_events order events schedule) thread earlier later opens was away
-choice-step (ByList listed) schedule thread earlier later opens was away =
+choice-step (ByPoints order points) schedule thread opened earlier later speaks opens says was away =
+    let long = length-map-range_with_len (rank order points schedule) 0 (length order) in
+    rank-step (ranks order points schedule) thread opened earlier later opens
+    (lower-by (ranks order points schedule) thread opened (length earlier) (long ∙ sym speaks)
+    says) was away
+choice-step (ByEvents order events) schedule thread opened earlier later speaks opens says was away =
+    let long = length-map-range_with_len (rank_by_events order events schedule) 0 (length order) in
+    rank-step (ranks_by_events order events schedule) thread opened earlier later opens
+    (lower-by (ranks_by_events order events schedule) thread opened (length earlier)
+    (long ∙ sym speaks) says) was away
+choice-step (ByList listed) schedule thread opened earlier later speaks opens says was away =
     list-step (slice_get listed (length schedule)) thread earlier later was away
 
 -- The thread that was waited for is ready, and nothing else has changed: it goes.
