@@ -3,7 +3,7 @@ ghost use Rattle.policy_pick.specs.Plan.{SpeaksOf};
 ghost use Rattle.policy_pick.specs.Choice.{TargetsAreAway, HasAwayTarget};
 
 use crate::samples::ORDERS;
-use crate::slow::{slow_by_events, slow_by_list, slow_by_points, slow_choice};
+use crate::slow::{slow_by_list, slow_by_moments, slow_by_points, slow_choice};
 use policy_pick::{Chance, DirectedPolicy, Listed, Moment, Pct, Pick, Policy};
 use rank_now::is_order;
 use std::alloc::Global;
@@ -153,21 +153,21 @@ fn wanted_by_points(
 }
 
 /// The picks by moments along a schedule, from the plain programs.
-fn wanted_by_events(
+fn wanted_by_moments(
     rt: &impl Abort,
     alloc: Global,
     order: &[u32],
-    events: &[Moment],
+    moments: &[Moment],
     schedule: &[u32; 3],
     number: u32,
 ) -> Result<[Pick; 3], Fail>
     requires few_threads { length order.now ≤ 64 }
-    requires few_events { length events.now ≤ 7 }
+    requires few_moments { length moments.now ≤ 7 }
     requires small { number < 1000000 }
 {
     let mut wanted = [Pick::Nobody; 3];
     for taken in 0..3 {
-        let ranks = slow_by_events(alloc, order, events, &schedule[..taken])?;
+        let ranks = slow_by_moments(alloc, order, moments, &schedule[..taken])?;
         assert_eq!(rt; ranks.len(), 3);
         let chances = chances_of(number + taken as u32);
         wanted[taken] = slow_choice(&ranks, &chances);
@@ -337,12 +337,12 @@ fn compare_case(rt: &impl Abort, alloc: Global, order: &[u32], case: u32) -> Res
     let wanted = wanted_by_points(rt, alloc, order, &points, &schedule, 3 * case)?;
     let policy = Pct::new(alloc, order, &points)?;
     expect_along(rt, policy, &schedule, 3 * case, &wanted);
-    let events = points.map(|point| Moment {
+    let moments = points.map(|point| Moment {
         thread: point % 3,
         number: 1 + point / 3,
     });
-    let wanted = wanted_by_events(rt, alloc, order, &events, &schedule, 3 * case)?;
-    let policy = DirectedPolicy::new(alloc, order, &events)?;
+    let wanted = wanted_by_moments(rt, alloc, order, &moments, &schedule, 3 * case)?;
+    let policy = DirectedPolicy::new(alloc, order, &moments)?;
     expect_along(rt, policy, &schedule, 3 * case, &wanted);
     Ok(())
 }

@@ -2,8 +2,7 @@ ghost use Rattle.std.specs.Prelude.{◌≡◌, ◌≤◌, length, IfOk};
 
 use crate::samples::ORDERS;
 use crate::slow::{slow_indices, slow_ranks};
-use pct_ask::OrderList;
-use rank_now::{Order, RankError, Ranks, first_wrong, is_order};
+use rank_now::{RankError, Ranks, first_wrong, is_order};
 use std::alloc::Global;
 use std::process::Abort;
 use std::test::Fail;
@@ -104,18 +103,11 @@ fn lists_and_orders(rt: HostRuntime) -> Result<(), Fail> {
         assert!(rt; list.len() <= 64);
         assert_eq!(rt; first_wrong(*list), Some(*wrong));
         assert!(rt; !is_order(*list));
-        let threads = OrderList::from_vec(Vec::from_slice(alloc, *list)?);
-        assert!(rt; threads.len() <= 64);
-        assert!(rt; Order::of(threads).is_none());
     }
     let list = [2, 0, 1];
     assert!(rt; is_order(&list));
     let ranks = Ranks::of_order(alloc, &list, 1)?;
     assert_eq!(rt; ranks.greatest(), 4);
-    let threads = OrderList::from_vec(Vec::from_slice(alloc, &list)?);
-    assert!(rt; threads.len() <= 64);
-    let order = Order::of(threads);
-    assert_eq!(rt; order.map(|order| order.as_slice()[0]), Some(2));
     Ok(())
 }
 
@@ -165,6 +157,22 @@ fn holders(rt: HostRuntime) -> Result<(), Fail> {
     assert_eq!(rt; ranks.holder(3), Some(0));
     assert_eq!(rt; ranks.holder(2), Some(1));
     assert_eq!(rt; ranks.holder(1), Some(2));
+    Ok(())
+}
+
+/// A thread outranks another where its value is no less, also where two of them were lowered, the
+/// later one below the earlier or above it.
+#[test]
+fn outranked(rt: HostRuntime) -> Result<(), Fail> {
+    for given in &[[1, 2], [2, 1]] {
+        let ranks = kept_ranks(&rt, rt.alloc(), &[2, 0, 1], 2, &[2, 0], given)?;
+        for pair in 0..9u32 {
+            let (thread, other) = (pair / 3, pair % 3);
+            let no_less = ranks.value(thread) >= ranks.value(other);
+            assert_eq!(rt; ranks.outranks(thread, 1u64 << other), no_less);
+        }
+        assert!(rt; ranks.outranks(1, u64::MAX));
+    }
     Ok(())
 }
 

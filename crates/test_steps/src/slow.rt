@@ -31,12 +31,12 @@ fn slow_own(schedule: &[u32], thread: u32, place: usize) -> u32 {
 }
 
 /// The greatest index, from 1, of a moment that is this one, and 0 where none is.
-fn slow_moment(events: &[Moment], moment: Moment) -> u32
-    requires { length events.now ≤ 7 }
+fn slow_moment(moments: &[Moment], moment: Moment) -> u32
+    requires { length moments.now ≤ 7 }
 {
-    match events.split_last() {
+    match moments.split_last() {
         None => 0,
-        Some((last, _)) if *last == moment => events.len() as u32,
+        Some((last, _)) if *last == moment => moments.len() as u32,
         Some((_, earlier)) => slow_moment(earlier, moment),
     }
 }
@@ -123,20 +123,20 @@ pub fn slow_by_points(
 }
 
 /// The ranks by moments.
-pub fn slow_by_events(
+pub fn slow_by_moments(
     alloc: Global,
     order: &[u32],
-    events: &[Moment],
+    moments: &[Moment],
     schedule: &[u32],
 ) -> Result<Vec<u32>, AllocError>
     requires few_threads { length order.now ≤ 64 }
-    requires few_events { length events.now ≤ 7 }
+    requires few_moments { length moments.now ≤ 7 }
 {
     let mut given = Vec::new(alloc);
     for place in 0..schedule.len() {
-        given.push(slow_moment(events, slow_step(schedule, place)))?;
+        given.push(slow_moment(moments, slow_step(schedule, place)))?;
     }
-    slow_ranks(alloc, &given, events.len() as u32, order, schedule)
+    slow_ranks(alloc, &given, moments.len() as u32, order, schedule)
 }
 
 /// Whether a walk over the threads stops here.

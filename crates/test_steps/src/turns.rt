@@ -35,6 +35,25 @@ fn ask<P: Policy>(rt: &impl Abort, book: &mut TurnBook<P>, thread: u32, line: u3
     );
 }
 
+fn ask_and_take<P: Policy>(
+    rt: &impl Abort,
+    book: &mut TurnBook<P>,
+    thread: u32,
+    line: u32,
+    ask: Ask,
+) -> Option<i64> {
+    assert!(rt; thread < book.deal().threads);
+    assert_eq!(rt; book.standing(thread), Standing::Away);
+    assert!(rt; book.deal().has_objects_of(&ask));
+    book.post_and_take(
+        thread,
+        Post {
+            ask: Some(ask),
+            line,
+        },
+    )
+}
+
 fn take<P: Policy>(rt: &impl Abort, book: &mut TurnBook<P>, thread: u32) -> Taken {
     if book.outcome().is_some() {
         return book.take(thread);
@@ -77,6 +96,8 @@ enum Move {
     Asks(u32, u32, Ask),
     /// A thread asks for its turn.
     Takes(u32, Taken),
+    /// A thread asks, on a line of its test, and takes its step at once, or nothing happens.
+    AsksAndTakes(u32, u32, Ask, Option<i64>),
     /// Whose turn it is, where that is known.
     Granted(Option<u32>),
     /// For whose post the book waits, if it does.
@@ -96,6 +117,13 @@ fn expect_move(rt: &impl Abort, book: &mut TurnBook<Pct>, made: &Move) {
     match *made {
         Move::Asks(thread, line, asked) => ask(rt, book, thread, line, asked),
         Move::Takes(thread, want) => assert_eq!(rt; take(rt, book, thread), want, "{thread}"),
+        Move::AsksAndTakes(thread, line, asked, want) => {
+            assert_eq!(rt;
+                ask_and_take(rt, book, thread, line, asked),
+                want,
+                "{thread}"
+            )
+        }
         Move::Granted(want) => assert_eq!(rt; book.granted(), want),
         Move::Awaited(want) => assert_eq!(rt; book.awaited(), want),
     }
@@ -160,6 +188,23 @@ const GRANTS: [Move; 12] = [
 #[test]
 fn grants_of_a_book(rt: HostRuntime) -> Result<(), Fail> {
     expect_moves(&rt, rt.alloc(), &[0, 1, 2], &GRANTS)
+}
+
+/// First nobody waits for the thread that asks, and at last another one joins it.
+const AT_ONCE: [Move; 7] = [
+    Move::AsksAndTakes(2, 12, JOIN_A, None),
+    Move::AsksAndTakes(0, 4, READ, Some(0)),
+    Move::Awaited(Some(0)),
+    Move::Asks(2, 12, JOIN_A),
+    Move::AsksAndTakes(0, 5, WRITE, None),
+    Move::Asks(0, 5, WRITE),
+    Move::Granted(Some(0)),
+];
+
+/// Where the book waits for a thread, its post and its step are one call.
+#[test]
+fn posts_taken_at_once(rt: HostRuntime) -> Result<(), Fail> {
+    expect_moves(&rt, rt.alloc(), &[0, 1, 2], &AT_ONCE)
 }
 
 /// What a thread asks at its step of a number, from 0, by the rows; behind its last row it has

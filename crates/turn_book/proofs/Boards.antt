@@ -4,6 +4,7 @@ use Rattle.std.proofs.Common.{◌&&◌, ◌||◌}
 use Rattle.std.proofs.Common.{Option, Some, None, List, [], ◌∷◌, ◌++◌, length, set, take, map}
 use Rattle.std.proofs.Common.{replicate, refl, sym, ap, subst, ◌∙◌, arith, inl, inr, ◌⊎◌, eq-eqb}
 use Rattle.std.specs.Prelude.{is_none, slice_get}
+use Rattle.std.specs.Int.{bit_at}
 use Rattle.std.specs.Option.{option_map, option_map_or}
 use Rattle.std.specs.List.{All, cons_option, filter_map, range_with_len}
 use Rattle.std.proofs.lemmas.Bool.{cases_Bool, cases_eq, cases_lt, false≢true, or_parts}
@@ -36,6 +37,7 @@ use Rattle.turn_book.specs.Chances.{NextPosts, is_unknown, is_ended, chance_by, 
 use Rattle.turn_book.specs.Chances.{chance_of_post, chance, chances, blocked_at, verdict_of_blocked}
 use Rattle.turn_book.specs.Told.{standing_by_ask, standing_by}
 use Rattle.turn_book.specs.Board.{IsBoard, next_posts_of, ask_of_post, ArePostsInRange, joins}
+use Rattle.turn_book.specs.Board.{AreKnown, AreWaiters, IsFresh, WereChances, locks_ask}
 use Rattle.turn_book.specs.Board.{concerns_ask, concerns, may_wait}
 use Rattle.turn_book.proofs.laws.MorePosts.{readiness-same}
 
@@ -371,10 +373,10 @@ map-replicate f zero x = refl
 map-replicate f (suc n) x = ap (λ l. f x ∷ l) (map-replicate f n x)
 
 pub new-board : (deal : Deal) (store : StoreState) (posts : List (Option Post))
-    (standings : List Standing) (known : List Chance) → store ≡ first_store deal
+    (standings : List Standing) (known : List Chance) (stale : ℕ) → store ≡ first_store deal
     → posts ≡ replicate deal.threads None → standings ≡ replicate deal.threads AwayStanding
-    → known ≡ replicate deal.threads Away → IsBoard store posts standings known
-new-board deal store posts standings known is none away chances-away =
+    → known ≡ replicate deal.threads Away → IsBoard store posts standings known stale
+new-board deal store posts standings known stale is none away chances-away =
     let threads : store.threads ≡ deal.threads = ap (λ (s : StoreState). s.threads) is in
     let unposted : (t : ℕ) → next_posts_of posts t ≡ None =
     λ t. ap (λ ps. next_posts_of ps t) none ∙ nothing-posted deal.threads t in
@@ -386,13 +388,12 @@ new-board deal store posts standings known is none away chances-away =
       standings =
           away ∙ sym (map-replicate standing_by deal.threads None)
           ∙ ap (map standing_by) (sym none);
-      chances =
-          chances-are store.threads store (next_posts_of posts) known
-          (ap length chances-away ∙ length-replicate deal.threads Away ∙ sym threads)
-          (λ t within. ap (λ cs. chance_of cs t) chances-away
+      as_many = ap length chances-away ∙ length-replicate deal.threads Away ∙ sym threads;
+      chances = λ t within fresh.
+          ap (λ cs. chance_of cs t) chances-away
           ∙ get_or-replicate deal.threads t Away Ended (omega arith)
           ∙ sym (ap (chance_of_post store (is_unknown (next_posts_of posts))
-          (is_ended (next_posts_of posts)) t) (unposted t)));
+          (is_ended (next_posts_of posts)) t) (unposted t));
     }
 
 -- ---- a thread's post in a board, and another store
@@ -403,30 +404,69 @@ front-taken (suc n) [] ys e = absurd (omega arith)
 front-taken (suc n) (x ∷ xs) ys e = ap (λ l. x ∷ l) (front-taken n xs ys (omega arith))
 
 module _ (store : StoreState) (posts : List (Option Post)) (standings : List Standing)
-    (known : List Chance) (board : IsBoard store posts standings known) where
-  pub length-known : length known ≡ store.threads
-  length-known = ap length board.chances ∙ length-chances store.threads store (next_posts_of posts)
-
-  pub others-kept : (after : StoreState) (t : ℕ) (post : Option Post) (object : Touched)
+    (known : List Chance) (stale : ℕ) (board : IsBoard store posts standings known stale) where
+  -- a thread that a step or a post doesn't concern, and whose next post locks no stale mutex
+  pub others-kept : (after : StoreState) (t : ℕ) (post : Option Post) (object : Touched) (more : ℕ)
       → after.threads ≡ store.threads → KeepsOthers t object store after
-      → (u : ℕ) → u < after.threads → concerns t object u (next_posts_of (set posts t post) u)
-      ≡ false → chance_of known u ≡ chance after (next_posts_of (set posts t post)) u
-  others-kept after t post object threads keeps u within none =
-      ap (λ cs. chance_of cs u) board.chances
-      ∙ chance-at store.threads store (next_posts_of posts) u (omega arith)
+      → ((m : ℕ) → bit_at stale m ≡ 1 → bit_at more m ≡ 1) → (u : ℕ) → u < after.threads
+      → IsFresh more (ask_of_post (next_posts_of (set posts t post) u))
+      → concerns t object u (next_posts_of (set posts t post) u) ≡ false
+      → chance_of known u ≡ chance after (next_posts_of (set posts t post)) u
+  others-kept after t post object more threads keeps grows u within fresh none =
+      let parts = or_parts (eqb u t)
+      (concerns_ask t object u (ask_of_post (next_posts_of (set posts t post) u))) none in
+      let apart : u ≢ t = λ same. false≢true (sym parts.0 ∙ eq-eqb u t same) in
+      let same = get_or-set_other posts t u post None apart in
+      board.chances u (omega (arith, threads, within)) (λ m small set.
+      sym (ap (λ p. locks_ask m (ask_of_post p)) same) ∙ fresh m small (grows m set))
       ∙ sym (chance-kept store after posts t post object keeps u none)
 
   pub board-set : (after : StoreState) (t : ℕ) (post : Option Post) (standing : Standing)
-      (looked : List Chance) → sizes_of after ≡ sizes_of store
+      (more : ℕ) (looked : List Chance) → sizes_of after ≡ sizes_of store
       → PostIsInRange (sizes_of store) (ask_of_post post) → standing ≡ standing_by post
-      → looked ≡ chances after.threads after (next_posts_of (set posts t post))
-      → IsBoard after (set posts t post) (set standings t standing) looked
-  board-set after t post standing looked sizes range stands is =
+      → length looked ≡ length known → AreKnown after (set posts t post) more looked
+      → IsBoard after (set posts t post) (set standings t standing) looked more
+  board-set after t post standing more looked sizes range stands long is =
       let threads : after.threads ≡ store.threads = ap (λ (s : Sizes). s.threads) sizes in
       record {
         threads = length-set posts t post ∙ board.threads ∙ sym threads;
         few = omega (arith, board.few);
         in_range = range-set store after posts t post board.in_range sizes range;
         standings = standings-set posts standings t post standing board.standings stands;
+        as_many = long ∙ board.as_many ∙ sym threads;
         chances = is;
       }
+
+-- the chances before a step, of which some are known
+pub chances-before : (store after : StoreState) (posts : List (Option Post)) (t : ℕ)
+    (post : Option Post) (object : Touched) (waiters stale : ℕ) (standings : List Standing)
+    (known : List Chance) → IsBoard store posts standings known stale
+    → AreWaiters store.threads posts waiters → after.threads ≡ store.threads
+    → KeepsOthers t object store after
+    → WereChances after (set posts t post) t object waiters known
+    (chances store.threads store (next_posts_of posts))
+chances-before store after posts t post object waiters stale standings known board waiting threads
+    keeps = record {
+      threads = length-chances store.threads store (next_posts_of posts) ∙ sym threads;
+      stayed = λ u within none.
+          chance-at store.threads store (next_posts_of posts) u (omega (arith, threads, within))
+          ∙ sym (chance-kept store after posts t post object keeps u none);
+      waiting = λ u within apart set.
+          let there : u < store.threads = omega (arith, threads, within) in
+          board.chances u there (λ m small is.
+          waiting.unlocking m u (omega (arith, there, board.few)) set)
+          ∙ sym (chance-at store.threads store (next_posts_of posts) u there);
+    }
+
+-- a board that keeps each thread's chance
+pub fresh-board : (store : StoreState) (posts : List (Option Post)) (standings : List Standing)
+    (known : List Chance) (was stale : ℕ) → IsBoard store posts standings known was
+    → IsBoard store posts standings (chances store.threads store (next_posts_of posts)) stale
+fresh-board store posts standings known was stale board = record {
+  threads = board.threads;
+  few = board.few;
+  in_range = board.in_range;
+  standings = board.standings;
+  as_many = length-chances store.threads store (next_posts_of posts);
+  chances = λ u within fresh. chance-at store.threads store (next_posts_of posts) u within;
+}

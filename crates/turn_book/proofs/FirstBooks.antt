@@ -129,9 +129,3 @@ kept-new deal limit plan board next events reserved is sizes speaks some few roo
           λ undecided. picks ∙ ap (λ n. choice plan []
           (chances n board.store (next_posts_of board.posts))) threads;
     })
-
-pub choice-first : (plan : Plan) (board : BoardState) (known : List Chance) (next : Pick)
-    → known ≡ chances (board.store).threads board.store (next_posts_of board.posts)
-    → next ≡ choice plan [] known → next
-    ≡ choice plan [] (chances (board.store).threads board.store (next_posts_of board.posts))
-choice-first plan board all_chances next is picks = picks ∙ ap (choice plan []) is

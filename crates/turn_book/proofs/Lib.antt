@@ -1,11 +1,13 @@
 pub mod Boards
 pub mod Joined
 pub mod Waiters
+pub mod Passing
 pub mod Lockers
 pub mod PostLists
 pub mod Books
 pub mod FirstBooks
 pub mod Takes
 pub mod Turning
+pub mod Between
 pub mod Fronts
 pub mod laws

@@ -1,33 +1,39 @@
 -- The threads whose next posts lock a mutex, as the bits of a word of each mutex.
 use Rattle.std.proofs.Common.{◌≡◌, ◌≢◌, ℕ, ◌<◌, ◌≤◌, Bool, true, false, cond, ◌||◌, ◌&&◌, List}
 use Rattle.std.proofs.Common.{length, set, get_or, replicate, Option, Some, None, refl, sym, ap}
-use Rattle.std.proofs.Common.{◌∙◌, inl, inr, arith, w64, ne_eqb, eqb-true, eq-eqb}
-use Rattle.std.specs.Prelude.{is_none}
+use Rattle.std.proofs.Common.{◌∙◌, inl, inr, arith, w64, ne_eqb, eqb-true, eq-eqb, [], ◌∷◌}
+use Rattle.std.proofs.Math.Nat.{le-max_left, le-max_right}
+use Rattle.std.specs.Prelude.{is_none, bit_or, max}
 use Rattle.std.specs.Int.{bit_at}
 use Rattle.std.proofs.lemmas.Bool.{cases_eq, cases_lt, false≢true}
 use Rattle.std.proofs.lemmas.List.{get_or-set_other, get_or-set_same, get_or-replicate, get_or_past}
 use Rattle.std.proofs.lemmas.List.{length-replicate, length-set}
-use Rattle.std.proofs.lemmas.Nat.Bits.{bit_at-zero, bit_at-lt, bit_at_clear_same}
+use Rattle.std.proofs.lemmas.Nat.Bits.{bit_at-zero, bit_at-lt, bit_at_or, bit_at_clear_same}
 use Rattle.std.proofs.lemmas.Nat.Bits.{bit_at_clear_other}
 use Rattle.pct_ask.specs.declared.ask.Ask.{Ask}
-use Rattle.pct_ask.specs.declared.ask.Ask.TheVariants.{Lock}
+use Rattle.pct_ask.specs.declared.ask.Ask.TheVariants.{Lock, Join}
+use Rattle.pct_ask.specs.declared.names.NameKind.{NameKind}
+use Rattle.pct_ask.specs.declared.names.NameKind.TheVariants as kinds
 use Rattle.pct_ask.specs.declared.ask.Post.{Post}
-use Rattle.pct_ask.specs.Objects.{Sizes, PostIsInRange}
+use Rattle.pct_ask.specs.Objects.{Sizes, IsInRange, PostIsInRange, AreThere, TestObject, count_of}
+use Rattle.pct_ask.specs.Objects.{objects_of}
 use Rattle.sync_store.specs.declared.touched.Touched.{Touched}
 use Rattle.sync_store.specs.declared.touched.Touched.TheVariants.{Mutex}
 use Rattle.sync_store.specs.Store.{StoreState, owner_of}
-use Rattle.sync_store.specs.Touched.{depends_on}
+use Rattle.sync_store.specs.Touched.{depends_on, last_touched, touched_at, touched_of}
 use Rattle.sync_store.specs.Ready.{ready_by}
 use Rattle.policy_pick.specs.declared.chance.Chance.{Chance}
 use Rattle.policy_pick.specs.declared.chance.Chance.TheVariants.{Ended}
-use Rattle.policy_pick.specs.Choice.{chance_of, is_open, OpensNoOther}
-use Rattle.turn_book.specs.Chances.{NextPosts, chance, chance_by, chance_of_ask, chance_of_post}
+use Rattle.policy_pick.specs.Choice.{chance_of, is_open, OpensOnly}
+use Rattle.turn_book.specs.Chances.{NextPosts, chance, chances, chance_by, chance_of_ask}
+use Rattle.turn_book.specs.Chances.{chance_of_post}
 use Rattle.turn_book.specs.Chances.{is_unknown, is_ended}
 use Rattle.turn_book.specs.Board.{AreLockers, LockOne, ask_of_post, next_posts_of, locks, locks_ask}
-use Rattle.turn_book.specs.Board.{lockers_at, waits_otherwise, waits_otherwise_ask}
+use Rattle.turn_book.specs.Board.{lockers_at, waits_otherwise, waits_otherwise_ask, AreKnown}
+use Rattle.turn_book.specs.Board.{AreWaiters, IsFresh, IsStale, WereChances}
 use Rattle.turn_book.specs.Board.{concerns, concerns_ask, joins}
-use Rattle.turn_book.proofs.Boards.{nothing-posted}
-use Rattle.turn_book.proofs.Waiters.{cleared}
+use Rattle.turn_book.proofs.Boards.{nothing-posted, chance-at, chances-are, length-chances}
+use Rattle.turn_book.proofs.Waiters.{cleared, never-set}
 
 -- ---- the words
 abbrev pub bit_of : Bool → ℕ
@@ -117,6 +123,11 @@ other-lock n m apart = ne_eqb m n (λ e. apart (sym e))
 pub no-lock : (ask : Ask) → ((m : ℕ) → ask ≡ Lock m → ⊥) → (m : ℕ) → locks m ask ≡ false
 no-lock (Lock n) none m = absurd (none n refl)
 no-lock ask none m = refl
+
+-- an ask that may have to wait otherwise locks no mutex
+pub waits-unlocking : (m : ℕ) (ask : Ask) → waits_otherwise ask ≡ true → locks m ask ≡ false
+waits-unlocking m (Lock n) e = absurd (false≢true e)
+waits-unlocking m ask e = refl
 
 -- a mutex that a post locks is there
 pub lock-within : (sizes : Sizes) (m : ℕ) (ask : Option Ask) → PostIsInRange sizes ask
@@ -263,27 +274,124 @@ set-more threads one first left k known small here inside was =
 pub bit-one : (word u : ℕ) → bit_at word u ≢ 0 → bit_at word u ≡ 1
 bit-one word u some = omega (arith, bit_at-lt word u, some)
 
--- none of the threads of the bits is open, and the others have the chances that they had
-pub none-opened : (alike t n : ℕ) (one : Chance) (first known : List Chance) → n ≤ 64
-    → length first ≡ n → length known ≡ length first → is_open one ≡ false
-    → ((u : ℕ) → u < 64 → bit_at alike u ≡ 1 → chance_of known u ≡ one)
-    → ((u : ℕ) → u < 64 → bit_at alike u ≡ 0 → chance_of known u ≡ chance_of first u)
-    → OpensNoOther t first known
-none-opened alike t n one first known few many long closed these others = record {
-  threads = long;
-  others = λ u within apart goes. elim (cases_eq (bit_at alike u) 0) [
-    | inl none ↦ sym (ap is_open (others u (omega arith) none)) ∙ goes
-    | inr some ↦ absurd (false≢true (sym closed
-        ∙ sym (ap is_open (these u (omega arith) (bit-one alike u some))) ∙ goes))
-  ];
-}
+-- ---- the stale mutexes
+at-within : (sizes : Sizes) (kind : NameKind) (place m : ℕ) → place < count_of kind sizes
+    → touched_at kind place ≡ Mutex m → m < sizes.mutexes
+at-within sizes kinds.Mutex place m within e =
+    let same : place ≡ m = cc in
+    omega (arith, same, within)
+at-within sizes kind place m within e = absurd cc
 
--- some were looked at, and then others
-pub opens-both : (t : ℕ) (first next last : List Chance) → OpensNoOther t first next
-    → OpensNoOther t next last → OpensNoOther t first last
-opens-both t first next last one other = record {
-  threads = other.threads ∙ one.threads;
-  others = λ u within apart goes.
-      one.others u within apart
-      (other.others u (omega (arith, one.threads, within)) apart goes);
-}
+last-within : (sizes : Sizes) (objects : List TestObject) (m : ℕ) → AreThere sizes objects
+    → last_touched objects ≡ Mutex m → m < sizes.mutexes
+last-within sizes [] m there e = absurd cc
+last-within sizes (o ∷ []) m there e = at-within sizes o.kind o.place m there e
+last-within sizes (o ∷ p ∷ others) m there e = last-within sizes (p ∷ others) m there.1 e
+
+-- a mutex that a step touches is there
+pub touched-within : (sizes : Sizes) (ask : Ask) (m : ℕ) → IsInRange sizes ask
+    → touched_of ask ≡ Mutex m → m < sizes.mutexes
+touched-within sizes (Join u) m range e = absurd cc
+touched-within sizes ask m range e = last-within sizes (objects_of ask) m range e
+
+-- a thread whose next post locks no stale mutex doesn't lock the one that is touched
+pub fresh-unlocked : (posts : List (Option Post)) (lockers : List ℕ) → AreLockers posts lockers
+    → (stale : ℕ) (object : Touched) → IsStale stale object → (u : ℕ) → u < 64
+    → IsFresh stale (ask_of_post (next_posts_of posts u)) → bit_at (lockers_at lockers object) u ≡ 0
+fresh-unlocked posts lockers are stale (Mutex m) is u small fresh =
+    let here = is m refl in
+    are m u small ∙ ap bit_of (fresh m here.0 here.1)
+fresh-unlocked posts lockers are stale object is u small fresh = bit_at-zero u
+
+-- those who lock one mutex were looked at, and it is stale no longer
+pub less-stale : (store : StoreState) (posts : List (Option Post)) (lockers : List ℕ)
+    → AreLockers posts lockers → store.threads ≤ 64 → (left k : ℕ) (known looked : List Chance)
+    → k < 64
+    → ((u : ℕ) → u < 64 → bit_at (get_or lockers k 0) u ≡ 1
+    → chance_of looked u ≡ chance store (next_posts_of posts) u)
+    → ((u : ℕ) → u < 64 → bit_at (get_or lockers k 0) u ≡ 0
+    → chance_of looked u ≡ chance_of known u)
+    → AreKnown store posts left known → AreKnown store posts (cleared left k) looked
+less-stale store posts lockers are few left k known looked small these others was u there fresh =
+    let low : u < 64 = omega arith in
+    let ask = ask_of_post (next_posts_of posts u) in
+    elim (cases_eq (bit_at (get_or lockers k 0) u) 0) [
+      | inl out ↦
+          others u low out ∙ was u there (λ m within set. elim (cases_eq m k) [
+            | inl same ↦
+                ap (λ n. locks_ask n ask) same
+                ∙ bit-denies (locks_ask k ask) (bit_at (get_or lockers k 0) u) (are k u low) out
+            | inr apart ↦
+                fresh m within (bit_at_clear_other w64 left k small m within apart ∙ set)
+          ])
+      | inr some ↦ these u low (bit-one (get_or lockers k 0) u some)
+    ]
+
+-- where no mutex is stale, all chances are known
+pub none-stale : (store : StoreState) (posts : List (Option Post)) (left : ℕ) (known : List Chance)
+    → left ≡ 0 → length known ≡ store.threads → AreKnown store posts left known
+    → known ≡ chances store.threads store (next_posts_of posts)
+none-stale store posts left known none long are =
+    chances-are store.threads store (next_posts_of posts) known long (λ u within.
+    are u within (λ m small set. absurd (let bit = ap (λ w. bit_at w m) none in
+    omega (arith, set, bit, bit_at-zero m))))
+
+-- ---- who is open after a step
+module _ (store : StoreState) (posts : List (Option Post)) (t waiters : ℕ) (object : Touched)
+    (was earlier : List Chance)
+    (were : WereChances store posts t object waiters was earlier) where
+  abbrev later : List Chance
+  later = chances store.threads store (next_posts_of posts)
+
+  -- where the step concerns no other thread
+  pub opens-alone : ((u : ℕ) → u ≢ t → concerns t object u (next_posts_of posts u) ≡ false)
+      → OpensOnly t 0 earlier later
+  opens-alone nobody = record {
+    threads = length-chances store.threads store (next_posts_of posts) ∙ sym were.threads;
+    others = λ u within apart none goes.
+        let there : u < store.threads = omega (arith, within, were.threads) in
+        ap is_open (were.stayed u there (nobody u apart))
+        ∙ sym (ap is_open (chance-at store.threads store (next_posts_of posts) u there)) ∙ goes;
+  }
+
+  -- where the lockers of a mutex and the waiters were looked at
+  pub opens-again : (lockers : List ℕ) (known : List Chance) (may_lock may_go : ℕ)
+      → store.threads ≤ 64 → AreWaiters store.threads posts waiters → AreLockers posts lockers
+      → ((u : ℕ) → u ≢ t → chance_of known u ≡ chance_of was u)
+      → ((u : ℕ) → u < 64 → bit_at (lockers_at lockers object) u ≡ 1
+      → is_open (chance store (next_posts_of posts) u) ≡ true
+      → may_lock ≡ lockers_at lockers object)
+      → ((u : ℕ) → u < 64 → bit_at waiters u ≡ 1 → bit_at may_go u ≡ 0
+      → is_open (chance store (next_posts_of posts) u) ≡ true → is_open (chance_of known u) ≡ true)
+      → OpensOnly t (bit_or may_lock may_go) earlier later
+  opens-again lockers known may_lock may_go few waiting locking same alike_opens waiter_opens =
+      let alike = lockers_at lockers object in
+      record {
+        threads = length-chances store.threads store (next_posts_of posts) ∙ sym were.threads;
+        others = λ u within apart none goes.
+            let there : u < store.threads = omega (arith, within, were.threads) in
+            let small : u < 64 = omega (arith, there, few) in
+            let both : max (bit_at may_lock u) (bit_at may_go u) ≡ 0 =
+            sym (bit_at_or may_lock may_go u) ∙ none in
+            let left = le-max_left (bit_at may_lock u) (bit_at may_go u) in
+            let right = le-max_right (bit_at may_lock u) (bit_at may_go u) in
+            let now : is_open (chance store (next_posts_of posts) u) ≡ true =
+            sym (ap is_open (chance-at store.threads store (next_posts_of posts) u there)) ∙ goes in
+            elim (cases_eq (bit_at waiters u) 0) [
+              | inl idle ↦ elim (cases_eq (bit_at alike u) 0) [
+                | inl out ↦
+                    ap is_open (were.stayed u there (others-unlocked posts lockers locking t object
+                    u small apart (never-set store.threads posts waiters u waiting small idle)
+                    out)) ∙ now
+                | inr some ↦
+                    absurd (some (sym (ap (λ w. bit_at w u)
+                    (alike_opens u small (bit-one alike u some) now))
+                    ∙ (let clear : bit_at may_lock u ≡ 0 = omega (arith, both, left) in clear)))
+              ]
+              | inr waits ↦
+                  let set = bit-one waiters u waits in
+                  sym (ap is_open (were.waiting u there apart set))
+                  ∙ sym (ap is_open (same u apart))
+                  ∙ waiter_opens u small set (omega (arith, both, right)) now
+            ];
+      }

@@ -1,25 +1,24 @@
 -- The threads whose asks may have to wait, as the bits of a word, and a look at each of them.
-use Rattle.std.proofs.Common.{◌≡◌, ◌≢◌, ℕ, ◌*◌, ◌%◌, ◌^◌, ◌<◌, ◌≤◌, Bool, true, false, not}
+use Rattle.std.proofs.Common.{◌≡◌, ◌≢◌, ℕ, ◌*◌, ◌%◌, ◌^◌, ◌<◌, Bool, true, false, not}
 use Rattle.std.proofs.Common.{List, length, set, replicate, Option, None, refl, sym, ap}
 use Rattle.std.proofs.Common.{◌∙◌, inl, inr, arith, w64}
 use Rattle.std.specs.Int.{bit_at, bit_not}
-use Rattle.std.specs.Prelude.{bit_and}
+use Rattle.std.specs.Prelude.{bit_and, bit_or}
 use Rattle.std.proofs.lemmas.Bool.{cases_Bool, cases_eq, false≢true}
 use Rattle.std.proofs.lemmas.List.{get_or-set_other, get_or-set_same, length-set}
 use Rattle.std.proofs.lemmas.Nat.{and_le_l}
 use Rattle.std.proofs.lemmas.Nat.Bits.{bit_at-zero, bit_at_clear_same, bit_at_clear_other}
 use Rattle.pct_ask.specs.declared.ask.Post.{Post}
-use Rattle.pct_ask.specs.declared.event.Standing.{Standing}
 use Rattle.sync_store.specs.declared.touched.Touched.TheVariants.{Nothing}
 use Rattle.sync_store.specs.Store.{StoreState}
 use Rattle.policy_pick.specs.declared.chance.Chance.{Chance}
 use Rattle.policy_pick.specs.declared.chance.Chance.TheVariants.{Ended}
-use Rattle.policy_pick.specs.Choice.{chance_of, is_open, OpensNoOther, SameOthers}
+use Rattle.policy_pick.specs.Choice.{chance_of, is_open, SameOthers}
 use Rattle.turn_book.specs.Chances.{chance, chances}
-use Rattle.turn_book.specs.Board.{AreWaiters, IsBoard, ask_of_post, joins_ask, waits_otherwise_ask}
-use Rattle.turn_book.specs.Board.{next_posts_of}
+use Rattle.turn_book.specs.Board.{AreWaiters, ask_of_post, joins_ask, locks_ask}
+use Rattle.turn_book.specs.Board.{waits_otherwise_ask, next_posts_of}
 use Rattle.turn_book.proofs.Boards.{nothing-posted, set-listed, chance-at, length-chances}
-use Rattle.turn_book.proofs.Boards.{others-kept}
+use Rattle.turn_book.proofs.Boards.{chance-kept}
 use Rattle.turn_book.proofs.Joined.{others-alone}
 
 -- ---- the word
@@ -32,15 +31,17 @@ nobody-waits threads n posts none = record {
       ap (λ ps. next_posts_of ps u) none ∙ nothing-posted n u in
       absurd (false≢true (sym (ap (λ p. waits_otherwise_ask (ask_of_post p)) unposted) ∙ waits));
   below = λ u within is. absurd (omega (arith, bit_at-zero u));
+  unlocking = λ m u within is. absurd (omega (arith, bit_at-zero u));
 }
 
 -- a thread posts, and its bit is set where its ask may have to wait
 pub waiters-post : (threads : ℕ) (posts : List (Option Post)) (was now t : ℕ) (post : Option Post)
     → t < threads → length posts ≡ threads → AreWaiters threads posts was
     → (waits_otherwise_ask (ask_of_post post) ≡ true → bit_at now t ≡ 1)
+    → (bit_at now t ≡ 1 → (m : ℕ) → locks_ask m (ask_of_post post) ≡ false)
     → ((u : ℕ) → u < 64 → u ≢ t → bit_at now u ≡ bit_at was u)
     → AreWaiters threads (set posts t post) now
-waiters-post threads posts was now t post here long before this others = record {
+waiters-post threads posts was now t post here long before this unlocking others = record {
   each = λ u within waits. elim (cases_eq u t) [
     | inl same ↦
         let is : next_posts_of (set posts t post) u ≡ post =
@@ -58,6 +59,15 @@ waiters-post threads posts was now t post here long before this others = record 
     | inl same ↦ omega arith
     | inr apart ↦ before.below u within (sym (others u within apart) ∙ is)
   ];
+  unlocking = λ m u within is. elim (cases_eq u t) [
+    | inl same ↦
+        ap (λ p. locks_ask m (ask_of_post p)) (ap (next_posts_of (set posts t post)) same
+        ∙ get_or-set_same posts t post None (omega arith))
+        ∙ unlocking (sym (ap (bit_at now) same) ∙ is) m
+    | inr apart ↦
+        ap (λ p. locks_ask m (ask_of_post p)) (get_or-set_other posts t u post None apart)
+        ∙ before.unlocking m u within (sym (others u within apart) ∙ is)
+  ];
 }
 
 -- a thread takes its step, and the word stays
@@ -71,6 +81,11 @@ waiters-step threads after posts was t many before = record {
         absurd (false≢true (sym (ap (λ p. waits_otherwise_ask (ask_of_post p)) none) ∙ waits))
   ];
   below = λ u within is. omega (arith, before.below u within is);
+  unlocking = λ m u within is. elim (set-listed posts t None u) [
+    | inl other ↦
+        ap (λ p. locks_ask m (ask_of_post p)) other ∙ before.unlocking m u within is
+    | inr none ↦ ap (λ p. locks_ask m (ask_of_post p)) none
+  ];
 }
 
 -- a bit that isn't set is of a thread whose ask never has to wait
@@ -82,6 +97,10 @@ never-set threads posts waiters u are within none =
       | inl waits ↦ absurd (omega (arith, are.each u within waits))
       | inr never ↦ never
     ]
+
+-- a bit that is set
+abbrev pub with_bit : ℕ → ℕ → ℕ
+with_bit word k = bit_or word (1 * 2 ^ k % 2 ^ 64)
 
 -- a bit that is set is cleared: the word is less, and the other bits stay
 abbrev pub cleared : ℕ → ℕ → ℕ
@@ -98,104 +117,87 @@ cleared-less word k within is =
     ]
 
 -- ---- a look at each
--- Of some threads, whose bits are left, the chances are still as they were first, and those of the
--- others are known.
-pub record AreLooked (store : StoreState) (posts : List (Option Post)) (thread waiters : ℕ)
-    (first : List Chance) (left : ℕ) (known : List Chance) (opens : Bool) : Type 0 where
+-- Of the threads of a word whose bits aren't left the chances are known, and of all others they are
+-- as they were first.
+pub record AreLooked (store : StoreState) (posts : List (Option Post)) (waiters : ℕ)
+    (first : List Chance) (left : ℕ) (known : List Chance) (opened : ℕ) : Type 0 where
   pub long : length known ≡ length first
   pub within : (u : ℕ) → u < 64 → bit_at left u ≡ 1 → bit_at waiters u ≡ 1
-  pub done : (u : ℕ) → u < store.threads → bit_at left u ≡ 0
+  pub done : (u : ℕ) → u < 64 → bit_at waiters u ≡ 1 → bit_at left u ≡ 0
       → chance_of known u ≡ chance store (next_posts_of posts) u
-  pub opened : opens ≡ false → OpensNoOther thread first known
+  pub waiting : (u : ℕ) → u < 64 → bit_at left u ≡ 1 → chance_of known u ≡ chance_of first u
+  pub others : (u : ℕ) → u < 64 → bit_at waiters u ≡ 0 → chance_of known u ≡ chance_of first u
+  pub opens : (u : ℕ) → u < 64 → bit_at waiters u ≡ 1 → bit_at left u ≡ 0 → bit_at opened u ≡ 0
+      → is_open (chance store (next_posts_of posts) u) ≡ true → is_open (chance_of first u) ≡ true
 
-module _ (store : StoreState) (posts : List (Option Post)) (thread waiters : ℕ)
-    (first : List Chance) where
-  pub looked-none : ((u : ℕ) → u < store.threads → bit_at waiters u ≡ 0
-      → chance_of first u ≡ chance store (next_posts_of posts) u) → (opens : Bool)
-      → AreLooked store posts thread waiters first waiters first opens
-  looked-none rest opens = record {
+module _ (store : StoreState) (posts : List (Option Post)) (waiters : ℕ) (first : List Chance) where
+  pub looked-none : (opened : ℕ) → AreLooked store posts waiters first waiters first opened
+  looked-none opened = record {
     long = refl;
     within = λ u small is. is;
-    done = rest;
-    opened = λ e. record { threads = refl; others = λ other there apart goes. goes };
+    done = λ u small is none. absurd (omega (arith, is, none));
+    waiting = λ u small is. refl;
+    others = λ u small none. refl;
+    opens = λ u small is none bit goes. absurd (omega (arith, is, none));
   }
 
-  pub looked-more : (left k : ℕ) (known : List Chance) (opens now : Bool) (one : Chance)
-      → store.threads ≤ 64 → length first ≡ store.threads
-      → AreLooked store posts thread waiters first left known opens → k < 64 → k < store.threads
-      → one ≡ chance store (next_posts_of posts) k
-      → (now ≡ false
-      → (opens ≡ false) × (is_open one ≡ true → is_open (chance_of known k) ≡ true))
-      → AreLooked store posts thread waiters first (cleared left k) (set known k one) now
-  looked-more left k known opens now one few many looked small there is says =
-      let within : k < length known = omega (arith, looked.long) in
-      let at : chance_of (set known k one) k ≡ one = get_or-set_same known k one Ended within in
+  pub looked-more : (left k : ℕ) (known : List Chance) (opened now : ℕ) (one : Chance)
+      → AreLooked store posts waiters first left known opened → k < 64 → bit_at left k ≡ 1
+      → k < length known → one ≡ chance store (next_posts_of posts) k
+      → (bit_at now k ≡ 0 → is_open one ≡ true → is_open (chance_of known k) ≡ true)
+      → ((u : ℕ) → bit_at now u ≡ 0 → bit_at opened u ≡ 0)
+      → AreLooked store posts waiters first (cleared left k) (set known k one) now
+  looked-more left k known opened now one looked small here inside is this rest =
+      let at : chance_of (set known k one) k ≡ one = get_or-set_same known k one Ended inside in
       let other : (u : ℕ) → u ≢ k → chance_of (set known k one) u ≡ chance_of known u =
       λ u apart. get_or-set_other known k u one Ended apart in
+      let gone = bit_at_clear_same w64 left k small in
+      let kept : (u : ℕ) → u < 64 → u ≢ k → bit_at (cleared left k) u ≡ bit_at left u =
+      λ u low apart. bit_at_clear_other w64 left k small u low apart in
+      let left_apart : (u : ℕ) → bit_at (cleared left k) u ≡ 1 → u ≢ k =
+      λ u is_set same. let e = sym (ap (bit_at (cleared left k)) same) ∙ is_set in
+      omega (arith, e, gone) in
       record {
         long = length-set known k one ∙ looked.long;
-        within = λ u low set. elim (cases_eq u k) [
-          | inl same ↦
-              let gone = bit_at_clear_same w64 left k small in
-              absurd (let e : bit_at (cleared left k) k ≡ 1 =
-              sym (ap (bit_at (cleared left k)) same) ∙ set in omega arith)
-          | inr apart ↦
-              looked.within u low (sym (bit_at_clear_other w64 left k small u low apart) ∙ set)
-        ];
-        done = λ u low none. elim (cases_eq u k) [
+        within = λ u low is_set.
+            looked.within u low (sym (kept u low (left_apart u is_set)) ∙ is_set);
+        done = λ u low is_set none. elim (cases_eq u k) [
           | inl same ↦
               ap (chance_of (set known k one)) same ∙ at ∙ is
               ∙ ap (chance store (next_posts_of posts)) (sym same)
           | inr apart ↦
-              other u apart ∙ looked.done u low
-              (sym (bit_at_clear_other w64 left k small u (omega arith) apart) ∙ none)
+              other u apart ∙ looked.done u low is_set (sym (kept u low apart) ∙ none)
         ];
-        opened = λ e.
-            let says_now = says e in
-            let before = looked.opened says_now.0 in
-            record {
-              threads = length-set known k one ∙ looked.long;
-              others = λ u low apart goes. elim (cases_eq u k) [
-                | inl same ↦
-                    let one_goes : is_open one ≡ true =
-                    sym (ap is_open (ap (chance_of (set known k one)) same ∙ at)) ∙ goes in
-                    before.others u low apart
-                    (ap (λ v. is_open (chance_of known v)) same ∙ says_now.1 one_goes)
-                | inr far ↦
-                    before.others u low apart (sym (ap is_open (other u far)) ∙ goes)
-              ];
-            };
+        waiting = λ u low is_set.
+            let apart = left_apart u is_set in
+            other u apart ∙ looked.waiting u low (sym (kept u low apart) ∙ is_set);
+        others = λ u low none.
+            other u (λ same.
+            let e = sym (ap (bit_at waiters) same) ∙ none in
+            omega (arith, e, looked.within k small here)) ∙ looked.others u low none;
+        opens = λ u low is_set none bit goes. elim (cases_eq u k) [
+          | inl same ↦
+              let one_goes : is_open one ≡ true =
+              ap is_open is ∙ sym (ap (λ v. is_open (chance store (next_posts_of posts) v)) same)
+              ∙ goes in
+              ap (λ v. is_open (chance_of first v)) same
+              ∙ sym (ap is_open (looked.waiting k small here))
+              ∙ this (sym (ap (bit_at now) same) ∙ bit) one_goes
+          | inr apart ↦
+              looked.opens u low is_set (sym (kept u low apart) ∙ none) (rest u bit) goes
+        ];
       }
-
--- one thread's chance was looked at, and then others were
-pub opens-after : (thread : ℕ) (first next last : List Chance) → SameOthers thread first next
-    → OpensNoOther thread next last → OpensNoOther thread first last
-opens-after thread first next last same opens = record {
-  threads = opens.threads ∙ same.threads;
-  others = λ other within apart goes.
-      sym (ap is_open (same.others other within apart))
-      ∙ opens.others other (omega (arith, same.threads)) apart goes;
-}
-
-pub set-others : (thread : ℕ) (first next : List Chance) (one : Chance)
-    → next ≡ set first thread one → SameOthers thread first next
-set-others thread first next one is = record {
-  threads = ap length is ∙ length-set first thread one;
-  others = λ other within apart.
-      ap (λ cs. chance_of cs other) is ∙ get_or-set_other first thread other one Ended apart;
-}
 
 pub not-so : (b : Bool) → not b ≡ true → b ≡ false
 not-so true e = absurd (false≢true e)
 not-so false e = refl
 
 -- where nobody joins the thread that posts, no other chance changes
-pub post-alone : (store : StoreState) (posts : List (Option Post)) (standings : List Standing)
-    (known : List Chance) → IsBoard store posts standings known → (t : ℕ) (post : Option Post)
+pub post-alone : (store : StoreState) (posts : List (Option Post)) (t : ℕ) (post : Option Post)
     → ((u : ℕ) → joins_ask t (ask_of_post (next_posts_of (set posts t post) u)) ≡ false)
     → SameOthers t (chances store.threads store (next_posts_of posts))
     (chances store.threads store (next_posts_of (set posts t post)))
-post-alone store posts standings known board t post nobody =
+post-alone store posts t post nobody =
     let next = next_posts_of (set posts t post) in
     let long = length-chances store.threads store (next_posts_of posts) in
     record {
@@ -203,7 +205,7 @@ post-alone store posts standings known board t post nobody =
       others = λ u within apart.
           let there : u < store.threads = omega (arith, long) in
           chance-at store.threads store next u there
-          ∙ sym (others-kept store posts standings known board store t post Nothing refl
-          (λ ended v ask far no. refl) u there (others-alone t u (next u) apart (nobody u)))
-          ∙ ap (λ cs. chance_of cs u) board.chances;
+          ∙ chance-kept store store posts t post Nothing (λ ended v ask far no. refl) u
+          (others-alone t u (next u) apart (nobody u))
+          ∙ sym (chance-at store.threads store (next_posts_of posts) u there);
     }

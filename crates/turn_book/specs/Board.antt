@@ -1,6 +1,7 @@
 -- The board of a book: the store, and each thread's next post. Nothing here is needed to read a
 -- public contract.
-use Rattle.std.specs.Prelude.{◌≡◌, ◌<◌, ◌≤◌, ℕ, ℤ, pos, Bool, true, false, ◌==◌, ◌||◌, ◌&&◌, List}
+use Rattle.std.specs.Prelude.{◌≡◌, ◌≢◌, ◌<◌, ◌≤◌, ℕ, ℤ, pos, Bool, true, false, ◌==◌, ◌||◌, ◌&&◌}
+use Rattle.std.specs.Prelude.{List}
 use Rattle.std.specs.Prelude.{length, if◌then◌else◌}
 use Rattle.std.specs.Prelude.{map, Option, Some, None, slice_index_or, slice_set}
 use Rattle.pct_ask.specs.declared.ask.Ask.{Ask}
@@ -19,11 +20,13 @@ use Rattle.sync_store.specs.Effect.{Effect, Goes, Stops, effect, store_after}
 use Rattle.sync_store.specs.Touched.{depends_on}
 use Rattle.policy_pick.specs.declared.chance.Chance.{Chance}
 use Rattle.policy_pick.specs.declared.chance.Pick.{Pick}
-use Rattle.policy_pick.specs.Plan.{Plan}
-use Rattle.policy_pick.specs.Choice.{SameOthers, choice}
-use Rattle.turn_book.specs.Chances.{NextPosts, chances}
+use Rattle.policy_pick.specs.Plan.{Plan, SpeaksOf}
+use Rattle.policy_pick.specs.declared.chance.Chance.TheVariants.{Away, Ready}
+use Rattle.policy_pick.specs.declared.chance.Pick.TheVariants.{Thread}
+use Rattle.policy_pick.specs.Choice.{SameOthers, OpensOnly, TargetsAreAway, chance_of, choice}
+use Rattle.turn_book.specs.Chances.{NextPosts, chance, chances}
 use Rattle.turn_book.specs.Told.{standing_by}
-use Rattle.pct_ask.specs.declared.limits.TheConstants.{MAX_THREADS}
+use Rattle.pct_ask.specs.declared.limits.TheConstants.{MAX_THREADS, MAX_OBJECTS}
 
 pub record BoardState : Type 0 where
   pub store : StoreState
@@ -41,15 +44,6 @@ ask_of_post (Some post) = post.ask
 abbrev pub ArePostsInRange : StoreState → List (Option Post) → Type 0
 ArePostsInRange store posts =
     (t : ℕ) → PostIsInRange (sizes_of store) (ask_of_post (next_posts_of posts t))
-
--- what is kept beside the store and the posts is what they give
-pub record IsBoard (store : StoreState) (posts : List (Option Post)) (stands : List Standing)
-    (known : List Chance) : Type 0 where
-  pub threads : length posts ≡ store.threads
-  pub few : store.threads ≤ MAX_THREADS
-  pub in_range : ArePostsInRange store posts
-  pub standings : stands ≡ map standing_by posts
-  pub chances : known ≡ chances store.threads store (next_posts_of posts)
 
 -- what the thread is told by a step, and how the run ends
 abbrev pub answer_of : Effect → ℤ
@@ -69,6 +63,25 @@ pub record TakesStep (old : BoardState) (t : ℕ) (event : Event) (ends : Option
   pub verdict : ends ≡ verdict_of (effect old.store t event.line event.ask)
   pub store : new.store ≡ store_after old.store (effect old.store t event.line event.ask)
   pub posts : new.posts ≡ slice_set old.posts t None
+
+-- the chances of all threads of a board
+abbrev pub chances_on : BoardState → List Chance
+chances_on board = chances board.store.threads board.store (next_posts_of board.posts)
+
+-- the board after a thread's post
+abbrev pub posted_on : BoardState → ℕ → Post → BoardState
+posted_on board t post = record {
+  store = board.store;
+  posts = slice_set board.posts t (Some post);
+}
+
+-- a thread posts what it may do now, which changes no other thread's chance, and takes that step
+pub record PostsAndSteps (old : BoardState) (t : ℕ) (post : Post) (event : Event)
+    (ends : Option Verdict) (new : BoardState) : Type 0 where
+  pub ready : chance old.store (next_posts_of (posted_on old t post).posts) t ≡ Ready
+  pub others : SameOthers t (chances_on old) (chances_on (posted_on old t post))
+  pub targets : TargetsAreAway (chances_on (posted_on old t post))
+  pub step : TakesStep (posted_on old t post) t event ends new
 
 -- whether an ask joins a thread
 abbrev pub joins : ℕ → Ask → Bool
@@ -119,12 +132,14 @@ waits_otherwise_ask None = false
 waits_otherwise_ask (Some ask) = waits_otherwise ask
 
 -- The bits of a word name threads that there are, among them each one whose next post may have to
--- wait otherwise than for a mutex that it locks.
+-- wait otherwise than for a mutex that it locks, and none whose next post locks one.
 pub record AreWaiters (threads : ℕ) (posts : List (Option Post)) (waiters : ℕ) : Type 0 where
   pub each : (u : ℕ) → u < MAX_THREADS
       → waits_otherwise_ask (ask_of_post (next_posts_of posts u)) ≡ true
       → bit_at waiters u ≡ 1
   pub below : (u : ℕ) → u < MAX_THREADS → bit_at waiters u ≡ 1 → u < threads
+  pub unlocking : (m u : ℕ) → u < MAX_THREADS → bit_at waiters u ≡ 1
+      → locks_ask m (ask_of_post (next_posts_of posts u)) ≡ false
 
 -- Of each mutex there is a word whose bits name the threads whose next post locks it.
 abbrev pub AreLockers : List (Option Post) → List ℕ → Type 0
@@ -145,13 +160,40 @@ LockOne posts alike =
     × ((u : ℕ) → u < MAX_THREADS → bit_at alike u ≡ 1
     → locks_ask m (ask_of_post (next_posts_of posts u)) ≡ true)
 
+-- an ask locks none of the stale mutexes: those that a step touched since their lockers were looked
+-- at
+abbrev pub IsFresh : ℕ → Option Ask → Type 0
+IsFresh stale ask = (m : ℕ) → m < MAX_OBJECTS → bit_at stale m ≡ 1 → locks_ask m ask ≡ false
+
+-- the chance that is kept of a thread is its chance, unless its next post locks a stale mutex
+abbrev pub AreKnown : StoreState → List (Option Post) → ℕ → List Chance → Type 0
+AreKnown store posts stale known =
+    (u : ℕ) → u < store.threads → IsFresh stale (ask_of_post (next_posts_of posts u))
+    → chance_of known u ≡ chance store (next_posts_of posts) u
+
+-- the object that is touched is a stale mutex, or none
+abbrev pub IsStale : ℕ → Touched → Type 0
+IsStale stale object = (m : ℕ) → object ≡ Mutex m → (m < MAX_OBJECTS) × (bit_at stale m ≡ 1)
+
+-- what is kept beside the store and the posts is what they give
+pub record IsBoard (store : StoreState) (posts : List (Option Post)) (stands : List Standing)
+    (known : List Chance) (stale : ℕ) : Type 0 where
+  pub threads : length posts ≡ store.threads
+  pub few : store.threads ≤ MAX_THREADS
+  pub in_range : ArePostsInRange store posts
+  pub standings : stands ≡ map standing_by posts
+  pub as_many : length known ≡ store.threads
+  pub chances : AreKnown store posts stale known
+
 -- a board that keeps these beside the store and the posts
 pub record IsNotedBoard (store : StoreState) (posts : List (Option Post)) (stands : List Standing)
-    (known : List Chance) (joined : List Bool) (waiters : ℕ) (lockers : List ℕ) : Type 0 where
-  pub board : IsBoard store posts stands known
+    (known : List Chance) (joined : List Bool) (waiters : ℕ) (lockers : List ℕ) (stale : ℕ)
+    : Type 0 where
+  pub board : IsBoard store posts stands known stale
   pub noted : AreNoted posts joined
   pub waiting : AreWaiters store.threads posts waiters
   pub mutexes : length lockers ≡ (sizes_of store).mutexes
+  pub few_mutexes : length lockers ≤ MAX_OBJECTS
   pub locking : AreLockers posts lockers
 
 abbrev pub concerns_ask : ℕ → Touched → ℕ → Option Ask → Bool
@@ -163,9 +205,16 @@ concerns_ask t object u (Some ask) = may_wait ask && (depends_on u ask object ||
 abbrev pub concerns : ℕ → Touched → ℕ → Option Post → Bool
 concerns t object u post = u == t || concerns_ask t object u (ask_of_post post)
 
--- the chances of all threads of a board
-abbrev pub chances_on : BoardState → List Chance
-chances_on board = chances board.store.threads board.store (next_posts_of board.posts)
+-- The chances before a thread's step or post: those of the threads that it doesn't concern have
+-- stayed, and those of the waiters are known.
+pub record WereChances (store : StoreState) (posts : List (Option Post)) (t : ℕ) (object : Touched)
+    (waiters : ℕ) (known earlier : List Chance) : Type 0 where
+  pub threads : length earlier ≡ store.threads
+  pub stayed : (u : ℕ) → u < store.threads
+      → concerns t object u (next_posts_of posts u) ≡ false
+      → chance_of earlier u ≡ chance store (next_posts_of posts) u
+  pub waiting : (u : ℕ) → u < store.threads → u ≢ t → bit_at waiters u ≡ 1
+      → chance_of known u ≡ chance_of earlier u
 
 -- It was the choice before some chances, of the thread alone, became these.
 pub record WasChosen (plan : Plan) (schedule : List ℕ) (t : ℕ) (next : Pick) (later : List Chance)
@@ -173,3 +222,13 @@ pub record WasChosen (plan : Plan) (schedule : List ℕ) (t : ℕ) (next : Pick)
   pub earlier : List Chance
   pub others : SameOthers t earlier later
   pub chosen : next ≡ choice plan schedule earlier
+
+-- It was the turn of the thread before some chances became these. It is away in them, and each
+-- other thread that is open, and wasn't, is one of the bits.
+pub record HadTurn (plan : Plan) (schedule : List ℕ) (t opened : ℕ) (later : List Chance)
+    : Type 0 where
+  pub earlier : List Chance
+  pub speaks : SpeaksOf plan (length earlier)
+  pub opens : OpensOnly t opened earlier later
+  pub turn : choice plan schedule earlier ≡ Thread t
+  pub away : chance_of later t ≡ Away

@@ -1,20 +1,20 @@
 ghost use Rattle.std.specs.Prelude.{◌≡◌, ◌≢◌, ◌<◌, ◌≤◌, ◌↔◌, ℕ, ℤ, [], ◌++◌, List, length, Some};
-ghost use Rattle.std.specs.Prelude.{None, IfOk, IsSome, is_some, vec_capacity};
+ghost use Rattle.std.specs.Prelude.{None, IfOk, IfSome, IsSome, IsNone, is_some, true, vec_capacity};
 ghost use Rattle.pct_ask.specs.declared.ask.Post.{Post};
 ghost use Rattle.pct_ask.specs.declared.event.Event.{Event};
 ghost use Rattle.pct_ask.specs.declared.event.Standing.{Standing};
 ghost use Rattle.pct_ask.specs.declared.verdict.Outcome.{Outcome};
 ghost use Rattle.pct_ask.specs.Objects.{sizes_of_deal, PostIsInRange};
 ghost use Rattle.policy_pick.specs.declared.chance.Pick.{Pick};
-ghost use Rattle.policy_pick.specs.Plan.{SpeaksOf};
-ghost use Rattle.turn_book.specs.Told.{new_book, standing_of, choice_of, IsLawful};
+ghost use Rattle.policy_pick.specs.Plan.{SpeaksOf, GoesByRank};
+ghost use Rattle.turn_book.specs.Told.{BookState, new_book, standing_of, choice_of, IsLawful};
 ghost use Rattle.turn_book.specs.Told.{IsPosted, IsAnswered, IsRunOver};
 ghost use Rattle.turn_book.specs.declared.taken.Because.{Because};
 ghost use Rattle.turn_book.specs.Answers.{IsAnswerTaken, IsBecause};
 ghost use Rattle.pct_ask.specs.declared.limits.TheConstants.{MAX_STEPS};
 
 use crate::board::Board;
-use crate::settle::{after_post, after_step, settle};
+use crate::settle::{after_post, after_step, settle, waits_for};
 use crate::taken::{Because, Reply, Taken, reason};
 use pct_ask::{Deal, Event, EventList, Outcome, Post, Sequence, Standing};
 use policy_pick::{Pick, Policy};
@@ -81,9 +81,9 @@ impl<P: Policy> TurnBook<P> {
         ensures made { IfOk result (λ book. book ≡ new_book deal limit (P.plan policy)) }
         ensures lawful { IfOk result IsLawful }
     {
-        let board = Board::new(alloc, &deal)?;
+        let mut board = Board::new(alloc, &deal)?;
         let trace = cleared(spare, limit as usize)?;
-        let next = policy.pick(board.chances());
+        let next = board.pick(&policy);
         Ok(TurnBook {
             deal,
             limit,
@@ -105,10 +105,16 @@ impl<P: Policy> TurnBook<P> {
         ensures lawful { IsLawful self.new }
     {
         if self.outcome.is_none() {
-            let alone = self.board.post(thread, post);
-            let known = after_post(&self.policy, self.board.chances(), self.next, thread, alone);
+            let posted = self.board.post(thread, post);
+            let known = after_post(&self.policy, self.next, thread, posted);
             let full = self.trace.len() == self.limit as usize;
-            self.next = settle(&self.policy, &self.board, known, full, &mut self.outcome);
+            self.next = settle(
+                &self.policy,
+                &mut self.board,
+                known,
+                full,
+                &mut self.outcome,
+            );
         }
     }
 
@@ -171,6 +177,52 @@ impl<P: Policy> TurnBook<P> {
         }
     }
 
+    /// Posts for the thread that the book waits for, which takes its step at once where it may take
+    /// it now. As `post` and then `take`, in less time. It is nothing where that isn't so, or isn't
+    /// known without a look at others, and then nothing has changed.
+    pub fn post_and_take(&mut self, thread: u32, post: Post) -> Option<i64>
+        requires thread { thread < self.old.deal.threads }
+        requires away { standing_of self.old thread ≡ Standing.Away }
+        requires in_range { PostIsInRange (sizes_of_deal self.old.deal) post.ask }
+        ensures answer { IfSome result (λ answer. (self.old.outcome ≡ None)
+            × ((posted : BookState) × IsPosted self.old thread post posted
+            × (posted.outcome ≡ None) × (choice_of posted ≡ Some (Pick.Thread thread))
+            × IsAnswered posted thread answer self.new)) }
+        ensures none { IsNone result → self.new ≡ self.old }
+        ensures lawful { IsLawful self.new }
+    {
+        if !self.waits_by_rank(thread) {
+            return None;
+        }
+        let (event, opened) = self.board.post_and_step(thread, post, &mut self.outcome)?;
+        self.trace.push_reserved(event);
+        let kept = self.policy.took_and_kept(thread);
+        let known = after_step(&self.policy, thread, kept, opened);
+        let full = self.trace.len() == self.limit as usize;
+        self.next = settle(
+            &self.policy,
+            &mut self.board,
+            known,
+            full,
+            &mut self.outcome,
+        );
+        Some(event.answer)
+    }
+
+    /// The run isn't over, the policy goes by ranks, its choice waits for the thread, and there is
+    /// room for a step.
+    fn waits_by_rank(&self, thread: u32) -> bool
+        ensures { result ≡ true → (self.now.outcome ≡ None)
+            × (choice_of self.now ≡ Some (Pick.Waits thread))
+            × GoesByRank self.now.plan × (length self.now.trace < self.now.limit) }
+    {
+        if self.outcome.is_none() && waits_for(self.next, thread) && self.policy.goes_by_rank() {
+            self.trace.len() < self.limit as usize
+        } else {
+            false
+        }
+    }
+
     /// The thread takes the step that it asks.
     fn step(&mut self, thread: u32) -> i64
         requires running { self.old.outcome ≡ None }
@@ -178,12 +230,18 @@ impl<P: Policy> TurnBook<P> {
         ensures answered { IsAnswered self.old thread result self.new }
         ensures lawful { IsLawful self.new }
     {
-        let (event, opens) = self.board.step(thread, &mut self.outcome);
+        let (event, opened) = self.board.step(thread, &mut self.outcome);
         self.trace.push_reserved(event);
         let kept = self.policy.took_and_kept(thread);
-        let known = after_step(thread, kept, opens);
+        let known = after_step(&self.policy, thread, kept, opened);
         let full = self.trace.len() == self.limit as usize;
-        self.next = settle(&self.policy, &self.board, known, full, &mut self.outcome);
+        self.next = settle(
+            &self.policy,
+            &mut self.board,
+            known,
+            full,
+            &mut self.outcome,
+        );
         event.answer
     }
 

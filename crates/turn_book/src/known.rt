@@ -1,112 +1,26 @@
 ghost use Rattle.std.specs.Prelude.{◌≡◌, ◌≢◌, ◌<◌, ◌≤◌, ℕ, true, false, length, map, Some, None};
 ghost use Rattle.std.specs.Prelude.{List, Option};
 ghost use Rattle.std.specs.Prelude.{slice_set, slice_index_or};
-ghost use Rattle.std.specs.Prelude.{MatchOption};
 ghost use Rattle.std.specs.Int.{bit_at};
-ghost use Rattle.std.specs.Option.{option_map};
 ghost use Rattle.pct_ask.specs.declared.ask.Post.{Post};
 ghost use Rattle.pct_ask.specs.Objects.{PostIsInRange};
 ghost use Rattle.sync_store.specs.Store.{sizes_of};
-ghost use Rattle.sync_store.specs.Effect.{Effect, applied_of};
-ghost use Rattle.sync_store.specs.Stepped.{applied_by};
 ghost use Rattle.sync_store.specs.Ready.{away_by, ended_by};
-ghost use Rattle.policy_pick.specs.Choice.{chance_of, is_open, OpensNoOther};
+ghost use Rattle.policy_pick.specs.declared.chance.Chance.{Chance};
+ghost use Rattle.policy_pick.specs.Choice.{chance_of, is_open, OpensOnly};
 ghost use Rattle.turn_book.specs.Chances.{chance, chance_by, chance_of_post, chances};
-ghost use Rattle.turn_book.specs.Chances.{blocked_by_post};
-ghost use Rattle.turn_book.specs.Obeys.{outcome_by};
 ghost use Rattle.turn_book.specs.Told.{standing_by};
-ghost use Rattle.turn_book.specs.Board.{ArePostsInRange, ask_of_post, answer_of, verdict_of};
+ghost use Rattle.turn_book.specs.Board.{ArePostsInRange, ask_of_post};
 ghost use Rattle.turn_book.specs.Board.{concerns, waits_otherwise, waits_otherwise_ask, AreWaiters};
 ghost use Rattle.turn_book.specs.Board.{next_posts_of, joins_ask, locks, locks_ask, AreLockers};
-ghost use Rattle.turn_book.specs.Board.{lockers_at, LockOne};
-ghost use Rattle.pct_ask.specs.declared.limits.TheConstants.{MAX_THREADS};
+ghost use Rattle.turn_book.specs.Board.{lockers_at, LockOne, AreKnown, IsFresh, IsStale};
+ghost use Rattle.turn_book.specs.Board.{WereChances};
+ghost use Rattle.sync_store.specs.declared.touched.Touched.{Touched};
+ghost use Rattle.pct_ask.specs.declared.limits.TheConstants.{MAX_THREADS, MAX_OBJECTS};
 
-use pct_ask::{Ask, Event, Outcome, Post, Standing};
+use pct_ask::{Ask, Post, Standing};
 use policy_pick::{Chance, is_open};
-use sync_store::{Applied, Ready, Stepped, Store, Touched};
-
-/// What is known of a thread with this next post.
-pub fn standing_of(post: Option<Post>) -> Standing
-    ensures { result ≡ standing_by post }
-{
-    match post {
-        None => Standing::Away,
-        Some(post) => match post.ask {
-            None => Standing::Ended,
-            Some(_) => Standing::Asks,
-        },
-    }
-}
-
-/// The line and the ask of a post, if it has one.
-pub fn asked(post: Option<Post>) -> Option<(u32, Ask)>
-    ensures { MatchOption result (ask_of_post post ≡ None)
-        (λ found. post ≡ Some (record { ask = Some found.1; line = found.0 })) }
-{
-    match post {
-        None => None,
-        Some(post) => match post.ask {
-            None => None,
-            Some(ask) => Some((post.line, ask)),
-        },
-    }
-}
-
-/// A step as the trace has it. Where it ends the run, its verdict is noted.
-pub fn step_of(
-    thread: u32,
-    line: u32,
-    ask: Ask,
-    stepped: Stepped,
-    outcome: &mut Option<Outcome>,
-) -> Event
-    ensures thread { result.thread ≡ thread }
-    ensures line { result.line ≡ line }
-    ensures ask { result.ask ≡ ask }
-    ensures answer { (step : Effect) → applied_by stepped ≡ applied_of step
-        → result.answer ≡ answer_of step }
-    ensures outcome { (step : Effect) → applied_by stepped ≡ applied_of step
-        → outcome.new ≡ outcome_by (verdict_of step) outcome.old }
-{
-    let answer = match stepped {
-        Stepped::Answer(answer) => answer,
-        Stepped::Failed { .. } | Stepped::Misuse { .. } | Stepped::Fault { .. } => {
-            note_verdict(stepped, outcome);
-            0
-        }
-    };
-    Event {
-        thread,
-        line,
-        ask,
-        answer,
-    }
-}
-
-/// Notes the verdict of a step, where that ends the run. It has room for 64 threads, and stands
-/// apart from the steps after which the run goes on.
-#[inline(never)]
-fn note_verdict(stepped: Stepped, outcome: &mut Option<Outcome>)
-    ensures { (step : Effect) → applied_by stepped ≡ applied_of step
-        → outcome.new ≡ outcome_by (verdict_of step) outcome.old }
-{
-    if let Applied::Ends(verdict) = stepped.applied() {
-        *outcome = Some(Outcome::Verdict(verdict));
-    }
-}
-
-/// The line of a thread that is blocked where nobody may go on.
-pub fn blocked_line(store: &Store, thread: u32, post: Option<Post>) -> Option<u32>
-    requires { thread < store.now.threads }
-    ensures { blocked_by_post store.now thread post ≡ option_map (λ line. (thread, line)) result }
-{
-    let (line, ask) = asked(post)?;
-    if ask == Ask::Begin && !store.is_started(thread) {
-        None
-    } else {
-        Some(line)
-    }
-}
+use sync_store::{Ready, Store, Touched};
 
 /// The chance of a thread with this next post.
 fn chance_of(store: &Store, standings: &[Standing], thread: u32, post: Option<Post>) -> Chance
@@ -176,6 +90,7 @@ fn waits_otherwise(ask: &Ask) -> bool
 pub fn with_waiter(waiters: u64, thread: u32, ask: Option<Ask>) -> u64
     requires { thread < MAX_THREADS }
     ensures this { waits_otherwise_ask ask ≡ true → bit_at result thread ≡ 1 }
+    ensures unlocking { bit_at result thread ≡ 1 → (m : ℕ) → locks_ask m ask ≡ false }
     ensures others { (u : ℕ) → u < MAX_THREADS → u ≢ thread → bit_at result u ≡ bit_at waiters u }
 {
     let bit = 1u64 << thread;
@@ -234,6 +149,23 @@ fn lockers_at(lockers: &[u64], touched: Touched) -> u64
     }
 }
 
+/// The mutexes of the bits, and the one that is touched, if one is.
+pub fn with_stale(stale: u64, touched: Touched) -> u64
+    requires { (m : ℕ) → touched ≡ Touched.Mutex m → m < MAX_OBJECTS }
+    ensures touched { IsStale result touched }
+    ensures others { (m : ℕ) → bit_at stale m ≡ 1 → bit_at result m ≡ 1 }
+{
+    match touched {
+        Touched::Mutex(mutex) => stale | 1u64 << mutex,
+        Touched::Nothing
+        | Touched::Cond(_)
+        | Touched::Sem(_)
+        | Touched::Barrier(_)
+        | Touched::Thread(_)
+        | Touched::RwLock(_) => stale,
+    }
+}
+
 /// Notes which thread an ask joins.
 pub fn note_joined(joined: &mut [bool; 64], ask: Option<Ask>)
     ensures noted { (t : ℕ) → t < MAX_THREADS → joins_ask t ask ≡ true
@@ -269,10 +201,10 @@ fn look_at(
     known[thread as usize] = chance_of(store, standings, thread, post);
 }
 
-/// Looks again at the threads that the post or the step of a thread concerns. Where it touches no
-/// object and nobody joins the thread, that is the thread alone, and else it may be those that lock
-/// the mutex that it touches, at once, and any whose ask may have to wait otherwise. It is false
-/// only where no other thread is open that wasn't before.
+/// Looks again at the threads that the post or the step of a thread concerns, but for those that
+/// lock the mutex that it touches, which is stale from then on. Where it touches no object and
+/// nobody joins the thread, that is the thread alone, and else it may be any whose ask may have to
+/// wait otherwise. The result has a bit for each other thread that is open now and wasn't before.
 pub fn look_again(
     store: &Store,
     posts: &[Option<Post>],
@@ -283,7 +215,7 @@ pub fn look_again(
     waiters: u64,
     lockers: &[u64],
     known: &mut [Chance],
-) -> bool
+) -> u64
     requires thread { thread < store.now.threads }
     requires threads { length posts.now ≡ store.now.threads }
     requires few { store.now.threads ≤ MAX_THREADS }
@@ -294,32 +226,102 @@ pub fn look_again(
     requires as_many { length known.old ≡ store.now.threads }
     requires joined { joined ≡ false
         → (u : ℕ) → joins_ask thread (ask_of_post (next_posts_of posts.now u)) ≡ false }
-    requires others { (u : ℕ) → u < store.now.threads
+    ensures many { length known.new ≡ length known.old }
+    ensures own { chance_of known.new thread ≡ chance store.now (next_posts_of posts.now) thread }
+    ensures chances { (stale : ℕ) → IsStale stale touched
+        → ((u : ℕ) → u < store.now.threads
+        → IsFresh stale (ask_of_post (next_posts_of posts.now u))
         → concerns thread touched u (next_posts_of posts.now u) ≡ false
-        → chance_of known.old u ≡ chance store.now (next_posts_of posts.now) u }
-    ensures chances { known.new ≡ chances store.now.threads store.now (next_posts_of posts.now) }
-    ensures opens { result ≡ false → OpensNoOther thread known.old known.new }
+        → chance_of known.old u ≡ chance store.now (next_posts_of posts.now) u)
+        → AreKnown store.now posts.now stale known.new }
+    ensures opens { (earlier : List Chance)
+        → WereChances store.now posts.now thread touched waiters known.old earlier
+        → OpensOnly thread result earlier
+        (chances store.now.threads store.now (next_posts_of posts.now)) }
 {
     look_at(store, posts, standings, thread, known);
     match touched {
-        Touched::Nothing if !joined => false,
+        Touched::Nothing if !joined => 0,
         _ => {
             let alike = lockers_at(lockers, touched);
-            let lets_lock = look_at_alike(store, posts, standings, alike, known);
-            lets_lock | look_at_waiters(store, posts, standings, thread, waiters, known)
+            let may_lock = open_alike(store, posts, standings, alike);
+            may_lock | look_at_waiters(store, posts, standings, waiters, known)
         }
     }
 }
 
-/// Looks again at threads that all lock one mutex: the chance of one is that of each. It is false
-/// only where none of them may go.
+/// The threads of the bits, which all lock one mutex, where they may go, and else none.
+fn open_alike(store: &Store, posts: &[Option<Post>], standings: &[Standing], alike: u64) -> u64
+    requires threads { length posts.now ≡ store.now.threads }
+    requires few { store.now.threads ≤ MAX_THREADS }
+    requires in_range { ArePostsInRange store.now posts.now }
+    requires standings { standings.now ≡ map standing_by posts.now }
+    requires alike { LockOne posts.now alike }
+    ensures { (u : ℕ) → u < MAX_THREADS → bit_at alike u ≡ 1
+        → is_open (chance store.now (next_posts_of posts.now) u) ≡ true → result ≡ alike }
+{
+    if alike == 0 {
+        return 0;
+    }
+    let chance = chance_of_alike(store, posts, standings, alike);
+    if is_open(chance) { alike } else { 0 }
+}
+
+/// The chance of threads that all lock one mutex.
+fn chance_of_alike(
+    store: &Store,
+    posts: &[Option<Post>],
+    standings: &[Standing],
+    alike: u64,
+) -> Chance
+    requires threads { length posts.now ≡ store.now.threads }
+    requires few { store.now.threads ≤ MAX_THREADS }
+    requires in_range { ArePostsInRange store.now posts.now }
+    requires standings { standings.now ≡ map standing_by posts.now }
+    requires alike { LockOne posts.now alike }
+    requires some { alike ≢ 0 }
+    ensures { (u : ℕ) → u < MAX_THREADS → bit_at alike u ≡ 1
+        → result ≡ chance store.now (next_posts_of posts.now) u }
+{
+    let first = alike.trailing_zeros();
+    chance_of(store, standings, first, posts[first as usize])
+}
+
+/// Looks again at those that lock the mutexes of the bits.
+pub fn look_at_stale(
+    store: &Store,
+    posts: &[Option<Post>],
+    standings: &[Standing],
+    lockers: &[u64],
+    stale: u64,
+    known: &mut [Chance],
+)
+    requires threads { length posts.now ≡ store.now.threads }
+    requires few { store.now.threads ≤ MAX_THREADS }
+    requires in_range { ArePostsInRange store.now posts.now }
+    requires standings { standings.now ≡ map standing_by posts.now }
+    requires lockers { AreLockers posts.now lockers.now }
+    requires as_many { length known.old ≡ store.now.threads }
+    requires known { AreKnown store.now posts.now stale known.old }
+    ensures { known.new ≡ chances store.now.threads store.now (next_posts_of posts.now) }
+{
+    let mut left = stale;
+    while left != 0 {
+        let mutex = left.trailing_zeros();
+        left &= !(1u64 << mutex);
+        let alike = lockers_at(lockers, Touched::Mutex(mutex));
+        look_at_alike(store, posts, standings, alike, known);
+    }
+}
+
+/// Looks again at threads that all lock one mutex.
 fn look_at_alike(
     store: &Store,
     posts: &[Option<Post>],
     standings: &[Standing],
     alike: u64,
     known: &mut [Chance],
-) -> bool
+)
     requires threads { length posts.now ≡ store.now.threads }
     requires few { store.now.threads ≤ MAX_THREADS }
     requires in_range { ArePostsInRange store.now posts.now }
@@ -331,15 +333,11 @@ fn look_at_alike(
         → chance_of known.new u ≡ chance store.now (next_posts_of posts.now) u }
     ensures others { (u : ℕ) → u < MAX_THREADS → bit_at alike u ≡ 0
         → chance_of known.new u ≡ chance_of known.old u }
-    ensures opens { result ≡ false → (t : ℕ) → OpensNoOther t known.old known.new }
 {
-    if alike == 0 {
-        return false;
+    if alike != 0 {
+        let chance = chance_of_alike(store, posts, standings, alike);
+        set_each(alike, chance, known);
     }
-    let first = alike.trailing_zeros();
-    let chance = chance_of(store, standings, first, posts[first as usize]);
-    set_each(alike, chance, known);
-    is_open(chance)
 }
 
 /// Gives each thread of the bits one chance.
@@ -359,43 +357,62 @@ fn set_each(threads: u64, chance: Chance, known: &mut [Chance])
     }
 }
 
-/// Looks again at each of the threads of the bits. It is false only where none of them, but for the
-/// one thread, is open that wasn't before.
+/// Looks again at each of the threads of the bits. The result has a bit for each of them that is
+/// open now and wasn't before.
 fn look_at_waiters(
     store: &Store,
     posts: &[Option<Post>],
     standings: &[Standing],
-    thread: u32,
     waiters: u64,
     known: &mut [Chance],
-) -> bool
+) -> u64
     requires threads { length posts.now ≡ store.now.threads }
     requires few { store.now.threads ≤ MAX_THREADS }
     requires in_range { ArePostsInRange store.now posts.now }
     requires standings { standings.now ≡ map standing_by posts.now }
     requires waiters { AreWaiters store.now.threads posts.now waiters }
     requires as_many { length known.old ≡ store.now.threads }
-    requires others { (u : ℕ) → u < store.now.threads → bit_at waiters u ≡ 0
-        → chance_of known.old u ≡ chance store.now (next_posts_of posts.now) u }
-    ensures chances { known.new ≡ chances store.now.threads store.now (next_posts_of posts.now) }
-    ensures opens { result ≡ false → OpensNoOther thread known.old known.new }
+    ensures many { length known.new ≡ length known.old }
+    ensures looked { (u : ℕ) → u < MAX_THREADS → bit_at waiters u ≡ 1
+        → chance_of known.new u ≡ chance store.now (next_posts_of posts.now) u }
+    ensures others { (u : ℕ) → u < MAX_THREADS → bit_at waiters u ≡ 0
+        → chance_of known.new u ≡ chance_of known.old u }
+    ensures opens { (u : ℕ) → u < MAX_THREADS → bit_at waiters u ≡ 1 → bit_at result u ≡ 0
+        → is_open (chance store.now (next_posts_of posts.now) u) ≡ true
+        → is_open (chance_of known.old u) ≡ true }
 {
-    let mut opens = false;
+    let mut opened = 0;
     let mut left = waiters;
     while left != 0 {
         let other = left.trailing_zeros();
         left &= !(1u64 << other);
         let post = posts[other as usize];
         let chance = chance_of(store, standings, other, post);
-        opens = opens | is_opened(known[other as usize], chance);
+        opened = with_opened(opened, other, known[other as usize], chance);
         known[other as usize] = chance;
     }
-    opens
+    opened
 }
 
-/// Whether a thread is open that wasn't before.
-fn is_opened(before: Chance, after: Chance) -> bool
-    ensures { result ≡ false → is_open after ≡ true → is_open before ≡ true }
+/// The threads of the bits, and this one where it is open and wasn't before.
+fn with_opened(opened: u64, thread: u32, before: Chance, after: Chance) -> u64
+    requires { thread < MAX_THREADS }
+    ensures this { bit_at result thread ≡ 0 → is_open after ≡ true → is_open before ≡ true }
+    ensures others { (u : ℕ) → bit_at result u ≡ 0 → bit_at opened u ≡ 0 }
 {
-    is_open(after) && !is_open(before)
+    if is_open(after) && !is_open(before) {
+        opened | 1u64 << thread
+    } else {
+        opened
+    }
+}
+
+/// Whether the thread may go now.
+pub fn is_ready(chance: Chance) -> bool
+    ensures { result ≡ true → chance ≡ Chance.Ready }
+{
+    match chance {
+        Chance::Ready => true,
+        Chance::Away | Chance::Blocked | Chance::Unknown { .. } | Chance::Ended => false,
+    }
 }

@@ -16,6 +16,9 @@
 //!   choice is another thread's or waits; nobody is granted where an outcome stands or the choice
 //!   is no thread: `TurnBook::take`: `over`, `answer`, `turn`, `away`; `TurnBook::granted`;
 //!   `TurnBook::awaited`.
+//! - A post and the step that it asks are one call where the choice waited for the thread, and
+//!   nothing else would be needed to know that it goes: `TurnBook::post_and_take`: `answer`,
+//!   `none`, `lawful`.
 //! - What is known of a thread's next post, the deal and the parts are the book's; `take_turn` and
 //!   `is_over` answer in brief: `TurnBook::standing`; `TurnBook::deal`; `TurnBook::is_over`;
 //!   `TurnBook::into_parts`: `events`, `outcome`, `lawful`; `TurnBook::take_turn`: `over`,
@@ -25,6 +28,7 @@
 mod board;
 mod book;
 mod known;
+mod posts;
 mod settle;
 mod taken;
 

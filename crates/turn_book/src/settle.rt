@@ -1,42 +1,33 @@
 ghost use Rattle.std.specs.Prelude.{◌≡◌, ◌<◌, ℕ, true, false, List, length, Option, None, IfSome};
 ghost use Rattle.pct_ask.specs.declared.verdict.Verdict.{Verdict};
-ghost use Rattle.policy_pick.specs.Plan.{SpeaksOf};
-ghost use Rattle.policy_pick.specs.Choice.{choice, TargetsAreAway};
+ghost use Rattle.policy_pick.specs.declared.chance.Chance.{Chance};
+ghost use Rattle.policy_pick.specs.Plan.{SpeaksOf, IsThreadOf};
+ghost use Rattle.policy_pick.specs.Choice.{chance_of, choice, TargetsAreAway};
 ghost use Rattle.turn_book.specs.Chances.{rest_verdict};
 ghost use Rattle.turn_book.specs.Obeys.{outcome_by, outcome_by_pick};
-ghost use Rattle.turn_book.specs.Board.{next_posts_of, chances_on, WasChosen};
+ghost use Rattle.turn_book.specs.Board.{next_posts_of, chances_on, WasChosen, HadTurn};
 
-use crate::board::Board;
+use crate::board::{Board, Posted};
 use pct_ask::{Outcome, Verdict};
-use policy_pick::{Chance, Pick, Policy};
+use policy_pick::{Pick, Policy};
 
 /// The thread that the book waited for goes, where it may go now, and its post has changed nothing
 /// else. Nothing where that isn't so, or the policy doesn't go by ranks.
-pub fn after_post<P: Policy>(
-    policy: &P,
-    chances: &[Chance],
-    next: Pick,
-    thread: u32,
-    alone: bool,
-) -> Option<Pick>
-    requires thread { thread < length chances.now }
-    requires targets { TargetsAreAway chances.now }
-    ensures { (schedule : List ℕ)
-        → (alone ≡ true → WasChosen (P.plan policy.now) schedule thread next chances.now)
-        → IfSome result (λ pick. pick ≡ choice (P.plan policy.now) schedule chances.now) }
+pub fn after_post<P: Policy>(policy: &P, next: Pick, thread: u32, posted: Posted) -> Option<Pick>
+    ensures { (schedule : List ℕ) (later : List Chance) → TargetsAreAway later
+        → (posted.ready ≡ true → chance_of later thread ≡ Chance.Ready)
+        → (posted.alone ≡ true → WasChosen (P.plan policy.now) schedule thread next later)
+        → IfSome result (λ pick. pick ≡ choice (P.plan policy.now) schedule later) }
 {
-    if alone
-        && waits_for(next, thread)
-        && is_ready(chances[thread as usize])
-        && policy.goes_by_rank()
-    {
+    if posted.alone && posted.ready && waits_for(next, thread) && policy.goes_by_rank() {
         Some(Pick::Thread(thread))
     } else {
         None
     }
 }
 
-fn waits_for(next: Pick, thread: u32) -> bool
+/// Whether the choice waits for the thread.
+pub fn waits_for(next: Pick, thread: u32) -> bool
     ensures { result ≡ true → next ≡ Pick.Waits thread }
 {
     match next {
@@ -45,22 +36,15 @@ fn waits_for(next: Pick, thread: u32) -> bool
     }
 }
 
-fn is_ready(chance: Chance) -> bool
-    ensures { result ≡ true → chance ≡ Chance.Ready }
+/// The thread that took the step is waited for, where no choice has changed, and no other thread is
+/// open that wasn't before, or it outranks each one that is.
+pub fn after_step<P: Policy>(policy: &P, thread: u32, kept: bool, opened: u64) -> Option<Pick>
+    requires { IsThreadOf (P.plan policy.now) thread }
+    ensures { (schedule : List ℕ) (later : List Chance) → P.stands policy.now schedule
+        → (kept ≡ true → HadTurn (P.plan policy.now) schedule thread opened later)
+        → IfSome result (λ pick. pick ≡ choice (P.plan policy.now) schedule later) }
 {
-    match chance {
-        Chance::Ready => true,
-        Chance::Away | Chance::Blocked | Chance::Unknown { .. } | Chance::Ended => false,
-    }
-}
-
-/// The thread that took the step is waited for, where no choice has changed and no other thread is
-/// open that wasn't before.
-pub fn after_step(thread: u32, kept: bool, opens: bool) -> Option<Pick>
-    ensures { IfSome result (λ pick.
-        (pick ≡ Pick.Waits thread) × (kept ≡ true) × (opens ≡ false)) }
-{
-    if kept && !opens {
+    if kept && (opened == 0 || policy.outranks(thread, opened)) {
         Some(Pick::Waits(thread))
     } else {
         None
@@ -68,16 +52,17 @@ pub fn after_step(thread: u32, kept: bool, opens: bool) -> Option<Pick>
 }
 
 /// Who goes next, where that isn't known.
-fn next_of<P: Policy>(policy: &P, board: &Board, known: Option<Pick>) -> Pick
-    requires { SpeaksOf (P.plan policy.now) board.now.store.threads }
-    ensures { (schedule : List ℕ) → P.stands policy.now schedule
+fn next_of<P: Policy>(policy: &P, board: &mut Board, known: Option<Pick>) -> Pick
+    requires { SpeaksOf (P.plan policy.now) board.old.store.threads }
+    ensures same { board.new ≡ board.old }
+    ensures pick { (schedule : List ℕ) → P.stands policy.now schedule
         → IfSome known (λ pick.
-        pick ≡ choice (P.plan policy.now) schedule (chances_on board.now))
-        → result ≡ choice (P.plan policy.now) schedule (chances_on board.now) }
+        pick ≡ choice (P.plan policy.now) schedule (chances_on board.old))
+        → result ≡ choice (P.plan policy.now) schedule (chances_on board.old) }
 {
     match known {
         Some(next) => next,
-        None => policy.pick(board.chances()),
+        None => board.pick(policy),
     }
 }
 
@@ -87,19 +72,20 @@ fn next_of<P: Policy>(policy: &P, board: &Board, known: Option<Pick>) -> Pick
 /// one.
 pub fn settle<P: Policy>(
     policy: &P,
-    board: &Board,
+    board: &mut Board,
     known: Option<Pick>,
     full: bool,
     outcome: &mut Option<Outcome>,
 ) -> Pick
-    requires { SpeaksOf (P.plan policy.now) board.now.store.threads }
+    requires { SpeaksOf (P.plan policy.now) board.old.store.threads }
+    ensures same { board.new ≡ board.old }
     ensures pick { (schedule : List ℕ) → P.stands policy.now schedule
         → IfSome known (λ pick.
-        pick ≡ choice (P.plan policy.now) schedule (chances_on board.now))
-        → result ≡ choice (P.plan policy.now) schedule (chances_on board.now) }
+        pick ≡ choice (P.plan policy.now) schedule (chances_on board.old))
+        → result ≡ choice (P.plan policy.now) schedule (chances_on board.old) }
     ensures outcome { (verdict : Option Verdict) → outcome.old ≡ outcome_by verdict None
         → outcome.new ≡ outcome_by verdict (outcome_by_pick
-        (rest_verdict board.now.store.threads board.now.store (next_posts_of board.now.posts))
+        (rest_verdict board.old.store.threads board.old.store (next_posts_of board.old.posts))
         full result) }
 {
     let next = next_of(policy, board, known);

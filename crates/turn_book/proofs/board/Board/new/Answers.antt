@@ -1,4 +1,4 @@
-use Rattle.std.proofs.Common.{ℕ, replicate, false, length, sym, ap, ◌∙◌}
+use Rattle.std.proofs.Common.{arith, ℕ, replicate, false, length, sym, ap, ◌∙◌}
 use Rattle.std.proofs.lemmas.List.{length-replicate}
 use Rattle.pct_ask.specs.Objects.{Sizes}
 use Rattle.turn_book.proofs.Boards.{new-board}
@@ -22,10 +22,16 @@ invariant_of-result c =
     let lockers = c.in_ok-several-4.field-0.items in
     let zeros = c.in_ok-several-4.ensures in
     record {
-      board = new-board deal store posts stands known first none away chances;
+      board = new-board deal store posts stands known 0 first none away chances;
       noted = nothing-noted deal.threads posts (replicate 64 false) none;
       waiting = nobody-waits store.threads deal.threads posts none;
       mutexes = ap length zeros ∙ length-replicate deal.mutexes empty
           ∙ sym (ap (λ (s : Sizes). s.mutexes) c.in_ok-new.ensures.sizes);
+      few_mutexes = omega (
+        arith,
+        ap length zeros,
+        length-replicate deal.mutexes empty,
+        deal.few_mutexes,
+      );
       locking = nobody-locks deal.threads deal.mutexes posts lockers none zeros;
     }

@@ -1,6 +1,8 @@
 use Rattle.std.proofs.Common.{arith, ◌≡◌, ◌<◌, List, ℕ, Option, Some, None, true, false}
 use Rattle.std.proofs.Common.{length, set}
-use Rattle.std.proofs.Common.{sym, ap, subst, refl, ◌∙◌, map, get_or}
+use Rattle.std.proofs.Common.{sym, ap, subst, refl, ◌∙◌, map, get_or, take, drop, ◌++◌}
+use Rattle.std.proofs.lemmas.List.{get_or_read}
+use Rattle.policy_pick.specs.declared.chance.Chance.TheVariants.{Ended}
 use Rattle.pct_ask.specs.declared.ask.Post.{Post}
 use Rattle.pct_ask.specs.Objects.{PostIsInRange}
 use Rattle.sync_store.specs.declared.touched.Touched.TheVariants.{Nothing}
@@ -9,10 +11,11 @@ use Rattle.policy_pick.specs.Choice.{chance_of}
 use Rattle.turn_book.specs.Chances.{chance, chances}
 use Rattle.turn_book.specs.Told.{standing_by}
 use Rattle.turn_book.specs.Board.{BoardState, ask_of_post, next_posts_of, concerns, joins_ask}
-use Rattle.turn_book.proofs.Boards.{standings-set, length-known, length-chances, others-kept}
+use Rattle.turn_book.proofs.Boards.{chance-at, others-kept, standings-set, targets-away}
 use Rattle.turn_book.proofs.Boards.{board-set, front-taken}
 use Rattle.policy_pick.specs.Choice.{SameOthers}
-use Rattle.turn_book.specs.Board.{AreWaiters, chances_on}
+use Rattle.policy_pick.specs.declared.chance.Chance.{Chance}
+use Rattle.turn_book.specs.Board.{AreKnown, AreWaiters, IsBoard, IsFresh, chances_on}
 use Rattle.turn_book.proofs.Joined.{joined-within, not-noted, noted-set}
 use Rattle.turn_book.proofs.Waiters.{waiters-post, post-alone, not-so}
 use Rattle.turn_book.proofs.Lockers.{lock-within}
@@ -32,25 +35,7 @@ look_again-requires-clause-standings c =
 
 pub look_again-requires-clause-as_many : goal.look_again-requires-clause-as_many
 look_again-requires-clause-as_many c =
-    let f = c.self.inside in
-    let known = f.chances.items in
-    ap length c.as_mut_slice-2.ensures.value
-    ∙ length-known f.store f.posts.items f.standings.items known c.self.invariant.board
-
-pub look_again-requires-clause-others : goal.look_again-requires-clause-others
-look_again-requires-clause-others c = λ u within none.
-    let f = c.self.inside in
-    let known = f.chances.items in
-    let t : ℕ = c.args.thread in
-    let post : Option Post = Some c.args.post in
-    let P : List (Option Post) → Type 0 =
-    λ ps. concerns t Nothing u (next_posts_of ps u) ≡ false
-    → chance_of known u ≡ chance f.store (next_posts_of ps) u in
-    let board = c.self.invariant.board in
-    let stands = f.standings.items in
-    let kept = others-kept f.store f.posts.items stands known board f.store t post Nothing refl in
-    ap (λ cs. chance_of cs u) c.as_mut_slice-2.ensures.value
-    ∙ subst P (sym c.as_slice.ensures.value) (kept (λ ended v ask apart no. refl) u within) none
+    ap length c.as_mut_slice-2.ensures.value ∙ c.self.invariant.board.as_many
 
 pub look_again-requires-clause-joined : goal.look_again-requires-clause-joined
 look_again-requires-clause-joined c = λ none u.
@@ -121,13 +106,18 @@ invariant_of-self c =
     let n = f.store.threads in
     let next = next_posts_of (set posts t post) in
     let board = c.self.invariant.board in
-    let looked : known ≡ chances n f.store next =
-    c.look_again.ensures.chances ∙ ap
-    (λ ps. chances n f.store (next_posts_of ps)) c.as_slice.ensures.value in
-    let long : f.chances.len ≡ length known =
-    f.chances.ok.0
-    ∙ length-known f.store posts stands was board
-    ∙ sym (ap length looked ∙ length-chances n f.store next) in
+    let many_known = c.look_again.ensures.many ∙ ap length c.as_mut_slice-2.ensures.value in
+    let front = front-taken _ _ _ (f.chances.ok.0 ∙ sym many_known) in
+    let Q : List (Option Post) → Type 0 = λ ps. (u : ℕ) → u < n
+    → IsFresh f.stale (ask_of_post (next_posts_of ps u))
+    → concerns t Nothing u (next_posts_of ps u) ≡ false
+    → chance_of c.as_mut_slice-2.result.now u ≡ chance f.store (next_posts_of ps) u in
+    let K : List (Option Post) → Type 0 = λ ps. AreKnown f.store ps f.stale known in
+    let looked = subst K c.as_slice.ensures.value (c.look_again.ensures.chances f.stale
+    (λ m e. absurd cc) (subst Q (sym c.as_slice.ensures.value) (λ u within fresh none.
+    ap (λ cs. chance_of cs u) c.as_mut_slice-2.ensures.value
+    ∙ others-kept f.store posts stands was f.stale board f.store t post Nothing f.stale refl
+    (λ ended v ask apart no. refl) (λ m e. e) u within fresh none))) in
     let R : BoardState → Type 0 = λ b. PostIsInRange (sizes_of b.store) (c.args.post).ask in
     let range = subst R (sym c.self.view_is) c.requires.in_range in
     let after = c.note_joined.new.joined in
@@ -147,16 +137,20 @@ invariant_of-self c =
     ap (λ (b : BoardState). next_posts_of b.posts t) c.self.view_is ∙ c.requires.away in
     let there : t < length posts = omega (arith, c.requires.thread, same) in
     let many = c.add_locker.ensures.many ∙ ap length c.as_mut_slice.ensures.value in
-    let front = front-taken _ _ _ long ∙ looked in
+    let B : List Chance → Type 0 =
+    λ cs. IsBoard f.store (set posts t post) (set stands t stand) cs f.stale in
     let taken = front-taken _ _ _ (f.lockers.ok.0 ∙ sym many) in
     record {
-      board = board-set f.store posts stands was board f.store t post stand _ refl range is front;
+      board = subst B (sym front) (board-set f.store posts stands was f.stale board f.store t post
+          stand f.stale known refl range is many_known looked);
       noted = noted-set posts f.joined after t post c.self.invariant.noted kept one;
       waiting = waiters-post f.store.threads posts f.waiters c.with_waiter-self-inside.result t post
           (omega (arith, c.requires.thread, board.threads, same)) board.threads
           c.self.invariant.waiting
-          c.with_waiter-self-inside.ensures.this c.with_waiter-self-inside.ensures.others;
+          c.with_waiter-self-inside.ensures.this c.with_waiter-self-inside.ensures.unlocking
+          c.with_waiter-self-inside.ensures.others;
       mutexes = ap length taken ∙ many ∙ c.self.invariant.mutexes;
+      few_mutexes = omega (arith, ap length taken, many, c.self.invariant.few_mutexes);
       locking = subst L (sym taken)
           (c.add_locker.ensures.lockers posts post are there away refl);
     }
@@ -182,7 +176,8 @@ look_again-requires-clause-waiters c =
     subst P (sym c.as_slice.ensures.value)
     (waiters-post f.store.threads posts f.waiters c.with_waiter-self-inside.result t post
     (omega (arith, c.requires.thread, board.threads, same)) board.threads c.self.invariant.waiting
-    c.with_waiter-self-inside.ensures.this c.with_waiter-self-inside.ensures.others)
+    c.with_waiter-self-inside.ensures.this c.with_waiter-self-inside.ensures.unlocking
+    c.with_waiter-self-inside.ensures.others)
 
 pub returns-clause-alone : goal.returns-clause-alone
 returns-clause-alone c = λ alone.
@@ -202,5 +197,36 @@ returns-clause-alone c = λ alone.
     let noted = noted-set posts f.joined after t post c.self.invariant.noted kept one in
     let P : BoardState → Type 0 = λ b. SameOthers t (chances_on b)
     (chances f.store.threads f.store (next_posts_of (set posts t post))) in
-    subst P c.self.view_is (post-alone f.store posts f.standings.items f.chances.items board t post
+    subst P c.self.view_is (post-alone f.store posts t post
     (λ u. not-noted (set posts t post) after t noted (not-so (get_or after t false) alone) u))
+
+pub returns-clause-ready : goal.returns-clause-ready
+returns-clause-ready c = λ says.
+    let f = c.self.inside in
+    let t : ℕ = c.args.thread in
+    let post : Option Post = Some c.args.post in
+    let next = next_posts_of (set f.posts.items t post) in
+    let board = c.self.invariant.board in
+    let known = c.look_again.new.known in
+    let same : length f.posts.items ≡ length c.args.self.now.posts =
+    ap (λ (b : BoardState). length b.posts) c.self.view_is in
+    let there : t < f.store.threads = omega (arith, c.requires.thread, board.threads, same) in
+    let many_known = c.look_again.ensures.many ∙ ap length c.as_mut_slice-2.ensures.value in
+    let all : List Chance =
+    take f.chances.len (known ++ drop (length known) f.chances.items) in
+    let front : all ≡ known = front-taken _ _ _ (f.chances.ok.0 ∙ sym many_known) in
+    let inside : t < length all = omega
+    (arith, there, ap length front, many_known, board.as_many) in
+    let read = get_or_read all t c.index.result.now inside c.index.ensures Ended in
+    let own = c.look_again.ensures.own
+    ∙ ap (λ ps. chance f.store (next_posts_of ps) t) c.as_slice.ensures.value in
+    chance-at f.store.threads f.store next t there ∙ sym own ∙ sym (ap (λ cs. chance_of cs t) front)
+    ∙ sym read ∙ c.is_ready.ensures says
+
+pub returns-clause-targets : goal.returns-clause-targets
+returns-clause-targets c =
+    let f = c.self.inside in
+    let posts = set f.posts.items c.args.thread (Some c.args.post) in
+    let b = (invariant_of-self c).board in
+    targets-away f.store posts b.threads b.in_range
+    (chances f.store.threads f.store (next_posts_of posts)) refl
