@@ -1,10 +1,8 @@
 -- The rows of the answers, from what the book's calls say.
-use Rattle.std.proofs.Common.{◌≡◌, ℕ, ℤ, zero, suc, ◌<◌, Bool, true, false, List, length, Option}
-use Rattle.std.proofs.Common.{Some, None, set, replicate, get_or-set_other, sym, refl, ◌∙◌, subst}
+use Rattle.std.proofs.Common.{◌≡◌, ℕ, ℤ, length, Option}
+use Rattle.std.proofs.Common.{Some, None, refl}
 use Rattle.std.proofs.lemmas.Bool.{false≢true}
 use Rattle.std.specs.Prelude.{IsSome}
-use mathlib.Core.Logic.{dite}
-use native.Mathlib.Decide.{ℕ_discrete}
 use Rattle.pct_ask.specs.declared.event.Standing.TheVariants as standings
 use Rattle.pct_ask.specs.declared.verdict.Outcome.{Outcome}
 use Rattle.policy_pick.specs.declared.chance.Pick.TheVariants as picks
@@ -17,8 +15,6 @@ use Rattle.turn_lock.specs.Turns.{Row}
 use Rattle.turn_lock.specs.Briefs.{InBrief, as_brief}
 use Rattle.turn_lock.specs.declared.brief.Brief.TheVariants as briefs
 use Rattle.turn_lock.specs.declared.turn.Turn.TheVariants as turns
-use Rattle.turn_lock.specs.Rule.{HasFlag}
-use Rattle.turn_lock.specs.Wakes.{AreBelow}
 
 over-row : (b : BookState) (t : ℕ) (c : BookState) (last : Option Outcome) → b.outcome ≡ last
     → IsSome last → c ≡ b → InBrief (λ turn. Row b t turn c) briefs.Over
@@ -47,18 +43,3 @@ module _ (b : BookState) (t : ℕ) (c : BookState)
       let k = not_yet at because refl in
       record { turn = turns.NotYet at because; brief = refl; said = (k.0, asks k.0, k.1, k.2, k.3) }
   row-of Over over answers not_yet = let k = over refl in over-row b t c b.outcome refl k.0 k.1
-
--- one more word of a thread
-pub below-set : (threads word : ℕ) (words : List Bool) → word < threads → AreBelow threads words
-    → AreBelow threads (set words word true)
-below-set threads word words below all w h =
-    dite (ℕ_discrete w word) (λ e. subst (λ (n : ℕ). n < threads) (sym e) below)
-    (λ ne. all w (sym (get_or-set_other words word w true false ne) ∙ h))
-
-none-has : (n w : ℕ) → HasFlag (replicate n false) w → ⊥
-none-has zero w h = false≢true h
-none-has (suc n) zero h = false≢true h
-none-has (suc n) (suc w) h = none-has n w h
-
-pub none-below : (threads n : ℕ) → AreBelow threads (replicate n false)
-none-below threads n w h = absurd (none-has n w h)

@@ -6,14 +6,14 @@ ghost use Rattle.turn_lock.specs.Rule.{HasFlag};
 ghost use Rattle.turn_lock.specs.Turns.{GivenInRange, IsOwed, TurnsTo};
 ghost use Rattle.turn_lock.specs.Hands.{IsWork, IsSwept};
 ghost use Rattle.turn_lock.specs.Briefs.{InBrief};
-ghost use Rattle.turn_lock.specs.Wakes.{AreBelow, WakesBelow, AreDue};
+ghost use Rattle.turn_lock.specs.Wakes.{WakesBelow, AreDue};
 ghost use Rattle.pct_ask.specs.declared.event.Standing.TheVariants as standings;
 ghost use Rattle.pct_ask.specs.declared.limits.TheConstants.{MAX_THREADS};
 
 use crate::board::WaitBoard;
 use crate::brief::Brief;
 use crate::keep::Keep;
-use crate::turning::{answer, ask, is_away, settles, waits};
+use crate::turning::{is_away, post_and_turn, settles, waits};
 use crate::work::{Wakes, Work};
 use pct_ask::{Post, Standing};
 use policy_pick::Policy;
@@ -65,8 +65,7 @@ impl<P: Policy> Slot<P> {
             TurnsTo self.old.book thread post turn self.new.book) result }
         ensures board { self.new.board ≡ self.old.board }
     {
-        ask(&mut self.book, thread, post);
-        answer(&mut self.book, thread)
+        post_and_turn(&mut self.book, thread, post)
     }
 
     /// The word that was noted for the thread.
@@ -84,22 +83,6 @@ impl<P: Policy> Slot<P> {
         }
     }
 
-    /// Every word that was noted.
-    fn all_noted(&self) -> [bool; 64]
-        requires { NotesBelow self.now.book.deal.threads self.now.board }
-        ensures all { (u word : ℕ) → u < MAX_THREADS → word_noted self.now.board u ≡ Some word
-            → HasFlag result word }
-        ensures below { AreBelow self.now.book.deal.threads result }
-    {
-        let mut words = [false; 64];
-        for thread in 0..64u32 {
-            if let Some(word) = self.noted(thread) {
-                words[word as usize] = true;
-            }
-        }
-        words
-    }
-
     /// Whom a call wakes: whoever has its turn, and once an outcome stands everybody.
     fn wakes(&self) -> Wakes
         requires { NotesBelow self.now.book.deal.threads self.now.board }
@@ -108,7 +91,7 @@ impl<P: Policy> Slot<P> {
     {
         if self.book.is_over() {
             return Wakes::All {
-                words: self.all_noted(),
+                threads: self.book.deal().threads,
             };
         }
         let Some(thread) = self.book.granted() else {

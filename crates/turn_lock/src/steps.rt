@@ -1,12 +1,12 @@
 // The single steps on the table, each with what it tells.
-ghost use Rattle.std.specs.Prelude.{◌≡◌, ◌<◌, ◌+◌, [], IfSome};
+ghost use Rattle.std.specs.Prelude.{◌≡◌, ◌<◌, ◌≤◌, ◌+◌, [], IfSome};
 ghost use Rattle.atomic_table.specs.Table.{step};
 ghost use Rattle.turn_lock.specs.Slots.{Slot};
 ghost use Rattle.turn_lock.specs.Rule.{Serves};
 ghost use Rattle.turn_lock.specs.Plays.{Grabs, Looks, with_book};
 ghost use Rattle.turn_lock.specs.Hands.{HasInHand, IsReady, IsReadyForAny, SlotGoesOn, IsWork};
 ghost use Rattle.turn_lock.specs.Hands.{IsSwept};
-ghost use Rattle.turn_lock.specs.Wakes.{AreBelow, WakesBelow};
+ghost use Rattle.turn_lock.specs.Wakes.{WakesBelow};
 ghost use Rattle.turn_lock.specs.Seats.{seat_without, seat_of_one};
 ghost use Rattle.turn_lock.specs.Calls.{IsTableSeatOf, SameSeat, Idle, first_book};
 ghost use mathlib.Core.Option.{none};
@@ -140,17 +140,15 @@ impl<P: Policy> TurnLock<P> {
         }
     }
 
-    /// Marks each of these turn words.
-    fn mark_all(&self, seat: &mut TableSeat<P>, words: &[bool; 64])
+    /// Marks the turn words of the first so many threads.
+    fn mark_all(&self, seat: &mut TableSeat<P>, threads: u32)
         requires of { seat.old.table_id ≡ self.now.table.shared.table_id }
-        requires words { AreBelow (first_book self.now).deal.threads words.now }
+        requires threads { threads ≤ (first_book self.now).deal.threads }
         ensures same { SameSeat seat.old seat.new }
         ensures view { seat.new.me ≡ seat.old.me }
     {
-        for word in 0..64u32 {
-            if words[word as usize] {
-                self.mark(seat, word);
-            }
+        for word in 0..threads {
+            self.mark(seat, word);
         }
     }
 
@@ -166,7 +164,7 @@ impl<P: Policy> TurnLock<P> {
         match wakes {
             Wakes::Nobody => {}
             Wakes::One { word } => self.mark(seat, *word),
-            Wakes::All { words } => self.mark_all(seat, words),
+            Wakes::All { threads } => self.mark_all(seat, *threads),
         }
     }
 

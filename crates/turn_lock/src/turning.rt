@@ -1,7 +1,7 @@
 // What a call does with the book while it has it.
 ghost use Rattle.std.specs.Prelude.{◌≡◌, ◌≢◌, ◌<◌, ◌↔◌, true, None};
 ghost use Rattle.turn_book.specs.Told.{IsLawful, standing_of};
-ghost use Rattle.turn_lock.specs.Turns.{GivenInRange, IsAsked, IsOwed, Row};
+ghost use Rattle.turn_lock.specs.Turns.{GivenInRange, IsAsked, IsOwed, Row, TurnsTo};
 ghost use Rattle.turn_lock.specs.Briefs.{InBrief, IsWith, as_brief, brief, settles};
 ghost use Rattle.turn_lock.specs.declared.turn.Turn.{Turn};
 ghost use Rattle.pct_ask.specs.declared.event.Standing.TheVariants as standings;
@@ -87,6 +87,24 @@ pub fn answer<P: Policy>(book: &mut TurnBook<P>, thread: u32) -> Brief
         return Brief::Ended;
     }
     as_brief(book.take_turn(thread))
+}
+
+/// The post, where one is given, and the thread's turn: as `ask` and then `answer`. Where the book
+/// waited for the thread, both are done at once.
+pub fn post_and_turn<P: Policy>(book: &mut TurnBook<P>, thread: u32, post: Option<Post>) -> Brief
+    requires thread { thread < book.old.deal.threads }
+    requires lawful { IsLawful book.old }
+    requires owed { IsOwed book.old thread post }
+    requires in_range { GivenInRange book.old post }
+    ensures { InBrief (λ turn. TurnsTo book.old thread post turn book.new) result }
+{
+    if let Some(post) = post {
+        if let Some(answer) = book.post_and_take(thread, post) {
+            return Brief::Answer(answer);
+        }
+    }
+    ask(book, thread, post);
+    answer(book, thread)
 }
 
 /// The thread's next post is not known.

@@ -9,8 +9,8 @@ pub enum Wakes {
     Nobody,
     /// The word of the thread whose turn it is.
     One { word: u32 },
-    /// The run is over: every word that was noted.
-    All { words: [bool; 64] },
+    /// The run is over: the words of the first so many threads, among them every one that was noted.
+    All { threads: u32 },
 }
 
 /// What a call made of the book while it had it.

@@ -18,7 +18,7 @@ use pct_outside::Gate;
 use policy_pick::Policy;
 use std::sync::Wait;
 use turn_book::TurnBook;
-use turn_lock::{Brief, answer, ask};
+use turn_lock::{Brief, answer, post_and_turn};
 
 /// A thread posts, and takes its step where it has its turn.
 fn post_alone<P: Policy>(book: &mut TurnBook<P>, thread: u32, post: Post) -> Brief
@@ -31,8 +31,7 @@ fn post_alone<P: Policy>(book: &mut TurnBook<P>, thread: u32, post: Post) -> Bri
 {
     // Any look at a book tells that it is lawful.
     let _steps = book.trace();
-    ask(book, thread, Some(post));
-    answer(book, thread)
+    post_and_turn(book, thread, Some(post))
 }
 
 /// The thread whose turn it is, and else the first.

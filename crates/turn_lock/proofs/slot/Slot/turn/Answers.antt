@@ -5,17 +5,11 @@ use Rattle.turn_lock.proofs.slot.Slot.turn.Goals as goal
 
 pub returns-clause-turn : goal.returns-clause-turn
 returns-clause-turn g c =
-    let row = c.answer.ensures.row in
+    let told = c.post_and_turn.ensures in
     record {
-      turn = row.turn;
-      brief = row.brief;
-      said =
-          subst (λ (s : Slot). TurnsTo s.book c.args.thread c.args.post row.turn c.answer.new.book)
-          c.self.view_is
-          record {
-            asked = c.ask.new.book;
-            posted = c.ask.ensures.asked;
-            row = row.said;
-            lawful = c.answer.ensures.lawful;
-          };
+      turn = told.turn;
+      brief = told.brief;
+      said = subst (λ (s : Slot).
+          TurnsTo s.book c.args.thread c.args.post told.turn c.post_and_turn.new.book)
+          c.self.view_is told.said;
     }
