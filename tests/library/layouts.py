@@ -15,6 +15,8 @@ import bound
 CRATES = ("c_values", "c_tells", "c_texts", "pct_c")
 # A struct of Rust with the layout of C: its name and its fields.
 OF_C = re.compile(r"#\[repr\(C\)\]\n(?:#\[[^\n]*\n)*pub struct (\w+) \{\n(.*?)^\}", re.M | re.S)
+# A limit that has a name, which the lengths of their fields cite.
+LIMIT = re.compile(r"^pub const \w+: \w+ = [\d_]+;$", re.M)
 # Fields of Rust that have another name in C.
 RENAMED = {"PctBook.held": "PctBook.at", "PctTrace.held": "PctTrace.at"}
 # The asks of the definition that aren't one capital word after PCT_ASK_.
@@ -71,7 +73,12 @@ def rust_of_crates(top: str) -> dict[str, str]:
     return found
 
 
-def source_of_rust(structs: dict[str, str], wanted: list[str]) -> str:
+def limits_of_crates(top: str) -> str:
+    """The limits of the crates' sources, which are stock Rust."""
+    return "\n".join(LIMIT.findall(read(os.path.join(top, "crates", "pct_ask", "src", "limits.rt"))))
+
+
+def source_of_rust(limits: str, structs: dict[str, str], wanted: list[str]) -> str:
     """A program of stock Rust that prints the layouts of the structs that the header has."""
     declared = [f"#[repr(C)]\nstruct {name} {{\n{body}}}\n" for name, body in structs.items()]
     lines = []
@@ -83,7 +90,7 @@ def source_of_rust(structs: dict[str, str], wanted: list[str]) -> str:
             shown = RENAMED.get(f"{name}.{field}", f"{name}.{field}")
             lines.append(f'println!("{shown} {{}}", std::mem::offset_of!({name}, {field}));')
     body = "\n    ".join(lines)
-    return f"#![allow(dead_code)]\n\nstruct Global;\n\n{''.join(declared)}\nfn main() {{\n    {body}\n}}\n"
+    return f"#![allow(dead_code)]\n\n{limits}\n\nstruct Global;\n\n{''.join(declared)}\nfn main() {{\n    {body}\n}}\n"
 
 
 def printed(words: list[str]) -> dict[str, int]:
@@ -103,7 +110,7 @@ def by_c(header: Header, top: str, room: str) -> dict[str, int]:
 def by_rust(header: Header, top: str, room: str) -> dict[str, int]:
     source, program = os.path.join(room, "layout.rs"), os.path.join(room, "layout_of_rust")
     with open(source, "w", encoding="utf-8") as file:
-        file.write(source_of_rust(rust_of_crates(top), list(header.structs)))
+        file.write(source_of_rust(limits_of_crates(top), rust_of_crates(top), list(header.structs)))
     subprocess.run(["rustc", "--edition", "2021", "-o", program, source], check=True)
     return printed([program])
 

@@ -8,7 +8,7 @@ ghost use Rattle.c_values.specs.Told.{Answers};
 ghost use Rattle.c_texts.specs.Known.{IsKnownPlace, AreKnownBlocked, SaysKnown, IsKnown};
 
 use c_values::{PctOutcome, Refused, verdict_of};
-use pct_ask::{MAX_LINES, NameKind, Names, Verdict};
+use pct_ask::{MAX_LINES, MAX_THREADS, NameKind, Names, Verdict};
 
 fn is_known_place(threads: u32, thread: u32, line: u32) -> bool
     ensures { IsTrue result ↔ IsKnownPlace threads (thread, line) }
@@ -17,7 +17,7 @@ fn is_known_place(threads: u32, thread: u32, line: u32) -> bool
 }
 
 /// Whether each thread whose bit is set has a name, and its line is a test's.
-fn are_known_places(threads: u32, bits: u64, lines: &[u32; 64]) -> bool
+fn are_known_places(threads: u32, bits: u64, lines: &[u32; MAX_THREADS]) -> bool
     ensures { IsTrue result
         ↔ All (IsKnownPlace threads) (places_from 0 (known_lines bits lines.now)) }
 {
@@ -32,7 +32,7 @@ fn are_known_places(threads: u32, bits: u64, lines: &[u32; 64]) -> bool
 }
 
 /// Whether some bit is set, and each thread whose bit is set is known.
-fn is_known_stuck(threads: u32, bits: u64, lines: &[u32; 64]) -> bool
+fn is_known_stuck(threads: u32, bits: u64, lines: &[u32; MAX_THREADS]) -> bool
     ensures { IsTrue result
         ↔ AreKnownBlocked threads (places_from 0 (known_lines bits lines.now)) }
 {

@@ -6,7 +6,7 @@ ghost use Rattle.pct_ask.specs.Places.{places_from, known_lines};
 ghost use Rattle.c_values.specs.Outcomes.{misuse_number, fault_number, misuse_by, fault_by};
 ghost use Rattle.c_values.specs.Outcomes.{numbers_by, outcome_numbers, verdict_said};
 
-use pct_ask::{Blocked, FaultKind, MisuseKind, Outcome, Verdict};
+use pct_ask::{Blocked, FaultKind, MAX_THREADS, MisuseKind, Outcome, Verdict};
 
 /// What became of a run, as numbers: its kind, a reason, a thread and its line; and a bit for each
 /// thread that is blocked, the lowest for thread 0, with its line.
@@ -18,7 +18,7 @@ pub struct PctOutcome {
     pub thread: u32,
     pub line: u32,
     pub blocked: u64,
-    pub lines: [u32; 64],
+    pub lines: [u32; MAX_THREADS],
 }
 
 fn misuse_number(kind: MisuseKind) -> u32
@@ -51,7 +51,7 @@ fn numbers_by(kind: u32, reason: u32, thread: u32, line: u32) -> PctOutcome
         thread,
         line,
         blocked: 0,
-        lines: [0; 64],
+        lines: [0; MAX_THREADS],
     }
 }
 
@@ -121,7 +121,7 @@ fn fault_of(reason: u32) -> Option<FaultKind>
 }
 
 /// The threads whose bits are set, the lowest for thread 0, each with its line.
-fn blocked_of(threads: u64, lines: &[u32; 64]) -> Blocked
+fn blocked_of(threads: u64, lines: &[u32; MAX_THREADS]) -> Blocked
     ensures { result ≡ places_from 0 (known_lines threads lines.now) }
 {
     let mut blocked = Blocked::new();

@@ -6,7 +6,9 @@ ghost use Rattle.trace_text.specs.Lawful.{HasObjects, NamesKnown};
 ghost use Rattle.report_text.specs.Report.{IsWritable};
 ghost use Rattle.kit_text.specs.Texts.{IsKnownPlace, IsOfVersion};
 
-use pct_ask::{Ask, Blocked, Deal, Event, MAX_LINES, MisuseKind, NameKind, Names, Verdict};
+use pct_ask::{
+    Ask, Blocked, Deal, Event, MAX_LINES, MAX_THREADS, MisuseKind, NameKind, Names, Verdict,
+};
 
 fn is_known_place(threads: u32, thread: u32, line: u32) -> bool
     ensures { IsTrue result ↔ IsKnownPlace threads (thread, line) }
@@ -18,7 +20,7 @@ fn is_known_place(threads: u32, thread: u32, line: u32) -> bool
 fn are_known_places(threads: u32, blocked: &Blocked) -> bool
     ensures { IsTrue result ↔ All (IsKnownPlace threads) blocked.now }
 {
-    for thread in 0..64 {
+    for thread in 0..MAX_THREADS as u32 {
         if let Some(line) = blocked.get(thread) {
             if !is_known_place(threads, thread, line) {
                 return false;

@@ -1,5 +1,5 @@
 use failure_rank::Groups;
-use pct_ask::{Blocked, FaultKind, MisuseKind, NameKind, Names, Verdict};
+use pct_ask::{Blocked, FaultKind, MAX_THREADS, MisuseKind, NameKind, Names, Verdict};
 use std::fmt::{Display, Formatter, Write};
 use std::{fmt, str};
 
@@ -80,7 +80,7 @@ impl Display for Place<'_> {
 impl Display for Places<'_> {
     fn fmt<W: Write>(&self, f: &mut Formatter<W>) -> fmt::Result {
         let names = self.names;
-        for thread in 0..64 {
+        for thread in 0..MAX_THREADS as u32 {
             if let Some(line) = self.blocked.get(thread) {
                 let place = Place {
                     names,

@@ -18,7 +18,7 @@ use crate::mutex_set::MutexSet;
 use crate::nested::{is_free, nested_sets};
 use crate::nesting::{Nesting, NestingList};
 use crate::report::{IdList, LockReport};
-use pct_ask::{Deal, Event};
+use pct_ask::{Deal, Event, MAX_OBJECTS};
 use std::alloc::{AllocError as NoMemory, Global};
 
 /// Whether the mutexes of a run were always taken in one order. Read-write locks play no part.
@@ -52,7 +52,7 @@ pub fn lock_order(alloc: Global, deal: &Deal, events: &[Event]) -> Result<LockRe
 }
 
 /// The lowest mutex that is free.
-fn lowest_free(mutexes: u32, nested: &[MutexSet; 64], remaining: MutexSet) -> Option<u32>
+fn lowest_free(mutexes: u32, nested: &[MutexSet; MAX_OBJECTS], remaining: MutexSet) -> Option<u32>
     requires below { (mutex : ℕ) → HasMutex remaining mutex → mutex < mutexes }
     ensures { MatchOption result ((mutex : ℕ) → ¬ IsFreeIn nested.now remaining mutex)
         (IsLowest (IsFreeIn nested.now remaining)) }
@@ -69,7 +69,7 @@ fn lowest_free(mutexes: u32, nested: &[MutexSet; 64], remaining: MutexSet) -> Op
 fn take_out(
     alloc: Global,
     mutexes: u32,
-    nested: &[MutexSet; 64],
+    nested: &[MutexSet; MAX_OBJECTS],
 ) -> Result<(Vec<u32>, MutexSet), NoMemory>
     requires few_mutexes { mutexes ≤ MAX_OBJECTS }
     ensures taken_out { IfOk result (λ r. (events : List Event) →
@@ -91,7 +91,7 @@ fn cycle(
     alloc: Global,
     events: &[Event],
     held: &[MutexSet],
-    nested: &[MutexSet; 64],
+    nested: &[MutexSet; MAX_OBJECTS],
     remaining: MutexSet,
     first: u32,
 ) -> Result<NestingList, NoMemory>
@@ -111,7 +111,7 @@ fn cycle(
 /// The walk through the remaining mutexes, and the place to which it would go back.
 fn walk(
     alloc: Global,
-    nested: &[MutexSet; 64],
+    nested: &[MutexSet; MAX_OBJECTS],
     remaining: MutexSet,
     first: u32,
 ) -> Result<(Vec<u32>, usize), NoMemory>

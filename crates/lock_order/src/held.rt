@@ -6,7 +6,7 @@ ghost use Rattle.pct_ask.specs.declared.limits.TheConstants.{MAX_OBJECTS, MAX_ST
 
 use crate::mutex_set::MutexSet;
 use crate::nesting::Nesting;
-use pct_ask::{Ask, Event};
+use pct_ask::{Ask, Event, MAX_THREADS};
 use std::alloc::{AllocError as NoMemory, Global};
 
 /// The mutex that the event takes.
@@ -60,7 +60,7 @@ pub fn held_sets(alloc: Global, events: &[Event]) -> Result<Vec<MutexSet>, NoMem
     requires in_range { AreOfSomeDeal events.now }
     ensures { IfOk result (λ sets. AreHeldSets events.now sets.items) }
 {
-    let mut now = [MutexSet::EMPTY; 64];
+    let mut now = [MutexSet::EMPTY; MAX_THREADS];
     let mut sets = Vec::new(alloc);
     for event in events {
         let held = now[event.thread as usize];

@@ -3,7 +3,9 @@ ghost use Rattle.lock_order.specs.MutexSets.{HasMutex, HasThose};
 ghost use Rattle.lock_order.specs.Chosen.{IsLowest};
 ghost use Rattle.pct_ask.specs.declared.limits.TheConstants.{MAX_OBJECTS};
 
-/// Some of a test's mutexes, of which there are at most 64.
+use pct_ask::MAX_OBJECTS;
+
+/// Some of a test's mutexes, of which there are at most `MAX_OBJECTS`.
 #[derive(Clone, Copy, Debug)]
 pub struct MutexSet {
     bits: u64,
@@ -27,7 +29,7 @@ impl MutexSet {
     pub fn contains(self, mutex: u32) -> bool
         ensures { IsTrue result ↔ HasMutex self mutex }
     {
-        mutex < 64 && (self.bits >> mutex) & 1 == 1
+        mutex < MAX_OBJECTS as u32 && (self.bits >> mutex) & 1 == 1
     }
 
     pub fn with(self, mutex: u32) -> Self

@@ -14,7 +14,7 @@ use crate::counting::counts_of;
 use crate::emit::emit_block;
 use crate::flat::{Flat, FlatList};
 use crate::held::mark_all_started;
-use pct_ask::Sequence;
+use pct_ask::{MAX_THREADS, Sequence};
 use script_tree::{Script, ThreadText};
 use std::alloc::{AllocError as NoMemory, Global};
 
@@ -22,7 +22,7 @@ use std::alloc::{AllocError as NoMemory, Global};
 pub fn compile(alloc: Global, script: &Script) -> Result<Code, NoMemory>
     ensures { IfOk result (λ code. IsCodeOf (plain_script script.now) (listing code)) }
 {
-    let mut held = [false; 64];
+    let mut held = [false; MAX_THREADS];
     for started in &script.threads {
         mark_all_started(&mut held, &started.body);
     }
