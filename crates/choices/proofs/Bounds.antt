@@ -1,8 +1,9 @@
 -- Numbers of choices fit their types.
-use Rattle.std.proofs.Common.{◌≡◌, ℕ, zero, suc, ◌+◌, ◌-◌, ◌*◌, ◌^◌, ◌<◌, ◌≤◌, sym, ap, subst, ◌∙◌}
+use Rattle.std.proofs.Common.{◌≡◌, ℕ, suc, ◌+◌, ◌-◌, ◌*◌, ◌^◌, ◌<◌, ◌≤◌, sym, ap, ◌∙◌}
 use Rattle.std.proofs.Common.{arith}
 use Rattle.std.proofs.Math.Nat.{pow-suc, pow-le-pow_left, pow-le-pow_right, mul-le-mul_left}
 use Rattle.choices.specs.Orders.{factorial}
+use Rattle.choices.proofs.laws.Factorials.{more-orders, fewer-orders}
 
 -- ---- the bound
 
@@ -30,30 +31,12 @@ bound-more threads steps i bound is =
 
 -- ---- the number of orders
 
--- more threads have no fewer orders
-pub factorial-rises : (n more : ℕ) → factorial n ≤ factorial (more + n)
-factorial-rises n zero = let e : n ≡ 0 + n = omega arith in
-    let same = ap factorial e in omega arith
-factorial-rises n (suc more) =
-    let rest = factorial-rises n more in
-    let product : suc (more + n) * factorial (more + n)
-    ≡ factorial (more + n) + (more + n) * factorial (more + n) = grind arith in
-    let same : factorial (suc more + n) ≡ factorial (suc (more + n)) =
-    ap factorial (let e : suc more + n ≡ suc (more + n) = omega arith in e) in
-    omega arith
-
 pub count-more : (fewer count : ℕ) → count ≡ factorial fewer
     → count * (fewer + 1) ≡ factorial (fewer + 1)
-count-more fewer count is =
-    let product : count * (fewer + 1) ≡ suc fewer * count = grind arith in
-    product ∙ ap (λ c. suc fewer * c) is
-    ∙ ap factorial (let e : suc fewer ≡ fewer + 1 = omega arith in e)
+count-more fewer count is = ap (λ c. c * (fewer + 1)) is ∙ sym (more-orders fewer)
 
 pub count-small : (threads fewer count : ℕ) → threads ≤ 12 → fewer < threads
     → count ≡ factorial fewer → count * (fewer + 1) < 2 ^ 32
 count-small threads fewer count few within is =
-    let P : ℕ → Type 0 = λ n. factorial (fewer + 1) ≤ factorial n in
-    let most : factorial (fewer + 1) ≤ 479001600 =
-    subst P (let e : 11 - fewer + (fewer + 1) ≡ 12 = omega arith in e)
-    (factorial-rises (fewer + 1) (11 - fewer)) in
+    let most : factorial (fewer + 1) ≤ 479001600 = fewer-orders (fewer + 1) 12 (omega arith) in
     omega (arith, most, count-more fewer count is)

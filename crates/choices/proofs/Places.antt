@@ -10,6 +10,7 @@ use Rattle.std.proofs.lemmas.List.{length-map, reverse-append, get_or_default}
 use Rattle.std.proofs.lemmas.List.Edits.{length-remove}
 use Rattle.turn_book.specs.Chances.{threads_below}
 use Rattle.choices.specs.Orders.{factorial, orders_ending, orders_by, orders, low_orders}
+use Rattle.choices.proofs.laws.Factorials.{some-orders}
 use Rattle.choices.proofs.laws.OrderLists.{get-left, get-right, get-map, length-orders_by}
 use Rattle.choices.proofs.laws.OrderLists.{length-threads}
 
@@ -26,12 +27,6 @@ range-more from many =
         ap (λ xs. from ∷ xs) (more (from + 1) many
         ∙ ap (λ x. range_with_len (from + 1) many ++ x ∷ [])
         (let e : from + 1 + many ≡ from + suc many = omega arith in e))
-
-pub some-orders : (n : ℕ) → 0 < factorial n
-some-orders zero = omega arith
-some-orders (suc n) = let rest = some-orders n in
-    let product : suc n * factorial n ≡ factorial n + n * factorial n = grind arith in
-    omega (arith, rest, product)
 
 -- the threads from the last to the first
 abbrev pub back_at : ℕ → List ℕ → ℕ → List ℕ

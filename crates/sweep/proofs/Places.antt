@@ -12,6 +12,7 @@ use Rattle.std.proofs.lemmas.Option.{slice_get_within}
 use Rattle.turn_book.specs.Chances.{threads_below}
 use Rattle.choices.specs.Orders.{factorial, orders}
 use Rattle.choices.specs.PointLists.{pointlists}
+use Rattle.choices.proofs.laws.Factorials.{some-orders, fewer-orders}
 use Rattle.choices.proofs.laws.OrderLists.{get-left, get-right, get-map}
 use Rattle.choices.proofs.laws.Counts.{range-get}
 use Rattle.choices.specs.Laws.{IsOrderOf, ArePoints}
@@ -156,39 +157,12 @@ list-there k points i place rest list some within none made =
 
 -- ---- the numbers of choices
 
-pub some-orders : (n : ℕ) → 0 < factorial n
-some-orders zero = omega arith
-some-orders (suc n) = let rest = some-orders n in
-    let product : suc n * factorial n ≡ factorial n + n * factorial n = grind arith in
-    omega (arith, rest, product)
-
-factorial-rises : (n more : ℕ) → factorial n ≤ factorial (more + n)
-factorial-rises n zero = let P : ℕ → Type 0 = λ k. factorial n ≤ factorial k in
-    subst P (let e : n ≡ zero + n = omega arith in e) (omega arith)
-factorial-rises n (suc more) =
-    let P : ℕ → Type 0 = λ k. factorial n ≤ factorial k in
-    let k = more + n in
-    let product : suc k * factorial k ≡ factorial k + k * factorial k = grind arith in
-    subst P (let e : suc k ≡ suc more + n = omega arith in e)
-    (omega (arith, factorial-rises n more, product))
-
 pub more-power : (k i more : ℕ) → 1 ≤ k → i ≤ more → k ^ i ≤ k ^ more
 more-power k i more some within = pow-le-pow_right {n = k} some {i = i} {j = more} within
 
 pub power-next : (k i : ℕ) → k ^ (i + 1) ≡ k ^ i * k
 power-next k i =
     ap (λ m. k ^ m) (let e : i + 1 ≡ suc i = omega arith in e) ∙ pow-suc k i
-
-pub fewer-orders : (threads more : ℕ) → threads ≤ more → factorial threads ≤ factorial more
-fewer-orders threads more within =
-    let P : ℕ → Type 0 = λ n. factorial threads ≤ factorial n in
-    subst P (let e : more - threads + threads ≡ more = omega arith in e)
-    (factorial-rises threads (more - threads))
-
-pub count-next : (fewer : ℕ) → factorial (fewer + 1) ≡ factorial fewer * (fewer + 1)
-count-next fewer =
-    ap factorial (let e : fewer + 1 ≡ suc fewer = omega arith in e)
-    ∙ (let e : suc fewer * factorial fewer ≡ factorial fewer * (fewer + 1) = grind arith in e)
 
 -- the orders are no more than the choices, and so are the lists of points
 pub orders-fit : (threads k many : ℕ) → 1 ≤ k → factorial threads ≤ choice_count threads k many

@@ -9,12 +9,11 @@ use Rattle.std.proofs.lemmas.Bool.{cases_lt}
 use Rattle.std.proofs.lemmas.List.{length-append, length-map}
 use Rattle.std.proofs.lemmas.List.Edits.{length-remove, get_or-remove_below, get_or-remove_above}
 use Rattle.std.proofs.lemmas.List.Elements.{All-nil, All-cons, All-head, All-tail}
-use Rattle.rank_now.specs.Order.{IsOrder}
 use Rattle.turn_book.specs.Chances.{threads_below}
 use Rattle.choices.specs.Orders.{factorial, orders_ending, orders_by, orders}
 use Rattle.choices.specs.PointLists.{IsWithin, pointlists}
-use Rattle.choices.specs.Laws.{StandsOnce, IsOrderOf, ArePoints, HasEachOnce, EachChoiceOnce}
-use Rattle.choices.proofs.laws.OrderLists.{Arranges, IsListed, length-orders_by, length-threads}
+use Rattle.choices.specs.Laws.{IsOrderOf, ArePoints, HasEachOnce}
+use Rattle.choices.proofs.laws.OrderLists.{Arranges, length-orders_by, length-threads}
 use Rattle.choices.proofs.laws.OrderLists.{range-at, same-order, order-same, orders-all}
 use Rattle.choices.proofs.laws.OrderLists.{order-listed}
 use Rattle.choices.proofs.laws.Counts.{points-listed}

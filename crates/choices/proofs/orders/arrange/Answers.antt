@@ -1,6 +1,7 @@
 -- Each thread stands at the place that its block tells, from the last to the first.
 use Rattle.std.proofs.Common.{◌≡◌, ◌-◌, suc, sym, ◌∙◌, arith, length, vec_len}
-use Rattle.choices.proofs.Places.{back-made, block-within, rest-within, some-orders, order-there}
+use Rattle.choices.proofs.laws.Factorials.{some-orders}
+use Rattle.choices.proofs.Places.{back-made, block-within, rest-within, order-there}
 use Rattle.choices.proofs.Places.{some-left, none-left}
 use Rattle.choices.proofs.orders.arrange.Goals as goal
 

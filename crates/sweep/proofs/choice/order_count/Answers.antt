@@ -1,7 +1,8 @@
 -- Where some first threads have too many orders, all have.
 use Rattle.std.proofs.Common.{◌+◌, ◌*◌, ap, arith}
 use Rattle.choices.specs.Orders.{factorial}
-use Rattle.sweep.proofs.Places.{too-many, count-next, fewer-orders}
+use Rattle.choices.proofs.laws.Factorials.{more-orders, fewer-orders}
+use Rattle.sweep.proofs.Places.{too-many}
 use Rattle.sweep.proofs.choice.order_count.Goals as goal
 
 pub returns-in_err-count : goal.returns-in_err-count
@@ -11,6 +12,6 @@ returns-in_err-count c =
       arith,
       c.in_err-count.ensures,
       ap (λ n. n * (fewer + 1)) c.loop-fewer.invariant.is,
-      count-next fewer,
+      more-orders fewer,
       fewer-orders (fewer + 1) c.args.threads (omega (arith, c.loop-fewer-test.true)),
     ))
