@@ -18,16 +18,16 @@ module _ (deal : Deal) (bodies : List Pending) (order : List ℕ) (limit : ℕ)
   abbrev Holds : List Moment → Type 0
   Holds = HasVerdict deal bodies order limit verdict
 
-  module _ (events rest : List Moment) (place : ℕ) (made : List Event) (ends : Verdict)
-      (is : rest ≡ remove events place)
+  module _ (moments rest : List Moment) (place : ℕ) (made : List Event) (ends : Verdict)
+      (is : rest ≡ remove moments place)
       (runs : directed_run deal bodies order rest limit ≡ Some (made, ends))
-      (before : NeedsFirst Holds events place) where
+      (before : NeedsFirst Holds moments place) where
     -- the moment is needed, and so are those before it
-    pub one-more : ends ≢ verdict → NeedsFirst Holds events (place + 1)
+    pub one-more : ends ≢ verdict → NeedsFirst Holds moments (place + 1)
     one-more apart other within holds = elim (cases_eq other place) [
       | inl e ↦
           let at : directed_run deal bodies order rest limit ≡ Some (holds.0, verdict) =
-          ap (λ ms. directed_run deal bodies order ms limit) (is ∙ ap (remove events) (sym e))
+          ap (λ ms. directed_run deal bodies order ms limit) (is ∙ ap (remove moments) (sym e))
           ∙ holds.1 in
           apart (same-whole made holds.0 ends verdict (directed_run deal bodies order rest limit)
           runs at).1
@@ -35,9 +35,9 @@ module _ (deal : Deal) (bodies : List Pending) (order : List ℕ) (limit : ℕ)
     ]
 
     -- or it is the first that can be left out
-    pub left-out : (steps : ℕ) → place < length events → ends ≡ verdict → steps ≡ length made
-        → Leaves deal bodies order limit verdict events
-        (Some (record { events = rest; steps = steps }))
+    pub left-out : (steps : ℕ) → place < length moments → ends ≡ verdict → steps ≡ length made
+        → Leaves deal bodies order limit verdict moments
+        (Some (record { moments = rest; steps = steps }))
     left-out steps within same number =
         let V : Verdict → Type 0 =
         λ v. directed_run deal bodies order rest limit ≡ Some (made, v) in
@@ -56,32 +56,32 @@ module _ (deal : Deal) (bodies : List Pending) (order : List ℕ) (limit : ℕ)
         )
 
   -- what reduces to what is left after a round reduces to the same
-  pub one-round : (events left : List Moment) (short : Short)
-      → Leaves deal bodies order limit verdict events (Some short) → Reduces Holds short.events left
-      → Reduces Holds events left
-  one-round events left short leaves rest =
+  pub one-round : (moments left : List Moment) (short : Short)
+      → Leaves deal bodies order limit verdict moments (Some short)
+      → Reduces Holds short.moments left → Reduces Holds moments left
+  one-round moments left short leaves rest =
       let R : List Moment → Type 0 = λ ms. Reduces Holds ms left in
-      Drops events left leaves.0 leaves.1 (subst R leaves.2 rest)
+      Drops moments left leaves.0 leaves.1 (subst R leaves.2 rest)
 
   -- what a call told of the moments that it was lent
-  module _ (events lent : List Moment) (told : Option Short) (same : lent ≡ events) where
+  module _ (moments lent : List Moment) (told : Option Short) (same : lent ≡ moments) where
     pub some-leaves : (short : Short) → told ≡ Some short
         → Leaves deal bodies order limit verdict lent told
-        → Leaves deal bodies order limit verdict events (Some short)
+        → Leaves deal bodies order limit verdict moments (Some short)
     some-leaves short is leaves =
-        let T : Option Short → Type 0 = λ t. Leaves deal bodies order limit verdict events t in
+        let T : Option Short → Type 0 = λ t. Leaves deal bodies order limit verdict moments t in
         let E : List Moment → Type 0 = λ es. Leaves deal bodies order limit verdict es told in
         subst T is (subst E same leaves)
 
     pub none-leaves : told ≡ None → Leaves deal bodies order limit verdict lent told
-        → NeedsFirst Holds events (length events)
+        → NeedsFirst Holds moments (length moments)
     none-leaves is leaves =
-        let T : Option Short → Type 0 = λ t. Leaves deal bodies order limit verdict events t in
+        let T : Option Short → Type 0 = λ t. Leaves deal bodies order limit verdict moments t in
         let E : List Moment → Type 0 = λ es. Leaves deal bodies order limit verdict es told in
         subst T is (subst E same leaves)
 
 pub some-fewer : (lent : List Moment) (told : Option Short) (short : Short) → told ≡ Some short
-    → IfSome told (λ s. length s.events < length lent) → length short.events < length lent
+    → IfSome told (λ s. length s.moments < length lent) → length short.moments < length lent
 some-fewer lent told short is fewer =
-    let T : Option Short → Type 0 = λ t. IfSome t (λ s. length s.events < length lent) in
+    let T : Option Short → Type 0 = λ t. IfSome t (λ s. length s.moments < length lent) in
     subst T is fewer

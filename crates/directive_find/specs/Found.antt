@@ -22,11 +22,11 @@ pub record HasOther (deal : Deal) (bodies : List Pending) (order : List ℕ) (li
   pub apart : other ≢ verdict
 
 -- The run of the order and points has this verdict, which isn't Passed; the directed run of its
--- moments is the same run; the events are what is left of these moments, reduced with the verdict.
+-- moments is the same run; these moments are what is left of all of them, reduced with the verdict.
 -- Their directed run has the verdict and so many steps, and without any single one of them it has
 -- another verdict. There are no more of them than points, and each is a step that there may be.
 pub record IsFinding (deal : Deal) (bodies : List Pending) (order points : List ℕ) (limit : ℕ)
-    (events : List Moment) (verdict : Verdict) (steps : ℕ) : Type 0 where
+    (moments : List Moment) (verdict : Verdict) (steps : ℕ) : Type 0 where
   pub made : List Event
   pub is_run : run deal bodies order points limit ≡ Some (made, verdict)
   pub fails : verdict ≢ Passed
@@ -34,12 +34,12 @@ pub record IsFinding (deal : Deal) (bodies : List Pending) (order points : List 
       directed_run deal bodies order (moments_of (schedule_of made) points) limit
       ≡ Some (made, verdict)
   pub reduced : Reduces (HasVerdict deal bodies order limit verdict)
-      (moments_of (schedule_of made) points) events
-  pub leads : LeadsTo deal bodies order limit verdict events steps
-  pub needed : (place : ℕ) → place < length events
-      → HasOther deal bodies order limit verdict (remove events place)
-  pub few : length events ≤ length points
-  pub fit : All (MomentFits deal.threads limit) events
+      (moments_of (schedule_of made) points) moments
+  pub leads : LeadsTo deal bodies order limit verdict moments steps
+  pub needed : (place : ℕ) → place < length moments
+      → HasOther deal bodies order limit verdict (remove moments place)
+  pub few : length moments ≤ length points
+  pub fit : All (MomentFits deal.threads limit) moments
 
 -- The run of the order and points has passed, after so many steps, and the directed run of its
 -- moments is the same run.
@@ -55,6 +55,6 @@ pub record IsPass (deal : Deal) (bodies : List Pending) (order points : List ℕ
 -- What each answer says: the run fails, and these moments lead to its verdict and are all needed;
 -- or it passes, after so many steps.
 abbrev pub Finds : Deal → List Pending → List ℕ → List ℕ → ℕ → FoundOut → Type 0
-Finds deal bodies order points limit (Events events verdict steps) =
-    IsFinding deal bodies order points limit events verdict steps
+Finds deal bodies order points limit (Events moments verdict steps) =
+    IsFinding deal bodies order points limit moments verdict steps
 Finds deal bodies order points limit (Passes steps) = IsPass deal bodies order points limit steps

@@ -46,11 +46,11 @@ Leaves deal bodies order limit verdict moments None =
     NeedsFirst (HasVerdict deal bodies order limit verdict) moments (length moments)
 Leaves deal bodies order limit verdict moments (Some short) =
     (place : ℕ) × IsFirstToLeaveOut (HasVerdict deal bodies order limit verdict) moments place
-    × (short.events ≡ remove moments place)
-    × LeadsTo deal bodies order limit verdict short.events short.steps
+    × (short.moments ≡ remove moments place)
+    × LeadsTo deal bodies order limit verdict short.moments short.steps
 
 -- What all rounds leave, with the steps of its directed run.
 pub record IsReduced (deal : Deal) (bodies : List Pending) (order : List ℕ) (limit : ℕ)
     (verdict : Verdict) (moments : List Moment) (short : Short) : Type 0 where
-  pub reduced : Reduces (HasVerdict deal bodies order limit verdict) moments short.events
-  pub leads : LeadsTo deal bodies order limit verdict short.events short.steps
+  pub reduced : Reduces (HasVerdict deal bodies order limit verdict) moments short.moments
+  pub leads : LeadsTo deal bodies order limit verdict short.moments short.steps

@@ -10,7 +10,7 @@ ghost use Rattle.pct_ask.specs.declared.limits.TheConstants.{MAX_POINTS, MAX_STE
 
 use crate::reducing::{Short, reduce};
 use choices::moments_of;
-use pct_ask::{Deal, Verdict};
+use pct_ask::{Deal, Limit, Verdict};
 use pct_outside::Gate;
 use policy_pick::MomentList;
 use script_code::Code;
@@ -66,11 +66,12 @@ pub fn find<R: Threads + Wait + Sync, G: Gate>(
     if verdict.is(&Verdict::Passed) {
         return Ok(FoundOut::Passes { steps });
     }
-    let events = moments_of(alloc, whole.events.as_slice(), points)?;
-    let whole = Short { events, steps };
+    let moments = moments_of(alloc, whole.events.as_slice(), points)?;
+    let whole = Short { moments, steps };
+    let limit = Limit::new(limit);
     let short = reduce(rt, alloc, &ready, order, whole, &verdict, limit, gate)?;
     Ok(FoundOut::Events {
-        events: short.events,
+        events: short.moments,
         verdict,
         steps: short.steps,
     })

@@ -5,9 +5,9 @@ ghost use Rattle.rank_now.specs.Order.{IsOrder};
 ghost use Rattle.script_code.specs.Listing.{listing};
 ghost use Rattle.script_run.specs.Ready.{bodies_of_code};
 ghost use Rattle.directive_find.specs.Reduced.{LeadsTo, Leaves, IsReduced};
-ghost use Rattle.pct_ask.specs.declared.limits.TheConstants.{MAX_POINTS, MAX_STEPS};
+ghost use Rattle.pct_ask.specs.declared.limits.TheConstants.{MAX_POINTS};
 
-use pct_ask::Verdict;
+use pct_ask::{Limit, Verdict};
 use pct_outside::Gate;
 use policy_pick::{Moment, MomentList};
 use script_run::ReadyScript;
@@ -19,16 +19,16 @@ use worker_run::Serve;
 /// Moments, and the number of steps of their directed run.
 #[derive(Debug, Drop)]
 pub struct Short {
-    pub events: MomentList,
+    pub moments: MomentList,
     pub steps: u32,
 }
 
 /// The moments but the one at a place.
-fn without(alloc: Global, events: &[Moment], place: usize) -> Result<MomentList, NoMemory>
-    requires { place < length events.now }
-    ensures { IfOk result (λ rest. rest ≡ remove events.now place) }
+fn without(alloc: Global, moments: &[Moment], place: usize) -> Result<MomentList, NoMemory>
+    requires { place < length moments.now }
+    ensures { IfOk result (λ rest. rest ≡ remove moments.now place) }
 {
-    let mut rest = Vec::from_slice(alloc, events)?;
+    let mut rest = Vec::from_slice(alloc, moments)?;
     rest.remove(place);
     Ok(MomentList::from_vec(rest))
 }
@@ -40,29 +40,28 @@ fn leave_out<R: Threads + Wait + Sync, G: Gate>(
     alloc: Global,
     ready: &ReadyScript<'_>,
     order: &[u32],
-    events: &[Moment],
+    moments: &[Moment],
     verdict: &Verdict,
-    limit: u32,
+    limit: Limit,
     gate: &G,
 ) -> Result<Option<Short>, NoMemory>
     requires order { IsOrder order.now }
     requires whole { length order.now ≡ ready.now.deal.now.threads }
-    requires few_events { length events.now ≤ MAX_POINTS }
-    requires some_steps { 1 ≤ limit }
-    requires few_steps { limit ≤ MAX_STEPS }
+    requires few_moments { length moments.now ≤ MAX_POINTS }
     ensures leaves { IfOk result (Leaves ready.now.deal.now
-        (bodies_of_code (listing ready.now.code.now)) order.now limit verdict.now events.now) }
+        (bodies_of_code (listing ready.now.code.now)) order.now limit verdict.now moments.now) }
     ensures fewer { IfOk result (λ left.
-        IfSome left (λ short. length short.events < length events.now)) }
+        IfSome left (λ short. length short.moments < length moments.now)) }
 {
-    for place in 0..events.len() {
-        let rest = without(alloc, events, place)?;
+    let most = limit.steps();
+    for place in 0..moments.len() {
+        let rest = without(alloc, moments, place)?;
         let left = rest.as_slice();
-        let whole = ready.run_by_events(rt, alloc, order, left, limit, Serve::Threads, gate)?;
+        let whole = ready.run_by_events(rt, alloc, order, left, most, Serve::Threads, gate)?;
         if whole.verdict.is(verdict) {
             let steps = whole.events.len() as u32;
             return Ok(Some(Short {
-                events: rest,
+                moments: rest,
                 steps,
             }));
         }
@@ -79,18 +78,16 @@ pub fn reduce<R: Threads + Wait + Sync, G: Gate>(
     order: &[u32],
     whole: Short,
     verdict: &Verdict,
-    limit: u32,
+    limit: Limit,
     gate: &G,
 ) -> Result<Short, NoMemory>
     requires order { IsOrder order.now }
     requires whole { length order.now ≡ ready.now.deal.now.threads }
-    requires few_events { length whole.events ≤ MAX_POINTS }
-    requires some_steps { 1 ≤ limit }
-    requires few_steps { limit ≤ MAX_STEPS }
+    requires few_moments { length whole.moments ≤ MAX_POINTS }
     requires leads { LeadsTo ready.now.deal.now (bodies_of_code (listing ready.now.code.now))
-        order.now limit verdict.now whole.events whole.steps }
+        order.now limit verdict.now whole.moments whole.steps }
     ensures { IfOk result (IsReduced ready.now.deal.now
-        (bodies_of_code (listing ready.now.code.now)) order.now limit verdict.now whole.events) }
+        (bodies_of_code (listing ready.now.code.now)) order.now limit verdict.now whole.moments) }
 {
     let mut short = whole;
     'rounds: while let Some(shorter) = leave_out(
@@ -98,7 +95,7 @@ pub fn reduce<R: Threads + Wait + Sync, G: Gate>(
         alloc,
         ready,
         order,
-        short.events.as_slice(),
+        short.moments.as_slice(),
         verdict,
         limit,
         gate,

@@ -32,16 +32,16 @@ use Rattle.choices.proofs.laws.Counts.{order-hits, count-holds}
 
 -- ---- one order
 
-pub pointed : (deal : Deal) (bodies : List Pending) (order : List ℕ) (moments events : List Moment)
+pub pointed : (deal : Deal) (bodies : List Pending) (order : List ℕ) (lent moments : List Moment)
     (verdict last : Verdict) (steps limit : ℕ) (made : List Event) (points : List ℕ)
-    → moments ≡ events → directed_run deal bodies order moments limit ≡ Some (made, last)
-    → last ≡ verdict → length made ≤ steps → points ≡ points_of (schedule_of made) steps moments
-    → IsPointed deal bodies order events verdict steps limit points
-pointed deal bodies order moments events verdict last steps limit made points same is ends short
+    → lent ≡ moments → directed_run deal bodies order lent limit ≡ Some (made, last)
+    → last ≡ verdict → length made ≤ steps → points ≡ points_of (schedule_of made) steps lent
+    → IsPointed deal bodies order moments verdict steps limit points
+pointed deal bodies order lent moments verdict last steps limit made points same is ends short
     as_points =
     let room : length (schedule_of made) ≤ steps =
     omega (arith, length-map made (λ (e : Event). e.thread)) in
-    let runs = exposed-run deal bodies order moments limit steps made last room is in
+    let runs = exposed-run deal bodies order lent limit steps made last room is in
     record {
       made = made;
       is_directed =
@@ -54,11 +54,11 @@ pointed deal bodies order moments events verdict last steps limit made points sa
           ∙ (runs ∙ ap (λ v. Some (made, v)) ends);
     }
 
-pub other : (deal : Deal) (bodies : List Pending) (order : List ℕ) (moments events : List Moment)
-    (verdict last : Verdict) (steps limit : ℕ) (made : List Event) → moments ≡ events
-    → directed_run deal bodies order moments limit ≡ Some (made, last) → last ≢ verdict
-    → length made ≤ steps → IsOther deal bodies order events verdict steps limit last
-other deal bodies order moments events verdict last steps limit made same is apart short =
+pub other : (deal : Deal) (bodies : List Pending) (order : List ℕ) (lent moments : List Moment)
+    (verdict last : Verdict) (steps limit : ℕ) (made : List Event) → lent ≡ moments
+    → directed_run deal bodies order lent limit ≡ Some (made, last) → last ≢ verdict
+    → length made ≤ steps → IsOther deal bodies order moments verdict steps limit last
+other deal bodies order lent moments verdict last steps limit made same is apart short =
     record {
       made = made;
       is_directed = ap (λ es. directed_run deal bodies order es limit) (sym same)

@@ -18,22 +18,24 @@ use Rattle.directive_run.specs.Tested.{DirectedSetup, IsOrderAt, IsRunAt}
 
 -- a test that was made of the order at the place has its run
 pub order-tried : {E : Type 0} (setup : DirectedSetup) (place : ℕ)
-    (made : Result (Test EventsKept ScriptBody) E) (order slice : List ℕ) (events : List Moment)
-    → setup.limit ≤ 100000 → IsOrderAt setup place order → slice ≡ order
-    → events ≡ setup.directive.events
+    (made : Result (Test EventsKept ScriptBody) E) (order slice : List ℕ) (moments : List Moment)
+    (limit : ℕ) → limit ≤ 100000 → limit ≡ setup.limit → IsOrderAt setup place order
+    → slice ≡ order → moments ≡ setup.directive.events
     → IfOk made (Tries pending_of_body events_plan
-    (IsRunByEvents setup.deal setup.bodies slice events setup.limit))
+    (IsRunByEvents setup.deal setup.bodies slice moments limit))
     → IfOk made (Tries pending_of_body events_plan (IsRunAt setup place))
-order-tried setup place (Ok test) order slice events few here same moments tries =
+order-tried setup place (Ok test) order slice moments limit few most here same as_moments tries =
     λ played ran other at.
     let both : Some order ≡ Some other = sym here ∙ at in
     let one : order ≡ other = cc in
     let R : List ℕ → List Moment → Type 0 =
     λ o es. IsRunByEvents setup.deal setup.bodies o es setup.limit played in
+    let cut : R slice moments = subst (λ l. IsRunByEvents setup.deal setup.bodies slice moments l
+    played) most (tries played ran) in
     let is = subst (λ o. R o setup.directive.events) (same ∙ one)
-    (subst (R slice) moments (tries played ran)) in
-    record { run = is.directed; short = omega (arith, is.played.obeys.within, few) }
-order-tried setup place (Err e) order slice events few here same moments tries = tt
+    (subst (R slice) as_moments cut) in
+    record { run = is.directed; short = omega (arith, is.played.obeys.within, few, most) }
+order-tried setup place (Err e) order slice moments limit few most here same as_moments tries = tt
 
 -- a run that a verdict ended has that verdict
 pub ended-run : (of : Option Run) (events : List Event) (outcome : Outcome) (verdict : Verdict)

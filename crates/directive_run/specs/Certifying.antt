@@ -22,12 +22,12 @@ use Rattle.pct_ask.specs.declared.limits.TheConstants.{MAX_CERTIFIED_THREADS}
 
 -- The order's directed run has the verdict and at most so many steps; the points are those of its
 -- moments, and the run of the order and these points has the same steps and the verdict.
-pub record IsPointed (deal : Deal) (bodies : List Pending) (order : List ℕ) (events : List Moment)
+pub record IsPointed (deal : Deal) (bodies : List Pending) (order : List ℕ) (moments : List Moment)
     (verdict : Verdict) (steps limit : ℕ) (points : List ℕ) : Type 0 where
   pub made : List Event
-  pub is_directed : directed_run deal bodies order events limit ≡ Some (made, verdict)
+  pub is_directed : directed_run deal bodies order moments limit ≡ Some (made, verdict)
   pub short : length made ≤ steps
-  pub points_are : points ≡ points_of (schedule_of made) steps events
+  pub points_are : points ≡ points_of (schedule_of made) steps moments
   pub is_run : run deal bodies order points limit ≡ Some (made, verdict)
 
 -- one row for each of the orders, in their order

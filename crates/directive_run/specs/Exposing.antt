@@ -17,29 +17,29 @@ use Rattle.directive_run.specs.declared.answers.Exposed.TheVariants.{Points, Too
 -- The directed run was played, and has at most so many steps. The points are those of its moments,
 -- each is one of these steps, and the run of the order and these points has the same steps and the
 -- same verdict.
-pub record IsExposed (deal : Deal) (bodies : List Pending) (order : List ℕ) (events : List Moment)
+pub record IsExposed (deal : Deal) (bodies : List Pending) (order : List ℕ) (moments : List Moment)
     (steps limit : ℕ) (points : List ℕ) (played : Played) : Type 0 where
   pub verdict : Verdict
   pub ends : played.outcome ≡ Ends verdict
-  pub is_directed : directed_run deal bodies order events limit ≡ Some (played.events, verdict)
+  pub is_directed : directed_run deal bodies order moments limit ≡ Some (played.events, verdict)
   pub short : length played.events ≤ steps
-  pub points_are : points ≡ points_of (schedule_of played.events) steps events
+  pub points_are : points ≡ points_of (schedule_of played.events) steps moments
   pub within : All (IsWithin steps) points
   pub is_run : run deal bodies order points limit ≡ Some (played.events, verdict)
 
 -- The directed run has this number of steps, and that is more than there may be.
-pub record RunsTooLong (deal : Deal) (bodies : List Pending) (order : List ℕ) (events : List Moment)
-    (steps limit many : ℕ) : Type 0 where
+pub record RunsTooLong (deal : Deal) (bodies : List Pending) (order : List ℕ)
+    (moments : List Moment) (steps limit many : ℕ) : Type 0 where
   pub made : List Event
   pub verdict : Verdict
-  pub is_directed : directed_run deal bodies order events limit ≡ Some (made, verdict)
+  pub is_directed : directed_run deal bodies order moments limit ≡ Some (made, verdict)
   pub number : many ≡ length made
   pub long : steps < many
 
 -- What each answer says: the directed run is that of the order and these points, or it has this
 -- number of steps, more than there may be.
 abbrev pub Exposes : Deal → List Pending → List ℕ → List Moment → ℕ → ℕ → Exposed → Type 0
-Exposes deal bodies order events steps limit (Points points played) =
-    IsExposed deal bodies order events steps limit points played
-Exposes deal bodies order events steps limit (TooLong many) =
-    RunsTooLong deal bodies order events steps limit many
+Exposes deal bodies order moments steps limit (Points points played) =
+    IsExposed deal bodies order moments steps limit points played
+Exposes deal bodies order moments steps limit (TooLong many) =
+    RunsTooLong deal bodies order moments steps limit many

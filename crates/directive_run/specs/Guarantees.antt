@@ -11,14 +11,14 @@ use Rattle.worker_run.specs.Run.{directed_run}
 use Rattle.choices.specs.Orders.{EndsIn}
 
 -- the directed run of the order has the verdict and at most so many steps
-pub record IsLed (deal : Deal) (bodies : List Pending) (order : List ℕ) (events : List Moment)
+pub record IsLed (deal : Deal) (bodies : List Pending) (order : List ℕ) (moments : List Moment)
     (verdict : Verdict) (steps limit : ℕ) : Type 0 where
   pub made : List Event
-  pub directed_is : directed_run deal bodies order events limit ≡ Some (made, verdict)
+  pub directed_is : directed_run deal bodies order moments limit ≡ Some (made, verdict)
   pub short : length made ≤ steps
 
 -- Every order that places the thread last is led to the verdict, within so many steps.
 abbrev pub Guarantees : Deal → List Pending → ℕ → List Moment → Verdict → ℕ → ℕ → Type 0
-Guarantees deal bodies low events verdict steps limit =
+Guarantees deal bodies low moments verdict steps limit =
     (order : List ℕ) → IsOrder order → length order ≡ deal.threads → EndsIn order low
-    → IsLed deal bodies order events verdict steps limit
+    → IsLed deal bodies order moments verdict steps limit

@@ -14,10 +14,10 @@ use Rattle.pct_ask.specs.declared.limits.TheConstants.{MAX_CERTIFIED_THREADS}
 -- Under an order a directive's moments are exposed in one way.
 abbrev pub EachIsExposedOnce : Type 0
 EachIsExposedOnce =
-    (deal : Deal) (bodies : List Pending) (order : List ℕ) (events : List Moment) (steps limit : ℕ)
+    (deal : Deal) (bodies : List Pending) (order : List ℕ) (moments : List Moment) (steps limit : ℕ)
     (one other : Exposed)
-    → Exposes deal bodies order events steps limit one
-    → Exposes deal bodies order events steps limit other → one ≡ other
+    → Exposes deal bodies order moments steps limit one
+    → Exposes deal bodies order moments steps limit other → one ≡ other
 
 -- A directive has one certificate.
 abbrev pub EachHasOneCertificate : Type 0

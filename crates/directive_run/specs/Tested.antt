@@ -49,10 +49,10 @@ directed_setup task = record {
 -- ---- one order
 
 -- the directed run has another verdict, and at most so many steps
-pub record IsOther (deal : Deal) (bodies : List Pending) (order : List ℕ) (events : List Moment)
+pub record IsOther (deal : Deal) (bodies : List Pending) (order : List ℕ) (moments : List Moment)
     (verdict : Verdict) (steps limit : ℕ) (other : Verdict) : Type 0 where
   pub made : List Event
-  pub is_directed : directed_run deal bodies order events limit ≡ Some (made, other)
+  pub is_directed : directed_run deal bodies order moments limit ≡ Some (made, other)
   pub short : length made ≤ steps
   pub apart : other ≢ verdict
 

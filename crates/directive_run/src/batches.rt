@@ -38,8 +38,9 @@ impl<'a> Batch for Task<'a, '_> {
         place: u32,
     ) -> Result<Test<DirectedPolicy, ScriptBody<'a>>, NoMemory> {
         let order = low_order_at(alloc, self.script.deal.threads, self.directive.low, place)?;
-        let (order, events) = (order.as_slice(), self.directive.events.as_slice());
-        self.script.test_by_events(alloc, order, events, self.limit)
+        let (order, moments) = (order.as_slice(), self.directive.events.as_slice());
+        let limit = self.limit.steps();
+        self.script.test_by_events(alloc, order, moments, limit)
     }
 
     fn take(

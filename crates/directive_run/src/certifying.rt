@@ -11,7 +11,7 @@ use crate::answers::{Certified, CertifyRows};
 use crate::task::Task;
 use choices::{bound_of, order_count};
 use directive::Directive;
-use pct_ask::{Deal, MAX_CERTIFIED_THREADS};
+use pct_ask::{Deal, Limit, MAX_CERTIFIED_THREADS};
 use pct_outside::Gate;
 use script_code::Code;
 use script_run::{ReadyScript, run_batch};
@@ -28,17 +28,13 @@ pub fn certify_by<R: Threads + Wait + Sync, G: Gate>(
     code: &Code,
     deal: &Deal,
     directive: &Directive,
-    steps: u32,
-    limit: u32,
+    steps: Limit,
+    limit: Limit,
     serve: Serve,
     gate: &G,
 ) -> Result<Certified, NoMemory>
     requires script { (script : ScriptText) × AreOf script (listing code.now) deal.now }
     requires low { directive.now.low < deal.now.threads }
-    requires some_steps { 1 ≤ steps }
-    requires few_steps { steps ≤ MAX_STEPS }
-    requires some_limit { 1 ≤ limit }
-    requires small_limit { limit ≤ MAX_STEPS }
     ensures { (script : ScriptText) → AreOf script (listing code.now) deal.now
         → IfOk result (Certifies deal.now (bodies_of script) directive.now steps limit) }
 {
@@ -75,7 +71,7 @@ pub fn certify_by<R: Threads + Wait + Sync, G: Gate>(
         start = end;
         size = most.min(2 * size);
     }
-    let bound = bound_of(threads, steps, directive.events.len());
+    let bound = bound_of(threads, steps.steps(), directive.events.len());
     Ok(Certified::Yes { bound, rows })
 }
 
@@ -101,6 +97,8 @@ pub fn certify<R: Threads + Wait + Sync, G: Gate>(
     ensures { (script : ScriptText) → AreOf script (listing code.now) deal.now
         → IfOk result (Certifies deal.now (bodies_of script) directive.now steps limit) }
 {
+    let steps = Limit::new(steps);
+    let limit = Limit::new(limit);
     let serve = Serve::Threads;
     certify_by(rt, alloc, code, deal, directive, steps, limit, serve, gate)
 }

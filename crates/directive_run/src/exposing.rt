@@ -45,14 +45,14 @@ pub fn expose<R: Threads + Wait + Sync, G: Gate>(
         → IfOk result (Exposes deal.now (bodies_of script) order.now
         directive.now.events steps limit) }
 {
-    let events = directive.events.as_slice();
+    let moments = directive.events.as_slice();
     let ready = ReadyScript { code, deal };
-    let whole = ready.run_by_events(rt, alloc, order, events, limit, Serve::Threads, gate)?;
+    let whole = ready.run_by_events(rt, alloc, order, moments, limit, Serve::Threads, gate)?;
     let many = whole.events.len() as u32;
     if many > steps {
         return Ok(Exposed::TooLong { steps: many });
     }
-    let points = points_of(alloc, whole.events.as_slice(), steps, events)?;
+    let points = points_of(alloc, whole.events.as_slice(), steps, moments)?;
     Ok(Exposed::Points {
         points,
         played: whole.into(),

@@ -27,12 +27,13 @@ pub fn test_run(alloc: Global, task: &Task<'_, '_>, played: &Played) -> Result<T
 {
     let verdict = played.verdict();
     let many = played.events.len() as u32;
-    if many > task.steps {
+    let most = task.steps.steps();
+    if many > most {
         return Ok(Tested::TooLong(many));
     }
     if !verdict.is(&task.directive.verdict) {
         return Ok(Tested::Other(verdict));
     }
     let moments = task.directive.events.as_slice();
-    Ok(Tested::Led(points_of(alloc, played.events.as_slice(), task.steps, moments)?))
+    Ok(Tested::Led(points_of(alloc, played.events.as_slice(), most, moments)?))
 }

@@ -1,22 +1,8 @@
--- Moments, no more than there were.
-use Rattle.std.proofs.Common.{ℕ, suc, ◌≤◌, Bool, true, false, List, [], ◌∷◌, length, cond, arith}
+-- What is left of a list is no longer than it.
+use Rattle.std.proofs.Common.{◌≤◌, List, length, arith}
 use Rattle.std.proofs.lemmas.List.Edits.{length-remove}
-use Rattle.choices.specs.Moments.{is_kept, moment_at, moments_of}
 use Rattle.kit_directives.specs.Found.{IsLeftOf, Whole, Without}
 
-few-by : (schedule : List ℕ) (point : ℕ) (later : List ℕ) (b : Bool)
-    → length (moments_of schedule later) ≤ length later
-    → length (cond b (moment_at schedule point ∷ moments_of schedule later)
-    (moments_of schedule later)) ≤ suc (length later)
-few-by schedule point later true rest = omega arith
-few-by schedule point later false rest = omega arith
-
-pub moments-few : (schedule points : List ℕ) → length (moments_of schedule points) ≤ length points
-moments-few schedule [] = omega arith
-moments-few schedule (point ∷ later) =
-    few-by schedule point later (is_kept schedule point later) (moments-few schedule later)
-
--- what is left of a list is no longer
 pub left-short : {X : Type 0} (items left : List X) → IsLeftOf items left
     → length left ≤ length items
 left-short items left (Whole _) = omega arith

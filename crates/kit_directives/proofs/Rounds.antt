@@ -11,55 +11,55 @@ use Rattle.kit_directives.specs.Found.{HasOther, NeedsFirst, IsLeftOf, Without, 
 use Rattle.kit_directives.specs.declared.reducing.Short.{Short}
 
 module _ (deal : Deal) (order : List ℕ) (limit : ℕ) (verdict : Verdict) where
-  module _ (events rest : List Moment) (place : ℕ) (is : rest ≡ remove events place) where
+  module _ (moments rest : List Moment) (place : ℕ) (is : rest ≡ remove moments place) where
     -- the moment is needed, and so are those before it
-    pub one-more : NeedsFirst deal order limit verdict events place
+    pub one-more : NeedsFirst deal order limit verdict moments place
         → HasOther deal order limit verdict rest
-        → NeedsFirst deal order limit verdict events (place + 1)
+        → NeedsFirst deal order limit verdict moments (place + 1)
     one-more before other k within = elim (cases_eq k place) [
       | inl e ↦
           let H : List Moment → Type 0 = λ ms. HasOther deal order limit verdict ms in
-          subst H (is ∙ ap (remove events) (sym e)) other
+          subst H (is ∙ ap (remove moments) (sym e)) other
       | inr ne ↦ before k (omega arith)
     ]
 
   -- a moment is left out, where the rest leads to the verdict
-  pub led-out : (events lent rest : List Moment) (place : ℕ) (led : Option ℕ) (steps : ℕ)
-      → lent ≡ rest → rest ≡ remove events place → place < length events → led ≡ Some steps
+  pub led-out : (moments lent rest : List Moment) (place : ℕ) (led : Option ℕ) (steps : ℕ)
+      → lent ≡ rest → rest ≡ remove moments place → place < length moments → led ≡ Some steps
       → IfSome led (λ s. LeadsTo deal order limit verdict lent s)
-      → Leaves deal order limit verdict events (Some (record { events = rest; steps = steps }))
-  led-out events lent rest place led steps same is within some leads =
+      → Leaves deal order limit verdict moments (Some (record { moments = rest; steps = steps }))
+  led-out moments lent rest place led steps same is within some leads =
       let I : Option ℕ → Type 0 = λ o. IfSome o (λ s. LeadsTo deal order limit verdict lent s) in
       let L : List Moment → Type 0 = λ ms. LeadsTo deal order limit verdict ms steps in
       (place, within, is, subst L same (subst I some leads))
 
   -- what a call told of the moments that it was lent
-  module _ (events lent : List Moment) (told : Option Short) (same : lent ≡ events) where
+  module _ (moments lent : List Moment) (told : Option Short) (same : lent ≡ moments) where
     pub some-leaves : (short : Short) → told ≡ Some short
         → Leaves deal order limit verdict lent told
-        → Leaves deal order limit verdict events (Some short)
+        → Leaves deal order limit verdict moments (Some short)
     some-leaves short is leaves =
-        let T : Option Short → Type 0 = λ t. Leaves deal order limit verdict events t in
+        let T : Option Short → Type 0 = λ t. Leaves deal order limit verdict moments t in
         let E : List Moment → Type 0 = λ es. Leaves deal order limit verdict es told in
         subst T is (subst E same leaves)
 
     pub none-leaves : told ≡ None → Leaves deal order limit verdict lent told
-        → NeedsFirst deal order limit verdict events (length events)
+        → NeedsFirst deal order limit verdict moments (length moments)
     none-leaves is leaves =
-        let T : Option Short → Type 0 = λ t. Leaves deal order limit verdict events t in
+        let T : Option Short → Type 0 = λ t. Leaves deal order limit verdict moments t in
         let E : List Moment → Type 0 = λ es. Leaves deal order limit verdict es told in
         subst T is (subst E same leaves)
 
   -- what is left after a round is left of all
-  pub one-round : (all events : List Moment) (short : Short)
-      → Leaves deal order limit verdict events (Some short) → IsLeftOf all events
-      → IsLeftOf all short.events
-  one-round all events short leaves left =
+  pub one-round : (all moments : List Moment) (short : Short)
+      → Leaves deal order limit verdict moments (Some short) → IsLeftOf all moments
+      → IsLeftOf all short.moments
+  one-round all moments short leaves left =
       let L : List Moment → Type 0 = λ ms. IsLeftOf all ms in
-      subst L (sym leaves.2) (Without all events leaves.0 leaves.1 left)
+      subst L (sym leaves.2) (Without all moments leaves.0 leaves.1 left)
 
 pub some-fewer : (lent : List Moment) (told : Option Short) (short : Short) → told ≡ Some short
-    → IfSome told (λ s. length s.events < length lent) → length short.events < length lent
+    → IfSome told (λ s. length s.moments < length lent) → length short.moments < length lent
 some-fewer lent told short is fewer =
-    let T : Option Short → Type 0 = λ t. IfSome t (λ s. length s.events < length lent) in
+    let T : Option Short → Type 0 = λ t. IfSome t (λ s. length s.moments < length lent) in
     subst T is fewer

@@ -38,15 +38,15 @@ abbrev pub Leaves : Deal → List ℕ → ℕ → Verdict → List Moment → Op
 Leaves deal order limit verdict moments None =
     NeedsFirst deal order limit verdict moments (length moments)
 Leaves deal order limit verdict moments (Some short) =
-    (place : ℕ) × (place < length moments) × (short.events ≡ remove moments place)
-    × LeadsTo deal order limit verdict short.events short.steps
+    (place : ℕ) × (place < length moments) × (short.moments ≡ remove moments place)
+    × LeadsTo deal order limit verdict short.moments short.steps
 
 -- what all rounds leave
 pub record IsReduced (deal : Deal) (order : List ℕ) (limit : ℕ) (verdict : Verdict)
     (moments : List Moment) (short : Short) : Type 0 where
-  pub left : IsLeftOf moments short.events
-  pub leads : LeadsTo deal order limit verdict short.events short.steps
-  pub needed : NeedsFirst deal order limit verdict short.events (length short.events)
+  pub left : IsLeftOf moments short.moments
+  pub leads : LeadsTo deal order limit verdict short.moments short.steps
+  pub needed : NeedsFirst deal order limit verdict short.moments (length short.moments)
 
 -- The run by the order and the points was made, and has the directive's verdict, which isn't
 -- Passed. The directive's moments are left of those of that run. A run of them has the verdict and

@@ -56,17 +56,17 @@ fn whole_moments<R: Threads + Wait + Sync, T: Program + Sync>(
     requires points { All (λ point. 1 ≤ point) points.now }
     requires few_names { length order.now < 2 ^ 32 }
     requires fits { T.fits program.now deal.now }
-    ensures moments { IfOk result (λ whole. whole.events
+    ensures moments { IfOk result (λ whole. whole.moments
         ≡ moments_of (schedule_of made.now.events) points.now) }
-    ensures few { IfOk result (λ whole. length whole.events ≤ MAX_POINTS) }
+    ensures few { IfOk result (λ whole. length whole.moments ≤ MAX_POINTS) }
     ensures leads { IfOk result (λ whole. LeadsTo deal.now order.now limit made.now.verdict
-        whole.events whole.steps) }
+        whole.moments whole.steps) }
 {
-    let events = moments_of(alloc, made.events.as_slice(), points)?;
-    let moments = events.as_slice();
+    let moments = moments_of(alloc, made.events.as_slice(), points)?;
+    let all = moments.as_slice();
     let verdict = &made.verdict;
-    match steps_to(rt, alloc, deal, order, moments, limit, verdict, program)? {
-        Some(steps) => Ok(Short { events, steps }),
+    match steps_to(rt, alloc, deal, order, all, limit, verdict, program)? {
+        Some(steps) => Ok(Short { moments, steps }),
         None => Err(RunError::Unsteady),
     }
 }
@@ -98,7 +98,7 @@ fn shorten<R: Threads + Wait + Sync, T: Program + Sync>(
     Ok(Found::Fails {
         directive: Directive {
             low,
-            events: short.events,
+            events: short.moments,
             verdict: made.verdict,
         },
         steps: short.steps,

@@ -15,16 +15,16 @@ use std::thread::Threads;
 /// Moments, and the number of steps of their run.
 #[derive(Debug, Drop)]
 pub struct Short {
-    pub events: MomentList,
+    pub moments: MomentList,
     pub steps: u32,
 }
 
 /// The moments but the one at a place.
-fn without(alloc: Global, events: &[Moment], place: usize) -> Result<MomentList, NoMemory>
-    requires { place < length events.now }
-    ensures { IfOk result (λ rest. rest ≡ remove events.now place) }
+fn without(alloc: Global, moments: &[Moment], place: usize) -> Result<MomentList, NoMemory>
+    requires { place < length moments.now }
+    ensures { IfOk result (λ rest. rest ≡ remove moments.now place) }
 {
-    let mut rest = Vec::from_slice(alloc, events)?;
+    let mut rest = Vec::from_slice(alloc, moments)?;
     rest.remove(place);
     Ok(MomentList::from_vec(rest))
 }
@@ -35,22 +35,22 @@ pub fn steps_to<R: Threads + Wait + Sync, T: Program + Sync>(
     alloc: Global,
     deal: &Deal,
     order: &[u32],
-    events: &[Moment],
+    moments: &[Moment],
     limit: u32,
     verdict: &Verdict,
     program: &T,
 ) -> Result<Option<u32>, RunError>
     requires some_steps { 1 ≤ limit }
     requires few_steps { limit ≤ MAX_STEPS }
-    requires few_events { length events.now ≤ MAX_POINTS }
+    requires few_moments { length moments.now ≤ MAX_POINTS }
     requires few_names { length order.now < 2 ^ 32 }
     requires fits { T.fits program.now deal.now }
     ensures leads { IfOk result (λ steps. IfSome steps (λ steps.
-        LeadsTo deal.now order.now limit verdict.now events.now steps)) }
+        LeadsTo deal.now order.now limit verdict.now moments.now steps)) }
     ensures other { IfOk result (λ steps. steps ≡ None
-        → HasOther deal.now order.now limit verdict.now events.now) }
+        → HasOther deal.now order.now limit verdict.now moments.now) }
 {
-    let file = run_directed(rt, alloc, deal, order, events, limit, program)?;
+    let file = run_directed(rt, alloc, deal, order, moments, limit, program)?;
     if file.verdict.is(verdict) {
         return Ok(Some(file.events.len() as u32));
     }
@@ -64,22 +64,22 @@ fn leave_out<R: Threads + Wait + Sync, T: Program + Sync>(
     alloc: Global,
     deal: &Deal,
     order: &[u32],
-    events: &[Moment],
+    moments: &[Moment],
     limit: u32,
     verdict: &Verdict,
     program: &T,
 ) -> Result<Option<Short>, RunError>
     requires some_steps { 1 ≤ limit }
     requires few_steps { limit ≤ MAX_STEPS }
-    requires few_events { length events.now ≤ MAX_POINTS }
+    requires few_moments { length moments.now ≤ MAX_POINTS }
     requires few_names { length order.now < 2 ^ 32 }
     requires fits { T.fits program.now deal.now }
-    ensures leaves { IfOk result (Leaves deal.now order.now limit verdict.now events.now) }
+    ensures leaves { IfOk result (Leaves deal.now order.now limit verdict.now moments.now) }
     ensures fewer { IfOk result (λ left.
-        IfSome left (λ short. length short.events < length events.now)) }
+        IfSome left (λ short. length short.moments < length moments.now)) }
 {
-    for place in 0..events.len() {
-        let rest = without(alloc, events, place)?;
+    for place in 0..moments.len() {
+        let rest = without(alloc, moments, place)?;
         let led = steps_to(
             rt,
             alloc,
@@ -92,7 +92,7 @@ fn leave_out<R: Threads + Wait + Sync, T: Program + Sync>(
         )?;
         if let Some(steps) = led {
             return Ok(Some(Short {
-                events: rest,
+                moments: rest,
                 steps,
             }));
         }
@@ -114,11 +114,11 @@ pub fn reduce<R: Threads + Wait + Sync, T: Program + Sync>(
 ) -> Result<Short, RunError>
     requires some_steps { 1 ≤ limit }
     requires few_steps { limit ≤ MAX_STEPS }
-    requires few_events { length whole.events ≤ MAX_POINTS }
+    requires few_moments { length whole.moments ≤ MAX_POINTS }
     requires few_names { length order.now < 2 ^ 32 }
     requires fits { T.fits program.now deal.now }
-    requires leads { LeadsTo deal.now order.now limit verdict.now whole.events whole.steps }
-    ensures { IfOk result (IsReduced deal.now order.now limit verdict.now whole.events) }
+    requires leads { LeadsTo deal.now order.now limit verdict.now whole.moments whole.steps }
+    ensures { IfOk result (IsReduced deal.now order.now limit verdict.now whole.moments) }
 {
     let mut short = whole;
     'rounds: while let Some(shorter) = leave_out(
@@ -126,7 +126,7 @@ pub fn reduce<R: Threads + Wait + Sync, T: Program + Sync>(
         alloc,
         deal,
         order,
-        short.events.as_slice(),
+        short.moments.as_slice(),
         limit,
         verdict,
         program,

@@ -21,7 +21,8 @@ use Rattle.directive_find.specs.declared.finding.FoundOut.TheVariants.{Events, P
 use Rattle.choices.specs.Moments.{moments_of, MomentFits}
 use Rattle.directive_find.specs.Reduced.{HasVerdict, NeedsFirst, Reduces, IsReduced}
 use Rattle.directive_find.specs.Found.{HasOther, IsFinding, IsPass, Finds}
-use Rattle.directive_find.proofs.laws.FoundMoments.{found-run, moments-few}
+use Rattle.choices.proofs.laws.FewMoments.{moments-few}
+use Rattle.directive_find.proofs.laws.FoundMoments.{found-run}
 use Rattle.directive_find.proofs.laws.FittingMoments.{found-fit}
 use Rattle.directive_find.proofs.laws.Reducing.{reduced-least, reduced-only, reduced-all}
 use Rattle.directive_find.proofs.laws.Reducing.{reduced-few}
@@ -69,11 +70,11 @@ module _ (deal : Deal) (bodies : List Pending) (order : List ℕ) (limit : ℕ) 
         → run deal bodies order points limit ≡ Some (made, verdict) → verdict ≢ Passed
         → moments ≡ moments_of (schedule_of made) points
         → IsReduced deal bodies order limit verdict moments short
-        → IsFinding deal bodies order points limit short.events verdict short.steps
+        → IsFinding deal bodies order points limit short.moments verdict short.steps
     made-found made verdict moments short ordered whole some room is fails are reduces =
         let all = moments_of (schedule_of made) points in
         let R : List Moment → Type 0 = λ ms.
-        Reduces (HasVerdict deal bodies order limit verdict) ms short.events in
+        Reduces (HasVerdict deal bodies order limit verdict) ms short.moments in
         let reduced = subst R are reduces.reduced in
         let fit = found-fit deal bodies order points limit made (Ends verdict) (sym whole)
         (λ k p. let one = All-get_or (λ point. 1 ≤ point) points k 0 p some in
@@ -90,15 +91,15 @@ module _ (deal : Deal) (bodies : List Pending) (order : List ℕ) (limit : ℕ) 
           reduced = reduced;
           leads = reduces.leads;
           needed =
-              needed-by verdict short.events (sym whole)
-              (reduced-least (HasVerdict deal bodies order limit verdict) moments short.events
+              needed-by verdict short.moments (sym whole)
+              (reduced-least (HasVerdict deal bodies order limit verdict) moments short.moments
               reduces.reduced);
           few =
-              (let left = reduced-few (HasVerdict deal bodies order limit verdict) all short.events
+              (let left = reduced-few (HasVerdict deal bodies order limit verdict) all short.moments
               reduced in let kept = moments-few (schedule_of made) points in omega arith);
           fit =
               reduced-all (HasVerdict deal bodies order limit verdict)
-              (MomentFits deal.threads limit) (record { thread = 0; number = 0 }) all short.events
+              (MomentFits deal.threads limit) (record { thread = 0; number = 0 }) all short.moments
               reduced near;
         }
 
@@ -118,11 +119,11 @@ module _ (deal : Deal) (bodies : List Pending) (order : List ℕ) (limit : ℕ) 
           number = number;
         }
 
-    events-once : (one other : List Moment) (verdict last : Verdict) (steps count : ℕ)
+    moments-once : (one other : List Moment) (verdict last : Verdict) (steps count : ℕ)
         → IsFinding deal bodies order points limit one verdict steps
         → IsFinding deal bodies order points limit other last count
         → Events one verdict steps ≡ Events other last count
-    events-once one other verdict last steps count a b =
+    moments-once one other verdict last steps count a b =
         let same = same-whole b.made a.made last verdict (run deal bodies order points limit)
         b.is_run a.is_run in
         let M : List Event → Type 0 = λ es.
@@ -130,22 +131,22 @@ module _ (deal : Deal) (bodies : List Pending) (order : List ℕ) (limit : ℕ) 
         other in
         let V : Verdict → Type 0 = λ v. Reduces (HasVerdict deal bodies order limit v)
         (moments_of (schedule_of a.made) points) other in
-        let events = reduced-only (HasVerdict deal bodies order limit verdict)
+        let same_moments = reduced-only (HasVerdict deal bodies order limit verdict)
         (moments_of (schedule_of a.made) points) one other a.reduced
         (subst V same.1 (subst M same.0 b.reduced)) in
         let made = same-whole (b.leads).made (a.leads).made last verdict
         (directed_run deal bodies order other limit) (b.leads).is_directed
-        (ap (λ ms. directed_run deal bodies order ms limit) (sym events)
+        (ap (λ ms. directed_run deal bodies order ms limit) (sym same_moments)
         ∙ (a.leads).is_directed) in
         let number : steps ≡ count = (a.leads).number ∙ ap length (sym made.0)
         ∙ sym (b.leads).number in
         let ends = same.1 in
         cc
 
-    passes-not : (events : List Moment) (verdict : Verdict) (steps count : ℕ)
-        → IsFinding deal bodies order points limit events verdict steps
+    passes-not : (moments : List Moment) (verdict : Verdict) (steps count : ℕ)
+        → IsFinding deal bodies order points limit moments verdict steps
         → IsPass deal bodies order points limit count → ⊥
-    passes-not events verdict steps count a b =
+    passes-not moments verdict steps count a b =
         a.fails (same-whole a.made b.made verdict Passed (run deal bodies order points limit)
         a.is_run b.is_run).1
 
@@ -153,7 +154,7 @@ module _ (deal : Deal) (bodies : List Pending) (order : List ℕ) (limit : ℕ) 
     pub one_finding : (one other : FoundOut) → Finds deal bodies order points limit one
         → Finds deal bodies order points limit other → one ≡ other
     one_finding (Events one verdict steps) (Events other last count) a b =
-        events-once one other verdict last steps count a b
+        moments-once one other verdict last steps count a b
     one_finding (Events one verdict steps) (Passes count) a b =
         absurd (passes-not one verdict steps count a b)
     one_finding (Passes steps) (Events other last count) a b =

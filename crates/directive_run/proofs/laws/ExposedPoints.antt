@@ -85,13 +85,13 @@ passes_at-map f test [] (suc k) = refl
 passes_at-map f test (x ∷ xs) (suc zero) = refl
 passes_at-map f test (x ∷ xs) (suc (suc k)) = passes_at-map f test xs (suc k)
 
-module _ (order : List ℕ) (events : List Moment) (schedule : List ℕ) (steps : ℕ)
+module _ (order : List ℕ) (moments : List Moment) (schedule : List ℕ) (steps : ℕ)
     (room : length schedule ≤ steps) where
   abbrev points : List ℕ
-  points = points_of schedule steps events
+  points = points_of schedule steps moments
 
-  long : length points ≡ length events
-  long = length-map events (point_of_moment schedule steps)
+  long : length points ≡ length moments
+  long = length-map moments (point_of_moment schedule steps)
 
   module _ (taken more : List ℕ) (t : ℕ) (cut : schedule ≡ taken ++ t ∷ more) where
     marks : (step : ℕ) → 0 < step → step ≤ length taken → (moment : Moment)
@@ -103,21 +103,21 @@ module _ (order : List ℕ) (events : List Moment) (schedule : List ℕ) (steps 
         ∙ is_moment-append taken (t ∷ more) step moment high
 
     index-same : (step : ℕ) → 0 < step → step ≤ length taken
-        → index_of_point points step ≡ index_of_moment events taken step
+        → index_of_point points step ≡ index_of_moment moments taken step
     index-same step low high =
         ap (greatest_where (passes_at (λ point. eqb point step) points)) long
         ∙ greatest-agree (passes_at (λ point. eqb point step) points)
-        (passes_at (is_moment taken step) events) (length events) (λ k p q.
-        passes_at-map (point_of_moment schedule steps) (λ point. eqb point step) events k
+        (passes_at (is_moment taken step) moments) (length moments) (λ k p q.
+        passes_at-map (point_of_moment schedule steps) (λ point. eqb point step) moments k
         ∙ passes_at-agree (λ moment. eqb (point_of_moment schedule steps moment) step)
-        (is_moment taken step) (marks step low high) events k)
+        (is_moment taken step) (marks step low high) moments k)
 
     pub exposed-rank : (thread : ℕ) → rank order points taken thread
-        ≡ rank_by_events order events taken thread
+        ≡ rank_by_events order moments taken thread
     exposed-rank thread =
-        rank_by-agree (index_of_moment events taken) (index_of_point points) (length points) order
+        rank_by-agree (index_of_moment moments taken) (index_of_point points) (length points) order
         taken index-same thread
-        ∙ ap (λ n. rank_by (index_of_moment events taken) n order taken thread) long
+        ∙ ap (λ n. rank_by (index_of_moment moments taken) n order taken thread) long
 
 -- The directed run is the run of the points that stand for its moments.
 pub exposed-run : (deal : Deal) (bodies : List Pending) (order : List ℕ) (moments : List Moment)

@@ -41,28 +41,28 @@ row-same one two e p = λ i. record { order = e i; points = p i }
 
 -- ---- one order
 
-pub exposed-once : (deal : Deal) (bodies : List Pending) (order : List ℕ) (events : List Moment)
-    (steps limit : ℕ) (a b : Exposed) → Exposes deal bodies order events steps limit a
-    → Exposes deal bodies order events steps limit b → a ≡ b
-exposed-once deal bodies order events steps limit (exposed.Points p played) (exposed.Points q other)
-    one two =
+pub exposed-once : (deal : Deal) (bodies : List Pending) (order : List ℕ) (moments : List Moment)
+    (steps limit : ℕ) (a b : Exposed) → Exposes deal bodies order moments steps limit a
+    → Exposes deal bodies order moments steps limit b → a ≡ b
+exposed-once deal bodies order moments steps limit (exposed.Points p played)
+    (exposed.Points q other) one two =
     let same = run-same _ played.events other.events one.verdict two.verdict one.is_directed
     two.is_directed in
     let points : p ≡ q = one.points_are
-    ∙ (ap (λ es. points_of (schedule_of es) steps events) same.0 ∙ sym two.points_are) in
+    ∙ (ap (λ es. points_of (schedule_of es) steps moments) same.0 ∙ sym two.points_are) in
     let runs = played-same played other same.0 (one.ends ∙ (ap Ends same.1 ∙ sym two.ends)) in
     λ i. exposed.Points (points i) (runs i)
-exposed-once deal bodies order events steps limit (exposed.Points p played) (exposed.TooLong many)
+exposed-once deal bodies order moments steps limit (exposed.Points p played) (exposed.TooLong many)
     one two =
     let same = run-same _ played.events two.made one.verdict two.verdict one.is_directed
     two.is_directed in
     absurd (omega (arith, one.short, two.number, two.long, ap length same.0))
-exposed-once deal bodies order events steps limit (exposed.TooLong many) (exposed.Points q other)
+exposed-once deal bodies order moments steps limit (exposed.TooLong many) (exposed.Points q other)
     one two =
     let same = run-same _ other.events one.made two.verdict one.verdict two.is_directed
     one.is_directed in
     absurd (omega (arith, two.short, one.number, one.long, ap length same.0))
-exposed-once deal bodies order events steps limit (exposed.TooLong many) (exposed.TooLong more) one
+exposed-once deal bodies order moments steps limit (exposed.TooLong many) (exposed.TooLong more) one
     two =
     let same = run-same _ one.made two.made one.verdict two.verdict one.is_directed
     two.is_directed in

@@ -1,5 +1,5 @@
 -- The run's moments lead to the run, so what they reduce to is what is found.
-use Rattle.std.proofs.Common.{List, length, arith, ap, sym, subst, ◌∙◌}
+use Rattle.std.proofs.Common.{ℕ, List, length, arith, ap, sym, subst, ◌∙◌}
 use Rattle.turn_book.specs.Posts.{schedule_of}
 use Rattle.pct_ask.specs.Bodies.{Pending}
 use Rattle.script_code.specs.Listing.{listing}
@@ -7,17 +7,19 @@ use Rattle.script_body.proofs.laws.ScriptBodies.{code_bodies}
 use Rattle.worker_run.specs.Run.{directed_run}
 use Rattle.choices.specs.Moments.{moments_of}
 use Rattle.script_run.specs.Ready.{bodies_of_code}
+use Rattle.directive_find.specs.Reduced.{IsReduced}
 use Rattle.directive_find.specs.Found.{Finds}
 use Rattle.directive_find.specs.declared.finding.FoundOut.TheVariants.{Events, Passes}
-use Rattle.directive_find.proofs.laws.FoundMoments.{found-run, moments-few}
+use Rattle.choices.proofs.laws.FewMoments.{moments-few}
+use Rattle.directive_find.proofs.laws.FoundMoments.{found-run}
 use Rattle.directive_find.proofs.laws.Findings.{made-found, made-pass}
 use Rattle.directive_find.proofs.finding.find.Goals as goal
 
-pub reduce-requires-clause-few_events : goal.reduce-requires-clause-few_events
-reduce-requires-clause-few_events g c =
+pub reduce-requires-clause-few_moments : goal.reduce-requires-clause-few_moments
+reduce-requires-clause-few_moments g c =
     omega (
       arith,
-      ap length c.in_ok-events.ensures,
+      ap length c.in_ok-moments.ensures,
       moments-few (schedule_of c.as_slice.result.now) c.args.points.now,
       c.requires.few_points,
     )
@@ -25,12 +27,14 @@ reduce-requires-clause-few_events g c =
 pub reduce-requires-clause-leads : goal.reduce-requires-clause-leads
 reduce-requires-clause-leads g c κs within =
     let bodies = bodies_of_code (listing c.args.code.now) in
-    let all = c.in_ok-events.ensures ∙ ap (λ es. moments_of (schedule_of es) c.args.points.now)
+    let all = c.in_ok-moments.ensures ∙ ap (λ es. moments_of (schedule_of es) c.args.points.now)
     c.as_slice.ensures in
     record {
       made = c.in_ok-whole.whole.events;
       is_directed =
-          ap (λ ms. directed_run c.args.deal.now bodies c.args.order.now ms
+          ap (λ (most : ℕ). directed_run c.args.deal.now bodies c.args.order.now
+          c.in_ok-moments.moments most) c.new-limit.ensures
+          ∙ ap (λ ms. directed_run c.args.deal.now bodies c.args.order.now ms
           c.args.limit) all
           ∙ found-run c.args.deal.now bodies c.args.order.now c.args.points.now
           c.args.limit c.in_ok-whole.whole.events c.in_ok-whole.whole.verdict c.requires.order
@@ -59,13 +63,14 @@ returns g c = λ script of.
     let points = c.args.points.now in
     let whole = c.in_ok-whole.whole in
     let short = c.in_ok-short.short in
-    let all = c.in_ok-events.ensures ∙ ap (λ es. moments_of (schedule_of es) points)
+    let all = c.in_ok-moments.ensures ∙ ap (λ es. moments_of (schedule_of es) points)
     c.as_slice.ensures in
     let B : List Pending → Type 0 = λ bodies. Finds deal bodies order points c.args.limit
-    (Events short.events whole.verdict short.steps) in
+    (Events short.moments whole.verdict short.steps) in
     subst B (code_bodies script code of.is_code)
     (made-found deal (bodies_of_code code) order c.args.limit points whole.events whole.verdict
-    c.in_ok-events.events short c.requires.order c.requires.whole c.requires.points
+    c.in_ok-moments.moments short c.requires.order c.requires.whole c.requires.points
     c.in_ok-whole.ensures.few c.in_ok-whole.ensures.code
     (λ same. let told = c.is.ensures.1 same in let other = c.if-is.false in cc) all
-    c.in_ok-short.ensures)
+    (subst (λ (most : ℕ). IsReduced deal (bodies_of_code code) order most whole.verdict
+    c.in_ok-moments.moments short) c.new-limit.ensures c.in_ok-short.ensures))

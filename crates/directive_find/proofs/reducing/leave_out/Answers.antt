@@ -1,5 +1,5 @@
 -- Each moment is needed so far, or is left out.
-use Rattle.std.proofs.Common.{arith, ap, sym, ◌∙◌}
+use Rattle.std.proofs.Common.{ℕ, arith, ap, sym, ◌∙◌}
 use Rattle.script_code.specs.Listing.{listing}
 use Rattle.worker_run.specs.Run.{directed_run}
 use Rattle.script_run.specs.Ready.{bodies_of_code}
@@ -11,10 +11,13 @@ returns-then-is-clause-leaves g c =
     let ready = c.args.ready.now in
     let bodies = bodies_of_code (listing ready.code.now) in
     left-out ready.deal.now bodies c.args.order.now c.args.limit c.args.verdict.now
-    c.args.events.now c.in_ok-rest.rest c.loop-place.place c.in_ok-whole.whole.events
+    c.args.moments.now c.in_ok-rest.rest c.loop-place.place c.in_ok-whole.whole.events
     c.in_ok-whole.whole.verdict
     c.in_ok-rest.ensures (ap (λ es. directed_run ready.deal.now bodies c.args.order.now
-    es c.args.limit) (sym c.as_slice-left.ensures) ∙ c.in_ok-whole.ensures.code)
+    es c.args.limit) (sym c.as_slice-left.ensures)
+    ∙ ap (λ (most : ℕ). directed_run ready.deal.now bodies c.args.order.now
+    c.as_slice-left.result.now most) (sym c.steps-most.ensures.number)
+    ∙ c.in_ok-whole.ensures.code)
     c.loop-place.invariant c.len-steps.result c.loop-place-test.true
     (c.is.ensures.0 c.if-is.true) c.len-steps.ensures
 
@@ -23,10 +26,13 @@ loop-place-preserved g c =
     let ready = c.args.ready.now in
     let bodies = bodies_of_code (listing ready.code.now) in
     one-more ready.deal.now bodies c.args.order.now c.args.limit c.args.verdict.now
-    c.args.events.now c.in_ok-rest.rest c.loop-place.place c.in_ok-whole.whole.events
+    c.args.moments.now c.in_ok-rest.rest c.loop-place.place c.in_ok-whole.whole.events
     c.in_ok-whole.whole.verdict
     c.in_ok-rest.ensures (ap (λ es. directed_run ready.deal.now bodies c.args.order.now
-    es c.args.limit) (sym c.as_slice-left.ensures) ∙ c.in_ok-whole.ensures.code)
+    es c.args.limit) (sym c.as_slice-left.ensures)
+    ∙ ap (λ (most : ℕ). directed_run ready.deal.now bodies c.args.order.now
+    c.as_slice-left.result.now most) (sym c.steps-most.ensures.number)
+    ∙ c.in_ok-whole.ensures.code)
     c.loop-place.invariant
     (λ same. let told = c.is.ensures.1 same in let other = c.if-is.false in cc)
 

@@ -7,4 +7,4 @@ use Rattle.directive_find.proofs.reducing.leave_out.Given as goal
 abbrev pub invariant-loop-place : goal.invariant-loop-place
 invariant-loop-place g l =
     NeedsFirst (HasVerdict l.ready.deal.now (bodies_of_code (listing l.ready.code.now)) l.order
-    l.limit l.verdict) l.events l.place
+    l.fn.limit l.verdict) l.moments l.place

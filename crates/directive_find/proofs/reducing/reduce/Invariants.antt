@@ -11,12 +11,12 @@ invariant-rounds g l =
     let deal = l.ready.deal.now in
     let bodies = bodies_of_code (listing l.ready.code.now) in
     record {
-      few : length l.short.events ≤ 7;
-      leads : LeadsTo deal bodies l.order l.limit l.verdict l.short.events l.short.steps;
+      few : length l.short.moments ≤ 7;
+      leads : LeadsTo deal bodies l.order l.limit l.verdict l.short.moments l.short.steps;
       rest : (left : List Moment)
-          → Reduces (HasVerdict deal bodies l.order l.limit l.verdict) l.short.events left
-          → Reduces (HasVerdict deal bodies l.order l.limit l.verdict) l.fn.whole.events left;
+          → Reduces (HasVerdict deal bodies l.order l.limit l.verdict) l.short.moments left
+          → Reduces (HasVerdict deal bodies l.order l.limit l.verdict) l.fn.whole.moments left;
     }
 
 abbrev pub decreases-rounds : goal.decreases-rounds
-decreases-rounds g l = length l.short.events
+decreases-rounds g l = length l.short.moments

@@ -73,5 +73,7 @@ returns g c = λ script of.
     c.args.limit (Yes c.bound_of-bound.result c.batches.rows) in
     subst B (code_bodies script code of.is_code)
     (certified deal (bodies_of_code code) directive c.args.steps c.args.limit c.requires.low
-    c.batches.rows c.bound_of-bound.result c.requires.some_steps few rows
-    (c.bound_of-bound.ensures ∙ ap (λ n. deal.threads * c.args.steps ^ n) c.len.ensures))
+    c.batches.rows c.bound_of-bound.result
+    (omega (arith, c.steps.ensures.number, c.steps.ensures.fits.0)) few rows
+    (c.bound_of-bound.ensures ∙ ap (λ n. deal.threads * c.steps.result ^ n) c.len.ensures
+    ∙ ap (λ s. deal.threads * s ^ length directive.events) c.steps.ensures.number))

@@ -15,7 +15,7 @@ invariant-batches g l = record {
     bodies = bodies_of_code (listing l.code);
     directive = l.directive;
     steps = l.steps;
-    limit = l.limit;
+    limit = l.fn.limit;
   }) l.rows l.start;
 }
 

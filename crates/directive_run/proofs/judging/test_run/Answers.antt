@@ -11,22 +11,23 @@ use Rattle.directive_run.proofs.judging.test_run.Goals as goal
 pub verdict-verdict-requires : goal.verdict-verdict-requires
 verdict-verdict-requires c = let run = (c.requires.run.1).run in (run.verdict, run.ends)
 
-pub returns-then-many-task : goal.returns-then-many-task
-returns-then-many-task c = λ order is.
+pub returns-then-many-most : goal.returns-then-many-most
+returns-then-many-most c = λ order is.
     let setup = directed_setup c.args.task.now in
-    let events = setup.directive.events in
+    let all = setup.directive.events in
     let made = c.args.played.now.events in
     let verdict = c.verdict-verdict.result in
     let ran =
     ended-run (run_of_order setup order) made c.args.played.now.outcome verdict is.run
     c.verdict-verdict.ensures in
-    too-long setup.deal setup.bodies order events events setup.steps setup.limit c.len-many.result
-    made verdict refl ran c.len-many.ensures c.if-many-task.true
+    too-long setup.deal setup.bodies order all all setup.steps setup.limit c.len-many.result
+    made verdict refl ran c.len-many.ensures
+    (omega (arith, c.if-many-most.true, c.steps-most.ensures.number))
 
 pub returns-then-not-is : goal.returns-then-not-is
 returns-then-not-is c = λ order is.
     let setup = directed_setup c.args.task.now in
-    let events = setup.directive.events in
+    let all = setup.directive.events in
     let made = c.args.played.now.events in
     let verdict = c.verdict-verdict.result in
     let ran =
@@ -36,23 +37,24 @@ returns-then-not-is c = λ order is.
     let yes : c.is.result ≡ true = c.is.ensures.1 same in
     let no : c.is.result ≡ false = c.if-not-is.true in
     cc in
-    other setup.deal setup.bodies order events events setup.directive.verdict verdict setup.steps
+    other setup.deal setup.bodies order all all setup.directive.verdict verdict setup.steps
     setup.limit made refl ran apart
-    (omega (arith, c.len-many.ensures, c.if-many-task.false))
+    (omega (arith, c.len-many.ensures, c.if-many-most.false, c.steps-most.ensures.number))
 
 pub returns : goal.returns
 returns c = λ order is.
     let setup = directed_setup c.args.task.now in
-    let events = setup.directive.events in
+    let all = setup.directive.events in
     let made = c.args.played.now.events in
     let verdict = c.verdict-verdict.result in
     let moments = c.as_slice-moments.result.now in
     let ran =
     ended-run (run_of_order setup order) made c.args.played.now.outcome verdict is.run
     c.verdict-verdict.ensures in
-    pointed setup.deal setup.bodies order events events setup.directive.verdict verdict setup.steps
+    pointed setup.deal setup.bodies order all all setup.directive.verdict verdict setup.steps
     setup.limit made c.in_ok-points_of.field-0 refl ran (c.is.ensures.0 c.if-not-is.false)
-    (omega (arith, c.len-many.ensures, c.if-many-task.false))
+    (omega (arith, c.len-many.ensures, c.if-many-most.false, c.steps-most.ensures.number))
     (c.in_ok-points_of.ensures
-    ∙ ap (λ es. points_of (schedule_of es) setup.steps moments) c.as_slice.ensures
+    ∙ ap (λ es. points_of (schedule_of es) c.steps-most.result moments) c.as_slice.ensures
+    ∙ ap (λ s. points_of (schedule_of made) s moments) c.steps-most.ensures.number
     ∙ ap (points_of (schedule_of made) setup.steps) c.as_slice-moments.ensures)

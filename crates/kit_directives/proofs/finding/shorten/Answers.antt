@@ -7,7 +7,7 @@ use Rattle.kit_directives.proofs.finding.shorten.Goals as goal
 
 pub invariant_of-result : goal.invariant_of-result
 invariant_of-result g c = record {
-  few = (let fewer = left-short c.in_ok-whole.whole.events c.in_ok-short.short.events
+  few = (let fewer = left-short c.in_ok-whole.whole.moments c.in_ok-short.short.moments
       c.in_ok-short.ensures.left in
       omega (arith, fewer, c.in_ok-whole.ensures.few));
 }
@@ -19,7 +19,7 @@ returns g c = record {
   verdict = refl;
   fails = c.requires.fails;
   low = c.in_ok-low.ensures;
-  left = subst (λ (ms : List Moment). IsLeftOf ms c.in_ok-short.short.events)
+  left = subst (λ (ms : List Moment). IsLeftOf ms c.in_ok-short.short.moments)
       c.in_ok-whole.ensures.moments c.in_ok-short.ensures.left;
   leads = c.in_ok-short.ensures.leads;
   needed = c.in_ok-short.ensures.needed;

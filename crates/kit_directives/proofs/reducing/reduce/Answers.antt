@@ -6,15 +6,15 @@ use Rattle.kit_directives.proofs.reducing.reduce.Goals as goal
 
 pub rounds-init : goal.rounds-init
 rounds-init g c = record {
-  few = c.requires.few_events;
+  few = c.requires.few_moments;
   leads = c.requires.leads;
-  left = Whole c.args.whole.events;
+  left = Whole c.args.whole.moments;
 }
 
 pub rounds-preserved : goal.rounds-preserved
 rounds-preserved g c =
     let leaves = some-leaves c.args.deal.now c.args.order.now c.args.limit c.args.verdict.now
-    c.rounds.short.events c.as_slice.result.now c.in_ok-shorter.field-0 c.as_slice.ensures
+    c.rounds.short.moments c.as_slice.result.now c.in_ok-shorter.field-0 c.as_slice.ensures
     c.in-Some.shorter c.in-Some.is c.in_ok-shorter.ensures.leaves in
     record {
       few =
@@ -23,7 +23,7 @@ rounds-preserved g c =
           omega (arith, fewer, ap length c.as_slice.ensures, c.rounds.invariant.few));
       leads = leaves.3;
       left = one-round c.args.deal.now c.args.order.now c.args.limit c.args.verdict.now
-          c.args.whole.events c.rounds.short.events c.in-Some.shorter leaves
+          c.args.whole.moments c.rounds.short.moments c.in-Some.shorter leaves
           c.rounds.invariant.left;
     }
 
@@ -32,6 +32,6 @@ returns g c = record {
   left = c.rounds.invariant.left;
   leads = c.rounds.invariant.leads;
   needed = none-leaves c.args.deal.now c.args.order.now c.args.limit c.args.verdict.now
-      c.rounds.short.events c.as_slice.result.now c.in_ok-shorter.field-0 c.as_slice.ensures
+      c.rounds.short.moments c.as_slice.result.now c.in_ok-shorter.field-0 c.as_slice.ensures
       c.in_default.is c.in_ok-shorter.ensures.leaves;
 }

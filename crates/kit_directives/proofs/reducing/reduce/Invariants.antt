@@ -6,10 +6,10 @@ use Rattle.kit_directives.proofs.reducing.reduce.Given as goal
 -- what is left so far leads to the verdict
 abbrev pub invariant-rounds : goal.invariant-rounds
 invariant-rounds g l = record {
-  few : length l.short.events ≤ 7;
-  leads : LeadsTo l.deal l.order l.limit l.verdict l.short.events l.short.steps;
-  left : IsLeftOf l.fn.whole.events l.short.events;
+  few : length l.short.moments ≤ 7;
+  leads : LeadsTo l.deal l.order l.limit l.verdict l.short.moments l.short.steps;
+  left : IsLeftOf l.fn.whole.moments l.short.moments;
 }
 
 abbrev pub decreases-rounds : goal.decreases-rounds
-decreases-rounds g l = length l.short.events
+decreases-rounds g l = length l.short.moments

@@ -26,5 +26,6 @@ pub returns-clause-run : goal.returns-clause-run
 returns-clause-run c =
     let task = c.args.self.now in
     order-tried (directed_setup task) c.args.place c.test_by_events.result c.in_ok-order.order
-    c.as_slice-order.result.now c.as_slice-events.result.now task.small_limit c.in_ok-order.ensures
-    c.as_slice-order.ensures c.as_slice-events.ensures c.test_by_events.ensures.run
+    c.as_slice-order.result.now c.as_slice-moments.result.now c.steps-limit.result
+    c.steps-limit.ensures.fits.1 c.steps-limit.ensures.number c.in_ok-order.ensures
+    c.as_slice-order.ensures c.as_slice-moments.ensures c.test_by_events.ensures.run
