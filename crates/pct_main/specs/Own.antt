@@ -8,7 +8,7 @@ use Rattle.pct_outside.specs.Piece.{IsAppended, IsPartAppended}
 use Rattle.pct_top.specs.declared.refusal.Refusal.TheVariants.{Write, Memory}
 use Rattle.pct_top.specs.declared.status.Status.{Status}
 use Rattle.pct_top.specs.declared.status.Status.TheVariants.{Done, WriteFault, NoMemory}
-use Rattle.pct_top.specs.Outside.{StreamTold}
+use Rattle.pct_outside.specs.Told.{StreamTold}
 use Rattle.pct_top.specs.Refusing.{refusal_line}
 use Rattle.pct_top.specs.Saying.{SaysLine}
 use Rattle.pct_main.specs.declared.explanations.TheConstants.{EXPLANATIONS}

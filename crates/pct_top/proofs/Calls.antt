@@ -15,7 +15,8 @@ use Rattle.pct_top.specs.Saying.{SaysLine}
 use Rattle.pct_top.specs.Printed.{Files, Printed, printed_refusal}
 use Rattle.pct_top.specs.Output.{OfTaken, Output}
 use Rattle.pct_top.specs.Outcome.{printed_of, ShowsFiles, Comes}
-use Rattle.pct_top.specs.Outside.{ShelfTold, StreamTold, Outside}
+use Rattle.pct_outside.specs.Told.{ShelfTold, StreamTold}
+use Rattle.pct_top.specs.Outside.{Outside}
 use Rattle.pct_top.specs.Call.{IsCarriedOut, PrintsOne, PutsAll, PutsOutcome, RefusedFirst}
 use Rattle.pct_top.specs.Call.{ReadFailed}
 use Rattle.pct_top.specs.Call.{Answers, RefusedWords, CanRun, Completes, PrintsAll, IsExact}

@@ -1,6 +1,6 @@
 -- What a sweep that is carried out says of its script.
-use Rattle.std.specs.Prelude.{Contains, ◌==◌, ◌-◌}
-use Rattle.std.proofs.Common.{◌≡◌, ◌≢◌, ℕ, zero, suc, ◌+◌, ◌*◌, ◌^◌, ◌<◌, ◌≤◌, Bool, true, false}
+use Rattle.std.specs.Prelude.{◌==◌, ◌-◌}
+use Rattle.std.proofs.Common.{◌≡◌, ℕ, zero, suc, ◌+◌, ◌*◌, ◌^◌, ◌<◌, ◌≤◌, Bool, true, false}
 use Rattle.std.proofs.Common.{inl, inr}
 use Rattle.std.proofs.Common.{List, length, take, Option, Some, Ok, refl, sym, ap, subst, ◌∙◌}
 use Rattle.std.proofs.Common.{arith}
@@ -8,9 +8,7 @@ use Rattle.std.proofs.Math.Nat.{mul-le-mul_left}
 use Rattle.std.proofs.lemmas.Bool.{cases_lt}
 use Rattle.std.proofs.lemmas.Bool.Decides.{nat_tests}
 use Rattle.pct_ask.specs.declared.Deal.{Deal}
-use Rattle.pct_ask.specs.declared.event.Event.{Event}
 use Rattle.pct_ask.specs.declared.verdict.Verdict.{Verdict}
-use Rattle.pct_ask.specs.declared.verdict.Verdict.TheVariants.{Passed}
 use Rattle.script_tree.specs.ScriptText.{ScriptText}
 use Rattle.script_tree.specs.DealOf.{IsDealOf}
 use Rattle.script_tree.specs.Grammar.{Spells}
@@ -19,9 +17,8 @@ use Rattle.worker_run.specs.declared.serving.Serve.{Serve}
 use Rattle.worker_run.specs.Run.{run}
 use Rattle.choices.specs.Orders.{factorial}
 use Rattle.choices.specs.Counting.{hits}
-use Rattle.choices.specs.Laws.{IsOrderOf, ArePoints}
+use Rattle.choices.specs.Laws.{IsOrderOf}
 use Rattle.directive.specs.DirectiveText.{DirectiveText}
-use Rattle.failure_rank.specs.declared.group.Group.{Group}
 use Rattle.sweep.specs.Choices.{choice_count, most_choices}
 use Rattle.sweep.specs.Rows.{Setup}
 use Rattle.sweep.specs.Swept.{Sweeps, IsFailure, AllPass, hits_of, IsCounted as CountsChoices}
@@ -42,7 +39,7 @@ use Rattle.pct_top.specs.commands.Campaign.{frame_of}
 use Rattle.pct_top.specs.commands.Sweep.{swept_setup, sweep_report, too_many_text, PrintsAnswer}
 use Rattle.pct_top.specs.commands.Sweep.{OfChoices, OfSweep}
 use Rattle.pct_top.specs.Cleared.{EveryRunPasses, TellsChoices, IsSwept, SweptAreCleared}
-use Rattle.pct_top.specs.Cleared.{TellsAtLeast, AgreesWith, CertifiedAreSwept}
+use Rattle.pct_top.specs.Cleared.{TellsAtLeast, CertifiedAreSwept}
 use Rattle.pct_top.proofs.Counts.{certified_counted}
 use Rattle.pct_top.proofs.OptionRanges.{words-lawful}
 use Rattle.pct_top.proofs.Refusals.{not_refused}

@@ -28,7 +28,7 @@ use Rattle.pct_top.specs.Outcome.{printed_of, GivesPrinted, ShowsFiles, Comes}
 use Rattle.pct_top.specs.Files.{HasText, Misses, GivesTest, GivesText, GivesTrace, HasTrace}
 use Rattle.pct_top.specs.Files.{GivesDirective, HasDirective}
 use Rattle.pct_top.specs.Reads.{KeepsFile}
-use Rattle.pct_top.specs.Outside.{ShelfTold}
+use Rattle.pct_outside.specs.Told.{ShelfTold}
 use Rattle.pct_top.specs.Call.{IsGained, MissesSecond, ReadFailed}
 
 -- ---- what was read

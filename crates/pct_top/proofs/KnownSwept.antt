@@ -1,6 +1,6 @@
 -- The groups of a script's sweep name only what the script has.
 use Rattle.std.specs.Prelude.{slice_get}
-use Rattle.std.proofs.Common.{◌≡◌, ℕ, ◌<◌, List, [], ◌∷◌, length, map, Option, Some, None, refl}
+use Rattle.std.proofs.Common.{◌≡◌, ℕ, ◌<◌, List, [], ◌∷◌, length, Some, refl}
 use Rattle.std.proofs.Common.{sym}
 use Rattle.std.proofs.Common.{subst, ap, ◌∙◌, arith}
 use Rattle.std.specs.Prelude.{All}
@@ -10,7 +10,6 @@ use Rattle.std.proofs.lemmas.List.{get_or_default}
 use Rattle.std.proofs.lemmas.Option.{slice_get_within}
 use Rattle.pct_ask.specs.declared.Deal.{Deal}
 use Rattle.pct_ask.specs.declared.verdict.Outcome.TheVariants.{Verdict as Ends}
-use Rattle.rank_now.specs.Order.{IsOrder}
 use Rattle.script_tree.specs.ScriptText.{ScriptText}
 use Rattle.script_tree.specs.Fitting.{IsScript}
 use Rattle.script_tree.specs.DealOf.{IsDealOf}
@@ -27,7 +26,7 @@ use Rattle.sweep.specs.declared.choice.Choice.{Choice}
 use Rattle.sweep.specs.declared.sweeping.Swept.{Swept}
 use Rattle.sweep.proofs.Laws.{sweeps_counted, listed-choice, length-choices}
 use Rattle.pct_top.specs.commands.Campaign.{frame_of}
-use Rattle.pct_top.specs.commands.Sweep.{swept_setup, count_in, told_as, told_group, AreTold}
+use Rattle.pct_top.specs.commands.Sweep.{swept_setup, told_as, told_group, AreTold}
 use Rattle.pct_top.proofs.KnownRuns.{known-run}
 
 -- the first choice of a group is one of all

@@ -1,17 +1,15 @@
 -- The report on a sweep is one thing.
-use Rattle.std.proofs.Common.{◌≡◌, ℕ, ◌<◌, ◌≤◌, inl, inr, List, [], ◌∷◌, length, map, Bool, false}
+use Rattle.std.proofs.Common.{◌≡◌, ℕ, List, [], ◌∷◌, length, map, Bool, false}
 use Rattle.std.proofs.Common.{Option, Some, sym, subst, ap, ◌∙◌, arith, refl}
 use Rattle.std.specs.Prelude.{◌==◌}
 use Rattle.pct_ask.specs.declared.Deal.{Deal}
 use Rattle.pct_ask.specs.declared.event.Row.{Row}
 use Rattle.script_tree.specs.ScriptText.{ScriptText}
-use Rattle.failure_rank.specs.declared.group.Group.{Group}
 use Rattle.failure_rank.specs.Groups.{IsRanking, rows_with}
 use Rattle.failure_rank.proofs.Laws.{one_ranking}
 use Rattle.pct_ask.specs.declared.verdict.Verdict.TheVariants.{Passed}
 use Rattle.report_text.specs.declared.frame.Frame.{Frame}
 use Rattle.report_text.specs.declared.swept.SweptGroup.{SweptGroup}
-use Rattle.sweep.specs.Choices.{choice_count, most_choices}
 use Rattle.sweep.specs.Rows.{Setup}
 use Rattle.sweep.specs.Swept.{Sweeps, IsSweep}
 use Rattle.sweep.specs.declared.sweeping.Swept.{Swept}
@@ -19,7 +17,7 @@ use Rattle.sweep.specs.declared.sweeping.Answer.{Answer}
 use Rattle.sweep.specs.declared.sweeping.Answer.TheVariants.{Whole, TooMany}
 use Rattle.pct_top.specs.Printed.{Printed, printed_text}
 use Rattle.pct_top.specs.commands.Campaign.{frame_of}
-use Rattle.pct_top.specs.commands.Sweep.{swept_setup, AreTold, sweep_report, too_many_text}
+use Rattle.pct_top.specs.commands.Sweep.{swept_setup, sweep_report, too_many_text}
 use Rattle.pct_top.specs.commands.Sweep.{PrintsAnswer, OfChoices, OfSweep}
 use Rattle.pct_top.specs.Call.{IsCarriedOut}
 use Rattle.pct_top.proofs.OneReport.{answers_as, one_count}

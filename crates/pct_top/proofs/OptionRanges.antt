@@ -19,7 +19,7 @@ use Rattle.pct_top.specs.declared.settings.Settings.TheVariants.{RunSeed, Big, R
 use Rattle.pct_top.specs.declared.settings.WordsError.{WordsError}
 use Rattle.pct_ask.specs.Numbers.{number_in, onto_front, step_count, step_counts}
 use Rattle.pct_ask.proofs.laws.Decimals.{number_in-Some}
-use Rattle.pct_ask.specs.Limits.{IsStepCount}
+use Rattle.pct_ask.specs.Limits.{IsStepCount, IsDepth}
 use Rattle.pct_top.specs.Values.{items_of, order_in, points_in, seed_in, depth_in, form_in}
 use Rattle.pct_top.specs.Values.{serve_in}
 use Rattle.pct_top.specs.Values.{pieces_in}
@@ -34,7 +34,7 @@ use Rattle.pct_top.specs.Settings.{expose_by, expose_with, certify_by, certify_w
 use Rattle.pct_top.specs.Settings.{ReadsWordsAs}
 use Rattle.pct_top.specs.Table.{command_named}
 use Rattle.pct_top.specs.Settings.{sweep_by, sweep_with, settings_by, settings}
-use Rattle.pct_top.specs.Settings.{ArePoints, IsDepth, AreLawful, serve_of}
+use Rattle.pct_top.specs.Settings.{ArePoints, AreLawful, serve_of}
 use Rattle.pct_top.proofs.OptionLists.{kept}
 
 -- ---- ranges

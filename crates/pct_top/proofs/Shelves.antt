@@ -1,6 +1,6 @@
 -- What the reads of a call leave of the shelf.
-use Rattle.std.proofs.Common.{◌≡◌, ℕ, List, [], ◌∷◌, ◌++◌, inl, inr, Option, Some, None, Result, Ok}
-use Rattle.std.proofs.Common.{Err, Bool, true, false, refl, sym, subst, ap, ◌∙◌}
+use Rattle.std.proofs.Common.{◌≡◌, ℕ, List, [], ◌∷◌, inl, inr, Option, Some, None, Result, Ok}
+use Rattle.std.proofs.Common.{Err, Bool, true, false, refl, sym, ◌∙◌}
 use Rattle.std.specs.Prelude.{◌||◌}
 use Rattle.script_tree.specs.ScriptText.{ScriptText}
 use Rattle.script_tree.specs.Grammar.{Spells}
@@ -20,7 +20,7 @@ use Rattle.pct_top.specs.Printed.{Printed}
 use Rattle.pct_top.specs.Refusing.{status_of_refusal}
 use Rattle.pct_top.specs.Output.{script_file, script_text, order_given, second_file}
 use Rattle.pct_top.specs.Files.{HasText}
-use Rattle.pct_top.specs.Outside.{ShelfTold, StreamTold}
+use Rattle.pct_outside.specs.Told.{ShelfTold, StreamTold}
 use Rattle.pct_top.specs.Reads.{ReadMade, is_read, is_unread, KeepsFile, KeepsSecond}
 use Rattle.pct_top.specs.Call.{LeavesShelf, PutsOutcome, RefusedFirst, IsCarriedOut}
 use Rattle.pct_top.specs.Call.{is_read_fault}

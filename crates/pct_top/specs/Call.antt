@@ -22,7 +22,8 @@ use Rattle.pct_top.specs.Output.{OfTaken, Output}
 use Rattle.pct_top.specs.Outcome.{ShowsFiles}
 use Rattle.pct_top.specs.Files.{Misses}
 use Rattle.pct_top.specs.Reads.{ReadMade, KeepsReads, some_failed}
-use Rattle.pct_top.specs.Outside.{ShelfTold, StreamTold, Outside}
+use Rattle.pct_outside.specs.Told.{ShelfTold, StreamTold}
+use Rattle.pct_top.specs.Outside.{Outside}
 use Rattle.pct_top.specs.Saying.{SaysLine}
 
 -- ---- reads that failed

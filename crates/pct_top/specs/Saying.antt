@@ -1,7 +1,7 @@
 -- What is said on the error stream (this project).
 use Rattle.std.specs.Prelude.{ℕ, List, ◌⊎◌}
 use Rattle.pct_outside.specs.Piece.{IsAppended, IsPartAppended}
-use Rattle.pct_top.specs.Outside.{StreamTold, StreamFails}
+use Rattle.pct_outside.specs.Told.{StreamTold, StreamFails}
 
 -- The line was said whole. It may be a prefix of it only where the stream fails.
 abbrev pub SaysLine : List ℕ → StreamTold → StreamTold → Type 0

@@ -2,7 +2,7 @@
 use Rattle.std.specs.Prelude.{◌≡◌, ℕ, ◌+◌, ◌≤◌, List, [], ◌∷◌, length, All, Option, Some}
 use Rattle.std.specs.Prelude.{None, IfSome, Result, Ok, Err}
 use Rattle.std.specs.Option.{option_map, option_and_then, unwrap_or}
-use Rattle.pct_ask.specs.Limits.{IsStepCount}
+use Rattle.pct_ask.specs.Limits.{IsStepCount, IsDepth}
 use Rattle.worker_run.specs.declared.serving.Serve.{Serve}
 use Rattle.worker_run.specs.declared.serving.Serve.TheVariants.{Threads}
 use Rattle.pct_top.specs.declared.command.Command.{Command}
@@ -19,7 +19,7 @@ use Rattle.pct_top.specs.declared.words.TwoFiles.{TwoFiles}
 use Rattle.pct_top.specs.Table.{command_named}
 use Rattle.pct_top.specs.Values.{pieces_in}
 use Rattle.pct_top.specs.Options.{OptionsOrWord, no_options, options_from, is_json}
-use Rattle.pct_ask.specs.declared.limits.TheConstants.{MAX_DEPTH, MAX_POINTS}
+use Rattle.pct_ask.specs.declared.limits.TheConstants.{MAX_POINTS}
 
 -- how many steps a run may have where nothing else is said
 unfoldable pub default_limit : ℕ
@@ -227,10 +227,6 @@ ReadsWordsAs (Err NoMemory) taken = Unit {0}
 -- at most seven change points, each in 1..100000
 abbrev pub ArePoints : List ℕ → Type 0
 ArePoints points = (length points ≤ MAX_POINTS) × All IsStepCount points
-
--- a depth is in 1..8: one more than a run's change points, of which there are at most seven
-abbrev pub IsDepth : ℕ → Type 0
-IsDepth depth = (1 ≤ depth) × (depth ≤ MAX_DEPTH)
 
 -- the points, the depth, the numbers of steps, of seeds and of pieces are in their ranges
 abbrev pub AreLawful : Settings → Type 0

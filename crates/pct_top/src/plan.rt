@@ -80,7 +80,7 @@ pub fn plan_of(settings: Settings) -> Plan
             task: Task::Campaign(CampaignTask {
                 first,
                 count,
-                depth,
+                depth: Depth::new(depth),
                 steps,
                 limit: Limit::new(limit),
                 json,
@@ -118,7 +118,7 @@ pub fn plan_of(settings: Settings) -> Plan
             file,
             task: Task::Certify(CertifyTask {
                 directive,
-                steps,
+                steps: Limit::new(steps),
                 limit: Limit::new(limit),
                 serve,
             }),
@@ -133,7 +133,7 @@ pub fn plan_of(settings: Settings) -> Plan
         } => Plan::OfFile {
             file,
             task: Task::Sweep(SweepTask {
-                depth,
+                depth: Depth::new(depth),
                 steps,
                 limit: Limit::new(limit),
                 json,

@@ -6,7 +6,7 @@ ghost use Rattle.pct_ask.specs.Words.{is_name};
 ghost use Rattle.pct_top.specs.Values as values;
 
 use crate::text::{Text, TextList};
-use pct_ask::{PointList, first_pieces, is_lawful_name, number_in, step_counts};
+use pct_ask::{MAX_THREADS, PointList, first_pieces, is_lawful_name, number_in, step_counts};
 use std::alloc::{AllocError as NoMemory, Global};
 use worker_run::Serve;
 
@@ -29,12 +29,12 @@ fn are_names(items: &[Text]) -> bool
         .all(|item| is_lawful_name(1, item.as_str().as_bytes()))
 }
 
-/// The names that a value lists, where it lists one to 64 names that are lawful.
+/// The names that a value lists, where it lists one to `MAX_THREADS` names that are lawful.
 pub fn order_in(alloc: Global, value: &str) -> Result<Option<TextList>, NoMemory>
     ensures { IfOk result (λ names. names ≡ values.order_in value.now) }
 {
     let items = items_of(alloc, value)?;
-    let lawful = items.len() <= 64 && are_names(items.as_slice());
+    let lawful = items.len() <= MAX_THREADS && are_names(items.as_slice());
     Ok(lawful.then_some(items))
 }
 

@@ -5,7 +5,7 @@ use Rattle.pct_outside.specs.declared.sinks.SinkError.{SinkError}
 use Rattle.pct_outside.specs.declared.sinks.SinkError.TheVariants.{Failed, NoMemory}
 use Rattle.pct_top.specs.declared.refusal.Refusal.{Refusal}
 use Rattle.pct_top.specs.declared.status.Status.{Status}
-use Rattle.pct_top.specs.Outside.{StreamTold}
+use Rattle.pct_outside.specs.Told.{StreamTold}
 use Rattle.pct_top.specs.Refusing.{IsOfSink, status_of_refusal, refusal_line}
 use Rattle.pct_top.specs.Saying.{SaysLine}
 use Rattle.pct_main.specs.Own.{IsPut}

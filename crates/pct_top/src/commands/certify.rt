@@ -7,7 +7,6 @@ ghost use Rattle.directive.specs.Directive.{IsDirective};
 ghost use Rattle.pct_ask.specs.TraceText.{line_text};
 ghost use Rattle.pct_ask.specs.VerdictText.{thread_name, named_verdict, verdict_words, HasNames};
 ghost use Rattle.pct_ask.specs.VerdictText.{IsWholeVerdict};
-ghost use Rattle.pct_ask.specs.Limits.{IsStepCount};
 ghost use Rattle.script_tree.specs.ScriptSeen.{plain_script};
 ghost use Rattle.trace_text.specs.Spaced.{behind_spaces};
 ghost use Rattle.pct_top.specs.Ready.{IsReadyTest};
@@ -151,10 +150,9 @@ fn is_certified(certified: &Certified) -> bool
 #[derive(Debug, Drop)]
 pub struct CertifyTask {
     pub directive: Text,
-    pub steps: u32,
+    pub steps: Limit,
     pub limit: Limit,
     pub serve: Serve,
-    ghost steps_fit: { IsStepCount steps },
 }
 
 impl CertifyTask {
@@ -172,9 +170,8 @@ impl CertifyTask {
         ensures { IfOk result (λ outcome. PrintsCertificate (plain_script test.now.script)
             test.now.deal self.now.steps self.now.limit directive.now (printed_of outcome)) }
     {
-        let limit = self.limit.steps();
         let certified = certify_by(
-            rt, alloc, &test.code, &test.deal, directive, self.steps, limit, self.serve, gate,
+            rt, alloc, &test.code, &test.deal, directive, self.steps, self.limit, self.serve, gate,
         )?;
         let text = write_certificate(alloc, test.script.names(), &certified)?;
         let done = is_certified(&certified);

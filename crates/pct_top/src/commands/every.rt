@@ -9,7 +9,6 @@ ghost use Rattle.report_text.specs.declared.swept.SweptGroup.{SweptGroup};
 ghost use Rattle.failure_rank.specs.declared.group.Group.{Group};
 ghost use Rattle.sweep.specs.Choices.{most_choices};
 ghost use Rattle.pct_top.specs.Ready.{IsReadyTest};
-ghost use Rattle.pct_top.specs.Settings.{IsDepth};
 ghost use Rattle.pct_top.specs.Outcome.{printed_of};
 ghost use Rattle.pct_top.specs.commands.Sweep.{count_in, told_group, AreTold, sweep_report};
 ghost use Rattle.pct_top.specs.commands.Sweep.{too_many_text, OfSweep};
@@ -19,7 +18,7 @@ use crate::outcome::Outcome;
 use crate::run_plan::steps_of;
 use crate::test::Test;
 use failure_rank::Group;
-use pct_ask::Limit;
+use pct_ask::{Depth, Limit};
 use pct_outside::Gate;
 use report_text::{Frame, SweptGroup, sweep_json, sweep_text};
 use script_tree::Script;
@@ -101,12 +100,11 @@ fn too_many(alloc: Global, threads: u32) -> Result<Vec<u8>, NoMemory>
 /// The report on all choices of an order of a script's threads and of `depth - 1` change points.
 #[derive(Debug, Drop)]
 pub struct SweepTask {
-    pub depth: u32,
+    pub depth: Depth,
     pub steps: Option<u32>,
     pub limit: Limit,
     pub json: bool,
     pub serve: Serve,
-    ghost depth_fits: { IsDepth depth },
     ghost steps_fit: { IfSome steps IsStepCount } by { Prim.hlevel props },
 }
 
@@ -123,14 +121,15 @@ impl SweepTask {
             self.now.json (plain_script test.now.script) test.now.deal (printed_of outcome)) }
     {
         let steps = steps_of(rt, alloc, test, self.steps, self.limit, self.serve, gate)?;
+        let depth = self.depth.number();
         let limit = self.limit.steps();
         let frame = Frame {
             threads: test.deal.threads,
             steps,
-            depth: self.depth,
+            depth,
             limit,
         };
-        let points = self.depth - 1;
+        let points = depth - 1;
         match sweep(
             rt, alloc, &test.code, &test.deal, points, steps, limit, self.serve, gate,
         )? {

@@ -6,7 +6,6 @@ ghost use Rattle.script_tree.specs.ScriptSeen.{plain_script};
 ghost use Rattle.pct_ask.specs.Limits.{IsStepCount};
 ghost use Rattle.report_text.specs.Report.{IsWritable};
 ghost use Rattle.pct_top.specs.Ready.{IsReadyTest};
-ghost use Rattle.pct_top.specs.Settings.{IsDepth};
 ghost use Rattle.pct_top.specs.Outcome.{printed_of};
 ghost use Rattle.pct_top.specs.commands.Campaign.{all_pass as all_pass_by, campaign_text};
 ghost use Rattle.pct_top.specs.commands.Campaign.{OfCampaign};
@@ -17,7 +16,7 @@ use crate::test::Test;
 use crate::traces::is_passed;
 use campaign::campaign_by;
 use failure_rank::{Groups, rank};
-use pct_ask::{Limit, Row, RowList};
+use pct_ask::{Depth, Limit, Row, RowList};
 use pct_outside::Gate;
 use report_text::{Frame, json_report, text_report};
 use script_tree::Script;
@@ -64,13 +63,12 @@ fn write_report(
 pub struct CampaignTask {
     pub first: u64,
     pub count: u32,
-    pub depth: u32,
+    pub depth: Depth,
     pub steps: Option<u32>,
     pub limit: Limit,
     pub json: bool,
     pub serve: Serve,
     ghost count_fits: { IsStepCount count },
-    ghost depth_fits: { IsDepth depth },
     ghost steps_fit: { IfSome steps IsStepCount } by { Prim.hlevel props },
 }
 
@@ -88,16 +86,17 @@ impl CampaignTask {
             test.now.deal (printed_of outcome)) }
     {
         let steps = steps_of(rt, alloc, test, self.steps, self.limit, self.serve, gate)?;
+        let depth = self.depth.number();
         let limit = self.limit.steps();
         let rows = campaign_by(
-            rt, alloc, &test.code, &test.deal, self.first, self.count, self.depth, steps, limit,
+            rt, alloc, &test.code, &test.deal, self.first, self.count, depth, steps, limit,
             self.serve, gate,
         )?;
         let groups = rank(alloc, &rows)?;
         let frame = Frame {
             threads: test.deal.threads,
             steps,
-            depth: self.depth,
+            depth,
             limit,
         };
         let text = write_report(alloc, self.json, &test.script, &frame, &rows, &groups)?;

@@ -1,7 +1,7 @@
-use Rattle.std.proofs.Common.{◌≡◌, List, ℕ, Ok, Some, None, refl, sym, subst, ap, ◌∙◌}
+use Rattle.std.proofs.Common.{◌≡◌, Ok, Some, None, refl, sym, subst, ap, ◌∙◌}
 use Rattle.script_tree.specs.Layout.{layout}
 use Rattle.large_script.specs.Large.{large_script}
-use Rattle.pct_top.specs.Outside.{ShelfTold}
+use Rattle.pct_outside.specs.Told.{ShelfTold}
 use Rattle.pct_top.specs.declared.settings.Settings.{Settings}
 use Rattle.pct_top.specs.declared.settings.Settings.TheVariants.{Big}
 use Rattle.pct_top.specs.Plan.{asked, asked_by}

@@ -1,6 +1,6 @@
 use Rattle.std.proofs.Common.{Ok, Err, false, subst, ◌∙◌}
 use Rattle.script_tree.specs.ScriptSeen.{plain_script}
-use Rattle.pct_top.specs.Outside.{ShelfTold}
+use Rattle.pct_outside.specs.Told.{ShelfTold}
 use Rattle.pct_top.specs.Plan.{asked}
 use Rattle.pct_top.specs.Output.{script_file, script_text, OfCommand}
 use Rattle.pct_top.specs.Outcome.{Comes}

@@ -1,6 +1,6 @@
 use Rattle.std.proofs.Common.{◌≡◌, Ok, Some, sym, subst}
 use Rattle.pct_outside.specs.Reading.{texts_of}
-use Rattle.pct_top.specs.Outside.{ShelfTold, StreamTold}
+use Rattle.pct_outside.specs.Told.{ShelfTold, StreamTold}
 use Rattle.pct_top.specs.Settings.{SettingsOrWord, settings}
 use Rattle.pct_top.specs.Call.{Answers, ReadsNone}
 use Rattle.pct_top.proofs.top.answer.Goals as goal

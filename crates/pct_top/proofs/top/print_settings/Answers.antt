@@ -1,5 +1,5 @@
 use Rattle.std.proofs.Common.{Bool, Ok, Err, Some, sym, subst}
-use Rattle.pct_top.specs.Outside.{ShelfTold, StreamTold}
+use Rattle.pct_outside.specs.Told.{ShelfTold, StreamTold}
 use Rattle.pct_top.specs.Output.{OfTaken}
 use Rattle.pct_top.specs.Outcome.{printed_of}
 use Rattle.pct_top.specs.Call.{ReadFailed, LeavesShelf}

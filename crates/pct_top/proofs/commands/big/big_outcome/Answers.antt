@@ -1,4 +1,4 @@
-use Rattle.std.proofs.Common.{Ok, Err}
+use Rattle.std.proofs.Common.{Ok}
 use Rattle.script_tree.specs.Layout.{layout}
 use Rattle.large_script.specs.Large.{large_script}
 use Rattle.pct_top.specs.commands.Big.{OfBig}

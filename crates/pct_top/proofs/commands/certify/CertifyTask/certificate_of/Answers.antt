@@ -1,8 +1,6 @@
-use Rattle.std.proofs.Common.{ℕ, sym, subst, ap, ◌∙◌}
+use Rattle.std.proofs.Common.{sym, subst, ap, ◌∙◌}
 use Rattle.pct_ask.specs.NameLists.{NameLists}
 use Rattle.script_tree.specs.ScriptSeen.{plain_script}
-use Rattle.script_body.specs.Bodies.{bodies_of}
-use Rattle.directive_run.specs.Certifying.{Certifies}
 use Rattle.pct_top.specs.Printed.{printed_text}
 use Rattle.pct_top.specs.commands.Certify.{certificate_text}
 use Rattle.pct_top.specs.commands.KnownCertificate.{IsKnownCertificate}
@@ -18,7 +16,7 @@ write_certificate-requires g c =
     let certified = c.in_ok-certified.certified in
     subst (λ (names : NameLists). IsKnownCertificate names certified) (sym c.names.ensures)
     (known-certificate script test.deal ready.sound ready.is_deal c.args.directive.now task.steps
-    c.steps-limit.result certified (c.in_ok-certified.ensures script ready))
+    task.limit certified (c.in_ok-certified.ensures script ready))
 
 pub returns : goal.returns
 returns g c =
@@ -26,12 +24,10 @@ returns g c =
     let test = c.args.test.now in
     let script = plain_script test.script in
     let certified = c.in_ok-certified.certified in
-    let L : ℕ → Type 0 = λ limit. Certifies test.deal (bodies_of script) c.args.directive.now
-    task.steps limit certified in
     let written = c.in_ok-text.ensures
     ∙ ap (λ (names : NameLists). certificate_text names certified) c.names.ensures in
     let done = c.is_certified-done.ensures in (
       certified,
-      subst L c.steps-limit.ensures.number (c.in_ok-certified.ensures script c.requires.ready),
+      c.in_ok-certified.ensures script c.requires.ready,
       λ i. printed_text (written i) (done i),
     )
