@@ -12,6 +12,7 @@ use Rattle.pct_ask.specs.declared.verdict.Verdict.{Verdict}
 use Rattle.pct_ask.specs.declared.verdict.Verdict.TheVariants.{Passed, Failed, Stuck, Misuse}
 use Rattle.pct_ask.specs.declared.verdict.Verdict.TheVariants.{Fault as VerdictFault, Cut}
 use Rattle.pct_ask.specs.Places.{lines_from, line_bits, line_numbers, places_from, known_lines}
+use Rattle.pct_ask.specs.declared.limits.TheConstants.{MAX_THREADS}
 use Rattle.c_values.specs.declared.outcome.PctOutcome.{PctOutcome}
 
 -- why an object forbids, by its number
@@ -35,7 +36,7 @@ numbers_by kind reason thread line = record {
   thread = thread;
   line = line;
   blocked = 0;
-  lines = replicate 64 0;
+  lines = replicate MAX_THREADS 0;
 }
 
 -- The numbers of an outcome. Of blocked threads a bit is set for each, the lowest for thread 0, and
@@ -48,8 +49,8 @@ outcome_numbers (Ends (Stuck places)) = record {
   reason = 0;
   thread = 0;
   line = 0;
-  blocked = line_bits (lines_from 0 64 places);
-  lines = line_numbers (lines_from 0 64 places);
+  blocked = line_bits (lines_from 0 MAX_THREADS places);
+  lines = line_numbers (lines_from 0 MAX_THREADS places);
 }
 outcome_numbers (Ends (Misuse thread line kind)) = numbers_by 4 (misuse_number kind) thread line
 outcome_numbers (Ends (VerdictFault thread line kind)) =

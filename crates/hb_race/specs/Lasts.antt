@@ -68,10 +68,10 @@ with_last AtomicWrite u last history =
 
 abbrev pub new_history : History
 new_history = record {
-  plain_reads = replicate 64 None;
-  plain_writes = replicate 64 None;
-  atomic_reads = replicate 64 None;
-  atomic_writes = replicate 64 None;
+  plain_reads = replicate MAX_THREADS None;
+  plain_writes = replicate MAX_THREADS None;
+  atomic_reads = replicate MAX_THREADS None;
+  atomic_writes = replicate MAX_THREADS None;
   race = None;
 }
 

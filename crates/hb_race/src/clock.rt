@@ -5,7 +5,7 @@ ghost use Rattle.hb_race.specs.Clocks.{stamp};
 ghost use Rattle.hb_race.specs.Ranges.{most_with};
 ghost use Rattle.hb_race.specs.Objects.{place, is_at};
 ghost use Rattle.hb_race.specs.Table.{time, entry_if, stamp_from, AreJoined, IsStepEvent, IsTable};
-ghost use Rattle.pct_ask.specs.declared.limits.TheConstants.{MAX_STEPS};
+ghost use Rattle.pct_ask.specs.declared.limits.TheConstants.{MAX_OBJECTS, MAX_STEPS};
 
 use crate::object::{Object, first_taken, object_given, second_taken};
 use pct_ask::{Event, MAX_THREADS};
@@ -40,7 +40,7 @@ fn join_object(clock: &mut Clock, table: &[Clock], object: Option<Object>)
 /// The clock of the next step.
 fn stamp_of(table: &[Clock], counts: &Clock, event: &Event) -> Clock
     requires rows { length table.now ≡ 512 }
-    requires range { EventIsInRange (most_with 64) event.now }
+    requires range { EventIsInRange (most_with MAX_OBJECTS) event.now }
     requires few { (u : ℕ) → time counts.now u < MAX_STEPS }
     ensures { (u : ℕ) → time result u ≡ stamp_from table.now counts.now event.now u }
 {
@@ -76,7 +76,7 @@ fn give_object(table: &mut [Clock], object: Option<Object>, stamp: &Clock)
 /// Takes one step, and answers its clock.
 pub(crate) fn advance(table: &mut [Clock], counts: &mut Clock, event: &Event) -> Clock
     requires rows { length table.old ≡ 512 }
-    requires range { EventIsInRange (most_with 64) event.now }
+    requires range { EventIsInRange (most_with MAX_OBJECTS) event.now }
     requires few { (u : ℕ) → time counts.old u < MAX_STEPS }
     ensures rows { length table.new ≡ 512 }
     ensures stamp { (s : Steps ℕ) (n : ℕ) → IsStepEvent s n event.now

@@ -3,6 +3,7 @@ ghost use Rattle.hb_race.specs.Order.{Steps};
 ghost use Rattle.hb_race.specs.Lasts.{Accesses, HasLasts, IsHistory, IsCurrent, IsLatest};
 ghost use Rattle.hb_race.specs.Lasts.{IsGreatest, IsFlagged, NumbersRace, later, untold_step};
 ghost use Rattle.hb_race.specs.Lasts.{lasts_of, with_last, new_history};
+ghost use Rattle.pct_ask.specs.declared.limits.TheConstants.{MAX_THREADS};
 
 use crate::access::{Access, AccessKind, conflict};
 use crate::clock::Clock;
@@ -55,7 +56,7 @@ fn untold_step(last: Option<LastAccess>, known: u32) -> Option<u32>
 
 /// The latest of other threads' last accesses of which a thread's clock doesn't tell.
 fn latest_untold(lasts: &LastAccesses, thread: u32, clock: &Clock) -> Option<u32>
-    ensures { IsLatest lasts.now thread clock.now 64 result }
+    ensures { IsLatest lasts.now thread clock.now MAX_THREADS result }
 {
     let mut latest = None;
     for u in 0..MAX_THREADS {

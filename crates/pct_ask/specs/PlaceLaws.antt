@@ -10,6 +10,7 @@ use Rattle.std.proofs.Math.Nat.{pow-suc}
 use Rattle.std.proofs.lemmas.Bool.Decides.{eqb_tells, Decides-and, Decides-like}
 use Rattle.pct_ask.specs.Places.{places_from, lines_from, same_place, same_places}
 use Rattle.pct_ask.specs.Places.{known_lines, line_bits, line_numbers, AreKnown}
+use Rattle.pct_ask.specs.declared.limits.TheConstants.{MAX_THREADS}
 
 -- a thread before all of them has no line
 lines_from-later : (thread first n : ℕ) (lines : List (Option ℕ)) → thread < first
@@ -32,8 +33,8 @@ lines_from-places thread (Some line ∷ lines) =
     rw same (ap (λ others. Some line ∷ others) (lines_from-places (thread + 1) lines))
 
 -- the places of 64 lines give them back
-lines_of_places : (lines : List (Option ℕ)) → length lines ≡ 64
-    → lines_from 0 64 (places_from 0 lines) ≡ lines
+lines_of_places : (lines : List (Option ℕ)) → length lines ≡ MAX_THREADS
+    → lines_from 0 MAX_THREADS (places_from 0 lines) ≡ lines
 lines_of_places lines long =
     ap (λ n. lines_from 0 n (places_from 0 lines)) (sym long) ∙ lines_from-places 0 lines
 
@@ -60,18 +61,18 @@ line_bits-known bits (number ∷ numbers) h =
 
 -- the places that are known give their lines back
 lines-back : (bits : ℕ) (numbers : List ℕ) → AreKnown bits numbers
-    → lines_from 0 64 (places_from 0 (known_lines bits numbers)) ≡ known_lines bits numbers
+    → lines_from 0 MAX_THREADS (places_from 0 (known_lines bits numbers)) ≡ known_lines bits numbers
 lines-back bits numbers known =
     lines_of_places (known_lines bits numbers) (length-known bits numbers ∙ known.long)
 
 pub bits-back : (bits : ℕ) (numbers : List ℕ) → AreKnown bits numbers
-    → line_bits (lines_from 0 64 (places_from 0 (known_lines bits numbers))) ≡ bits
+    → line_bits (lines_from 0 MAX_THREADS (places_from 0 (known_lines bits numbers))) ≡ bits
 bits-back bits numbers known =
     ap (λ lines. line_bits lines) (lines-back bits numbers known)
     ∙ line_bits-known bits numbers (subst (λ n. bits < 2 ^ n) (sym known.long) known.narrow)
 
 pub numbers-back : (bits : ℕ) (numbers : List ℕ) → AreKnown bits numbers
-    → line_numbers (lines_from 0 64 (places_from 0 (known_lines bits numbers))) ≡ numbers
+    → line_numbers (lines_from 0 MAX_THREADS (places_from 0 (known_lines bits numbers))) ≡ numbers
 numbers-back bits numbers known =
     ap (λ lines. line_numbers lines) (lines-back bits numbers known) ∙ known.zeros
 

@@ -49,9 +49,9 @@ line_numbers [] = []
 line_numbers (None ∷ lines) = 0 ∷ line_numbers lines
 line_numbers (Some line ∷ lines) = line ∷ line_numbers lines
 
--- 64 numbers under 64 bits, with 0 wherever the bit isn't set
+-- a number for each of 64 threads under 64 bits, with 0 wherever the bit isn't set
 pub record AreKnown (bits : ℕ) (numbers : List ℕ) : Type 0 where
-  pub long : length numbers ≡ 64
+  pub long : length numbers ≡ MAX_THREADS
   pub narrow : bits < 2 ^ 64
   pub zeros : line_numbers (known_lines bits numbers) ≡ numbers
 

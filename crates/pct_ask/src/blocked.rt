@@ -7,6 +7,7 @@ ghost use Rattle.pct_ask.specs.Places.{lines_from, line_bits, line_numbers};
 ghost use Rattle.pct_ask.specs.PlaceLaws.{same_places-Decides, same_places-equivalence};
 ghost use Rattle.pct_ask.specs.declared.limits.TheConstants.{MAX_THREADS};
 
+use crate::limits::MAX_THREADS;
 use std::hash::{Hash, Hasher};
 use std::marker::Model;
 
@@ -17,13 +18,14 @@ pub struct Blocked {
     /// A bit for each thread, the lowest for thread 0: whether it can't go on.
     threads: u64,
     /// The line of each thread that can't go on, and 0 for the others.
-    lines: [u32; 64],
+    lines: [u32; MAX_THREADS],
 }
 
 impl Model for Blocked {
     ghost use Rattle.std.specs.Prelude.{ℕ, List};
     ghost use Rattle.pct_ask.specs.Places.{places_from, lines_from};
     ghost use Rattle.pct_ask.specs.Places.{known_lines, line_bits, line_numbers, AreKnown};
+    ghost use Rattle.pct_ask.specs.declared.limits.TheConstants.{MAX_THREADS};
     ghost use Rattle.pct_ask.specs.PlaceLaws.{bits-back, numbers-back};
 
     ghost Value = { List (ℕ × ℕ) };
@@ -33,8 +35,8 @@ impl Model for Blocked {
     ghost invariant = { λ b. AreKnown b.threads b.lines };
 
     ghost inverse = { λ places. record {
-      threads = line_bits (lines_from 0 64 places);
-      lines = line_numbers (lines_from 0 64 places);
+      threads = line_bits (lines_from 0 MAX_THREADS places);
+      lines = line_numbers (lines_from 0 MAX_THREADS places);
     } };
 
     ghost inverse_ok = { λ b known i. record {
@@ -59,12 +61,12 @@ impl Eq for Blocked {
 
 impl Hash for Blocked {
     ghost hash_input = { λ places.
-        u64 (line_bits (lines_from 0 64 places))
-        ++ slice u32 (line_numbers (lines_from 0 64 places)) };
+        u64 (line_bits (lines_from 0 MAX_THREADS places))
+        ++ slice u32 (line_numbers (lines_from 0 MAX_THREADS places)) };
 
     ghost respects_eq = { λ x y same.
-        ap (λ places. u64 (line_bits (lines_from 0 64 places))
-        ++ slice u32 (line_numbers (lines_from 0 64 places)))
+        ap (λ places. u64 (line_bits (lines_from 0 MAX_THREADS places))
+        ++ slice u32 (line_numbers (lines_from 0 MAX_THREADS places)))
         ((same_places-Decides x y).0 same) };
 
     fn hash<H: Hasher>(&self, state: &mut H) {
@@ -80,7 +82,7 @@ impl Blocked {
     {
         Blocked {
             threads: 0,
-            lines: [0; 64],
+            lines: [0; MAX_THREADS],
         }
     }
 
@@ -95,9 +97,9 @@ impl Blocked {
     }
 
     /// The threads as bits, the lowest for thread 0, and the line of each, 0 for the others.
-    pub fn numbers(&self) -> (u64, [u32; 64])
-        ensures bits { result.0 ≡ line_bits (lines_from 0 64 self.now) }
-        ensures lines { result.1 ≡ line_numbers (lines_from 0 64 self.now) }
+    pub fn numbers(&self) -> (u64, [u32; MAX_THREADS])
+        ensures bits { result.0 ≡ line_bits (lines_from 0 MAX_THREADS self.now) }
+        ensures lines { result.1 ≡ line_numbers (lines_from 0 MAX_THREADS self.now) }
     {
         (self.threads, self.lines)
     }
@@ -108,7 +110,7 @@ impl Blocked {
         ensures rising { AreRising self.now }
     {
         let threads = self.threads;
-        if thread >= 64 {
+        if thread >= MAX_THREADS as u32 {
             return None;
         }
         if (threads >> thread) & 1 == 1 {

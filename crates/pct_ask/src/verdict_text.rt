@@ -11,6 +11,7 @@ ghost use Rattle.pct_ask.specs.VerdictRead.{ReadsAs};
 
 use crate::ask::FaultKind;
 use crate::blocked::Blocked;
+use crate::limits::MAX_THREADS;
 use crate::names::{NameKind, Names};
 use crate::spaced::write_spaced_word;
 use crate::verdict::{MisuseKind, Verdict};
@@ -91,7 +92,7 @@ fn push_stuck(blocked: &Blocked, names: &Names, out: &mut Vec<u8>) -> Result<(),
     ensures rising { OnOk result (AreRising blocked.now) }
 {
     out.extend_from_slice(STUCK)?;
-    for thread in 0..64 {
+    for thread in 0..MAX_THREADS as u32 {
         if let Some(line) = blocked.get(thread) {
             push_place(thread, line, names, out)?;
         }

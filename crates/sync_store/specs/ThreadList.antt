@@ -14,4 +14,4 @@ pub record IsThreadList (threads : List ℕ) (room : ℕ) (present : List Bool) 
   pub once : IsOnce threads
   pub below : All (λ t. t < MAX_THREADS) threads
   pub marked : (t : ℕ) → t < MAX_THREADS → slice_index_or present t false ≡ is_on t threads
-  pub reserved : 64 ≤ room
+  pub reserved : MAX_THREADS ≤ room

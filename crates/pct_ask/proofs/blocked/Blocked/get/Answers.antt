@@ -8,8 +8,8 @@ use Rattle.pct_ask.proofs.PlaceLemmas.{line_of_thread-clear}
 use Rattle.pct_ask.proofs.PlaceLemmas.{AreRising-known}
 use Rattle.pct_ask.proofs.blocked.Blocked.get.Goals as goal
 
-pub returns-then-thread-ge64-clause-line : goal.returns-then-thread-ge64-clause-line
-returns-then-thread-ge64-clause-line c =
+pub returns-then-thread-clause-line : goal.returns-then-thread-clause-line
+returns-then-thread-clause-line c =
     let lines = known_lines c.self.inside.threads c.self.inside.lines in
     let long = length-known c.self.inside.threads c.self.inside.lines ∙ c.self.invariant.long in
     let past : length lines ≤ c.args.thread = omega (arith, long) in
@@ -26,8 +26,8 @@ returns-else-threads-thread-eq1-clause-line c =
     line_of_thread-clear c.self.inside.threads c.args.thread c.self.inside.lines c.args.self.now
     (omega (arith, c.self.invariant.long)) c.self.view_is c.if-threads-thread-eq1.false
 
-pub returns-then-thread-ge64-clause-rising : goal.returns-then-thread-ge64-clause-rising
-returns-then-thread-ge64-clause-rising c =
+pub returns-then-thread-clause-rising : goal.returns-then-thread-clause-rising
+returns-then-thread-clause-rising c =
     AreRising-known c.self.inside.threads c.self.inside.lines c.args.self.now c.self.invariant
     c.self.view_is
 
