@@ -6,44 +6,44 @@ use Rattle.std.proofs.lemmas.Bool.Decides.{nat_tests}
 use mathlib.Core.List.{IsPrefix}
 use prog.Atomic.{either}
 use Rattle.logbook.specs.Pages.{Cell, cell, keeps, no_nib, Goes, Moves, step}
-use Rattle.pct_outside.specs.declared.moment.Moment.{Moment}
-use Rattle.pct_outside.specs.declared.moment.Moment.TheVariants.{Came, Saw}
-use Rattle.pct_outside.specs.Meeting.{HasMoment, MaySee, SawOther, WordTells, IsMeeting}
+use Rattle.pct_outside.specs.declared.happening.Happening.{Happening}
+use Rattle.pct_outside.specs.declared.happening.Happening.TheVariants.{Came, Saw}
+use Rattle.pct_outside.specs.Meeting.{HasHappening, MaySee, SawOther, WordTells, IsMeeting}
 use Rattle.pct_outside.specs.Meeting.{MarksArrival, looks_of}
 
-has_more : (xs ys : List Moment) (m : Moment) → HasMoment xs m → HasMoment (xs ++ ys) m
+has_more : (xs ys : List Happening) (m : Happening) → HasHappening xs m → HasHappening (xs ++ ys) m
 has_more [] ys m h = absurd h
 has_more (x ∷ xs) ys m (inl e) = inl e
 has_more (x ∷ xs) ys m (inr h) = inr (has_more xs ys m h)
 
-has_last : (xs : List Moment) (m : Moment) → HasMoment (xs ++ m ∷ []) m
+has_last : (xs : List Happening) (m : Happening) → HasHappening (xs ++ m ∷ []) m
 has_last [] m = inl refl
 has_last (x ∷ xs) m = inr (has_last xs m)
 
 -- what is in the longer list was in the shorter, or is new
-has_before : (xs : List Moment) (x m : Moment) → (x ≡ m → ⊥) → HasMoment (xs ++ x ∷ []) m
-    → HasMoment xs m
+has_before : (xs : List Happening) (x m : Happening) → (x ≡ m → ⊥) → HasHappening (xs ++ x ∷ []) m
+    → HasHappening xs m
 has_before [] x m new (inl e) = absurd (new e)
 has_before [] x m new (inr h) = h
 has_before (y ∷ xs) x m new (inl e) = inl e
 has_before (y ∷ xs) x m new (inr h) = inr (has_before xs x m new h)
 
-looks_more : (xs ys : List Moment) → 0 < length xs → looks_of (xs ++ ys) ≡ looks_of xs
+looks_more : (xs ys : List Happening) → 0 < length xs → looks_of (xs ++ ys) ≡ looks_of xs
 looks_more [] ys h = absurd (omega arith)
 looks_more (x ∷ xs) ys h = refl
 
-pub has_later : (xs ys : List Moment) (m : Moment) → IsPrefix xs ys → HasMoment xs m
-    → HasMoment ys m
-has_later xs ys m p h = subst (λ zs. HasMoment zs m) p.1 (has_more xs p.0 m h)
+pub has_later : (xs ys : List Happening) (m : Happening) → IsPrefix xs ys → HasHappening xs m
+    → HasHappening ys m
+has_later xs ys m p h = subst (λ zs. HasHappening zs m) p.1 (has_more xs p.0 m h)
 
-looks_later : (xs ys : List Moment) → IsPrefix xs ys → 0 < length xs → looks_of ys ≡ looks_of xs
+looks_later : (xs ys : List Happening) → IsPrefix xs ys → 0 < length xs → looks_of ys ≡ looks_of xs
 looks_later xs ys p h = ap looks_of (sym p.1) ∙ looks_more xs p.0 h
 
-has_some : (xs : List Moment) (m : Moment) → HasMoment xs m → 0 < length xs
+has_some : (xs : List Happening) (m : Happening) → HasHappening xs m → 0 < length xs
 has_some [] m h = absurd h
 has_some (x ∷ xs) m h = omega arith
 
-may_more : (xs ys : List Moment) (guest : ℕ) → MaySee xs guest → MaySee (xs ++ ys) guest
+may_more : (xs ys : List Happening) (guest : ℕ) → MaySee xs guest → MaySee (xs ++ ys) guest
 may_more xs ys guest m =
     record {
       came = has_more xs ys (Came guest) m.came;
@@ -51,10 +51,11 @@ may_more xs ys guest m =
       looks = subst (λ n. 0 < n) (sym (looks_more xs ys (has_some xs (Came guest) m.came))) m.looks;
     }
 
-may_later : (xs ys : List Moment) (guest : ℕ) → IsPrefix xs ys → MaySee xs guest → MaySee ys guest
+may_later : (xs ys : List Happening) (guest : ℕ) → IsPrefix xs ys → MaySee xs guest
+    → MaySee ys guest
 may_later xs ys guest p m = subst (λ zs. MaySee zs guest) p.1 (may_more xs p.0 guest m)
 
-saw_more : (xs ys : List Moment) (guest : ℕ) → SawOther xs guest → SawOther (xs ++ ys) guest
+saw_more : (xs ys : List Happening) (guest : ℕ) → SawOther xs guest → SawOther (xs ++ ys) guest
 saw_more xs ys guest s = record {
   saw = has_more xs ys (Saw guest) s.saw;
   may = may_more xs ys guest s.may;
@@ -71,14 +72,14 @@ cell_set P (c ∷ cs) (suc k) x h p q (suc j) =
     cell_set (λ i y. P (suc i) y) cs k x (omega arith) p
     (λ i ne. q (suc i) (λ e. ne (omega (arith, e)))) j
 
-abbrev pub shown : List Moment → List Moment
+abbrev pub shown : List Happening → List Happening
 shown log = []
 
-abbrev pub moved : List Moment → List Moment → ℕ → Type 0
+abbrev pub moved : List Happening → List Happening → ℕ → Type 0
 moved xs ys n = Unit {0}
 
 -- what happens to one guest leaves what is told of the other
-tells_more : (log : List Moment) (guest n : ℕ) (m : Moment) → (m ≡ Came guest → ⊥)
+tells_more : (log : List Happening) (guest n : ℕ) (m : Happening) → (m ≡ Came guest → ⊥)
     → (m ≡ Saw guest → ⊥) → WordTells log guest n → WordTells (log ++ m ∷ []) guest n
 tells_more log guest n m not_came not_saw t =
     record {
@@ -89,11 +90,11 @@ tells_more log guest n m not_came not_saw t =
     }
 
 -- whatever the book is, a step of a guest's own may add what happens to that guest
-pub marks : (v : List Moment) (k a b : ℕ) (ask : Moment) (f : ℕ → ℕ) (m : Moment) → k < 2
+pub marks : (v : List Happening) (k a b : ℕ) (ask : Happening) (f : ℕ → ℕ) (m : Happening) → k < 2
     → 0 < length v
     → ((j : ℕ) → j ≢ k → (m ≡ Came j → ⊥) × (m ≡ Saw j → ⊥))
-    → ((n : ℕ) (log : List Moment) → IsPrefix v log → WordTells log k n
-    → WordTells (log ++ m ∷ []) k (f n) × HasMoment (log ++ m ∷ []) (Came k))
+    → ((n : ℕ) (log : List Happening) → IsPrefix v log → WordTells log k n
+    → WordTells (log ++ m ∷ []) k (f n) × HasHappening (log ++ m ∷ []) (Came k))
     → Moves IsMeeting shown moved k (v, (no_nib, None)) f
     (MarksArrival (step k a b ask) (v, (no_nib, None)))
 marks v k a b ask f m below some own fits cs log kept pre away =
@@ -125,7 +126,7 @@ marks v k a b ask f m below some own fits cs log kept pre away =
     ) in
     (inside, kept.home k below, goes)
 
-came_tells : (k n : ℕ) (log : List Moment) → WordTells log k n → (b : Bool) → (n == 0) ≡ b
+came_tells : (k n : ℕ) (log : List Happening) → WordTells log k n → (b : Bool) → (n == 0) ≡ b
     → WordTells (log ++ Came k ∷ []) k (either b 1 n)
 came_tells k n log t true is =
     let none : n ≡ 0 = grind (arith, nat_tests) in
@@ -150,7 +151,7 @@ came_tells k n log t false is =
     }
 
 -- a guest comes
-pub comes : (v : List Moment) (k : ℕ) (ask : Moment) → k < 2 → 0 < length v
+pub comes : (v : List Happening) (k : ℕ) (ask : Happening) → k < 2 → 0 < length v
     → Moves IsMeeting shown moved k (v, (no_nib, None)) (λ n. either (n == 0) 1 n)
     (MarksArrival (step k 0 1 ask) (v, (no_nib, None)))
 comes v k ask below some =
@@ -158,7 +159,7 @@ comes v k ask below some =
     (λ j ne. (λ e. ne (sym (cc e)), λ e. absurd (cc e)))
     (λ n log pre t. (came_tells k n log t (n == 0) refl, has_last log (Came k)))
 
-saw_tells : (k n : ℕ) (log : List Moment) → MaySee log k → WordTells log k n → (b : Bool)
+saw_tells : (k n : ℕ) (log : List Happening) → MaySee log k → WordTells log k n → (b : Bool)
     → (n == 1) ≡ b → WordTells (log ++ Saw k ∷ []) k (either b 2 n)
 saw_tells k n log may t true is =
     record {
@@ -178,7 +179,7 @@ saw_tells k n log may t false is =
     }
 
 -- a guest that may see the other notes that it has
-pub notes : (v : List Moment) (k : ℕ) (ask : Moment) → k < 2 → MaySee v k
+pub notes : (v : List Happening) (k : ℕ) (ask : Happening) → k < 2 → MaySee v k
     → Moves IsMeeting shown moved k (v, (no_nib, None)) (λ n. either (n == 1) 2 n)
     (MarksArrival (step k 1 2 ask) (v, (no_nib, None)))
 notes v k ask below may =

@@ -26,12 +26,12 @@
 
 mod calls;
 pub mod gates;
+mod happening;
 pub mod host_shelves;
 pub mod host_sinks;
 mod meeting;
 pub mod memory_shelves;
 pub mod memory_sinks;
-mod moment;
 pub mod shelves;
 pub mod sinks;
 

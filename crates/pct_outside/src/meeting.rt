@@ -1,10 +1,10 @@
 //! Two guests who look for each other, each in a thread of its own.
 ghost use Rattle.std.specs.Prelude.{◌≡◌, ◌+◌, ◌-◌, ◌<◌, ◌∷◌, [], length, IfSome, IsTrue};
-ghost use Rattle.pct_outside.specs.Meeting.{HasMoment, MaySee, SawOther, IsGuestWord, looks_of};
+ghost use Rattle.pct_outside.specs.Meeting.{HasHappening, MaySee, SawOther, IsGuestWord, looks_of};
 ghost use Rattle.pct_outside.specs.Meeting.{word_of_guest};
-ghost use Rattle.pct_outside.specs.declared.moment.Moment.TheVariants.{Opened, Came};
+ghost use Rattle.pct_outside.specs.declared.happening.Happening.TheVariants.{Opened, Came};
 
-use crate::moment::Moment;
+use crate::happening::Happening;
 use logbook::{Gain, Offer, Opening, Plain, Play, Rule, Seen, Start, Word};
 use std::fmt;
 use std::fmt::{Debug, Formatter, Write};
@@ -14,7 +14,7 @@ use std::thread::yield_now;
 /// happened.
 pub struct Law;
 
-impl Rule<Moment, u64> for Law {
+impl Rule<Happening, u64> for Law {
     ghost use Rattle.std.specs.Prelude.{[]};
     ghost use base.Fml.{ftrue};
     ghost use Rattle.pct_outside.specs.Meeting.{IsMeeting};
@@ -35,7 +35,7 @@ impl Rule<Moment, u64> for Law {
 /// Callers trade nothing.
 pub struct Nothing;
 
-impl Gain<Moment, u64> for Nothing {
+impl Gain<Happening, u64> for Nothing {
     ghost use base.Fml.{ftrue};
 
     ghost after = { λ names about answer. ftrue };
@@ -44,9 +44,9 @@ impl Gain<Moment, u64> for Nothing {
 /// A meeting is opened.
 pub struct Opens;
 
-impl Opening<u64, Moment> for Opens {
+impl Opening<u64, Happening> for Opens {
     ghost use Rattle.std.specs.Prelude.{[], ◌∷◌};
-    ghost use Rattle.pct_outside.specs.declared.moment.Moment.TheVariants.{Opened};
+    ghost use Rattle.pct_outside.specs.declared.happening.Happening.TheVariants.{Opened};
 
     ghost log = { λ count looks. Opened looks ∷ [] };
 }
@@ -54,15 +54,15 @@ impl Opening<u64, Moment> for Opens {
 /// A step that looks at a guest.
 pub struct Looking;
 
-impl Play<Moment, u64> for Looking {
+impl Play<Happening, u64> for Looking {
     ghost use Rattle.pct_outside.specs.Meeting.{LooksAtGuest};
 
     ghost then = { λ s v found w. LooksAtGuest s v found w };
 }
 
-impl Plain<(), Moment, u64> for Looking {
+impl Plain<(), Happening, u64> for Looking {
     ghost use Rattle.std.specs.Prelude.{None};
-    ghost use Rattle.pct_outside.specs.declared.moment.Moment.TheVariants.{Opened};
+    ghost use Rattle.pct_outside.specs.declared.happening.Happening.TheVariants.{Opened};
 
     ghost ask = { λ _. Opened 0 };
 
@@ -72,15 +72,15 @@ impl Plain<(), Moment, u64> for Looking {
 /// A step by which a guest marks how far it is.
 pub struct Marking;
 
-impl Play<Moment, u64> for Marking {
+impl Play<Happening, u64> for Marking {
     ghost use Rattle.pct_outside.specs.Meeting.{MarksArrival};
 
     ghost then = { λ s v found w. MarksArrival s v found w };
 }
 
-type Known = Seen<Moment, u64, Law>;
+type Known = Seen<Happening, u64, Law>;
 
-type Place = Word<Moment, u64, Law>;
+type Place = Word<Happening, u64, Law>;
 
 // How far a guest is, in its word.
 const AWAY: u64 = 0;
@@ -93,11 +93,11 @@ const SAW: u64 = 2;
 fn come(mine: &Place, opened: &Known) -> Known
     requires { IsGuestWord mine.now opened.now.book × (0 < length opened.now.log) }
     ensures book { result.book ≡ opened.now.book }
-    ensures came { HasMoment result.log (Came mine.now.key) }
+    ensures came { HasHappening result.log (Came mine.now.key) }
     ensures looks { looks_of result.log ≡ looks_of opened.now.log }
 {
     let mut known = opened.again();
-    let mut offer: Offer<Moment, u64, Law, Nothing> = known.plain::<Nothing, (), Looking>(&());
+    let mut offer: Offer<Happening, u64, Law, Nothing> = known.plain::<Nothing, (), Looking>(&());
     let mut pen = known.no_pen();
     mine.compare_exchange::<Marking, Nothing>(AWAY, CAME, &mut known, &mut offer, &mut pen);
     known
@@ -106,14 +106,14 @@ fn come(mine: &Place, opened: &Known) -> Known
 // What a guest that has come learns by a look at the other, if that one has come too.
 fn look(theirs: &Place, known: &Known) -> Option<Known>
     requires place { IsGuestWord theirs.now known.now.book }
-    requires came { HasMoment known.now.log (Came (1 - theirs.now.key)) }
+    requires came { HasHappening known.now.log (Came (1 - theirs.now.key)) }
     ensures book { IfSome result (λ seen. seen.book ≡ known.now.book) }
-    ensures came { IfSome result (λ seen. HasMoment seen.log (Came (1 - theirs.now.key))) }
-    ensures other_came { IfSome result (λ seen. HasMoment seen.log (Came theirs.now.key)) }
+    ensures came { IfSome result (λ seen. HasHappening seen.log (Came (1 - theirs.now.key))) }
+    ensures other_came { IfSome result (λ seen. HasHappening seen.log (Came theirs.now.key)) }
     ensures looks { IfSome result (λ seen. looks_of seen.log ≡ looks_of known.now.log) }
 {
     let mut seen = known.again();
-    let mut offer: Offer<Moment, u64, Law, Nothing> = seen.plain::<Nothing, (), Looking>(&());
+    let mut offer: Offer<Happening, u64, Law, Nothing> = seen.plain::<Nothing, (), Looking>(&());
     let found = theirs.load::<Looking, Nothing>(&mut seen, &mut offer);
     if found >= CAME { Some(seen) } else { None }
 }
@@ -123,7 +123,7 @@ fn note(mine: &Place, mut seen: Known)
     requires place { IsGuestWord mine.now seen.book }
     requires may { MaySee seen.log mine.now.key }
 {
-    let mut offer: Offer<Moment, u64, Law, Nothing> = seen.plain::<Nothing, (), Looking>(&());
+    let mut offer: Offer<Happening, u64, Law, Nothing> = seen.plain::<Nothing, (), Looking>(&());
     let mut pen = seen.no_pen();
     mine.compare_exchange::<Marking, Nothing>(CAME, SAW, &mut seen, &mut offer, &mut pen);
 }
@@ -136,7 +136,7 @@ fn sighting(theirs: &Place, opened: &Known) -> Option<Known>
     ensures looks { IfSome result (λ seen. looks_of seen.log ≡ looks_of opened.now.log) }
 {
     let mut seen = opened.again();
-    let mut offer: Offer<Moment, u64, Law, Nothing> = seen.plain::<Nothing, (), Looking>(&());
+    let mut offer: Offer<Happening, u64, Law, Nothing> = seen.plain::<Nothing, (), Looking>(&());
     let found = theirs.load::<Looking, Nothing>(&mut seen, &mut offer);
     if found >= SAW { Some(seen) } else { None }
 }

@@ -1,5 +1,5 @@
 use Rattle.std.proofs.Common.{◌<◌, List, length, ap, sym, subst, ◌∙◌}
-use Rattle.pct_outside.specs.declared.moment.Moment.{Moment}
+use Rattle.pct_outside.specs.declared.happening.Happening.{Happening}
 use Rattle.pct_outside.proofs.Meetings.{comes}
 use Rattle.pct_outside.proofs.meeting.come.Goals as goal
 
@@ -15,6 +15,7 @@ compare_exchange-requires c =
       offer.0,
       rw (pen.1, offer.3) (comes c.again-known.result.log c.args.mine.now.key
           c.plain-offer.result.ask c.requires.0.guest
-          (subst (λ (l : List Moment). 0 < length l) (sym (ap (λ s. s.log) c.again-known.ensures))
+          (subst (λ (l : List Happening). 0 < length l)
+          (sym (ap (λ s. s.log) c.again-known.ensures))
           c.requires.1)),
     )

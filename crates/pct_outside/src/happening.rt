@@ -1,7 +1,7 @@
-//! The moments of a meeting.
+//! The happenings of a meeting.
 
-/// What happens at a meeting. Contracts alone speak of moments: the code makes none.
-pub enum Moment {
+/// What happens at a meeting. Contracts alone speak of happenings: the code makes none.
+pub enum Happening {
     /// It is opened, for guests who look so many times.
     Opened(u64),
     /// A guest comes: 0 is the one, and 1 the other.
