@@ -10,7 +10,7 @@
 //!   `not_an_order`; `DirectedPolicy::new`: `plan`, `stands`, `not_an_order`; of a list that is an
 //!   order by `Pct::of_order`: `plan`, `stands`; `DirectedPolicy::of_order`: `plan`, `stands`;
 //!   `Listed::new`: `plan`, `stands`.
-//! - Where it answers that a thread outranks others, none of them has a greater rank:
+//! - Where it answers that a thread outranks others, each of them but itself has a lower rank:
 //!   `Policy::outranks`, its clause (`Outranks`).
 //! - A choice that waits for nobody stays as more becomes known: `Policy`: `keeps`.
 //! - Whether a walk over the threads stops at one with this chance: `is_open`, its clause.

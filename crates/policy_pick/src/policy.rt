@@ -59,8 +59,8 @@ pub trait Policy: Send + Drop {
         false
     }
 
-    /// True only where it goes by ranks, and each other thread of the bits, the lowest for thread 0,
-    /// has a lower rank than the thread. Where it is false, that may be so, too.
+    /// True only where it goes by ranks, and each other thread of the bits, the lowest for
+    /// thread 0, has a lower rank than the thread. Where it is false, that may be so, too.
     fn outranks(&self, thread: u32, others: u64) -> bool
         requires { IsThreadOf (plan self.now) thread }
         ensures { result ≡ true → (schedule : List ℕ) → stands self.now schedule

@@ -197,12 +197,14 @@ pub choice-step : (plan : Plan) (schedule : List ℕ) (thread opened : ℕ)
     → (opened ≡ 0) ⊎ Outranks plan schedule thread opened
     → choice plan schedule earlier ≡ Thread thread
     → chance_of later thread ≡ Away → choice plan schedule later ≡ Waits thread
-choice-step (ByPoints order points) schedule thread opened earlier later speaks opens says was away =
+choice-step (ByPoints order points) schedule thread opened earlier later speaks opens says was
+    away =
     let long = length-map-range_with_len (rank order points schedule) 0 (length order) in
     rank-step (ranks order points schedule) thread opened earlier later opens
     (lower-by (ranks order points schedule) thread opened (length earlier) (long ∙ sym speaks)
     says) was away
-choice-step (ByEvents order events) schedule thread opened earlier later speaks opens says was away =
+choice-step (ByEvents order events) schedule thread opened earlier later speaks opens says was
+    away =
     let long = length-map-range_with_len (rank_by_events order events schedule) 0 (length order) in
     rank-step (ranks_by_events order events schedule) thread opened earlier later opens
     (lower-by (ranks_by_events order events schedule) thread opened (length earlier)
