@@ -19,7 +19,7 @@ use crate::known::{
     with_waiter,
 };
 use crate::posts::{asked, blocked_line, standing_of, step_of};
-use pct_ask::{Ask, Blocked, Deal, Event, Outcome, Post, Standing, Verdict};
+use pct_ask::{Ask, Blocked, Deal, Event, MAX_THREADS, Outcome, Post, Standing, Verdict};
 use policy_pick::{Chance, Pick, Policy};
 use std::alloc::{AllocError as NoMemory, Global};
 use std::marker::Model;
@@ -34,7 +34,7 @@ pub struct Board {
     /// Of each thread its chance, but for those whose asks lock a stale mutex.
     chances: Vec<Chance>,
     /// Of each thread, whether another one has ever asked for its end.
-    joined: [bool; 64],
+    joined: [bool; MAX_THREADS],
     /// A bit for each thread, the lowest for thread 0: where its ask may have to wait, and locks no
     /// mutex, it is set.
     waiters: u64,
@@ -81,7 +81,7 @@ impl Board {
             posts: several(alloc, None, deal.threads)?,
             standings: several(alloc, Standing::Away, deal.threads)?,
             chances: several(alloc, Chance::Away, deal.threads)?,
-            joined: [false; 64],
+            joined: [false; MAX_THREADS],
             waiters: 0,
             lockers: several(alloc, 0, deal.mutexes)?,
             stale: 0,
@@ -189,9 +189,9 @@ impl Board {
         }
     }
 
-    /// A thread posts and takes its step at once, where it may take it now and nobody has ever asked
-    /// for its end. As `post` and then `step`, without what would be noted in between. Where it is
-    /// nothing, nothing has changed.
+    /// A thread posts and takes its step at once, where it may take it now and nobody has ever
+    /// asked for its end. As `post` and then `step`, without what would be noted in between. Where
+    /// it is nothing, nothing has changed.
     pub fn post_and_step(
         &mut self,
         thread: u32,

@@ -18,7 +18,7 @@ ghost use Rattle.turn_book.specs.Board.{WereChances};
 ghost use Rattle.sync_store.specs.declared.touched.Touched.{Touched};
 ghost use Rattle.pct_ask.specs.declared.limits.TheConstants.{MAX_THREADS, MAX_OBJECTS};
 
-use pct_ask::{Ask, Post, Standing};
+use pct_ask::{Ask, MAX_THREADS, Post, Standing};
 use policy_pick::{Chance, is_open};
 use sync_store::{Ready, Store, Touched};
 
@@ -167,14 +167,14 @@ pub fn with_stale(stale: u64, touched: Touched) -> u64
 }
 
 /// Notes which thread an ask joins.
-pub fn note_joined(joined: &mut [bool; 64], ask: Option<Ask>)
+pub fn note_joined(joined: &mut [bool; MAX_THREADS], ask: Option<Ask>)
     ensures noted { (t : ℕ) → t < MAX_THREADS → joins_ask t ask ≡ true
         → slice_index_or joined.new t false ≡ true }
     ensures kept { (t : ℕ) → slice_index_or joined.old t false ≡ true
         → slice_index_or joined.new t false ≡ true }
 {
     if let Some(Ask::Join { thread }) = ask {
-        if thread < 64 {
+        if thread < MAX_THREADS as u32 {
             joined[thread as usize] = true;
         }
     }

@@ -14,6 +14,7 @@ use Rattle.turn_book.specs.Told.{BookState, SameMaking, IsLawful, Within}
 use Rattle.turn_lock.specs.Seen.{SameOf, ObeysPlan}
 use Rattle.turn_lock.specs.Slots.{Slot, NotesBelow}
 use Rattle.turn_lock.specs.declared.view.View.{View}
+use Rattle.pct_ask.specs.declared.limits.TheConstants.{MAX_THREADS}
 
 abbrev pub LockState : Type 0
 LockState = State Slot View
@@ -79,9 +80,9 @@ pub record KeepsRule (made : BookState) (s : LockState) : Type 0 where
   pub apart : (i j : ℕ) (v w : View) (t : ℕ) → get_elem? s.views i ≡ some v
       → get_elem? s.views j ≡ some w → Serves v t → Serves w t → i ≡ j
 
--- the first so many of 64 threads
+-- the first so many of the threads that a test may have
 abbrev pub first_threads : ℕ → List Bool
-first_threads threads = replicate threads true ++ replicate (64 - threads) false
+first_threads threads = replicate threads true ++ replicate (MAX_THREADS - threads) false
 
 -- the first seat serves every thread of the book, and has seen it
 abbrev pub first_view : BookState → View

@@ -6,6 +6,7 @@ use Rattle.turn_book.specs.Posts.{source_of}
 use Rattle.turn_book.specs.Obeys.{outcome_after}
 use Rattle.turn_book.specs.Told.{BookState}
 use Rattle.turn_lock.specs.declared.view.View.{View}
+use Rattle.pct_ask.specs.declared.limits.TheConstants.{MAX_THREADS}
 
 -- the seat without one of its threads
 abbrev pub seat_without : View → ℕ → View
@@ -27,7 +28,7 @@ seat_without v t = record {
 abbrev pub seat_of_one : View → ℕ → View
 seat_of_one v t = record {
   live = true;
-  serves = slice_set (replicate 64 false) t true;
+  serves = slice_set (replicate MAX_THREADS false) t true;
   seen = v.seen;
   turned = [];
   takes = 0;

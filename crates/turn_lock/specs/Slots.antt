@@ -1,6 +1,7 @@
 -- What lies in the slot of the lock's table: a book and a wait board (this project).
 use Rattle.std.specs.Prelude.{◌≡◌, ◌<◌, ℕ, List, Option, Some, None, replicate, slice_index_or}
 use Rattle.turn_book.specs.Told.{BookState}
+use Rattle.pct_ask.specs.declared.limits.TheConstants.{MAX_THREADS}
 
 -- for each thread, the word that was noted for it last
 abbrev pub Board : Type 0
@@ -21,4 +22,4 @@ NotesBelow threads board = (t word : ℕ) → word_noted board t ≡ Some word �
 
 -- a book, and nothing noted
 abbrev pub new_slot : BookState → Slot
-new_slot book = record { book = book; board = replicate 64 None }
+new_slot book = record { book = book; board = replicate MAX_THREADS None }

@@ -1,12 +1,13 @@
 ghost use Rattle.std.specs.Prelude.{◌≡◌, ◌<◌, None, Some, replicate, slice_set, slice_index_or};
 ghost use Rattle.pct_ask.specs.declared.limits.TheConstants.{MAX_THREADS};
 
+use pct_ask::MAX_THREADS;
 use std::marker::Model;
 
 /// For each thread, the word that its seat waits on, where it was noted.
 #[derive(Clone, Copy, Debug)]
 pub struct WaitBoard {
-    words: [Option<u32>; 64],
+    words: [Option<u32>; MAX_THREADS],
 }
 
 impl Model for WaitBoard {
@@ -22,9 +23,11 @@ impl Model for WaitBoard {
 impl WaitBoard {
     /// Nothing is noted.
     pub fn new() -> WaitBoard
-        ensures { result ≡ replicate 64 None }
+        ensures { result ≡ replicate MAX_THREADS None }
     {
-        WaitBoard { words: [None; 64] }
+        WaitBoard {
+            words: [None; MAX_THREADS],
+        }
     }
 
     /// Notes the word of a thread.

@@ -11,7 +11,7 @@ use crate::turn::Turn;
 use crate::turning::{turn_of, waits};
 use crate::view::View;
 use atomic_table::{Refused, Table};
-use pct_ask::Post;
+use pct_ask::{MAX_THREADS, Post};
 use policy_pick::Policy;
 use std::alloc::{AllocError as NoMemory, Global};
 use std::marker::Brand;
@@ -81,7 +81,7 @@ impl<P: Policy> TurnLock<P> {
     {
         let other = self.split_as::<Brand>(&mut seat.seat, thread);
         seat.serves[thread as usize] = false;
-        let mut serves = [false; 64];
+        let mut serves = [false; MAX_THREADS];
         serves[thread as usize] = true;
         Seat {
             seat: other,

@@ -31,9 +31,8 @@
 //!   `lawful`, `seen`, `own`.
 //! - Between two calls a seat doesn't hold the lock; which threads it serves, and which owe a post:
 //!   `Seat`: `live`, `idle`, `none`; `Seat::serves`; `Seat::owes`.
-//! - On a book that the caller has for itself, with no lock: a post, `ask`: `asked`, `lawful`,
-//!   `here`; a thread's turn, `answer`: `row`, `lawful` (`IsAsked`, `Row`); and one after the
-//!   other: `post_and_turn`, its clause (`TurnsTo`).
+//! - On a book that the caller has for itself, with no lock: a thread's turn, `answer`: `row`,
+//!   `lawful` (`Row`); a post and then the turn: `post_and_turn`, its clause (`TurnsTo`).
 //! - A board keeps what was noted last, and nothing exactly where nothing was: `WaitBoard::new`;
 //!   `WaitBoard::note`; `WaitBoard::word_of`.
 //! - All this rests on a rule of the lock's table between any two atomic steps (`KeepsRule`, in
@@ -64,4 +63,4 @@ pub use brief::Brief;
 pub use held::TurnLock;
 pub use seat::Seat;
 pub use turn::Turn;
-pub use turning::{answer, ask, post_and_turn};
+pub use turning::{answer, post_and_turn};

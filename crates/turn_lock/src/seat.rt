@@ -4,14 +4,15 @@ ghost use Rattle.pct_ask.specs.declared.limits.TheConstants.{MAX_THREADS};
 
 use crate::flags::first_threads;
 use crate::rule::TableSeat;
+use pct_ask::MAX_THREADS;
 use policy_pick::Policy;
 
 /// What one caller has of a lock: it serves a set of threads.
 #[derive(Drop)]
 pub struct Seat<P: Policy> {
     pub(crate) seat: TableSeat<P>,
-    pub(crate) serves: [bool; 64],
-    pub(crate) owes: [bool; 64],
+    pub(crate) serves: [bool; MAX_THREADS],
+    pub(crate) owes: [bool; MAX_THREADS],
     /// It serves one thread at most. Where this is false it may, too.
     pub(crate) alone: bool,
     /// Where the seat's last call noted a turn word for all its threads and none of them had its
@@ -55,7 +56,7 @@ impl<P: Policy> Seat<P> {
     pub fn serves(&self, thread: u32) -> bool
         ensures { (result ≡ true) ↔ Serves (view self.now) thread }
     {
-        thread < 64 && self.serves[thread as usize]
+        thread < MAX_THREADS as u32 && self.serves[thread as usize]
     }
 
     /// Whether the thread's next post was not yet taken by the lock.

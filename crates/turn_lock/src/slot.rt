@@ -15,7 +15,7 @@ use crate::brief::Brief;
 use crate::keep::Keep;
 use crate::turning::{is_away, post_and_turn, settles, waits};
 use crate::work::{Wakes, Work};
-use pct_ask::{Post, Standing};
+use pct_ask::{MAX_THREADS, Post, Standing};
 use policy_pick::Policy;
 use std::marker::Model;
 use turn_book::TurnBook;
@@ -76,7 +76,7 @@ impl<P: Policy> Slot<P> {
         ensures none { result ≡ None → thread < MAX_THREADS
             → word_noted self.now.board thread ≡ None }
     {
-        if thread < 64 {
+        if thread < MAX_THREADS as u32 {
             self.board.word_of(thread)
         } else {
             None
@@ -162,13 +162,13 @@ impl<P: Policy> Slot<P> {
     }
 
     /// Notes a word for each of these threads.
-    fn note(&mut self, serves: &[bool; 64], word: u32)
+    fn note(&mut self, serves: &[bool; MAX_THREADS], word: u32)
         requires word { word < self.old.book.deal.threads }
         requires notes { NotesBelow self.old.book.deal.threads self.old.board }
         ensures book { self.new.book ≡ self.old.book }
         ensures notes { NotesBelow self.old.book.deal.threads self.new.board }
     {
-        for thread in 0..64u32 {
+        for thread in 0..MAX_THREADS as u32 {
             if serves[thread as usize] {
                 self.board.note(thread, word);
             }
@@ -176,12 +176,12 @@ impl<P: Policy> Slot<P> {
     }
 
     /// Each of these threads has ended.
-    fn all_ended(&self, serves: &[bool; 64]) -> bool
+    fn all_ended(&self, serves: &[bool; MAX_THREADS]) -> bool
         requires { (t : ℕ) → HasFlag serves.now t → t < self.now.book.deal.threads }
         ensures { result ≡ true → (t : ℕ) → HasFlag serves.now t
             → standing_of self.now.book t ≡ standings.Ended }
     {
-        for thread in 0..64u32 {
+        for thread in 0..MAX_THREADS as u32 {
             if serves[thread as usize] && self.book.standing(thread) != Standing::Ended {
                 return false;
             }
@@ -190,12 +190,12 @@ impl<P: Policy> Slot<P> {
     }
 
     /// The one of these threads whose turn it is, or else the lowest.
-    fn candidate(&self, serves: &[bool; 64], lowest: u32) -> u32
+    fn candidate(&self, serves: &[bool; MAX_THREADS], lowest: u32) -> u32
         requires { HasFlag serves.now lowest }
         ensures { HasFlag serves.now result }
     {
         match self.book.granted() {
-            Some(thread) if thread < 64 && serves[thread as usize] => thread,
+            Some(thread) if thread < MAX_THREADS as u32 && serves[thread as usize] => thread,
             _ => lowest,
         }
     }
@@ -204,7 +204,7 @@ impl<P: Policy> Slot<P> {
     /// all.
     pub fn sweep<K: Keep>(
         &mut self,
-        serves: &[bool; 64],
+        serves: &[bool; MAX_THREADS],
         lowest: u32,
         place: &mut K,
     ) -> Option<(u32, Work)>

@@ -16,7 +16,7 @@ use crate::held::TurnLock;
 use crate::keep::Keep;
 use crate::rule::{Grab, Look, Mark, Part, TableSeat, Unlock, Which};
 use crate::work::{Wakes, Work};
-use pct_ask::Post;
+use pct_ask::{MAX_THREADS, Post};
 use policy_pick::Policy;
 use std::sync::Wait;
 
@@ -63,7 +63,7 @@ impl<P: Policy> TurnLock<P> {
     pub(crate) fn sweep<K: Keep>(
         &self,
         seat: &mut TableSeat<P>,
-        threads: &[bool; 64],
+        threads: &[bool; MAX_THREADS],
         lowest: u32,
         place: &mut K,
     ) -> Option<(u32, Work)>

@@ -52,7 +52,7 @@ pub fn waits(told: &Brief) -> bool {
 }
 
 /// The post, where one is given.
-pub fn ask<P: Policy>(book: &mut TurnBook<P>, thread: u32, post: Option<Post>)
+fn ask<P: Policy>(book: &mut TurnBook<P>, thread: u32, post: Option<Post>)
     requires thread { thread < book.old.deal.threads }
     requires lawful { IsLawful book.old }
     requires owed { IsOwed book.old thread post }
@@ -89,8 +89,8 @@ pub fn answer<P: Policy>(book: &mut TurnBook<P>, thread: u32) -> Brief
     as_brief(book.take_turn(thread))
 }
 
-/// The post, where one is given, and the thread's turn: as `ask` and then `answer`. Where the book
-/// waited for the thread, both are done at once.
+/// The post, where one is given, and the thread's turn. Where the book waited for the thread, both
+/// are done at once.
 pub fn post_and_turn<P: Policy>(book: &mut TurnBook<P>, thread: u32, post: Option<Post>) -> Brief
     requires thread { thread < book.old.deal.threads }
     requires lawful { IsLawful book.old }
